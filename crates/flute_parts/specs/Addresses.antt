@@ -1,0 +1,29 @@
+-- Where facts stand.
+use Rattle.flute_parts.specs.declared.key.Key.{Key}
+use Rattle.flute_parts.specs.declared.symbol_id.SymbolId.{SymbolId}
+use Rattle.flute_parts.specs.declared.address.Part.TheVariants.{Info as InfoPart, Symbol as SymbolPart}
+use Rattle.flute_parts.specs.declared.address.Address.{Address}
+use Rattle.flute_parts.specs.declared.fact.Fact.{Fact}
+use Rattle.flute_parts.specs.declared.fact.Fact.TheVariants.{Info, InfoConflict, Symbol, SymbolConflict}
+use Rattle.flute_parts.specs.declared.fact.FactRef.{FactRef}
+use Rattle.flute_parts.specs.declared.fact.FactRef.TheVariants.{Info as InfoRef, InfoConflict as InfoConflictRef, Symbol as SymbolRef, SymbolConflict as SymbolConflictRef}
+
+-- where the information of an object stands, and where a symbol of it
+abbrev pub info_address : Key → Address
+info_address key = record { key = key; part = InfoPart }
+
+abbrev pub symbol_address : Key → SymbolId → Address
+symbol_address key id = record { key = key; part = SymbolPart id }
+
+abbrev pub address : Fact → Address
+address (Info key info) = info_address key
+address (InfoConflict key) = info_address key
+address (Symbol key id bytes) = symbol_address key id
+address (SymbolConflict key id) = symbol_address key id
+
+-- a fact whose bytes are borrowed, as a fact
+abbrev pub fact_of : FactRef → Fact
+fact_of (InfoRef key info) = Info key info
+fact_of (InfoConflictRef key) = InfoConflict key
+fact_of (SymbolRef key id bytes) = Symbol key id bytes.now
+fact_of (SymbolConflictRef key id) = SymbolConflict key id

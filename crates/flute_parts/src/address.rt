@@ -1,0 +1,20 @@
+//! Where facts stand.
+
+use crate::key::Key;
+use crate::symbol_id::SymbolId;
+
+/// A part of an object. The information is ordered before the symbols.
+#[derive(Clone, Copy, Debug, PartialEq, Eq, PartialOrd, Ord)]
+pub enum Part {
+    /// The transmission information.
+    Info,
+    /// An encoding symbol.
+    Symbol(SymbolId),
+}
+
+/// Where a fact stands. Addresses are ordered by session, object, and part.
+#[derive(Clone, Copy, Debug, PartialEq, Eq, PartialOrd, Ord)]
+pub struct Address {
+    pub key: Key,
+    pub part: Part,
+}

@@ -1,0 +1,91 @@
+//! What is known of objects.
+ghost use Rattle.std.specs.Prelude.{◌≡◌};
+ghost use Rattle.flute_parts.specs.Addresses.{address, fact_of};
+
+use crate::address::{Address, Part};
+use crate::bytes::Bytes;
+use crate::info::Info;
+use crate::key::Key;
+use crate::symbol_id::SymbolId;
+
+/// What is known of a part of an object: its one value, or that two different values were told.
+#[derive(Debug, Drop)]
+pub enum Fact {
+    /// The transmission information.
+    Info {
+        key: Key,
+        info: Info,
+    },
+    /// Two different pieces of transmission information were told.
+    InfoConflict {
+        key: Key,
+    },
+    /// An encoding symbol and its bytes.
+    Symbol {
+        key: Key,
+        id: SymbolId,
+        bytes: Bytes,
+    },
+    /// Two different values of an encoding symbol were told.
+    SymbolConflict {
+        key: Key,
+        id: SymbolId,
+    },
+}
+
+/// A [`Fact`] whose bytes are borrowed.
+#[derive(Clone, Copy, Debug)]
+pub enum FactRef<'a> {
+    /// The transmission information.
+    Info {
+        key: Key,
+        info: Info,
+    },
+    /// Two different pieces of transmission information were told.
+    InfoConflict {
+        key: Key,
+    },
+    /// An encoding symbol and its bytes.
+    Symbol {
+        key: Key,
+        id: SymbolId,
+        bytes: &'a [u8],
+    },
+    /// Two different values of an encoding symbol were told.
+    SymbolConflict {
+        key: Key,
+        id: SymbolId,
+    },
+}
+
+impl Fact {
+    /// Where the fact stands.
+    pub fn address(&self) -> Address
+        ensures { result ≡ address self.now }
+    {
+        let (key, part) = match self {
+            Fact::Info { key, .. } | Fact::InfoConflict { key } => (*key, Part::Info),
+            Fact::Symbol { key, id, .. } | Fact::SymbolConflict { key, id } => (
+                *key,
+                Part::Symbol(*id),
+            ),
+        };
+        Address { key, part }
+    }
+}
+
+impl FactRef<'_> {
+    /// Where the fact stands.
+    pub fn address(&self) -> Address
+        ensures { result ≡ address (fact_of self.now) }
+    {
+        let (key, part) = match *self {
+            FactRef::Info { key, .. } | FactRef::InfoConflict { key } => (key, Part::Info),
+            FactRef::Symbol { key, id, .. } | FactRef::SymbolConflict { key, id } => (
+                key,
+                Part::Symbol(id),
+            ),
+        };
+        Address { key, part }
+    }
+}

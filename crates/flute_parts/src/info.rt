@@ -1,0 +1,130 @@
+//! Transmission information.
+ghost use Rattle.std.specs.Prelude.{◌≡◌, Some, None, MatchResult};
+ghost use Rattle.flute_parts.specs.Information.{information, info_fault};
+
+use std::marker::Model;
+use thiserror::Error;
+
+/// What a receiver has to know of an object before it can put it together: its FEC Object Transmission Information
+/// (RFC 5052, section 6.2.4) for Compact No-Code FEC (RFC 5445, section 3.2.2).
+///
+/// It is always valid: the transfer length is below 2^48, and where that is not 0 the block partition of RFC 5052,
+/// section 9.1 gives at most 65,536 blocks of at most 65,536 symbols each.
+#[derive(Clone, Copy, Debug, PartialEq, Eq)]
+pub struct Info {
+    transfer_length: u64,
+    symbol_length: u16,
+    max_block_length: u32,
+}
+
+impl Model for Info {
+    ghost use Rattle.flute_parts.specs.Information.{Information, IsValid, information};
+
+    ghost Value = { Information };
+
+    ghost view = { λ i. information i.transfer_length i.symbol_length i.max_block_length };
+
+    ghost invariant = { λ i. IsValid (information i.transfer_length i.symbol_length i.max_block_length) };
+
+    ghost inverse = { λ v. record {
+      transfer_length = v.transfer_length;
+      symbol_length = v.symbol_length;
+      max_block_length = v.max_block_length;
+    } };
+}
+
+/// Why numbers are no transmission information. The first that applies is told.
+#[derive(Clone, Copy, Debug, PartialEq, Eq, Error)]
+pub enum InfoFault {
+    /// The transfer length is 2^48 or more.
+    #[error("Length")]
+    Length,
+    /// There are bytes to send, and the encoding symbol length is 0.
+    #[error("SymbolLength")]
+    SymbolLength,
+    /// There are bytes to send, and the maximum source block length is 0.
+    #[error("BlockLength")]
+    BlockLength,
+    /// There are more than 65,536 source blocks.
+    #[error("TooManyBlocks")]
+    TooManyBlocks,
+    /// A source block has more than 65,536 symbols.
+    #[error("BlockTooLong")]
+    BlockTooLong,
+}
+
+impl Info {
+    ghost use Rattle.flute_parts.specs.Information.{IsValid};
+
+    /// The information of an object of `length` bytes, in symbols of `symbol` bytes and blocks of at most `block`
+    /// symbols. Where `length` is 0, the other two may be anything.
+    ///
+    /// # Errors
+    ///
+    /// The first [`InfoFault`] that applies, in the order of that list.
+    pub fn new(length: u64, symbol: u16, block: u32) -> Result<Info, InfoFault>
+        ensures { MatchResult result
+            (λ info. (info ≡ information length symbol block) × (info_fault info ≡ None))
+            (λ fault. info_fault (information length symbol block) ≡ Some fault) }
+    {
+        if let Some(fault) = fault_of(length, symbol, block) {
+            return Err(fault);
+        }
+        Ok(Info {
+            transfer_length: length,
+            symbol_length: symbol,
+            max_block_length: block,
+        })
+    }
+
+    /// The transfer length: how many bytes the object has, below 2^48.
+    pub fn length(&self) -> u64
+        ensures value { result ≡ self.now.transfer_length }
+        ensures valid { IsValid self.now }
+    {
+        self.transfer_length
+    }
+
+    /// The encoding symbol length, in bytes.
+    pub fn symbol(&self) -> u16
+        ensures value { result ≡ self.now.symbol_length }
+        ensures valid { IsValid self.now }
+    {
+        self.symbol_length
+    }
+
+    /// The maximum source block length, in symbols.
+    pub fn block(&self) -> u32
+        ensures value { result ≡ self.now.max_block_length }
+        ensures valid { IsValid self.now }
+    {
+        self.max_block_length
+    }
+}
+
+// The first fault of the numbers.
+fn fault_of(length: u64, symbol: u16, block: u32) -> Option<InfoFault>
+    ensures { result ≡ info_fault (information length symbol block) }
+{
+    if length >= 1 << 48 {
+        return Some(InfoFault::Length);
+    }
+    if length == 0 {
+        return None;
+    }
+    if symbol == 0 {
+        return Some(InfoFault::SymbolLength);
+    }
+    if block == 0 {
+        return Some(InfoFault::BlockLength);
+    }
+    let symbols = length.div_ceil(u64::from(symbol));
+    let blocks = symbols.div_ceil(u64::from(block));
+    if blocks > 65_536 {
+        return Some(InfoFault::TooManyBlocks);
+    }
+    if symbols.div_ceil(blocks) > 65_536 {
+        return Some(InfoFault::BlockTooLong);
+    }
+    None
+}

@@ -1,0 +1,64 @@
+//! A sink over a writer of the standard library.
+ghost use Rattle.std.specs.Prelude.{◌≡◌, None};
+
+use crate::device::{DeviceFault, Sink};
+use crate::failures::Failures;
+use std::io::{ErrorKind, Write};
+
+/// How often an interrupted call is made again.
+const REPEATS: u32 = 64;
+
+/// A sink over a writer, as a file or standard output. It tells contracts nothing of its bytes.
+///
+/// An interrupted call is made again at most 64 times, and then it is a failure. A writer that takes none of some
+/// bytes has failed.
+#[derive(Debug, Drop)]
+pub struct StdSink<W> {
+    writer: W,
+    failures: Failures,
+}
+
+impl<W: Write> StdSink<W> {
+    /// A sink over this writer.
+    pub fn new(writer: W) -> StdSink<W>
+        ensures { ⟦<StdSink<W> as Sink>⟧.failures result ≡ 0 }
+    {
+        StdSink {
+            writer,
+            failures: Failures::none(),
+        }
+    }
+
+    /// Hands on what a buffering writer still holds.
+    ///
+    /// # Errors
+    ///
+    /// `DeviceFault` where the writer failed.
+    pub fn flush(&mut self) -> Result<(), DeviceFault> {
+        match self.writer.flush() {
+            Ok(()) => Ok(()),
+            Err(_) => {
+                self.failures = self.failures.and_one();
+                Err(DeviceFault)
+            }
+        }
+    }
+}
+
+impl<W: Write> Sink for StdSink<W> {
+    ghost failures = { λ s. s.failures.count };
+
+    ghost written = { λ _. None };
+
+    fn write(&mut self, bytes: &[u8]) -> Result<usize, DeviceFault> {
+        for _ in 0..=REPEATS {
+            match self.writer.write(bytes) {
+                Ok(count) if count > 0 || bytes.is_empty() => return Ok(count),
+                Err(error) if error.kind() == ErrorKind::Interrupted => {}
+                _ => break,
+            }
+        }
+        self.failures = self.failures.and_one();
+        Err(DeviceFault)
+    }
+}

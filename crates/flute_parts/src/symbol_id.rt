@@ -1,0 +1,11 @@
+//! The numbers of encoding symbols.
+
+/// An encoding symbol of an object, by its source block number and its encoding symbol ID
+/// (RFC 5445, section 3.1). Symbols are ordered by block, then by ID.
+#[derive(Clone, Copy, Debug, PartialEq, Eq, PartialOrd, Ord)]
+pub struct SymbolId {
+    /// The source block number.
+    pub sbn: u16,
+    /// The encoding symbol ID.
+    pub esi: u16,
+}
