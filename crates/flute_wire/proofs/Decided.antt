@@ -1,0 +1,118 @@
+-- Whether a datagram spells a packet is decided.
+use Rattle.std.proofs.Common.{◌≡◌, ℕ, ◌<◌, ◌⊎◌, List, [], ◌∷◌, length, Option, Some, None, inl, inr, refl, arith}
+use Rattle.std.specs.Prelude.{IsSomeAnd}
+use Rattle.std.proofs.lemmas.Bool.{cases_lt, cases_eq}
+use Rattle.flute_parts.specs.Information.{info_fault}
+use Rattle.flute_parts.specs.declared.info.InfoFault.{InfoFault}
+use Rattle.flute_wire.specs.declared.refusal.Refusal.{Refusal}
+use Rattle.flute_wire.specs.declared.refusal.Refusal.TheVariants.{TooLong, TooShort, LctVersion, HeaderLength, HeaderCut, NoTsi, NoToi, Codepoint, ExtensionLength, Repeated, FtiLength, Information, NoInstance, FluteVersion, ContentEncoded, PayloadIdCut}
+use Rattle.flute_wire.specs.Header.{first_word, fixed_words, header_len, tsi_len, toi_len, toi_of, extension_area, after_header}
+use Rattle.flute_wire.specs.Extensions.{Extension, HasExtensions, bodies, ext_fti, ext_fdt, ext_cenc, fti_information, fdt_version, content_encoding, first}
+use Rattle.flute_wire.specs.Content.{Content}
+use Rattle.flute_wire.specs.Datagram.{Spells}
+use Rattle.flute_wire.specs.Refusals.{Applies, Carries}
+use Rattle.flute_wire.proofs.Decision.{decide_extensions}
+use Rattle.flute_wire.proofs.FirstRefusal.{carried}
+use Rattle.flute_wire.proofs.Existence.{some_packet}
+
+-- a fact, or its opposite
+abbrev Either : Type 0 → Type 0
+Either P = P ⊎ (P → ⊥)
+
+below : (m n : ℕ) → Either (m < n)
+below m n = elim (cases_lt m n) [ inl lt ↦ inl lt | inr le ↦ inr (λ lt. absurd (omega arith)) ]
+
+other : (m n : ℕ) → Either (m ≡ n → ⊥)
+other m n = elim (cases_eq m n) [ inl e ↦ inr (λ h. h e) | inr h ↦ inl h ]
+
+both : (P Q : Type 0) → Either P → Either Q → Either (P × Q)
+both P Q (inl p) (inl q) = inl (p, q)
+both P Q (inl p) (inr k) = inr (λ h. k h.1)
+both P Q (inr h) q = inr (λ k. h k.0)
+
+either : (P Q : Type 0) → Either P → Either Q → Either (P ⊎ Q)
+either P Q (inl p) q = inl (inl p)
+either P Q (inr h) (inl q) = inl (inr q)
+either P Q (inr h) (inr k) = inr (λ x. elim x [ inl p ↦ h p | inr q ↦ k q ])
+
+some_such : (o : Option (List ℕ)) (P : List ℕ → Type 0) → ((body : List ℕ) → Either (P body)) → Either (IsSomeAnd o P)
+some_such None P d = inr (λ h. h)
+some_such (Some body) P d = d body
+
+is_empty : (bs : List (List ℕ)) → Either (bs ≡ [])
+is_empty [] = inl refl
+is_empty (b ∷ bs) = inr (λ e. cc)
+
+fault_in : (o : Option InfoFault) → ((f : InfoFault) × (o ≡ Some f)) ⊎ ((f : InfoFault) → o ≡ Some f → ⊥)
+fault_in None = inr (λ f e. cc)
+fault_in (Some f) = inl (f, refl)
+
+fault_at : (o : Option (List ℕ)) → ((f : InfoFault) × IsSomeAnd o (λ body. info_fault (fti_information body) ≡ Some f)) ⊎ ((f : InfoFault) → IsSomeAnd o (λ body. info_fault (fti_information body) ≡ Some f) → ⊥)
+fault_at None = inr (λ f h. h)
+fault_at (Some body) = fault_in (info_fault (fti_information body))
+
+-- what the extensions of a datagram have is decided for the datagram
+carries : (d : List ℕ) (es : List Extension) → HasExtensions (extension_area d) es → (P : List Extension → Type 0) → Either (P es) → Either (Carries d P)
+carries d es x P (inl p) = inl (es, x, p)
+carries d es x P (inr h) = inr (λ c. h (carried d es x P c))
+
+abbrev Outcome : List ℕ → Type 0
+Outcome d = ((r : Refusal) → Applies r d → ⊥) ⊎ ((r : Refusal) × Applies r d)
+
+ask : (d : List ℕ) (r : Refusal) → Either (Applies r d) → ((Applies r d → ⊥) → Outcome d) → Outcome d
+ask d r (inl a) k = inr (r, a)
+ask d r (inr n) k = k n
+
+all_pass : (d : List ℕ) → (Applies TooLong d → ⊥) → (Applies TooShort d → ⊥) → (Applies LctVersion d → ⊥) → (Applies HeaderLength d → ⊥) → (Applies HeaderCut d → ⊥) → (Applies NoTsi d → ⊥) → (Applies NoToi d → ⊥)
+    → (Applies Codepoint d → ⊥) → (Applies ExtensionLength d → ⊥) → (Applies Repeated d → ⊥) → (Applies FtiLength d → ⊥) → ((f : InfoFault) → Applies (Information f) d → ⊥) → (Applies NoInstance d → ⊥)
+    → (Applies FluteVersion d → ⊥) → (Applies ContentEncoded d → ⊥) → (Applies PayloadIdCut d → ⊥) → (r : Refusal) → Applies r d → ⊥
+all_pass d a b c e f g h i j k l m n o p q TooLong = a
+all_pass d a b c e f g h i j k l m n o p q TooShort = b
+all_pass d a b c e f g h i j k l m n o p q LctVersion = c
+all_pass d a b c e f g h i j k l m n o p q HeaderLength = e
+all_pass d a b c e f g h i j k l m n o p q HeaderCut = f
+all_pass d a b c e f g h i j k l m n o p q NoTsi = g
+all_pass d a b c e f g h i j k l m n o p q NoToi = h
+all_pass d a b c e f g h i j k l m n o p q Codepoint = i
+all_pass d a b c e f g h i j k l m n o p q ExtensionLength = j
+all_pass d a b c e f g h i j k l m n o p q Repeated = k
+all_pass d a b c e f g h i j k l m n o p q FtiLength = l
+all_pass d a b c e f g h i j k l m n o p q (Information fault) = m fault
+all_pass d a b c e f g h i j k l m n o p q NoInstance = n
+all_pass d a b c e f g h i j k l m n o p q FluteVersion = o
+all_pass d a b c e f g h i j k l m n o p q ContentEncoded = p
+all_pass d a b c e f g h i j k l m n o p q PayloadIdCut = q
+
+behind : (d : List ℕ) (es : List Extension) → HasExtensions (extension_area d) es → (Applies TooLong d → ⊥) → (Applies TooShort d → ⊥) → (Applies LctVersion d → ⊥) → (Applies HeaderLength d → ⊥)
+    → (Applies HeaderCut d → ⊥) → (Applies NoTsi d → ⊥) → (Applies NoToi d → ⊥) → (Applies Codepoint d → ⊥) → Outcome d
+behind d es x a b c e f g h i =
+    ask d Repeated (carries d es x (λ es. (1 < length (bodies ext_fti es)) ⊎ ((1 < length (bodies ext_fdt es)) ⊎ (1 < length (bodies ext_cenc es)))) (either _ _ (below 1 (length (bodies ext_fti es))) (either _ _ (below 1 (length (bodies ext_fdt es))) (below 1 (length (bodies ext_cenc es)))))) (λ k.
+    ask d FtiLength (carries d es x (λ es. IsSomeAnd (first (bodies ext_fti es)) (λ body. length body ≡ 15 → ⊥)) (some_such (first (bodies ext_fti es)) (λ body. length body ≡ 15 → ⊥) (λ body. other (length body) 15))) (λ l.
+    elim (fault_at (first (bodies ext_fti es))) [
+      | inl bad ↦ inr (Information bad.0, (es, x, bad.1))
+      | inr m ↦
+          ask d NoInstance (both _ _ (cases_eq (toi_of d) 0) (carries d es x (λ es. bodies ext_fdt es ≡ []) (is_empty (bodies ext_fdt es)))) (λ n.
+          ask d FluteVersion (both _ _ (cases_eq (toi_of d) 0) (carries d es x (λ es. IsSomeAnd (first (bodies ext_fdt es)) (λ body. fdt_version body ≡ 2 → ⊥)) (some_such (first (bodies ext_fdt es)) (λ body. fdt_version body ≡ 2 → ⊥) (λ body. other (fdt_version body) 2)))) (λ o.
+          ask d ContentEncoded (carries d es x (λ es. IsSomeAnd (first (bodies ext_cenc es)) (λ body. content_encoding body ≡ 0 → ⊥)) (some_such (first (bodies ext_cenc es)) (λ body. content_encoding body ≡ 0 → ⊥) (λ body. other (content_encoding body) 0))) (λ p.
+          ask d PayloadIdCut (both _ _ (below 0 (length (after_header d))) (below (length (after_header d)) 4)) (λ q.
+          inl (all_pass d a b c e f g h i (λ none. none es x) k l
+          (λ fault z. m fault (carried d es x (λ es. IsSomeAnd (first (bodies ext_fti es)) (λ body. info_fault (fti_information body) ≡ Some fault)) z)) n o p q)))))
+    ]))
+
+pub decide_refusal : (d : List ℕ) → Outcome d
+decide_refusal d =
+    ask d TooLong (below 65535 (length d)) (λ a.
+    ask d TooShort (below (length d) 4) (λ b.
+    ask d LctVersion (other (first_word d).version 1) (λ c.
+    ask d HeaderLength (below (first_word d).header_words (fixed_words (first_word d))) (λ e.
+    ask d HeaderCut (below (length d) (header_len (first_word d))) (λ f.
+    ask d NoTsi (cases_eq (tsi_len (first_word d)) 0) (λ g.
+    ask d NoToi (cases_eq (toi_len (first_word d)) 0) (λ h.
+    ask d Codepoint (other (first_word d).codepoint 0) (λ i.
+    elim (decide_extensions (length (extension_area d)) (extension_area d) (omega arith)) [
+      | inr none ↦ inr (ExtensionLength, none)
+      | inl found ↦ behind d found.0 found.1 a b c e f g h i
+    ]))))))))
+
+pub decide_packet : (d : List ℕ) → ((c : Content) × Spells d c) ⊎ ((r : Refusal) × Applies r d)
+decide_packet d = elim (decide_refusal d) [ inl none ↦ inl (some_packet d none) | inr some ↦ inr some ]

@@ -1,0 +1,10 @@
+mod BigEndian
+mod Walking
+mod FirstRefusal
+mod Spelling
+mod OneReading
+mod Decision
+mod Existence
+mod Exact
+mod Decided
+mod Computed

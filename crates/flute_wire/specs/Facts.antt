@@ -1,0 +1,31 @@
+-- The facts that a packet tells.
+use Rattle.std.specs.Prelude.{ℕ, List, [], ◌∷◌, ◌++◌, Option, Some, None}
+use Rattle.flute_parts.specs.Session.{session}
+use Rattle.flute_parts.specs.Information.{Information}
+use Rattle.flute_parts.specs.declared.symbol_id.SymbolId.{SymbolId}
+use Rattle.flute_parts.specs.declared.object_key.ObjectName.{ObjectName}
+use Rattle.flute_parts.specs.declared.object_key.ObjectName.TheVariants.{Instance, File}
+use Rattle.flute_parts.specs.declared.key.Key.{Key}
+use Rattle.flute_parts.specs.declared.fact.Fact.{Fact}
+use Rattle.flute_parts.specs.declared.fact.Fact.TheVariants.{Info, Symbol}
+use Rattle.flute_wire.specs.Content.{Content}
+
+-- an FDT Instance by its ID, or a file by its TOI (RFC 6726, 3.4)
+abbrev pub object_of : ℕ → Option ℕ → ObjectName
+object_of toi (Some instance) = Instance instance
+object_of toi None = File toi
+
+abbrev pub key_of : Content → Key
+key_of c = record { session = session c.tsi; object = object_of c.toi c.instance }
+
+abbrev pub info_facts : Key → Option Information → List Fact
+info_facts key None = []
+info_facts key (Some info) = Info key info ∷ []
+
+abbrev pub symbol_facts : Key → Option (SymbolId × List ℕ) → List Fact
+symbol_facts key None = []
+symbol_facts key (Some symbol) = Symbol key symbol.0 symbol.1 ∷ []
+
+-- the information of its object, if there is any, and then the symbol, if there is one
+abbrev pub facts_of : Content → List Fact
+facts_of c = info_facts (key_of c) c.info ++ symbol_facts (key_of c) c.symbol

@@ -1,0 +1,73 @@
+-- The LCT header.
+use Rattle.std.specs.Prelude.{ℕ, ◌+◌, ◌*◌, ◌/◌, ◌%◌, ◌^◌, List, take, drop, slice_range}
+use Rattle.flute_parts.specs.BigEndian.{big_endian}
+
+-- the fields of the first word that are looked at (RFC 5651, 5.1)
+pub record Fields : Type 0 where
+  pub version : ℕ
+  -- C: the congestion control information has one 32-bit word more than this
+  pub congestion_words : ℕ
+  -- S and O: the 32-bit words of the TSI and the TOI
+  pub tsi_words : ℕ
+  pub toi_words : ℕ
+  -- H: the TSI and the TOI have 16 bits more each
+  pub half_word : ℕ
+  -- HDR_LEN: the 32-bit words of the whole header
+  pub header_words : ℕ
+  pub codepoint : ℕ
+
+-- each is the first word divided by the bits below it, and of that its own bits (RFC 5651, 5.1)
+abbrev pub fields : ℕ → Fields
+fields n = record {
+  version = n / 2 ^ 28;
+  congestion_words = n / 2 ^ 26 % 2 ^ 2;
+  tsi_words = n / 2 ^ 23 % 2;
+  toi_words = n / 2 ^ 21 % 2 ^ 2;
+  half_word = n / 2 ^ 20 % 2;
+  header_words = n / 2 ^ 8 % 2 ^ 8;
+  codepoint = n % 2 ^ 8;
+}
+
+-- the lengths in bytes that the first word gives (RFC 5651, 5.1)
+abbrev pub cci_len : Fields → ℕ
+cci_len w = 4 * (w.congestion_words + 1)
+
+abbrev pub tsi_len : Fields → ℕ
+tsi_len w = 4 * w.tsi_words + 2 * w.half_word
+
+abbrev pub toi_len : Fields → ℕ
+toi_len w = 4 * w.toi_words + 2 * w.half_word
+
+abbrev pub header_len : Fields → ℕ
+header_len w = 4 * w.header_words
+
+-- the fields before the extensions, in words
+abbrev pub fixed_words : Fields → ℕ
+fixed_words w = 2 + w.congestion_words + w.tsi_words + w.toi_words + w.half_word
+
+-- the parts of a datagram, by place
+abbrev pub first_word : List ℕ → Fields
+first_word d = fields (big_endian (take 4 d))
+
+-- where the TSI, the TOI and the extensions begin
+abbrev pub tsi_at : Fields → ℕ
+tsi_at w = 4 + cci_len w
+
+abbrev pub toi_at : Fields → ℕ
+toi_at w = tsi_at w + tsi_len w
+
+abbrev pub extensions_at : Fields → ℕ
+extensions_at w = toi_at w + toi_len w
+
+-- the two numbers of the header, the bytes of its extensions, and those after it
+abbrev pub tsi_of : List ℕ → ℕ
+tsi_of d = big_endian (slice_range d (tsi_at (first_word d)) (toi_at (first_word d)))
+
+abbrev pub toi_of : List ℕ → ℕ
+toi_of d = big_endian (slice_range d (toi_at (first_word d)) (extensions_at (first_word d)))
+
+abbrev pub extension_area : List ℕ → List ℕ
+extension_area d = slice_range d (extensions_at (first_word d)) (header_len (first_word d))
+
+abbrev pub after_header : List ℕ → List ℕ
+after_header d = drop (header_len (first_word d)) d

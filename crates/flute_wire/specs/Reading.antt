@@ -1,0 +1,73 @@
+-- The packet of a datagram, and its facts, computed.
+use Rattle.std.specs.Prelude.{ℕ, zero, suc, ◌-◌, ◌*◌, nat_le, nat_lt, ◌==◌, Bool, true, false, ◌&&◌, ◌||◌, is_none, List, [], ◌∷◌, length, take, drop, slice_index, Option, Some, None, if◌then◌else◌}
+use Rattle.std.specs.Option.{option_map, option_and_then}
+use Rattle.flute_parts.specs.Information.{info_fault}
+use Rattle.flute_parts.specs.declared.fact.Fact.{Fact}
+use Rattle.flute_wire.specs.Header.{first_word, fixed_words, header_len, tsi_len, toi_len, tsi_of, toi_of, extension_area, after_header}
+use Rattle.flute_wire.specs.Extensions.{Extension, bodies, ext_fti, ext_fdt, ext_cenc, fti_information, fdt_version, fdt_instance, content_encoding, first}
+use Rattle.flute_wire.specs.Content.{Content}
+use Rattle.flute_wire.specs.Datagram.{symbol_of}
+use Rattle.flute_wire.specs.Facts.{facts_of}
+
+-- how many 32-bit words the extension has that begins with these bytes (RFC 5651, 5.2)
+abbrev pub words_at : ℕ → List ℕ → ℕ
+words_at het bytes = if nat_lt het 128 then slice_index bytes 0 else 1
+
+-- the extensions that bytes are, if they are some: n is no less than their number
+unfoldable pub extensions_in : ℕ → List ℕ → Option (List Extension)
+extensions_in n [] = Some []
+extensions_in zero (het ∷ bytes) = None
+extensions_in (suc n) (het ∷ bytes) =
+    let body = 4 * words_at het bytes - 1 in
+    if nat_lt 0 (words_at het bytes) && nat_le body (length bytes) then
+    option_map (λ es. record { het = het; body = take body bytes } ∷ es) (extensions_in n (drop body bytes))
+    else None
+
+-- this profile reads the header, and all of it is there
+abbrev pub has_header : List ℕ → Bool
+has_header d = let w = first_word d in
+    nat_le (length d) 65535 && (nat_le 4 (length d) && ((w.version == 1) && (nat_le (fixed_words w) w.header_words && (nat_le (header_len w) (length d)
+    && (nat_lt 0 (tsi_len w) && (nat_lt 0 (toi_len w) && (w.codepoint == 0)))))))
+
+-- an extension that need not be there, or one that must be, has the property
+abbrev pub passes : (List ℕ → Bool) → Option (List ℕ) → Bool
+passes p None = true
+passes p (Some body) = p body
+
+abbrev pub has : (List ℕ → Bool) → Option (List ℕ) → Bool
+has p None = false
+has p (Some body) = p body
+
+-- this profile takes what the extensions say, and what follows the header
+abbrev pub is_accepted : List ℕ → List Extension → Bool
+is_accepted d es =
+    nat_le (length (bodies ext_fti es)) 1 && (nat_le (length (bodies ext_fdt es)) 1 && (nat_le (length (bodies ext_cenc es)) 1
+    && (passes (λ body. (length body == 15) && is_none (info_fault (fti_information body))) (first (bodies ext_fti es))
+    && (((if toi_of d == 0 then has (λ body. fdt_version body == 2) (first (bodies ext_fdt es)) else true))
+    && (passes (λ body. content_encoding body == 0) (first (bodies ext_cenc es))
+    && ((length (after_header d) == 0) || nat_le 4 (length (after_header d))))))))
+
+-- what the datagram says, by place
+abbrev pub content_by : List ℕ → List Extension → Content
+content_by d es = record {
+  tsi = tsi_of d;
+  toi = toi_of d;
+  instance = if toi_of d == 0 then option_map fdt_instance (first (bodies ext_fdt es)) else None;
+  info = option_map fti_information (first (bodies ext_fti es));
+  symbol = symbol_of (after_header d);
+}
+
+abbrev pub accepted : List ℕ → List Extension → Option Content
+accepted d es = if is_accepted d es then Some (content_by d es) else None
+
+-- the packet that the datagram spells, if it spells one
+unfoldable pub packet : List ℕ → Option Content
+packet d = if has_header d then option_and_then (accepted d) (extensions_in (length (extension_area d)) (extension_area d)) else None
+
+abbrev pub packet_facts : Option Content → List Fact
+packet_facts None = []
+packet_facts (Some c) = facts_of c
+
+-- the facts that a datagram tells: none, where it spells no packet
+unfoldable pub facts : List ℕ → List Fact
+facts d = packet_facts (packet d)

@@ -1,0 +1,111 @@
+//! The header extensions.
+
+ghost use Rattle.std.specs.Prelude.{◌≡◌, ◌≢◌, ◌<◌, ◌≤◌, ◌⊎◌, ◌++◌, [], ◌∷◌, ℕ, List, length, IfSome, IfNone, IfOk, IfErr, OnErr};
+ghost use Rattle.std.specs.Option.{option_copied, option_to_list};
+ghost use Rattle.flute_wire.specs.Extensions.{Extension as Record, IsExtension, HasExtensions, bytes_of, bodies, ext_fti, ext_fdt, ext_cenc};
+ghost use Rattle.flute_wire.specs.Walk.{extension_of, Finds, Occurs, RefusesArea};
+
+use crate::refusal::Refusal;
+
+const EXT_FTI: u8 = 64;
+
+const EXT_FDT: u8 = 192;
+
+const EXT_CENC: u8 = 193;
+
+/// One extension: its type HET and the bytes after that.
+#[derive(Clone, Copy)]
+pub struct Extension<'a> {
+    het: u8,
+    body: &'a [u8],
+}
+
+/// The extension at the front, and the bytes after it.
+fn split_extension(bytes: &[u8]) -> Option<(Extension<'_>, &[u8])>
+    ensures whole { IfSome result (λ s. IsExtension (extension_of s.0)) }
+    ensures parts { IfSome result (λ s. bytes.now ≡ bytes_of (extension_of s.0) ++ s.1.now) }
+    ensures none { IfNone result ((e : Record) (rest : List ℕ) → IsExtension e → bytes.now ≢ bytes_of e ++ rest) }
+{
+    let het = *bytes.first()?;
+    let words = if het < 128 { *bytes.get(1)? } else { 1 };
+    let len = 4 * usize::from(words);
+    if words == 0 || bytes.len() < len {
+        return None;
+    }
+    let (extension, rest) = bytes.split_at(len);
+    let body = &extension[1..];
+    Some((Extension { het, body }, rest))
+}
+
+/// How often an extension of one type stands in a header, with its body where that is once.
+#[derive(Clone, Copy)]
+pub enum Occurrence<'a> {
+    Absent,
+    Once(&'a [u8]),
+    Repeated,
+}
+
+impl<'a> Occurrence<'a> {
+    /// The occurrence with one more extension, if that has this type.
+    fn with(self, het: u8, extension: Extension<'a>) -> Self
+        ensures { (es : List Record) → Occurs self.entry (bodies het es)
+            → Occurs result (bodies het (es ++ extension_of extension.entry ∷ [])) }
+    {
+        if extension.het != het {
+            return self;
+        }
+        match self {
+            Occurrence::Absent => Occurrence::Once(extension.body),
+            Occurrence::Once(_) | Occurrence::Repeated => Occurrence::Repeated,
+        }
+    }
+
+    /// The body, if there is one.
+    fn body(self) -> Result<Option<&'a [u8]>, Refusal>
+        ensures found { IfOk result (λ body. (bs : List (List ℕ)) → Occurs self.entry bs
+            → bs ≡ option_to_list (option_copied body)) }
+        ensures repeated { OnErr result ((bs : List (List ℕ)) → Occurs self.entry bs → 1 < length bs) }
+        ensures refusal { IfErr result (λ r. r ≡ Refusal.Repeated) }
+    {
+        match self {
+            Occurrence::Absent => Ok(None),
+            Occurrence::Once(body) => Ok(Some(body)),
+            Occurrence::Repeated => Err(Refusal::Repeated),
+        }
+    }
+}
+
+/// The extensions that FLUTE reads.
+#[derive(Clone, Copy)]
+pub struct Known<'a> {
+    pub fti: Option<&'a [u8]>,
+    pub fdt: Option<&'a [u8]>,
+    pub cenc: Option<&'a [u8]>,
+}
+
+impl<'a> Known<'a> {
+    /// Reads the extensions of a header, all of its bytes.
+    pub fn read(area: &'a [u8]) -> Result<Self, Refusal>
+        ensures found { IfOk result (λ k. Finds area.now (option_copied k.fti) (option_copied k.fdt) (option_copied k.cenc)) }
+        ensures refused { IfErr result (λ r. RefusesArea area.now r) }
+    {
+        let mut rest = area;
+        let mut fti = Occurrence::Absent;
+        let mut fdt = Occurrence::Absent;
+        let mut cenc = Occurrence::Absent;
+        while !rest.is_empty() {
+            let Some((extension, after)) = split_extension(rest) else {
+                return Err(Refusal::ExtensionLength);
+            };
+            fti = fti.with(EXT_FTI, extension);
+            fdt = fdt.with(EXT_FDT, extension);
+            cenc = cenc.with(EXT_CENC, extension);
+            rest = after;
+        }
+        Ok(Known {
+            fti: fti.body()?,
+            fdt: fdt.body()?,
+            cenc: cenc.body()?,
+        })
+    }
+}

@@ -1,0 +1,111 @@
+//! What a datagram says.
+
+use flute_parts::{Info, Key, ObjectKey, SessionKey, SymbolId};
+use std::marker::Model;
+
+/// What a datagram says. The symbol's bytes are those of the datagram: nothing is copied.
+#[derive(Debug, Drop)]
+pub struct Packet<'a> {
+    tsi: u64,
+    toi: u128,
+    instance: Option<u32>,
+    info: Option<Info>,
+    symbol: Option<(SymbolId, &'a [u8])>,
+}
+
+impl<'a> Model for Packet<'a> {
+    ghost use Rattle.std.specs.Option.{option_map};
+    ghost use Rattle.flute_wire.specs.Content.{Content, HasKey};
+
+    ghost Value = { Content };
+
+    ghost view = { λ p. record {
+      tsi = p.tsi;
+      toi = p.toi;
+      instance = p.instance;
+      info = p.info;
+      symbol = option_map (λ s. (s.0, s.1.now)) p.symbol;
+    } };
+
+    ghost invariant = { λ p. HasKey p.tsi p.toi p.instance };
+}
+
+impl<'a> Packet<'a> {
+    ghost use Rattle.std.specs.Prelude.{◌≡◌};
+    ghost use Rattle.std.specs.Option.{option_map};
+    ghost use Rattle.flute_wire.specs.Content.{HasKey};
+    ghost use Rattle.flute_wire.specs.Facts.{key_of};
+
+    pub(crate) fn new(
+        tsi: u64,
+        toi: u128,
+        instance: Option<u32>,
+        info: Option<Info>,
+        symbol: Option<(SymbolId, &'a [u8])>,
+    ) -> Self
+        requires { HasKey tsi toi instance }
+        ensures { result ≡ record {
+          tsi = tsi;
+          toi = toi;
+          instance = instance;
+          info = info;
+          symbol = option_map (λ s. (s.0, s.1.now)) symbol.entry;
+        } }
+    {
+        Packet {
+            tsi,
+            toi,
+            instance,
+            info,
+            symbol,
+        }
+    }
+
+    /// The Transport Session Identifier, below 2^48 (RFC 5651, section 5.1).
+    pub fn tsi(&self) -> u64
+        ensures { result ≡ self.now.tsi }
+    {
+        self.tsi
+    }
+
+    /// The Transport Object Identifier, below 2^112: 0 for an FDT Instance (RFC 5651, section 5.1).
+    pub fn toi(&self) -> u128
+        ensures { result ≡ self.now.toi }
+    {
+        self.toi
+    }
+
+    /// The FDT Instance ID, below 2^20. There is one exactly where the TOI is 0 (RFC 6726, section 3.4.1).
+    pub fn instance(&self) -> Option<u32>
+        ensures { result ≡ self.now.instance }
+    {
+        self.instance
+    }
+
+    /// The session, and the FDT Instance or the file, that the packet belongs to.
+    pub fn key(&self) -> Key
+        ensures { result ≡ key_of self.now }
+    {
+        let session = SessionKey::new(self.tsi).unwrap();
+        let object = match self.instance {
+            Some(instance) => ObjectKey::fdt(instance).unwrap(),
+            None => ObjectKey::file(self.toi).unwrap(),
+        };
+        Key { session, object }
+    }
+
+    /// The transmission information of EXT_FTI, if there is one (RFC 5775, section 4.2).
+    pub fn info(&self) -> Option<Info>
+        ensures { result ≡ self.now.info }
+    {
+        self.info
+    }
+
+    /// The encoding symbol and its bytes, at least one. None where the datagram ends with its header or with the
+    /// FEC Payload ID (RFC 5445, section 3.2.1).
+    pub fn symbol(&self) -> Option<(SymbolId, &'a [u8])>
+        ensures { option_map (λ s. (s.0, s.1.now)) result ≡ self.now.symbol }
+    {
+        self.symbol
+    }
+}

@@ -1,0 +1,133 @@
+//! Datagrams read.
+
+ghost use Rattle.std.specs.Prelude.{◌≡◌, ◌≢◌, ◌<◌, ◌≤◌, ◌⊎◌, ◌^◌, ◌==◌, [], length, Option, Some, None, IfOk, IfErr, OnOk, OnErr, IfSome, IsSomeAnd, Ok, Err, ◌↔◌, if◌then◌else◌};
+ghost use Rattle.std.specs.Option.{option_copied, option_map};
+ghost use Rattle.flute_parts.specs.Information.{info_fault};
+ghost use Rattle.flute_wire.specs.Extensions.{fti_information, fdt_version, fdt_instance, content_encoding};
+ghost use Rattle.flute_wire.specs.Content.{Content};
+ghost use Rattle.flute_wire.specs.Datagram.{Spells, symbol_of};
+ghost use Rattle.flute_wire.specs.Refusals.{Refuses};
+ghost use Rattle.flute_wire.specs.declared.refusal.Refusal.{Refusal as Reason};
+ghost use Rattle.flute_wire.specs.Walk.{RefusesFti, RefusesFdt};
+
+use crate::extensions::Known;
+use crate::header::Header;
+use crate::numbers::{tsi_number, u16_at, u32_at};
+use crate::packet::Packet;
+use crate::refusal::Refusal;
+use flute_parts::{Info, SymbolId};
+
+/// The length of EXT_FTI's body: its four words without the byte of its type.
+const FTI_LEN: usize = 15;
+
+/// The transmission information of EXT_FTI, if that is there.
+fn information(fti: Option<&[u8]>) -> Result<Option<Info>, Refusal>
+    ensures taken { OnOk result (IfSome (option_copied fti.entry) (λ body. (length body ≡ 15) × (info_fault (fti_information body) ≡ None))) }
+    ensures value { IfOk result (λ info. info ≡ option_map fti_information (option_copied fti.entry)) }
+    ensures refused { IfErr result (λ r. RefusesFti (option_copied fti.entry) r) }
+{
+    let Some(body) = fti else {
+        return Ok(None);
+    };
+    if body.len() != FTI_LEN {
+        return Err(Refusal::FtiLength);
+    }
+    let length = tsi_number(&body[1..7]);
+    let symbol = u16_at(&body[9..11]);
+    let block = u32_at(&body[11..15]);
+    match Info::new(length, symbol, block) {
+        Ok(info) => Ok(Some(info)),
+        Err(fault) => Err(Refusal::Information(fault)),
+    }
+}
+
+/// FLUTE's version and the FDT Instance ID in EXT_FDT.
+fn fdt_fields(body: &[u8]) -> (u8, u32)
+    requires { length body.now ≡ 3 }
+    ensures version { result.0 ≡ fdt_version body.now }
+    ensures instance { result.1 ≡ fdt_instance body.now }
+{
+    let high = u32::from(body[0] & 15);
+    (body[0] >> 4, 65_536 * high + u32::from(u16_at(&body[1..])))
+}
+
+/// The FDT Instance of a packet with TOI 0, from EXT_FDT.
+fn instance(toi: u128, fdt: Option<&[u8]>) -> Result<Option<u32>, Refusal>
+    requires { IfSome (option_copied fdt) (λ body. length body ≡ 3) }
+    ensures taken { OnOk result (toi ≡ 0 → IsSomeAnd (option_copied fdt.entry) (λ body. fdt_version body ≡ 2)) }
+    ensures value { IfOk result (λ i. i ≡ (if toi == 0 then option_map fdt_instance (option_copied fdt.entry) else None)) }
+    ensures fits { IfOk result (λ i. IfSome i (λ n. n < 2 ^ 20)) }
+    ensures refused { IfErr result (λ r. RefusesFdt toi (option_copied fdt.entry) r) }
+{
+    if toi != 0 {
+        return Ok(None);
+    }
+    let Some(body) = fdt else {
+        return Err(Refusal::NoInstance);
+    };
+    let (version, number) = fdt_fields(body);
+    if version != 2 {
+        return Err(Refusal::FluteVersion);
+    }
+    Ok(Some(number))
+}
+
+/// Refuses a content encoding.
+fn check_encoding(cenc: Option<&[u8]>) -> Result<(), Refusal>
+    requires { IfSome (option_copied cenc) (λ body. length body ≡ 3) }
+    ensures plain { OnOk result (IfSome (option_copied cenc.entry) (λ body. content_encoding body ≡ 0)) }
+    ensures encoded { OnErr result (IsSomeAnd (option_copied cenc.entry) (λ body. content_encoding body ≢ 0)) }
+    ensures refusal { IfErr result (λ r. r ≡ Refusal.ContentEncoded) }
+{
+    match cenc {
+        Some(body) if body[0] != 0 => Err(Refusal::ContentEncoded),
+        _ => Ok(()),
+    }
+}
+
+/// The symbol behind the header, if there is one.
+fn symbol(tail: &[u8]) -> Result<Option<(SymbolId, &[u8])>, Refusal>
+    ensures value { IfOk result (λ s. option_map (λ s. (s.0, s.1.now)) s ≡ symbol_of tail.now) }
+    ensures taken { OnOk result ((tail.now ≡ []) ⊎ (4 ≤ length tail.now)) }
+    ensures cut { OnErr result ((0 < length tail.now) × (length tail.now < 4)) }
+    ensures refusal { IfErr result (λ r. r ≡ Refusal.PayloadIdCut) }
+{
+    if tail.is_empty() {
+        return Ok(None);
+    }
+    if tail.len() < 4 {
+        return Err(Refusal::PayloadIdCut);
+    }
+    if tail.len() == 4 {
+        return Ok(None);
+    }
+    let id = SymbolId {
+        sbn: u16_at(tail),
+        esi: u16_at(&tail[2..4]),
+    };
+    Ok(Some((id, &tail[4..])))
+}
+
+/// The packet that the datagram spells, or the first refusal that applies.
+fn packet_of(datagram: &[u8]) -> Result<Packet<'_>, Refusal>
+    ensures spelled { IfOk result (λ p. Spells datagram.now p) }
+    ensures refused { IfErr result (λ r. Refuses datagram.now r) }
+{
+    let header = Header::read(datagram)?;
+    let known = Known::read(header.extensions)?;
+    let info = information(known.fti)?;
+    let instance = instance(header.toi, known.fdt)?;
+    check_encoding(known.cenc)?;
+    let symbol = symbol(header.tail)?;
+    Ok(Packet::new(header.tsi, header.toi, instance, info, symbol))
+}
+
+/// Reads a datagram. It takes no memory: the symbol is a part of the datagram.
+pub fn read(datagram: &[u8]) -> Result<Packet<'_>, Refusal>
+    ensures spelled { IfOk result (λ p. Spells datagram.now p) }
+    ensures refused { IfErr result (λ r. Refuses datagram.now r) }
+    ensures packet { (p : Content) → (result ≡ Ok p) ↔ Spells datagram.now p }
+    ensures refusal { (r : Reason) → (result ≡ Err r) ↔ Refuses datagram.now r }
+{
+    packet_of(datagram)
+}
