@@ -1,0 +1,39 @@
+-- The lines that the program prints: words, decimal numbers and hexadecimal bytes.
+use Rattle.std.specs.Prelude.{ℕ, List, ◌++◌, length, codes, decimal, Option, Some, None}
+use Rattle.hex.specs.Hex.{encode_lower}
+use Rattle.flute_parts.specs.Information.{Information}
+use Rattle.flute_parts.specs.declared.symbol_id.SymbolId.{SymbolId}
+use Rattle.flute_parts.specs.declared.object_key.ObjectName.{ObjectName}
+use Rattle.flute_parts.specs.declared.object_key.ObjectName.TheVariants.{Instance, File}
+use Rattle.flute_wire.specs.Content.{Content}
+use Rattle.flute_wire.specs.Facts.{object_of}
+
+-- a line ends with a line feed
+abbrev pub line : List ℕ → List ℕ
+line words = words ++ codes "\n"
+
+-- a file by its TOI, an FDT Instance by its ID behind the word fdt
+abbrev pub object_words : ObjectName → List ℕ
+object_words (File toi) = codes "object " ++ decimal toi
+object_words (Instance instance) = codes "object fdt " ++ decimal instance
+
+abbrev pub information_words : Information → List ℕ
+information_words i =
+    codes "info length " ++ decimal i.transfer_length ++ codes " symbol " ++ decimal i.symbol_length ++ codes " block " ++ decimal i.max_block_length
+
+-- block and symbol ID, and how many bytes
+abbrev pub symbol_words : SymbolId → ℕ → List ℕ
+symbol_words id len = codes "symbol " ++ decimal id.sbn ++ codes "/" ++ decimal id.esi ++ codes " length " ++ decimal len ++ codes " "
+
+abbrev pub info_or_none : Option Information → List ℕ
+info_or_none None = codes "info none"
+info_or_none (Some info) = information_words info
+
+abbrev pub symbol_or_none : Option (SymbolId × List ℕ) → List ℕ
+symbol_or_none None = codes "symbol none"
+symbol_or_none (Some symbol) = symbol_words symbol.0 (length symbol.1) ++ encode_lower symbol.1
+
+-- the four lines of a packet
+unfoldable pub packet_lines : Content → List ℕ
+packet_lines c =
+    line (codes "session " ++ decimal c.tsi) ++ (line (object_words (object_of c.toi c.instance)) ++ (line (info_or_none c.info) ++ line (symbol_or_none c.symbol)))

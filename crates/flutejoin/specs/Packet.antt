@@ -1,0 +1,48 @@
+-- What the command `packet` answers and writes.
+use Rattle.std.specs.Prelude.{◌≡◌, ℕ, List, Option, Result, Ok, Err, ⊤}
+use Rattle.std.specs.Io.KnownBytes.{Keeps}
+use Rattle.hex.specs.Hex.{decode_of}
+use Rattle.flute_parts.specs.Devices.{AppendsPart}
+use Rattle.flute_wire.specs.Content.{Content}
+use Rattle.flute_wire.specs.Datagram.{Spells}
+use Rattle.flute_wire.specs.Refusals.{Refuses}
+use Rattle.flutejoin.specs.Lines.{packet_lines}
+use Rattle.flutejoin.specs.declared.command_fault.CommandFault.{CommandFault}
+use Rattle.flutejoin.specs.declared.command_fault.CommandFault.TheVariants.{BadHex, Refused, OutOfMemory, CannotWrite}
+
+-- the text is these bytes in hexadecimal
+abbrev pub IsHexOf : List ℕ → List ℕ → Type 0
+IsHexOf text bytes = decode_of text ≡ Ok bytes
+
+-- the text is a datagram in hexadecimal that spells a packet, and of that packet's lines P holds
+pub record HasLines (text : List ℕ) (P : List ℕ → Type 0) : Type 0 where
+  pub datagram : List ℕ
+  pub content : Content
+  pub hex : IsHexOf text datagram
+  pub spelled : Spells datagram content
+  pub written : P (packet_lines content)
+
+-- the text is a datagram in hexadecimal that is refused
+pub record HasRefusal (text : List ℕ) (P : List ℕ → Type 0) : Type 0 where
+  pub datagram : List ℕ
+  pub hex : IsHexOf text datagram
+  pub refused : P datagram
+
+-- why it failed, and what was written: nothing, or after a failed write a first part of the lines
+abbrev pub FailsWith : List ℕ → Option (List ℕ) → Option (List ℕ) → CommandFault → Type 0
+FailsWith text old new BadHex = ((bytes : List ℕ) → ¬ IsHexOf text bytes) × Keeps old new
+FailsWith text old new (Refused r) = HasRefusal text (λ d. Refuses d r) × Keeps old new
+FailsWith text old new OutOfMemory = Keeps old new
+FailsWith text old new CannotWrite = HasLines text (AppendsPart old new)
+FailsWith text old new _ = ⊥
+
+-- why a text gave no bytes
+abbrev pub IsHexFault : List ℕ → CommandFault → Type 0
+IsHexFault text BadHex = (bytes : List ℕ) → ¬ IsHexOf text bytes
+IsHexFault text OutOfMemory = ⊤
+IsHexFault text _ = ⊥
+
+-- a failed write is the one failure of a device that it answers
+abbrev pub write_failures : Result Unit CommandFault → ℕ
+write_failures (Err CannotWrite) = 1
+write_failures _ = 0

@@ -1,0 +1,13 @@
+-- The program's status after a fault.
+use Rattle.std.specs.Prelude.{ℕ}
+use Rattle.flutejoin.specs.declared.command_fault.CommandFault.{CommandFault}
+use Rattle.flutejoin.specs.declared.command_fault.CommandFault.TheVariants.{CommandLine, NotText, BadHex, Refused, OutOfMemory, CannotWrite}
+
+-- 1 for what is wrong in the input, 2 for the command line, and 3 for memory and devices
+abbrev pub status_of : CommandFault → ℕ
+status_of (CommandLine text) = 2
+status_of NotText = 2
+status_of BadHex = 1
+status_of (Refused refusal) = 1
+status_of OutOfMemory = 3
+status_of CannotWrite = 3

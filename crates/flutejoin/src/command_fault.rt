@@ -1,0 +1,45 @@
+//! What a command answers when it fails.
+ghost use Rattle.std.specs.Prelude.{◌≡◌};
+
+use flute_wire::Refusal;
+use thiserror::Error;
+
+/// Why a command failed. Shown, it is the line that the program writes to standard error.
+#[derive(Debug, Drop, Error)]
+pub enum CommandFault {
+    /// The parser refused the command line, with its own text; or it was asked for help or the version, which is
+    /// that text.
+    #[error(transparent)]
+    CommandLine(clap::Error),
+    /// A word of the command line is not UTF-8.
+    #[error("an argument is not text")]
+    NotText,
+    /// The text is not an even number of hexadecimal digits.
+    #[error("bad hex")]
+    BadHex,
+    /// The datagram is refused.
+    #[error("refused: {0}")]
+    Refused(Refusal),
+    /// There was no memory.
+    #[error("out of memory")]
+    OutOfMemory,
+    /// The output could not be written.
+    #[error("cannot write")]
+    CannotWrite,
+}
+
+impl CommandFault {
+    ghost use Rattle.flutejoin.specs.Status.{status_of};
+
+    /// The status that the program ends with: 1 for what is wrong in the input, 2 for the command line, 3 for
+    /// memory and devices.
+    pub fn status(&self) -> u8
+        ensures { result ≡ status_of self.now }
+    {
+        match self {
+            CommandFault::BadHex | CommandFault::Refused(_) => 1,
+            CommandFault::CommandLine(_) | CommandFault::NotText => 2,
+            CommandFault::OutOfMemory | CommandFault::CannotWrite => 3,
+        }
+    }
+}

@@ -1,0 +1,66 @@
+//! The command line.
+
+use crate::command_fault::CommandFault;
+use clap::error::ErrorKind;
+use clap::{Arg, ArgAction, ArgMatches, Command};
+use std::alloc::Global;
+
+/// What the program is to do. Its texts are words of the command line.
+#[derive(Debug, Drop, PartialEq, Eq)]
+pub enum Line<'a> {
+    /// Print what the datagram `hex` says.
+    Packet { hex: &'a str },
+}
+
+/// Reads the words after the program's name.
+///
+/// # Errors
+///
+/// `CommandLine` with the parser's text where that refuses the words, or where they ask for help or the version, and
+/// `OutOfMemory`.
+pub fn line_of(alloc: Global, words: &[String]) -> Result<Line<'_>, CommandFault> {
+    let command = command(alloc).map_err(parser_fault)?;
+    let matches = command.try_get_matches_from(words).map_err(parser_fault)?;
+    match matches.subcommand() {
+        Some((_, matches)) => Ok(Line::Packet {
+            hex: text(matches, "HEX"),
+        }),
+        None => Err(CommandFault::OutOfMemory),
+    }
+}
+
+fn parser_fault(error: clap::Error) -> CommandFault {
+    match error.kind() {
+        ErrorKind::OutOfMemory => CommandFault::OutOfMemory,
+        _ => CommandFault::CommandLine(error),
+    }
+}
+
+// The text of a required argument.
+fn text<'a>(matches: &ArgMatches<'a>, id: &str) -> &'a str {
+    matches.get_str(id).unwrap_or("")
+}
+
+fn command<'a>(alloc: Global) -> Result<Command<'a>, clap::Error> {
+    let command = Command::new(alloc, "flutejoin")
+        .version("0.1.0")
+        .about("Reads FLUTE version 2 datagrams (RFC 6726)")
+        .no_binary_name(true)
+        .bin_name("flutejoin")?
+        .subcommand_required(true)
+        .arg_required_else_help(true)
+        .subcommand(packet_command(alloc)?)?;
+    Ok(command)
+}
+
+fn packet_command<'a>(alloc: Global) -> Result<Command<'a>, clap::Error> {
+    let hex = Arg::new(alloc, "HEX")
+        .required(true)
+        .action(ArgAction::Set)
+        .help("The datagram: an even number of hexadecimal digits, as 10A0..6C6F");
+    let command = Command::new(alloc, "packet")
+        .about("Prints what one datagram says: its session, object, information and symbol")
+        .after_help("Example: flutejoin packet 10A004000000000000000007000000010000000068656C6C")
+        .arg(hex)?;
+    Ok(command)
+}

@@ -1,0 +1,79 @@
+//! The words of the lines that are printed.
+ghost use Rattle.std.specs.Prelude.{◌≡◌, ◌+◌, ◌≤◌, ◌++◌, length};
+ghost use Rattle.std.specs.Option.{option_map};
+ghost use Rattle.flutejoin.specs.Lines.{object_words, information_words, symbol_words, info_or_none};
+ghost use Rattle.flutejoin.specs.Pieces.{symbol_head};
+
+use crate::text::Text;
+use flute_parts::{Info, ObjectKey, SymbolId};
+
+/// Appends `object` and a file's TOI, or `object fdt` and an FDT Instance's ID.
+pub fn push_object(text: &mut Text, object: &ObjectKey)
+    requires { length text.old + 60 ≤ 512 }
+    ensures text { text.new ≡ text.old ++ object_words object.now }
+    ensures len { length text.new ≤ length text.old + 60 }
+{
+    match object.instance() {
+        Some(instance) => {
+            text.push("object fdt ");
+            text.push_number(instance);
+        }
+        None => {
+            text.push("object ");
+            text.push_number(object.toi());
+        }
+    }
+}
+
+/// Appends `info` and the three numbers of the information.
+pub fn push_information(text: &mut Text, info: &Info)
+    requires { length text.old + 160 ≤ 512 }
+    ensures text { text.new ≡ text.old ++ information_words info.now }
+    ensures len { length text.new ≤ length text.old + 160 }
+{
+    text.push("info length ");
+    text.push_number(info.length());
+    text.push(" symbol ");
+    text.push_number(info.symbol());
+    text.push(" block ");
+    text.push_number(info.block());
+}
+
+/// Appends what there is of the information.
+pub fn push_info(text: &mut Text, info: Option<Info>)
+    requires { length text.old + 160 ≤ 512 }
+    ensures text { text.new ≡ text.old ++ info_or_none info }
+    ensures len { length text.new ≤ length text.old + 160 }
+{
+    match info {
+        Some(info) => push_information(text, &info),
+        None => text.push("info none"),
+    }
+}
+
+/// Appends `symbol`, the numbers of the symbol and how many bytes it has: all but these.
+pub fn push_symbol(text: &mut Text, id: SymbolId, len: usize)
+    requires { length text.old + 160 ≤ 512 }
+    ensures text { text.new ≡ text.old ++ symbol_words id len }
+    ensures len { length text.new ≤ length text.old + 160 }
+{
+    text.push("symbol ");
+    text.push_number(id.sbn);
+    text.push("/");
+    text.push_number(id.esi);
+    text.push(" length ");
+    text.push_number(len);
+    text.push(" ");
+}
+
+/// Appends what there is of the symbol, but for its bytes.
+pub fn push_symbol_head(text: &mut Text, symbol: Option<(SymbolId, &[u8])>)
+    requires { length text.old + 160 ≤ 512 }
+    ensures text { text.new ≡ text.old ++ symbol_head (option_map (λ s. (s.0, s.1.now)) symbol.entry) }
+    ensures len { length text.new ≤ length text.old + 160 }
+{
+    match symbol {
+        Some((id, bytes)) => push_symbol(text, id, bytes.len()),
+        None => text.push("symbol none"),
+    }
+}

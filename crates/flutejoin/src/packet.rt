@@ -1,0 +1,88 @@
+//! The command `packet`: the four lines of a datagram.
+ghost use Rattle.std.specs.Prelude.{◌≡◌, ◌+◌, if◌then◌else◌, is_ok, IfOk, IfErr, OnOk};
+ghost use Rattle.std.specs.Io.KnownBytes.{Appends};
+ghost use Rattle.flute_parts.specs.Devices.{Writes};
+ghost use Rattle.flutejoin.specs.Lines.{packet_lines};
+ghost use Rattle.flutejoin.specs.Pieces.{packet_head, symbol_bytes};
+ghost use Rattle.flutejoin.specs.Packet.{IsHexOf, IsHexFault, HasLines, FailsWith, write_failures};
+
+use crate::command_fault::CommandFault;
+use crate::hex_digits::write_hex;
+use crate::lines::{push_info, push_object, push_symbol_head};
+use crate::text::Text;
+use flute_parts::{DeviceFault, Sink};
+use flute_wire::{Packet, read};
+use hex::FromHexError;
+use std::alloc::Global;
+
+/// Writes what the datagram says that `text` has in hexadecimal: a line each for its session, its object, its
+/// information and its symbol.
+///
+/// # Errors
+///
+/// `BadHex` where `text` is not an even number of hexadecimal digits, `Refused` where the datagram is refused,
+/// and `OutOfMemory`: nothing was written then. `CannotWrite` where the sink failed: it took a first part of the
+/// lines, and not all.
+pub fn packet_to<W: Sink>(alloc: Global, text: &str, sink: &mut W) -> Result<(), CommandFault>
+    ensures printed { OnOk result (HasLines text.now (Appends (W.written sink.old) (W.written sink.new))) }
+    ensures failed { IfErr result (FailsWith text.now (W.written sink.old) (W.written sink.new)) }
+    ensures failures { W.failures sink.new ≡ W.failures sink.old + write_failures result }
+{
+    let datagram = datagram_of(alloc, text)?;
+    let packet = match read(&datagram) {
+        Ok(packet) => packet,
+        Err(refusal) => return Err(CommandFault::Refused(refusal)),
+    };
+    match write_packet(sink, &packet) {
+        Ok(()) => Ok(()),
+        Err(_) => Err(CommandFault::CannotWrite),
+    }
+}
+
+// The bytes that the text has in hexadecimal.
+fn datagram_of(alloc: Global, text: &str) -> Result<Vec<u8>, CommandFault>
+    ensures bytes { IfOk result (λ v. IsHexOf text.now v.items) }
+    ensures fault { IfErr result (IsHexFault text.now) }
+{
+    match hex::decode(alloc, text) {
+        Ok(bytes) => Ok(bytes),
+        Err(FromHexError::OutOfMemory) => Err(CommandFault::OutOfMemory),
+        Err(_) => Err(CommandFault::BadHex),
+    }
+}
+
+fn write_packet<W: Sink>(sink: &mut W, packet: &Packet<'_>) -> Result<(), DeviceFault>
+    ensures lines { Writes (W.written sink.old) (W.written sink.new) (packet_lines packet.now) result }
+    ensures failures { W.failures sink.new ≡ W.failures sink.old + (if is_ok result then 0 else 1) }
+{
+    let head = head_of(packet);
+    sink.write_all(head.as_slice())?;
+    write_hex(sink, symbol_bytes(packet))?;
+    sink.write_all(b"\n")
+}
+
+// All that is written before the symbol's bytes.
+fn head_of(packet: &Packet<'_>) -> Text
+    ensures { result ≡ packet_head packet.now }
+{
+    let key = packet.key();
+    let mut text = Text::new();
+    text.push("session ");
+    text.push_number(key.session.tsi());
+    text.push("\n");
+    push_object(&mut text, &key.object);
+    text.push("\n");
+    push_info(&mut text, packet.info());
+    text.push("\n");
+    push_symbol_head(&mut text, packet.symbol());
+    text
+}
+
+fn symbol_bytes<'a>(packet: &Packet<'a>) -> &'a [u8]
+    ensures { result.now ≡ symbol_bytes packet.now.symbol }
+{
+    match packet.symbol() {
+        Some((_, bytes)) => bytes,
+        None => &[],
+    }
+}
