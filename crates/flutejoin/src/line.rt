@@ -5,6 +5,11 @@ use clap::error::ErrorKind;
 use clap::{Arg, ArgAction, ArgMatches, Command};
 use std::alloc::Global;
 
+/// An example that the help texts end with.
+const EXAMPLE: &str = "\
+A datagram is given as hexadecimal digits, two for each byte. Example:
+  flutejoin packet 10A004000000000000000007000000010000000068656C6C";
+
 /// What the program is to do. Its texts are words of the command line.
 #[derive(Debug, Drop, PartialEq, Eq)]
 pub enum Line<'a> {
@@ -45,6 +50,7 @@ fn command<'a>(alloc: Global) -> Result<Command<'a>, clap::Error> {
     let command = Command::new(alloc, "flutejoin")
         .version("0.1.0")
         .about("Reads FLUTE version 2 datagrams (RFC 6726)")
+        .after_help(EXAMPLE)
         .no_binary_name(true)
         .bin_name("flutejoin")?
         .subcommand_required(true)
@@ -57,10 +63,10 @@ fn packet_command<'a>(alloc: Global) -> Result<Command<'a>, clap::Error> {
     let hex = Arg::new(alloc, "HEX")
         .required(true)
         .action(ArgAction::Set)
-        .help("The datagram: an even number of hexadecimal digits, as 10A0..6C6F");
+        .help("The datagram in hexadecimal digits, two for each byte");
     let command = Command::new(alloc, "packet")
         .about("Prints what one datagram says: its session, object, information and symbol")
-        .after_help("Example: flutejoin packet 10A004000000000000000007000000010000000068656C6C")
+        .after_help(EXAMPLE)
         .arg(hex)?;
     Ok(command)
 }

@@ -1,0 +1,23 @@
+# make            proves what changed, builds the program and leaves it at bin/flutejoin
+# make test       the whole gate: every proof from nothing, the must-fail edits, the tests and the program
+# make install    copies the program to $(PREFIX)/bin
+
+PREFIX ?= /usr/local
+
+SOURCES := crates.txt $(shell find crates -name out -prune -o -type f -print)
+
+bin/flutejoin: $(SOURCES)
+	@tools/build.sh
+
+test:
+	rt ci
+	tests/program.sh crates/flutejoin_cli/out/flutejoin_cli
+
+install: bin/flutejoin
+	install -d "$(DESTDIR)$(PREFIX)/bin"
+	install -m 755 bin/flutejoin "$(DESTDIR)$(PREFIX)/bin/flutejoin"
+
+clean:
+	rm -rf bin crates/*/out
+
+.PHONY: test install clean
