@@ -1,12 +1,14 @@
 //! The worked examples of the format: what each datagram says, or why it is refused.
 
+mod cuts;
+mod datagrams;
+mod packets;
+mod refusals;
 mod vectors;
 
 use super::*;
-use flute_parts::{InfoFault, SymbolId};
+use flute_parts::SymbolId;
 use std::process::Abort;
-use std::test::Fail;
-use vectors::bytes;
 
 /// All that a datagram says.
 #[derive(Clone, Copy, Drop)]
@@ -28,6 +30,30 @@ const FILE: Said<'static> = Said {
     info: None,
     symbol: None,
 };
+
+impl<'a> Said<'a> {
+    /// The same of an FDT Instance.
+    fn instance(self, instance: u32) -> Self {
+        let instance = Some(instance);
+        Said {
+            toi: 0,
+            instance,
+            ..self
+        }
+    }
+
+    /// The same with this information.
+    fn info(self, length: u64, symbol: u16, block: u32) -> Self {
+        let info = Some((length, symbol, block));
+        Said { info, ..self }
+    }
+
+    /// The same with this symbol.
+    fn symbol(self, sbn: u16, esi: u16, bytes: &'a [u8]) -> Self {
+        let symbol = Some((sbn, esi, bytes));
+        Said { symbol, ..self }
+    }
+}
 
 fn assert_says(rt: &impl Abort, datagram: &[u8], said: Said<'_>) {
     let packet = match read(datagram) {
@@ -60,122 +86,4 @@ fn assert_symbol(
 
 fn assert_refused(rt: &impl Abort, datagram: &[u8], wanted: Refusal) {
     assert_eq!(rt; read(datagram).err(), Some(wanted));
-}
-
-/// Each vector says what its name tells: every field is compared.
-#[test]
-fn vectors_are_read(rt: HostRuntime) -> Result<(), Fail> {
-    let info = Some((5, 4, 2));
-    let first = Some((0, 0, b"hell".as_slice()));
-    let last = Some((0, 1, b"o".as_slice()));
-    let padded = Some((0, 1, b"o\0\0\0".as_slice()));
-    let long = Some((0, 1, b"o!".as_slice()));
-    let letter = Some((0, 0, b"a".as_slice()));
-    let less_than = Some((0, 0, b"<".as_slice()));
-    let empty = Some((0, 0, 0));
-    for (hex, said) in [
-        (
-            vectors::INFO_AND_FIRST_SYMBOL,
-            Said {
-                info,
-                symbol: first,
-                ..FILE
-            },
-        ),
-        (
-            vectors::INFO_AND_LAST_SYMBOL,
-            Said {
-                info,
-                symbol: last,
-                ..FILE
-            },
-        ),
-        (
-            vectors::INFO_AND_PADDED_SYMBOL,
-            Said {
-                info,
-                symbol: padded,
-                ..FILE
-            },
-        ),
-        (
-            vectors::FIRST_SYMBOL_NARROW,
-            Said {
-                symbol: first,
-                ..FILE
-            },
-        ),
-        (vectors::INFO_ALONE, Said { info, ..FILE }),
-        (
-            vectors::OTHER_INFO,
-            Said {
-                info: Some((5, 4, 3)),
-                ..FILE
-            },
-        ),
-        (
-            vectors::LAST_SYMBOL,
-            Said {
-                symbol: last,
-                ..FILE
-            },
-        ),
-        (
-            vectors::FIRST_SYMBOL,
-            Said {
-                symbol: first,
-                ..FILE
-            },
-        ),
-        (
-            vectors::WIDEST_FIELDS,
-            Said {
-                toi: 5192296858534827628530496329220095,
-                symbol: letter,
-                ..FILE
-            },
-        ),
-        (
-            vectors::FDT_INSTANCE,
-            Said {
-                toi: 0,
-                instance: Some(3),
-                symbol: less_than,
-                ..FILE
-            },
-        ),
-        (
-            vectors::INFO_OF_EMPTY_FILE,
-            Said {
-                info: empty,
-                ..FILE
-            },
-        ),
-        (
-            vectors::LONG_LAST_SYMBOL,
-            Said {
-                symbol: long,
-                ..FILE
-            },
-        ),
-        (
-            vectors::OTHER_SESSION,
-            Said {
-                tsi: 8,
-                symbol: letter,
-                ..FILE
-            },
-        ),
-        (
-            vectors::OTHER_FILE,
-            Said {
-                toi: 2,
-                symbol: letter,
-                ..FILE
-            },
-        ),
-    ] {
-        assert_says(&rt, &bytes(rt.alloc(), hex)?, said);
-    }
-    Ok(())
 }

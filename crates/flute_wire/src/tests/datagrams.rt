@@ -1,0 +1,38 @@
+//! Datagrams kept, and the laws of reading.
+
+use super::*;
+use std::test::Fail;
+
+/// Any bytes are a datagram, also none, up to 65,535 of them.
+#[test]
+fn kept(rt: HostRuntime) -> Result<(), Fail> {
+    let zeros = vec![in rt.alloc(); 0; 65_536]?;
+    for len in [0, 1, 65_535] {
+        let bytes = &zeros[..len];
+        let copied = Datagram::new(rt.alloc(), bytes)?;
+        assert_eq!(rt; copied.as_slice(), bytes);
+        let moved = Datagram::from_vec(bytes.to_vec(rt.alloc())?)?;
+        assert_eq!(rt; moved.as_slice(), bytes);
+    }
+    let copied = Datagram::new(rt.alloc(), &zeros);
+    assert_eq!(rt; copied.err(), Some(DatagramFault::TooLong));
+    let moved = Datagram::from_vec(zeros);
+    assert_eq!(rt; moved.err(), Some(DatagramFault::TooLong));
+    Ok(())
+}
+
+#[test]
+fn texts(rt: HostRuntime) -> Result<(), Fail> {
+    let too_long = format!(in rt.alloc(); "{}", DatagramFault::TooLong)?;
+    assert_eq!(rt; too_long.as_str(), "TooLong");
+    let out_of_memory = format!(in rt.alloc(); "{}", DatagramFault::OutOfMemory)?;
+    assert_eq!(rt; out_of_memory.as_str(), "OutOfMemory");
+    Ok(())
+}
+
+/// The laws do nothing when they are called, and have no condition.
+#[test]
+fn laws() {
+    one_reading();
+    computed_reading();
+}
