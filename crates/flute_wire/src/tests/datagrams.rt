@@ -6,17 +6,17 @@ use std::test::Fail;
 /// Any bytes are a datagram, also none, up to 65,535 of them.
 #[test]
 fn kept(rt: HostRuntime) -> Result<(), Fail> {
-    let zeros = vec![in rt.alloc(); 0; 65_536]?;
     for len in [0, 1, 65_535] {
-        let bytes = &zeros[..len];
-        let copied = Datagram::new(rt.alloc(), bytes)?;
-        assert_eq!(rt; copied.as_slice(), bytes);
-        let moved = Datagram::from_vec(bytes.to_vec(rt.alloc())?)?;
-        assert_eq!(rt; moved.as_slice(), bytes);
+        let bytes = vec![in rt.alloc(); 7; len]?;
+        let copied = Datagram::new(rt.alloc(), &bytes)?;
+        assert_eq!(rt; copied.as_slice(), bytes.as_slice(), "{len} bytes copied");
+        let moved = Datagram::from_vec(bytes)?;
+        assert_eq!(rt; moved.as_slice(), copied.as_slice(), "{len} bytes moved");
     }
-    let copied = Datagram::new(rt.alloc(), &zeros);
+    let bytes = vec![in rt.alloc(); 7; 65_536]?;
+    let copied = Datagram::new(rt.alloc(), &bytes);
     assert_eq!(rt; copied.err(), Some(DatagramFault::TooLong));
-    let moved = Datagram::from_vec(zeros);
+    let moved = Datagram::from_vec(bytes);
     assert_eq!(rt; moved.err(), Some(DatagramFault::TooLong));
     Ok(())
 }
