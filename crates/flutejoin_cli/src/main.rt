@@ -49,8 +49,9 @@ fn fail(rt: &HostRuntime, fault: &CommandFault) -> ExitCode {
 }
 
 fn packet(rt: &HostRuntime, hex: &str) -> Result<(), CommandFault> {
-    let writer = BufWriter::with_capacity(rt.alloc(), OUTPUT_BUFFER, io::writer(rt))
-        .map_err(|_| CommandFault::OutOfMemory)?;
+    let writer = BufWriter::with_capacity(rt.alloc(), OUTPUT_BUFFER, io::writer(rt)).map_err(
+        |_| CommandFault::OutOfMemory,
+    )?;
     let mut output = StdSink::new(writer);
     packet_to(rt.alloc(), hex, &mut output)?;
     output.flush().map_err(|_| CommandFault::CannotWrite)
