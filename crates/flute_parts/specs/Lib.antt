@@ -3,5 +3,12 @@ pub mod Session
 pub mod ObjectName
 pub mod Information
 pub mod SymbolBytes
+pub mod Order
 pub mod Addresses
+pub mod Facts
+pub mod Partition
+pub mod Split
+pub mod Limits
+pub mod Laws
+pub mod Examples
 pub mod Devices

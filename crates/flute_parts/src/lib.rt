@@ -1,4 +1,5 @@
-//! What FLUTE receptions are made of: names, transmission information, facts, and the devices that bytes go to.
+//! What FLUTE receptions are made of: names, transmission information, partitions, facts and their laws, and the
+//! devices that bytes go to.
 #![tactic(auto)]
 
 mod address;
@@ -8,8 +9,10 @@ mod fact;
 mod failures;
 mod info;
 mod key;
+pub mod laws;
 mod memory_sink;
 mod object_key;
+mod partition;
 mod session_key;
 mod std_sink;
 mod symbol_id;
@@ -22,6 +25,7 @@ pub use info::{Info, InfoFault};
 pub use key::Key;
 pub use memory_sink::MemorySink;
 pub use object_key::ObjectKey;
+pub use partition::Partition;
 pub use session_key::SessionKey;
 pub use std_sink::StdSink;
 pub use symbol_id::SymbolId;

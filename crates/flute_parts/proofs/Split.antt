@@ -1,0 +1,300 @@
+-- The partition that information gives, from its four numbers.
+use Rattle.std.proofs.Common.{◌≡◌, ℕ, zero, suc, ◌+◌, ◌-◌, ◌*◌, ◌/◌, ◌%◌, ◌^◌, ◌<◌, ◌≤◌, min, ◌||◌, ◌&&◌, Bool, true, false, cond, List, [], ◌∷◌, ◌++◌, length, get_or, take, replicate, Option, Some, None, refl, sym, ap, ◌∙◌, subst, inl, inr, ◌⊎◌, arith}
+use Rattle.std.proofs.Math.Nat.{div-add-mod'}
+use Rattle.std.specs.Prelude.{slice_get, ◌==◌, ◌↔◌, Contains}
+use Rattle.std.specs.Int.{div_ceil}
+use Rattle.std.specs.declared.cmp.Ordering.TheVariants.{Less}
+use Rattle.std.specs.List.{position_from}
+use Rattle.std.proofs.lemmas.Bool.Decides.{nat_tests}
+use Rattle.std.proofs.lemmas.Option.{slice_get_past, slice_get_within, slice_get-get_or, get_or_from_slice_get}
+use Rattle.std.proofs.lemmas.Bool.{false≢true}
+use Rattle.flute_parts.proofs.Equality.{both}
+use Rattle.std.proofs.lemmas.Nat.{mod_below, div_below, mul-le}
+use Rattle.flute_parts.specs.declared.symbol_id.SymbolId.{SymbolId}
+use Rattle.flute_parts.specs.Order.{same_symbol_id, symbol_id_cmp}
+use Rattle.flute_parts.proofs.Joined.{tested}
+use Rattle.flute_parts.specs.Information.{Information, sizes, symbol_count, block_count, large_length, small_length, large_count, HasBlocks, IsValid}
+use Rattle.flute_parts.specs.Partition.{symbol_id, ids, place, last_length, fits_at, fits}
+use Rattle.flute_parts.specs.Split.{total, IsSplit}
+use Rattle.flute_parts.proofs.Division.{div_ceil-pos, div_ceil-le, div_ceil-zero}
+use Rattle.flute_parts.proofs.Listing.{listing, split, place-hit, place-miss, listing-at, length-listing, length-split, size-large, size-small, before-large, before-small, total-split, listed-of_place, place-of_listed, ids-rise, next-in_block}
+
+-- how the numbers are made
+
+pub IsSplit-none : (i : Information) → i.transfer_length ≡ 0 → IsSplit i 0 0 0 0
+unfolding sizes
+IsSplit-none i h =
+    let is_zero : (i.transfer_length == 0) ≡ true = grind (arith, nat_tests) in
+    record {
+      split = ap (λ b. cond b [] (replicate (large_count i) (large_length i) ++ replicate (block_count i - large_count i) (small_length i))) is_zero;
+      count = sym (ap (λ l. div_ceil l i.symbol_length) h ∙ div_ceil-zero i.symbol_length);
+      all = omega arith;
+      blocks = omega arith;
+      longest = omega arith;
+      large_longest = λ l. omega (arith, l);
+      not_empty = λ l. omega (arith, l);
+    }
+
+cases_zero : (n : ℕ) → (n ≡ 0) ⊎ (0 < n)
+cases_zero zero = inl refl
+cases_zero (suc n) = inr (omega arith)
+
+larger : (q r : ℕ) → replicate r (q + min 1 r) ≡ replicate r (q + 1)
+larger q zero = refl
+larger q (suc r) = ap (replicate (suc r)) (omega arith)
+
+counted : (q r d t : ℕ) → q * (r + d) + r ≡ t → t ≡ r * (q + 1) + d * q
+counted q r d t e = omega arith
+
+quotient_pos : (q r n t : ℕ) → q * n + r ≡ t → r < n → n ≤ t → 0 < q
+quotient_pos zero r n t e h l = absurd (omega arith)
+quotient_pos (suc q) r n t e h l = omega arith
+
+pub IsSplit-of : (i : Information) (n : ℕ) → n ≡ block_count i → 0 < i.transfer_length → HasBlocks i → IsSplit i (symbol_count i) (symbol_count i % n) (n - symbol_count i % n) (symbol_count i / n)
+unfolding sizes
+IsSplit-of i n e l h =
+    let t = symbol_count i in
+    let q = t / n in
+    let r = t % n in
+    let t_pos : 0 < t = div_ceil-pos i.transfer_length i.symbol_length l in
+    let n_pos : 0 < n = subst (λ x. 0 < x) (sym e) (div_ceil-pos t i.max_block_length t_pos) in
+    let n_le : n ≤ t = subst (λ x. x ≤ t) (sym e) (div_ceil-le t i.max_block_length h.block) in
+    let parts : q * n + r ≡ t = div-add-mod' t n in
+    let r_lt : r < n = mod_below t n n_pos in
+    let n_is : r + (n - r) ≡ n = omega arith in
+    let n_small : n ≤ 65536 = subst (λ x. x ≤ 65536) (sym e) h.blocks in
+    let long : q + min 1 r ≤ 65536 = subst (λ x. t / x + min 1 (t % x) ≤ 65536) (sym e) h.longest in
+    let is_large : t - q * n ≡ r = omega arith in
+    let not_zero : (i.transfer_length == 0) ≡ false = grind (arith, nat_tests) in
+    record {
+      split =
+          ap (λ b. cond b [] (replicate (large_count i) (large_length i) ++ replicate (block_count i - large_count i) (small_length i))) not_zero
+          ∙ ap (λ x. replicate (t - t / x * x) (div_ceil t x) ++ replicate (x - (t - t / x * x)) (t / x)) (sym e)
+          ∙ ap (λ x. replicate x (q + min 1 r) ++ replicate (n - x) q) is_large
+          ∙ ap (λ xs. xs ++ replicate (n - r) q) (larger q r);
+      count = refl;
+      all = counted q r (n - r) t (ap (λ x. q * x + r) n_is ∙ parts);
+      blocks = omega arith;
+      longest = omega arith;
+      large_longest = λ p. omega (arith, p);
+      not_empty = λ p. quotient_pos q r n t parts r_lt n_le;
+    }
+
+-- what the numbers tell
+
+module _ (i : Information) (symbols large small length' : ℕ) (s : IsSplit i symbols large small length') where
+  abbrev blocks : List ℕ
+  blocks = split large (length' + 1) small length'
+
+  pub count-ids : length (ids i) ≡ symbols
+  unfolding ids
+  count-ids = length-listing 0 (sizes i) ∙ ap total s.split ∙ total-split large (length' + 1) small length' ∙ sym s.all
+
+  pub count-sizes : length (sizes i) ≡ large + small
+  count-sizes = ap length s.split ∙ length-split large (length' + 1) small length'
+
+  pub before-first : (n : ℕ) → n ≤ large → total (take n (sizes i)) ≡ n * (length' + 1)
+  before-first n h = ap (λ xs. total (take n xs)) s.split ∙ before-large large (length' + 1) small length' n h
+
+  pub before-second : (n : ℕ) → large ≤ n → n ≤ large + small → total (take n (sizes i)) ≡ large * (length' + 1) + (n - large) * length'
+  before-second n h l = ap (λ xs. total (take n xs)) s.split ∙ before-small large (length' + 1) small length' (n - large) n (omega arith) (omega arith)
+
+  -- an id at its place
+  pub at-first : (n j k : ℕ) → n < large → j < length' + 1 → n * (length' + 1) + j ≡ k → slice_get (ids i) k ≡ Some (symbol_id n j)
+  unfolding ids
+  at-first n j k h l e =
+      let count = count-sizes in
+      let size : get_or (sizes i) n 0 ≡ length' + 1 = ap (λ xs. get_or xs n 0) s.split ∙ size-large large (length' + 1) small length' n h in
+      let b = before-first n (omega arith) in
+      listing-at (sizes i) 0 n j n k (omega arith) (omega arith) (omega arith) (omega arith)
+
+  pub at-second : (n j k : ℕ) → large ≤ n → n < large + small → j < length' → large * (length' + 1) + ((n - large) * length' + j) ≡ k → slice_get (ids i) k ≡ Some (symbol_id n j)
+  unfolding ids
+  at-second n j k h m l e =
+      let count = count-sizes in
+      let size : get_or (sizes i) n 0 ≡ length' = ap (λ xs. get_or xs n 0) s.split ∙ size-small large (length' + 1) small length' n h m in
+      let b = before-second n h (omega arith) in
+      listing-at (sizes i) 0 n j n k (omega arith) (omega arith) (omega arith) (omega arith)
+
+  -- the id at each place
+  pub place-first : (k : ℕ) → k < large * (length' + 1) → slice_get (ids i) k ≡ Some (symbol_id (k / (length' + 1)) (k % (length' + 1)))
+  place-first k h = at-first (k / (length' + 1)) (k % (length' + 1)) k (div_below k (length' + 1) large (omega arith) h) (mod_below k (length' + 1) (omega arith)) (div-add-mod' k (length' + 1))
+
+  pub place-second : (k : ℕ) → large * (length' + 1) ≤ k → k < symbols → slice_get (ids i) k ≡ Some (symbol_id (large + (k - large * (length' + 1)) / length') ((k - large * (length' + 1)) % length'))
+  place-second k h l =
+      let rest = k - large * (length' + 1) in
+      let below : rest < small * length' = let all = s.all in omega arith in
+      let some : 0 < small = elim (cases_zero small) [
+        | inl z ↦ absurd (let e : small * length' ≡ 0 = ap (λ x. x * length') z ∙ omega arith in omega arith)
+        | inr p ↦ p
+      ] in
+      let pos : 0 < length' = s.not_empty some in
+      let q = rest / length' in
+      let r = rest % length' in
+      let q_lt : q < small = div_below rest length' small pos below in
+      let parts : q * length' + r ≡ rest = div-add-mod' rest length' in
+      let shift : large + q - large ≡ q = omega arith in
+      at-second (large + q) r k (omega arith) (omega arith) (mod_below rest length' pos)
+      (ap (λ x. large * (length' + 1) + (x * length' + r)) shift ∙ ap (λ x. large * (length' + 1) + x) parts ∙ omega arith)
+
+  pub past-last : (k : ℕ) → symbols ≤ k → slice_get (ids i) k ≡ None
+  past-last k h = slice_get_past (ids i) k (let e = count-ids in omega arith)
+
+  pub first-bound : (n : ℕ) → n < 65536 → n * (length' + 1) < 2 ^ 33
+  first-bound n h = let p = mul-le n (length' + 1) 65536 65537 (omega arith) (let l = s.longest in omega arith) in omega arith
+
+  pub second-bound : (n : ℕ) → large ≤ n → n < 65536 → large * (length' + 1) + (n - large) * length' < 2 ^ 33
+  second-bound n h l =
+      let e : large * (length' + 1) + (n - large) * length' ≤ (large + (n - large)) * (length' + 1) = omega arith in
+      let m : large + (n - large) ≡ n = omega arith in
+      let p = first-bound n l in
+      let w : (large + (n - large)) * (length' + 1) ≡ n * (length' + 1) = ap (λ x. x * (length' + 1)) m in
+      omega arith
+
+-- a symbol of a block stands behind the blocks before its own, and any other stands nowhere
+
+pub place-in : (i : Information) (id : SymbolId) (k : ℕ) → id.esi < get_or (sizes i) id.sbn 0 → total (take id.sbn (sizes i)) + id.esi ≡ k → place i id ≡ Some k
+unfolding place ids
+place-in i id k h e = place-hit (sizes i) 0 id.sbn id.esi 0 id.sbn k (inside (sizes i) id.sbn (omega arith)) h (omega arith) (omega arith)
+  where
+    inside : (xs : List ℕ) (n : ℕ) → 0 < get_or xs n 0 → n < length xs
+    inside [] n p = absurd (omega arith)
+    inside (x ∷ xs) zero p = omega arith
+    inside (x ∷ xs) (suc n) p = omega (arith, inside xs n p)
+
+pub place-out : (i : Information) (id : SymbolId) → get_or (sizes i) id.sbn 0 ≤ id.esi → place i id ≡ None
+unfolding place ids
+place-out i id h = place-miss (sizes i) id 0 0 (λ m l e. subst (λ x. get_or (sizes i) x 0 ≤ id.esi) (omega (arith, e)) h)
+
+position-within : (p : SymbolId → Bool) (xs : List SymbolId) (k r : ℕ) → position_from p k xs ≡ Some r → r < k + length xs
+position-within p [] k r e = cc
+position-within p (x ∷ xs) k r e = elim (tested (p x)) [
+  | inl t ↦
+      let f : Some k ≡ Some r = sym (ap (λ b. cond b (Some k) (position_from p (k + 1) xs)) t) ∙ e in
+      let g : k ≡ r = cc in
+      omega arith
+  | inr t ↦
+      let f : position_from p (k + 1) xs ≡ Some r = sym (ap (λ b. cond b (Some k) (position_from p (k + 1) xs)) t) ∙ e in
+      omega (arith, position-within p xs (k + 1) r f)
+]
+
+pub place-within : (i : Information) (id : SymbolId) (k : ℕ) → place i id ≡ Some k → k < length (ids i)
+unfolding place
+place-within i id k e = omega (arith, position-within (same_symbol_id id) (ids i) 0 k e)
+
+-- what fits
+
+equal_is : (m n : ℕ) → m ≡ n → (m == n) ≡ true
+equal_is m n h = grind (arith, nat_tests)
+
+unequal_is : (m n : ℕ) → (m ≡ n → ⊥) → (m == n) ≡ false
+unequal_is m n h = grind (arith, nat_tests)
+
+module _ (i : Information) (id : SymbolId) (n : ℕ) where
+  pub fits-none : place i id ≡ None → fits i id n ≡ false
+  unfolding fits
+  fits-none e = ap (λ p. fits_at i p n) e
+
+  pub fits-full : (k : ℕ) → place i id ≡ Some k → n ≡ i.symbol_length → fits i id n ≡ (n == i.symbol_length)
+  unfolding fits
+  fits-full k e h =
+      let t = equal_is n i.symbol_length h in
+      ap (λ p. fits_at i p n) e ∙ ap (λ b. b || ((k + 1 == symbol_count i) && (n == last_length i))) t ∙ sym t
+
+  pub fits-last : (k : ℕ) → place i id ≡ Some k → (n ≡ i.symbol_length → ⊥) → k + 1 ≡ symbol_count i → fits i id n ≡ (n == last_length i)
+  unfolding fits
+  fits-last k e h l =
+      ap (λ p. fits_at i p n) e
+      ∙ ap (λ b. b || ((k + 1 == symbol_count i) && (n == last_length i))) (unequal_is n i.symbol_length h)
+      ∙ ap (λ b. b && (n == last_length i)) (equal_is (k + 1) (symbol_count i) l)
+
+  pub fits-other : (k : ℕ) → place i id ≡ Some k → (n ≡ i.symbol_length → ⊥) → (k + 1 ≡ symbol_count i → ⊥) → fits i id n ≡ (k + 1 == symbol_count i)
+  unfolding fits
+  fits-other k e h l =
+      let t = unequal_is (k + 1) (symbol_count i) l in
+      ap (λ p. fits_at i p n) e
+      ∙ ap (λ b. b || ((k + 1 == symbol_count i) && (n == last_length i))) (unequal_is n i.symbol_length h)
+      ∙ ap (λ b. b && (n == last_length i)) t
+      ∙ sym t
+
+-- the order of the ids
+
+pub places-inverse : (info : Information) (id : SymbolId) (k : ℕ) → (place info id ≡ Some k) ↔ (slice_get (ids info) k ≡ Some id)
+unfolding place ids
+places-inverse info id k = (λ e. sub-zero_at k (listed-of_place id (listing 0 (sizes info)) 0 k e).1, λ e. place-of_listed (sizes info) k id e)
+  where
+    sub-zero_at : (k : ℕ) → slice_get (listing 0 (sizes info)) (k - 0) ≡ Some id → slice_get (listing 0 (sizes info)) k ≡ Some id
+    sub-zero_at k h = let e : k ≡ k - 0 = omega arith in ap (slice_get (listing 0 (sizes info))) e ∙ h
+
+pub ids_rise : (info : Information) (j k : ℕ) (a b : SymbolId) → j < k → slice_get (ids info) j ≡ Some a → slice_get (ids info) k ≡ Some b → symbol_id_cmp a b ≡ Less
+unfolding ids
+ids_rise info = ids-rise (sizes info)
+
+pub ids_follow : (info : Information) (k : ℕ) (id : SymbolId) → slice_get (ids info) k ≡ Some id → id.esi + 1 < get_or (sizes info) id.sbn 0 → slice_get (ids info) (k + 1) ≡ Some (symbol_id id.sbn (id.esi + 1))
+unfolding ids
+ids_follow info = next-in_block (sizes info)
+
+pub ids_counted : (info : Information) → IsValid info → length (ids info) ≡ symbol_count info
+ids_counted info v = elim (cases_zero info.transfer_length) [
+  | inl z ↦ let s = IsSplit-none info z in count-ids info 0 0 0 0 s ∙ s.count
+  | inr l ↦ let s = IsSplit-of info (block_count info) refl l (v.parts l) in count-ids info (symbol_count info) _ _ _ s
+]
+
+-- what fits, in words
+
+either : (a b : Bool) → (a || b) ≡ true → (a ≡ true) ⊎ (b ≡ true)
+either true b h = inl refl
+either false b h = inr h
+
+fits-some : (info : Information) (id : SymbolId) (n k : ℕ) → place info id ≡ Some k → fits info id n ≡ fits_at info (Some k) n
+unfolding fits
+fits-some info id n k e = ap (λ p. fits_at info p n) e
+
+Contains-at : (xs : List SymbolId) (x : SymbolId) (k : ℕ) → slice_get xs k ≡ Some x → Contains xs x
+Contains-at xs x k e = (k, slice_get_within xs k x e, get_or_from_slice_get xs k x x e)
+
+Fits : Information → SymbolId → ℕ → Type 0
+Fits info id n = Contains (ids info) id × ((n ≡ info.symbol_length) ⊎ ((slice_get (ids info) (length (ids info) - 1) ≡ Some id) × (n ≡ last_length info)))
+
+fits-from : (info : Information) (id : SymbolId) (n : ℕ) → IsValid info → (o : Option ℕ) → place info id ≡ o → fits_at info o n ≡ true → Fits info id n
+unfolding Fits
+fits-from info id n v None e h = absurd (false≢true h)
+fits-from info id n v (Some k) e h =
+    let at_k = (places-inverse info id k).0 e in
+    let c = Contains-at (ids info) id k at_k in
+    elim (either (n == info.symbol_length) ((k + 1 == symbol_count info) && (n == last_length info)) h) [
+      | inl f ↦ (c, inl (is_equal n info.symbol_length f))
+      | inr g ↦
+          let p = both (k + 1 == symbol_count info) (n == last_length info) g in
+          let t = is_equal (k + 1) (symbol_count info) p.0 in
+          let l = ids_counted info v in
+          let z : length (ids info) - 1 ≡ k = omega arith in
+          (c, inr (ap (slice_get (ids info)) z ∙ at_k, is_equal n (last_length info) p.1))
+    ]
+  where
+    is_equal : (m n : ℕ) → (m == n) ≡ true → m ≡ n
+    is_equal m n t = grind (arith, nat_tests)
+
+fits-to : (info : Information) (id : SymbolId) (n : ℕ) → IsValid info → Fits info id n → fits info id n ≡ true
+unfolding Fits
+fits-to info id n v (c, inl f) =
+    let e : slice_get (ids info) c.0 ≡ Some id = slice_get-get_or (ids info) c.0 id c.1 ∙ ap Some c.2 in
+    fits-some info id n c.0 ((places-inverse info id c.0).1 e)
+    ∙ ap (λ b. b || ((c.0 + 1 == symbol_count info) && (n == last_length info))) (equal_is n info.symbol_length f)
+fits-to info id n v (c, inr l) =
+    let k = length (ids info) - 1 in
+    let w = slice_get_within (ids info) k id l.0 in
+    let t = ids_counted info v in
+    let last : k + 1 ≡ symbol_count info = omega arith in
+    fits-some info id n k ((places-inverse info id k).1 l.0)
+    ∙ ap (λ b. (n == info.symbol_length) || (b && (n == last_length info))) (equal_is (k + 1) (symbol_count info) last)
+    ∙ ap (λ b. (n == info.symbol_length) || b) (equal_is n (last_length info) l.1)
+    ∙ or_true (n == info.symbol_length)
+  where
+    or_true : (b : Bool) → (b || true) ≡ true
+    or_true true = refl
+    or_true false = refl
+
+pub fits-means : (info : Information) (id : SymbolId) (n : ℕ) → IsValid info → (fits info id n ≡ true) ↔ (Contains (ids info) id × ((n ≡ info.symbol_length) ⊎ ((slice_get (ids info) (length (ids info) - 1) ≡ Some id) × (n ≡ last_length info))))
+unfolding Fits fits
+fits-means info id n v = (λ h. fits-from info id n v (place info id) refl h, λ f. fits-to info id n v f)

@@ -1,0 +1,11 @@
+use Rattle.flute_parts.proofs.Readings.{fact_at-none, none-at, fact_at-one, fact_at-two, fact_at-conflict, fact_at-address}
+use Rattle.flute_parts.proofs.laws.facts_agree_or_conflict.Goals as goal
+
+pub returns : goal.returns
+returns c = record {
+  absent = λ F a. (none-at F a, fact_at-none F a);
+  value = fact_at-one;
+  conflict = fact_at-two;
+  told_conflict = fact_at-conflict;
+  address = fact_at-address;
+}

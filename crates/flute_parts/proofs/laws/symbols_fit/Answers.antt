@@ -1,0 +1,5 @@
+use Rattle.flute_parts.proofs.Split.{fits-means}
+use Rattle.flute_parts.proofs.laws.symbols_fit.Goals as goal
+
+pub returns : goal.returns
+returns c = fits-means

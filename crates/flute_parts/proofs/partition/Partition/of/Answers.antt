@@ -1,0 +1,17 @@
+use Rattle.std.proofs.Common.{◌≡◌, ◌-◌, ◌/◌, ◌%◌, ◌<◌, sym, subst, ◌∙◌, arith}
+use Rattle.flute_parts.specs.Information.{symbol_count, block_count}
+use Rattle.flute_parts.specs.Split.{IsSplit}
+use Rattle.flute_parts.proofs.Split.{IsSplit-none, IsSplit-of}
+use Rattle.flute_parts.proofs.partition.Partition.of.Goals as goal
+
+pub invariant_of-result : goal.invariant_of-result
+invariant_of-result c = IsSplit-none c.args.info.now (sym c.length.ensures.value ∙ c.if-length-eq0.true)
+
+pub invariant_of-result-2 : goal.invariant_of-result-2
+invariant_of-result-2 c =
+    let i = c.args.info.now in
+    let n = c.div_ceil-blocks.result in
+    let t : c.div_ceil-symbols.result ≡ symbol_count i = cc in
+    let b : n ≡ block_count i = cc in
+    let l : 0 < i.transfer_length = omega arith in
+    subst (λ x. IsSplit i x (x % n) (n - x % n) (x / n)) (sym t) (IsSplit-of i n b l (c.length.ensures.valid.parts l))

@@ -1,0 +1,83 @@
+//! Laws that layers above rely on. Each is the contract of a function that does nothing.
+ghost use Rattle.std.specs.Prelude.{◌≡◌};
+ghost use Rattle.flute_parts.specs.declared.session_key.SessionKey.{SessionKey};
+ghost use Rattle.flute_parts.specs.declared.object_key.ObjectKey.{ObjectKey};
+ghost use Rattle.flute_parts.specs.declared.key.Key.{Key};
+ghost use Rattle.flute_parts.specs.declared.symbol_id.SymbolId.{SymbolId};
+ghost use Rattle.flute_parts.specs.declared.address.Address.{Address};
+ghost use Rattle.flute_parts.specs.Order.{session_cmp, object_cmp, key_cmp, symbol_id_cmp, address_cmp};
+ghost use Rattle.flute_parts.specs.Laws.{MembersDecide, OrderIsFree, RepeatsAreFree, AppendKeepsSame, AppendKeepsBelow, BelowIsReflexive, BelowIsTransitive, BelowBothWays, OverIsMonotone, AbsentWhereNoneStands, ValueWhereAllAgree, ConflictWhereTwoDiffer, ConflictWhereOneIsTold, AnswersStandThere, RisingHasOneFact, RisingTellsItsFacts, RisingIsUnique, PlacesAreInverse, IdsRise, IdsFollow, IdsAreCounted, FitsMeans, ValidHasNoFault};
+
+use crate::address::Address;
+use crate::key::Key;
+use crate::object_key::ObjectKey;
+use crate::session_key::SessionKey;
+use crate::symbol_id::SymbolId;
+
+/// Lists with the same facts come to the same at each address, in whatever order and however often each is told.
+pub fn members_decide()
+    ensures members { MembersDecide }
+    ensures order { OrderIsFree }
+    ensures repeats { RepeatsAreFree }
+{}
+
+/// Lists that come to the same can stand for one another in longer lists.
+pub fn same_is_kept()
+    ensures { AppendKeepsSame }
+{}
+
+/// A list that tells nothing more than another is below it, and this is an order.
+pub fn below_is_an_order()
+    ensures reflexive { BelowIsReflexive }
+    ensures transitive { BelowIsTransitive }
+    ensures both_ways { BelowBothWays }
+    ensures append { AppendKeepsBelow }
+{}
+
+/// Where a list passes limits, each list above it passes them too.
+pub fn over_is_monotone()
+    ensures { OverIsMonotone }
+{}
+
+/// What a list of facts comes to at an address.
+pub fn facts_agree_or_conflict()
+    ensures absent { AbsentWhereNoneStands }
+    ensures value { ValueWhereAllAgree }
+    ensures conflict { ConflictWhereTwoDiffer }
+    ensures told_conflict { ConflictWhereOneIsTold }
+    ensures address { AnswersStandThere }
+{}
+
+/// A list of facts at rising addresses has one fact at each, and is the only such list that comes to the same.
+pub fn rising_lists_agree()
+    ensures one { RisingHasOneFact }
+    ensures tells { RisingTellsItsFacts }
+    ensures unique { RisingIsUnique }
+{}
+
+/// Names and addresses compare in the order of their definitions.
+pub fn names_are_ordered()
+    ensures sessions { (a b : SessionKey) → ⟦<SessionKey as Ord>⟧.cmp a b ≡ session_cmp a b }
+    ensures objects { (a b : ObjectKey) → ⟦<ObjectKey as Ord>⟧.cmp a b ≡ object_cmp a b }
+    ensures keys { (a b : Key) → ⟦<Key as Ord>⟧.cmp a b ≡ key_cmp a b }
+    ensures symbols { (a b : SymbolId) → ⟦<SymbolId as Ord>⟧.cmp a b ≡ symbol_id_cmp a b }
+    ensures addresses { (a b : Address) → ⟦<Address as Ord>⟧.cmp a b ≡ address_cmp a b }
+{}
+
+/// The symbols of a partition stand in rising order, each at its place.
+pub fn symbols_are_in_order()
+    ensures places { PlacesAreInverse }
+    ensures rise { IdsRise }
+    ensures follow { IdsFollow }
+    ensures count { IdsAreCounted }
+{}
+
+/// A symbol fits with the full length, and the last one also without its padding.
+pub fn symbols_fit()
+    ensures { FitsMeans }
+{}
+
+/// Information is valid exactly where it has no fault.
+pub fn valid_has_no_fault()
+    ensures { ValidHasNoFault }
+{}
