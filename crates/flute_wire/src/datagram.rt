@@ -4,10 +4,10 @@ use std::alloc::Global;
 use std::marker::Model;
 use thiserror::Error;
 
-/// The most bytes that a datagram has.
+/// The most bytes that a datagram has, as 16 bits count them.
 pub const MAX_LEN: usize = 65_535;
 
-/// Why bytes are no datagram. Their number is looked at first.
+/// Why bytes are not kept as a datagram. Their number is looked at first. Shown by its name.
 #[derive(Clone, Copy, Debug, PartialEq, Eq, Error)]
 pub enum DatagramFault {
     /// There are more than 65,535 bytes.
@@ -18,7 +18,7 @@ pub enum DatagramFault {
     OutOfMemory,
 }
 
-/// A datagram: 0 to 65,535 bytes, whatever they say.
+/// A datagram: 0 to 65,535 bytes, whatever they say. [`read`](crate::read) tells what that is.
 #[derive(Debug, Drop)]
 pub struct Datagram {
     bytes: Vec<u8>,
@@ -72,7 +72,7 @@ impl Datagram {
         Ok(Datagram { bytes })
     }
 
-    /// The bytes.
+    /// The bytes, at most 65,535.
     pub fn as_slice(&self) -> &[u8]
         ensures bytes { result.now ≡ self.now }
         ensures limit { length self.now ≤ 65535 }

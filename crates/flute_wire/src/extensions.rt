@@ -1,4 +1,4 @@
-//! The header extensions.
+//! The extensions of the LCT header (RFC 5651, section 5.2).
 
 ghost use Rattle.std.specs.Prelude.{◌≡◌, ◌≢◌, ◌<◌, ◌≤◌, ◌⊎◌, ◌++◌, [], ◌∷◌, ℕ, List, length, IfSome, IfNone, IfOk, IfErr, OnErr};
 ghost use Rattle.std.specs.Option.{option_copied, option_to_list};
@@ -7,20 +7,24 @@ ghost use Rattle.flute_wire.specs.Walk.{extension_of, Finds, Occurs, RefusesArea
 
 use crate::refusal::Refusal;
 
+/// The type of the extension with transmission information (RFC 5775, section 4.2).
 const EXT_FTI: u8 = 64;
 
+/// The type of the extension with the FDT Instance ID (RFC 6726, section 3.4.1).
 const EXT_FDT: u8 = 192;
 
+/// The type of the extension with the content encoding of an FDT Instance (RFC 6726, section 3.4.3).
 const EXT_CENC: u8 = 193;
 
-/// One extension: its type HET and the bytes after that.
+/// One extension: its type HET and the bytes after that, the length HEL included where there is one.
 #[derive(Clone, Copy)]
 pub struct Extension<'a> {
     het: u8,
     body: &'a [u8],
 }
 
-/// The extension at the front, and the bytes after it.
+/// The extension at the front, and the bytes after it. None where no extension is there: it has no words, or more
+/// than there are.
 fn split_extension(bytes: &[u8]) -> Option<(Extension<'_>, &[u8])>
     ensures whole { IfSome result (λ s. IsExtension (extension_of s.0)) }
     ensures parts { IfSome result (λ s. bytes.now ≡ bytes_of (extension_of s.0) ++ s.1.now) }
@@ -61,6 +65,10 @@ impl<'a> Occurrence<'a> {
     }
 
     /// The body, if there is one.
+    ///
+    /// # Errors
+    ///
+    /// `Repeated` where there are more.
     fn body(self) -> Result<Option<&'a [u8]>, Refusal>
         ensures found { IfOk result (λ body. (bs : List (List ℕ)) → Occurs self.entry bs
             → bs ≡ option_to_list (option_copied body)) }
@@ -75,7 +83,7 @@ impl<'a> Occurrence<'a> {
     }
 }
 
-/// The extensions that FLUTE reads.
+/// The bodies of the extensions that FLUTE reads: what stands behind their type. All others are skipped.
 #[derive(Clone, Copy)]
 pub struct Known<'a> {
     pub fti: Option<&'a [u8]>,
@@ -84,7 +92,12 @@ pub struct Known<'a> {
 }
 
 impl<'a> Known<'a> {
-    /// Reads the extensions of a header, all of its bytes.
+    /// Reads the extensions that fill these bytes, one after another.
+    ///
+    /// # Errors
+    ///
+    /// `ExtensionLength` where the bytes are no extensions, wherever that is found, and else `Repeated` where one of
+    /// the three stands twice.
     pub fn read(area: &'a [u8]) -> Result<Self, Refusal>
         ensures found { IfOk result (λ k. Finds area.now (option_copied k.fti) (option_copied k.fdt) (option_copied k.cenc)) }
         ensures refused { IfErr result (λ r. RefusesArea area.now r) }

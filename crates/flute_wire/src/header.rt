@@ -1,4 +1,4 @@
-//! The LCT header before its extensions.
+//! The LCT header before its extensions (RFC 5651, section 5.1).
 
 ghost use Rattle.std.specs.Prelude.{◌≡◌, ◌<◌, ◌≤◌, ◌^◌, length, IfOk, IfErr, OnOk};
 ghost use Rattle.flute_wire.specs.Header.{first_word, fixed_words, header_len, tsi_len, toi_len, tsi_of, toi_of, extension_area, after_header};
@@ -6,19 +6,27 @@ ghost use Rattle.flute_wire.specs.Refusals.{PassesUpTo, Refuses};
 
 use crate::datagram::MAX_LEN;
 use crate::first_word::FirstWord;
-use crate::numbers::{toi_number, tsi_number, u32_at};
+use crate::numbers::{number_of_48_bits, number_of_112_bits, u32_at};
 use crate::refusal::Refusal;
 
-/// The header's numbers, and the bytes of its extensions and those after it.
+/// What stands in the header, and what follows it.
 #[derive(Drop)]
 pub struct Header<'a> {
+    /// The Transport Session Identifier, below 2^48.
     pub tsi: u64,
+    /// The Transport Object Identifier, below 2^112.
     pub toi: u128,
+    /// The bytes of the header's extensions.
     pub extensions: &'a [u8],
+    /// The bytes after the header: the FEC Payload ID and the payload.
     pub tail: &'a [u8],
 }
 
-/// The first word of a header that is whole and can be read.
+/// The first word of a header that is whole, with fields that can be read.
+///
+/// # Errors
+///
+/// The first of `TooLong` to `Codepoint` that applies.
 fn checked_word(datagram: &[u8]) -> Result<FirstWord, Refusal>
     ensures word { IfOk result (λ w. w ≡ first_word datagram.now) }
     ensures fixed { IfOk result (λ w. fixed_words w ≤ w.header_words) }
@@ -58,6 +66,10 @@ fn checked_word(datagram: &[u8]) -> Result<FirstWord, Refusal>
 
 impl<'a> Header<'a> {
     /// The header of a datagram, up to its extensions.
+    ///
+    /// # Errors
+    ///
+    /// The first of `TooLong` to `Codepoint` that applies.
     pub fn read(datagram: &'a [u8]) -> Result<Self, Refusal>
         ensures tsi { IfOk result (λ h. h.tsi ≡ tsi_of datagram.now) }
         ensures tsi_fits { IfOk result (λ h. h.tsi < 2 ^ 48) }
@@ -73,8 +85,8 @@ impl<'a> Header<'a> {
         let toi_at = tsi_at + word.tsi_len();
         let extensions_at = toi_at + word.toi_len();
         let header_len = word.header_len();
-        let tsi = tsi_number(&datagram[tsi_at..toi_at]);
-        let toi = toi_number(&datagram[toi_at..extensions_at]);
+        let tsi = number_of_48_bits(&datagram[tsi_at..toi_at]);
+        let toi = number_of_112_bits(&datagram[toi_at..extensions_at]);
         Ok(Header {
             tsi,
             toi,

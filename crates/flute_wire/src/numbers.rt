@@ -1,4 +1,4 @@
-//! Numbers in big-endian order.
+//! Numbers in network byte order, the most significant byte first.
 
 ghost use Rattle.std.specs.Prelude.{◌≡◌, ◌≤◌, ◌<◌, ◌%◌, ◌^◌, length, take};
 ghost use Rattle.flute_parts.specs.BigEndian.{big_endian};
@@ -21,7 +21,7 @@ pub fn u32_at(bytes: &[u8]) -> u32
     BigEndian::read_u32(bytes)
 }
 
-/// The number that a field of 16-bit units spells.
+/// The number that a field spells, in 16-bit units.
 fn number(field: &[u8]) -> u128
     requires even { length field.now % 2 ≡ 0 }
     requires short { length field.now ≤ 14 }
@@ -37,8 +37,8 @@ fn number(field: &[u8]) -> u128
     number
 }
 
-/// The number that all bytes of a field of up to 48 bits spell.
-pub fn tsi_number(field: &[u8]) -> u64
+/// The number that a field of at most 48 bits spells, in 16-bit units.
+pub fn number_of_48_bits(field: &[u8]) -> u64
     requires even { length field.now % 2 ≡ 0 }
     requires short { length field.now ≤ 6 }
     ensures value { result ≡ big_endian field.now }
@@ -47,8 +47,8 @@ pub fn tsi_number(field: &[u8]) -> u64
     number(field) as u64
 }
 
-/// The number that all bytes of a TOI field spell.
-pub fn toi_number(field: &[u8]) -> u128
+/// The number that a field of at most 112 bits spells, in 16-bit units.
+pub fn number_of_112_bits(field: &[u8]) -> u128
     requires even { length field.now % 2 ≡ 0 }
     requires short { length field.now ≤ 14 }
     ensures value { result ≡ big_endian field.now }

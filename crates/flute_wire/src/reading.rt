@@ -1,4 +1,4 @@
-//! Datagrams read.
+//! Datagrams read as packets.
 
 ghost use Rattle.std.specs.Prelude.{◌≡◌, ◌≢◌, ◌<◌, ◌≤◌, ◌⊎◌, ◌^◌, ◌==◌, [], length, Option, Some, None, IfOk, IfErr, OnOk, OnErr, IfSome, IsSomeAnd, Ok, Err, ◌↔◌, if◌then◌else◌};
 ghost use Rattle.std.specs.Option.{option_copied, option_map};
@@ -12,15 +12,20 @@ ghost use Rattle.flute_wire.specs.Walk.{RefusesFti, RefusesFdt};
 
 use crate::extensions::Known;
 use crate::header::Header;
-use crate::numbers::{tsi_number, u16_at, u32_at};
+use crate::numbers::{number_of_48_bits, u16_at, u32_at};
 use crate::packet::Packet;
 use crate::refusal::Refusal;
 use flute_parts::{Info, SymbolId};
 
-/// The length of EXT_FTI's body: its four words without the byte of its type.
+/// The length of EXT_FTI's body: four words without the byte of the type.
 const FTI_LEN: usize = 15;
 
-/// The transmission information of EXT_FTI, if that is there.
+/// The transmission information of EXT_FTI, if that is there. Behind HEL stand the transfer length, two bytes that
+/// are reserved, the encoding symbol length and the maximum source block length (RFC 5445, section 3.2.2.2).
+///
+/// # Errors
+///
+/// `FtiLength` where EXT_FTI does not have four words, and else `Information` where its numbers are not valid.
 fn information(fti: Option<&[u8]>) -> Result<Option<Info>, Refusal>
     ensures taken { OnOk result (IfSome (option_copied fti.entry) (λ body. (length body ≡ 15) × (info_fault (fti_information body) ≡ None))) }
     ensures value { IfOk result (λ info. info ≡ option_map fti_information (option_copied fti.entry)) }
@@ -32,7 +37,7 @@ fn information(fti: Option<&[u8]>) -> Result<Option<Info>, Refusal>
     if body.len() != FTI_LEN {
         return Err(Refusal::FtiLength);
     }
-    let length = tsi_number(&body[1..7]);
+    let length = number_of_48_bits(&body[1..7]);
     let symbol = u16_at(&body[9..11]);
     let block = u32_at(&body[11..15]);
     match Info::new(length, symbol, block) {
@@ -41,7 +46,7 @@ fn information(fti: Option<&[u8]>) -> Result<Option<Info>, Refusal>
     }
 }
 
-/// FLUTE's version and the FDT Instance ID in EXT_FDT.
+/// FLUTE's version, of 4 bits, and the FDT Instance ID, of 20, in EXT_FDT (RFC 6726, section 3.4.1).
 fn fdt_fields(body: &[u8]) -> (u8, u32)
     requires { length body.now ≡ 3 }
     ensures version { result.0 ≡ fdt_version body.now }
@@ -51,7 +56,11 @@ fn fdt_fields(body: &[u8]) -> (u8, u32)
     (body[0] >> 4, 65_536 * high + u32::from(u16_at(&body[1..])))
 }
 
-/// The FDT Instance of a packet with TOI 0, from EXT_FDT.
+/// The FDT Instance ID, from EXT_FDT, of a packet with TOI 0. With another TOI, EXT_FDT is skipped.
+///
+/// # Errors
+///
+/// `NoInstance` where the TOI is 0 and there is no EXT_FDT, and `FluteVersion` where it is not of version 2.
 fn instance(toi: u128, fdt: Option<&[u8]>) -> Result<Option<u32>, Refusal>
     requires { IfSome (option_copied fdt) (λ body. length body ≡ 3) }
     ensures taken { OnOk result (toi ≡ 0 → IsSomeAnd (option_copied fdt.entry) (λ body. fdt_version body ≡ 2)) }
@@ -72,7 +81,7 @@ fn instance(toi: u128, fdt: Option<&[u8]>) -> Result<Option<u32>, Refusal>
     Ok(Some(number))
 }
 
-/// Refuses a content encoding.
+/// Refuses a content encoding as `ContentEncoded`: the first byte of EXT_CENC (RFC 6726, section 3.4.3).
 fn check_encoding(cenc: Option<&[u8]>) -> Result<(), Refusal>
     requires { IfSome (option_copied cenc) (λ body. length body ≡ 3) }
     ensures plain { OnOk result (IfSome (option_copied cenc.entry) (λ body. content_encoding body ≡ 0)) }
@@ -85,7 +94,11 @@ fn check_encoding(cenc: Option<&[u8]>) -> Result<(), Refusal>
     }
 }
 
-/// The symbol behind the header, if there is one.
+/// The symbol behind the header, if there is one: the FEC Payload ID and at least one byte (RFC 5445, section 3.2.1).
+///
+/// # Errors
+///
+/// `PayloadIdCut` where 1 to 3 bytes follow the header.
 fn symbol(tail: &[u8]) -> Result<Option<(SymbolId, &[u8])>, Refusal>
     ensures value { IfOk result (λ s. option_map (λ s. (s.0, s.1.now)) s ≡ symbol_of tail.now) }
     ensures taken { OnOk result ((tail.now ≡ []) ⊎ (4 ≤ length tail.now)) }
@@ -122,7 +135,16 @@ fn packet_of(datagram: &[u8]) -> Result<Packet<'_>, Refusal>
     Ok(Packet::new(header.tsi, header.toi, instance, info, symbol))
 }
 
-/// Reads a datagram. It takes no memory: the symbol is a part of the datagram.
+/// Reads a datagram as a packet of FLUTE version 2: the LCT header with its extensions (RFC 5651, section 5), the FEC
+/// Payload ID and one encoding symbol (RFC 5775, section 4.1; RFC 5445, section 3.2.1).
+///
+/// It takes no memory: the symbol is a part of the datagram. The answer depends on these bytes alone. Congestion
+/// control information, reserved bits, the close flags and extensions other than EXT_FTI, EXT_FDT and EXT_CENC are
+/// not looked at.
+///
+/// # Errors
+///
+/// The first [`Refusal`] that applies, in the order of that list.
 pub fn read(datagram: &[u8]) -> Result<Packet<'_>, Refusal>
     ensures spelled { IfOk result (λ p. Spells datagram.now p) }
     ensures refused { IfErr result (λ r. Refuses datagram.now r) }
