@@ -1,13 +1,14 @@
 -- What lists of facts come to, in any order and grouping.
 use Rattle.std.proofs.Common.{◌≡◌, ℕ, zero, suc, ◌<◌, false, cond, List, [], ◌∷◌, ◌++◌, length, get_or, Option, Some, None, refl, sym, ap, ◌∙◌, subst, inl, inr, ◌⊎◌, arith}
 use Rattle.std.specs.Prelude.{Contains}
+use Rattle.std.proofs.lemmas.Bool.{cases_Bool}
 use Rattle.flute_parts.specs.declared.address.Address.{Address}
 use Rattle.flute_parts.specs.declared.fact.Fact.{Fact}
 use Rattle.flute_parts.specs.Order.{same_address}
 use Rattle.flute_parts.specs.Addresses.{address}
 use Rattle.flute_parts.specs.Facts.{agreed, fact_at, Same, Below, SameMembers}
 use Rattle.flute_parts.proofs.Equality.{address_same, address_itself}
-use Rattle.flute_parts.proofs.Joined.{tested, joined, joined-comm, joined-assoc, joined-itself, joined-none, fact_at-append}
+use Rattle.flute_parts.proofs.Joined.{joined, joined-comm, joined-assoc, joined-itself, joined-none, fact_at-append}
 
 -- membership
 
@@ -164,7 +165,7 @@ fact_at-member_some f F m e =
 pub fact_at-some_named : (F : List Fact) (a : Address) → Names F a ⊎ (fact_at F a ≡ None)
 unfolding Member
 fact_at-some_named [] a = inr (fact_at-nil a)
-fact_at-some_named (f ∷ F) a = elim (tested (same_address (address f) a)) [
+fact_at-some_named (f ∷ F) a = elim (cases_Bool (same_address (address f) a)) [
   | inl e ↦ inl (f, inl refl, address_same (address f) a e)
   | inr e ↦ elim (fact_at-some_named F a) [
     | inl n ↦ inl (n.0, inr n.1, n.2)

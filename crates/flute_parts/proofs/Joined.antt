@@ -1,20 +1,16 @@
 -- What two lists of facts come to together, from what each comes to.
-use Rattle.std.proofs.Common.{◌≡◌, Bool, true, false, cond, ◌&&◌, List, [], ◌∷◌, ◌++◌, Option, Some, None, refl, sym, ap, ◌∙◌, subst, inl, inr, ◌⊎◌}
+use Rattle.std.proofs.Common.{◌≡◌, Bool, true, false, cond, ◌&&◌, List, [], ◌∷◌, ◌++◌, Option, Some, None, refl, sym, ap, ◌∙◌, subst, inl, inr, append-nil}
 use Rattle.std.specs.Prelude.{filter}
 use Rattle.std.specs.List.{list_all}
-use Rattle.std.proofs.lemmas.Bool.{false≢true}
+use Rattle.std.proofs.lemmas.Bool.{false≢true, cases_Bool}
 use Rattle.std.proofs.lemmas.List.Elements.{filter-append}
+use Rattle.std.proofs.lemmas.List.Folds.{list_all-append}
 use Rattle.flute_parts.specs.declared.address.Address.{Address}
 use Rattle.flute_parts.specs.declared.fact.Fact.{Fact}
 use Rattle.flute_parts.specs.Order.{same_address}
 use Rattle.flute_parts.specs.Addresses.{address}
 use Rattle.flute_parts.specs.Facts.{same_fact, conflict_at, agreed, fact_at}
 use Rattle.flute_parts.proofs.Equality.{fact_same, fact_itself}
-
--- a test is true or false
-pub tested : (b : Bool) → (b ≡ true) ⊎ (b ≡ false)
-tested true = inl refl
-tested false = inr refl
 
 unfoldable pub joined_fact : Address → Fact → Fact → Fact
 joined_fact a f g = cond (same_fact f g) f (conflict_at a)
@@ -36,42 +32,42 @@ joined-apart a f g e = ap (λ b. cond b f (conflict_at a)) e
 -- with the conflict nothing but the conflict comes out
 pub joined-conflict_left : (a : Address) (g : Fact) → joined_fact a (conflict_at a) g ≡ conflict_at a
 unfolding joined_fact
-joined-conflict_left a g = elim (tested (same_fact (conflict_at a) g)) [
+joined-conflict_left a g = elim (cases_Bool (same_fact (conflict_at a) g)) [
   | inl e ↦ ap (λ b. cond b (conflict_at a) (conflict_at a)) e
   | inr e ↦ ap (λ b. cond b (conflict_at a) (conflict_at a)) e
 ]
 
 pub joined-conflict_right : (a : Address) (f : Fact) → joined_fact a f (conflict_at a) ≡ conflict_at a
 unfolding joined_fact
-joined-conflict_right a f = elim (tested (same_fact f (conflict_at a))) [
+joined-conflict_right a f = elim (cases_Bool (same_fact f (conflict_at a))) [
   | inl e ↦ ap (λ b. cond b f (conflict_at a)) e ∙ fact_same f (conflict_at a) e
   | inr e ↦ ap (λ b. cond b f (conflict_at a)) e
 ]
 
 apart-sym : (f g : Fact) → same_fact f g ≡ false → same_fact g f ≡ false
-apart-sym f g h = elim (tested (same_fact g f)) [
+apart-sym f g h = elim (cases_Bool (same_fact g f)) [
   | inl e ↦ absurd (false≢true (sym h ∙ subst (λ x. same_fact x g ≡ true) (fact_same g f e) (fact_itself g)))
   | inr e ↦ e
 ]
 
 pub joined_fact-comm : (a : Address) (f g : Fact) → joined_fact a f g ≡ joined_fact a g f
-joined_fact-comm a f g = elim (tested (same_fact f g)) [
+joined_fact-comm a f g = elim (cases_Bool (same_fact f g)) [
   | inl e ↦ let p = fact_same f g e in joined-same a f g p ∙ p ∙ sym (joined-same a g f (sym p))
   | inr e ↦ joined-apart a f g e ∙ sym (joined-apart a g f (apart-sym f g e))
 ]
 
 pub joined_fact-assoc : (a : Address) (f g h : Fact) → joined_fact a (joined_fact a f g) h ≡ joined_fact a f (joined_fact a g h)
-joined_fact-assoc a f g h = elim (tested (same_fact f g)) [
+joined_fact-assoc a f g h = elim (cases_Bool (same_fact f g)) [
   | inl e ↦
       let p = fact_same f g e in
-      elim (tested (same_fact g h)) [
+      elim (cases_Bool (same_fact g h)) [
         | inl d ↦ let q = fact_same g h d in
             ap (λ x. joined_fact a x h) (joined-same a f g p) ∙ joined-same a f h (p ∙ q) ∙ sym (joined-same a f g p) ∙ ap (joined_fact a f) (sym (joined-same a g h q))
         | inr d ↦
             ap (λ x. joined_fact a x h) (joined-same a f g p ∙ p) ∙ joined-apart a g h d ∙ sym (joined-conflict_right a f) ∙ ap (joined_fact a f) (sym (joined-apart a g h d))
       ]
   | inr e ↦
-      elim (tested (same_fact g h)) [
+      elim (cases_Bool (same_fact g h)) [
         | inl d ↦ let q = fact_same g h d in
             ap (λ x. joined_fact a x h) (joined-apart a f g e) ∙ joined-conflict_left a h ∙ sym (joined-apart a f g e) ∙ ap (joined_fact a f) (sym (joined-same a g h q))
         | inr d ↦
@@ -101,21 +97,14 @@ joined-none a (Some f) = refl
 
 -- agreed facts, list by list
 
-list_all-append : (p : Fact → Bool) (xs ys : List Fact) → list_all p (xs ++ ys) ≡ (list_all p xs && list_all p ys)
-list_all-append p [] ys = refl
-list_all-append p (x ∷ xs) ys = elim (tested (p x)) [
-  | inl e ↦ ap (λ b. b && list_all p (xs ++ ys)) e ∙ list_all-append p xs ys ∙ sym (ap (λ b. (b && list_all p xs) && list_all p ys) e)
-  | inr e ↦ ap (λ b. b && list_all p (xs ++ ys)) e ∙ sym (ap (λ b. (b && list_all p xs) && list_all p ys) e)
-]
-
 abbrev choice : Address → Fact → Bool → Fact
 choice a f b = cond b f (conflict_at a)
 
 agreed_heads : (a : Address) (f g : Fact) (gs : List Fact) → choice a f (same_fact f g && list_all (same_fact f) gs) ≡ joined_fact a f (choice a g (list_all (same_fact g) gs))
-agreed_heads a f g gs = elim (tested (same_fact f g)) [
+agreed_heads a f g gs = elim (cases_Bool (same_fact f g)) [
   | inr e ↦
       ap (λ b. choice a f (b && list_all (same_fact f) gs)) e
-      ∙ elim (tested (list_all (same_fact g) gs)) [
+      ∙ elim (cases_Bool (list_all (same_fact g) gs)) [
         | inl d ↦ sym (joined-apart a f g e) ∙ sym (ap (λ b. joined_fact a f (choice a g b)) d)
         | inr d ↦ sym (joined-conflict_right a f) ∙ sym (ap (λ b. joined_fact a f (choice a g b)) d)
       ]
@@ -123,7 +112,7 @@ agreed_heads a f g gs = elim (tested (same_fact f g)) [
       let p = fact_same f g e in
       ap (λ b. choice a f (b && list_all (same_fact f) gs)) e
       ∙ ap (λ x. choice a f (list_all (same_fact x) gs)) p
-      ∙ elim (tested (list_all (same_fact g) gs)) [
+      ∙ elim (cases_Bool (list_all (same_fact g) gs)) [
         | inl d ↦ ap (choice a f) d ∙ sym (joined-same a f g p) ∙ sym (ap (λ b. joined_fact a f (choice a g b)) d)
         | inr d ↦ ap (choice a f) d ∙ sym (joined-conflict_right a f) ∙ sym (ap (λ b. joined_fact a f (choice a g b)) d)
       ]
@@ -131,7 +120,7 @@ agreed_heads a f g gs = elim (tested (same_fact f g)) [
 
 -- the first list's facts agree or not, and so do the second's
 agreed_pair : (a : Address) (f g : Fact) (fs gs : List Fact) → choice a f (list_all (same_fact f) fs && (same_fact f g && list_all (same_fact f) gs)) ≡ joined_fact a (choice a f (list_all (same_fact f) fs)) (choice a g (list_all (same_fact g) gs))
-agreed_pair a f g fs gs = elim (tested (list_all (same_fact f) fs)) [
+agreed_pair a f g fs gs = elim (cases_Bool (list_all (same_fact f) fs)) [
   | inr e ↦
       ap (λ b. choice a f (b && (same_fact f g && list_all (same_fact f) gs))) e
       ∙ sym (joined-conflict_left a (choice a g (list_all (same_fact g) gs)))
@@ -141,10 +130,6 @@ agreed_pair a f g fs gs = elim (tested (list_all (same_fact f) fs)) [
       ∙ agreed_heads a f g gs
       ∙ sym (ap (λ b. joined_fact a (choice a f b) (choice a g (list_all (same_fact g) gs))) e)
 ]
-
-append-nil : (xs : List Fact) → xs ++ [] ≡ xs
-append-nil [] = refl
-append-nil (x ∷ xs) = ap (λ ys. x ∷ ys) (append-nil xs)
 
 agreed-append : (a : Address) (xs ys : List Fact) → agreed a (xs ++ ys) ≡ joined a (agreed a xs) (agreed a ys)
 agreed-append a [] ys = refl

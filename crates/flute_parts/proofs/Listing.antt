@@ -3,7 +3,7 @@ use Rattle.std.proofs.Common.{◌≡◌, ℕ, zero, suc, ◌+◌, ◌-◌, ◌*�
 use Rattle.std.specs.Prelude.{flat_map, slice_get}
 use Rattle.std.specs.List.{position_from, range_with_len, enumerate_from}
 use Rattle.std.proofs.Math.ListN.{length-replicate}
-use Rattle.std.proofs.lemmas.Bool.{false≢true, cases_lt}
+use Rattle.std.proofs.lemmas.Bool.{false≢true, cases_lt, cases_Bool}
 use Rattle.std.proofs.lemmas.Bool.Decides.{nat_tests}
 use Rattle.std.specs.Ordering.{nat_cmp, ordering_then}
 use Rattle.std.specs.declared.cmp.Ordering.TheVariants.{Less, Equal}
@@ -14,7 +14,6 @@ use Rattle.flute_parts.specs.Order.{symbol_id_cmp, same_symbol_id}
 use Rattle.flute_parts.specs.Partition.{symbol_id, block_ids}
 use Rattle.flute_parts.specs.Split.{total}
 use Rattle.flute_parts.proofs.Equality.{symbol_id_same, symbol_id_itself}
-use Rattle.flute_parts.proofs.Joined.{tested}
 
 -- the ids of blocks of these sizes, numbered from n on
 abbrev pub listing : ℕ → List ℕ → List SymbolId
@@ -27,7 +26,7 @@ block n a s = map (symbol_id n) (range_with_len a s)
 
 block-hit : (n a s k j e p : ℕ) (rest : List SymbolId) → j < s → a + j ≡ e → k + j ≡ p → position_from (same_symbol_id (symbol_id n e)) k (block n a s ++ rest) ≡ Some p
 block-hit n a zero k j e p rest h f g = absurd (omega arith)
-block-hit n a (suc s) k j e p rest h f g = elim (tested (same_symbol_id (symbol_id n e) (symbol_id n a))) [
+block-hit n a (suc s) k j e p rest h f g = elim (cases_Bool (same_symbol_id (symbol_id n e) (symbol_id n a))) [
   | inl t ↦
       let q : e ≡ a = ap (λ (x : SymbolId). x.esi) (symbol_id_same (symbol_id n e) (symbol_id n a) t) in
       ap (λ b. cond b (Some k) (position_from (same_symbol_id (symbol_id n e)) (k + 1) (block n (a + 1) s ++ rest))) t
@@ -47,7 +46,7 @@ block-hit n a (suc s) k j e p rest h f g = elim (tested (same_symbol_id (symbol_
 
 block-miss : (id : SymbolId) (n a s k p : ℕ) (rest : List SymbolId) → ((e : ℕ) → a ≤ e → e < a + s → id ≡ symbol_id n e → ⊥) → k + s ≡ p → position_from (same_symbol_id id) k (block n a s ++ rest) ≡ position_from (same_symbol_id id) p rest
 block-miss id n a zero k p rest h g = ap (λ x. position_from (same_symbol_id id) x rest) (omega arith)
-block-miss id n a (suc s) k p rest h g = elim (tested (same_symbol_id id (symbol_id n a))) [
+block-miss id n a (suc s) k p rest h g = elim (cases_Bool (same_symbol_id id (symbol_id n a))) [
   | inl t ↦ absurd (h a (omega arith) (omega arith) (symbol_id_same id (symbol_id n a) t))
   | inr t ↦
       ap (λ b. cond b (Some k) (position_from (same_symbol_id id) (k + 1) (block n (a + 1) s ++ rest))) t
@@ -200,7 +199,7 @@ place-of_listed sizes k id e =
 
 pub listed-of_place : (id : SymbolId) (xs : List SymbolId) (k r : ℕ) → position_from (same_symbol_id id) k xs ≡ Some r → (k ≤ r) × (slice_get xs (r - k) ≡ Some id)
 listed-of_place id [] k r e = cc
-listed-of_place id (x ∷ xs) k r e = elim (tested (same_symbol_id id x)) [
+listed-of_place id (x ∷ xs) k r e = elim (cases_Bool (same_symbol_id id x)) [
   | inl t ↦
       let f : Some k ≡ Some r = sym (ap (λ b. cond b (Some k) (position_from (same_symbol_id id) (k + 1) xs)) t) ∙ e in
       let g : k ≡ r = cc in

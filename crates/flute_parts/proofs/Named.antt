@@ -1,7 +1,7 @@
 -- What facts name, and how many.
 use Rattle.std.proofs.Common.{◌≡◌, ℕ, ◌≤◌, Bool, true, ◌||◌, List, [], ◌∷◌, length, Option, Some, None, refl, sym, ap, ◌∙◌, inl, inr, ◌⊎◌, arith}
 use Rattle.std.specs.List.{cons_option}
-use Rattle.std.proofs.lemmas.Bool.{false≢true}
+use Rattle.std.proofs.lemmas.Bool.{false≢true, cases_Bool}
 use Rattle.flute_parts.specs.declared.address.Address.{Address}
 use Rattle.flute_parts.specs.declared.fact.Fact.{Fact}
 use Rattle.flute_parts.specs.Order.{same_session, same_object, same_symbol_id}
@@ -9,7 +9,6 @@ use Rattle.flute_parts.specs.Addresses.{address}
 use Rattle.flute_parts.specs.Facts.{Below}
 use Rattle.flute_parts.specs.Limits.{firsts, named, session_of, object_of, symbol_of, sessions, objects, symbols, Over, more_sessions, more_objects, more_symbols}
 use Rattle.flute_parts.proofs.Equality.{session_same, session_itself, object_same, object_itself, symbol_id_same, symbol_id_itself}
-use Rattle.flute_parts.proofs.Joined.{tested}
 use Rattle.flute_parts.proofs.Counted.{Tells, has, in_tail, length-firsts}
 use Rattle.flute_parts.proofs.Facts.{Member, Names-below}
 
@@ -28,7 +27,7 @@ module _ {X : Type 0} (same : X → X → Bool) (t : Tells same) (part : Address
 
   has-split : (x : X) (o : Option X) (xs : List X) → has same t x (cons_option o xs) ≡ true → (o ≡ Some x) ⊎ (has same t x xs ≡ true)
   has-split x None xs h = inr h
-  has-split x (Some y) xs h = elim (tested (same x y)) [
+  has-split x (Some y) xs h = elim (cases_Bool (same x y)) [
     | inl e ↦ inl (ap Some (sym (t.sound x y e)))
     | inr e ↦ inr (sym (ap (λ b. b || has same t x xs) e) ∙ h)
   ]

@@ -1,6 +1,7 @@
 -- What a list of facts comes to at an address, in words.
 use Rattle.std.proofs.Common.{◌≡◌, true, false, List, [], ◌∷◌, Option, Some, None, refl, sym, ap, ◌∙◌, subst, inl, inr, ◌⊎◌}
 use Rattle.std.specs.Prelude.{Contains}
+use Rattle.std.proofs.lemmas.Bool.{cases_Bool}
 use Rattle.flute_parts.specs.declared.key.Key.{Key}
 use Rattle.flute_parts.specs.declared.address.Part.{Part}
 use Rattle.flute_parts.specs.declared.address.Part.TheVariants.{Info as InfoPart, Symbol as SymbolPart}
@@ -10,7 +11,7 @@ use Rattle.flute_parts.specs.Order.{same_address}
 use Rattle.flute_parts.specs.Addresses.{address}
 use Rattle.flute_parts.specs.Facts.{same_fact, conflict_in, conflict_at, fact_at}
 use Rattle.flute_parts.proofs.Equality.{fact_same, address_same}
-use Rattle.flute_parts.proofs.Joined.{tested, joined, joined-assoc, joined-itself, joined-same, joined-apart, joined-conflict_left}
+use Rattle.flute_parts.proofs.Joined.{joined, joined-assoc, joined-itself, joined-same, joined-apart, joined-conflict_left}
 use Rattle.flute_parts.proofs.Facts.{Member, Member-from, Contains-from, alone, alone-at, alone-elsewhere, fact_at-nil, fact_at-cons, fact_at-member, fact_at-member_some, fact_at-some_named}
 
 pub fact_at-none : (F : List Fact) (a : Address) → ((f : Fact) → Contains F f → address f ≡ a → ⊥) → fact_at F a ≡ None
@@ -25,7 +26,7 @@ none-at F a e f m p = fact_at-member_some f F (Member-from F f m) (subst (λ x. 
 one_or_none : (F : List Fact) (a : Address) (f : Fact) → ((g : Fact) → Member g F → address g ≡ a → g ≡ f) → (fact_at F a ≡ None) ⊎ (fact_at F a ≡ Some f)
 unfolding Member
 one_or_none [] a f h = inl (fact_at-nil a)
-one_or_none (g ∷ F) a f h = elim (tested (same_address (address g) a)) [
+one_or_none (g ∷ F) a f h = elim (cases_Bool (same_address (address g) a)) [
   | inr e ↦ elim (one_or_none F a f (λ k m. h k (inr m))) [
     | inl n ↦ inl (fact_at-cons g F a ∙ ap (λ x. joined a x (fact_at F a)) (alone-elsewhere g a e) ∙ n)
     | inr s ↦ inr (fact_at-cons g F a ∙ ap (λ x. joined a x (fact_at F a)) (alone-elsewhere g a e) ∙ s)
@@ -52,7 +53,7 @@ conflict_stays a (Some g) = ap Some (joined-conflict_left a g)
 
 pub fact_at-two : (F : List Fact) (a : Address) (f g : Fact) → Contains F f → Contains F g → address f ≡ a → address g ≡ a → (f ≡ g → ⊥) → fact_at F a ≡ Some (conflict_at a)
 fact_at-two F a f g m n p q h =
-    let apart : same_fact f g ≡ false = elim (tested (same_fact f g)) [
+    let apart : same_fact f g ≡ false = elim (cases_Bool (same_fact f g)) [
       | inl e ↦ absurd (h (fact_same f g e))
       | inr e ↦ e
     ] in
@@ -77,14 +78,14 @@ Stands a (Some f) = address f ≡ a
 joined-stands : (a : Address) (x y : Option Fact) → Stands a x → Stands a y → Stands a (joined a x y)
 joined-stands a None y p q = q
 joined-stands a (Some f) None p q = p
-joined-stands a (Some f) (Some g) p q = elim (tested (same_fact f g)) [
+joined-stands a (Some f) (Some g) p q = elim (cases_Bool (same_fact f g)) [
   | inl e ↦ ap address (joined-same a f g (fact_same f g e)) ∙ p
   | inr e ↦ ap address (joined-apart a f g e) ∙ conflict-address a.key a.part
 ]
 
 fact_at-stands : (F : List Fact) (a : Address) → Stands a (fact_at F a)
 fact_at-stands [] a = subst (Stands a) (sym (fact_at-nil a)) tt
-fact_at-stands (f ∷ F) a = subst (Stands a) (sym (fact_at-cons f F a)) (joined-stands a (alone a f) (fact_at F a) (alone_stands (tested (same_address (address f) a))) (fact_at-stands F a))
+fact_at-stands (f ∷ F) a = subst (Stands a) (sym (fact_at-cons f F a)) (joined-stands a (alone a f) (fact_at F a) (alone_stands (cases_Bool (same_address (address f) a))) (fact_at-stands F a))
   where
     alone_stands : ((same_address (address f) a ≡ true) ⊎ (same_address (address f) a ≡ false)) → Stands a (alone a f)
     alone_stands (inl e) = let p = address_same (address f) a e in subst (Stands a) (sym (alone-at f a p)) p

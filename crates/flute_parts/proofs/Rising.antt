@@ -4,6 +4,7 @@ use Rattle.std.specs.Prelude.{Contains}
 use Rattle.std.specs.declared.cmp.Ordering.{Ordering}
 use Rattle.std.specs.declared.cmp.Ordering.TheVariants.{Less, Equal, Greater}
 use Rattle.std.specs.Ordering.{is_eq, ordering_reverse}
+use Rattle.std.proofs.lemmas.Bool.{cases_Bool}
 use Rattle.flute_parts.specs.declared.address.Address.{Address}
 use Rattle.flute_parts.specs.declared.fact.Fact.{Fact}
 use Rattle.flute_parts.specs.Order.{address_cmp, same_address}
@@ -11,7 +12,6 @@ use Rattle.flute_parts.specs.Addresses.{address}
 use Rattle.flute_parts.specs.Facts.{fact_at, Same, StandAfter, IsRising}
 use Rattle.flute_parts.proofs.Equality.{address_same}
 use Rattle.flute_parts.proofs.Orders.{address_total}
-use Rattle.flute_parts.proofs.Joined.{tested}
 use Rattle.flute_parts.proofs.Facts.{Member, Member-from, fact_at-nil, fact_at-here, fact_at-elsewhere}
 
 -- what stands after an address stands after each one before it
@@ -57,7 +57,7 @@ rising_has_one F f g r c d e = some_same f g (sym (rising_tells F f r c) ∙ ap 
 
 -- after the first of two lists, which is in both, they come to the same
 rest_same : (f : Fact) (F G : List Fact) → StandAfter (address f) F → StandAfter (address f) G → ((a : Address) → fact_at (f ∷ F) a ≡ fact_at (f ∷ G) a) → (a : Address) → fact_at F a ≡ fact_at G a
-rest_same f F G p q h a = elim (tested (same_address (address f) a)) [
+rest_same f F G p q h a = elim (cases_Bool (same_address (address f) a)) [
   | inl t ↦
       let e = address_same (address f) a t in
       subst (λ x. fact_at F x ≡ fact_at G x) e (fact_at-after (address f) F p ∙ sym (fact_at-after (address f) G q))

@@ -7,12 +7,11 @@ use Rattle.std.specs.declared.cmp.Ordering.TheVariants.{Less}
 use Rattle.std.specs.List.{position_from}
 use Rattle.std.proofs.lemmas.Bool.Decides.{nat_tests}
 use Rattle.std.proofs.lemmas.Option.{slice_get_past, slice_get_within, slice_get-get_or, get_or_from_slice_get}
-use Rattle.std.proofs.lemmas.Bool.{false≢true}
+use Rattle.std.proofs.lemmas.Bool.{false≢true, cases_Bool}
 use Rattle.flute_parts.proofs.Equality.{both}
 use Rattle.std.proofs.lemmas.Nat.{mod_below, div_below, mul-le}
 use Rattle.flute_parts.specs.declared.symbol_id.SymbolId.{SymbolId}
 use Rattle.flute_parts.specs.Order.{same_symbol_id, symbol_id_cmp}
-use Rattle.flute_parts.proofs.Joined.{tested}
 use Rattle.flute_parts.specs.Information.{Information, sizes, symbol_count, block_count, large_length, small_length, large_count, HasBlocks, IsValid}
 use Rattle.flute_parts.specs.Partition.{symbol_id, ids, place, last_length, fits_at, fits}
 use Rattle.flute_parts.specs.Split.{total, IsSplit}
@@ -35,7 +34,7 @@ IsSplit-none i h =
       not_empty = λ l. omega (arith, l);
     }
 
-cases_zero : (n : ℕ) → (n ≡ 0) ⊎ (0 < n)
+pub cases_zero : (n : ℕ) → (n ≡ 0) ⊎ (0 < n)
 cases_zero zero = inl refl
 cases_zero (suc n) = inr (omega arith)
 
@@ -89,6 +88,23 @@ module _ (i : Information) (symbols large small length' : ℕ) (s : IsSplit i sy
   pub count-ids : length (ids i) ≡ symbols
   unfolding ids
   count-ids = length-listing 0 (sizes i) ∙ ap total s.split ∙ total-split large (length' + 1) small length' ∙ sym s.all
+
+  -- no more than 2^16 blocks of 2^16 symbols
+  pub few-symbols : symbols ≤ 2 ^ 32
+  few-symbols =
+      let all = s.all in
+      let blocks = s.blocks in
+      elim (cases_zero large) [
+        | inl z ↦
+            let p = mul-le small length' 65536 65536 (omega arith) s.longest in
+            let e : large * (length' + 1) ≡ 0 = ap (λ x. x * (length' + 1)) z ∙ omega arith in
+            omega arith
+        | inr p ↦
+            let l = s.large_longest p in
+            let e : large * (length' + 1) + small * length' ≤ (large + small) * (length' + 1) = omega arith in
+            let q = mul-le (large + small) (length' + 1) 65536 65536 blocks (omega arith) in
+            omega arith
+      ]
 
   pub count-sizes : length (sizes i) ≡ large + small
   count-sizes = ap length s.split ∙ length-split large (length' + 1) small length'
@@ -168,7 +184,7 @@ place-out i id h = place-miss (sizes i) id 0 0 (λ m l e. subst (λ x. get_or (s
 
 position-within : (p : SymbolId → Bool) (xs : List SymbolId) (k r : ℕ) → position_from p k xs ≡ Some r → r < k + length xs
 position-within p [] k r e = cc
-position-within p (x ∷ xs) k r e = elim (tested (p x)) [
+position-within p (x ∷ xs) k r e = elim (cases_Bool (p x)) [
   | inl t ↦
       let f : Some k ≡ Some r = sym (ap (λ b. cond b (Some k) (position_from p (k + 1) xs)) t) ∙ e in
       let g : k ≡ r = cc in

@@ -16,7 +16,7 @@ use Rattle.flute_parts.specs.declared.address.Address.{Address}
 abbrev pub session_cmp : Session → Session → Ordering
 session_cmp a b = nat_cmp a.tsi b.tsi
 
--- FDT Instances before files (RFC 6726, 3.4), and each kind by its number
+-- FDT Instances, which all have the Transport Object Identifier 0 (RFC 6726, 3.4), before files, and each kind by its number
 abbrev pub object_cmp : ObjectName → ObjectName → Ordering
 object_cmp (Instance m) (Instance n) = nat_cmp m n
 object_cmp (Instance m) (File n) = Less

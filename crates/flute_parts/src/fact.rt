@@ -9,7 +9,7 @@ use crate::key::Key;
 use crate::symbol_id::SymbolId;
 
 /// What is known of a part of an object: its one value, or that two different values were told.
-#[derive(Debug, Drop)]
+#[derive(Debug, Drop, PartialEq, Eq)]
 pub enum Fact {
     /// The transmission information.
     Info {
@@ -34,7 +34,7 @@ pub enum Fact {
 }
 
 /// A [`Fact`] whose bytes are borrowed.
-#[derive(Clone, Copy, Debug)]
+#[derive(Clone, Copy, Debug, PartialEq, Eq)]
 pub enum FactRef<'a> {
     /// The transmission information.
     Info {

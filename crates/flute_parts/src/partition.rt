@@ -62,21 +62,24 @@ impl Partition {
 
     /// The number of symbols, at most 2^32.
     pub fn symbols(&self) -> u64
-        ensures { result ≡ length (ids self.now) }
+        ensures value { result ≡ length (ids self.now) }
+        ensures bound { result ≤ 2 ^ 32 }
     {
         self.symbols
     }
 
     /// The number of source blocks, at most 65,536.
     pub fn blocks(&self) -> u32
-        ensures { result ≡ length (sizes self.now) }
+        ensures value { result ≡ length (sizes self.now) }
+        ensures bound { result ≤ 65536 }
     {
         self.large_blocks + self.small_blocks
     }
 
     /// The number of symbols in the block of this source block number, at most 65,536. 0 where there is no such block.
     pub fn block_len(&self, sbn: u16) -> u32
-        ensures { result ≡ slice_index (sizes self.now) sbn }
+        ensures value { result ≡ slice_index (sizes self.now) sbn }
+        ensures bound { result ≤ 65536 }
     {
         let block = u32::from(sbn);
         if block < self.large_blocks {
