@@ -7,7 +7,7 @@ use Rattle.flute_parts.specs.declared.fact.Fact.{Fact}
 use Rattle.flute_parts.specs.Order.{same_address}
 use Rattle.flute_parts.specs.Addresses.{address}
 use Rattle.flute_parts.specs.Facts.{agreed, fact_at, Same, Below, SameMembers}
-use Rattle.flute_parts.proofs.Equality.{address_same, address_itself}
+use Rattle.flute_parts.specs.Equality.{address_same, address_itself}
 use Rattle.flute_parts.proofs.Joined.{joined, joined-comm, joined-assoc, joined-itself, joined-none, fact_at-append}
 
 -- membership

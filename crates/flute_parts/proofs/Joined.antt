@@ -10,7 +10,7 @@ use Rattle.flute_parts.specs.declared.fact.Fact.{Fact}
 use Rattle.flute_parts.specs.Order.{same_address}
 use Rattle.flute_parts.specs.Addresses.{address}
 use Rattle.flute_parts.specs.Facts.{same_fact, conflict_at, agreed, fact_at}
-use Rattle.flute_parts.proofs.Equality.{fact_same, fact_itself}
+use Rattle.flute_parts.specs.Equality.{fact_same, fact_itself}
 
 unfoldable pub joined_fact : Address → Fact → Fact → Fact
 joined_fact a f g = cond (same_fact f g) f (conflict_at a)

@@ -13,7 +13,7 @@ use Rattle.flute_parts.specs.declared.symbol_id.SymbolId.{SymbolId}
 use Rattle.flute_parts.specs.Order.{symbol_id_cmp, same_symbol_id}
 use Rattle.flute_parts.specs.Partition.{symbol_id, block_ids}
 use Rattle.flute_parts.specs.Split.{total}
-use Rattle.flute_parts.proofs.Equality.{symbol_id_same, symbol_id_itself}
+use Rattle.flute_parts.specs.Equality.{symbol_id_same, symbol_id_itself}
 
 -- the ids of blocks of these sizes, numbered from n on
 abbrev pub listing : ℕ → List ℕ → List SymbolId

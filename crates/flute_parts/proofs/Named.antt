@@ -8,7 +8,7 @@ use Rattle.flute_parts.specs.Order.{same_session, same_object, same_symbol_id}
 use Rattle.flute_parts.specs.Addresses.{address}
 use Rattle.flute_parts.specs.Facts.{Below}
 use Rattle.flute_parts.specs.Limits.{firsts, named, session_of, object_of, symbol_of, sessions, objects, symbols, Over, more_sessions, more_objects, more_symbols}
-use Rattle.flute_parts.proofs.Equality.{session_same, session_itself, object_same, object_itself, symbol_id_same, symbol_id_itself}
+use Rattle.flute_parts.specs.Equality.{session_same, session_itself, object_same, object_itself, symbol_id_same, symbol_id_itself}
 use Rattle.flute_parts.proofs.Counted.{Tells, has, in_tail, length-firsts}
 use Rattle.flute_parts.proofs.Facts.{Member, Names-below}
 

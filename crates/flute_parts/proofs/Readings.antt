@@ -10,7 +10,7 @@ use Rattle.flute_parts.specs.declared.fact.Fact.{Fact}
 use Rattle.flute_parts.specs.Order.{same_address}
 use Rattle.flute_parts.specs.Addresses.{address}
 use Rattle.flute_parts.specs.Facts.{same_fact, conflict_in, conflict_at, fact_at}
-use Rattle.flute_parts.proofs.Equality.{fact_same, address_same}
+use Rattle.flute_parts.specs.Equality.{fact_same, address_same}
 use Rattle.flute_parts.proofs.Joined.{joined, joined-assoc, joined-itself, joined-same, joined-apart, joined-conflict_left}
 use Rattle.flute_parts.proofs.Facts.{Member, Member-from, Contains-from, alone, alone-at, alone-elsewhere, fact_at-nil, fact_at-cons, fact_at-member, fact_at-member_some, fact_at-some_named}
 

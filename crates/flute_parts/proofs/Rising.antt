@@ -10,8 +10,8 @@ use Rattle.flute_parts.specs.declared.fact.Fact.{Fact}
 use Rattle.flute_parts.specs.Order.{address_cmp, same_address}
 use Rattle.flute_parts.specs.Addresses.{address}
 use Rattle.flute_parts.specs.Facts.{fact_at, Same, StandAfter, IsRising}
-use Rattle.flute_parts.proofs.Equality.{address_same}
-use Rattle.flute_parts.proofs.Orders.{address_total}
+use Rattle.flute_parts.specs.Equality.{address_same}
+use Rattle.flute_parts.specs.Totality.{address_total}
 use Rattle.flute_parts.proofs.Facts.{Member, Member-from, fact_at-nil, fact_at-here, fact_at-elsewhere}
 
 -- what stands after an address stands after each one before it

@@ -8,7 +8,7 @@ use Rattle.std.specs.List.{position_from}
 use Rattle.std.proofs.lemmas.Bool.Decides.{nat_tests}
 use Rattle.std.proofs.lemmas.Option.{slice_get_past, slice_get_within, slice_get-get_or, get_or_from_slice_get}
 use Rattle.std.proofs.lemmas.Bool.{false≢true, cases_Bool}
-use Rattle.flute_parts.proofs.Equality.{both}
+use Rattle.flute_parts.specs.Equality.{both}
 use Rattle.std.proofs.lemmas.Nat.{mod_below, div_below, mul-le}
 use Rattle.flute_parts.specs.declared.symbol_id.SymbolId.{SymbolId}
 use Rattle.flute_parts.specs.Order.{same_symbol_id, symbol_id_cmp}

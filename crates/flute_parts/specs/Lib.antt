@@ -9,6 +9,8 @@ pub mod Facts
 pub mod Partition
 pub mod Split
 pub mod Limits
+pub mod Equality
+pub mod Totality
 pub mod Laws
 pub mod Examples
 pub mod Devices

@@ -2,6 +2,7 @@
 ghost use Rattle.std.specs.Prelude.{◌≡◌, ◌⊎◌, None, Some, MatchResult, bytes_eq};
 ghost use Rattle.flute_parts.specs.SymbolBytes.{HasSymbolSize, size_fault};
 
+use flute_join::{JoinRefusal, Value};
 use std::alloc::Global;
 use std::marker::Model;
 use thiserror::Error;
@@ -113,4 +114,18 @@ impl Eq for Bytes {
     ghost use Rattle.std.proofs.lemmas.Cmp.{nat_list_eq_equiv};
 
     ghost laws = { nat_list_eq_equiv };
+}
+
+impl Value for Bytes {
+    ghost use Rattle.flute_parts.specs.Equality.{bytes_same};
+
+    ghost same_where_equal = { bytes_same };
+
+    /// A copy of the bytes. `OutOfMemory` where there is no memory for it.
+    fn copy(&self, alloc: Global) -> Result<Bytes, JoinRefusal> {
+        match self.octets.to_vec(alloc) {
+            Ok(octets) => Ok(Bytes { octets }),
+            Err(_) => Err(JoinRefusal::OutOfMemory),
+        }
+    }
 }

@@ -2,6 +2,8 @@
 ghost use Rattle.std.specs.Prelude.{◌≡◌, Some, None, MatchResult};
 ghost use Rattle.flute_parts.specs.Information.{information, info_fault};
 
+use flute_join::{JoinRefusal, Value};
+use std::alloc::Global;
 use std::marker::Model;
 use thiserror::Error;
 
@@ -127,4 +129,15 @@ fn fault_of(length: u64, symbol: u16, block: u32) -> Option<InfoFault>
         return Some(InfoFault::BlockTooLong);
     }
     None
+}
+
+impl Value for Info {
+    ghost use Rattle.flute_parts.specs.Equality.{information_same};
+
+    ghost same_where_equal = { information_same };
+
+    /// The same information. It takes no memory, and is never refused.
+    fn copy(&self, _alloc: Global) -> Result<Info, JoinRefusal> {
+        Ok(*self)
+    }
 }

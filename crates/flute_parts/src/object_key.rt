@@ -1,9 +1,11 @@
 //! The names of objects within a session.
 
+use flute_join::Place;
+use std::cmp::Ordering;
 use std::marker::Model;
 
-/// What an object is named by. FDT Instances are ordered before files.
-#[derive(Clone, Copy, Debug, PartialEq, Eq, PartialOrd, Ord)]
+/// What an object is named by.
+#[derive(Clone, Copy, Debug)]
 pub enum ObjectName {
     /// An FDT Instance, by its FDT Instance ID.
     Instance(u32),
@@ -15,7 +17,7 @@ pub enum ObjectName {
 /// Transport Object Identifier (RFC 5651, section 5.1).
 ///
 /// FDT Instances are ordered before files, and each kind by its number.
-#[derive(Clone, Copy, Debug, PartialEq, Eq, PartialOrd, Ord)]
+#[derive(Clone, Copy, Debug)]
 pub struct ObjectKey {
     name: ObjectName,
 }
@@ -83,4 +85,73 @@ impl ObjectKey {
             ObjectName::File(toi) => toi,
         }
     }
+}
+
+// What follows is what derives would write. It is written by hand so that contracts see the order by its definition.
+
+impl Ord for ObjectKey {
+    ghost use Rattle.std.specs.Prelude.{refl};
+    ghost use Rattle.flute_parts.specs.Order.{object_cmp};
+    ghost use Rattle.flute_parts.specs.Totality.{object_total};
+
+    ghost cmp = { object_cmp };
+
+    ghost total = { object_total };
+
+    ghost matches_partial_cmp = { λ x y. refl };
+
+    ghost matches_eq = { λ x y. refl };
+
+    fn cmp(&self, other: &ObjectKey) -> Ordering {
+        match (self.name, other.name) {
+            (ObjectName::Instance(a), ObjectName::Instance(b)) => a.cmp(&b),
+            (ObjectName::Instance(_), ObjectName::File(_)) => Ordering::Less,
+            (ObjectName::File(_), ObjectName::Instance(_)) => Ordering::Greater,
+            (ObjectName::File(a), ObjectName::File(b)) => a.cmp(&b),
+        }
+    }
+}
+
+impl PartialOrd for ObjectKey {
+    ghost use Rattle.std.specs.Prelude.{refl};
+    ghost use Rattle.std.specs.Ordering.{as_partial_cmp};
+    ghost use Rattle.std.specs.Cmp.{partial_order_from_agreeing_total};
+    ghost use Rattle.flute_parts.specs.Order.{object_cmp};
+    ghost use Rattle.flute_parts.specs.Totality.{object_total};
+
+    ghost partial_cmp = { as_partial_cmp object_cmp };
+
+    ghost laws = { partial_order_from_agreeing_total object_cmp object_total (λ x y. refl) (λ x y. refl) };
+
+    fn partial_cmp(&self, other: &ObjectKey) -> Option<Ordering> {
+        Some(self.cmp(other))
+    }
+}
+
+impl Eq for ObjectKey {
+    ghost use Rattle.std.specs.Cmp.{eq_by_cmp_equiv};
+    ghost use Rattle.flute_parts.specs.Totality.{object_total};
+
+    ghost laws = { eq_by_cmp_equiv object_total };
+}
+
+impl PartialEq for ObjectKey {
+    ghost use Rattle.std.specs.Ordering.{eq_by_cmp};
+    ghost use Rattle.std.specs.Cmp.{eq_by_cmp_equiv, partial_equiv_from_equiv};
+    ghost use Rattle.flute_parts.specs.Order.{object_cmp};
+    ghost use Rattle.flute_parts.specs.Totality.{object_total};
+
+    ghost eq = { eq_by_cmp object_cmp };
+
+    ghost laws = { partial_equiv_from_equiv (eq_by_cmp_equiv object_total) };
+
+    fn eq(&self, other: &ObjectKey) -> bool {
+        self.cmp(other).is_eq()
+    }
+}
+
+impl Place for ObjectKey {
+    ghost use Rattle.flute_parts.specs.Equality.{object_place};
+
+    ghost same_where_equal = { object_place };
 }

@@ -1,5 +1,6 @@
 //! The names of sessions.
 
+use flute_join::Place;
 use std::marker::Model;
 
 /// A session, named by its Transport Session Identifier of at most 48 bits (RFC 5651, section 5.1).
@@ -45,4 +46,10 @@ impl SessionKey {
     {
         self.tsi
     }
+}
+
+impl Place for SessionKey {
+    ghost use Rattle.flute_parts.specs.Equality.{session_place};
+
+    ghost same_where_equal = { session_place };
 }

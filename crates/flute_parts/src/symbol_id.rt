@@ -1,11 +1,19 @@
 //! The numbers of encoding symbols.
 
+use flute_join::Place;
+
 /// An encoding symbol of an object, by its source block number and its encoding symbol ID
-/// (RFC 5445, section 3.1). Symbols are ordered by block, then by ID.
+/// (RFC 5445, section 3.2.1). Symbols are ordered by block, then by ID.
 #[derive(Clone, Copy, Debug, PartialEq, Eq, PartialOrd, Ord)]
 pub struct SymbolId {
     /// The source block number.
     pub sbn: u16,
     /// The encoding symbol ID.
     pub esi: u16,
+}
+
+impl Place for SymbolId {
+    ghost use Rattle.flute_parts.specs.Equality.{symbol_id_place};
+
+    ghost same_where_equal = { symbol_id_place };
 }

@@ -1,6 +1,6 @@
 -- Names, values and facts that compare equal are the same.
 use Rattle.std.specs.Prelude.{◌≡◌, ℕ, List, Bool, true, false, ◌&&◌, ◌==◌, bytes_eq}
-use Rattle.std.proofs.Common.{sym, ap, ◌∙◌, refl, arith}
+use Rattle.std.proofs.Common.{ap, refl, arith}
 use Rattle.std.proofs.lemmas.Bool.{false≢true}
 use Rattle.std.proofs.lemmas.Bool.Decides.{nat_tests}
 use Rattle.std.proofs.lemmas.Slice.Eq.{bytes_eq-Decides}
@@ -111,15 +111,8 @@ address_itself a = then_true (key_cmp a.key a.key) (part_cmp a.part a.part) (key
 pub session_place : (x y : Session) → session_cmp x y ≡ Equal → x ≡ y
 session_place x y h = session_same x y (is_eq-from (session_cmp x y) h)
 
--- a comparison that is the order of objects at each pair of kinds is that order
-pub object_cmp_by : (c : ObjectName → ObjectName → Ordering) → ((m n : ℕ) → c (Instance m) (Instance n) ≡ nat_cmp m n) → ((m n : ℕ) → c (Instance m) (File n) ≡ Less) → ((m n : ℕ) → c (File m) (Instance n) ≡ Greater) → ((m n : ℕ) → c (File m) (File n) ≡ nat_cmp m n) → (x y : ObjectName) → c x y ≡ object_cmp x y
-object_cmp_by c p q r s (Instance m) (Instance n) = p m n
-object_cmp_by c p q r s (Instance m) (File n) = q m n
-object_cmp_by c p q r s (File m) (Instance n) = r m n
-object_cmp_by c p q r s (File m) (File n) = s m n
-
-pub object_place : (c : ObjectName → ObjectName → Ordering) → ((m n : ℕ) → c (Instance m) (Instance n) ≡ nat_cmp m n) → ((m n : ℕ) → c (Instance m) (File n) ≡ Less) → ((m n : ℕ) → c (File m) (Instance n) ≡ Greater) → ((m n : ℕ) → c (File m) (File n) ≡ nat_cmp m n) → (x y : ObjectName) → c x y ≡ Equal → x ≡ y
-object_place c p q r s x y h = object_same x y (is_eq-from (object_cmp x y) (sym (object_cmp_by c p q r s x y) ∙ h))
+pub object_place : (x y : ObjectName) → object_cmp x y ≡ Equal → x ≡ y
+object_place x y h = object_same x y (is_eq-from (object_cmp x y) h)
 
 pub symbol_id_place : (x y : SymbolId) → symbol_id_cmp x y ≡ Equal → x ≡ y
 symbol_id_place x y h = symbol_id_same x y (is_eq-from (symbol_id_cmp x y) h)
