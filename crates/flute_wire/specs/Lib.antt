@@ -6,3 +6,4 @@ pub mod Refusals
 pub mod Walk
 pub mod Facts
 pub mod Reading
+pub mod Examples
