@@ -1,8 +1,9 @@
 -- Names, values and facts that compare equal are the same.
 use Rattle.std.specs.Prelude.{◌≡◌, ℕ, List, Bool, true, false, ◌&&◌, ◌==◌, bytes_eq}
-use Rattle.std.proofs.Common.{ap, refl, arith}
-use Rattle.std.proofs.lemmas.Bool.{false≢true}
-use Rattle.std.proofs.lemmas.Bool.Decides.{nat_tests}
+use Rattle.std.proofs.Common.{sym, ap, ◌∙◌, refl}
+use Rattle.std.proofs.lemmas.Bool.{false≢true, eqb-true, eq-eqb}
+use Rattle.std.proofs.lemmas.Cmp.{ranked, tied_itself}
+use Rattle.std.specs.Cmp.{nat_cmp_total, Equal-is}
 use Rattle.std.proofs.lemmas.Slice.Eq.{bytes_eq-Decides}
 use Rattle.std.specs.declared.cmp.Ordering.{Ordering}
 use Rattle.std.specs.declared.cmp.Ordering.TheVariants.{Less, Equal, Greater}
@@ -45,10 +46,10 @@ is_eq-from : (o : Ordering) → o ≡ Equal → is_eq o ≡ true
 is_eq-from o h = ap is_eq h
 
 pub nat_same : (m n : ℕ) → is_eq (nat_cmp m n) ≡ true → m ≡ n
-nat_same m n h = grind (arith, nat_tests)
+nat_same m n h = ranked m n Equal (sym ((Equal-is (nat_cmp m n)).0 h))
 
 pub nat_itself : (n : ℕ) → is_eq (nat_cmp n n) ≡ true
-nat_itself n = grind (arith, nat_tests)
+nat_itself n = ap is_eq (tied_itself nat_cmp_total n)
 
 -- keys
 
@@ -123,13 +124,13 @@ pub information_same : (i j : Information) → same_information i j ≡ true →
 information_same i j h =
     let p = both (i.transfer_length == j.transfer_length) ((i.symbol_length == j.symbol_length) && (i.max_block_length == j.max_block_length)) h in
     let q = both (i.symbol_length == j.symbol_length) (i.max_block_length == j.max_block_length) p.1 in
-    let l : i.transfer_length ≡ j.transfer_length = let t = p.0 in grind (arith, nat_tests) in
-    let e : i.symbol_length ≡ j.symbol_length = let t = q.0 in grind (arith, nat_tests) in
-    let b : i.max_block_length ≡ j.max_block_length = let t = q.1 in grind (arith, nat_tests) in
+    let l : i.transfer_length ≡ j.transfer_length = eqb-true i.transfer_length j.transfer_length p.0 in
+    let e : i.symbol_length ≡ j.symbol_length = eqb-true i.symbol_length j.symbol_length q.0 in
+    let b : i.max_block_length ≡ j.max_block_length = eqb-true i.max_block_length j.max_block_length q.1 in
     λ k. record { transfer_length = l k; symbol_length = e k; max_block_length = b k }
 
 pub eqb_itself : (n : ℕ) → (n == n) ≡ true
-eqb_itself n = grind (arith, nat_tests)
+eqb_itself n = eq-eqb n n refl
 
 pub information_itself : (i : Information) → same_information i i ≡ true
 information_itself i = both_true (i.transfer_length == i.transfer_length) ((i.symbol_length == i.symbol_length) && (i.max_block_length == i.max_block_length)) (eqb_itself i.transfer_length) (both_true (i.symbol_length == i.symbol_length) (i.max_block_length == i.max_block_length) (eqb_itself i.symbol_length) (eqb_itself i.max_block_length))

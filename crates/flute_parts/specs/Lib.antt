@@ -6,6 +6,7 @@ pub mod SymbolBytes
 pub mod Order
 pub mod Addresses
 pub mod Facts
+pub mod Equality
 pub mod Partition
 pub mod Split
 pub mod Limits

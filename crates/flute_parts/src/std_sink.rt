@@ -1,5 +1,5 @@
 //! A sink over a writer of the standard library.
-ghost use Rattle.std.specs.Prelude.{◌≡◌, None};
+ghost use Rattle.std.specs.Prelude.{◌≡◌, ◌+◌, None, if◌then◌else◌, is_ok};
 
 use crate::device::{DeviceFault, Sink};
 use crate::failures::Failures;
@@ -33,8 +33,10 @@ impl<W: Write> StdSink<W> {
     ///
     /// # Errors
     ///
-    /// `DeviceFault` where the writer failed.
-    pub fn flush(&mut self) -> Result<(), DeviceFault> {
+    /// `DeviceFault` where the writer failed. What it still holds is then not known.
+    pub fn flush(&mut self) -> Result<(), DeviceFault>
+        ensures { ⟦<StdSink<W> as Sink>⟧.failures self.new ≡ ⟦<StdSink<W> as Sink>⟧.failures self.old + (if is_ok result then 0 else 1) }
+    {
         match self.writer.flush() {
             Ok(()) => Ok(()),
             Err(_) => {

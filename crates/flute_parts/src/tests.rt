@@ -172,6 +172,11 @@ fn facts_stand_at_their_addresses(rt: HostRuntime) -> Result<(), Fail> {
     for (fact, part) in facts.iter().zip([Part::Info, Part::Info, part, part]) {
         assert_eq!(rt; fact.address(), Address { key: *key, part });
     }
+    for (i, fact) in facts.iter().enumerate() {
+        for (j, other) in facts.iter().enumerate() {
+            assert_eq!(rt; fact == other, i == j);
+        }
+    }
     Ok(())
 }
 

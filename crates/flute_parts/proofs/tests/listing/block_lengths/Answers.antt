@@ -1,4 +1,4 @@
-use Rattle.std.proofs.Common.{◌≡◌, ◌+◌, ◌-◌, ◌*◌, ◌/◌, ◌++◌, sym, ◌∙◌, replicate, Result, Ok, Err, arith}
+use Rattle.std.proofs.Common.{◌≡◌, ◌-◌, ◌*◌, ◌/◌, ◌++◌, sym, ◌∙◌, replicate, Result, Ok, Err, arith}
 use Rattle.std.specs.Int.{div_ceil}
 use Rattle.std.specs.Result.{IfOk}
 use Rattle.flute_parts.specs.Information.{symbol_count, block_count, large_length}
