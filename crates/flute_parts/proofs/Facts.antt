@@ -91,6 +91,15 @@ Same-twice F = record { each = λ a. fact_at-append F F a ∙ joined-itself a (f
 
 -- the laws of `Same` and `Below`
 
+pub Same-itself : (F : List Fact) → Same F F
+Same-itself F = record { each = λ a. refl }
+
+pub Same-sym : (F G : List Fact) → Same F G → Same G F
+Same-sym F G h = record { each = λ a. sym (h.each a) }
+
+pub Same-trans : (F G H : List Fact) → Same F G → Same G H → Same F H
+Same-trans F G H h k = record { each = λ a. h.each a ∙ k.each a }
+
 pub Same-append : (F G H K : List Fact) → Same F G → Same H K → Same (F ++ H) (G ++ K)
 Same-append F G H K p q = record {
   each = λ a.

@@ -15,6 +15,7 @@ info_address key = record { key = key; part = InfoPart }
 abbrev pub symbol_address : Key → SymbolId → Address
 symbol_address key id = record { key = key; part = SymbolPart id }
 
+-- where a fact stands
 abbrev pub address : Fact → Address
 address (Info key info) = info_address key
 address (InfoConflict key) = info_address key

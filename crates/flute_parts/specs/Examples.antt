@@ -69,28 +69,28 @@ key = key_of (File 1)
 abbrev two : Information
 two = information 5 4 2
 
-abbrev hell : Fact
-hell = Symbol key (symbol_id 0 0) (104 ∷ 101 ∷ 108 ∷ 108 ∷ [])
+abbrev first : Fact
+first = Symbol key (symbol_id 0 0) (104 ∷ 101 ∷ 108 ∷ 108 ∷ [])
 
-abbrev o : Fact
-o = Symbol key (symbol_id 0 1) (111 ∷ [])
+abbrev second : Fact
+second = Symbol key (symbol_id 0 1) (111 ∷ [])
 
 -- the second symbol with its padding
-abbrev o_padded : Fact
-o_padded = Symbol key (symbol_id 0 1) (111 ∷ 0 ∷ 0 ∷ 0 ∷ [])
+abbrev padded : Fact
+padded = Symbol key (symbol_id 0 1) (111 ∷ 0 ∷ 0 ∷ 0 ∷ [])
 
 abbrev known : List Fact
-known = Info key two ∷ hell ∷ Info key two ∷ o ∷ []
+known = Info key two ∷ first ∷ Info key two ∷ second ∷ []
 
-known-facts : (fact_at known (info_address key) ≡ Some (Info key two)) × (fact_at known (symbol_address key (symbol_id 0 0)) ≡ Some hell)
-    × (fact_at known (symbol_address key (symbol_id 0 1)) ≡ Some o) × (fact_at known (symbol_address key (symbol_id 1 0)) ≡ None)
+known-facts : (fact_at known (info_address key) ≡ Some (Info key two)) × (fact_at known (symbol_address key (symbol_id 0 0)) ≡ Some first)
+    × (fact_at known (symbol_address key (symbol_id 0 1)) ≡ Some second) × (fact_at known (symbol_address key (symbol_id 1 0)) ≡ None)
 unfolding fact_at
 known-facts = (refl, refl, refl, refl)
 
 -- the short form of a symbol and the padded one are two values
-padded-conflict : fact_at (known ++ o_padded ∷ []) (symbol_address key (symbol_id 0 1)) ≡ Some (SymbolConflict key (symbol_id 0 1))
+two_forms-conflict : fact_at (known ++ padded ∷ []) (symbol_address key (symbol_id 0 1)) ≡ Some (SymbolConflict key (symbol_id 0 1))
 unfolding fact_at
-padded-conflict = refl
+two_forms-conflict = refl
 
 -- a conflict stays one when the first value comes again
 information-conflict : (fact_at (Info key two ∷ Info key (information 5 4 3) ∷ []) (info_address key) ≡ Some (InfoConflict key))
@@ -102,7 +102,7 @@ information-conflict = (refl, refl, refl, refl)
 
 -- one session, its objects and the symbols of one of them
 limits : (length (sessions known) ≡ 1) × (objects (known ++ InfoConflict (key_of (Instance 3)) ∷ []) (session 7) ≡ File 1 ∷ Instance 3 ∷ [])
-    × (symbols (known ++ o_padded ∷ []) key ≡ symbol_id 0 0 ∷ symbol_id 0 1 ∷ [])
+    × (symbols (known ++ padded ∷ []) key ≡ symbol_id 0 0 ∷ symbol_id 0 1 ∷ [])
 unfolding sessions objects symbols
 limits = (refl, refl, refl)
 
@@ -112,5 +112,5 @@ ordered : (address_cmp (symbol_address (key_of (Instance 9)) (symbol_id 5 5)) (i
     × (address_cmp (symbol_address key (symbol_id 0 9)) (symbol_address key (symbol_id 1 0)) ≡ Less)
 ordered = (refl, refl, refl)
 
-rising : IsRising (Info key two ∷ hell ∷ o ∷ [])
+rising : IsRising (Info key two ∷ first ∷ second ∷ [])
 rising = ((refl, (refl, tt)), ((refl, tt), (tt, tt)))

@@ -12,7 +12,7 @@ use Rattle.flute_parts.specs.declared.fact.Fact.TheVariants.{Info, InfoConflict,
 use Rattle.flute_parts.specs.Order.{address_cmp, same_key, same_symbol_id, same_address}
 use Rattle.flute_parts.specs.Addresses.{address}
 
--- the fact that two values were told at the address
+-- the fact that two values were told of a part of an object, and at an address
 abbrev pub conflict_in : Key → Part → Fact
 conflict_in key InfoPart = InfoConflict key
 conflict_in key (SymbolPart id) = SymbolConflict key id
@@ -24,6 +24,7 @@ conflict_at a = conflict_in a.key a.part
 abbrev pub same_information : Information → Information → Bool
 same_information i j = (i.transfer_length == j.transfer_length) && ((i.symbol_length == j.symbol_length) && (i.max_block_length == j.max_block_length))
 
+-- the facts tell the same of the same address
 abbrev pub same_fact : Fact → Fact → Bool
 same_fact (Info k i) (Info l j) = same_key k l && same_information i j
 same_fact (InfoConflict k) (InfoConflict l) = same_key k l

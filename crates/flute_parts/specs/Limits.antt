@@ -20,17 +20,20 @@ firsts same (x ∷ xs) = x ∷ filter (λ y. not (same x y)) (firsts same xs)
 abbrev pub named : {X : Type 0} → (Address → Option X) → List Fact → List X
 named name facts = filter_map (λ f. name (address f)) facts
 
--- the session that an address names, the object if it is of the session, and the symbol if it is of the object
+-- the session that an address names
 abbrev pub session_of : Address → Option Session
 session_of a = Some a.key.session
 
+-- the object that it names, if it is of the session
 abbrev pub object_of : Session → Address → Option ObjectName
 object_of session a = if same_session a.key.session session then Some a.key.object else None
 
+-- the symbol that a part is, if it is one
 abbrev pub symbol_in : Part → Option SymbolId
 symbol_in InfoPart = None
 symbol_in (SymbolPart id) = Some id
 
+-- the symbol that it names, if it is of the object
 abbrev pub symbol_of : Key → Address → Option SymbolId
 symbol_of key a = if same_key a.key key then symbol_in a.part else None
 

@@ -13,6 +13,7 @@ abbrev pub toi_of : ObjectName → ℕ
 toi_of (Instance n) = 0
 toi_of (File n) = n
 
+-- and only they have an FDT Instance ID (RFC 6726, 3.4.1)
 abbrev pub instance_of : ObjectName → Option ℕ
 instance_of (Instance n) = Some n
 instance_of (File n) = None

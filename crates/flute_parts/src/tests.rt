@@ -1,50 +1,15 @@
 //! Worked examples, each public call on its happy path, and printed texts.
 
 mod listing;
+mod partitions;
+mod sinks;
 
 use crate::{
-    Address, Bytes, BytesFault, DeviceFault, Fact, FactRef, Info, InfoFault, Key, MemorySink,
-    ObjectKey, Part, Partition, SessionKey, Sink, StdSink, SymbolId, laws,
+    Address, Bytes, BytesFault, DeviceFault, Fact, FactRef, Info, InfoFault, Key, ObjectKey, Part,
+    SessionKey, SymbolId, laws,
 };
 use std::fmt::Display;
-use std::io::{self, ErrorKind, Write};
 use std::test::Fail;
-
-/// A writer that is interrupted some times, and then takes all the bytes. It counts its calls.
-#[derive(Drop)]
-struct Interrupted {
-    left: u32,
-    calls: u32,
-}
-
-impl Write for &mut Interrupted {
-    fn write(&mut self, bytes: &[u8]) -> io::Result<usize> {
-        self.calls = self.calls.wrapping_add(1);
-        if self.left > 0 {
-            self.left -= 1;
-            return Err(io::Error::from(ErrorKind::Interrupted));
-        }
-        Ok(bytes.len())
-    }
-
-    fn flush(&mut self) -> io::Result<()> {
-        Ok(())
-    }
-}
-
-/// A writer that takes nothing, and cannot be flushed.
-#[derive(Drop)]
-struct Stuck;
-
-impl Write for Stuck {
-    fn write(&mut self, _: &[u8]) -> io::Result<usize> {
-        Ok(0)
-    }
-
-    fn flush(&mut self) -> io::Result<()> {
-        Err(io::Error::from(ErrorKind::Other))
-    }
-}
 
 fn key() -> Option<Key> {
     let session = SessionKey::new(7)?;
@@ -181,43 +146,6 @@ fn facts_stand_at_their_addresses(rt: HostRuntime) -> Result<(), Fail> {
 }
 
 #[test]
-fn a_sink_in_memory_keeps_its_bytes(rt: HostRuntime) -> Result<(), Fail> {
-    let mut sink = MemorySink::new(rt.alloc());
-    assert_eq!(rt; sink.as_slice(), b"".as_slice());
-    assert_eq!(rt; sink.write(b"hel")?, 3);
-    sink.write_all(b"lo")?;
-    assert_eq!(rt; sink.as_slice(), b"hello".as_slice());
-    Ok(())
-}
-
-#[test]
-fn an_interrupted_write_is_made_again(rt: HostRuntime) {
-    for (left, answer, calls) in [
-        (0, Ok(2), 1),
-        (64, Ok(2), 65),
-        (65, Err(DeviceFault), 65),
-        (u32::MAX, Err(DeviceFault), 65),
-    ] {
-        let mut writer = Interrupted { left, calls: 0 };
-        let told = StdSink::new(&mut writer).write(b"lo");
-        assert!(rt; told == answer, "after {left}");
-        assert_eq!(rt; writer.calls, calls, "after {left}");
-    }
-    let mut writer = Interrupted { left: 3, calls: 0 };
-    let mut sink = StdSink::new(&mut writer);
-    assert!(rt; sink.write_all(b"lo") == Ok(()) && sink.flush() == Ok(()));
-}
-
-#[test]
-fn a_stuck_writer_has_failed(rt: HostRuntime) {
-    let mut sink = StdSink::new(Stuck);
-    assert!(rt; sink.write(b"a") == Err(DeviceFault));
-    assert!(rt; sink.write(b"") == Ok(0));
-    assert!(rt; sink.write_all(b"a") == Err(DeviceFault));
-    assert!(rt; sink.flush() == Err(DeviceFault));
-}
-
-#[test]
 fn faults_have_names(rt: HostRuntime) -> Result<(), Fail> {
     for (fault, text) in [
         (InfoFault::Length, "Length"),
@@ -236,113 +164,6 @@ fn faults_have_names(rt: HostRuntime) -> Result<(), Fail> {
         assert!(rt; is_shown(&rt, &fault, text)?);
     }
     assert!(rt; is_shown(&rt, &DeviceFault, "the device failed")?);
-    Ok(())
-}
-
-#[test]
-fn blocks_of_four_three_and_three(rt: HostRuntime) -> Result<(), Fail> {
-    let partition = Partition::of(&Info::new(10, 1, 4)?);
-    assert_eq!(rt; (partition.symbols(), partition.blocks()), (10, 3));
-    for (sbn, length) in [(0, 4), (1, 3), (2, 3), (3, 0), (u16::MAX, 0)] {
-        assert_eq!(rt; partition.block_len(sbn), length, "block {sbn}");
-    }
-    for (sbn, esi, place) in [
-        (0, 3, Some(3)),
-        (1, 0, Some(4)),
-        (2, 2, Some(9)),
-        (1, 3, None),
-        (3, 0, None),
-    ] {
-        assert_eq!(rt;
-            partition.place(SymbolId { sbn, esi }),
-            place,
-            "symbol {sbn}/{esi}"
-        );
-    }
-    assert_eq!(rt; partition.id_at(4), Some(SymbolId { sbn: 1, esi: 0 }));
-    assert_eq!(rt; partition.id_at(10), None);
-    Ok(())
-}
-
-#[test]
-fn lengths_that_fit(rt: HostRuntime) -> Result<(), Fail> {
-    let partition = Partition::of(&Info::new(10, 4, 1)?);
-    for sbn in 0..3 {
-        assert_eq!(rt; partition.block_len(sbn), 1);
-    }
-    for (sbn, esi, length, fits) in [
-        (2, 0, 4, true),
-        (2, 0, 2, true),
-        (2, 0, 3, false),
-        (0, 0, 2, false),
-        (0, 0, 4, true),
-        (0, 1, 4, false),
-    ] {
-        assert_eq!(rt;
-            partition.fits(SymbolId { sbn, esi }, length),
-            fits,
-            "{length} bytes of {sbn}/{esi}"
-        );
-    }
-    Ok(())
-}
-
-#[test]
-fn largest_partitions(rt: HostRuntime) -> Result<(), Fail> {
-    let one_block = Partition::of(&Info::new(65_536, 1, u32::MAX)?);
-    assert_eq!(rt; (one_block.blocks(), one_block.block_len(0)), (1, 65_536));
-    let all = Partition::of(&Info::new(65_535 << 32, 65_535, 65_536)?);
-    assert_eq!(rt;
-        (all.symbols(), all.blocks(), all.block_len(u16::MAX)),
-        (1 << 32, 65_536, 65_536)
-    );
-    let last = SymbolId {
-        sbn: u16::MAX,
-        esi: u16::MAX,
-    };
-    assert_eq!(rt; all.place(last), Some((1 << 32) - 1));
-    assert_eq!(rt; all.id_at((1 << 32) - 1), Some(last));
-    let none = Partition::of(&Info::new(0, 0, 0)?);
-    assert_eq!(rt;
-        (none.symbols(), none.blocks(), none.id_at(0)),
-        (0, 0, None)
-    );
-    Ok(())
-}
-
-#[test]
-fn partitions_agree_with_their_listing(rt: HostRuntime) -> Result<(), Fail> {
-    for (length, symbol, block) in [
-        (0, 0, 0),
-        (1, 1, 1),
-        (5, 4, 2),
-        (10, 1, 4),
-        (10, 4, 1),
-        (99, 10, 3),
-        (100, 10, 3),
-        (1_000, 7, 6),
-        (700, 1, 699),
-    ] {
-        let info = Info::new(length, symbol, block)?;
-        let partition = Partition::of(&info);
-        let listed = listing::listed(rt.alloc(), &info)?;
-        assert_eq!(rt; partition.symbols(), listed.len() as u64, "of {length}");
-        assert_eq!(rt; partition.id_at(partition.symbols()), None);
-        for (place, &id) in listed.iter().enumerate() {
-            assert_eq!(rt;
-                partition.id_at(place as u64),
-                Some(id),
-                "at {place} of {length}"
-            );
-            assert_eq!(rt;
-                partition.place(id),
-                Some(place as u64),
-                "of {id:?} of {length}"
-            );
-            assert!(rt; partition.fits(id, usize::from(symbol)));
-            assert!(rt; u32::from(id.esi) < partition.block_len(id.sbn));
-        }
-    }
     Ok(())
 }
 

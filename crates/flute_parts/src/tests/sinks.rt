@@ -1,0 +1,77 @@
+//! Sinks over memory and over writers.
+use crate::{DeviceFault, MemorySink, Sink, StdSink};
+use std::io::{self, ErrorKind, Write};
+use std::test::Fail;
+
+/// A writer that is interrupted some times, and then takes all the bytes. It counts its calls.
+#[derive(Drop)]
+struct Interrupted {
+    left: u32,
+    calls: u32,
+}
+
+impl Write for &mut Interrupted {
+    fn write(&mut self, bytes: &[u8]) -> io::Result<usize> {
+        self.calls = self.calls.wrapping_add(1);
+        if self.left > 0 {
+            self.left -= 1;
+            return Err(io::Error::from(ErrorKind::Interrupted));
+        }
+        Ok(bytes.len())
+    }
+
+    fn flush(&mut self) -> io::Result<()> {
+        Ok(())
+    }
+}
+
+/// A writer that takes nothing, and cannot be flushed.
+#[derive(Drop)]
+struct Stuck;
+
+impl Write for Stuck {
+    fn write(&mut self, _: &[u8]) -> io::Result<usize> {
+        Ok(0)
+    }
+
+    fn flush(&mut self) -> io::Result<()> {
+        Err(io::Error::from(ErrorKind::Other))
+    }
+}
+
+#[test]
+fn a_sink_in_memory_keeps_its_bytes(rt: HostRuntime) -> Result<(), Fail> {
+    let mut sink = MemorySink::new(rt.alloc());
+    assert_eq!(rt; sink.as_slice(), b"".as_slice());
+    assert_eq!(rt; sink.write(b"hel")?, 3);
+    sink.write_all(b"lo")?;
+    assert_eq!(rt; sink.as_slice(), b"hello".as_slice());
+    Ok(())
+}
+
+#[test]
+fn an_interrupted_write_is_made_again(rt: HostRuntime) {
+    for (left, answer, calls) in [
+        (0, Ok(2), 1),
+        (64, Ok(2), 65),
+        (65, Err(DeviceFault), 65),
+        (u32::MAX, Err(DeviceFault), 65),
+    ] {
+        let mut writer = Interrupted { left, calls: 0 };
+        let told = StdSink::new(&mut writer).write(b"lo");
+        assert!(rt; told == answer, "after {left}");
+        assert_eq!(rt; writer.calls, calls, "after {left}");
+    }
+    let mut writer = Interrupted { left: 3, calls: 0 };
+    let mut sink = StdSink::new(&mut writer);
+    assert!(rt; sink.write_all(b"lo") == Ok(()) && sink.flush() == Ok(()));
+}
+
+#[test]
+fn a_stuck_writer_has_failed(rt: HostRuntime) {
+    let mut sink = StdSink::new(Stuck);
+    assert!(rt; sink.write(b"a") == Err(DeviceFault));
+    assert!(rt; sink.write(b"") == Ok(0));
+    assert!(rt; sink.write_all(b"a") == Err(DeviceFault));
+    assert!(rt; sink.flush() == Err(DeviceFault));
+}
