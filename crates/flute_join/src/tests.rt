@@ -1,5 +1,5 @@
 //! Worked examples of cells and maps, and each generic item once at a concrete type.
-use crate::{Cell, Join, JoinMap, JoinRefusal, Place, Value};
+use crate::{Cell, Join, JoinMap, JoinRefusal, Place, Value, laws};
 use std::alloc::Global;
 use std::test::Fail;
 
@@ -133,4 +133,17 @@ fn refusals_are_told(rt: HostRuntime) -> Result<(), Fail> {
         "OutOfMemory"
     );
     Ok(())
+}
+
+// The bounds of each law are met by the types of this crate.
+#[test]
+fn the_laws_are_of_these_types() {
+    laws::joining_is_a_join::<Small>();
+    laws::joining_cells_is_a_join::<u8>();
+    laws::joining_maps_is_a_join::<u16, Small>();
+    laws::below_is_an_order::<Cell<u8>>();
+    laws::a_join_is_the_least_above_both::<Cell<u8>>();
+    laws::joining_again_gives_the_join::<Small>();
+    laws::a_joined_map_has_the_joined_values::<u16, Cell<u8>>();
+    laws::joining_one_entry::<u16, Cell<u8>>();
 }

@@ -10,7 +10,6 @@ pub mod Equality
 pub mod Partition
 pub mod Split
 pub mod Limits
-pub mod Equality
 pub mod Totality
 pub mod Laws
 pub mod Examples

@@ -6,7 +6,11 @@ ghost use Rattle.std.specs.Prelude.{◌≡◌, ◌≤◌, length, OnOk, IfErr};
 ghost use Rattle.flute_join.specs.Semilattice.{IsBelow};
 ghost use Rattle.flute_join.specs.JoinMap.{EachValue};
 ghost use Rattle.join_sample.specs.Object.{
-    object_join, ObjectOver, ObjectNeedsMemory, IsSoundObject, object_join_laws
+  object_join,
+  ObjectOver,
+  ObjectNeedsMemory,
+  IsSoundObject,
+  object_join_laws,
 };
 ghost use Rattle.join_sample.specs.Sessions.{sessions_join, SessionsOver, IsSoundObjects};
 
@@ -66,10 +70,8 @@ pub fn absorb<const SESSIONS: u32, const OBJECTS: u32, const SYMBOLS: u32>(
     ensures below_join { IsBelow sessions_join sessions.new (sessions_join sessions.old other.now) }
     ensures full { IfErr result (λ why. why ≡ JoinRefusal.Full → SessionsOver SESSIONS OBJECTS sessions.old other.now) }
     ensures within_limit { length sessions.new ≤ SESSIONS }
-    ensures each {
-        EachValue (IsSoundObjects OBJECTS) sessions.old → EachValue (IsSoundObjects OBJECTS) other.now
-            → EachValue (IsSoundObjects OBJECTS) sessions.new
-    }
+    ensures each { EachValue (IsSoundObjects OBJECTS) sessions.old → EachValue (IsSoundObjects OBJECTS) other.now
+        → EachValue (IsSoundObjects OBJECTS) sessions.new }
 {
     sessions.join_from(alloc, other)
 }

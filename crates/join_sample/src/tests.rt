@@ -26,7 +26,11 @@ fn holds(sessions: &Sessions<2, 2, 2>, symbol: u16, value: u8) -> bool {
     let Some(object) = sessions.get(&7).and_then(|objects| objects.get(&1)) else {
         return false;
     };
-    object.symbols.get(&symbol).and_then(|cell| cell.one()).is_some_and(|held| *held == value)
+    object
+        .symbols
+        .get(&symbol)
+        .and_then(|cell| cell.one())
+        .is_some_and(|held| *held == value)
 }
 
 #[test]
