@@ -1,5 +1,6 @@
 //! Worked examples, each public call on its happy path, and printed texts.
 
+mod joins;
 mod listing;
 mod partitions;
 mod sinks;
