@@ -6,7 +6,12 @@ ghost use Rattle.flute_parts.specs.declared.key.Key.{Key};
 ghost use Rattle.flute_parts.specs.declared.symbol_id.SymbolId.{SymbolId};
 ghost use Rattle.flute_parts.specs.declared.address.Address.{Address};
 ghost use Rattle.flute_parts.specs.Order.{session_cmp, object_cmp, key_cmp, symbol_id_cmp, address_cmp};
-ghost use Rattle.flute_parts.specs.Laws.{MembersDecide, OrderIsFree, RepeatsAreFree, AppendKeepsSame, AppendKeepsBelow, BelowIsReflexive, BelowIsTransitive, BelowBothWays, OverIsMonotone, AbsentWhereNoneStands, ValueWhereAllAgree, ConflictWhereTwoDiffer, ConflictWhereOneIsTold, AnswersStandThere, RisingHasOneFact, RisingTellsItsFacts, RisingIsUnique, PlacesAreInverse, IdsRise, IdsFollow, IdsAreCounted, FitsMeans, ValidHasNoFault};
+ghost use Rattle.flute_parts.specs.Laws.{MembersDecide, OrderIsFree, RepeatsAreFree, AppendKeepsSame};
+ghost use Rattle.flute_parts.specs.Laws.{AppendKeepsBelow, BelowIsReflexive, BelowIsTransitive, BelowBothWays};
+ghost use Rattle.flute_parts.specs.Laws.{OverIsMonotone, AbsentWhereNoneStands, ValueWhereAllAgree};
+ghost use Rattle.flute_parts.specs.Laws.{ConflictWhereTwoDiffer, ConflictWhereOneIsTold, AnswersStandThere};
+ghost use Rattle.flute_parts.specs.Laws.{RisingHasOneFact, RisingTellsItsFacts, RisingIsUnique};
+ghost use Rattle.flute_parts.specs.Laws.{PlacesAreInverse, IdsRise, IdsFollow, IdsAreCounted, FitsMeans, ValidHasNoFault};
 
 use crate::address::Address;
 use crate::key::Key;

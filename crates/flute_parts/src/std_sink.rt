@@ -35,7 +35,8 @@ impl<W: Write> StdSink<W> {
     ///
     /// `DeviceFault` where the writer failed. What it still holds is then not known.
     pub fn flush(&mut self) -> Result<(), DeviceFault>
-        ensures { ⟦<StdSink<W> as Sink>⟧.failures self.new ≡ ⟦<StdSink<W> as Sink>⟧.failures self.old + (if is_ok result then 0 else 1) }
+        ensures { ⟦<StdSink<W> as Sink>⟧.failures self.new
+            ≡ ⟦<StdSink<W> as Sink>⟧.failures self.old + (if is_ok result then 0 else 1) }
     {
         match self.writer.flush() {
             Ok(()) => Ok(()),
