@@ -1,5 +1,5 @@
 -- The program's status after a fault.
-use Rattle.std.specs.Prelude.{ℕ}
+use Rattle.std.specs.Prelude.{ℕ, ⊤}
 use Rattle.flutejoin.specs.declared.command_fault.CommandFault.{CommandFault}
 use Rattle.flutejoin.specs.declared.command_fault.CommandFault.TheVariants.{CommandLine, NotText, BadHex, Refused, OutOfMemory, CannotWrite}
 
@@ -11,3 +11,9 @@ status_of BadHex = 1
 status_of (Refused refusal) = 1
 status_of OutOfMemory = 3
 status_of CannotWrite = 3
+
+-- the faults of reading a command line
+abbrev pub IsLineFault : CommandFault → Type 0
+IsLineFault (CommandLine text) = ⊤
+IsLineFault OutOfMemory = ⊤
+IsLineFault _ = ⊥

@@ -1,4 +1,6 @@
 //! The command line.
+ghost use Rattle.std.specs.Prelude.{IfErr};
+ghost use Rattle.flutejoin.specs.Status.{IsLineFault};
 
 use crate::command_fault::CommandFault;
 use clap::error::ErrorKind;
@@ -23,18 +25,23 @@ pub enum Line<'a> {
 ///
 /// `CommandLine` with the parser's text where that refuses the words, or where they ask for help or the version, and
 /// `OutOfMemory`.
-pub fn line_of(alloc: Global, words: &[String]) -> Result<Line<'_>, CommandFault> {
+pub fn line_of(alloc: Global, words: &[String]) -> Result<Line<'_>, CommandFault>
+    ensures { IfErr result IsLineFault }
+{
     let command = command(alloc).map_err(parser_fault)?;
     let matches = command.try_get_matches_from(words).map_err(parser_fault)?;
     match matches.subcommand() {
         Some((_, matches)) => Ok(Line::Packet {
             hex: text(matches, "HEX"),
         }),
+        // The parser takes no line without a command.
         None => Err(CommandFault::OutOfMemory),
     }
 }
 
-fn parser_fault(error: clap::Error) -> CommandFault {
+fn parser_fault(error: clap::Error) -> CommandFault
+    ensures { IsLineFault result }
+{
     match error.kind() {
         ErrorKind::OutOfMemory => CommandFault::OutOfMemory,
         _ => CommandFault::CommandLine(error),
