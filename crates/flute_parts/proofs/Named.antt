@@ -17,7 +17,7 @@ module _ {X : Type 0} (same : X → X → Bool) (t : Tells same) (part : Address
   has-more x None xs h = h
   has-more x (Some y) xs h = in_tail same t x y xs h
 
-  named-member : (g : Fact) (G : List Fact) (x : X) → Member g G → part (address g) ≡ Some x → has same t x (named part G) ≡ true
+  pub named-member : (g : Fact) (G : List Fact) (x : X) → Member g G → part (address g) ≡ Some x → has same t x (named part G) ≡ true
   unfolding Member
   named-member g [] x m e = absurd m
   named-member g (f ∷ G) x (inl p) e =
@@ -32,7 +32,7 @@ module _ {X : Type 0} (same : X → X → Bool) (t : Tells same) (part : Address
     | inr e ↦ inr (sym (ap (λ b. b || has same t x xs) e) ∙ h)
   ]
 
-  named-names : (F : List Fact) (x : X) → has same t x (named part F) ≡ true → (f : Fact) × Member f F × (part (address f) ≡ Some x)
+  pub named-names : (F : List Fact) (x : X) → has same t x (named part F) ≡ true → (f : Fact) × Member f F × (part (address f) ≡ Some x)
   unfolding Member
   named-names [] x h = absurd (false≢true h)
   named-names (f ∷ F) x h = elim (has-split x (part (address f)) (named part F) h) [
