@@ -1,0 +1,125 @@
+-- What a list of facts comes to at an address, where the facts stand in the entries of a map.
+use Rattle.std.proofs.Common.{◌≡◌, ℕ, List, [], ◌∷◌, ◌++◌, Bool, true, false, cond, Option, Some, None, refl, sym, ap, ◌∙◌, subst, inl, inr, ◌⊎◌}
+use Rattle.std.specs.Prelude.{flat_map}
+use Rattle.std.specs.declared.cmp.Ordering.{Ordering}
+use Rattle.std.specs.declared.cmp.Ordering.TheVariants.{Less, Equal, Greater}
+use Rattle.std.specs.Ordering.{is_eq, eq_by_cmp}
+use Rattle.std.specs.Cmp.{IsTotalOrder, Equal-is, eq_by_cmp_equiv}
+use Rattle.std.proofs.lemmas.Cmp.{tied_itself}
+use Rattle.std.proofs.lemmas.Bool.{false≢true, cases_Bool}
+use Rattle.flute_parts.specs.declared.address.Address.{Address}
+use Rattle.flute_parts.specs.declared.fact.Fact.{Fact}
+use Rattle.flute_parts.specs.Order.{same_address}
+use Rattle.flute_parts.specs.Addresses.{address}
+use Rattle.flute_parts.specs.Facts.{fact_at, agreed, same_fact, conflict_at}
+use Rattle.flute_parts.specs.Equality.{address_same, address_itself}
+use Rattle.flute_parts.proofs.Joined.{joined, joined-none, joined_fact, joined-conflict_left, joined-conflict_right, joined-itself, fact_at-append}
+use Rattle.std.specs.Option.{option_map_or}
+use Rattle.std.specs.Map.{lookup, keys_of}
+use Rattle.std.specs.BTreeMap.{is_at}
+use Rattle.std.specs.List.Sorted.{IsStrictlySortedBy}
+use Rattle.std.proofs.lemmas.Map.{lookup-none}
+use Rattle.std.proofs.lemmas.Map.Entries.{none_past_head}
+use Rattle.std.proofs.lemmas.Map.Keys.{sorted_tail, IsDistinct-from_sorted}
+use Rattle.flute_join.specs.Cell.{cell_join}
+use Rattle.flute_join.specs.JoinMap.{map_join, value_at, IsOrdered, EachValue}
+use Rattle.flute_join.proofs.Ordered.{ordered-map_join}
+use Rattle.flute_join.proofs.Reading.{reading_at}
+use Rattle.flute_join.specs.declared.cell.Cell.{Cell}
+use Rattle.flute_join.specs.declared.cell.Cell.TheVariants.{Absent, One, Conflict}
+use Rattle.flute_store.specs.Content.{cell_facts}
+
+-- ---- facts that stand elsewhere
+
+pub at-nothing : (a : Address) → fact_at [] a ≡ None
+unfolding fact_at
+at-nothing a = refl
+
+pub at-one_here : (f : Fact) → fact_at (f ∷ []) (address f) ≡ Some f
+unfolding fact_at
+at-one_here f = ap (λ b. agreed (address f) (cond b (f ∷ []) [])) (address_itself (address f))
+
+at-one_elsewhere : (f : Fact) (a : Address) → same_address (address f) a ≡ false → fact_at (f ∷ []) a ≡ None
+unfolding fact_at
+at-one_elsewhere f a e = ap (λ b. agreed a (cond b (f ∷ []) [])) e
+
+-- no fact of the list stands at the address
+abbrev pub Elsewhere : Address → List Fact → Type 0
+Elsewhere a [] = Unit {0}
+Elsewhere a (f ∷ F) = (address f ≡ a → ⊥) × Elsewhere a F
+
+pub elsewhere-none : (a : Address) (F : List Fact) → Elsewhere a F → fact_at F a ≡ None
+elsewhere-none a [] h = at-nothing a
+elsewhere-none a (f ∷ F) h =
+    let apart : same_address (address f) a ≡ false = elim (cases_Bool (same_address (address f) a)) [
+      | inl e ↦ absurd (h.0 (address_same (address f) a e))
+      | inr e ↦ e
+    ] in
+    fact_at-append (f ∷ []) F a ∙ ap (λ x. joined a x (fact_at F a)) (at-one_elsewhere f a apart) ∙ elsewhere-none a F h.1
+
+pub elsewhere-append : (a : Address) (F G : List Fact) → Elsewhere a F → Elsewhere a G → Elsewhere a (F ++ G)
+elsewhere-append a [] G h k = k
+elsewhere-append a (f ∷ F) G h k = (h.0, elsewhere-append a F G h.1 k)
+
+pub elsewhere-flat_map : {E : Type 0} (a : Address) (f : E → List Fact) → ((e : E) → Elsewhere a (f e)) → (es : List E) → Elsewhere a (flat_map f es)
+elsewhere-flat_map a f h [] = tt
+elsewhere-flat_map a f h (e ∷ es) = elsewhere-append a (f e) (flat_map f es) (h e) (elsewhere-flat_map a f h es)
+
+-- ---- a cell
+module _ {T : Type 0} (told : T → Fact) (here : Address) where
+  pub elsewhere-cell : (a : Address) → ((v : T) → address (told v) ≡ a → ⊥) → (address (conflict_at here) ≡ a → ⊥) → (c : Cell T) → Elsewhere a (cell_facts told (conflict_at here) c)
+  elsewhere-cell a h k Absent = tt
+  elsewhere-cell a h k (One v) = (h v, tt)
+  elsewhere-cell a h k Conflict = (k, tt)
+
+  module _ (eq : T → T → Bool) (stands : (v : T) → address (told v) ≡ here) (clash : address (conflict_at here) ≡ here) (decides : (v w : T) → same_fact (told v) (told w) ≡ eq v w) where
+    abbrev facts : Cell T → List Fact
+    facts c = cell_facts told (conflict_at here) c
+
+    value : (v : T) → fact_at (told v ∷ []) here ≡ Some (told v)
+    value v = subst (λ a. fact_at (told v ∷ []) a ≡ Some (told v)) (stands v) (at-one_here (told v))
+
+    conflict : fact_at (conflict_at here ∷ []) here ≡ Some (conflict_at here)
+    conflict = subst (λ a. fact_at (conflict_at here ∷ []) a ≡ Some (conflict_at here)) clash (at-one_here (conflict_at here))
+
+    two_values : (v w : T) (b : Bool) → eq v w ≡ b → fact_at (facts (cond b (One v) Conflict)) here ≡ Some (cond b (told v) (conflict_at here))
+    two_values v w true e = value v
+    two_values v w false e = conflict
+
+    pub at-cell_join : (c d : Cell T) → fact_at (facts (cell_join eq c d)) here ≡ joined here (fact_at (facts c) here) (fact_at (facts d) here)
+    unfolding joined_fact
+    at-cell_join Absent d = sym (ap (λ x. joined here x (fact_at (facts d) here)) (at-nothing here))
+    at-cell_join (One v) Absent = sym (ap (joined here (fact_at (facts (One v)) here)) (at-nothing here) ∙ joined-none here (fact_at (facts (One v)) here))
+    at-cell_join (One v) (One w) =
+        two_values v w (eq v w) refl ∙ ap (λ b. Some (cond b (told v) (conflict_at here))) (sym (decides v w)) ∙ sym (λ i. joined here (value v i) (value w i))
+    at-cell_join (One v) Conflict = conflict ∙ sym ((λ i. joined here (value v i) (conflict i)) ∙ ap Some (joined-conflict_right here (told v)))
+    at-cell_join Conflict Absent = sym (ap (joined here (fact_at (facts Conflict) here)) (at-nothing here) ∙ joined-none here (fact_at (facts Conflict) here))
+    at-cell_join Conflict (One w) = conflict ∙ sym ((λ i. joined here (conflict i) (value w i)) ∙ ap Some (joined-conflict_left here (told w)))
+    at-cell_join Conflict Conflict = sym (joined-itself here (fact_at (facts Conflict) here))
+
+-- ---- the entries of a map
+module _ {K X : Type 0} {cmp : K → K → Ordering} (order : IsTotalOrder cmp) (same : (x y : K) → cmp x y ≡ Equal → x ≡ y) (f : K × X → List Fact) (a : Address) (q : K) (apart : (e : K × X) → (q ≡ e.0 → ⊥) → Elsewhere a (f e)) where
+  not_at : (e : K × X) → is_at (cmp q) e.0 ≡ false → q ≡ e.0 → ⊥
+  not_at e t p = false≢true (sym t ∙ ap (λ k. is_eq (cmp q k)) (sym p) ∙ ap is_eq (tied_itself order q))
+
+  absent_past : (p : K × X) (rest : List (K × X)) → IsOrdered cmp (p ∷ rest) → is_at (cmp q) p.0 ≡ true → value_at cmp rest q ≡ None
+  absent_past p rest s t = lookup-none (is_at (cmp q)) rest (none_past_head (eq_by_cmp_equiv order) q p rest (IsDistinct-from_sorted cmp (keys_of (p ∷ rest)) s) t)
+
+  at_head : (e : K × X) (es : List (K × X)) (b : Bool) → is_at (cmp q) e.0 ≡ b → IsOrdered cmp (e ∷ es) → fact_at (flat_map f es) a ≡ option_map_or (λ v. fact_at (f (q, v)) a) (value_at cmp es q) None
+      → fact_at (flat_map f (e ∷ es)) a ≡ option_map_or (λ v. fact_at (f (q, v)) a) (cond b (Some e.1) (value_at cmp es q)) None
+  at_head e es true t s ih =
+      let here : q ≡ e.0 = same q e.0 ((Equal-is (cmp q e.0)).0 t) in
+      let none : fact_at (flat_map f es) a ≡ None = ih ∙ ap (λ o. option_map_or (λ v. fact_at (f (q, v)) a) o None) (absent_past e es s t) in
+      fact_at-append (f e) (flat_map f es) a ∙ ap (joined a (fact_at (f e) a)) none ∙ joined-none a (fact_at (f e) a) ∙ ap (λ k. fact_at (f (k, e.1)) a) (sym here)
+  at_head e es false t s ih = fact_at-append (f e) (flat_map f es) a ∙ ap (λ x. joined a x (fact_at (flat_map f es) a)) (elsewhere-none a (f e) (apart e (not_at e t))) ∙ ih
+
+  pub at-entries : (es : List (K × X)) → IsOrdered cmp es → fact_at (flat_map f es) a ≡ option_map_or (λ v. fact_at (f (q, v)) a) (value_at cmp es q) None
+  at-entries [] s = at-nothing a
+  at-entries (e ∷ es) s = at_head e es (is_at (cmp q) e.0) refl s (at-entries es (sorted_tail cmp e.0 (keys_of es) s))
+
+  module _ (join : X → X → X) (P : X → Type 0) (keeps : (v w : X) → P v → P w → fact_at (f (q, join v w)) a ≡ joined a (fact_at (f (q, v)) a) (fact_at (f (q, w)) a)) where
+    pub at-map_join : (es fs : List (K × X)) → IsOrdered cmp es → IsOrdered cmp fs → EachValue P es → EachValue P fs → fact_at (flat_map f (map_join cmp join es fs)) a ≡ joined a (fact_at (flat_map f es) a) (fact_at (flat_map f fs) a)
+    at-map_join es fs s t x y =
+        at-entries (map_join cmp join es fs) (ordered-map_join order join es fs s t)
+        ∙ reading_at order join P (λ v. fact_at (f (q, v)) a) None (joined a) (λ c. refl) (joined-none a) keeps es fs q s t x y
+        ∙ sym (λ i. joined a (at-entries es s i) (at-entries fs t i))

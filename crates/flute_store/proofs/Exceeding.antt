@@ -1,0 +1,304 @@
+-- A store that passes the limits names more than they allow.
+use Rattle.std.proofs.Common.{◌≡◌, ◌≢◌, ℕ, ◌<◌, ◌≤◌, List, [], ◌∷◌, ◌++◌, length, Bool, true, false, cond, ◌||◌, Option, Some, None, unwrap_or, refl, sym, ap, ◌∙◌, subst, inl, inr, ◌⊎◌, arith, bytes_eq}
+use Rattle.std.specs.declared.cmp.Ordering.{Ordering}
+use Rattle.std.specs.declared.cmp.Ordering.TheVariants.{Less}
+use Rattle.std.specs.Ordering.{is_eq}
+use Rattle.std.specs.Cmp.{IsTotalOrder, eq_by_cmp_equiv}
+use Rattle.std.specs.Map.{keys_of}
+use Rattle.std.specs.List.Sorted.{IsStrictlySortedBy}
+use Rattle.flute_join.specs.Cell.{cell_join, IsKnown}
+use Rattle.flute_join.specs.JoinMap.{map_join, join_values, value_at, IsOrdered, EachValue, IsSound, MapOver}
+use Rattle.flute_join.proofs.Ordered.{ordered-map_join, EachValue-map_join}
+use Rattle.flute_join.specs.declared.cell.Cell.{Cell}
+use Rattle.flute_join.specs.declared.cell.Cell.TheVariants.{Absent, One, Conflict}
+use Rattle.flute_parts.specs.Session.{Session}
+use Rattle.flute_parts.specs.declared.object_key.ObjectName.{ObjectName}
+use Rattle.flute_parts.specs.declared.key.Key.{Key}
+use Rattle.flute_parts.specs.declared.symbol_id.SymbolId.{SymbolId}
+use Rattle.flute_parts.specs.Order.{session_cmp, object_cmp, symbol_id_cmp, same_symbol_id, same_session, same_object}
+use Rattle.flute_parts.specs.Addresses.{info_address, symbol_address, address}
+use Rattle.flute_parts.specs.Totality.{session_total, object_total, symbol_id_total}
+use Rattle.flute_parts.specs.Facts.{fact_at, same_information}
+use Rattle.flute_parts.specs.Equality.{session_place, object_place, symbol_id_place, key_itself, session_itself}
+use Rattle.flute_parts.specs.Limits.{Over, more_sessions, more_objects, more_symbols, session_of, object_of, symbol_of, sessions, objects, symbols}
+use Rattle.flute_parts.specs.Information.{Information}
+use Rattle.flute_parts.specs.declared.address.Part.{Part}
+use Rattle.flute_parts.specs.declared.address.Part.TheVariants.{Info as InfoPart, Symbol as SymbolPart}
+use Rattle.flute_parts.specs.declared.address.Address.{Address}
+use Rattle.flute_parts.specs.declared.fact.Fact.{Fact}
+use Rattle.flute_parts.specs.declared.fact.Fact.TheVariants.{Info, InfoConflict, Symbol, SymbolConflict}
+use Rattle.std.proofs.lemmas.Bool.{cases_Bool, false≢true}
+use Rattle.flute_parts.proofs.Counted.{Tells, has, Distinct}
+use Rattle.flute_parts.proofs.Facts.{Member, fact_at-some_named}
+use Rattle.flute_parts.proofs.Named.{session_tells, object_tells, symbol_id_tells}
+use Rattle.std.proofs.lemmas.Cmp.{tied_itself}
+use Rattle.std.specs.Option.{option_map_or}
+use Rattle.std.specs.BTreeMap.{is_at}
+use Rattle.std.specs.List.{AllByRecursion}
+use Rattle.std.proofs.lemmas.Map.{lookup-none}
+use Rattle.std.proofs.lemmas.Map.Entries.{none_past_head, length-keys_of}
+use Rattle.std.proofs.lemmas.Map.Keys.{sorted_tail, IsDistinct-from_sorted}
+use Rattle.flute_join.proofs.Sound.{each-value_at}
+use Rattle.flute_join.proofs.Values.{value_at-map_join}
+use Rattle.flute_join.proofs.Single.{none_is_not_some}
+use Rattle.flute_store.proofs.At.{at-one_here}
+use Rattle.flute_store.proofs.Counting.{count-ge, at-content, at-session, at-object}
+use Rattle.flute_store.specs.declared.object.Object.{Object}
+use Rattle.flute_store.specs.declared.object.News.{News}
+use Rattle.flute_store.specs.declared.object.Told.{Told}
+use Rattle.flute_store.specs.ObjectJoin.{object_join, ObjectOver, symbols_join, session_join, store_join, cells, object_join_laws, session_laws}
+use Rattle.flute_store.specs.Content.{key_of, info_facts, symbol_facts, object_facts, session_facts, content}
+use Rattle.flute_store.specs.News.{news_object, told_symbols, IsNews}
+use Rattle.flute_store.specs.WellFormed.{AreSymbols, IsObject, IsSession, IsStore}
+use Rattle.flute_store.specs.Beyond.{AnyValue, ObjectBeyond, SessionBeyond, StoreBeyond}
+use Rattle.flute_store.proofs.OnePair.{absent-right, some-right, known-join, known-told, told-some}
+use Rattle.flute_store.proofs.OneObject.{one_object, told-ordered}
+use Rattle.flute_store.proofs.StoreJoin.{EachValue-weaker, OrderedObject, OrderedSession, OrderedStore, object-info}
+
+-- something is known at each level, whatever the limits
+module _ {n : ℕ} where
+  pub record SolidObject (x : Object n) : Type 0 where
+    pub ordered : IsOrdered symbol_id_cmp x.symbols
+    pub each : EachValue IsKnown x.symbols
+    pub some : x.info ≡ Absent → x.symbols ≢ []
+
+  pub record SolidSession (os : List (ObjectName × Object n)) : Type 0 where
+    pub ordered : IsOrdered object_cmp os
+    pub each : EachValue SolidObject os
+    pub some : os ≢ []
+
+  pub record SolidStore (m : List (Session × List (ObjectName × Object n))) : Type 0 where
+    pub ordered : IsOrdered session_cmp m
+    pub each : EachValue SolidSession m
+
+  solid_object : (x : Object n) → IsObject x → SolidObject x
+  solid_object x p = record { ordered = p.symbols_are.ordered; each = p.symbols_are.each; some = p.some }
+
+  solid_session : (o : ℕ) (os : List (ObjectName × Object n)) → IsSession o os → SolidSession os
+  solid_session o os p = record { ordered = p.ordered; each = EachValue-weaker IsObject SolidObject solid_object os p.each; some = p.some }
+
+  pub solid-store : (s o : ℕ) (m : List (Session × List (ObjectName × Object n))) → IsStore s o m → SolidStore m
+  solid-store s o m p = record { ordered = p.ordered; each = EachValue-weaker (IsSession o) SolidSession (solid_session o) m p.each }
+
+  object-solid : (v w : Object n) → SolidObject v → SolidObject w → SolidObject (object_join v w)
+  object-solid v w p q = record {
+    ordered = ordered-map_join symbol_id_total (cell_join bytes_eq) v.symbols w.symbols p.ordered q.ordered;
+    each = EachValue-map_join symbol_id_cmp (cell_join bytes_eq) IsKnown (λ c d x y. known-join bytes_eq c d x) v.symbols w.symbols p.each q.each;
+    some = λ e. some-right symbol_id_total symbol_id_place cells v.symbols w.symbols (q.some (absent-right same_information v.info w.info e));
+  }
+
+  session-solid : (v w : List (ObjectName × Object n)) → SolidSession v → SolidSession w → SolidSession (session_join v w)
+  session-solid v w p q = record {
+    ordered = ordered-map_join object_total object_join v w p.ordered q.ordered;
+    each = EachValue-map_join object_cmp object_join SolidObject object-solid v w p.each q.each;
+    some = some-right object_total object_place (object_join_laws n) v w q.some;
+  }
+
+  pub solid-join : (v w : List (Session × List (ObjectName × Object n))) → SolidStore v → SolidStore w → SolidStore (store_join v w)
+  solid-join v w p q = record {
+    ordered = ordered-map_join session_total session_join v w p.ordered q.ordered;
+    each = EachValue-map_join session_cmp session_join SolidSession session-solid v w p.each q.each;
+  }
+
+told-known : (o : Option (SymbolId × Told)) → EachValue IsKnown (told_symbols o)
+told-known None = tt
+told-known (Some (id, t)) = (known-told t, tt)
+
+pub solid-one : (n : ℕ) (key : Key) (news : News) → IsNews news → SolidStore (one_object n key news)
+unfolding IsStrictlySortedBy
+solid-one n key news h = record {
+  ordered = (tt, tt);
+  each = (
+    record {
+      ordered = (tt, tt);
+      each = (record { ordered = told-ordered news.symbol; each = told-known news.symbol; some = λ e. told-some news.symbol (h e) }, tt);
+      some = λ e. cc;
+    },
+    tt,
+  );
+}
+
+-- ---- looking up
+module _ {K : Type 0} (cmp : K → K → Ordering) (t : Tells (λ a b. is_eq (cmp a b))) where
+  not_below : (k : K) (ks : List K) → AllByRecursion (λ y. cmp k y ≡ Less) ks → has (λ a b. is_eq (cmp a b)) t k ks ≡ false
+  not_below k [] a = refl
+  not_below k (y ∷ ks) a = ap (λ o. is_eq o || has (λ a b. is_eq (cmp a b)) t k ks) a.0 ∙ not_below k ks a.1
+
+  pub distinct : (ks : List K) → IsStrictlySortedBy cmp ks → Distinct (λ a b. is_eq (cmp a b)) t ks
+  unfolding IsStrictlySortedBy
+  distinct [] s = tt
+  distinct (k ∷ ks) s = (not_below k ks s.0, distinct ks s.1)
+
+module _ {K X : Type 0} {cmp : K → K → Ordering} (order : IsTotalOrder cmp) (t : Tells (λ a b. is_eq (cmp a b))) where
+  pub first_value : (e : K × X) (es : List (K × X)) → value_at cmp (e ∷ es) e.0 ≡ Some e.1
+  first_value e es = ap (λ o. cond (is_eq o) (Some e.1) (value_at cmp es e.0)) (tied_itself order e.0)
+
+  key_or_not : (es : List (K × X)) (k : K) → ((v : X) × (value_at cmp es k ≡ Some v)) ⊎ (has (λ a b. is_eq (cmp a b)) t k (keys_of es) ≡ false)
+  key_or_not [] k = inr refl
+  key_or_not (e ∷ es) k = elim (cases_Bool (is_eq (cmp k e.0))) [
+    | inl b ↦ inl (e.1, ap (λ c. cond c (Some e.1) (value_at cmp es k)) b)
+    | inr b ↦ elim (key_or_not es k) [
+      | inl f ↦ inl (f.0, ap (λ c. cond c (Some e.1) (value_at cmp es k)) b ∙ f.1)
+      | inr f ↦ inr (ap (λ c. c || has (λ a b. is_eq (cmp a b)) t k (keys_of es)) b ∙ f)
+    ]
+  ]
+
+  pub has-value_at : (es : List (K × X)) (k : K) → has (λ a b. is_eq (cmp a b)) t k (keys_of es) ≡ true → (v : X) × (value_at cmp es k ≡ Some v)
+  has-value_at es k h = elim (key_or_not es k) [
+    | inl f ↦ f
+    | inr f ↦ absurd (false≢true (sym f ∙ h))
+  ]
+
+  absent_past : (p : K × X) (rest : List (K × X)) (q : K) → IsOrdered cmp (p ∷ rest) → is_at (cmp q) p.0 ≡ true → value_at cmp rest q ≡ None
+  absent_past p rest q s t = lookup-none (is_at (cmp q)) rest (none_past_head (eq_by_cmp_equiv order) q p rest (IsDistinct-from_sorted cmp (keys_of (p ∷ rest)) s) t)
+
+  pub any-value : (B : X → Type 0) (es : List (K × X)) → IsOrdered cmp es → AnyValue B es → (k : K) × (v : X) × (value_at cmp es k ≡ Some v) × B v
+  any-value B [] s a = absurd a
+  any-value B (e ∷ es) s (inl b) = (e.0, e.1, first_value e es, b)
+  any-value B (e ∷ es) s (inr a) =
+      let r = any-value B es (sorted_tail cmp e.0 (keys_of es) s) a in
+      elim (cases_Bool (is_at (cmp r.0) e.0)) [
+        | inl b ↦ absurd (none_is_not_some r.1 (sym (absent_past e es r.0 s b) ∙ r.2))
+        | inr b ↦ (r.0, r.1, ap (λ c. cond c (Some e.1) (value_at cmp es r.0)) b ∙ r.2, r.3)
+      ]
+
+-- ---- what stands
+info_stands : (key : Key) (c : Cell Information) → IsKnown c → fact_at (info_facts key c) (info_address key) ≢ None
+info_stands key Absent h e = h refl
+info_stands key (One i) h e = none_is_not_some (Info key i) (sym e ∙ at-one_here (Info key i))
+info_stands key Conflict h e = none_is_not_some (InfoConflict key) (sym e ∙ at-one_here (InfoConflict key))
+
+cell_stands : (key : Key) (id : SymbolId) (c : Cell (List ℕ)) → IsKnown c → fact_at (symbol_facts key id c) (symbol_address key id) ≢ None
+cell_stands key id Absent h e = h refl
+cell_stands key id (One b) h e = none_is_not_some (Symbol key id b) (sym e ∙ at-one_here (Symbol key id b))
+cell_stands key id Conflict h e = none_is_not_some (SymbolConflict key id) (sym e ∙ at-one_here (SymbolConflict key id))
+
+known_or_absent : {T : Type 0} (c : Cell T) → (c ≡ Absent) ⊎ IsKnown c
+known_or_absent Absent = inl refl
+known_or_absent (One v) = inr (λ e. cc)
+known_or_absent Conflict = inr (λ e. cc)
+
+a_fact : (F : List Fact) (a : Address) → fact_at F a ≢ None → (f : Fact) × Member f F × (address f ≡ a)
+a_fact F a h = elim (fact_at-some_named F a) [
+  | inl n ↦ n
+  | inr e ↦ absurd (h e)
+]
+
+module _ {n : ℕ} (m : List (Session × List (ObjectName × Object n))) (p : SolidStore m) where
+  ordered_session : (os : List (ObjectName × Object n)) → SolidSession os → OrderedSession os
+  ordered_session os q = record { ordered = q.ordered; each = EachValue-weaker SolidObject OrderedObject (λ x r. r.ordered) os q.each }
+
+  ordered_store : OrderedStore m
+  ordered_store = record { ordered = p.ordered; each = EachValue-weaker SolidSession OrderedSession ordered_session m p.each }
+
+  module _ (s : Session) (os : List (ObjectName × Object n)) (f : value_at session_cmp m s ≡ Some os) where
+    q : SolidSession os
+    q = each-value_at session_cmp SolidSession m s os p.each f
+
+    module _ (o : ObjectName) (x : Object n) (h : value_at object_cmp os o ≡ Some x) where
+      r : SolidObject x
+      r = each-value_at object_cmp SolidObject os o x q.each h
+
+      at-held : (part : Part) → fact_at (content m) (record { key = key_of s o; part = part }) ≡ fact_at (object_facts (key_of s o) x) (record { key = key_of s o; part = part })
+      at-held part =
+          let a : Address = record { key = key_of s o; part = part } in
+          at-content m a ordered_store ∙ ap (λ z. option_map_or (λ os. fact_at (session_facts s os) a) z None) f
+          ∙ at-session os a (ordered_session os q) ∙ ap (λ z. option_map_or (λ v. fact_at (object_facts (key_of s o) v) a) z None) h
+
+      symbol_stands : (id : SymbolId) (c : Cell (List ℕ)) → value_at symbol_id_cmp x.symbols id ≡ Some c → IsKnown c → fact_at (content m) (symbol_address (key_of s o) id) ≢ None
+      symbol_stands id c g k e =
+          let key = key_of s o in
+          cell_stands key id c k (sym (at-held (SymbolPart id) ∙ at-object x key id r.ordered ∙ ap (λ z. option_map_or (λ c. fact_at (symbol_facts key id c) (symbol_address key id)) z None) g) ∙ e)
+
+      first_stands : (es : List (SymbolId × Cell (List ℕ))) → es ≡ x.symbols → es ≢ [] → (part : Part) × (fact_at (content m) (record { key = key_of s o; part = part }) ≢ None)
+      first_stands [] e h = absurd (h refl)
+      first_stands (d ∷ es) e h =
+          let found = subst (λ l. value_at symbol_id_cmp l d.0 ≡ Some d.1) e (first_value symbol_id_total symbol_id_tells d es) in
+          (SymbolPart d.0, symbol_stands d.0 d.1 found (each-value_at symbol_id_cmp IsKnown x.symbols d.0 d.1 r.each found))
+
+      object_stands : (part : Part) × (fact_at (content m) (record { key = key_of s o; part = part }) ≢ None)
+      object_stands = elim (known_or_absent x.info) [
+        | inl e ↦ first_stands x.symbols refl (r.some e)
+        | inr k ↦ (InfoPart, λ e. info_stands (key_of s o) x.info k (sym (at-held InfoPart ∙ object-info (key_of s o) x) ∙ e))
+      ]
+
+      symbols_named : n < length x.symbols → n < length (symbols (content m) (key_of s o))
+      unfolding symbols
+      symbols_named l =
+          let key = key_of s o in
+          let c = count-ge same_symbol_id symbol_id_tells (symbol_of key) (content m) (keys_of x.symbols) (distinct symbol_id_cmp symbol_id_tells (keys_of x.symbols) r.ordered) (λ id k.
+          let found = has-value_at symbol_id_total symbol_id_tells x.symbols id k in
+          let fact = a_fact (content m) (symbol_address key id) (symbol_stands id found.0 found.1 (each-value_at symbol_id_cmp IsKnown x.symbols id found.0 r.each found.1)) in
+          (fact.0, fact.1, ap (symbol_of key) fact.2 ∙ ap (λ b. cond b (Some id) None) (key_itself key))) in
+          omega (arith, c, length-keys_of x.symbols)
+
+    first_object : (es : List (ObjectName × Object n)) → es ≡ os → es ≢ [] → (key : Key) × (part : Part) × (key.session ≡ s) × (fact_at (content m) (record { key = key; part = part }) ≢ None)
+    first_object [] e h = absurd (h refl)
+    first_object (d ∷ es) e h =
+        let stands = object_stands d.0 d.1 (subst (λ l. value_at object_cmp l d.0 ≡ Some d.1) e (first_value object_total object_tells d es)) in
+        (key_of s d.0, stands.0, refl, stands.1)
+
+    objects_named : (o : ℕ) → o < length os → o < length (objects (content m) s)
+    unfolding objects
+    objects_named o l =
+        let c = count-ge same_object object_tells (object_of s) (content m) (keys_of os) (distinct object_cmp object_tells (keys_of os) q.ordered) (λ k h.
+        let found = has-value_at object_total object_tells os k h in
+        let stands = object_stands k found.0 found.1 in
+        let fact = a_fact (content m) (record { key = key_of s k; part = stands.0 }) stands.1 in
+        (fact.0, fact.1, ap (object_of s) fact.2 ∙ ap (λ b. cond b (Some k) None) (session_itself s))) in
+        omega (arith, c, length-keys_of os)
+
+  sessions_named : (s : ℕ) → s < length m → s < length (sessions (content m))
+  unfolding sessions
+  sessions_named s l =
+      let c = count-ge same_session session_tells session_of (content m) (keys_of m) (distinct session_cmp session_tells (keys_of m) p.ordered) (λ k h.
+      let found = has-value_at session_total session_tells m k h in
+      let solid = each-value_at session_cmp SolidSession m k found.0 p.each found.1 in
+      let stands = first_object k found.0 found.1 found.0 refl solid.some in
+      let fact = a_fact (content m) (record { key = stands.0; part = stands.1 }) stands.3 in
+      (fact.0, fact.1, ap session_of fact.2 ∙ ap Some stands.2)) in
+      omega (arith, c, length-keys_of m)
+
+  in_object : (s o : ℕ) (session : Session) (os : List (ObjectName × Object n)) → value_at session_cmp m session ≡ Some os → SessionBeyond o os → Over (content m) s o n
+  in_object s o session os f (inl l) = more_objects session (objects_named session os f o l)
+  in_object s o session os f (inr a) =
+      let solid = each-value_at session_cmp SolidSession m session os p.each f in
+      let found = any-value object_total object_tells ObjectBeyond os solid.ordered a in
+      more_symbols (key_of session found.0) (symbols_named session os f found.0 found.1 found.2 found.3)
+
+  pub beyond-over_at : (s o : ℕ) → StoreBeyond s o m → Over (content m) s o n
+  beyond-over_at s o (inl l) = more_sessions (sessions_named s l)
+  beyond-over_at s o (inr a) =
+      let found = any-value session_total session_tells (SessionBeyond o) m p.ordered a in
+      in_object s o found.0 found.1 found.2 found.3
+
+pub beyond-over : {n : ℕ} (s o : ℕ) (m : List (Session × List (ObjectName × Object n))) → SolidStore m → StoreBeyond s o m → Over (content m) s o n
+beyond-over s o m p b = beyond-over_at m p s o b
+
+-- ---- a join that the limits forbid passes them
+module _ {K X : Type 0} (cmp : K → K → Ordering) (B : X → Type 0) where
+  any_first : (b : Bool) (e : K × X) (es : List (K × X)) (o : Option X) (v : X) → cond b (Some e.1) o ≡ Some v → B v → (o ≡ Some v → AnyValue B es) → AnyValue B (e ∷ es)
+  any_first true e es o v f p h = inl (subst B (ap (λ z. unwrap_or z v) (sym f)) p)
+  any_first false e es o v f p h = inr (h f)
+
+  pub any-value_at : (es : List (K × X)) (k : K) (v : X) → value_at cmp es k ≡ Some v → B v → AnyValue B es
+  any-value_at [] k v f p = absurd (none_is_not_some v f)
+  any-value_at (e ∷ es) k v f p = any_first (is_eq (cmp k e.0)) e es (value_at cmp es k) v f p (λ g. any-value_at es k v g p)
+
+module _ {K X : Type 0} {cmp : K → K → Ordering} (order : IsTotalOrder cmp) (join : X → X → X) (limit : ℕ) (over : X → X → Type 0) (P B : X → Type 0) (beyond : (v w : X) → P v → P w → over v w → B (join v w)) where
+  pub map_over-beyond : (es fs : List (K × X)) → IsOrdered cmp es → IsOrdered cmp fs → EachValue P es → EachValue P fs → MapOver cmp join limit over es fs → (limit < length (map_join cmp join es fs)) ⊎ AnyValue B (map_join cmp join es fs)
+  map_over-beyond es fs s t a b (inl l) = inl l
+  map_over-beyond es fs s t a b (inr (q, v, w, f, g, o)) =
+      inr (any-value_at cmp B (map_join cmp join es fs) q (join v w) (value_at-map_join order join es fs q s t ∙ (λ i. join_values join (f i) (g i)))
+      (beyond v w (each-value_at cmp P es q v a f) (each-value_at cmp P fs q w b g) o))
+
+module _ {n : ℕ} where
+  object_over : (v w : Object n) → SolidObject v → SolidObject w → ObjectOver v w → ObjectBeyond (object_join v w)
+  object_over v w p q (inl l) = l
+  object_over v w p q (inr (k, c, d, f, g, o)) = absurd o
+
+  session_over : (o : ℕ) (v w : List (ObjectName × Object n)) → SolidSession v → SolidSession w → MapOver object_cmp object_join o ObjectOver v w → SessionBeyond o (session_join v w)
+  session_over o v w p q h = map_over-beyond object_total object_join o ObjectOver SolidObject ObjectBeyond object_over v w p.ordered q.ordered p.each q.each h
+
+  pub over-beyond : (s o : ℕ) (v w : List (Session × List (ObjectName × Object n))) → SolidStore v → SolidStore w → MapOver session_cmp session_join s (MapOver object_cmp object_join o ObjectOver) v w → StoreBeyond s o (store_join v w)
+  over-beyond s o v w p q h = map_over-beyond session_total session_join s (MapOver object_cmp object_join o ObjectOver) SolidSession (SessionBeyond o) (session_over o) v w p.ordered q.ordered p.each q.each h

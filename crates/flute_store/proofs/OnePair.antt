@@ -1,0 +1,124 @@
+-- One pair joined into a map: the outcome is sound, or passes a limit.
+use Rattle.std.proofs.Common.{◌≡◌, ◌≢◌, ℕ, ◌+◌, ◌<◌, ◌≤◌, List, [], ◌∷◌, length, Bool, true, false, cond, Option, Some, None, unwrap_or, Result, Ok, Err, OnOk, OnErr, refl, sym, ap, ◌∙◌, subst, inl, inr, ◌⊎◌, arith}
+use Rattle.std.specs.declared.cmp.Ordering.{Ordering}
+use Rattle.std.specs.declared.cmp.Ordering.TheVariants.{Less, Equal, Greater}
+use Rattle.std.specs.Ordering.{match_ordering}
+use Rattle.std.specs.Cmp.{IsTotalOrder}
+use Rattle.std.specs.Map.{set_value}
+use Rattle.std.specs.BTreeMap.{is_at, insert_entry}
+use Rattle.std.proofs.lemmas.Map.{length-set_value}
+use Rattle.flute_join.specs.Semilattice.{IsJoin, IsBelow}
+use Rattle.flute_join.specs.JoinMap.{map_join, value_at, IsOrdered, EachValue, IsSound}
+use Rattle.flute_join.specs.MapLaws.{map_join_laws}
+use Rattle.flute_join.proofs.Below.{below_join}
+use Rattle.flute_join.proofs.Ordered.{ordered-map_join}
+use Rattle.flute_join.proofs.Sound.{each-set_value, each-insert_entry, some_above}
+use Rattle.flute_join.proofs.Single.{none_is_not_some, single_held, single_new, length_new}
+use Rattle.flute_join.proofs.Walk.{ordered_one}
+use Rattle.flute_join.specs.Cell.{cell_join, IsKnown}
+use Rattle.flute_join.specs.declared.cell.Cell.{Cell}
+use Rattle.flute_join.specs.declared.cell.Cell.TheVariants.{Absent, One, Conflict}
+use Rattle.flute_parts.specs.declared.symbol_id.SymbolId.{SymbolId}
+use Rattle.flute_store.specs.declared.object.Told.{Told}
+use Rattle.flute_store.specs.declared.object.Told.TheVariants.{One as OneTold, Conflict as ConflictTold}
+use Rattle.flute_store.specs.News.{told_cell, told_symbols}
+use Rattle.flute_store.specs.Beyond.{AnyValue}
+
+module _ {K X : Type 0} (cmp : K → K → Ordering) (B : X → Type 0) where
+  found_any : (b : Bool) (e : K × X) (es fs : List (K × X)) (o : Option X) (v w : X) → cond b (Some e.1) o ≡ Some v → B w → (o ≡ Some v → AnyValue B fs) → AnyValue B (cond b ((e.0, w) ∷ es) (e ∷ fs))
+  found_any true e es fs o v w f p h = inl p
+  found_any false e es fs o v w f p h = inr (h f)
+
+  pub any-set_value : (es : List (K × X)) (k : K) (v w : X) → value_at cmp es k ≡ Some v → B w → AnyValue B (set_value (is_at (cmp k)) es w)
+  any-set_value [] k v w f p = absurd (none_is_not_some v f)
+  any-set_value (e ∷ es) k v w f p = found_any (is_at (cmp k) e.0) e es (set_value (is_at (cmp k)) es w) (value_at cmp es k) v w f p (λ g. any-set_value es k v w g p)
+
+  put_any : (r : Ordering) (k : K) (e : K × X) (es fs : List (K × X)) (w : X) → B w → AnyValue B fs → AnyValue B (match_ordering r ((k, w) ∷ e ∷ es) ((e.0, w) ∷ es) (e ∷ fs))
+  put_any Less k e es fs w p a = inl p
+  put_any Equal k e es fs w p a = inl p
+  put_any Greater k e es fs w p a = inr a
+
+  pub any-insert_entry : (es : List (K × X)) (k : K) (w : X) → B w → AnyValue B (insert_entry cmp es k w)
+  any-insert_entry [] k w p = inl p
+  any-insert_entry (e ∷ es) k w p = put_any (cmp k e.0) k e es (insert_entry cmp es k w) w p (any-insert_entry es k w p)
+
+module _ {K X : Type 0} {cmp : K → K → Ordering} (order : IsTotalOrder cmp) (same : (x y : K) → cmp x y ≡ Equal → x ≡ y) {join : X → X → X} (laws : IsJoin join) where
+  pub some-right : (es fs : List (K × X)) → fs ≢ [] → map_join cmp join es fs ≢ []
+  some-right es fs h =
+      let all = map_join_laws order same laws in
+      some_above order join fs (map_join cmp join es fs) (subst (IsBelow (map_join cmp join) fs) (all.commutative fs es) (below_join all fs es)) h
+
+module _ {K X : Type 0} {cmp : K → K → Ordering} (order : IsTotalOrder cmp) (same : (x y : K) → cmp x y ≡ Equal → x ≡ y) {join : X → X → X} (laws : IsJoin join) (es : List (K × X)) (k : K) (w : X) where
+  abbrev J : List (K × X)
+  J = map_join cmp join es ((k, w) ∷ [])
+
+  module _ (s : IsOrdered cmp es) where
+    joined-ordered : IsOrdered cmp J
+    joined-ordered = ordered-map_join order join es ((k, w) ∷ []) s (ordered_one order same laws (k, w))
+
+    joined-some : J ≢ []
+    joined-some = some-right order same laws es ((k, w) ∷ []) (λ e. cc)
+
+    pub held-sound : (limit : ℕ) (P : X → Type 0) (v : X) → value_at cmp es k ≡ Some v → length es ≤ limit → EachValue P es → P (join v w) → IsSound cmp limit P J
+    held-sound limit P v f within a p =
+        let is = single_held order laws es k v w s f in
+        let same_length : length J ≡ length es = ap length is ∙ length-set_value (is_at (cmp k)) es (join v w) in
+        record {
+          ordered = joined-ordered;
+          within = omega arith;
+          some = joined-some;
+          each = subst (EachValue P) (sym is) (each-set_value cmp P (is_at (cmp k)) es (join v w) a p);
+        }
+
+    pub new-sound : (limit : ℕ) (P : X → Type 0) → value_at cmp es k ≡ None → length es < limit → EachValue P es → P w → IsSound cmp limit P J
+    new-sound limit P f room a p =
+        let is = single_new order laws es k w f in
+        let longer : length J ≡ length es + 1 = ap length is ∙ length_new order laws same limit (λ _ _. ⊥) es k w f in
+        record {
+          ordered = joined-ordered;
+          within = omega arith;
+          some = joined-some;
+          each = subst (EachValue P) (sym is) (each-insert_entry cmp P es k w a p);
+        }
+
+    pub held-beyond : (B : X → Type 0) (v : X) → value_at cmp es k ≡ Some v → B (join v w) → AnyValue B J
+    held-beyond B v f p = subst (AnyValue B) (sym (single_held order laws es k v w s f)) (any-set_value cmp B es k v (join v w) f p)
+
+  pub new-beyond : (B : X → Type 0) → value_at cmp es k ≡ None → B w → AnyValue B J
+  new-beyond B f p = subst (AnyValue B) (sym (single_new order laws es k w f)) (any-insert_entry cmp B es k w p)
+
+  pub full-beyond : (limit : ℕ) → value_at cmp es k ≡ None → length es ≡ limit → limit < length J
+  full-beyond limit f full =
+      let longer : length J ≡ length es + 1 = ap length (single_new order laws es k w f) ∙ length_new order laws same limit (λ _ _. ⊥) es k w f in
+      omega arith
+
+-- ---- cells
+pub absent-right : {T : Type 0} (eq : T → T → Bool) (c d : Cell T) → cell_join eq c d ≡ Absent → d ≡ Absent
+absent-right eq Absent d e = e
+absent-right eq (One x) Absent e = refl
+absent-right eq (One x) (One y) e = absurd (no_choice (eq x y) x e)
+  where
+    no_choice : {T : Type 0} (b : Bool) (x : T) → cond b (One x) Conflict ≡ Absent → ⊥
+    no_choice true x e = cc
+    no_choice false x e = cc
+absent-right eq (One x) Conflict e = cc
+absent-right eq Conflict d e = cc
+
+pub told-some : (o : Option (SymbolId × Told)) → o ≢ None → told_symbols o ≢ []
+told-some None h = λ e. h refl
+told-some (Some t) h = λ e. cc
+
+pub known-join : {T : Type 0} (eq : T → T → Bool) (c d : Cell T) → IsKnown c → IsKnown (cell_join eq c d)
+known-join eq Absent d h = absurd (h refl)
+known-join eq (One x) Absent h = h
+known-join eq (One x) (One y) h = known_choice (eq x y) x
+  where
+    known_choice : {T : Type 0} (b : Bool) (x : T) → IsKnown (cond b (One x) Conflict)
+    known_choice true x e = cc
+    known_choice false x e = cc
+known-join eq (One x) Conflict h = λ e. cc
+known-join eq Conflict d h = h
+
+pub known-told : (t : Told) → IsKnown (told_cell t)
+known-told (OneTold bytes) = λ e. cc
+known-told ConflictTold = λ e. cc

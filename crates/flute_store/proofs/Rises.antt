@@ -1,0 +1,124 @@
+-- The content of a store rises.
+use Rattle.std.proofs.Common.{◌≡◌, ℕ, List, [], ◌∷◌, ◌++◌, refl, sym, ap, ◌∙◌, subst}
+use Rattle.std.specs.Prelude.{flat_map}
+use Rattle.std.specs.declared.cmp.Ordering.{Ordering}
+use Rattle.std.specs.declared.cmp.Ordering.TheVariants.{Less, Equal}
+use Rattle.std.specs.Ordering.{ordering_then}
+use Rattle.flute_parts.specs.Totality.{session_total, object_total, symbol_id_total}
+use Rattle.flute_parts.specs.Information.{Information}
+use Rattle.flute_parts.specs.Session.{Session}
+use Rattle.flute_parts.specs.declared.object_key.ObjectName.{ObjectName}
+use Rattle.flute_parts.specs.declared.key.Key.{Key}
+use Rattle.flute_parts.specs.declared.symbol_id.SymbolId.{SymbolId}
+use Rattle.flute_parts.specs.declared.address.Address.{Address}
+use Rattle.flute_parts.specs.declared.fact.Fact.{Fact}
+use Rattle.flute_parts.specs.Order.{session_cmp, object_cmp, key_cmp, symbol_id_cmp, part_cmp, address_cmp}
+use Rattle.flute_parts.specs.Addresses.{info_address, symbol_address, address}
+use Rattle.flute_parts.specs.Facts.{StandAfter, IsRising}
+use Rattle.std.proofs.lemmas.Cmp.{tied_itself}
+use Rattle.std.specs.Map.{keys_of}
+use Rattle.std.specs.List.{AllByRecursion}
+use Rattle.std.specs.List.Sorted.{IsStrictlySortedBy}
+use Rattle.flute_join.specs.JoinMap.{IsOrdered, EachValue}
+use Rattle.flute_join.specs.declared.cell.Cell.{Cell}
+use Rattle.flute_join.specs.declared.cell.Cell.TheVariants.{Absent, One, Conflict}
+use Rattle.flute_store.specs.declared.object.Object.{Object}
+use Rattle.flute_store.specs.Content.{key_of, cell_facts, info_facts, symbol_facts, symbols_facts, object_facts, session_facts, content}
+use Rattle.flute_store.proofs.StoreJoin.{OrderedObject, OrderedSession, OrderedStore}
+
+-- P holds of each address
+abbrev pub Stand : (Address → Type 0) → List Fact → Type 0
+Stand P [] = Unit {0}
+Stand P (f ∷ F) = P (address f) × Stand P F
+
+stand-append : (P : Address → Type 0) (F G : List Fact) → Stand P F → Stand P G → Stand P (F ++ G)
+stand-append P [] G h k = k
+stand-append P (f ∷ F) G h k = (h.0, stand-append P F G h.1 k)
+
+stand-flat_map : {E : Type 0} (P : Address → Type 0) (f : E → List Fact) → ((e : E) → Stand P (f e)) → (es : List E) → Stand P (flat_map f es)
+stand-flat_map P f h [] = tt
+stand-flat_map P f h (e ∷ es) = stand-append P (f e) (flat_map f es) (h e) (stand-flat_map P f h es)
+
+after-append : (a : Address) (F G : List Fact) → StandAfter a F → StandAfter a G → StandAfter a (F ++ G)
+after-append a [] G h k = k
+after-append a (f ∷ F) G h k = (h.0, after-append a F G h.1 k)
+
+rising-append : (F G : List Fact) → IsRising F → IsRising G → Stand (λ a. StandAfter a G) F → IsRising (F ++ G)
+rising-append [] G h k b = k
+rising-append (f ∷ F) G h k b = (after-append (address f) F G h.0 b.0, rising-append F G h.1 k b.1)
+
+stand-weaker : (P Q : Address → Type 0) → ((a : Address) → P a → Q a) → (F : List Fact) → Stand P F → Stand Q F
+stand-weaker P Q h [] s = tt
+stand-weaker P Q h (f ∷ F) s = (h (address f) s.0, stand-weaker P Q h F s.1)
+
+-- groups of facts, by key
+module _ {K X : Type 0} (cmp : K → K → Ordering) (f : K × X → List Fact) (In : K → Address → Type 0) (P : X → Type 0) (rises : (e : K × X) → P e.1 → IsRising (f e)) (within : (e : K × X) → Stand (In e.0) (f e))
+    (order : (j k : K) (a b : Address) → In j a → In k b → cmp j k ≡ Less → address_cmp a b ≡ Less) where
+  after_group : (a : Address) (j k : K) (F : List Fact) → In j a → cmp j k ≡ Less → Stand (In k) F → StandAfter a F
+  after_group a j k [] i l s = tt
+  after_group a j k (g ∷ F) i l s = (order j k a (address g) i s.0 l, after_group a j k F i l s.1)
+
+  after_groups : (a : Address) (j : K) → In j a → (es : List (K × X)) → AllByRecursion (λ y. cmp j y ≡ Less) (keys_of es) → StandAfter a (flat_map f es)
+  after_groups a j i [] s = tt
+  after_groups a j i (e ∷ es) s = after-append a (f e) (flat_map f es) (after_group a j e.0 (f e) i s.0 (within e)) (after_groups a j i es s.1)
+
+  pub groups-rise : (es : List (K × X)) → IsOrdered cmp es → EachValue P es → IsRising (flat_map f es)
+  unfolding IsStrictlySortedBy
+  groups-rise [] s p = tt
+  groups-rise (e ∷ es) s p =
+      rising-append (f e) (flat_map f es) (rises e p.0) (groups-rise es s.1 p.1) (stand-weaker (In e.0) (λ a. StandAfter a (flat_map f es)) (λ a i. after_groups a e.0 i es s.0) (f e) (within e))
+
+same_key : (key : Key) → key_cmp key key ≡ Equal
+same_key key = ap (λ o. ordering_then o (object_cmp key.object key.object)) (tied_itself session_total key.session) ∙ tied_itself object_total key.object
+
+cell-rises : {T : Type 0} (told : T → Fact) (clash : Fact) (c : Cell T) → IsRising (cell_facts told clash c)
+cell-rises told clash Absent = tt
+cell-rises told clash (One v) = (tt, tt)
+cell-rises told clash Conflict = (tt, tt)
+
+cell-stands : {T : Type 0} (P : Address → Type 0) (told : T → Fact) (clash : Fact) → ((v : T) → P (address (told v))) → P (address clash) → (c : Cell T) → Stand P (cell_facts told clash c)
+cell-stands P told clash h k Absent = tt
+cell-stands P told clash h k (One v) = (h v, tt)
+cell-stands P told clash h k Conflict = (k, tt)
+
+any_value : {K X : Type 0} (es : List (K × X)) → EachValue (λ _. Unit {0}) es
+any_value [] = tt
+any_value (e ∷ es) = (tt, any_value es)
+
+after_info : (key : Key) (F : List Fact) → Stand (λ b. (id : SymbolId) × (b ≡ symbol_address key id)) F → StandAfter (info_address key) F
+after_info key [] s = tt
+after_info key (f ∷ F) s = (ap (address_cmp (info_address key)) s.0.1 ∙ ap (λ o. ordering_then o Less) (same_key key), after_info key F s.1)
+
+module _ {n : ℕ} where
+  object-rises : (key : Key) (x : Object n) → OrderedObject x → IsRising (object_facts key x)
+  object-rises key x p =
+      rising-append (info_facts key x.info) (symbols_facts key x.symbols) (cell-rises _ _ x.info)
+      (groups-rise symbol_id_cmp (λ e. symbol_facts key e.0 e.1) (λ id a. a ≡ symbol_address key id) (λ _. Unit {0}) (λ e _. cell-rises _ _ e.1) (λ e. cell-stands (λ a. a ≡ symbol_address key e.0) _ _ (λ v. refl) refl e.1)
+      (λ j k a b q r l. (λ i. address_cmp (q i) (r i)) ∙ ap (λ o. ordering_then o (symbol_id_cmp j k)) (same_key key) ∙ l) x.symbols p (any_value x.symbols))
+      (cell-stands (λ a. StandAfter a (symbols_facts key x.symbols)) _ _ (λ v. later) later x.info)
+    where
+      later : StandAfter (info_address key) (symbols_facts key x.symbols)
+      later = after_info key (symbols_facts key x.symbols) (stand-flat_map (λ b. (id : SymbolId) × (b ≡ symbol_address key id)) (λ e. symbol_facts key e.0 e.1) (λ e. cell-stands (λ b. (id : SymbolId) × (b ≡ symbol_address key id)) _ _ (λ v. (e.0, refl)) (e.0, refl) e.1) x.symbols)
+
+  object-stands : (P : Address → Type 0) (key : Key) → ((a : Address) → a.key ≡ key → P a) → (x : Object n) → Stand P (object_facts key x)
+  object-stands P key h x =
+      stand-append P (info_facts key x.info) (symbols_facts key x.symbols) (cell-stands P _ _ (λ v. h (info_address key) refl) (h (info_address key) refl) x.info)
+      (stand-flat_map P (λ e. symbol_facts key e.0 e.1) (λ e. cell-stands P _ _ (λ v. h (symbol_address key e.0) refl) (h (symbol_address key e.0) refl) e.1) x.symbols)
+
+  session-rises : (session : Session) (os : List (ObjectName × Object n)) → OrderedSession os → IsRising (session_facts session os)
+  session-rises session os p =
+      groups-rise object_cmp (λ e. object_facts (key_of session e.0) e.1) (λ o a. a.key ≡ key_of session o) OrderedObject (λ e q. object-rises (key_of session e.0) e.1 q)
+      (λ e. object-stands (λ a. a.key ≡ key_of session e.0) (key_of session e.0) (λ a q. q) e.1)
+      (λ j k a b q r l. (λ i. ordering_then (key_cmp (q i) (r i)) (part_cmp a.part b.part)) ∙ ap (λ o. ordering_then (ordering_then o (object_cmp j k)) (part_cmp a.part b.part)) (tied_itself session_total session) ∙ ap (λ o. ordering_then o (part_cmp a.part b.part)) l)
+      os p.ordered p.each
+
+  session-stands : (P : Address → Type 0) (session : Session) → ((a : Address) → a.key.session ≡ session → P a) → (os : List (ObjectName × Object n)) → Stand P (session_facts session os)
+  session-stands P session h os =
+      stand-flat_map P (λ e. object_facts (key_of session e.0) e.1) (λ e. object-stands P (key_of session e.0) (λ a q. h a (ap (λ (k : Key). k.session) q)) e.1) os
+
+  -- the facts of a store stand in the order of their addresses
+  pub content-rises : (m : List (Session × List (ObjectName × Object n))) → OrderedStore m → IsRising (content m)
+  content-rises m p =
+      groups-rise session_cmp (λ e. session_facts e.0 e.1) (λ s a. a.key.session ≡ s) OrderedSession (λ e q. session-rises e.0 e.1 q) (λ e. session-stands (λ a. a.key.session ≡ e.0) e.0 (λ a q. q) e.1)
+      (λ j k a b q r l. (λ i. ordering_then (ordering_then (session_cmp (q i) (r i)) (object_cmp a.key.object b.key.object)) (part_cmp a.part b.part)) ∙ ap (λ o. ordering_then (ordering_then o (object_cmp a.key.object b.key.object)) (part_cmp a.part b.part)) l)
+      m p.ordered p.each

@@ -1,0 +1,187 @@
+-- The content of the join of two stores comes to the contents appended.
+use Rattle.std.proofs.Common.{◌≡◌, ℕ, List, [], ◌∷◌, ◌++◌, Bool, true, false, cond, Option, Some, None, refl, sym, ap, ◌∙◌, subst, inl, inr, ◌⊎◌}
+use Rattle.std.specs.Prelude.{flat_map, bytes_eq, ◌&&◌}
+use Rattle.flute_parts.specs.Totality.{session_total, object_total, symbol_id_total}
+use Rattle.flute_parts.specs.Session.{Session}
+use Rattle.flute_parts.specs.declared.object_key.ObjectName.{ObjectName}
+use Rattle.flute_parts.specs.declared.key.Key.{Key}
+use Rattle.flute_parts.specs.declared.symbol_id.SymbolId.{SymbolId}
+use Rattle.flute_parts.specs.declared.address.Part.{Part}
+use Rattle.flute_parts.specs.declared.address.Part.TheVariants.{Info as InfoPart, Symbol as SymbolPart}
+use Rattle.flute_parts.specs.declared.address.Address.{Address}
+use Rattle.flute_parts.specs.declared.fact.Fact.{Fact}
+use Rattle.flute_parts.specs.declared.fact.Fact.TheVariants.{Info, InfoConflict, Symbol, SymbolConflict}
+use Rattle.flute_parts.specs.Information.{Information}
+use Rattle.flute_parts.specs.Order.{session_cmp, object_cmp, symbol_id_cmp, same_key, same_symbol_id}
+use Rattle.flute_parts.specs.Addresses.{info_address, symbol_address, address}
+use Rattle.flute_parts.specs.Facts.{fact_at, Same, Below, same_information}
+use Rattle.flute_parts.specs.Equality.{session_place, object_place, symbol_id_place, key_itself, symbol_id_itself}
+use Rattle.flute_parts.proofs.Joined.{joined, joined-none, fact_at-append}
+use Rattle.flute_parts.proofs.Facts.{Below-trans, Below-from_Same}
+use Rattle.flute_join.specs.Cell.{cell_join}
+use Rattle.flute_join.specs.JoinMap.{map_join, value_at, IsOrdered, EachValue}
+use Rattle.flute_join.specs.declared.cell.Cell.{Cell}
+use Rattle.flute_join.specs.Semilattice.{IsBelow}
+use Rattle.flute_join.proofs.Ordered.{ordered-map_join, EachValue-map_join}
+use Rattle.flute_store.specs.declared.object.Object.{Object}
+use Rattle.flute_store.specs.ObjectJoin.{object_join, symbols_join, session_join, store_join}
+use Rattle.flute_store.specs.Content.{key_of, info_facts, symbol_facts, symbols_facts, object_facts, session_facts, content}
+use Rattle.flute_store.specs.WellFormed.{IsObject, IsSession, IsStore}
+use Rattle.flute_store.proofs.At.{Elsewhere, elsewhere-none, elsewhere-append, elsewhere-flat_map, elsewhere-cell, at-cell_join, at-entries, at-map_join}
+
+-- ---- where the facts of a cell stand
+
+elsewhere-info : (a : Address) (key : Key) → (info_address key ≡ a → ⊥) → (c : Cell Information) → Elsewhere a (info_facts key c)
+elsewhere-info a key h c = elsewhere-cell (Info key) (info_address key) a (λ v. h) h c
+
+elsewhere-symbol : (a : Address) (key : Key) (id : SymbolId) → (symbol_address key id ≡ a → ⊥) → (c : Cell (List ℕ)) → Elsewhere a (symbol_facts key id c)
+elsewhere-symbol a key id h c = elsewhere-cell (Symbol key id) (symbol_address key id) a (λ v. h) h c
+
+info-join : (key : Key) (c d : Cell Information) → fact_at (info_facts key (cell_join same_information c d)) (info_address key) ≡ joined (info_address key) (fact_at (info_facts key c) (info_address key)) (fact_at (info_facts key d) (info_address key))
+info-join key = at-cell_join (Info key) (info_address key) same_information (λ v. refl) refl (λ v w. ap (λ b. b && same_information v w) (key_itself key))
+
+symbol-join : (key : Key) (id : SymbolId) (c d : Cell (List ℕ))
+    → fact_at (symbol_facts key id (cell_join bytes_eq c d)) (symbol_address key id) ≡ joined (symbol_address key id) (fact_at (symbol_facts key id c) (symbol_address key id)) (fact_at (symbol_facts key id d) (symbol_address key id))
+symbol-join key id =
+    at-cell_join (Symbol key id) (symbol_address key id) bytes_eq (λ v. refl) refl
+    (λ v w. ap (λ b. b && (same_symbol_id id id && bytes_eq v w)) (key_itself key) ∙ ap (λ b. b && bytes_eq v w) (symbol_id_itself id))
+
+-- ---- the symbols of an object
+
+not_info : (key l : Key) (id : SymbolId) → symbol_address key id ≡ info_address l → ⊥
+not_info key l id p = let q : SymbolPart id ≡ InfoPart = ap (λ (a : Address). a.part) p in cc
+
+not_symbol : (key l : Key) (id : SymbolId) → info_address key ≡ symbol_address l id → ⊥
+not_symbol key l id p = let q : InfoPart ≡ SymbolPart id = ap (λ (a : Address). a.part) p in cc
+
+same_id : (key l : Key) (i j : SymbolId) → symbol_address key i ≡ symbol_address l j → i ≡ j
+same_id key l i j p = let q : SymbolPart i ≡ SymbolPart j = ap (λ (a : Address). a.part) p in cc
+
+any_cell : (es : List (SymbolId × Cell (List ℕ))) → EachValue (λ _. Unit {0}) es
+any_cell [] = tt
+any_cell (e ∷ es) = (tt, any_cell es)
+
+abbrev pub entry_facts : Key → SymbolId × Cell (List ℕ) → List Fact
+entry_facts key e = symbol_facts key e.0 e.1
+
+pub symbols_apart : (key : Key) (id : SymbolId) (e : SymbolId × Cell (List ℕ)) → (id ≡ e.0 → ⊥) → Elsewhere (symbol_address key id) (entry_facts key e)
+symbols_apart key id e h = elsewhere-symbol (symbol_address key id) key e.0 (λ p. h (sym (same_id key key e.0 id p))) e.1
+
+symbols-join : (key : Key) (id : SymbolId) (es fs : List (SymbolId × Cell (List ℕ))) → IsOrdered symbol_id_cmp es → IsOrdered symbol_id_cmp fs
+    → fact_at (symbols_facts key (symbols_join es fs)) (symbol_address key id) ≡ joined (symbol_address key id) (fact_at (symbols_facts key es) (symbol_address key id)) (fact_at (symbols_facts key fs) (symbol_address key id))
+symbols-join key id es fs s t =
+    at-map_join symbol_id_total symbol_id_place (entry_facts key) (symbol_address key id) id (symbols_apart key id) (cell_join bytes_eq) (λ _. Unit {0})
+    (λ v w x y. symbol-join key id v w) es fs s t (any_cell es) (any_cell fs)
+
+symbols-info : (key : Key) (es : List (SymbolId × Cell (List ℕ))) → fact_at (symbols_facts key es) (info_address key) ≡ None
+symbols-info key es = elsewhere-none (info_address key) (symbols_facts key es) (elsewhere-flat_map (info_address key) (entry_facts key) (λ e. elsewhere-symbol (info_address key) key e.0 (not_info key key e.0) e.1) es)
+
+info-symbol : (key : Key) (id : SymbolId) (c : Cell Information) → fact_at (info_facts key c) (symbol_address key id) ≡ None
+info-symbol key id c = elsewhere-none (symbol_address key id) (info_facts key c) (elsewhere-info (symbol_address key id) key (not_symbol key key id) c)
+
+pub Same-swapped : (F G : List Fact) → Same F G → Same G F
+Same-swapped F G h = record { each = λ a. sym (h.each a) }
+
+pub EachValue-weaker : {K X : Type 0} (P Q : X → Type 0) → ((x : X) → P x → Q x) → (es : List (K × X)) → EachValue P es → EachValue Q es
+EachValue-weaker P Q h [] a = tt
+EachValue-weaker P Q h (e ∷ es) a = (h e.1 a.0, EachValue-weaker P Q h es a.1)
+
+module _ {n : ℕ} where
+  -- the keys ascend at each level
+  abbrev pub OrderedObject : Object n → Type 0
+  OrderedObject x = IsOrdered symbol_id_cmp x.symbols
+
+  pub record OrderedSession (objects : List (ObjectName × Object n)) : Type 0 where
+    pub ordered : IsOrdered object_cmp objects
+    pub each : EachValue OrderedObject objects
+
+  pub record OrderedStore (m : List (Session × List (ObjectName × Object n))) : Type 0 where
+    pub ordered : IsOrdered session_cmp m
+    pub each : EachValue OrderedSession m
+
+  pub ordered-session : (o : ℕ) (objects : List (ObjectName × Object n)) → IsSession o objects → OrderedSession objects
+  ordered-session o objects p = record { ordered = p.ordered; each = EachValue-weaker IsObject OrderedObject (λ x q. q.symbols_are.ordered) objects p.each }
+
+  pub ordered-store : (s o : ℕ) (m : List (Session × List (ObjectName × Object n))) → IsStore s o m → OrderedStore m
+  ordered-store s o m p = record { ordered = p.ordered; each = EachValue-weaker (IsSession o) OrderedSession (ordered-session o) m p.each }
+
+  object_ordered : (v w : Object n) → OrderedObject v → OrderedObject w → OrderedObject (object_join v w)
+  object_ordered v w p q = ordered-map_join symbol_id_total (cell_join bytes_eq) v.symbols w.symbols p q
+
+  session_ordered : (v w : List (ObjectName × Object n)) → OrderedSession v → OrderedSession w → OrderedSession (session_join v w)
+  session_ordered v w p q = record {
+    ordered = ordered-map_join object_total object_join v w p.ordered q.ordered;
+    each = EachValue-map_join object_cmp object_join OrderedObject object_ordered v w p.each q.each;
+  }
+
+  pub store_ordered : (v w : List (Session × List (ObjectName × Object n))) → OrderedStore v → OrderedStore w → OrderedStore (store_join v w)
+  store_ordered v w p q = record {
+    ordered = ordered-map_join session_total session_join v w p.ordered q.ordered;
+    each = EachValue-map_join session_cmp session_join OrderedSession session_ordered v w p.each q.each;
+  }
+
+  abbrev pub in_session : Session → ObjectName × Object n → List Fact
+  in_session session e = object_facts (key_of session e.0) e.1
+
+  abbrev pub in_store : Session × List (ObjectName × Object n) → List Fact
+  in_store e = session_facts e.0 e.1
+
+module _ {n : ℕ} where
+  -- ---- an object
+  pub object-info : (key : Key) (x : Object n) → fact_at (object_facts key x) (info_address key) ≡ fact_at (info_facts key x.info) (info_address key)
+  object-info key x =
+      fact_at-append (info_facts key x.info) (symbols_facts key x.symbols) (info_address key)
+      ∙ ap (joined (info_address key) (fact_at (info_facts key x.info) (info_address key))) (symbols-info key x.symbols)
+      ∙ joined-none (info_address key) (fact_at (info_facts key x.info) (info_address key))
+
+  pub object-symbol : (key : Key) (id : SymbolId) (x : Object n) → fact_at (object_facts key x) (symbol_address key id) ≡ fact_at (symbols_facts key x.symbols) (symbol_address key id)
+  object-symbol key id x =
+      fact_at-append (info_facts key x.info) (symbols_facts key x.symbols) (symbol_address key id)
+      ∙ ap (λ o. joined (symbol_address key id) o (fact_at (symbols_facts key x.symbols) (symbol_address key id))) (info-symbol key id x.info)
+
+  object-join : (key : Key) (part : Part) (v w : Object n) → OrderedObject v → OrderedObject w
+      → fact_at (object_facts key (object_join v w)) (record { key = key; part = part }) ≡ joined (record { key = key; part = part }) (fact_at (object_facts key v) (record { key = key; part = part })) (fact_at (object_facts key w) (record { key = key; part = part }))
+  object-join key InfoPart v w p q =
+      object-info key (object_join v w) ∙ info-join key v.info w.info ∙ sym (λ i. joined (info_address key) (object-info key v i) (object-info key w i))
+  object-join key (SymbolPart id) v w p q =
+      object-symbol key id (object_join v w) ∙ symbols-join key id v.symbols w.symbols p q
+      ∙ sym (λ i. joined (symbol_address key id) (object-symbol key id v i) (object-symbol key id w i))
+
+  pub elsewhere-object : (a : Address) (key : Key) → (key ≡ a.key → ⊥) → (x : Object n) → Elsewhere a (object_facts key x)
+  elsewhere-object a key h x =
+      elsewhere-append a (info_facts key x.info) (symbols_facts key x.symbols) (elsewhere-info a key (λ p. h (ap (λ (b : Address). b.key) p)) x.info)
+      (elsewhere-flat_map a (entry_facts key) (λ e. elsewhere-symbol a key e.0 (λ p. h (ap (λ (b : Address). b.key) p)) e.1) x.symbols)
+
+  -- ---- a session
+  pub objects_apart : (a : Address) (e : ObjectName × Object n) → (a.key.object ≡ e.0 → ⊥) → Elsewhere a (in_session a.key.session e)
+  objects_apart a e h = elsewhere-object a (key_of a.key.session e.0) (λ p. h (sym (ap (λ (k : Key). k.object) p))) e.1
+
+  session-join : (a : Address) (v w : List (ObjectName × Object n)) → OrderedSession v → OrderedSession w
+      → fact_at (session_facts a.key.session (session_join v w)) a ≡ joined a (fact_at (session_facts a.key.session v) a) (fact_at (session_facts a.key.session w) a)
+  session-join a v w p q =
+      at-map_join object_total object_place (in_session a.key.session) a a.key.object (objects_apart a) object_join OrderedObject (object-join a.key a.part) v w p.ordered q.ordered p.each q.each
+
+  elsewhere-session : (a : Address) (session : Session) → (session ≡ a.key.session → ⊥) → (objects : List (ObjectName × Object n)) → Elsewhere a (session_facts session objects)
+  elsewhere-session a session h objects =
+      elsewhere-flat_map a (in_session session) (λ e. elsewhere-object a (key_of session e.0) (λ p. h (ap (λ (k : Key). k.session) p)) e.1) objects
+
+  -- ---- a store
+  pub sessions_apart : (a : Address) (e : Session × List (ObjectName × Object n)) → (a.key.session ≡ e.0 → ⊥) → Elsewhere a (in_store e)
+  sessions_apart a e h = elsewhere-session a e.0 (λ p. h (sym p)) e.1
+
+  store-join : (v w : List (Session × List (ObjectName × Object n))) → OrderedStore v → OrderedStore w → (a : Address) → fact_at (content (store_join v w)) a ≡ joined a (fact_at (content v) a) (fact_at (content w) a)
+  store-join v w p q a =
+      at-map_join session_total session_place in_store a a.key.session (sessions_apart a) session_join OrderedSession (session-join a) v w p.ordered q.ordered p.each q.each
+
+  -- the content of a join comes to the contents appended
+  pub content-join : (v w : List (Session × List (ObjectName × Object n))) → OrderedStore v → OrderedStore w → Same (content (store_join v w)) (content v ++ content w)
+  content-join v w p q = record { each = λ a. store-join v w p q a ∙ sym (fact_at-append (content v) (content w) a) }
+
+  -- the content of a lower store is below
+  pub content-below : (v w : List (Session × List (ObjectName × Object n))) → OrderedStore v → OrderedStore w → IsBelow store_join v w → Below (content v) (content w)
+  content-below v w p q b = subst (λ m. Same (content v ++ content w) (content m)) b (Same-swapped (content (store_join v w)) (content v ++ content w) (content-join v w p q))
+
+  pub content-below_join : (u v w : List (Session × List (ObjectName × Object n))) → OrderedStore u → OrderedStore v → OrderedStore w → IsBelow store_join u (store_join v w) → Below (content u) (content v ++ content w)
+  content-below_join u v w o p q b =
+      Below-trans (content u) (content (store_join v w)) (content v ++ content w) (content-below u (store_join v w) o (store_ordered v w p q) b)
+      (Below-from_Same (content (store_join v w)) (content v ++ content w) (content-join v w p q))

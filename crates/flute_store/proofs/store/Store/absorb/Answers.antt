@@ -1,0 +1,57 @@
+use Rattle.std.proofs.Common.{ap, sym, ◌∙◌, ◌++◌, subst}
+use Rattle.std.proofs.Common.{◌≡◌, refl}
+use Rattle.std.proofs.lemmas.Result.{on_ok_weaker, IfErr-at_err}
+use Rattle.flute_join.specs.JoinMap.{MapOver}
+use Rattle.flute_join.specs.declared.refusal.JoinRefusal.TheVariants.{Full}
+use Rattle.flute_parts.specs.Order.{session_cmp, object_cmp}
+use Rattle.flute_parts.proofs.Named.{Over-below}
+use Rattle.flute_parts.proofs.Facts.{Below-from_Same}
+use Rattle.flute_parts.specs.Facts.{Same, Below}
+use Rattle.flute_store.specs.ObjectJoin.{object_join, session_join, store_join, ObjectOver}
+use Rattle.flute_store.proofs.Exceeding.{solid-store, solid-join, beyond-over, over-beyond}
+use Rattle.flute_store.specs.Content.{content}
+use Rattle.flute_store.specs.WellFormed.{IsStore}
+use Rattle.flute_store.proofs.StoreJoin.{ordered-store, content-join, content-below, content-below_join}
+use Rattle.flute_store.proofs.store.Store.absorb.Goals as goal
+
+pub invariant_of-self : goal.invariant_of-self
+invariant_of-self g c = record {
+  ordered = c.join_from.ensures.ordered;
+  within = c.join_from.ensures.within_limit;
+  each = c.join_from.ensures.each c.self.invariant.each c.other.invariant.each;
+}
+
+pub returns-clause-ok : goal.returns-clause-ok
+returns-clause-ok g c =
+    let old = c.self.inside.sessions in
+    let other = c.other.inside.sessions in
+    rw (← c.self.view_is, ← c.other.view_is)
+    (on_ok_weaker c.join_from.result (λ p. subst (λ m. Same (content m) (content old ++ content other)) (sym p) (content-join old other (ordered-store _ _ old c.self.invariant) (ordered-store _ _ other c.other.invariant))) c.join_from.ensures.ok)
+
+pub returns-clause-above : goal.returns-clause-above
+returns-clause-above g c =
+    let old = c.self.inside.sessions in
+    rw (← c.self.view_is) (content-below old c.join_from.new.self (ordered-store _ _ old c.self.invariant) (ordered-store _ _ c.join_from.new.self (invariant_of-self g c)) c.join_from.ensures.above_old)
+
+pub returns-clause-below : goal.returns-clause-below
+returns-clause-below g c =
+    let old = c.self.inside.sessions in
+    let other = c.other.inside.sessions in
+    let new = c.join_from.new.self in
+    rw (← c.self.view_is, ← c.other.view_is)
+    (content-below_join new old other (ordered-store _ _ new (invariant_of-self g c)) (ordered-store _ _ old c.self.invariant) (ordered-store _ _ other c.other.invariant) c.join_from.ensures.below_join)
+
+pub returns-clause-full : goal.returns-clause-full
+returns-clause-full g c =
+    let old = c.self.inside.sessions in
+    let other = c.other.inside.sessions in
+    let s = g.row.SESSIONS in
+    let o = g.row.OBJECTS in
+    let n = g.row.SYMBOLS in
+    let J = store_join old other in
+    let whole = content-join old other (ordered-store s o old c.self.invariant) (ordered-store s o other c.other.invariant) in
+    rw (← c.self.view_is, ← c.other.view_is)
+    (λ e. Over-below (content J) (content old ++ content other) s o n (Below-from_Same (content J) (content old ++ content other) whole)
+    (beyond-over s o J (solid-join old other (solid-store s o old c.self.invariant) (solid-store s o other c.other.invariant))
+    (over-beyond s o old other (solid-store s o old c.self.invariant) (solid-store s o other c.other.invariant)
+    (IfErr-at_err (λ x. x ≡ Full → MapOver session_cmp session_join s (MapOver object_cmp object_join o ObjectOver) old other) e c.join_from.ensures.full refl))))

@@ -1,0 +1,58 @@
+use Rattle.std.proofs.Common.{◌≡◌, [], ◌∷◌, ◌++◌, List, ℕ, Err, OnOk, ap, sym, ◌∙◌, subst}
+use Rattle.std.proofs.lemmas.Result.{on_ok_weaker}
+use Rattle.flute_join.specs.declared.refusal.JoinRefusal.TheVariants.{Full}
+use Rattle.flute_parts.specs.Session.{Session}
+use Rattle.flute_parts.specs.declared.object_key.ObjectName.{ObjectName}
+use Rattle.flute_parts.specs.Facts.{Same}
+use Rattle.flute_parts.specs.Limits.{Over}
+use Rattle.flute_parts.proofs.Named.{Over-below}
+use Rattle.flute_parts.proofs.Facts.{Below-from_Same}
+use Rattle.flute_store.specs.declared.object.Object.{Object}
+use Rattle.flute_store.specs.Content.{content}
+use Rattle.flute_store.specs.ObjectJoin.{store_join}
+use Rattle.flute_store.specs.News.{news_object, news_facts}
+use Rattle.flute_store.proofs.StoreJoin.{ordered-store, content-join}
+use Rattle.std.proofs.Common.{Result, Ok, refl}
+use Rattle.flute_join.specs.declared.refusal.JoinRefusal.{JoinRefusal}
+use Rattle.flute_join.specs.declared.refusal.JoinRefusal.TheVariants.{OutOfMemory}
+use Rattle.flute_store.proofs.StoreJoin.{Same-swapped}
+use Rattle.flute_store.proofs.Held.{held}
+use Rattle.flute_store.proofs.Counting.{not_over}
+use Rattle.flute_store.proofs.Exceeding.{beyond-over, solid-join, solid-store, solid-one}
+use Rattle.flute_store.proofs.OneObject.{one_object, one-ordered, one-content}
+use Rattle.flute_store.proofs.store.Store.enter.Goals as goal
+
+pub returns-clause-ok : goal.returns-clause-ok
+returns-clause-ok g c =
+    let old = c.self.inside.sessions in
+    let one = one_object g.row.SYMBOLS c.args.key.now c.args.news.now in
+    let whole = content-join old one (ordered-store _ _ old c.self.invariant) (one-ordered g.row.SYMBOLS c.args.key.now c.args.news.now) in
+    rw (← c.self.view_is)
+    (on_ok_weaker c.enter_session.result
+    (λ p. subst (λ m. Same (content m) (content old ++ news_facts c.args.key.now c.args.news.now)) (sym p) (subst (λ F. Same (content (store_join old one)) (content old ++ F)) (one-content g.row.SYMBOLS c.args.key.now c.args.news.now) whole))
+    c.enter_session.ensures.ok)
+
+is_full : (r : Result (Unit {0}) JoinRefusal) → ((r ≡ Err Full → ⊥) → ⊥) → r ≡ Err Full
+is_full (Ok x) h = absurd (h (λ e. cc))
+is_full (Err Full) h = refl
+is_full (Err OutOfMemory) h = absurd (h (λ e. cc))
+
+pub returns-clause-full : goal.returns-clause-full
+returns-clause-full g c =
+    let n = g.row.SYMBOLS in
+    let old = c.self.inside.sessions in
+    let news = news_facts c.args.key.now c.args.news.now in
+    let one = one_object n c.args.key.now c.args.news.now in
+    let whole : Same (content (store_join old one)) (content old ++ news) = subst (λ F. Same (content (store_join old one)) (content old ++ F)) (one-content n c.args.key.now c.args.news.now) (content-join old one (ordered-store _ _ old c.self.invariant) (one-ordered n c.args.key.now c.args.news.now)) in
+    rw (← c.self.view_is) (
+      λ e. Over-below (content (store_join old one)) (content old ++ news) g.row.SESSIONS g.row.OBJECTS n (Below-from_Same (content (store_join old one)) (content old ++ news) whole)
+          (beyond-over g.row.SESSIONS g.row.OBJECTS (store_join old one) (solid-join old one (solid-store g.row.SESSIONS g.row.OBJECTS old c.self.invariant) (solid-one n c.args.key.now c.args.news.now c.requires)) (c.enter_session.ensures.full e)),
+      λ over. is_full c.enter_session.result (λ h.
+          let room = c.enter_session.ensures.room h in
+          not_over g.row.SESSIONS g.row.OBJECTS (store_join old one) (record { ordered = room.ordered; within = room.within; each = room.each })
+          (Over-below (content old ++ news) (content (store_join old one)) g.row.SESSIONS g.row.OBJECTS n (Below-from_Same (content old ++ news) (content (store_join old one)) (Same-swapped (content (store_join old one)) (content old ++ news) whole)) over)),
+    )
+
+pub returns-clause-held : goal.returns-clause-held
+returns-clause-held g c =
+    rw (← c.self.view_is) (λ part is h. c.enter_session.ensures.held (held g.row.SESSIONS g.row.OBJECTS c.self.inside.sessions c.self.invariant c.args.key.now c.args.news.now part is h))

@@ -1,0 +1,41 @@
+-- The facts of a store, in the order of their addresses.
+use Rattle.std.specs.Prelude.{ℕ, List, [], ◌∷◌, ◌++◌, flat_map}
+use Rattle.flute_join.specs.declared.cell.Cell.{Cell}
+use Rattle.flute_join.specs.declared.cell.Cell.TheVariants.{Absent, One, Conflict}
+use Rattle.flute_parts.specs.Information.{Information}
+use Rattle.flute_parts.specs.Session.{Session}
+use Rattle.flute_parts.specs.declared.object_key.ObjectName.{ObjectName}
+use Rattle.flute_parts.specs.declared.key.Key.{Key}
+use Rattle.flute_parts.specs.declared.symbol_id.SymbolId.{SymbolId}
+use Rattle.flute_parts.specs.declared.fact.Fact.{Fact}
+use Rattle.flute_parts.specs.declared.fact.Fact.TheVariants.{Info, InfoConflict, Symbol, SymbolConflict}
+use Rattle.flute_store.specs.declared.object.Object.{Object}
+
+abbrev pub key_of : Session → ObjectName → Key
+key_of session object = record { session = session; object = object }
+
+-- the fact that a cell tells, given the fact that tells a value and the fact that tells a conflict
+abbrev pub cell_facts : {T : Type 0} → (T → Fact) → Fact → Cell T → List Fact
+cell_facts told clash Absent = []
+cell_facts told clash (One value) = told value ∷ []
+cell_facts told clash Conflict = clash ∷ []
+
+abbrev pub info_facts : Key → Cell Information → List Fact
+info_facts key = cell_facts (Info key) (InfoConflict key)
+
+abbrev pub symbol_facts : Key → SymbolId → Cell (List ℕ) → List Fact
+symbol_facts key id = cell_facts (Symbol key id) (SymbolConflict key id)
+
+abbrev pub symbols_facts : Key → List (SymbolId × Cell (List ℕ)) → List Fact
+symbols_facts key symbols = flat_map (λ e. symbol_facts key e.0 e.1) symbols
+
+module _ {n : ℕ} where
+  -- an object's information comes before its symbols
+  abbrev pub object_facts : Key → Object n → List Fact
+  object_facts key x = info_facts key x.info ++ symbols_facts key x.symbols
+
+  abbrev pub session_facts : Session → List (ObjectName × Object n) → List Fact
+  session_facts session objects = flat_map (λ e. object_facts (key_of session e.0) e.1) objects
+
+  abbrev pub content : List (Session × List (ObjectName × Object n)) → List Fact
+  content sessions = flat_map (λ e. session_facts e.0 e.1) sessions

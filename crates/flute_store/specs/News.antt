@@ -1,0 +1,54 @@
+-- What is told of an object at once, as an object.
+use Rattle.std.specs.Prelude.{◌≡◌, ◌≢◌, ℕ, List, [], ◌∷◌, ◌++◌, Option, Some, None, IsSome}
+use Rattle.flute_join.specs.declared.cell.Cell.{Cell}
+use Rattle.flute_join.specs.declared.cell.Cell.TheVariants.{Absent, One, Conflict}
+use Rattle.flute_join.specs.JoinMap.{value_at}
+use Rattle.flute_parts.specs.Order.{session_cmp, object_cmp, symbol_id_cmp}
+use Rattle.flute_parts.specs.Session.{Session}
+use Rattle.flute_parts.specs.declared.object_key.ObjectName.{ObjectName}
+use Rattle.flute_parts.specs.declared.address.Part.{Part}
+use Rattle.flute_parts.specs.declared.address.Part.TheVariants.{Info as InfoPart, Symbol as SymbolPart}
+use Rattle.flute_parts.specs.declared.key.Key.{Key}
+use Rattle.flute_parts.specs.declared.symbol_id.SymbolId.{SymbolId}
+use Rattle.flute_parts.specs.declared.fact.Fact.{Fact}
+use Rattle.flute_store.specs.Content.{info_facts, symbols_facts}
+use Rattle.flute_store.specs.declared.object.Told.{Told}
+use Rattle.flute_store.specs.declared.object.Told.TheVariants.{One as OneTold, Conflict as ConflictTold}
+use Rattle.flute_store.specs.declared.object.News.{News}
+use Rattle.flute_store.specs.declared.object.Object.{Object}
+
+abbrev pub told_cell : Told → Cell (List ℕ)
+told_cell (OneTold bytes) = One bytes.now
+told_cell ConflictTold = Conflict
+
+abbrev pub told_symbols : Option (SymbolId × Told) → List (SymbolId × Cell (List ℕ))
+told_symbols None = []
+told_symbols (Some (id, told)) = (id, told_cell told) ∷ []
+
+-- the object of which nothing else is known
+abbrev pub news_object : {n : ℕ} → News → Object n
+news_object news = record { info = news.info; symbols = told_symbols news.symbol }
+
+-- something is told
+abbrev pub IsNews : News → Type 0
+IsNews news = news.info ≡ Absent → news.symbol ≢ None
+
+-- what is told, as facts
+abbrev pub news_facts : Key → News → List Fact
+news_facts key news = info_facts key news.info ++ symbols_facts key (told_symbols news.symbol)
+
+-- something is known already at each address that is told of
+abbrev pub IsHeldSymbol : List (SymbolId × Cell (List ℕ)) → Option (SymbolId × Told) → Type 0
+IsHeldSymbol symbols None = Unit {0}
+IsHeldSymbol symbols (Some (id, told)) = IsSome (value_at symbol_id_cmp symbols id)
+
+abbrev pub IsHeldObject : {n : ℕ} → List (ObjectName × Object n) → ObjectName → News → Type 0
+IsHeldObject {n} os object news = (x : Object n) × (value_at object_cmp os object ≡ Some x) × IsHeldSymbol x.symbols news.symbol
+
+abbrev pub IsHeldSession : {n : ℕ} → List (Session × List (ObjectName × Object n)) → Key → News → Type 0
+IsHeldSession {n} m key news = (os : List (ObjectName × Object n)) × (value_at session_cmp m key.session ≡ Some os) × IsHeldObject os key.object news
+
+-- the address of the symbol that is told of, or else of the information
+abbrev pub IsPartOf : Part → News → Type 0
+IsPartOf InfoPart news = news.symbol ≡ None
+IsPartOf (SymbolPart id) news = (told : Told) × (news.symbol ≡ Some (id, told))

@@ -1,0 +1,23 @@
+-- What a walk has left.
+use Rattle.std.specs.Prelude.{List, [], ◌∷◌, flat_map, Option, Some, None}
+use Rattle.flute_parts.specs.declared.fact.Fact.{Fact}
+use Rattle.flute_parts.specs.declared.fact.FactRef.{FactRef}
+use Rattle.flute_parts.specs.Session.{Session}
+use Rattle.flute_parts.specs.declared.object_key.ObjectName.{ObjectName}
+use Rattle.flute_parts.specs.declared.key.Key.{Key}
+use Rattle.flute_parts.specs.Addresses.{fact_of}
+use Rattle.flute_store.specs.Content.{key_of}
+
+-- the fact, if there is one
+abbrev pub option_facts : Option FactRef → List Fact
+option_facts None = []
+option_facts (Some fact) = fact_of fact ∷ []
+
+-- the facts of a walk, if there is one
+abbrev pub option_rest : Option (List Fact) → List Fact
+option_rest None = []
+option_rest (Some facts) = facts
+
+-- the facts of the objects of a session, by what an object tells
+abbrev pub facts_in : {O : Type 0} → (Key → O → List Fact) → Session → List (ObjectName × O) → List Fact
+facts_in facts_of session objects = flat_map (λ e. facts_of (key_of session e.0) e.1) objects

@@ -1,0 +1,176 @@
+//! What is held of one object.
+ghost use Rattle.std.specs.Prelude.{◌≡◌, ◌<◌, [], ◌∷◌, length, IfOk, IfErr, OnOk, OnErr, IsSome, IsOk, bytes_eq};
+ghost use Rattle.flute_join.specs.Cell.{cell_join, IsKnown};
+ghost use Rattle.flute_join.specs.JoinMap.{EachValue, IsSound, value_at};
+ghost use Rattle.flute_parts.specs.Facts.{same_information};
+ghost use Rattle.flute_parts.specs.Order.{symbol_id_cmp};
+ghost use Rattle.flute_store.specs.News.{told_cell, told_symbols, IsHeldSymbol};
+ghost use Rattle.flute_store.specs.WellFormed.{AreSymbols};
+ghost use Rattle.flute_store.specs.ObjectJoin.{object_join, ObjectOver, ObjectNeedsMemory, object_join_laws, symbols_join};
+
+use flute_join::{Cell, Join, JoinMap, JoinRefusal};
+use flute_parts::{Bytes, Info, SymbolId};
+use std::alloc::Global;
+
+/// An object: its information and its symbols.
+#[derive(Drop)]
+pub struct Object<const SYMBOLS: u32> {
+    pub info: Cell<Info>,
+    pub symbols: JoinMap<SymbolId, Cell<Bytes>, SYMBOLS>,
+}
+
+impl<const SYMBOLS: u32> Join for Object<SYMBOLS> {
+    ghost joined = { object_join };
+
+    ghost over = { ObjectOver };
+
+    ghost needs_memory = { ObjectNeedsMemory };
+
+    ghost use Rattle.flute_store.specs.WellFormed.{IsObject};
+
+    ghost sound = { IsObject };
+
+    ghost join_laws = { object_join_laws SYMBOLS };
+
+    fn join_from(&mut self, alloc: Global, other: &Self) -> Result<(), JoinRefusal> {
+        self.info.join_from(alloc, &other.info)?;
+        self.symbols.join_from(alloc, &other.symbols)
+    }
+
+    fn copy(&self, alloc: Global) -> Result<Self, JoinRefusal> {
+        Ok(Object {
+            info: self.info.copy(alloc)?,
+            symbols: self.symbols.copy(alloc)?,
+        })
+    }
+}
+
+/// What is told of a symbol: its bytes, or that there were two values.
+#[derive(Clone, Copy)]
+pub enum Told<'a> {
+    One(&'a [u8]),
+    Conflict,
+}
+
+/// What is told of an object at once: of its information, of one of its symbols, or of both.
+#[derive(Drop)]
+pub struct News<'a> {
+    pub info: Cell<Info>,
+    pub symbol: Option<(SymbolId, Told<'a>)>,
+}
+
+impl Told<'_> {
+    // A cell of its own.
+    fn to_cell(&self, alloc: Global) -> Result<Cell<Bytes>, JoinRefusal>
+        ensures ok { IfOk result (λ c. c ≡ told_cell self.now) }
+        ensures err { IfErr result (λ e. e ≡ JoinRefusal.OutOfMemory) }
+    {
+        match self {
+            Told::One(bytes) => match Bytes::new(alloc, bytes) {
+                Ok(bytes) => Ok(Cell::One(bytes)),
+                Err(_) => Err(JoinRefusal::OutOfMemory),
+            },
+            Told::Conflict => Ok(Cell::Conflict),
+        }
+    }
+
+    // Joins it into a cell where something is known already.
+    fn meet(&self, held: &mut Cell<Bytes>)
+        requires { IsKnown held.old }
+        ensures { held.new ≡ cell_join bytes_eq held.old (told_cell self.now) }
+    {
+        let differs = match (self, &*held) {
+            (Told::One(bytes), Cell::One(value)) => value.as_slice() != *bytes,
+            _ => true,
+        };
+        if differs {
+            *held = Cell::Conflict;
+        }
+    }
+}
+
+// Joins what is told of the information.
+fn meet_info(held: &mut Cell<Info>, told: &Cell<Info>)
+    ensures { held.new ≡ cell_join same_information held.old told.now }
+{
+    match told {
+        Cell::Absent => {}
+        Cell::One(info) => held.put(*info),
+        Cell::Conflict => *held = Cell::Conflict,
+    }
+}
+
+// Joins what is told of a symbol. After a refusal the symbols are unchanged.
+fn enter_symbol<const SYMBOLS: u32>(
+    symbols: &mut JoinMap<SymbolId, Cell<Bytes>, SYMBOLS>,
+    alloc: Global,
+    id: SymbolId,
+    told: &Told<'_>,
+) -> Result<(), JoinRefusal>
+    requires { EachValue IsKnown symbols.old }
+    ensures ok { OnOk result (symbols.new ≡ symbols_join symbols.old ((id, told_cell told.now) ∷ [])) }
+    ensures err { OnErr result (symbols.new ≡ symbols.old) }
+    ensures full { result ≡ Err JoinRefusal.Full → SYMBOLS < length (symbols_join symbols.old ((id, told_cell told.now) ∷ [])) }
+    ensures held { IsSome (value_at symbol_id_cmp symbols.old id) → IsOk result }
+    ensures room { (result ≡ Err JoinRefusal.Full → ⊥) → IsSound symbol_id_cmp SYMBOLS IsKnown (symbols_join symbols.old ((id, told_cell told.now) ∷ [])) }
+{
+    if let Some(held) = symbols.get_mut(&id) {
+        told.meet(held);
+        return Ok(());
+    }
+    if symbols.len() == SYMBOLS {
+        return Err(JoinRefusal::Full);
+    }
+    let cell = told.to_cell(alloc)?;
+    symbols.add_new(id, cell)
+}
+
+// Joins what is told of a symbol, if anything is. After a refusal the symbols are unchanged.
+fn enter_symbols<const SYMBOLS: u32>(
+    symbols: &mut JoinMap<SymbolId, Cell<Bytes>, SYMBOLS>,
+    alloc: Global,
+    told: &Option<(SymbolId, Told<'_>)>,
+) -> Result<(), JoinRefusal>
+    requires { AreSymbols SYMBOLS symbols.old }
+    ensures ok { OnOk result (symbols.new ≡ symbols_join symbols.old (told_symbols told.now)) }
+    ensures err { OnErr result (symbols.new ≡ symbols.old) }
+    ensures full { result ≡ Err JoinRefusal.Full → SYMBOLS < length (symbols_join symbols.old (told_symbols told.now)) }
+    ensures held { IsHeldSymbol symbols.old told.now → IsOk result }
+    ensures room { (result ≡ Err JoinRefusal.Full → ⊥) → AreSymbols SYMBOLS (symbols_join symbols.old (told_symbols told.now)) }
+{
+    match told {
+        Some((id, told)) => enter_symbol(symbols, alloc, *id, told),
+        None => Ok(()),
+    }
+}
+
+impl<const SYMBOLS: u32> Object<SYMBOLS> {
+    ghost use Rattle.flute_store.specs.News.{news_object, IsNews};
+    ghost use Rattle.flute_store.specs.WellFormed.{IsObject, AreSymbols};
+
+    /// An object of which nothing is known.
+    pub fn new(alloc: Global) -> Self
+        ensures info { result.info ≡ Cell.Absent }
+        ensures symbols { result.symbols ≡ [] }
+    {
+        Object {
+            info: Cell::Absent,
+            symbols: JoinMap::new(alloc),
+        }
+    }
+
+    /// Joins what is told of the object. After a refusal it is unchanged.
+    pub fn enter(&mut self, alloc: Global, news: &News<'_>) -> Result<(), JoinRefusal>
+        requires symbols { AreSymbols SYMBOLS self.old.symbols }
+        requires some { IsNews news.now }
+        ensures ok { OnOk result (self.new ≡ object_join self.old (news_object news.now)) }
+        ensures err { OnErr result (self.new ≡ self.old) }
+        ensures full { result ≡ Err JoinRefusal.Full → SYMBOLS < length (object_join self.old (news_object news.now)).symbols }
+        ensures held { IsHeldSymbol self.old.symbols news.now.symbol → IsOk result }
+        ensures room { (result ≡ Err JoinRefusal.Full → ⊥) → IsObject (object_join self.old (news_object news.now)) }
+    {
+        enter_symbols(&mut self.symbols, alloc, &news.symbol)?;
+        meet_info(&mut self.info, &news.info);
+        Ok(())
+    }
+}
