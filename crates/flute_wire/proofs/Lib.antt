@@ -7,4 +7,4 @@ mod Decision
 mod Existence
 mod Exact
 mod Decided
-mod Computed
+pub mod Computed
