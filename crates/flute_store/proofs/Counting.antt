@@ -1,5 +1,5 @@
 -- How many sessions, objects and symbols the content of a store names.
-use Rattle.std.proofs.Common.{◌≡◌, ◌≢◌, ℕ, ◌+◌, ◌<◌, ◌≤◌, List, [], ◌∷◌, ◌++◌, length, Bool, true, false, cond, ◌||◌, Option, Some, None, unwrap_or, refl, sym, ap, ◌∙◌, subst, inl, inr, ◌⊎◌, arith}
+use Rattle.std.proofs.Common.{append-nil, ◌≡◌, ◌≢◌, ℕ, ◌+◌, ◌<◌, ◌≤◌, List, [], ◌∷◌, ◌++◌, length, Bool, true, false, cond, ◌||◌, Option, Some, None, unwrap_or, refl, sym, ap, ◌∙◌, subst, inl, inr, ◌⊎◌, arith}
 use Rattle.std.specs.Prelude.{flat_map}
 use Rattle.std.specs.declared.cmp.Ordering.{Ordering}
 use Rattle.std.specs.declared.cmp.Ordering.TheVariants.{Less, Equal, Greater}
@@ -172,3 +172,7 @@ module _ {n : ℕ} where
     not_over (more_sessions l) = let c = few_sessions in omega (arith, l, c)
     not_over (more_objects session l) = let c = few_objects_of session (value_at session_cmp m session) refl in omega (arith, l, c)
     not_over (more_symbols key l) = let c = few_symbols_of key (value_at session_cmp m key.session) refl in omega (arith, l, c)
+
+    -- nor with nothing more
+    pub not_over_more : (G : List Fact) → G ≡ [] → Over (content m ++ G) s o n → ⊥
+    not_over_more G e over = not_over (subst (λ H. Over H s o n) (ap (λ H. content m ++ H) e ∙ append-nil (content m)) over)

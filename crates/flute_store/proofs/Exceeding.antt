@@ -44,8 +44,8 @@ use Rattle.flute_join.proofs.Single.{none_is_not_some}
 use Rattle.flute_store.proofs.At.{at-one_here}
 use Rattle.flute_store.proofs.Counting.{count-ge, at-content, at-session, at-object}
 use Rattle.flute_store.specs.declared.object.Object.{Object}
-use Rattle.flute_store.specs.declared.object.News.{News}
-use Rattle.flute_store.specs.declared.object.Told.{Told}
+use Rattle.flute_store.specs.declared.news.News.{News}
+use Rattle.flute_store.specs.declared.news.Told.{Told}
 use Rattle.flute_store.specs.ObjectJoin.{object_join, ObjectOver, symbols_join, session_join, store_join, cells, object_join_laws, session_laws}
 use Rattle.flute_store.specs.Content.{key_of, info_facts, symbol_facts, object_facts, session_facts, content}
 use Rattle.flute_store.specs.News.{news_object, told_symbols, IsNews}
@@ -111,7 +111,7 @@ solid-one n key news h = record {
   each = (
     record {
       ordered = (tt, tt);
-      each = (record { ordered = told-ordered news.symbol; each = told-known news.symbol; some = λ e. told-some news.symbol (h e) }, tt);
+      each = (record { ordered = told-ordered news.symbol; each = told-known news.symbol; some = λ e. told-some news.symbol (h.some e) }, tt);
       some = λ e. cc;
     },
     tt,

@@ -14,16 +14,20 @@ use Rattle.flute_parts.specs.declared.key.Key.{Key}
 use Rattle.flute_parts.specs.declared.symbol_id.SymbolId.{SymbolId}
 use Rattle.flute_parts.specs.declared.address.Part.TheVariants.{Info as InfoPart, Symbol as SymbolPart}
 use Rattle.flute_parts.specs.declared.address.Address.{Address}
+use Rattle.flute_parts.specs.declared.fact.Fact.{Fact}
 use Rattle.flute_parts.specs.declared.fact.Fact.TheVariants.{Info, InfoConflict, Symbol, SymbolConflict}
 use Rattle.flute_parts.specs.Order.{session_cmp, object_cmp, symbol_id_cmp}
 use Rattle.flute_parts.specs.Addresses.{info_address, symbol_address}
 use Rattle.flute_parts.specs.Facts.{fact_at}
 use Rattle.flute_parts.specs.declared.address.Part.{Part}
 use Rattle.flute_store.specs.declared.object.Object.{Object}
-use Rattle.flute_store.specs.Content.{key_of, info_facts, symbol_facts, object_facts, session_facts, content}
+use Rattle.flute_store.specs.Content.{key_of, info_facts, symbol_facts, symbols_facts, object_facts, session_facts, content}
 use Rattle.flute_store.specs.WellFormed.{IsObject, IsSession, IsStore}
-use Rattle.flute_store.specs.declared.object.News.{News}
-use Rattle.flute_store.specs.News.{IsPartOf, IsHeldSymbol, IsHeldSession}
+use Rattle.flute_store.specs.News.{told_symbols, news_facts, IsHeldSession}
+use Rattle.flute_store.specs.Held.{HoldsObject, HasCell}
+use Rattle.std.specs.List.{AllByRecursion}
+use Rattle.flute_store.specs.declared.news.Told.{Told}
+use Rattle.flute_store.specs.declared.news.Told.TheVariants.{One as OneTold, Conflict as ConflictTold}
 use Rattle.flute_store.proofs.At.{at-nothing, at-one_here}
 use Rattle.flute_store.proofs.StoreJoin.{ordered-session, ordered-store, object-info}
 use Rattle.flute_store.proofs.Counting.{some-of, at-content, at-session, at-object}
@@ -75,17 +79,38 @@ module _ {n : ℕ} (s o : ℕ) (m : List (Session × List (ObjectName × Object 
         ap is_some (in_session (symbol_address key id) f ∙ ap (λ z. option_map_or (λ x. fact_at (object_facts key x) (symbol_address key id)) z None) h ∙ at-object x key id sound.symbols_are.ordered)
         ∙ of_symbol key id x (value_at symbol_id_cmp x.symbols id) sound.symbols_are.each refl
 
-  -- what stands at an address that is told of is held there
-  pub held : (key : Key) (news : News) (part : Part) → IsPartOf part news → fact_at (content m) (record { key = key; part = part }) ≢ None → IsHeldSession m key news
-  held key news part is h =
+  -- where something stands at an address, its session and its object are held
+  of_part : (key : Key) (part : Part) → fact_at (content m) (record { key = key; part = part }) ≢ None
+      → (os : List (ObjectName × Object n)) × (x : Object n) × (value_at session_cmp m key.session ≡ Some os) × (value_at object_cmp os key.object ≡ Some x)
+      × (fact_at (object_facts key x) (record { key = key; part = part }) ≢ None) × IsObject x
+  of_part key part h =
       let a : Address = record { key = key; part = part } in
       let session = some-of (λ os. fact_at (session_facts key.session os) a) (value_at session_cmp m key.session) (λ z. h (at-content m a (ordered-store s o m p) ∙ z)) in
       let sound = each-value_at session_cmp (IsSession o) m key.session session.0 p.each session.1 in
       let object = some-of (λ x. fact_at (object_facts key x) a) (value_at object_cmp session.0 key.object) (λ z. h (in_session session.0 a session.1 ∙ z)) in
-      (session.0, session.1, (object.0, object.1, held_symbol part is (λ z. h (in_session session.0 a session.1 ∙ ap (λ y. option_map_or (λ x. fact_at (object_facts key x) a) y None) object.1 ∙ z)) (each-value_at object_cmp IsObject session.0 key.object object.0 sound.each object.1)))
-    where
-      held_symbol : {x : Object n} (part : Part) → IsPartOf part news → fact_at (object_facts key x) (record { key = key; part = part }) ≢ None → IsObject x → IsHeldSymbol x.symbols news.symbol
-      held_symbol {x} InfoPart is h q = subst (IsHeldSymbol x.symbols) (sym is) tt
-      held_symbol {x} (SymbolPart id) is h q =
-          let found = some-of (λ c. fact_at (symbol_facts key id c) (symbol_address key id)) (value_at symbol_id_cmp x.symbols id) (λ z. h (at-object x key id q.symbols_are.ordered ∙ z)) in
-          subst (IsHeldSymbol x.symbols) (sym is.1) (ap is_some found.1)
+      (session.0, object.0, session.1, object.1, (λ z. h (in_session session.0 a session.1 ∙ ap (λ y. option_map_or (λ x. fact_at (object_facts key x) a) y None) object.1 ∙ z)), each-value_at object_cmp IsObject session.0 key.object object.0 sound.each object.1)
+
+  pub object_held : (key : Key) → HoldsObject (content m) key → (os : List (ObjectName × Object n)) × (x : Object n) × (value_at session_cmp m key.session ≡ Some os) × (value_at object_cmp os key.object ≡ Some x)
+  object_held key h = let r = of_part key h.0 h.1 in (r.0, r.1, r.2, r.3)
+
+  held_symbol : (key : Key) (id : SymbolId) (told : Told) → fact_at (content m) (symbol_address key id) ≢ None → (info : Cell Information) → IsHeldSession m key (record { info = info; symbol = Some (id, told) })
+  held_symbol key id told h info =
+      let r = of_part key (SymbolPart id) h in
+      let found = some-of (λ c. fact_at (symbol_facts key id c) (symbol_address key id)) (value_at symbol_id_cmp r.1.symbols id) (λ z. r.4 (at-object r.1 key id r.5.symbols_are.ordered ∙ z)) in
+      (r.0, r.2, (r.1, r.3, ap is_some found.1))
+
+  held_info : (key : Key) → HoldsObject (content m) key → (info : Cell Information) → IsHeldSession m key (record { info = info; symbol = None })
+  held_info key h info = let r = of_part key h.0 h.1 in (r.0, r.2, (r.1, r.3, tt))
+
+  of_told : (key : Key) (id : SymbolId) (told : Told) (F : List Fact) → AllByRecursion (HasCell (content m)) (F ++ symbols_facts key (told_symbols (Some (id, told)))) → fact_at (content m) (symbol_address key id) ≢ None
+  of_told key id (OneTold bytes) [] h = h.0
+  of_told key id ConflictTold [] h = h.0
+  of_told key id told (f ∷ F) h = of_told key id told F h.1
+
+  -- where each fact that is told has a cell, its session, its object and its symbol are held
+  pub news_held : (key : Key) (info : Cell Information) (symbol : Option (SymbolId × Told)) → (info ≡ Absent → symbol ≢ None)
+      → AllByRecursion (HasCell (content m)) (news_facts key (record { info = info; symbol = symbol })) → IsHeldSession m key (record { info = info; symbol = symbol })
+  news_held key info (Some (id, told)) some h = held_symbol key id told (of_told key id told (info_facts key info) h) info
+  news_held key Absent None some h = absurd (some refl refl)
+  news_held key (One i) None some h = held_info key h.0 (One i)
+  news_held key Conflict None some h = held_info key h.0 Conflict

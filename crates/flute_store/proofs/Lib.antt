@@ -6,3 +6,5 @@ pub mod Counting
 pub mod Exceeding
 pub mod Held
 pub mod Rises
+pub mod Spelled
+pub mod Refused

@@ -9,8 +9,8 @@ use Rattle.flute_parts.specs.declared.key.Key.{Key}
 use Rattle.flute_parts.specs.declared.symbol_id.SymbolId.{SymbolId}
 use Rattle.flute_parts.specs.declared.fact.Fact.{Fact}
 use Rattle.flute_store.specs.declared.object.Object.{Object}
-use Rattle.flute_store.specs.declared.object.Told.{Told}
-use Rattle.flute_store.specs.declared.object.News.{News}
+use Rattle.flute_store.specs.declared.news.Told.{Told}
+use Rattle.flute_store.specs.declared.news.News.{News}
 use Rattle.flute_store.specs.Content.{content}
 use Rattle.flute_store.specs.News.{told_symbols, news_object, news_facts}
 use Rattle.flute_store.proofs.StoreJoin.{OrderedObject, OrderedSession, OrderedStore}

@@ -19,8 +19,8 @@ use Rattle.flute_join.specs.Cell.{cell_join, IsKnown}
 use Rattle.flute_join.specs.declared.cell.Cell.{Cell}
 use Rattle.flute_join.specs.declared.cell.Cell.TheVariants.{Absent, One, Conflict}
 use Rattle.flute_parts.specs.declared.symbol_id.SymbolId.{SymbolId}
-use Rattle.flute_store.specs.declared.object.Told.{Told}
-use Rattle.flute_store.specs.declared.object.Told.TheVariants.{One as OneTold, Conflict as ConflictTold}
+use Rattle.flute_store.specs.declared.news.Told.{Told}
+use Rattle.flute_store.specs.declared.news.Told.TheVariants.{One as OneTold, Conflict as ConflictTold}
 use Rattle.flute_store.specs.News.{told_cell, told_symbols}
 use Rattle.flute_store.specs.Beyond.{AnyValue}
 

@@ -5,3 +5,5 @@ pub mod News
 pub mod Beyond
 pub mod Walk
 pub mod ObjectFacts
+pub mod Held
+pub mod Taken

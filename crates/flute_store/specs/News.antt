@@ -4,17 +4,16 @@ use Rattle.flute_join.specs.declared.cell.Cell.{Cell}
 use Rattle.flute_join.specs.declared.cell.Cell.TheVariants.{Absent, One, Conflict}
 use Rattle.flute_join.specs.JoinMap.{value_at}
 use Rattle.flute_parts.specs.Order.{session_cmp, object_cmp, symbol_id_cmp}
+use Rattle.flute_parts.specs.SymbolBytes.{HasSymbolSize}
 use Rattle.flute_parts.specs.Session.{Session}
 use Rattle.flute_parts.specs.declared.object_key.ObjectName.{ObjectName}
-use Rattle.flute_parts.specs.declared.address.Part.{Part}
-use Rattle.flute_parts.specs.declared.address.Part.TheVariants.{Info as InfoPart, Symbol as SymbolPart}
 use Rattle.flute_parts.specs.declared.key.Key.{Key}
 use Rattle.flute_parts.specs.declared.symbol_id.SymbolId.{SymbolId}
 use Rattle.flute_parts.specs.declared.fact.Fact.{Fact}
 use Rattle.flute_store.specs.Content.{info_facts, symbols_facts}
-use Rattle.flute_store.specs.declared.object.Told.{Told}
-use Rattle.flute_store.specs.declared.object.Told.TheVariants.{One as OneTold, Conflict as ConflictTold}
-use Rattle.flute_store.specs.declared.object.News.{News}
+use Rattle.flute_store.specs.declared.news.Told.{Told}
+use Rattle.flute_store.specs.declared.news.Told.TheVariants.{One as OneTold, Conflict as ConflictTold}
+use Rattle.flute_store.specs.declared.news.News.{News}
 use Rattle.flute_store.specs.declared.object.Object.{Object}
 
 abbrev pub told_cell : Told → Cell (List ℕ)
@@ -29,9 +28,19 @@ told_symbols (Some (id, told)) = (id, told_cell told) ∷ []
 abbrev pub news_object : {n : ℕ} → News → Object n
 news_object news = record { info = news.info; symbols = told_symbols news.symbol }
 
--- something is told
-abbrev pub IsNews : News → Type 0
-IsNews news = news.info ≡ Absent → news.symbol ≢ None
+-- the bytes that are told are a symbol's
+abbrev pub HasSize : Told → Type 0
+HasSize (OneTold bytes) = HasSymbolSize bytes.now
+HasSize ConflictTold = Unit {0}
+
+abbrev pub HasSizes : Option (SymbolId × Told) → Type 0
+HasSizes None = Unit {0}
+HasSizes (Some (id, told)) = HasSize told
+
+-- something is told, of a symbol that can be one
+pub record IsNews (news : News) : Type 0 where
+  pub some : news.info ≡ Absent → news.symbol ≢ None
+  pub sizes : HasSizes news.symbol
 
 -- what is told, as facts
 abbrev pub news_facts : Key → News → List Fact
@@ -47,8 +56,3 @@ IsHeldObject {n} os object news = (x : Object n) × (value_at object_cmp os obje
 
 abbrev pub IsHeldSession : {n : ℕ} → List (Session × List (ObjectName × Object n)) → Key → News → Type 0
 IsHeldSession {n} m key news = (os : List (ObjectName × Object n)) × (value_at session_cmp m key.session ≡ Some os) × IsHeldObject os key.object news
-
--- the address of the symbol that is told of, or else of the information
-abbrev pub IsPartOf : Part → News → Type 0
-IsPartOf InfoPart news = news.symbol ≡ None
-IsPartOf (SymbolPart id) news = (told : Told) × (news.symbol ≡ Some (id, told))

@@ -7,7 +7,8 @@ ghost use Rattle.flute_store.specs.News.{news_object, IsNews, IsHeldObject, IsHe
 ghost use Rattle.flute_store.specs.WellFormed.{IsObject, IsSession};
 ghost use Rattle.flute_store.specs.Beyond.{SessionBeyond, StoreBeyond};
 
-use crate::object::{News, Object};
+use crate::news::News;
+use crate::object::Object;
 use flute_join::{JoinMap, JoinRefusal};
 use flute_parts::{Key, ObjectKey, SessionKey};
 use std::alloc::Global;
@@ -34,7 +35,7 @@ pub fn enter_object<const OBJECTS: u32, const SYMBOLS: u32>(
     news: &News<'_>,
 ) -> Result<(), JoinRefusal>
     requires each { EachValue IsObject objects.old }
-    requires some { IsNews news.now }
+    requires news { IsNews news.now }
     ensures ok { OnOk result (objects.new ≡ session_join objects.old ((key, news_object news.now) ∷ [])) }
     ensures err { OnErr result (objects.new ≡ objects.old) }
     ensures full { result ≡ Err JoinRefusal.Full → SessionBeyond OBJECTS (session_join objects.old ((key, news_object news.now) ∷ [])) }
@@ -60,7 +61,7 @@ pub fn enter_session<const SESSIONS: u32, const OBJECTS: u32, const SYMBOLS: u32
     news: &News<'_>,
 ) -> Result<(), JoinRefusal>
     requires each { EachValue (IsSession OBJECTS) sessions.old }
-    requires some { IsNews news.now }
+    requires news { IsNews news.now }
     ensures ok { OnOk result (sessions.new ≡ store_join sessions.old ((key.now.session, (key.now.object, news_object news.now) ∷ []) ∷ [])) }
     ensures err { OnErr result (sessions.new ≡ sessions.old) }
     ensures full { result ≡ Err JoinRefusal.Full → StoreBeyond SESSIONS OBJECTS (store_join sessions.old ((key.now.session, (key.now.object, news_object news.now) ∷ []) ∷ [])) }

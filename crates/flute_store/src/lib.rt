@@ -2,8 +2,11 @@
 #![tactic(auto)]
 
 mod entering;
+mod news;
 mod object;
 mod store;
+mod taken;
 mod walk;
 
-pub use store::Store;
+pub use store::{Shelf, Store};
+pub use taken::{TakeFault, Taken};

@@ -1,13 +1,13 @@
 //! What is held of one object.
-ghost use Rattle.std.specs.Prelude.{◌≡◌, ◌<◌, [], ◌∷◌, length, IfOk, IfErr, OnOk, OnErr, IsSome, IsOk, bytes_eq};
-ghost use Rattle.flute_join.specs.Cell.{cell_join, IsKnown};
+ghost use Rattle.std.specs.Prelude.{◌≡◌, ◌<◌, [], ◌∷◌, length, OnOk, OnErr, IsSome, IsOk};
+ghost use Rattle.flute_join.specs.Cell.{IsKnown};
 ghost use Rattle.flute_join.specs.JoinMap.{EachValue, IsSound, value_at};
-ghost use Rattle.flute_parts.specs.Facts.{same_information};
 ghost use Rattle.flute_parts.specs.Order.{symbol_id_cmp};
-ghost use Rattle.flute_store.specs.News.{told_cell, told_symbols, IsHeldSymbol};
+ghost use Rattle.flute_store.specs.News.{told_cell, told_symbols, HasSize, HasSizes, IsHeldSymbol};
 ghost use Rattle.flute_store.specs.WellFormed.{AreSymbols};
 ghost use Rattle.flute_store.specs.ObjectJoin.{object_join, ObjectOver, ObjectNeedsMemory, object_join_laws, symbols_join};
 
+use crate::news::{News, Told, meet_info};
 use flute_join::{Cell, Join, JoinMap, JoinRefusal};
 use flute_parts::{Bytes, Info, SymbolId};
 use std::alloc::Global;
@@ -45,61 +45,6 @@ impl<const SYMBOLS: u32> Join for Object<SYMBOLS> {
     }
 }
 
-/// What is told of a symbol: its bytes, or that there were two values.
-#[derive(Clone, Copy)]
-pub enum Told<'a> {
-    One(&'a [u8]),
-    Conflict,
-}
-
-/// What is told of an object at once: of its information, of one of its symbols, or of both.
-#[derive(Drop)]
-pub struct News<'a> {
-    pub info: Cell<Info>,
-    pub symbol: Option<(SymbolId, Told<'a>)>,
-}
-
-impl Told<'_> {
-    // A cell of its own.
-    fn to_cell(&self, alloc: Global) -> Result<Cell<Bytes>, JoinRefusal>
-        ensures ok { IfOk result (λ c. c ≡ told_cell self.now) }
-        ensures err { IfErr result (λ e. e ≡ JoinRefusal.OutOfMemory) }
-    {
-        match self {
-            Told::One(bytes) => match Bytes::new(alloc, bytes) {
-                Ok(bytes) => Ok(Cell::One(bytes)),
-                Err(_) => Err(JoinRefusal::OutOfMemory),
-            },
-            Told::Conflict => Ok(Cell::Conflict),
-        }
-    }
-
-    // Joins it into a cell where something is known already.
-    fn meet(&self, held: &mut Cell<Bytes>)
-        requires { IsKnown held.old }
-        ensures { held.new ≡ cell_join bytes_eq held.old (told_cell self.now) }
-    {
-        let differs = match (self, &*held) {
-            (Told::One(bytes), Cell::One(value)) => value.as_slice() != *bytes,
-            _ => true,
-        };
-        if differs {
-            *held = Cell::Conflict;
-        }
-    }
-}
-
-// Joins what is told of the information.
-fn meet_info(held: &mut Cell<Info>, told: &Cell<Info>)
-    ensures { held.new ≡ cell_join same_information held.old told.now }
-{
-    match told {
-        Cell::Absent => {}
-        Cell::One(info) => held.put(*info),
-        Cell::Conflict => *held = Cell::Conflict,
-    }
-}
-
 // Joins what is told of a symbol. After a refusal the symbols are unchanged.
 fn enter_symbol<const SYMBOLS: u32>(
     symbols: &mut JoinMap<SymbolId, Cell<Bytes>, SYMBOLS>,
@@ -107,7 +52,8 @@ fn enter_symbol<const SYMBOLS: u32>(
     id: SymbolId,
     told: &Told<'_>,
 ) -> Result<(), JoinRefusal>
-    requires { EachValue IsKnown symbols.old }
+    requires each { EachValue IsKnown symbols.old }
+    requires size { HasSize told.now }
     ensures ok { OnOk result (symbols.new ≡ symbols_join symbols.old ((id, told_cell told.now) ∷ [])) }
     ensures err { OnErr result (symbols.new ≡ symbols.old) }
     ensures full { result ≡ Err JoinRefusal.Full → SYMBOLS < length (symbols_join symbols.old ((id, told_cell told.now) ∷ [])) }
@@ -131,7 +77,8 @@ fn enter_symbols<const SYMBOLS: u32>(
     alloc: Global,
     told: &Option<(SymbolId, Told<'_>)>,
 ) -> Result<(), JoinRefusal>
-    requires { AreSymbols SYMBOLS symbols.old }
+    requires symbols { AreSymbols SYMBOLS symbols.old }
+    requires sizes { HasSizes told.now }
     ensures ok { OnOk result (symbols.new ≡ symbols_join symbols.old (told_symbols told.now)) }
     ensures err { OnErr result (symbols.new ≡ symbols.old) }
     ensures full { result ≡ Err JoinRefusal.Full → SYMBOLS < length (symbols_join symbols.old (told_symbols told.now)) }
@@ -162,7 +109,7 @@ impl<const SYMBOLS: u32> Object<SYMBOLS> {
     /// Joins what is told of the object. After a refusal it is unchanged.
     pub fn enter(&mut self, alloc: Global, news: &News<'_>) -> Result<(), JoinRefusal>
         requires symbols { AreSymbols SYMBOLS self.old.symbols }
-        requires some { IsNews news.now }
+        requires news { IsNews news.now }
         ensures ok { OnOk result (self.new ≡ object_join self.old (news_object news.now)) }
         ensures err { OnErr result (self.new ≡ self.old) }
         ensures full { result ≡ Err JoinRefusal.Full → SYMBOLS < length (object_join self.old (news_object news.now)).symbols }

@@ -1,16 +1,25 @@
 //! A store of receptions.
-ghost use Rattle.std.specs.Prelude.{◌≡◌, [], ◌∷◌, ◌++◌, OnOk, OnErr, IsOk, None, ◌≢◌, ◌↔◌, is_some};
+ghost use Rattle.std.specs.Prelude.{◌≡◌, [], ◌∷◌, ◌++◌, length, OnOk, OnErr, IfOk, IfSome, IsOk, ◌↔◌, is_some};
+ghost use Rattle.std.specs.List.{AllByRecursion};
 ghost use Rattle.flute_parts.specs.Facts.{fact_at, Same, Below, IsRising};
-ghost use Rattle.flute_parts.specs.declared.address.Part.{Part};
 ghost use Rattle.flute_parts.specs.Limits.{Over};
-ghost use Rattle.flute_parts.specs.Addresses.{address};
-ghost use Rattle.flute_store.specs.News.{news_facts, IsNews, IsPartOf};
+ghost use Rattle.flute_store.specs.News.{news_facts, IsNews};
+ghost use Rattle.flute_store.specs.Held.{HasCell};
+ghost use Rattle.flute_parts.specs.SymbolBytes.{HasSymbolSize};
+ghost use Rattle.flute_wire.specs.Content.{Content};
+ghost use Rattle.flute_wire.specs.Facts.{facts_of};
+ghost use Rattle.flute_wire.specs.Datagram.{Spells};
+ghost use Rattle.flute_wire.specs.Reading.{facts};
+ghost use Rattle.flute_wire.specs.Refusals.{Refuses};
+ghost use Rattle.flute_wire.specs.declared.refusal.Refusal.{Refusal as Reason};
 
 use crate::entering::{Objects, Sessions, enter_session};
-use crate::object::{News, Told};
+use crate::news::News;
+use crate::taken::{TakeFault, Taken};
 use crate::walk::Walk;
 use flute_join::{Cell, Join, JoinMap, JoinRefusal};
 use flute_parts::{Address, Fact, Key, Part};
+use flute_wire::{Packet, read};
 use std::alloc::Global;
 use std::marker::Model;
 
@@ -19,6 +28,9 @@ use std::marker::Model;
 pub struct Store<const SESSIONS: u32, const OBJECTS: u32, const SYMBOLS: u32> {
     sessions: Sessions<SESSIONS, OBJECTS, SYMBOLS>,
 }
+
+/// A store of the size that the program uses.
+pub type Shelf = Store<64, 4096, 1_048_576>;
 
 impl<const SESSIONS: u32, const OBJECTS: u32, const SYMBOLS: u32> Model
     for Store<SESSIONS, OBJECTS, SYMBOLS> {
@@ -65,8 +77,9 @@ impl<const SESSIONS: u32, const OBJECTS: u32, const SYMBOLS: u32> Store<
         requires { IsNews news.now }
         ensures ok { OnOk result (Same self.new (self.old ++ news_facts key.now news.now)) }
         ensures err { OnErr result (self.new ≡ self.old) }
-        ensures full { (result ≡ Err JoinRefusal.Full) ↔ Over (self.old ++ news_facts key.now news.now) SESSIONS OBJECTS SYMBOLS }
-        ensures held { (part : Part) → IsPartOf part news.now → fact_at self.old (record { key = key.now; part = part }) ≢ None → IsOk result }
+        ensures full { (result ≡ Err JoinRefusal.Full)
+            ↔ Over (self.old ++ news_facts key.now news.now) SESSIONS OBJECTS SYMBOLS }
+        ensures held { AllByRecursion (HasCell self.old) (news_facts key.now news.now) → IsOk result }
     {
         enter_session(&mut self.sessions, alloc, key, news)
     }
@@ -75,47 +88,50 @@ impl<const SESSIONS: u32, const OBJECTS: u32, const SYMBOLS: u32> Store<
     pub fn add(&mut self, alloc: Global, fact: &Fact) -> Result<(), JoinRefusal>
         ensures ok { OnOk result (Same self.new (self.old ++ fact.now ∷ [])) }
         ensures err { OnErr result (self.new ≡ self.old) }
-        ensures full { (result ≡ Err JoinRefusal.Full) ↔ Over (self.old ++ fact.now ∷ []) SESSIONS OBJECTS SYMBOLS }
-        ensures held { fact_at self.old (address fact.now) ≢ None → IsOk result }
+        ensures full { (result ≡ Err JoinRefusal.Full)
+            ↔ Over (self.old ++ fact.now ∷ []) SESSIONS OBJECTS SYMBOLS }
+        ensures held { HasCell self.old fact.now → IsOk result }
     {
-        match fact {
-            Fact::Info { key, info } => self.enter(
-                alloc,
-                key,
-                &News {
-                    info: Cell::One(*info),
-                    symbol: None,
-                },
-            ),
-            Fact::InfoConflict { key } => self.enter(
-                alloc,
-                key,
-                &News {
-                    info: Cell::Conflict,
-                    symbol: None,
-                },
-            ),
-            Fact::Symbol { key, id, bytes } => {
-                let told = Told::One(bytes.as_slice());
-                self.enter(
-                    alloc,
-                    key,
-                    &News {
-                        info: Cell::Absent,
-                        symbol: Some((*id, told)),
-                    },
-                )
-            }
-            Fact::SymbolConflict { key, id } => {
-                self.enter(
-                    alloc,
-                    key,
-                    &News {
-                        info: Cell::Absent,
-                        symbol: Some((*id, Told::Conflict)),
-                    },
-                )
-            }
+        self.enter(alloc, &fact.address().key, &News::of_fact(fact))
+    }
+
+    // Adds the facts of a packet. After a refusal the store is unchanged.
+    fn take_packet(&mut self, alloc: Global, packet: &Packet<'_>) -> Result<Taken, JoinRefusal>
+        requires { IfSome packet.now.symbol (λ symbol. HasSymbolSize symbol.1) }
+        ensures ok { OnOk result (Same self.new (self.old ++ facts_of packet.now)) }
+        ensures number { IfOk result (λ taken. taken.facts ≡ length (facts_of packet.now)) }
+        ensures err { OnErr result (self.new ≡ self.old) }
+        ensures full { (result ≡ Err JoinRefusal.Full)
+            ↔ Over (self.old ++ facts_of packet.now) SESSIONS OBJECTS SYMBOLS }
+        ensures held { AllByRecursion (HasCell self.old) (facts_of packet.now) → IsOk result }
+    {
+        // By this the proof knows that the store is within its limits.
+        let _ = &self.sessions;
+        let Some(news) = News::of_packet(packet) else {
+            return Ok(Taken { facts: 0 });
+        };
+        self.enter(alloc, &packet.key(), &news)?;
+        Ok(Taken {
+            facts: news.count(),
+        })
+    }
+
+    /// Adds the facts of a datagram.
+    pub fn take(&mut self, alloc: Global, datagram: &[u8]) -> Result<Taken, TakeFault>
+        ensures ok { OnOk result (Same self.new (self.old ++ facts datagram.now)) }
+        ensures number { IfOk result (λ taken. taken.facts ≡ length (facts datagram.now)) }
+        ensures err { OnErr result (self.new ≡ self.old) }
+        ensures refused { (r : Reason) → (result ≡ Err (TakeFault.Datagram r)) ↔ Refuses datagram.now r }
+        ensures full { (result ≡ Err TakeFault.Full)
+            ↔ Over (self.old ++ facts datagram.now) SESSIONS OBJECTS SYMBOLS }
+        ensures held { (p : Content) → Spells datagram.now p
+            → AllByRecursion (HasCell self.old) (facts datagram.now) → IsOk result }
+    {
+        // By this the proof knows that the store is within its limits.
+        let _ = &self.sessions;
+        match read(datagram) {
+            Ok(packet) => Ok(self.take_packet(alloc, &packet)?),
+            Err(refusal) => Err(TakeFault::Datagram(refusal)),
         }
     }
 
@@ -123,6 +139,7 @@ impl<const SESSIONS: u32, const OBJECTS: u32, const SYMBOLS: u32> Store<
     pub fn walk(&self) -> Walk<'_, Objects<OBJECTS, SYMBOLS>>
         ensures value { result ≡ self.now }
         ensures rising { IsRising self.now }
+        ensures within { ¬ Over self.now SESSIONS OBJECTS SYMBOLS }
     {
         let _ = &self.sessions;
         let sessions = self.sessions.iter();

@@ -21,7 +21,7 @@ use Rattle.flute_store.proofs.OnePair.{held-sound, new-sound, full-beyond, held-
 use Rattle.flute_store.proofs.entering.enter_object.Goals as goal
 
 pub enter-requires : goal.enter-requires
-enter-requires g c = (lit< tt, ((each-value_at object_cmp IsObject c.args.objects.now c.args.key c.in-Some.held.now c.requires.each (sym c.in-Some.ensures.value)).symbols_are, c.requires.some))
+enter-requires g c = (lit< tt, ((each-value_at object_cmp IsObject c.args.objects.now c.args.key c.in-Some.held.now c.requires.each (sym c.in-Some.ensures.value)).symbols_are, c.requires.news))
 
 pub returns-in-Some-clause-err : goal.returns-in-Some-clause-err
 returns-in-Some-clause-err g c =

@@ -22,7 +22,7 @@ use Rattle.flute_store.proofs.OnePair.{held-sound, new-sound, full-beyond, held-
 use Rattle.flute_store.proofs.entering.enter_session.Goals as goal
 
 pub enter_object-requires : goal.enter_object-requires
-enter_object-requires g c = (lit< tt, (lit< tt, ((each-value_at session_cmp (IsSession g.row.OBJECTS) c.args.sessions.now c.args.key.now.session c.in-Some.held.now c.requires.each (sym c.in-Some.ensures.value)).each, c.requires.some)))
+enter_object-requires g c = (lit< tt, (lit< tt, ((each-value_at session_cmp (IsSession g.row.OBJECTS) c.args.sessions.now c.args.key.now.session c.in-Some.held.now c.requires.each (sym c.in-Some.ensures.value)).each, c.requires.news)))
 
 pub returns-in-Some-clause-err : goal.returns-in-Some-clause-err
 returns-in-Some-clause-err g c =

@@ -13,7 +13,7 @@ use Rattle.flute_store.proofs.OnePair.{held-sound, new-sound, full-beyond, known
 use Rattle.flute_store.proofs.object.enter_symbol.Goals as goal
 
 pub meet-requires : goal.meet-requires
-meet-requires g c = each-value_at symbol_id_cmp IsKnown c.args.symbols.now c.args.id c.in-Some.held.now c.requires (sym c.in-Some.ensures.value)
+meet-requires g c = each-value_at symbol_id_cmp IsKnown c.args.symbols.now c.args.id c.in-Some.held.now c.requires.each (sym c.in-Some.ensures.value)
 
 pub returns-in-Some-clause-ok : goal.returns-in-Some-clause-ok
 returns-in-Some-clause-ok g c =
@@ -25,8 +25,8 @@ pub returns-in-Some-clause-room : goal.returns-in-Some-clause-room
 returns-in-Some-clause-room g c =
     let es = c.args.symbols.now in
     let found = sym c.in-Some.ensures.value in
-    let known = each-value_at symbol_id_cmp IsKnown es c.args.id c.in-Some.held.now c.requires found in
-    λ _. held-sound symbol_id_total symbol_id_place cells es c.args.id (told_cell c.args.told.now) c.in-Some.ensures.ordered g.row.SYMBOLS IsKnown c.in-Some.held.now found c.in-Some.ensures.within c.requires
+    let known = each-value_at symbol_id_cmp IsKnown es c.args.id c.in-Some.held.now c.requires.each found in
+    λ _. held-sound symbol_id_total symbol_id_place cells es c.args.id (told_cell c.args.told.now) c.in-Some.ensures.ordered g.row.SYMBOLS IsKnown c.in-Some.held.now found c.in-Some.ensures.within c.requires.each
     (known-join bytes_eq c.in-Some.held.now (told_cell c.args.told.now) known)
 
 pub returns-then-len-clause-full : goal.returns-then-len-clause-full
@@ -36,7 +36,7 @@ returns-then-len-clause-full g c =
 pub returns-in_err-cell-clause-room : goal.returns-in_err-cell-clause-room
 returns-in_err-cell-clause-room g c =
     let room : length c.args.symbols.now < g.row.SYMBOLS = omega (arith, c.len.ensures.value, c.len.ensures.within, c.if-len.false) in
-    λ _. new-sound symbol_id_total symbol_id_place cells c.args.symbols.now c.args.id (told_cell c.args.told.now) c.in_default.ensures.ordered g.row.SYMBOLS IsKnown (sym c.in_default.ensures.value) room c.requires (known-told c.args.told.now)
+    λ _. new-sound symbol_id_total symbol_id_place cells c.args.symbols.now c.args.id (told_cell c.args.told.now) c.in_default.ensures.ordered g.row.SYMBOLS IsKnown (sym c.in_default.ensures.value) room c.requires.each (known-told c.args.told.now)
 
 pub returns-clause-ok : goal.returns-clause-ok
 returns-clause-ok g c =
@@ -46,4 +46,4 @@ returns-clause-ok g c =
 pub returns-clause-room : goal.returns-clause-room
 returns-clause-room g c =
     let room : length c.args.symbols.now < g.row.SYMBOLS = omega (arith, c.len.ensures.value, c.len.ensures.within, c.if-len.false) in
-    λ _. new-sound symbol_id_total symbol_id_place cells c.args.symbols.now c.args.id (told_cell c.args.told.now) c.in_default.ensures.ordered g.row.SYMBOLS IsKnown (sym c.in_default.ensures.value) room c.requires (known-told c.args.told.now)
+    λ _. new-sound symbol_id_total symbol_id_place cells c.args.symbols.now c.args.id (told_cell c.args.told.now) c.in_default.ensures.ordered g.row.SYMBOLS IsKnown (sym c.in_default.ensures.value) room c.requires.each (known-told c.args.told.now)

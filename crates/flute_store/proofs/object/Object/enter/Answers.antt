@@ -1,4 +1,4 @@
-use Rattle.std.proofs.Common.{◌≡◌, [], Option, Some, None, ap, sym, ◌∙◌, subst, bytes_eq, ℕ, Err}
+use Rattle.std.proofs.Common.{◌≡◌, ◌≢◌, [], Option, Some, None, ap, sym, ◌∙◌, subst, bytes_eq, ℕ, Err}
 use Rattle.std.proofs.lemmas.Result.{err_from_is_err_and}
 use Rattle.flute_join.specs.Cell.{cell_join}
 use Rattle.flute_join.specs.declared.cell.Cell.TheVariants.{Absent}
@@ -6,14 +6,14 @@ use Rattle.flute_parts.specs.Facts.{same_information}
 use Rattle.flute_parts.specs.Totality.{symbol_id_total}
 use Rattle.flute_parts.specs.Equality.{symbol_id_place}
 use Rattle.flute_store.specs.declared.object.Object.{Object}
-use Rattle.flute_store.specs.declared.object.News.{News}
+use Rattle.flute_store.specs.declared.news.News.{News}
 use Rattle.flute_store.specs.ObjectJoin.{object_join, symbols_join, cells}
 use Rattle.flute_store.specs.News.{news_object, told_symbols, IsNews}
 use Rattle.flute_store.specs.WellFormed.{AreSymbols, IsObject}
 use Rattle.flute_store.proofs.OnePair.{absent-right, some-right, told-some}
 use Rattle.flute_store.proofs.object.Object.enter.Goals as goal
 
-sound : (n : ℕ) (x : Object n) (news : News) → IsNews news → AreSymbols n (symbols_join x.symbols (told_symbols news.symbol)) → IsObject (object_join x (news_object news))
+sound : (n : ℕ) (x : Object n) (news : News) → (news.info ≡ Absent → news.symbol ≢ None) → AreSymbols n (symbols_join x.symbols (told_symbols news.symbol)) → IsObject (object_join x (news_object news))
 sound n x news some are = record {
   symbols_are = are;
   some = λ e. some-right symbol_id_total symbol_id_place cells x.symbols (told_symbols news.symbol) (told-some news.symbol (some (absent-right same_information x.info news.info e)));
@@ -22,7 +22,7 @@ sound n x news some are = record {
 pub returns-in_err-enter_symbols-clause-room : goal.returns-in_err-enter_symbols-clause-room
 returns-in_err-enter_symbols-clause-room g c =
     let refused = err_from_is_err_and c.from_residual.result c.from_residual.ensures.1 in
-    rw (refused.1, refused.2) (λ n. sound g.row.SYMBOLS c.args.self.now c.args.news.now c.requires.some (c.in_err-enter_symbols.ensures.room n))
+    rw (refused.1, refused.2) (λ n. sound g.row.SYMBOLS c.args.self.now c.args.news.now c.requires.news.some (c.in_err-enter_symbols.ensures.room n))
 
 pub returns-clause-room : goal.returns-clause-room
-returns-clause-room g c = λ n. sound g.row.SYMBOLS c.args.self.now c.args.news.now c.requires.some (c.in_ok-enter_symbols.ensures.room (λ e. cc))
+returns-clause-room g c = λ n. sound g.row.SYMBOLS c.args.self.now c.args.news.now c.requires.news.some (c.in_ok-enter_symbols.ensures.room (λ e. cc))

@@ -16,7 +16,7 @@ use Rattle.std.proofs.Common.{Result, Ok, refl}
 use Rattle.flute_join.specs.declared.refusal.JoinRefusal.{JoinRefusal}
 use Rattle.flute_join.specs.declared.refusal.JoinRefusal.TheVariants.{OutOfMemory}
 use Rattle.flute_store.proofs.StoreJoin.{Same-swapped}
-use Rattle.flute_store.proofs.Held.{held}
+use Rattle.flute_store.proofs.Held.{news_held}
 use Rattle.flute_store.proofs.Counting.{not_over}
 use Rattle.flute_store.proofs.Exceeding.{beyond-over, solid-join, solid-store, solid-one}
 use Rattle.flute_store.proofs.OneObject.{one_object, one-ordered, one-content}
@@ -55,4 +55,5 @@ returns-clause-full g c =
 
 pub returns-clause-held : goal.returns-clause-held
 returns-clause-held g c =
-    rw (← c.self.view_is) (λ part is h. c.enter_session.ensures.held (held g.row.SESSIONS g.row.OBJECTS c.self.inside.sessions c.self.invariant c.args.key.now c.args.news.now part is h))
+    let news = c.args.news.now in
+    rw (← c.self.view_is) (λ h. c.enter_session.ensures.held (news_held g.row.SESSIONS g.row.OBJECTS c.self.inside.sessions c.self.invariant c.args.key.now news.info news.symbol c.requires.some h))

@@ -1,0 +1,32 @@
+-- What is known of datagrams that are packets.
+use Rattle.std.proofs.Common.{◌≡◌, ℕ, ◌≤◌, ◌<◌, List, [], ◌++◌, length, drop, Bool, true, false, nat_lt, refl, sym, ap, ◌∙◌, subst, inl, inr, arith, length-append, length-drop}
+use Rattle.std.specs.Prelude.{IfSome}
+use Rattle.std.proofs.lemmas.Bool.{cases_Bool}
+use Rattle.std.proofs.lemmas.Bool.Decides.{nat_tests}
+use Rattle.flute_parts.specs.SymbolBytes.{HasSymbolSize}
+use Rattle.flute_parts.specs.declared.symbol_id.SymbolId.{SymbolId}
+use Rattle.flute_wire.specs.Content.{Content}
+use Rattle.flute_wire.specs.Datagram.{Spells, symbol_of}
+
+behind : (xs ys : List ℕ) → length ys ≤ length (xs ++ ys)
+behind xs ys = omega (arith, length-append xs ys)
+
+tail_size : (tail : List ℕ) → length tail ≤ 65535 → IfSome (symbol_of tail) (λ symbol. HasSymbolSize symbol.1)
+tail_size tail l = elim (cases_Bool (nat_lt 4 (length tail))) [
+  | inl e ↦
+      let long : 4 < length tail = grind (arith, nat_tests) in
+      rw e (record { some = omega (arith, long, length-drop 4 tail); few = omega (arith, l, length-drop 4 tail) })
+  | inr e ↦ rw e tt
+]
+
+-- the bytes that a packet has for its symbol are a symbol's
+pub spelled-size : (d : List ℕ) (c : Content) → Spells d c → IfSome c.symbol (λ symbol. HasSymbolSize symbol.1)
+spelled-size d c (p, parts, accepted, is) =
+    let w = behind p.word (p.cci ++ (p.tsi ++ (p.toi ++ (p.area ++ p.tail)))) in
+    let x = behind p.cci (p.tsi ++ (p.toi ++ (p.area ++ p.tail))) in
+    let s = behind p.tsi (p.toi ++ (p.area ++ p.tail)) in
+    let o = behind p.toi (p.area ++ p.tail) in
+    let a = behind p.area p.tail in
+    let whole = ap length parts.joined in
+    let l : length p.tail ≤ 65535 = omega (arith, w, x, s, o, a, whole, accepted.limit) in
+    subst (λ z. IfSome z (λ symbol. HasSymbolSize symbol.1)) (sym (ap (λ (k : Content). k.symbol) is)) (tail_size p.tail l)

@@ -1,0 +1,132 @@
+//! What is told of an object at once.
+ghost use Rattle.std.specs.Prelude.{◌≡◌, [], ◌∷◌, length, IfSome, IfNone, IfOk, IfErr, bytes_eq};
+ghost use Rattle.flute_join.specs.Cell.{cell_join, IsKnown};
+ghost use Rattle.flute_parts.specs.Addresses.{address};
+ghost use Rattle.flute_parts.specs.Facts.{same_information};
+ghost use Rattle.flute_parts.specs.SymbolBytes.{HasSymbolSize};
+ghost use Rattle.flute_parts.specs.declared.key.Key.{Key as Name};
+ghost use Rattle.flute_wire.specs.Facts.{key_of, facts_of};
+ghost use Rattle.flute_store.specs.News.{told_cell, news_facts, IsNews, HasSize};
+
+use flute_join::{Cell, JoinRefusal};
+use flute_parts::{Bytes, Fact, Info, SymbolId};
+use flute_wire::Packet;
+use std::alloc::Global;
+
+/// What is told of a symbol: its bytes, or that there were two values.
+#[derive(Clone, Copy)]
+pub enum Told<'a> {
+    One(&'a [u8]),
+    Conflict,
+}
+
+/// What is told of an object at once: of its information, of one of its symbols, or of both.
+#[derive(Drop)]
+pub struct News<'a> {
+    pub info: Cell<Info>,
+    pub symbol: Option<(SymbolId, Told<'a>)>,
+}
+
+impl<'a> News<'a> {
+    /// What a fact tells.
+    pub fn of_fact(fact: &'a Fact) -> Self
+        ensures news { IsNews result }
+        ensures facts { news_facts (address fact.now).key result ≡ fact.now ∷ [] }
+    {
+        match fact {
+            Fact::Info { info, .. } => News {
+                info: Cell::One(*info),
+                symbol: None,
+            },
+            Fact::InfoConflict { .. } => News {
+                info: Cell::Conflict,
+                symbol: None,
+            },
+            Fact::Symbol { id, bytes, .. } => News {
+                info: Cell::Absent,
+                symbol: Some((*id, Told::One(bytes.as_slice()))),
+            },
+            Fact::SymbolConflict { id, .. } => News {
+                info: Cell::Absent,
+                symbol: Some((*id, Told::Conflict)),
+            },
+        }
+    }
+
+    /// What a packet tells. None where it has neither information nor a symbol.
+    pub fn of_packet(packet: &Packet<'a>) -> Option<Self>
+        requires { IfSome packet.now.symbol (λ symbol. HasSymbolSize symbol.1) }
+        ensures news { IfSome result IsNews }
+        ensures facts { IfSome result (λ news. news_facts (key_of packet.now) news ≡ facts_of packet.now) }
+        ensures nothing { IfNone result (facts_of packet.now ≡ []) }
+    {
+        let info = match packet.info() {
+            Some(info) => Cell::One(info),
+            None => Cell::Absent,
+        };
+        match packet.symbol() {
+            Some((id, bytes)) => Some(News {
+                info,
+                symbol: Some((id, Told::One(bytes))),
+            }),
+            None if matches!(info, Cell::Absent) => None,
+            None => Some(News { info, symbol: None }),
+        }
+    }
+
+    /// The number of facts: 1 or 2.
+    pub fn count(&self) -> u64
+        ensures { (key : Name) → result ≡ length (news_facts key self.now) }
+    {
+        let symbols = match self.symbol {
+            Some(_) => 1,
+            None => 0,
+        };
+        match self.info {
+            Cell::Absent => symbols,
+            _ => symbols + 1,
+        }
+    }
+}
+
+impl Told<'_> {
+    /// A cell of its own. Its bytes are as many as a symbol's, so the one refusal is `OutOfMemory`.
+    pub fn to_cell(&self, alloc: Global) -> Result<Cell<Bytes>, JoinRefusal>
+        requires { HasSize self.now }
+        ensures ok { IfOk result (λ c. c ≡ told_cell self.now) }
+        ensures err { IfErr result (λ e. e ≡ JoinRefusal.OutOfMemory) }
+    {
+        match self {
+            Told::One(bytes) => match Bytes::new(alloc, bytes) {
+                Ok(bytes) => Ok(Cell::One(bytes)),
+                Err(_) => Err(JoinRefusal::OutOfMemory),
+            },
+            Told::Conflict => Ok(Cell::Conflict),
+        }
+    }
+
+    /// Joins it into a cell where something is known already. It takes no memory.
+    pub fn meet(&self, held: &mut Cell<Bytes>)
+        requires { IsKnown held.old }
+        ensures { held.new ≡ cell_join bytes_eq held.old (told_cell self.now) }
+    {
+        let differs = match (self, &*held) {
+            (Told::One(bytes), Cell::One(value)) => value.as_slice() != *bytes,
+            _ => true,
+        };
+        if differs {
+            *held = Cell::Conflict;
+        }
+    }
+}
+
+/// Joins what is told of the information. It takes no memory.
+pub fn meet_info(held: &mut Cell<Info>, told: &Cell<Info>)
+    ensures { held.new ≡ cell_join same_information held.old told.now }
+{
+    match told {
+        Cell::Absent => {}
+        Cell::One(info) => held.put(*info),
+        Cell::Conflict => *held = Cell::Conflict,
+    }
+}

@@ -1,0 +1,40 @@
+//! What becomes of a datagram.
+
+use flute_join::JoinRefusal;
+use flute_wire::Refusal;
+use thiserror::Error;
+
+/// What a datagram added.
+#[derive(Clone, Copy, Debug, PartialEq, Eq)]
+pub struct Taken {
+    /// The number of its facts: 0, 1 or 2. They are counted whether or not they were known.
+    pub facts: u64,
+}
+
+/// Why a datagram is not taken. The first that applies is told, and after each the store is unchanged.
+#[derive(Clone, Copy, Debug, PartialEq, Eq, Error)]
+pub enum TakeFault {
+    /// The datagram is no packet, for this reason.
+    #[error("{0}")]
+    Datagram(Refusal),
+    /// A fact of it needs a new session, object or symbol beyond the limits.
+    #[error("full")]
+    Full,
+    /// A request for memory was refused.
+    #[error("out of memory")]
+    OutOfMemory,
+}
+
+impl From<JoinRefusal> for TakeFault {
+    ghost use Rattle.flute_store.specs.Taken.{fault_of};
+    ghost use Rattle.std.specs.Prelude.{◌≡◌};
+
+    ghost from_gives = { λ why fault. fault ≡ fault_of why };
+
+    fn from(why: JoinRefusal) -> TakeFault {
+        match why {
+            JoinRefusal::Full => TakeFault::Full,
+            JoinRefusal::OutOfMemory => TakeFault::OutOfMemory,
+        }
+    }
+}
