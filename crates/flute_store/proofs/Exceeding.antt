@@ -152,6 +152,13 @@ module _ {K X : Type 0} {cmp : K → K → Ordering} (order : IsTotalOrder cmp) 
   absent_past : (p : K × X) (rest : List (K × X)) (q : K) → IsOrdered cmp (p ∷ rest) → is_at (cmp q) p.0 ≡ true → value_at cmp rest q ≡ None
   absent_past p rest q s t = lookup-none (is_at (cmp q)) rest (none_past_head (eq_by_cmp_equiv order) q p rest (IsDistinct-from_sorted cmp (keys_of (p ∷ rest)) s) t)
 
+  -- what is looked up past the first entry
+  pub later_value : (e : K × X) (es : List (K × X)) (k : K) (v : X) → IsOrdered cmp (e ∷ es) → value_at cmp es k ≡ Some v → value_at cmp (e ∷ es) k ≡ Some v
+  later_value e es k v s f = elim (cases_Bool (is_at (cmp k) e.0)) [
+    | inl b ↦ absurd (none_is_not_some v (sym (absent_past e es k s b) ∙ f))
+    | inr b ↦ ap (λ c. cond c (Some e.1) (value_at cmp es k)) b ∙ f
+  ]
+
   pub any-value : (B : X → Type 0) (es : List (K × X)) → IsOrdered cmp es → AnyValue B es → (k : K) × (v : X) × (value_at cmp es k ≡ Some v) × B v
   any-value B [] s a = absurd a
   any-value B (e ∷ es) s (inl b) = (e.0, e.1, first_value e es, b)
@@ -216,7 +223,7 @@ module _ {n : ℕ} (m : List (Session × List (ObjectName × Object n))) (p : So
           let found = subst (λ l. value_at symbol_id_cmp l d.0 ≡ Some d.1) e (first_value symbol_id_total symbol_id_tells d es) in
           (SymbolPart d.0, symbol_stands d.0 d.1 found (each-value_at symbol_id_cmp IsKnown x.symbols d.0 d.1 r.each found))
 
-      object_stands : (part : Part) × (fact_at (content m) (record { key = key_of s o; part = part }) ≢ None)
+      pub object_stands : (part : Part) × (fact_at (content m) (record { key = key_of s o; part = part }) ≢ None)
       object_stands = elim (known_or_absent x.info) [
         | inl e ↦ first_stands x.symbols refl (r.some e)
         | inr k ↦ (InfoPart, λ e. info_stands (key_of s o) x.info k (sym (at-held InfoPart ∙ object-info (key_of s o) x) ∙ e))

@@ -8,3 +8,5 @@ pub mod Held
 pub mod Rises
 pub mod Spelled
 pub mod Refused
+pub mod KeyLists
+pub mod Lengths

@@ -7,3 +7,4 @@ pub mod Walk
 pub mod ObjectFacts
 pub mod Held
 pub mod Taken
+pub mod Keys

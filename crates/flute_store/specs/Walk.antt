@@ -13,10 +13,10 @@ abbrev pub option_facts : Option FactRef → List Fact
 option_facts None = []
 option_facts (Some fact) = fact_of fact ∷ []
 
--- the facts of a walk, if there is one
-abbrev pub option_rest : Option (List Fact) → List Fact
+-- what is left of an iterator, if there is one
+abbrev pub option_rest : {X : Type 0} → Option (List X) → List X
 option_rest None = []
-option_rest (Some facts) = facts
+option_rest (Some rest) = rest
 
 -- the facts of the objects of a session, by what an object tells
 abbrev pub facts_in : {O : Type 0} → (Key → O → List Fact) → Session → List (ObjectName × O) → List Fact

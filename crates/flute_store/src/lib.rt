@@ -2,6 +2,8 @@
 #![tactic(auto)]
 
 mod entering;
+mod keys;
+pub mod laws;
 mod news;
 mod object;
 mod store;

@@ -1,10 +1,13 @@
 //! A store of receptions.
-ghost use Rattle.std.specs.Prelude.{◌≡◌, [], ◌∷◌, ◌++◌, length, OnOk, OnErr, IfOk, IfSome, IsOk, ◌↔◌, is_some};
+ghost use Rattle.std.specs.Prelude.{◌≡◌, ◌≤◌, ◌+◌, ◌*◌, Contains, [], ◌∷◌, ◌++◌, length, OnOk, OnErr, IfOk, IfSome, IsOk, ◌↔◌, is_some};
 ghost use Rattle.std.specs.List.{AllByRecursion};
+ghost use Rattle.std.specs.List.Sorted.{IsStrictlySortedBy};
+ghost use Rattle.flute_parts.specs.Order.{key_cmp};
+ghost use Rattle.flute_parts.specs.declared.key.Key.{Key as Name};
 ghost use Rattle.flute_parts.specs.Facts.{fact_at, Same, Below, IsRising};
 ghost use Rattle.flute_parts.specs.Limits.{Over};
 ghost use Rattle.flute_store.specs.News.{news_facts, IsNews};
-ghost use Rattle.flute_store.specs.Held.{HasCell};
+ghost use Rattle.flute_store.specs.Held.{HasCell, HoldsObject};
 ghost use Rattle.flute_parts.specs.SymbolBytes.{HasSymbolSize};
 ghost use Rattle.flute_wire.specs.Content.{Content};
 ghost use Rattle.flute_wire.specs.Facts.{facts_of};
@@ -14,6 +17,7 @@ ghost use Rattle.flute_wire.specs.Refusals.{Refuses};
 ghost use Rattle.flute_wire.specs.declared.refusal.Refusal.{Refusal as Reason};
 
 use crate::entering::{Objects, Sessions, enter_session};
+use crate::keys::Keys;
 use crate::news::News;
 use crate::taken::{TakeFault, Taken};
 use crate::walk::Walk;
@@ -140,10 +144,21 @@ impl<const SESSIONS: u32, const OBJECTS: u32, const SYMBOLS: u32> Store<
         ensures value { result ≡ self.now }
         ensures rising { IsRising self.now }
         ensures within { ¬ Over self.now SESSIONS OBJECTS SYMBOLS }
+        ensures few { length self.now ≤ SESSIONS * OBJECTS * (SYMBOLS + 1) }
     {
         let _ = &self.sessions;
         let sessions = self.sessions.iter();
         Walk::new(sessions)
+    }
+
+    /// The keys of the objects of which something is held, in rising order.
+    pub fn objects(&self) -> Keys<'_, Objects<OBJECTS, SYMBOLS>>
+        ensures rising { IsStrictlySortedBy key_cmp result }
+        ensures held { (key : Name) → Contains result key ↔ HoldsObject self.now key }
+    {
+        let _ = &self.sessions;
+        let sessions = self.sessions.iter();
+        Keys::new(sessions)
     }
 
     /// Whether a fact stands at the address.

@@ -4,17 +4,17 @@ ghost use Rattle.std.specs.Iterator.{YieldsFirstBy, item_count};
 ghost use Rattle.flute_join.specs.Cell.{IsKnown};
 ghost use Rattle.flute_join.specs.JoinMap.{EachValue};
 ghost use Rattle.flute_parts.specs.declared.fact.Fact.{Fact};
-ghost use Rattle.flute_parts.specs.declared.key.Key.{Key};
+ghost use Rattle.flute_parts.specs.declared.key.Key.{Key as Name};
 ghost use Rattle.flute_parts.specs.Session.{Session};
 ghost use Rattle.flute_parts.specs.Addresses.{fact_of};
 ghost use Rattle.flute_store.specs.Content.{info_facts, object_facts};
 ghost use Rattle.flute_store.specs.Walk.{option_facts, option_rest, facts_in};
 
 use crate::entering::Objects;
+use crate::keys::SessionKeys;
 use crate::object::Object;
-use flute_join::Cell;
+use flute_join::{Cell, Entries};
 use flute_parts::{Bytes, FactRef, Info, Key, ObjectKey, SessionKey, SymbolId};
-use std::collections::btree_map;
 use std::marker::Model;
 
 /// The facts of an object that are left.
@@ -22,7 +22,7 @@ use std::marker::Model;
 pub struct ObjectWalk<'a> {
     key: Key,
     info: Option<FactRef<'a>>,
-    symbols: btree_map::Iter<'a, SymbolId, Cell<Bytes>>,
+    symbols: Entries<'a, SymbolId, Cell<Bytes>>,
 }
 
 impl<'a> Model for ObjectWalk<'a> {
@@ -86,13 +86,13 @@ impl<'a> Iterator for ObjectWalk<'a> {
 pub trait HasFacts: Drop {
     ghost is_sound: { Self → Type 0 };
 
-    ghost facts_of: { Key → Self → List Fact };
+    ghost facts_of: { Name → Self → List Fact };
 
     fn facts(&self, key: Key) -> ObjectWalk<'_>
         requires { is_sound self.now }
         ensures { result ≡ facts_of key self.now };
 
-    ghost has_some: { (x : Self) (key : Key) → is_sound x → facts_of key x ≢ [] };
+    ghost has_some: { (x : Self) (key : Name) → is_sound x → facts_of key x ≢ [] };
 }
 
 impl<const SYMBOLS: u32> HasFacts for Object<SYMBOLS> {
@@ -118,7 +118,7 @@ impl<const SYMBOLS: u32> HasFacts for Object<SYMBOLS> {
 pub struct SessionWalk<'a, O: HasFacts + 'a> {
     session: SessionKey,
     object: Option<ObjectWalk<'a>>,
-    objects: btree_map::Iter<'a, ObjectKey, O>,
+    objects: Entries<'a, ObjectKey, O>,
 }
 
 impl<'a, O: HasFacts + 'a> Model for SessionWalk<'a, O> {
@@ -179,11 +179,20 @@ pub trait HasObjects: Drop {
         ensures { result ≡ facts_of session self.now };
 
     ghost has_some: { (x : Self) (session : Session) → is_sound x → facts_of session x ≢ [] };
+
+    ghost keys_of: { Session → Self → List Name };
+
+    fn keys(&self, session: SessionKey) -> SessionKeys<'_, Self::Object>
+        requires { is_sound self.now }
+        ensures { result ≡ keys_of session self.now };
+
+    ghost has_key: { (x : Self) (session : Session) → is_sound x → keys_of session x ≢ [] };
 }
 
 impl<const OBJECTS: u32, const SYMBOLS: u32> HasObjects for Objects<OBJECTS, SYMBOLS> {
     ghost use Rattle.flute_store.specs.Content.{session_facts};
     ghost use Rattle.flute_store.specs.WellFormed.{IsSession};
+    ghost use Rattle.flute_store.specs.Keys.{session_keys, session_has_keys};
     ghost use Rattle.flute_store.specs.ObjectFacts.{session_has_facts};
 
     type Object = Object<SYMBOLS>;
@@ -194,6 +203,10 @@ impl<const OBJECTS: u32, const SYMBOLS: u32> HasObjects for Objects<OBJECTS, SYM
 
     ghost has_some = { session_has_facts SYMBOLS OBJECTS };
 
+    ghost keys_of = { session_keys };
+
+    ghost has_key = { session_has_keys SYMBOLS OBJECTS };
+
     fn walk(&self, session: SessionKey) -> SessionWalk<'_, Object<SYMBOLS>> {
         let objects = self.iter();
         SessionWalk {
@@ -202,13 +215,18 @@ impl<const OBJECTS: u32, const SYMBOLS: u32> HasObjects for Objects<OBJECTS, SYM
             objects,
         }
     }
+
+    fn keys(&self, session: SessionKey) -> SessionKeys<'_, Object<SYMBOLS>> {
+        let objects = self.iter();
+        SessionKeys::new(session, objects)
+    }
 }
 
 /// The facts of a store that are left.
 #[derive(Drop)]
 pub struct Walk<'a, S: HasObjects + 'a> {
     session: Option<SessionWalk<'a, S::Object>>,
-    sessions: btree_map::Iter<'a, SessionKey, S>,
+    sessions: Entries<'a, SessionKey, S>,
 }
 
 impl<'a, S: HasObjects + 'a> Model for Walk<'a, S> {
@@ -226,7 +244,7 @@ impl<'a, S: HasObjects + 'a> Model for Walk<'a, S> {
 }
 
 impl<'a, S: HasObjects + 'a> Walk<'a, S> {
-    pub(crate) fn new(sessions: btree_map::Iter<'a, SessionKey, S>) -> Walk<'a, S>
+    pub(crate) fn new(sessions: Entries<'a, SessionKey, S>) -> Walk<'a, S>
         requires { EachValue S.is_sound sessions }
         ensures { result ≡ flat_map (λ e. S.facts_of e.0 e.1) sessions.entry }
     {
