@@ -1,7 +1,10 @@
 -- What a walk has left.
-use Rattle.std.specs.Prelude.{List, [], ◌∷◌, flat_map, Option, Some, None}
+use Rattle.std.specs.Prelude.{List, [], ◌∷◌, flat_map, Option, Some, None, IfSome}
+use Rattle.std.specs.Iterator.{YieldsFirstBy}
 use Rattle.flute_parts.specs.declared.fact.Fact.{Fact}
+use Rattle.flute_parts.specs.declared.fact.Fact.TheVariants.{Symbol}
 use Rattle.flute_parts.specs.declared.fact.FactRef.{FactRef}
+use Rattle.flute_parts.specs.SymbolBytes.{HasSymbolSize}
 use Rattle.flute_parts.specs.Session.{Session}
 use Rattle.flute_parts.specs.declared.object_key.ObjectName.{ObjectName}
 use Rattle.flute_parts.specs.declared.key.Key.{Key}
@@ -21,3 +24,12 @@ option_rest (Some rest) = rest
 -- the facts of the objects of a session, by what an object tells
 abbrev pub facts_in : {O : Type 0} → (Key → O → List Fact) → Session → List (ObjectName × O) → List Fact
 facts_in facts_of session objects = flat_map (λ e. facts_of (key_of session e.0) e.1) objects
+
+-- the bytes of a symbol are as many as one has; the types of all other parts tell their ranges
+abbrev pub IsSized : Fact → Type 0
+IsSized (Symbol key id bytes) = HasSymbolSize bytes
+IsSized _ = Unit {0}
+
+-- the next fact is given, with bytes of a symbol's size, and the others are left
+abbrev pub YieldsFact : {S : Type 0} → (S → List Fact) → S → Option FactRef → S → Type 0
+YieldsFact rest s r t = YieldsFirstBy fact_of rest s r t × IfSome r (λ fact. IsSized (fact_of fact))

@@ -1,6 +1,6 @@
 //! The facts of a store, one after another.
-ghost use Rattle.std.specs.Prelude.{◌≡◌, ◌≢◌, [], List, flat_map};
-ghost use Rattle.std.specs.Iterator.{YieldsFirstBy, item_count};
+ghost use Rattle.std.specs.Prelude.{◌≡◌, ◌≢◌, [], List, flat_map, IfSome};
+ghost use Rattle.std.specs.Iterator.{item_count};
 ghost use Rattle.flute_join.specs.Cell.{IsKnown};
 ghost use Rattle.flute_join.specs.JoinMap.{EachValue};
 ghost use Rattle.flute_parts.specs.declared.fact.Fact.{Fact};
@@ -8,7 +8,7 @@ ghost use Rattle.flute_parts.specs.declared.key.Key.{Key as Name};
 ghost use Rattle.flute_parts.specs.Session.{Session};
 ghost use Rattle.flute_parts.specs.Addresses.{fact_of};
 ghost use Rattle.flute_store.specs.Content.{info_facts, object_facts};
-ghost use Rattle.flute_store.specs.Walk.{option_facts, option_rest, facts_in};
+ghost use Rattle.flute_store.specs.Walk.{option_facts, option_rest, facts_in, IsSized, YieldsFact};
 
 use crate::entering::Objects;
 use crate::keys::SessionKeys;
@@ -34,16 +34,19 @@ impl<'a> Model for ObjectWalk<'a> {
     ghost use Rattle.flute_join.specs.Cell.{IsKnown};
     ghost use Rattle.flute_join.specs.JoinMap.{EachValue};
     ghost use Rattle.flute_store.specs.Content.{symbols_facts};
-    ghost use Rattle.flute_store.specs.Walk.{option_facts};
+    ghost use Rattle.std.specs.Prelude.{IfSome};
+    ghost use Rattle.flute_parts.specs.Addresses.{fact_of};
+    ghost use Rattle.flute_store.specs.Walk.{option_facts, IsSized};
 
     ghost view = { λ w. option_facts w.info ++ symbols_facts w.key w.symbols };
 
-    ghost invariant = { λ w. EachValue IsKnown w.symbols };
+    ghost invariant = { λ w. EachValue IsKnown w.symbols × IfSome w.info (λ fact. IsSized (fact_of fact)) };
 }
 
 // What is known of the information, as a fact.
 fn info_fact<'a>(key: &Key, info: &Cell<Info>) -> Option<FactRef<'a>>
-    ensures { option_facts result ≡ info_facts key.now info.now }
+    ensures fact { option_facts result ≡ info_facts key.now info.now }
+    ensures size { IfSome result (λ fact. IsSized (fact_of fact)) }
 {
     match info {
         Cell::Absent => None,
@@ -58,7 +61,7 @@ fn info_fact<'a>(key: &Key, info: &Cell<Info>) -> Option<FactRef<'a>>
 impl<'a> Iterator for ObjectWalk<'a> {
     type Item = FactRef<'a>;
 
-    ghost next_gives = { YieldsFirstBy fact_of (λ rest. rest) };
+    ghost next_gives = { YieldsFact (λ rest. rest) };
 
     ghost remaining = { item_count (λ rest. rest) };
 
@@ -138,7 +141,7 @@ impl<'a, O: HasFacts + 'a> Model for SessionWalk<'a, O> {
 impl<'a, O: HasFacts + 'a> Iterator for SessionWalk<'a, O> {
     type Item = FactRef<'a>;
 
-    ghost next_gives = { YieldsFirstBy fact_of (λ rest. rest) };
+    ghost next_gives = { YieldsFact (λ rest. rest) };
 
     ghost remaining = { item_count (λ rest. rest) };
 
@@ -158,7 +161,7 @@ impl<'a, O: HasFacts + 'a> Iterator for SessionWalk<'a, O> {
 
 // The next fact of a walk, if there is one.
 fn next_of<'a>(walk: &mut Option<ObjectWalk<'a>>) -> Option<FactRef<'a>>
-    ensures { YieldsFirstBy fact_of option_rest walk.old result walk.new }
+    ensures { YieldsFact option_rest walk.old result walk.new }
 {
     match walk {
         Some(walk) => walk.next(),
@@ -258,7 +261,7 @@ impl<'a, S: HasObjects + 'a> Walk<'a, S> {
 impl<'a, S: HasObjects + 'a> Iterator for Walk<'a, S> {
     type Item = FactRef<'a>;
 
-    ghost next_gives = { YieldsFirstBy fact_of (λ rest. rest) };
+    ghost next_gives = { YieldsFact (λ rest. rest) };
 
     ghost remaining = { item_count (λ rest. rest) };
 
@@ -274,7 +277,7 @@ impl<'a, S: HasObjects + 'a> Iterator for Walk<'a, S> {
 
 // The next fact of a walk, if there is one.
 fn next_in<'a, O: HasFacts + 'a>(walk: &mut Option<SessionWalk<'a, O>>) -> Option<FactRef<'a>>
-    ensures { YieldsFirstBy fact_of option_rest walk.old result walk.new }
+    ensures { YieldsFact option_rest walk.old result walk.new }
 {
     match walk {
         Some(walk) => walk.next(),
