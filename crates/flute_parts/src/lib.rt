@@ -1,5 +1,5 @@
 //! What FLUTE receptions are made of: names, transmission information, partitions, facts and their laws, and the
-//! devices that bytes go to.
+//! devices that bytes come from and go to.
 #![tactic(auto)]
 
 mod address;
@@ -11,10 +11,15 @@ mod info;
 mod key;
 pub mod laws;
 mod memory_sink;
+mod memory_source;
 mod object_key;
 mod partition;
 mod session_key;
+mod short_sink;
+mod short_source;
+mod source;
 mod std_sink;
+mod std_source;
 mod symbol_id;
 
 pub use address::{Address, Part};
@@ -24,10 +29,15 @@ pub use fact::{Fact, FactRef};
 pub use info::{Info, InfoFault};
 pub use key::Key;
 pub use memory_sink::MemorySink;
+pub use memory_source::MemorySource;
 pub use object_key::ObjectKey;
 pub use partition::Partition;
 pub use session_key::SessionKey;
+pub use short_sink::ShortSink;
+pub use short_source::ShortSource;
+pub use source::Source;
 pub use std_sink::StdSink;
+pub use std_source::StdSource;
 pub use symbol_id::SymbolId;
 
 #[cfg(test)]

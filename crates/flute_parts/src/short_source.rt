@@ -1,0 +1,51 @@
+//! A source that gives little at a time, and fails.
+ghost use Rattle.std.specs.Prelude.{◌≡◌, ◌<◌, Some};
+
+use crate::device::DeviceFault;
+use crate::failures::Failures;
+use crate::memory_source::hand_out;
+use crate::source::Source;
+
+/// A source for tests: it gives the bytes of a slice in short pieces, until it fails for good. It takes no memory.
+#[derive(Debug, Drop)]
+pub struct ShortSource<'a> {
+    unread: &'a [u8],
+    piece: usize,
+    good: usize,
+    failures: Failures,
+    ghost some_piece: { 0 < piece },
+}
+
+impl<'a> ShortSource<'a> {
+    /// A source of these bytes that gives at most `piece` of them at a time, which is at least 1, and fails in each
+    /// call from the moment that it has given `good` of them.
+    pub fn new(bytes: &'a [u8], piece: usize, good: usize) -> ShortSource<'a>
+        requires { 0 < piece }
+        ensures bytes { ⟦<ShortSource<'a> as Source>⟧.unread result ≡ Some bytes.now }
+        ensures failures { ⟦<ShortSource<'a> as Source>⟧.failures result ≡ 0 }
+    {
+        ShortSource {
+            unread: bytes,
+            piece,
+            good,
+            failures: Failures::none(),
+        }
+    }
+}
+
+impl Source for ShortSource<'_> {
+    ghost failures = { λ s. s.failures.count };
+
+    ghost unread = { λ s. Some s.unread.now };
+
+    fn read(&mut self, buffer: &mut [u8]) -> Result<usize, DeviceFault> {
+        if self.good == 0 {
+            self.failures = self.failures.and_one();
+            return Err(DeviceFault);
+        }
+        let (count, rest) = hand_out(self.unread, self.piece.min(self.good), buffer);
+        self.unread = rest;
+        self.good -= count;
+        Ok(count)
+    }
+}
