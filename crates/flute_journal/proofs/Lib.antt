@@ -1,0 +1,9 @@
+pub mod Numbers
+pub mod Entries
+pub mod Checks
+pub mod Fronts
+pub mod Parts
+pub mod Written
+pub mod Decoded
+pub mod Calls
+pub mod Bodies

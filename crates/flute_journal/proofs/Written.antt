@@ -1,0 +1,20 @@
+-- The bytes of an entry, written part by part.
+use Rattle.std.proofs.Common.{◌≡◌, ℕ, List, ◌∷◌, ◌++◌, Some, None, ap, ◌∙◌, append_assoc}
+use Rattle.flute_parts.specs.ObjectName.{toi_of, instance_of}
+use Rattle.flute_parts.specs.declared.object_key.ObjectName.{ObjectName}
+use Rattle.flute_parts.specs.declared.object_key.ObjectName.TheVariants.{Instance, File}
+use Rattle.flute_journal.specs.Numbers.{in_bytes}
+use Rattle.flute_journal.specs.Format.{object_bytes}
+
+pub regroup : (h a b c : List ℕ) → ((h ++ a) ++ b) ++ c ≡ h ++ (a ++ (b ++ c))
+regroup h a b c = append_assoc (h ++ a) b c ∙ append_assoc h a (b ++ c)
+
+-- the tag and the number of an object
+
+pub instance_bytes : (o : ObjectName) (m n : ℕ) → Some m ≡ instance_of o → n ≡ m → 0 ∷ in_bytes 14 n ≡ object_bytes o
+instance_bytes (Instance k) m n e is = ap (λ x. 0 ∷ in_bytes 14 x) (let h : n ≡ k = cc in h)
+instance_bytes (File k) m n e is = absurd cc
+
+pub file_bytes : (o : ObjectName) (n : ℕ) → None ≡ instance_of o → n ≡ toi_of o → 1 ∷ in_bytes 14 n ≡ object_bytes o
+file_bytes (Instance k) n e is = absurd cc
+file_bytes (File k) n e is = ap (λ x. 1 ∷ in_bytes 14 x) is

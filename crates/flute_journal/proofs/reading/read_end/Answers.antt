@@ -1,0 +1,5 @@
+use Rattle.flute_journal.proofs.Fronts.{parsed_fails}
+use Rattle.flute_journal.proofs.reading.read_end.Goals as goal
+
+pub returns-clause-failures : goal.returns-clause-failures
+returns-clause-failures g c = parsed_fails _ _ _ _ c.check_end.result _ _ c.in_ok-front.ensures.failures c.check_end.ensures

@@ -1,0 +1,84 @@
+-- Which bytes are the journal of which facts, and where other bytes stop being one.
+use Rattle.std.specs.Prelude.{◌≡◌, ℕ, ◌<◌, ◌≤◌, ◌^◌, List, [], ◌∷◌, ◌++◌, length, Option, Some, None}
+use Rattle.std.specs.List.{flat_map, AllByRecursion}
+use Rattle.flute_parts.specs.Session.{Session}
+use Rattle.flute_parts.specs.Information.{Information, info_fault}
+use Rattle.flute_parts.specs.ObjectName.{IsObjectName}
+use Rattle.flute_parts.specs.declared.key.Key.{Key}
+use Rattle.flute_parts.specs.declared.symbol_id.SymbolId.{SymbolId}
+use Rattle.flute_parts.specs.declared.address.Address.{Address}
+use Rattle.flute_parts.specs.declared.fact.Fact.{Fact}
+use Rattle.flute_parts.specs.declared.fact.Fact.TheVariants.{Info, InfoConflict, Symbol, SymbolConflict}
+use Rattle.flute_parts.specs.Addresses.{address}
+use Rattle.flute_parts.specs.Facts.{Same, IsRising}
+use Rattle.flute_journal.specs.declared.fault.ReadFault.{ReadFault}
+use Rattle.flute_journal.specs.Format.{header, entry, spelling}
+use Rattle.flute_journal.specs.Faults.{Before, header_fault, next_fault}
+
+abbrev pub IsByte : ℕ → Type 0
+IsByte b = b < 256
+
+abbrev pub IsSession : Session → Type 0
+IsSession session = session.tsi < 2 ^ 48
+
+abbrev pub IsKey : Key → Type 0
+IsKey key = IsSession key.session × IsObjectName key.object
+
+abbrev pub IsId : SymbolId → Type 0
+IsId id = (id.sbn < 2 ^ 16) × (id.esi < 2 ^ 16)
+
+pub record IsSymbol (bytes : List ℕ) : Type 0 where
+  pub some : 0 < length bytes
+  pub short : length bytes < 2 ^ 16
+  pub octets : AllByRecursion IsByte bytes
+
+abbrev pub IsInfo : Information → Type 0
+IsInfo i = (i.symbol_length < 2 ^ 16) × (i.max_block_length < 2 ^ 32) × (info_fault i ≡ None)
+
+-- a fact of a reception: its numbers are within their ranges
+abbrev pub IsFact : Fact → Type 0
+IsFact (Info key info) = IsKey key × IsInfo info
+IsFact (InfoConflict key) = IsKey key
+IsFact (Symbol key id bytes) = IsKey key × IsId id × IsSymbol bytes
+IsFact (SymbolConflict key id) = IsKey key × IsId id
+
+-- the entries of a journal of these facts: one for each address, in rising order, with what the facts come to there
+pub record Collects (facts entries : List Fact) : Type 0 where
+  pub valid : AllByRecursion IsFact entries
+  pub rising : IsRising entries
+  pub same : Same facts entries
+
+-- the bytes are the journal of these facts
+abbrev pub Journal : List ℕ → List Fact → Type 0
+Journal bytes facts = (entries : List Fact) × Collects facts entries × (length entries < 2 ^ 64) × (bytes ≡ spelling entries)
+
+-- at most so many entries, as a journal may begin with them
+pub record AreEntries (limit : ℕ) (entries : List Fact) : Type 0 where
+  pub valid : AllByRecursion IsFact entries
+  pub rising : IsRising entries
+  pub few : length entries ≤ limit
+
+-- the bytes are a journal of these entries, at most so many
+pub record IsJournalWithin (limit : ℕ) (bytes : List ℕ) (entries : List Fact) : Type 0 where
+  pub are_entries : AreEntries limit entries
+  pub bytes_are : bytes ≡ spelling entries
+
+abbrev pub last_of : Option Address → List Fact → Option Address
+last_of last [] = last
+last_of last (f ∷ fs) = last_of (Some (address f)) fs
+
+-- what stands behind these entries has them before it
+abbrev pub before : List Fact → Before
+before entries = record { count = length entries; last = last_of None entries }
+
+-- whole entries stand behind the header, and then bytes at fault
+pub record StopsBehind (bytes : List ℕ) (limit : ℕ) (entries : List Fact) (fault : ReadFault) : Type 0 where
+  pub are_entries : AreEntries limit entries
+  pub rest : List ℕ
+  pub whole : bytes ≡ header ++ flat_map entry entries ++ rest
+  pub first : next_fault (before entries) limit rest ≡ Some fault
+
+-- the first field at fault has this fault, and these are the entries that end before it
+pub data Stops (bytes : List ℕ) (limit : ℕ) (entries : List Fact) (fault : ReadFault) : Type 0 where
+  in_header : entries ≡ [] → header_fault bytes ≡ Some fault → Stops bytes limit entries fault
+  behind : StopsBehind bytes limit entries fault → Stops bytes limit entries fault

@@ -1,0 +1,94 @@
+-- What the bytes of an entry up to those of its symbol say.
+use Rattle.std.specs.Prelude.{◌≡◌, ℕ, ◌<◌, ◌^◌, IsTrue, List, [], ◌∷◌, ◌++◌, length, Option, Some, Result, MatchResult}
+use Rattle.flute_parts.specs.Addresses.{address, symbol_address}
+use Rattle.flute_parts.specs.declared.key.Key.{Key}
+use Rattle.flute_parts.specs.declared.symbol_id.SymbolId.{SymbolId}
+use Rattle.flute_parts.specs.declared.address.Address.{Address}
+use Rattle.flute_parts.specs.declared.fact.Fact.{Fact}
+use Rattle.flute_journal.specs.declared.format.Kind.{Kind}
+use Rattle.flute_journal.specs.declared.format.Kind.TheVariants as kinds
+use Rattle.flute_journal.specs.declared.format.Fixed.{Fixed}
+use Rattle.flute_journal.specs.declared.format.Fixed.TheVariants.{Whole, Symbol}
+use Rattle.flute_journal.specs.declared.fault.ReadFault.{ReadFault}
+use Rattle.flute_journal.specs.declared.fault.ReadFault.TheVariants as faults
+use Rattle.flute_journal.specs.Numbers.{in_bytes}
+use Rattle.flute_journal.specs.Format.{key_bytes, id_bytes, body, kind}
+use Rattle.flute_journal.specs.Faults.{Before, is_after, first_fault, cut, bytes_checks, rest_checks, body_checks, end_checks}
+use Rattle.flute_journal.specs.Journal.{IsKey, IsId, IsFact}
+
+abbrev pub byte_of : Kind → ℕ
+byte_of kinds.Info = 1
+byte_of kinds.InfoConflict = 2
+byte_of kinds.Symbol = 3
+byte_of kinds.SymbolConflict = 4
+
+-- how many bytes stand behind the key, up to those of a symbol
+abbrev pub rest_size : Kind → ℕ
+rest_size kinds.Info = 12
+rest_size kinds.InfoConflict = 0
+rest_size kinds.Symbol = 6
+rest_size kinds.SymbolConflict = 4
+
+-- and how many behind the kind
+abbrev pub fixed_size : Kind → ℕ
+fixed_size kinds.Info = 33
+fixed_size kinds.InfoConflict = 21
+fixed_size kinds.Symbol = 27
+fixed_size kinds.SymbolConflict = 25
+
+abbrev pub at_place : ℕ → Option Address → Before
+at_place count last = record { count = count; last = last }
+
+abbrev pub fixed_bytes : Fixed → List ℕ
+fixed_bytes (Whole f) = body f
+fixed_bytes (Symbol key id n) = key_bytes key ++ (id_bytes id ++ in_bytes 2 n)
+
+-- a fact of this kind, in order
+pub record BodyIs (last : Option Address) (k : Kind) (f : Fact) : Type 0 where
+  pub kind_is : kind f ≡ byte_of k
+  pub in_order : IsTrue (is_after last (address f))
+  pub valid : IsFact f
+
+-- a fact of this kind
+abbrev pub IsBody : Kind → Fact → Type 0
+IsBody k f = (kind f ≡ byte_of k) × IsFact f
+
+-- a symbol in order that has bytes
+pub record SymbolIs (last : Option Address) (k : Kind) (key : Key) (id : SymbolId) (n : ℕ) : Type 0 where
+  pub kind_is : k ≡ kinds.Symbol
+  pub in_order : IsTrue (is_after last (symbol_address key id))
+  pub key_valid : IsKey key
+  pub id_valid : IsId id
+  pub some : 0 < n
+  pub short : n < 2 ^ 16
+
+abbrev pub FixedIs : Option Address → Kind → Fixed → Type 0
+FixedIs last k (Whole f) = BodyIs last k f
+FixedIs last k (Symbol key id n) = SymbolIs last k key id n
+
+-- The first faults of parts.
+
+abbrev pub end_fault : ℕ → List ℕ → Option ReadFault
+end_fault count rest = first_fault (end_checks count rest)
+
+abbrev pub bytes_fault : List ℕ → Option ReadFault
+bytes_fault rest = first_fault (bytes_checks rest)
+
+abbrev pub cut_fault : ℕ → List ℕ → Option ReadFault
+cut_fault n rest = first_fault (cut n rest ∷ [])
+
+abbrev pub rest_fault : Option Address → Kind → Key → List ℕ → Option ReadFault
+rest_fault last k key rest = first_fault (rest_checks (at_place 0 last) (byte_of k) key rest)
+
+abbrev pub body_fault : Option Address → Kind → List ℕ → Option ReadFault
+body_fault last k rest = first_fault (body_checks (at_place 0 last) (byte_of k) rest)
+
+-- bytes that begin so have the fault, whatever follows; they are cut only where nothing follows and there are fewer than n
+pub record StopsFront (n : ℕ) (fault : List ℕ → Option ReadFault) (front : List ℕ) (f : ReadFault) : Type 0 where
+  pub no_device : f ≡ faults.Read → ⊥
+  pub short : f ≡ faults.Cut → length front < n
+  pub whole : (rest : List ℕ) → (f ≡ faults.Cut → rest ≡ []) → fault (front ++ rest) ≡ Some f
+
+-- at most n bytes say what is wanted, or they are at fault
+abbrev pub Parses : {T : Type 0} → ℕ → (T → Type 0) → (List ℕ → Option ReadFault) → List ℕ → Result T ReadFault → Type 0
+Parses n IsIt fault bytes result = MatchResult result IsIt (StopsFront n fault bytes)

@@ -1,0 +1,9 @@
+-- What is written of a fact behind the fixed part of its entry.
+use Rattle.std.specs.Prelude.{ℕ, List, []}
+use Rattle.flute_parts.specs.declared.fact.Fact.{Fact}
+use Rattle.flute_parts.specs.declared.fact.Fact.TheVariants.{Symbol}
+
+-- the bytes of the symbol, which end an entry
+abbrev pub symbol_of : Fact → List ℕ
+symbol_of (Symbol key id bytes) = bytes
+symbol_of f = []

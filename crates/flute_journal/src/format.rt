@@ -1,0 +1,75 @@
+//! How the header, the entries and the end of a journal are spelled. Nothing outside this module knows an entry's bytes.
+ghost use Rattle.std.specs.Prelude.{◌≡◌, false, MatchOption};
+ghost use Rattle.flute_journal.specs.Faults.{is_kind};
+ghost use Rattle.flute_journal.specs.Parsing.{byte_of, fixed_size};
+
+mod decode;
+mod encode;
+mod number;
+
+pub use decode::{check_end, check_header, parse};
+pub use encode::{Head, end_of, head_of, symbol_of};
+
+use flute_parts::{Fact, Key, SymbolId};
+
+/// The bytes of the header: `FLJN`, and the version.
+pub const HEADER: [u8; 6] = *b"FLJN\x00\x01";
+
+/// The byte that begins the end.
+pub const END: u8 = 255;
+
+/// The most bytes that follow the kind of an entry, up to those of a symbol.
+pub const LONGEST: usize = 33;
+
+/// What an entry tells.
+#[derive(Clone, Copy, PartialEq, Eq)]
+pub enum Kind {
+    /// The transmission information.
+    Info,
+    /// That two different pieces of transmission information were told.
+    InfoConflict,
+    /// An encoding symbol.
+    Symbol,
+    /// That two different values of an encoding symbol were told.
+    SymbolConflict,
+}
+
+/// What an entry says up to the bytes of its symbol.
+#[derive(Drop)]
+pub enum Fixed {
+    /// All of it.
+    Whole(Fact),
+    /// A symbol, and how many bytes of it follow.
+    Symbol {
+        key: Key,
+        id: SymbolId,
+        length: u16,
+    },
+}
+
+impl Kind {
+    /// The kind that this byte stands for.
+    pub fn from_byte(byte: u8) -> Option<Kind>
+        ensures { MatchOption result (is_kind byte ≡ false) (λ kind. byte ≡ byte_of kind) }
+    {
+        match byte {
+            1 => Some(Kind::Info),
+            2 => Some(Kind::InfoConflict),
+            3 => Some(Kind::Symbol),
+            4 => Some(Kind::SymbolConflict),
+            _ => None,
+        }
+    }
+
+    /// How many bytes follow the kind, up to those of a symbol.
+    pub fn fixed_size(self) -> usize
+        ensures { result ≡ fixed_size self }
+    {
+        match self {
+            Kind::Info => 33,
+            Kind::InfoConflict => 21,
+            Kind::Symbol => 27,
+            Kind::SymbolConflict => 25,
+        }
+    }
+}

@@ -1,0 +1,106 @@
+//! From facts to their bytes.
+ghost use Rattle.std.specs.Prelude.{◌≡◌, ℕ, ◌+◌, ◌<◌, ◌≤◌, ◌^◌, ◌++◌, length};
+ghost use Rattle.arrayvec.specs.ArrayVec.{array_vec_len};
+ghost use Rattle.flute_parts.specs.Addresses.{fact_of};
+ghost use Rattle.flute_journal.specs.Format.{key_bytes, id_bytes, info_bytes, entry, end};
+ghost use Rattle.flute_journal.specs.Writing.{symbol_of};
+
+use super::END;
+use arrayvec::ArrayVec;
+use flute_parts::{FactRef, Info, Key, SymbolId};
+
+/// The front of an entry, up to the bytes of a symbol.
+pub type Head = ArrayVec<u8, 34>;
+
+/// The front of an entry.
+pub fn head_of(fact: &FactRef<'_>) -> Head
+    requires { length (symbol_of (fact_of fact.now)) < 2 ^ 16 }
+    ensures { result.items ++ symbol_of (fact_of fact.now) ≡ entry (fact_of fact.now) }
+{
+    let mut head = Head::new();
+    match fact {
+        FactRef::Info { key, info } => {
+            put(&mut head, &[1]);
+            put_key(&mut head, key);
+            put_info(&mut head, info);
+        }
+        FactRef::InfoConflict { key } => {
+            put(&mut head, &[2]);
+            put_key(&mut head, key);
+        }
+        FactRef::Symbol { key, id, bytes } => {
+            put(&mut head, &[3]);
+            put_key(&mut head, key);
+            put_id(&mut head, *id);
+            put(&mut head, &(bytes.len() as u16).to_be_bytes());
+        }
+        FactRef::SymbolConflict { key, id } => {
+            put(&mut head, &[4]);
+            put_key(&mut head, key);
+            put_id(&mut head, *id);
+        }
+    }
+    head
+}
+
+/// The bytes of the symbol, which end its entry: none of another fact.
+pub fn symbol_of<'a>(fact: &FactRef<'a>) -> &'a [u8]
+    ensures { result.now ≡ symbol_of (fact_of fact.now) }
+{
+    match *fact {
+        FactRef::Symbol { bytes, .. } => bytes,
+        _ => &[],
+    }
+}
+
+/// The end of a journal of so many entries.
+pub fn end_of(count: u64) -> ArrayVec<u8, 9>
+    ensures { result.items ≡ end count }
+{
+    let mut bytes = ArrayVec::new();
+    bytes.push(END);
+    let _fits = bytes.try_extend_from_slice(&count.to_be_bytes());
+    bytes
+}
+
+// Appends bytes for which there is room.
+fn put(head: &mut Head, bytes: &[u8])
+    requires { array_vec_len head.old + length bytes.now ≤ 34 }
+    ensures items { head.new.items ≡ head.old.items ++ bytes.now }
+    ensures len { array_vec_len head.new ≡ array_vec_len head.old + length bytes.now }
+{
+    let _fits = head.try_extend_from_slice(bytes);
+}
+
+fn put_key(head: &mut Head, key: &Key)
+    requires { array_vec_len head.old ≤ 1 }
+    ensures items { head.new.items ≡ head.old.items ++ key_bytes key.now }
+    ensures len { array_vec_len head.new ≡ array_vec_len head.old + 21 }
+{
+    let (tag, number) = match key.object.instance() {
+        Some(number) => (0, u128::from(number)),
+        None => (1, key.object.toi()),
+    };
+    put(head, &key.session.tsi().to_be_bytes()[2..]);
+    put(head, &[tag]);
+    put(head, &number.to_be_bytes()[2..]);
+}
+
+fn put_id(head: &mut Head, id: SymbolId)
+    requires { array_vec_len head.old ≤ 22 }
+    ensures items { head.new.items ≡ head.old.items ++ id_bytes id }
+    ensures len { array_vec_len head.new ≡ array_vec_len head.old + 4 }
+{
+    put(head, &id.sbn.to_be_bytes());
+    put(head, &id.esi.to_be_bytes());
+}
+
+fn put_info(head: &mut Head, info: &Info)
+    requires { array_vec_len head.old ≤ 22 }
+    ensures items { head.new.items ≡ head.old.items ++ info_bytes info.now }
+    ensures len { array_vec_len head.new ≡ array_vec_len head.old + 12 }
+{
+    put(head, &info.length().to_be_bytes()[2..]);
+    put(head, &info.symbol().to_be_bytes());
+    put(head, &info.block().to_be_bytes());
+}

@@ -1,0 +1,119 @@
+//! Reading a journal, entry by entry.
+ghost use Rattle.std.specs.Prelude.{◌≡◌, ℕ, ◌+◌, ◌<◌, ◌^◌, IfOk, IfSome, Some, None, if◌then◌else◌};
+ghost use Rattle.flute_journal.specs.Input.{failed};
+ghost use Rattle.flute_journal.specs.Reading.{Gives, ReadsFrom, is_open, stage_behind};
+
+use crate::fault::ReadFault;
+use crate::reading::{read_entry, read_header};
+use flute_parts::{Address, Fact, Source};
+use std::alloc::Global;
+
+/// Where a reader stands.
+#[derive(Clone, Copy)]
+pub enum Stage {
+    /// Before the header.
+    Header,
+    /// Behind whole entries.
+    Entries {
+        /// How many there are.
+        count: u64,
+        /// The address of the last.
+        last: Option<Address>,
+    },
+    /// Behind the end.
+    Ended,
+    /// At a fault, for good.
+    Failed(ReadFault),
+}
+
+/// A journal that is read entry by entry. It never reads past what it has given.
+#[derive(Drop)]
+pub struct JournalReader<'a, R> {
+    source: &'a mut R,
+    max_entries: u64,
+    stage: Stage,
+}
+
+impl<'a, R: Source> JournalReader<'a, R> {
+    /// A reader of the journal that the source holds, which may have at most `max_entries` entries. It takes no memory,
+    /// and reads nothing yet.
+    pub fn new(source: &'a mut R, max_entries: u64) -> JournalReader<'a, R>
+        ensures source { result.source.ghost_name ≡ source.entry.ghost_name }
+        ensures unread { result.source.now ≡ source.old }
+        ensures limit { result.max_entries ≡ max_entries }
+        ensures stage { result.stage ≡ Stage.Header }
+    {
+        JournalReader {
+            source,
+            max_entries,
+            stage: Stage::Header,
+        }
+    }
+
+    /// The next entry. None once the end was read and nothing follows it, and from then on.
+    ///
+    /// An entry is read field by field, and no byte past it. The bytes of a symbol are the only memory that is taken.
+    ///
+    /// # Errors
+    ///
+    /// The first fault of what stands there, in the order of the fields:
+    ///
+    /// - `Magic` and `Version` of the header;
+    /// - `Kind` of the first byte of an entry, and `TooMany` where that is a kind and `max_entries` entries were given;
+    /// - `Key` where the tag or the number of the object is out of range;
+    /// - `Order` where the address is not above that of the entry before;
+    /// - `Information` where transmission information is not valid, `EmptySymbol` where a symbol has no byte;
+    /// - `Count` where the number at the end is not that of the entries given, `Trailing` where a byte follows it;
+    /// - `Cut` where the input ends within a field;
+    /// - `Read` where the source fails in this call, and `OutOfMemory` where there is no memory for a symbol.
+    ///
+    /// Each later call answers the same fault, and reads nothing.
+    pub fn next(&mut self, alloc: Global) -> Result<Option<Fact>, ReadFault>
+        ensures source { self.new.source.ghost_name ≡ self.old.source.ghost_name }
+        ensures limit { self.new.max_entries ≡ self.old.max_entries }
+        ensures gives { Gives self.old.max_entries self.old.stage self.new.stage
+            (R.unread self.old.source.now) (R.unread self.new.source.now) result }
+        ensures failures { R.failures self.new.source.now
+            ≡ R.failures self.old.source.now + (if is_open self.old.stage then failed result else 0) }
+    {
+        let (count, given) = match self.stage {
+            Stage::Ended => return Ok(None),
+            Stage::Failed(fault) => return Err(fault),
+            Stage::Header => (0, read_first(alloc, self.source, self.max_entries)),
+            Stage::Entries { count, last } => (
+                count,
+                read_entry(alloc, self.source, self.max_entries, count, last),
+            ),
+        };
+        self.stage = stage_behind(count, &given);
+        given
+    }
+}
+
+// Reads the header, and then the first entry or the end.
+fn read_first<R: Source>(
+    alloc: Global,
+    source: &mut R,
+    max_entries: u64,
+) -> Result<Option<Fact>, ReadFault>
+    ensures reads { ReadsFrom max_entries Stage.Header (R.unread source.old) (R.unread source.new) result }
+    ensures failures { R.failures source.new ≡ R.failures source.old + failed result }
+{
+    read_header(source)?;
+    read_entry(alloc, source, max_entries, 0, None)
+}
+
+// Where a reader stands behind what it gave, if so many entries stood before.
+fn stage_behind(count: u64, given: &Result<Option<Fact>, ReadFault>) -> Stage
+    requires { IfOk given.now (λ o. IfSome o (λ _. count + 1 < 2 ^ 64)) }
+    ensures { result ≡ stage_behind count given.now }
+{
+    match given {
+        Ok(Some(fact)) => Stage::Entries {
+            count: count + 1,
+            last: Some(fact.address()),
+        },
+        Ok(None) => Stage::Ended,
+        Err(fault) => Stage::Failed(*fault),
+    }
+}

@@ -1,0 +1,124 @@
+//! The header, the entries and the end of a journal, out of a source.
+ghost use Rattle.std.specs.Prelude.{◌≡◌, ℕ, ◌+◌, ◌<◌, length as length_of};
+ghost use Rattle.std.specs.Io.KnownBytes.{Consumes, IsAtEnd};
+ghost use Rattle.std.specs.List.{AllByRecursion};
+ghost use Rattle.flute_journal.specs.Input.{Advances, Reads, IsFaultOf, StaysWithin, failed};
+ghost use Rattle.flute_journal.specs.Numbers.{in_bytes};
+ghost use Rattle.flute_journal.specs.Format.{header, body, entry};
+ghost use Rattle.flute_journal.specs.Faults.{header_fault};
+ghost use Rattle.flute_journal.specs.Journal.{IsByte, IsFact};
+ghost use Rattle.flute_journal.specs.Parsing.{at_place, fixed_size, fixed_bytes, FixedIs, BodyIs, IsBody, body_fault, cut_fault, end_fault};
+ghost use Rattle.flute_journal.specs.Reading.{ReadsNext, ReadsEnd};
+
+use crate::fault::ReadFault;
+use crate::format::{END, Fixed, Kind, LONGEST, check_end, check_header, parse};
+use crate::input::{fill, front};
+use flute_parts::{Address, Bytes, Fact, Source};
+use std::alloc::Global;
+
+/// Reads the magic number and the version.
+pub fn read_header<R: Source>(source: &mut R) -> Result<(), ReadFault>
+    ensures reads { Reads (λ _. header) (λ _. Unit {0}) header_fault (R.unread source.old) (R.unread source.new) result }
+    ensures advances { Advances (R.unread source.old) (R.unread source.new) 6 }
+    ensures failures { R.failures source.new ≡ R.failures source.old + failed result }
+{
+    let mut buffer = [0; 6];
+    let front = front(source, &mut buffer)?;
+    check_header(front)
+}
+
+/// Reads the next entry, or the end, behind so many entries, of which the last is at `last`. A journal may have
+/// `max_entries`.
+pub fn read_entry<R: Source>(
+    alloc: Global,
+    source: &mut R,
+    max_entries: u64,
+    count: u64,
+    last: Option<Address>,
+) -> Result<Option<Fact>, ReadFault>
+    ensures reads { ReadsNext max_entries (at_place count last) (R.unread source.old) (R.unread source.new) result }
+    ensures within { StaysWithin entry IsFact (R.unread source.old) (R.unread source.new) result }
+    ensures failures { R.failures source.new ≡ R.failures source.old + failed result }
+{
+    let mut buffer = [0; 1];
+    let Some(&byte) = front(source, &mut buffer)?.first() else {
+        return Err(ReadFault::Cut);
+    };
+    if byte == END {
+        read_end(source, count)?;
+        return Ok(None);
+    }
+    let Some(kind) = Kind::from_byte(byte) else {
+        return Err(ReadFault::Kind);
+    };
+    if count >= max_entries {
+        return Err(ReadFault::TooMany);
+    }
+    let fact = read_body(alloc, source, kind, last)?;
+    Ok(Some(fact))
+}
+
+// Reads the number of entries, behind which nothing may stand.
+fn read_end<R: Source>(source: &mut R, count: u64) -> Result<(), ReadFault>
+    ensures reads { ReadsEnd count (R.unread source.old) (R.unread source.new) result }
+    ensures advances { Advances (R.unread source.old) (R.unread source.new) 9 }
+    ensures failures { R.failures source.new ≡ R.failures source.old + failed result }
+{
+    let mut buffer = [0; 9];
+    let front = front(source, &mut buffer)?;
+    check_end(count, front)
+}
+
+// Reads what stands behind the kind of an entry.
+fn read_body<R: Source>(
+    alloc: Global,
+    source: &mut R,
+    kind: Kind,
+    last: Option<Address>,
+) -> Result<Fact, ReadFault>
+    ensures reads { Reads body (BodyIs last kind) (body_fault last kind) (R.unread source.old) (R.unread source.new) result }
+    ensures within { StaysWithin body (IsBody kind) (R.unread source.old) (R.unread source.new) result }
+    ensures failures { R.failures source.new ≡ R.failures source.old + failed result }
+{
+    match read_fixed(source, kind, last)? {
+        Fixed::Whole(fact) => Ok(fact),
+        Fixed::Symbol { key, id, length } => {
+            let bytes = read_bytes(alloc, source, length)?;
+            Ok(Fact::Symbol { key, id, bytes })
+        }
+    }
+}
+
+// Reads what stands behind the kind of an entry, up to the bytes of a symbol.
+fn read_fixed<R: Source>(
+    source: &mut R,
+    kind: Kind,
+    last: Option<Address>,
+) -> Result<Fixed, ReadFault>
+    ensures reads { Reads fixed_bytes (FixedIs last kind) (body_fault last kind) (R.unread source.old) (R.unread source.new) result }
+    ensures advances { Advances (R.unread source.old) (R.unread source.new) (fixed_size kind) }
+    ensures failures { R.failures source.new ≡ R.failures source.old + failed result }
+{
+    let mut buffer = [0; LONGEST];
+    let front = front(source, &mut buffer[..kind.fixed_size()])?;
+    parse(kind, last, front)
+}
+
+// Reads so many bytes of a symbol.
+fn read_bytes<R: Source>(alloc: Global, source: &mut R, length: u16) -> Result<Bytes, ReadFault>
+    requires { 0 < length }
+    ensures reads { Reads (λ bytes. bytes) (λ bytes. (length_of bytes ≡ length) × AllByRecursion IsByte bytes) (cut_fault length) (R.unread source.old) (R.unread source.new) result }
+    ensures advances { Advances (R.unread source.old) (R.unread source.new) length }
+    ensures failures { R.failures source.new ≡ R.failures source.old + failed result }
+{
+    let Ok(mut octets) = vec![in alloc; 0; usize::from(length)] else {
+        return Err(ReadFault::OutOfMemory);
+    };
+    if fill(source, &mut octets)? < usize::from(length) {
+        return Err(ReadFault::Cut);
+    }
+    match Bytes::from_vec(octets) {
+        Ok(bytes) => Ok(bytes),
+        Err(_) => Err(ReadFault::OutOfMemory),
+    }
+}
