@@ -7,3 +7,5 @@ pub mod Written
 pub mod Decoded
 pub mod Calls
 pub mod Bodies
+pub mod Orders
+pub mod Passes

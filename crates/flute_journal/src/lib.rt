@@ -4,6 +4,7 @@
 mod fault;
 mod format;
 mod input;
+pub mod laws;
 mod reader;
 mod reading;
 pub mod writing;

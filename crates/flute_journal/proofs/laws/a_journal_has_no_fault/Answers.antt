@@ -1,0 +1,9 @@
+use Rattle.std.proofs.Common.{◌≡◌, ℕ, ◌≤◌, length, List, None, sym, ap, ◌∙◌, arith}
+use Rattle.flute_parts.specs.Facts.{fact_at}
+use Rattle.flute_journal.proofs.Passes.{beyond, front-below}
+use Rattle.flute_journal.proofs.laws.a_journal_has_no_fault.Goals as goal
+
+pub returns : goal.returns
+returns c bs limit es fs f small j s =
+    let b = beyond limit es fs bs f j.are_entries.valid j.are_entries.rising (omega (arith, small, j.are_entries.few)) j.bytes_are s in
+    omega (arith, b.1, j.are_entries.few)
