@@ -6,3 +6,5 @@ pub mod Input
 pub mod Parsing
 pub mod Reading
 pub mod Writing
+pub mod Examples
+pub mod Readers

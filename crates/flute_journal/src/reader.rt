@@ -1,6 +1,7 @@
 //! Reading a journal, entry by entry.
 ghost use Rattle.std.specs.Prelude.{◌≡◌, ℕ, ◌+◌, ◌<◌, ◌^◌, IfOk, IfSome, Some, None, if◌then◌else◌};
 ghost use Rattle.flute_journal.specs.Input.{failed};
+ghost use Rattle.flute_journal.specs.Readers.{source_of, limit_of, stage_of};
 ghost use Rattle.flute_journal.specs.Reading.{Gives, ReadsFrom, is_open, stage_behind};
 
 use crate::fault::ReadFault;
@@ -38,10 +39,10 @@ impl<'a, R: Source> JournalReader<'a, R> {
     /// A reader of the journal that the source holds, which may have at most `max_entries` entries. It takes no memory,
     /// and reads nothing yet.
     pub fn new(source: &'a mut R, max_entries: u64) -> JournalReader<'a, R>
-        ensures source { result.source.ghost_name ≡ source.entry.ghost_name }
-        ensures unread { result.source.now ≡ source.old }
-        ensures limit { result.max_entries ≡ max_entries }
-        ensures stage { result.stage ≡ Stage.Header }
+        ensures source { (source_of result).ghost_name ≡ source.entry.ghost_name }
+        ensures unread { (source_of result).now ≡ source.old }
+        ensures limit { limit_of result ≡ max_entries }
+        ensures stage { stage_of result ≡ Stage.Header }
     {
         JournalReader {
             source,
@@ -69,12 +70,12 @@ impl<'a, R: Source> JournalReader<'a, R> {
     ///
     /// Each later call answers the same fault, and reads nothing.
     pub fn next(&mut self, alloc: Global) -> Result<Option<Fact>, ReadFault>
-        ensures source { self.new.source.ghost_name ≡ self.old.source.ghost_name }
-        ensures limit { self.new.max_entries ≡ self.old.max_entries }
-        ensures gives { Gives self.old.max_entries self.old.stage self.new.stage
-            (R.unread self.old.source.now) (R.unread self.new.source.now) result }
-        ensures failures { R.failures self.new.source.now
-            ≡ R.failures self.old.source.now + (if is_open self.old.stage then failed result else 0) }
+        ensures source { (source_of self.new).ghost_name ≡ (source_of self.old).ghost_name }
+        ensures limit { limit_of self.new ≡ limit_of self.old }
+        ensures gives { Gives (limit_of self.old) (stage_of self.old) (stage_of self.new)
+            (R.unread (source_of self.old).now) (R.unread (source_of self.new).now) result }
+        ensures failures { R.failures (source_of self.new).now
+            ≡ R.failures (source_of self.old).now + (if is_open (stage_of self.old) then failed result else 0) }
     {
         let (count, given) = match self.stage {
             Stage::Ended => return Ok(None),

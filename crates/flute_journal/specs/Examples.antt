@@ -1,0 +1,162 @@
+-- Worked examples, computed from the definitions.
+use Rattle.std.specs.Prelude.{◌≡◌, refl, ℕ, List, [], ◌∷◌, ◌++◌, replicate, Option, Some, None}
+use Rattle.flute_parts.specs.Session.{session}
+use Rattle.flute_parts.specs.Information.{information}
+use Rattle.flute_parts.specs.Facts.{IsRising, fact_at}
+use Rattle.flute_parts.specs.declared.info.InfoFault.TheVariants.{SymbolLength}
+use Rattle.flute_parts.specs.declared.object_key.ObjectName.TheVariants.{Instance, File}
+use Rattle.flute_parts.specs.declared.key.Key.{Key}
+use Rattle.flute_parts.specs.declared.symbol_id.SymbolId.{SymbolId}
+use Rattle.flute_parts.specs.declared.address.Part.TheVariants.{Symbol as SymbolPart}
+use Rattle.flute_parts.specs.declared.fact.Fact.{Fact}
+use Rattle.flute_parts.specs.declared.fact.Fact.TheVariants.{Info, InfoConflict, Symbol, SymbolConflict}
+use Rattle.flute_journal.specs.declared.fault.ReadFault.{ReadFault}
+use Rattle.flute_journal.specs.declared.fault.ReadFault.TheVariants as faults
+use Rattle.flute_journal.specs.Format.{header, key_bytes, spelling}
+use Rattle.flute_journal.specs.Faults.{header_fault, next_fault}
+use Rattle.flute_journal.specs.Journal.{before}
+
+-- file 1 of session 7, of 5 bytes in symbols of 4 bytes and blocks of at most 2 symbols
+abbrev key : Key
+key = record { session = session 7; object = File 1 }
+
+abbrev id : ℕ → SymbolId
+id n = record { sbn = 0; esi = n }
+
+abbrev info : Fact
+info = Info key (information 5 4 2)
+
+abbrev hell : Fact
+hell = Symbol key (id 0) (0x68 ∷ 0x65 ∷ 0x6C ∷ 0x6C ∷ [])
+
+abbrev letter_o : Fact
+letter_o = Symbol key (id 1) (0x6F ∷ [])
+
+abbrev padded_o : Fact
+padded_o = Symbol key (id 1) (0x6F ∷ 0 ∷ 0 ∷ 0 ∷ [])
+
+abbrev letter_x : Fact
+letter_x = Symbol key (id 2) (0x78 ∷ [])
+
+-- its key
+abbrev k : List ℕ
+k = 0 ∷ 0 ∷ 0 ∷ 0 ∷ 0 ∷ 7 ∷ 1 ∷ 0 ∷ 0 ∷ 0 ∷ 0 ∷ 0 ∷ 0 ∷ 0 ∷ 0 ∷ 0 ∷ 0 ∷ 0 ∷ 0 ∷ 0 ∷ 1 ∷ []
+
+key-bytes : key_bytes key ≡ k
+key-bytes = refl
+
+-- what stands behind the key of an entry
+abbrev info_rest : List ℕ
+info_rest = 0 ∷ 0 ∷ 0 ∷ 0 ∷ 0 ∷ 5 ∷ 0 ∷ 4 ∷ 0 ∷ 0 ∷ 0 ∷ 2 ∷ []
+
+abbrev hell_rest : List ℕ
+hell_rest = 0 ∷ 0 ∷ 0 ∷ 0 ∷ 0 ∷ 4 ∷ 0x68 ∷ 0x65 ∷ 0x6C ∷ 0x6C ∷ []
+
+abbrev letter_o_rest : List ℕ
+letter_o_rest = 0 ∷ 0 ∷ 0 ∷ 1 ∷ 0 ∷ 1 ∷ 0x6F ∷ []
+
+abbrev padded_o_rest : List ℕ
+padded_o_rest = 0 ∷ 0 ∷ 0 ∷ 1 ∷ 0 ∷ 4 ∷ 0x6F ∷ 0 ∷ 0 ∷ 0 ∷ []
+
+abbrev letter_x_rest : List ℕ
+letter_x_rest = 0 ∷ 0 ∷ 0 ∷ 2 ∷ 0 ∷ 1 ∷ 0x78 ∷ []
+
+abbrev end_bytes : ℕ → List ℕ
+end_bytes n = 0xFF ∷ replicate 7 0 ++ n ∷ []
+
+-- The journals of no fact, of a whole object, of a conflict, of other symbols of the object, and of the two joined.
+
+nothing : spelling [] ≡ 0x46 ∷ 0x4C ∷ 0x4A ∷ 0x4E ∷ 0 ∷ 1 ∷ 0xFF ∷ 0 ∷ 0 ∷ 0 ∷ 0 ∷ 0 ∷ 0 ∷ 0 ∷ 0 ∷ []
+nothing = refl
+
+whole : spelling (info ∷ hell ∷ letter_o ∷ []) ≡ 0x46 ∷ 0x4C ∷ 0x4A ∷ 0x4E ∷ 0 ∷ 1
+    ∷ 1 ∷ k ++ info_rest ++ 3 ∷ k ++ hell_rest ++ 3 ∷ k ++ letter_o_rest ++ end_bytes 3
+whole = refl
+
+conflict : spelling (InfoConflict key ∷ []) ≡ header ++ 2 ∷ k ++ end_bytes 1
+conflict = refl
+
+others : spelling (hell ∷ padded_o ∷ letter_x ∷ []) ≡ header ++ 3 ∷ k ++ hell_rest ++ 3 ∷ k ++ padded_o_rest ++ 3 ∷ k ++ letter_x_rest ++ end_bytes 3
+others = refl
+
+joined : spelling (info ∷ hell ∷ SymbolConflict key (id 1) ∷ letter_x ∷ [])
+    ≡ header ++ 1 ∷ k ++ info_rest ++ 3 ∷ k ++ hell_rest ++ 4 ∷ k ++ 0 ∷ 0 ∷ 0 ∷ 1 ∷ 3 ∷ k ++ letter_x_rest ++ end_bytes 4
+joined = refl
+
+-- The entries of the last are in order, and what the two before it come to.
+
+joined-rising : IsRising (info ∷ hell ∷ SymbolConflict key (id 1) ∷ letter_x ∷ [])
+joined-rising = ((refl, (refl, (refl, tt))), ((refl, (refl, tt)), ((refl, tt), (tt, tt))))
+
+joined-conflict : fact_at ((info ∷ hell ∷ letter_o ∷ []) ++ (hell ∷ padded_o ∷ letter_x ∷ [])) (record { key = key; part = SymbolPart (id 1) }) ≡ Some (SymbolConflict key (id 1))
+unfolding fact_at
+joined-conflict = refl
+
+-- A header that is none.
+
+header-whole : header_fault (header ++ end_bytes 0) ≡ None
+header-whole = refl
+
+header-magic : header_fault (0x47 ∷ 0x4C ∷ 0x4A ∷ 0x4E ∷ 0 ∷ 1 ∷ []) ≡ Some faults.Magic
+header-magic = refl
+
+header-version : header_fault (0x46 ∷ 0x4C ∷ 0x4A ∷ 0x4E ∷ 0 ∷ 3 ∷ []) ≡ Some faults.Version
+header-version = refl
+
+header-cut : (header_fault (0x46 ∷ 0x4C ∷ []) ≡ Some faults.Cut) × (header_fault (0x46 ∷ 0x4C ∷ 0x4A ∷ 0x4E ∷ 9 ∷ []) ≡ Some faults.Cut)
+header-cut = (refl, refl)
+
+-- What may stand behind entries.
+
+abbrev fault_behind : List Fact → List ℕ → Option ReadFault
+fault_behind entries bytes = next_fault (before entries) 16777216 bytes
+
+goes-on : (fault_behind [] (1 ∷ k ++ info_rest ++ 3 ∷ k) ≡ None) × (fault_behind (info ∷ []) (3 ∷ k ++ hell_rest ++ 3 ∷ []) ≡ None)
+    × (fault_behind (info ∷ hell ∷ letter_o ∷ []) (end_bytes 3) ≡ None)
+goes-on = (refl, refl, refl)
+
+-- two entries that are swapped, or one that stands twice
+out-of-order : (fault_behind (info ∷ letter_o ∷ []) (3 ∷ k ++ hell_rest ++ end_bytes 3) ≡ Some faults.Order)
+    × (fault_behind (info ∷ hell ∷ letter_o ∷ []) (3 ∷ k ++ letter_o_rest ++ end_bytes 4) ≡ Some faults.Order)
+out-of-order = (refl, refl)
+
+-- information behind information of one object: told before it is looked at
+second-information : (fault_behind (info ∷ []) (2 ∷ k ++ end_bytes 2) ≡ Some faults.Order)
+    × (fault_behind (info ∷ []) (1 ∷ k ++ 0 ∷ 0 ∷ 0 ∷ 0 ∷ 0 ∷ 5 ∷ 0 ∷ 4 ∷ 0 ∷ 0 ∷ 0 ∷ 0 ∷ []) ≡ Some faults.Order)
+second-information = (refl, refl)
+
+end-count : fault_behind (info ∷ hell ∷ letter_o ∷ []) (end_bytes 4) ≡ Some faults.Count
+end-count = refl
+
+end-trailing : fault_behind (info ∷ hell ∷ letter_o ∷ []) (end_bytes 3 ++ 0 ∷ []) ≡ Some faults.Trailing
+end-trailing = refl
+
+-- a kind that is none is told before the bound is looked at
+no-kind : (fault_behind [] (5 ∷ k ++ info_rest) ≡ Some faults.Kind) × (next_fault (before []) 0 (5 ∷ []) ≡ Some faults.Kind)
+no-kind = (refl, refl)
+
+-- a tag that is none, a file 0, and an FDT Instance of more than 20 bits; but a file of 112 bits
+no-key : (fault_behind [] (1 ∷ 0 ∷ 0 ∷ 0 ∷ 0 ∷ 0 ∷ 7 ∷ 2 ∷ replicate 13 0 ++ 1 ∷ info_rest) ≡ Some faults.Key)
+    × (fault_behind [] (1 ∷ 0 ∷ 0 ∷ 0 ∷ 0 ∷ 0 ∷ 7 ∷ 1 ∷ replicate 14 0 ++ info_rest) ≡ Some faults.Key)
+    × (fault_behind [] (2 ∷ 0 ∷ 0 ∷ 0 ∷ 0 ∷ 0 ∷ 7 ∷ 0 ∷ replicate 11 0 ++ 0x10 ∷ 0 ∷ 0 ∷ []) ≡ Some faults.Key)
+no-key = (refl, refl, refl)
+
+greatest-key : fault_behind [] (2 ∷ 0 ∷ 0 ∷ 0 ∷ 0 ∷ 0 ∷ 7 ∷ 1 ∷ replicate 14 0xFF) ≡ None
+greatest-key = refl
+
+no-information : fault_behind [] (1 ∷ k ++ 0 ∷ 0 ∷ 0 ∷ 0 ∷ 0 ∷ 5 ∷ 0 ∷ 0 ∷ 0 ∷ 0 ∷ 0 ∷ 2 ∷ []) ≡ Some (faults.Information SymbolLength)
+no-information = refl
+
+no-symbol : fault_behind (info ∷ hell ∷ []) (3 ∷ k ++ 0 ∷ 0 ∷ 0 ∷ 1 ∷ 0 ∷ 0 ∷ 0x6F ∷ end_bytes 3) ≡ Some faults.EmptySymbol
+no-symbol = refl
+
+-- the bound is that of the entries, not of the end
+too-many : (next_fault (before (info ∷ hell ∷ [])) 2 (3 ∷ k ++ letter_o_rest) ≡ Some faults.TooMany) × (next_fault (before []) 0 (1 ∷ k ++ info_rest) ≡ Some faults.TooMany)
+    × (next_fault (before []) 0 (end_bytes 0) ≡ None) × (next_fault (before (info ∷ hell ∷ letter_o ∷ [])) 3 (end_bytes 3) ≡ None)
+too-many = (refl, refl, refl, refl)
+
+-- an input that ends before an entry, behind its kind, within its key, within its rest, or within the end
+cut-short : (fault_behind (info ∷ []) [] ≡ Some faults.Cut) × (fault_behind (info ∷ []) (3 ∷ []) ≡ Some faults.Cut) × (fault_behind (info ∷ []) (3 ∷ 0 ∷ 0 ∷ []) ≡ Some faults.Cut)
+    × (fault_behind [] (1 ∷ k ++ 0 ∷ []) ≡ Some faults.Cut) × (fault_behind [] (3 ∷ k ++ 0 ∷ 0 ∷ 0 ∷ 0 ∷ 0xFF ∷ 0xFF ∷ 0x61 ∷ []) ≡ Some faults.Cut)
+    × (fault_behind [] (0xFF ∷ 0 ∷ 0 ∷ []) ≡ Some faults.Cut)
+cut-short = (refl, refl, refl, refl, refl, refl)
