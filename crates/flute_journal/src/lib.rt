@@ -11,3 +11,6 @@ pub mod writing;
 
 pub use fault::{ReadFault, SaveFault};
 pub use reader::JournalReader;
+
+#[cfg(test)]
+mod tests;

@@ -4,6 +4,7 @@ mod joins;
 mod listing;
 mod partitions;
 mod sinks;
+mod sources;
 
 use crate::{
     Address, Bytes, BytesFault, DeviceFault, Fact, FactRef, Info, InfoFault, Key, ObjectKey, Part,
