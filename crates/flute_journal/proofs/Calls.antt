@@ -38,18 +38,20 @@ reads_entries limit count last u v (Err f) h w =
     (h, (w.0, w.1, record { front = []; more = w.0; parts = refl; within_opening = omega arith; within_entry = w.2 }))
 
 pub reads_header : (limit : ℕ) (u v : Option (List ℕ)) (f : ReadFault) → IsFaultOf header_fault u f → Advances u v 6 → ReadsFrom limit Header u v (Err f)
-reads_header limit u v f h a =
-    (fault-weaker u header_fault (fault_from Header limit) f (λ bs e. ap (λ o. or_else o (next_fault (position Header) limit (drop 6 bs))) e) h,
-    (a.0, a.1, record { front = a.0; more = []; parts = sym (append-nil a.0); within_opening = a.2; within_entry = entry_within-short [] (omega arith) }))
+reads_header limit u v f h a = (
+  fault-weaker u header_fault (fault_from Header limit) f (λ bs e. ap (λ o. or_else o (next_fault (position Header) limit (drop 6 bs))) e) h,
+  (a.0, a.1, record { front = a.0; more = []; parts = sym (append-nil a.0); within_opening = a.2; within_entry = entry_within-short [] (omega arith) }),
+)
 
 pub reads_first : (limit : ℕ) (u v w : Option (List ℕ)) (r : Result (Option Fact) ReadFault) → Consumes u v header
     → ReadsNext limit (at_place 0 None) v w r → StaysWithin entry IsFact v w r → ReadsFrom limit Header u w r
 reads_first limit u v w (Ok (Some f)) took h s = (h.0, h.1, h.2, Consumes-trans u v w header (entry f) took h.3)
 reads_first limit u v w (Ok None) took h s = (Consumes-trans u v w header (end 0) took h.0, h.1)
-reads_first limit u v w (Err f) took h s =
-    (fault-behind u v header (fault_from Header limit) (next_fault (at_place 0 None) limit) f took
-    (λ r e. ap (λ o. or_else o (next_fault (position Header) limit (drop 6 (header ++ r)))) (header_passes r) ∙ e) h,
-    (header ++ s.0, Consumes-trans u v w header s.0 took s.1, record { front = header; more = s.0; parts = refl; within_opening = omega arith; within_entry = s.2 }))
+reads_first limit u v w (Err f) took h s = (
+  fault-behind u v header (fault_from Header limit) (next_fault (at_place 0 None) limit) f took
+      (λ r e. ap (λ o. or_else o (next_fault (position Header) limit (drop 6 (header ++ r)))) (header_passes r) ∙ e) h,
+  (header ++ s.0, Consumes-trans u v w header s.0 took s.1, record { front = header; more = s.0; parts = refl; within_opening = omega arith; within_entry = s.2 }),
+)
 
 pub gives : (limit : ℕ) (old new : Stage) (u v : Option (List ℕ)) (r : Result (Option Fact) ReadFault) → is_open old ≡ true
     → new ≡ stage_behind (position old).count r → ReadsFrom limit old u v r → Gives limit old new u v r

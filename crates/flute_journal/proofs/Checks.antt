@@ -35,14 +35,16 @@ make_key s o = record { session = session s; object = o }
 pub key_read : (s : ℕ) (o : ObjectName) → s < 2 ^ 48 → IsObjectName o → (key_in (key_bytes (make_key s o)) ≡ make_key s o) × (is_key (key_bytes (make_key s o)) ≡ true)
 key_read s (Instance n) lt p =
     let session : big_endian (in_bytes 6 s) ≡ s = number-in_bytes 6 s (omega (arith, lt)) in
-    let object : big_endian (in_bytes 14 n) ≡ n = number-in_bytes 14 n (omega (arith, p)) in
-    (ap (λ k. make_key k (Instance (big_endian (in_bytes 14 n)))) session ∙ ap (λ k. make_key s (Instance k)) object,
-    rw (lt-ltb (big_endian (in_bytes 14 n)) (2 ^ 20) (omega (arith, object, p))) refl)
+    let object : big_endian (in_bytes 14 n) ≡ n = number-in_bytes 14 n (omega (arith, p)) in (
+      ap (λ k. make_key k (Instance (big_endian (in_bytes 14 n)))) session ∙ ap (λ k. make_key s (Instance k)) object,
+      rw (lt-ltb (big_endian (in_bytes 14 n)) (2 ^ 20) (omega (arith, object, p))) refl,
+    )
 key_read s (File n) lt p =
     let session : big_endian (in_bytes 6 s) ≡ s = number-in_bytes 6 s (omega (arith, lt)) in
-    let object : big_endian (in_bytes 14 n) ≡ n = number-in_bytes 14 n (omega (arith, p.1)) in
-    (ap (λ k. make_key k (File (big_endian (in_bytes 14 n)))) session ∙ ap (λ k. make_key s (File k)) object,
-    rw (lt-ltb 0 (big_endian (in_bytes 14 n)) (omega (arith, object, p.0))) refl)
+    let object : big_endian (in_bytes 14 n) ≡ n = number-in_bytes 14 n (omega (arith, p.1)) in (
+      ap (λ k. make_key k (File (big_endian (in_bytes 14 n)))) session ∙ ap (λ k. make_key s (File k)) object,
+      rw (lt-ltb 0 (big_endian (in_bytes 14 n)) (omega (arith, object, p.0))) refl,
+    )
 
 object_length : (o : ObjectName) → length (object_bytes o) + 6 ≡ 21
 object_length (Instance n) = refl
@@ -50,7 +52,6 @@ object_length (File n) = refl
 
 pub length-key_bytes : (k : Key) → length (key_bytes k) ≡ 21
 length-key_bytes k = omega (arith, length-append (in_bytes 6 k.session.tsi) (object_bytes k.object), object_length k.object, length-in_bytes 6 k.session.tsi)
-
 
 -- a key that was spelled passes, and what is read is the key
 pub key_passes : (k : Key) (rest : List ℕ) (more : Key → List ℕ → List Check) → IsKey k

@@ -64,9 +64,9 @@ info_read key info bs len h is = ap (λ (x : List ℕ). key_bytes key ++ x) (ap 
 pub key_wrong : (k : Kind) (last : Option Address) (bs a b : List ℕ) → IsSplitAt bs 21 a b → is_key a ≡ false → StopsFront (fixed_size k) (body_fault last k) bs faults.Key
 key_wrong k last bs a b s wrong =
     let stop = λ (r : List ℕ).
-        first-pass (cut 21 (a ++ r)) ((not (is_key (take 21 (a ++ r))), faults.Key) ∷ rest_checks (at_place 0 last) (byte_of k) (key_in (take 21 (a ++ r))) (drop 21 (a ++ r))) (cut-passes 21 a r (omega (arith, s.3)))
-        ∙ first-stop (not (is_key (take 21 (a ++ r))), faults.Key) (rest_checks (at_place 0 last) (byte_of k) (key_in (take 21 (a ++ r))) (drop 21 (a ++ r)))
-          (ap (λ (x : List ℕ). not (is_key x)) (take_at a r 21 s.3) ∙ ap not wrong) in
+    first-pass (cut 21 (a ++ r)) ((not (is_key (take 21 (a ++ r))), faults.Key) ∷ rest_checks (at_place 0 last) (byte_of k) (key_in (take 21 (a ++ r))) (drop 21 (a ++ r))) (cut-passes 21 a r (omega (arith, s.3)))
+    ∙ first-stop (not (is_key (take 21 (a ++ r))), faults.Key) (rest_checks (at_place 0 last) (byte_of k) (key_in (take 21 (a ++ r))) (drop 21 (a ++ r)))
+    (ap (λ (x : List ℕ). not (is_key x)) (take_at a r 21 s.3) ∙ ap not wrong) in
     stops_here (fixed_size k) (body_fault last k) bs faults.Key (λ h. cc) (λ h. cc)
     (λ r. ap (λ (x : List ℕ). body_fault last k (x ++ r)) (joined bs a b 21 s) ∙ ap (body_fault last k) (append_assoc a b r) ∙ stop (b ++ r))
 
@@ -86,6 +86,6 @@ pub parsed_at : (kind k : Kind) (last : Option Address) (key : Key) (bs a b : Li
     → Parses (fixed_size kind) (λ x. FixedIs last kind x × (fixed_bytes x ≡ bs)) (body_fault last kind) bs r
 parsed_at kind k last key bs a b r e s h passes is valid p =
     let spelled_key : bs ≡ key_bytes key ++ b =
-        joined bs a b 21 s ∙ ap (λ (x : List ℕ). x ++ b) (sym (key_spelled a s.3 (front_octets bs a b 21 s h) passes) ∙ ap key_bytes (sym is)) in
+    joined bs a b 21 s ∙ ap (λ (x : List ℕ). x ++ b) (sym (key_spelled a s.3 (front_octets bs a b 21 s h) passes) ∙ ap key_bytes (sym is)) in
     subst (λ z. Parses (fixed_size z) (λ x. FixedIs last z x × (fixed_bytes x ≡ bs)) (body_fault last z) bs r) (sym e)
     (behind_key k last key bs b r valid spelled_key p)

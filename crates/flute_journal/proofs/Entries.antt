@@ -59,8 +59,8 @@ id-injective a b x y p q e =
 info-injective : (a b : Information) (x y : List ℕ) → a.transfer_length < 2 ^ 48 → b.transfer_length < 2 ^ 48 → IsInfo a → IsInfo b → info_bytes a ++ x ≡ info_bytes b ++ y → (a ≡ b) × (x ≡ y)
 info-injective a b x y la lb p q e =
     let group = λ (i : Information) (z : List ℕ).
-        ap (λ (w : List ℕ). w) (append_assoc (in_bytes 6 i.transfer_length ++ in_bytes 2 i.symbol_length) (in_bytes 4 i.max_block_length) z)
-        ∙ append_assoc (in_bytes 6 i.transfer_length) (in_bytes 2 i.symbol_length) (in_bytes 4 i.max_block_length ++ z) in
+    ap (λ (w : List ℕ). w) (append_assoc (in_bytes 6 i.transfer_length ++ in_bytes 2 i.symbol_length) (in_bytes 4 i.max_block_length) z)
+    ∙ append_assoc (in_bytes 6 i.transfer_length) (in_bytes 2 i.symbol_length) (in_bytes 4 i.max_block_length ++ z) in
     let grouped = sym (group a x) ∙ e ∙ group b y in
     let l = in_bytes-injective 6 a.transfer_length b.transfer_length _ _ (omega (arith, la)) (omega (arith, lb)) grouped in
     let s = in_bytes-injective 2 a.symbol_length b.symbol_length _ _ (omega (arith, p.0)) (omega (arith, q.0)) l.1 in
@@ -70,10 +70,11 @@ info-injective a b x y la lb p q e =
 -- a length in 48 bits is a part of what makes information valid
 pub length_fits : (i : Information) → IsInfo i → i.transfer_length < 2 ^ 48
 length_fits i p = elim (cases_lt i.transfer_length (2 ^ 48)) [
-    inl lt ↦ lt
+  | inl lt ↦ lt
   | inr le ↦ absurd (let long : leb (2 ^ 48) i.transfer_length ≡ true = le-leb _ _ le in
-        let at_fault : info_fault i ≡ Some faults.Length = rw long refl in
-        none_is_not_some (sym p.2 ∙ at_fault)) ]
+      let at_fault : info_fault i ≡ Some faults.Length = rw long refl in
+      none_is_not_some (sym p.2 ∙ at_fault))
+]
 
 symbol-injective : (a b : List ℕ) (x y : List ℕ) → IsSymbol a → IsSymbol b → symbol_bytes a ++ x ≡ symbol_bytes b ++ y → (a ≡ b) × (x ≡ y)
 symbol-injective a b x y p q e =

@@ -34,7 +34,6 @@ fault-here u v front whole faults.Read took e = tt
 fault-here u v front whole faults.OutOfMemory took e = tt
 fault-here u v front whole f took e = known-here u v front whole (Some f) took e
 
-
 -- Fronts alone.
 
 -- they have a fault that isn't the end of the input

@@ -28,7 +28,7 @@ number-from n (b ∷ bs) =
     let power : 256 ^ suc (length bs) ≡ 256 * P = pow-succ' 256 (length bs) in
     let left : add_byte n b * P ≡ 256 * n * P + b * P = add-mul (256 * n) b P in
     let turned : n * 256 ^ suc (length bs) ≡ 256 * n * P =
-        ap (λ k. n * k) power ∙ sym (mul_assoc n 256 P) ∙ ap (λ k. k * P) (mul_comm n 256) in
+    ap (λ k. n * k) power ∙ sym (mul_assoc n 256 P) ∙ ap (λ k. k * P) (mul_comm n 256) in
     omega (arith, here, left, turned)
 
 pub number-folded : (bs : List ℕ) → fold add_byte 0 bs ≡ big_endian bs
@@ -75,10 +75,10 @@ in_bytes-number (b ∷ bs) h =
     let P : ℕ = 256 ^ length bs in
     let rest = number-below bs h.1 in
     let top : byte_at (length bs) (b * P + big_endian bs) ≡ b =
-        byte_at-is (length bs) (b * P + big_endian bs)
-        ∙ ap (λ k. k % 256) (mul-add-div_right {m = P} (power_some (length bs)) b (big_endian bs) ∙ ap (λ k. b + k) (div-eq_of_lt rest))
-        ∙ ap (λ k. k % 256) (let e : b + 0 ≡ b = omega arith in e)
-        ∙ mod-eq_of_lt h.0 in
+    byte_at-is (length bs) (b * P + big_endian bs)
+    ∙ ap (λ k. k % 256) (mul-add-div_right {m = P} (power_some (length bs)) b (big_endian bs) ∙ ap (λ k. b + k) (div-eq_of_lt rest))
+    ∙ ap (λ k. k % 256) (let e : b + 0 ≡ b = omega arith in e)
+    ∙ mod-eq_of_lt h.0 in
     ap (λ k. k ∷ in_bytes (length bs) (b * P + big_endian bs)) top
     ∙ ap (λ k. b ∷ k) (in_bytes-below (length bs) b (big_endian bs) ∙ in_bytes-number bs h.1)
 
@@ -106,9 +106,9 @@ number-in_bytes (suc k) n lt =
 pub in_bytes-injective : (k m n : ℕ) (x y : List ℕ) → m < 256 ^ k → n < 256 ^ k → in_bytes k m ++ x ≡ in_bytes k n ++ y → (m ≡ n) × (x ≡ y)
 in_bytes-injective k m n x y small other e =
     let front : in_bytes k m ≡ in_bytes k n =
-        sym (take_at (in_bytes k m) x k (length-in_bytes k m)) ∙ ap (take k) e ∙ take_at (in_bytes k n) y k (length-in_bytes k n) in
+    sym (take_at (in_bytes k m) x k (length-in_bytes k m)) ∙ ap (take k) e ∙ take_at (in_bytes k n) y k (length-in_bytes k n) in
     let back : x ≡ y =
-        sym (drop_at (in_bytes k m) x k (length-in_bytes k m)) ∙ ap (drop k) e ∙ drop_at (in_bytes k n) y k (length-in_bytes k n) in
+    sym (drop_at (in_bytes k m) x k (length-in_bytes k m)) ∙ ap (drop k) e ∙ drop_at (in_bytes k n) y k (length-in_bytes k n) in
     (sym (number-in_bytes k m small) ∙ ap big_endian front ∙ number-in_bytes k n other, back)
 
 pub octets : (bs : List ℕ) → ((i : ℕ) → get_or bs i 0 < 256) → AllByRecursion IsByte bs

@@ -133,7 +133,6 @@ symbol_cut last key id n r kv iv e some small =
     ∙ length_passes (in_bytes 2 n) r refl (omega (arith, size, some))
     ∙ ap (λ k. cut_fault k r) size
 
-
 -- what stands behind the kind of an entry within the bound
 pub body_comes : (limit count : ℕ) (last : Option Address) (k : Kind) (r : List ℕ) → count < limit → next_fault (at_place count last) limit (byte_of k ∷ r) ≡ body_fault last k r
 body_comes limit count last kinds.Info r few = first-pass (leb limit count, faults.TooMany) (body_checks (at_place count last) 1 r) (lt-leb limit count few)
@@ -195,11 +194,11 @@ pub symbol_within : (key : Key) (id : SymbolId) (n : ℕ) (p : List ℕ) → IsK
     → IsWithin body (IsBody kinds.Symbol) ((key_bytes key ++ (id_bytes id ++ in_bytes 2 n)) ++ p)
 symbol_within key id n p kv iv small few (Symbol l j b) more v e =
     let whole : key_bytes key ++ (id_bytes id ++ (in_bytes 2 n ++ p)) ≡ key_bytes l ++ (id_bytes j ++ (in_bytes 2 (length b) ++ (b ++ more))) =
-        ap (λ (z : List ℕ). key_bytes key ++ z) (sym (append_assoc (id_bytes id) (in_bytes 2 n) p))
-        ∙ sym (append_assoc (key_bytes key) (id_bytes id ++ in_bytes 2 n) p)
-        ∙ e
-        ∙ append_assoc (key_bytes l) (id_bytes j ++ symbol_bytes b) more
-        ∙ ap (λ (z : List ℕ). key_bytes l ++ z) (append_assoc (id_bytes j) (symbol_bytes b) more ∙ ap (λ (z : List ℕ). id_bytes j ++ z) (append_assoc (in_bytes 2 (length b)) b more)) in
+    ap (λ (z : List ℕ). key_bytes key ++ z) (sym (append_assoc (id_bytes id) (in_bytes 2 n) p))
+    ∙ sym (append_assoc (key_bytes key) (id_bytes id ++ in_bytes 2 n) p)
+    ∙ e
+    ∙ append_assoc (key_bytes l) (id_bytes j ++ symbol_bytes b) more
+    ∙ ap (λ (z : List ℕ). key_bytes l ++ z) (append_assoc (id_bytes j) (symbol_bytes b) more ∙ ap (λ (z : List ℕ). id_bytes j ++ z) (append_assoc (in_bytes 2 (length b)) b more)) in
     let k = key-injective key l _ _ kv v.1.0 whole in
     let i = id-injective id j _ _ iv v.1.1 k.1 in
     let s = in_bytes-injective 2 n (length b) p (b ++ more) (omega (arith, small)) (omega (arith, v.1.2.short)) i.1 in

@@ -129,15 +129,17 @@ beyond_more : (limit n : ℕ) (fs more : List Fact) (rest : List ℕ) (f : ReadF
 beyond_more limit n fs [] rest f p q is small e h =
     let same : n ≡ length fs = is ∙ ap length (append-nil fs) in
     absurd (none_some (sym (end-passes limit (length fs) (last_of None fs) (omega (arith, same, small)))
-        ∙ ap (λ k. next_fault (before fs) limit (end k)) (sym same) ∙ ap (next_fault (before fs) limit) (sym e) ∙ h))
+    ∙ ap (λ k. next_fault (before fs) limit (end k)) (sym same) ∙ ap (next_fault (before fs) limit) (sym e) ∙ h))
 beyond_more limit n fs (g ∷ gs) rest f p q is small e h =
     let split : rest ≡ entry g ++ (flat_map entry gs ++ end n) = e ∙ cons_grouped g gs (end n) in
     elim (cases_lt (length fs) limit) [
-        inl few ↦ absurd (none_some (sym (entry-passes limit (length fs) (last_of None fs) g (flat_map entry gs ++ end n) (fact_next fs g gs p) few (rises_next None fs g gs (rising-rises (fs ++ g ∷ gs) q)))
-            ∙ ap (next_fault (before fs) limit) (sym split) ∙ h))
-      | inr many ↦
-            (some_is f faults.TooMany (sym h ∙ ap (next_fault (before fs) limit) split ∙ entry-too_many limit (before fs) g (flat_map entry gs ++ end n) many),
-            omega (arith, many, is, length-append fs (g ∷ gs))) ]
+      | inl few ↦ absurd (none_some (sym (entry-passes limit (length fs) (last_of None fs) g (flat_map entry gs ++ end n) (fact_next fs g gs p) few (rises_next None fs g gs (rising-rises (fs ++ g ∷ gs) q)))
+          ∙ ap (next_fault (before fs) limit) (sym split) ∙ h))
+      | inr many ↦ (
+        some_is f faults.TooMany (sym h ∙ ap (next_fault (before fs) limit) split ∙ entry-too_many limit (before fs) g (flat_map entry gs ++ end n) many),
+        omega (arith, many, is, length-append fs (g ∷ gs)),
+      )
+    ]
 
 behind_header : (x y : List ℕ) → header ++ x ≡ header ++ y → x ≡ y
 behind_header x y e = ap (drop 6) e
@@ -182,8 +184,9 @@ go_on (f ∷ fs) [] r s p q e = inr (record { more = f ∷ fs; entries = refl; b
 go_on (f ∷ fs) (g ∷ gs) r s p q e =
     let here = entry-injective f g (flat_map entry fs ++ r) (flat_map entry gs ++ s) p.0 q.0 (sym (cons_grouped f fs r) ∙ e ∙ cons_grouped g gs s) in
     elim (go_on fs gs r s p.1 q.1 here.1) [
-        inl h ↦ inl (cons_goes f g fs gs r s here.0 h)
-      | inr h ↦ inr (cons_goes g f gs fs s r (sym here.0) h) ]
+      | inl h ↦ inl (cons_goes f g fs gs r s here.0 h)
+      | inr h ↦ inr (cons_goes g f gs fs s r (sym here.0) h)
+    ]
 
 first_one : (limit : ℕ) (es more : List Fact) (r s : List ℕ) (f g : ReadFault) → AreEntries limit (es ++ more) → r ≡ flat_map entry more ++ s
     → next_fault (before es) limit r ≡ Some f → next_fault (before (es ++ more)) limit s ≡ Some g → (es ≡ es ++ more) × (f ≡ g)
@@ -193,7 +196,7 @@ first_one limit es [] r s f g a e h k =
 first_one limit es (x ∷ xs) r s f g a e h k =
     let few : length es < limit = omega (arith, a.few, length-append es (x ∷ xs)) in
     absurd (none_some (sym (entry-passes limit (length es) (last_of None es) x (flat_map entry xs ++ s) (fact_next es x xs a.valid) few (rises_next None es x xs (rising-rises (es ++ x ∷ xs) a.rising)))
-        ∙ ap (next_fault (before es) limit) (sym (e ∙ cons_grouped x xs s)) ∙ h))
+    ∙ ap (next_fault (before es) limit) (sym (e ∙ cons_grouped x xs s)) ∙ h))
 
 goes_one : (limit : ℕ) (es fs : List Fact) (r s : List ℕ) (f g : ReadFault) → AreEntries limit fs → GoesOn es fs r s
     → next_fault (before es) limit r ≡ Some f → next_fault (before fs) limit s ≡ Some g → (es ≡ fs) × (f ≡ g)
@@ -210,5 +213,6 @@ stops-one bytes limit es fs f g (behind s) (in_header b k) =
     absurd (none_some (sym (header_passes (flat_map entry es ++ s.rest)) ∙ ap header_fault (sym s.whole) ∙ k))
 stops-one bytes limit es fs f g (behind s) (behind t) =
     elim (go_on es fs s.rest t.rest s.are_entries.valid t.are_entries.valid (behind_header _ _ (sym s.whole ∙ t.whole))) [
-        inl h ↦ goes_one limit es fs s.rest t.rest f g t.are_entries h s.first t.first
-      | inr h ↦ (let o = goes_one limit fs es t.rest s.rest g f s.are_entries h t.first s.first in (sym o.0, sym o.1)) ]
+      | inl h ↦ goes_one limit es fs s.rest t.rest f g t.are_entries h s.first t.first
+      | inr h ↦ (let o = goes_one limit fs es t.rest s.rest g f s.are_entries h t.first s.first in (sym o.0, sym o.1))
+    ]

@@ -9,7 +9,6 @@ mod number;
 
 pub use decode::{check_end, check_header, parse};
 pub use encode::{Head, end_of, head_of, symbol_of};
-
 use flute_parts::{Fact, Key, SymbolId};
 
 /// The bytes of the header: `FLJN`, and the version.
@@ -40,11 +39,7 @@ pub enum Fixed {
     /// All of it.
     Whole(Fact),
     /// A symbol, and how many bytes of it follow.
-    Symbol {
-        key: Key,
-        id: SymbolId,
-        length: u16,
-    },
+    Symbol { key: Key, id: SymbolId, length: u16 },
 }
 
 impl Kind {

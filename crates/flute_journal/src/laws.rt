@@ -11,54 +11,45 @@ ghost use Rattle.flute_journal.specs.declared.fault.ReadFault.TheVariants as fau
 /// What an entry spells is read in one way, whatever follows it.
 pub fn entry_has_one_reading()
     ensures { (f g : Fact) (x y : List ℕ) → IsFact f → IsFact g → entry f ++ x ≡ entry g ++ y → (f ≡ g) × (x ≡ y) }
-{
-}
+{}
 
 /// Journals are equal exactly where their facts come to the same at each address.
 pub fn one_journal_for_one_content()
     ensures { (bs cs : List ℕ) (F G : List Fact) → Journal bs F → Journal cs G → (bs ≡ cs) ↔ Same F G }
-{
-}
+{}
 
 /// No journal is a proper prefix of another.
 pub fn no_journal_begins_another()
     ensures { (bs more : List ℕ) (F G : List Fact) → Journal bs F → Journal (bs ++ more) G → more ≡ [] }
-{
-}
+{}
 
 /// Lists with one journal come to the same at each address.
 pub fn a_journal_has_one_content()
     ensures { (bs : List ℕ) (F G : List Fact) → Journal bs F → Journal bs G → Same F G }
-{
-}
+{}
 
 /// A journal stops nowhere but behind more entries than the bound.
 pub fn a_journal_stops_at_the_bound()
     ensures { (bs : List ℕ) (F es : List Fact) (limit : ℕ) (f : Fault) → Journal bs F → Stops bs limit es f
         → (f ≡ faults.TooMany) × ((all : List Fact) × IsJournalWithin (length all) bs all × (limit < length all)) }
-{
-}
+{}
 
 /// Bytes aren't both a journal within the bound and at fault.
 pub fn a_journal_has_no_fault()
     ensures { (bs : List ℕ) (limit : ℕ) (es fs : List Fact) (f : Fault) → limit < 2 ^ 64 → IsJournalWithin limit bs es → Stops bs limit fs f → ⊥ }
-{
-}
+{}
 
 /// Bytes have one first fault, behind one list of entries.
 pub fn bytes_stop_once()
     ensures { (bs : List ℕ) (limit : ℕ) (es fs : List Fact) (f g : Fault) → Stops bs limit es f → Stops bs limit fs g → (es ≡ fs) × (f ≡ g) }
-{
-}
+{}
 
 /// The entries that a journal begins with tell nothing more than its facts.
 pub fn first_entries_are_below()
     ensures { (bs : List ℕ) (F es : List Fact) (rest : List ℕ) → Journal bs F → AllByRecursion IsFact es → bs ≡ header ++ flat_map entry es ++ rest → Below es F }
-{
-}
+{}
 
 /// Rising facts that come to the same at each address are spelled alike.
 pub fn rising_facts_have_one_spelling()
     ensures { (es fs : List Fact) → IsRising es → IsRising fs → Same es fs → spelling es ≡ spelling fs }
-{
-}
+{}

@@ -29,7 +29,9 @@ enum Told {
 use Told::{InfoConflict, Symbol, SymbolConflict};
 
 const WHOLE_FILE: &[Told] = &[Told::Info, Symbol(0, b"hell"), Symbol(1, b"o")];
+
 const OTHER_SYMBOLS: &[Told] = &[Symbol(0, b"hell"), Symbol(1, b"o\0\0\0"), Symbol(2, b"x")];
+
 const BOTH: &[Told] = &[
     Told::Info,
     Symbol(0, b"hell"),

@@ -166,11 +166,7 @@ fn symbol_at(last: Option<Address>, key: Key, bytes: &[u8]) -> Result<Fixed, Rea
 }
 
 // What stands behind the key of an entry of a symbol conflict.
-fn symbol_conflict_at(
-    last: Option<Address>,
-    key: Key,
-    bytes: &[u8],
-) -> Result<Fixed, ReadFault>
+fn symbol_conflict_at(last: Option<Address>, key: Key, bytes: &[u8]) -> Result<Fixed, ReadFault>
     requires key { IsKey key }
     requires most { length bytes.now ≤ 4 }
     ensures { Parses 4 (λ x. FixedIs last kinds.SymbolConflict x × (fixed_bytes x ≡ key_bytes key ++ bytes.now)) (rest_fault last kinds.SymbolConflict key) bytes.now result }

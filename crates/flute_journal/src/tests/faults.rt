@@ -18,7 +18,9 @@ const INSTANCE_TOO_LARGE: &str = "000000000007 00 0000000000000000000000100000";
 const FAULTY: &[(&[&str], u64, usize, ReadFault)] = &[
     // two entries swapped, and one twice
     (
-        &[HEADER, "01", KEY, INFO, "03", KEY, LETTER_O, "03", KEY, HELL, END_3],
+        &[
+            HEADER, "01", KEY, INFO, "03", KEY, LETTER_O, "03", KEY, HELL, END_3,
+        ],
         MANY,
         2,
         ReadFault::Order,
@@ -34,7 +36,12 @@ const FAULTY: &[(&[&str], u64, usize, ReadFault)] = &[
     ),
     // another number of entries, and a byte behind the end
     (&[HEADER, "02", KEY, END_2], MANY, 1, ReadFault::Count),
-    (&[HEADER, "02", KEY, END_1, "00"], MANY, 1, ReadFault::Trailing),
+    (
+        &[HEADER, "02", KEY, END_1, "00"],
+        MANY,
+        1,
+        ReadFault::Trailing,
+    ),
     // the header
     (&["474C4A4E0001", END_0], MANY, 0, ReadFault::Magic),
     (&["464C4A4E0003", END_0], MANY, 0, ReadFault::Version),
@@ -43,18 +50,31 @@ const FAULTY: &[(&[&str], u64, usize, ReadFault)] = &[
     (&[HEADER, "05", KEY, INFO], 0, 0, ReadFault::Kind),
     // a tag that is none, file 0, and an FDT Instance of more than 20 bits
     (
-        &[HEADER, "01 000000000007 02 0000000000000000000000000001", INFO],
+        &[
+            HEADER,
+            "01 000000000007 02 0000000000000000000000000001",
+            INFO,
+        ],
         MANY,
         0,
         ReadFault::Key,
     ),
     (
-        &[HEADER, "01 000000000007 01 0000000000000000000000000000", INFO],
+        &[
+            HEADER,
+            "01 000000000007 01 0000000000000000000000000000",
+            INFO,
+        ],
         MANY,
         0,
         ReadFault::Key,
     ),
-    (&[HEADER, "02", INSTANCE_TOO_LARGE, END_1], MANY, 0, ReadFault::Key),
+    (
+        &[HEADER, "02", INSTANCE_TOO_LARGE, END_1],
+        MANY,
+        0,
+        ReadFault::Key,
+    ),
     // a key that is none, at the end of the input
     (&[HEADER, "03", INSTANCE_TOO_LARGE], MANY, 0, ReadFault::Key),
     // symbols of no byte
@@ -65,7 +85,16 @@ const FAULTY: &[(&[&str], u64, usize, ReadFault)] = &[
         ReadFault::Information(InfoFault::SymbolLength),
     ),
     (
-        &[HEADER, "03", KEY, HELL, "03", KEY, "0000 0001 0000 6F", END_2],
+        &[
+            HEADER,
+            "03",
+            KEY,
+            HELL,
+            "03",
+            KEY,
+            "0000 0001 0000 6F",
+            END_2,
+        ],
         MANY,
         1,
         ReadFault::EmptySymbol,
@@ -74,11 +103,29 @@ const FAULTY: &[(&[&str], u64, usize, ReadFault)] = &[
     (WHOLE, 2, 2, ReadFault::TooMany),
     (WHOLE, 0, 0, ReadFault::TooMany),
     // a symbol longer than the input
-    (&[HEADER, "03", KEY, "0000 0000 FFFF 61"], MANY, 0, ReadFault::Cut),
-    // information again, which would also be in conflict, and not valid
-    (&[HEADER, "01", KEY, INFO, "02", KEY, END_2], MANY, 1, ReadFault::Order),
     (
-        &[HEADER, "01", KEY, INFO, "01", KEY, "000000000005 0004 00000000"],
+        &[HEADER, "03", KEY, "0000 0000 FFFF 61"],
+        MANY,
+        0,
+        ReadFault::Cut,
+    ),
+    // information again, which would also be in conflict, and not valid
+    (
+        &[HEADER, "01", KEY, INFO, "02", KEY, END_2],
+        MANY,
+        1,
+        ReadFault::Order,
+    ),
+    (
+        &[
+            HEADER,
+            "01",
+            KEY,
+            INFO,
+            "01",
+            KEY,
+            "000000000005 0004 00000000",
+        ],
         MANY,
         1,
         ReadFault::Order,
@@ -110,18 +157,21 @@ fn bounds_that_are_kept(rt: HostRuntime) -> Result<(), Fail> {
     ] {
         let input = bytes(rt.alloc(), parts)?;
         let (facts, fault) = read(&rt, &mut MemorySource::new(&input), max_entries)?;
-        assert!(rt; fault == None && facts.len() as u64 == max_entries, "{max_entries}");
+        assert!(rt;
+            fault == None && facts.len() as u64 == max_entries,
+            "{max_entries}"
+        );
     }
     Ok(())
 }
 
-/// How many entries of the whole file end within so many bytes of its journal.
-fn entries_within(len: usize) -> usize {
+/// The entries of the whole file that end within so many bytes of its journal.
+fn entries_within(len: usize) -> &'static [Told] {
     match len {
-        0..=39 => 0,
-        40..=71 => 1,
-        72..=100 => 2,
-        _ => 3,
+        0..=39 => &[],
+        40..=71 => &[Told::Info],
+        72..=100 => &[Told::Info, Told::Symbol(0, b"hell")],
+        _ => WHOLE_FILE,
     }
 }
 
@@ -129,15 +179,20 @@ fn entries_within(len: usize) -> usize {
 #[test]
 fn journals_that_end_early(rt: HostRuntime) -> Result<(), Fail> {
     let journal = bytes(rt.alloc(), WHOLE)?;
-    for len in 0..=110 {
+    assert_eq!(rt; journal.len(), 110);
+    for len in 0..=journal.len() {
         let entries = entries_within(len);
         let (facts, fault) = read(&rt, &mut MemorySource::new(&journal[..len]), MANY)?;
-        let wanted = if len < 110 { Some(ReadFault::Cut) } else { None };
-        assert!(rt; tell(&facts, &WHOLE_FILE[..entries]) && fault == wanted, "cut to {len}");
+        let wanted = if len < 110 {
+            Some(ReadFault::Cut)
+        } else {
+            None
+        };
+        assert!(rt; tell(&facts, entries) && fault == wanted, "cut to {len}");
         let mut source = ShortSource::new(&journal, 7, len);
         let (facts, fault) = read(&rt, &mut source, MANY)?;
         let wanted = Some(ReadFault::Read);
-        assert!(rt; tell(&facts, &WHOLE_FILE[..entries]) && fault == wanted, "failed at {len}");
+        assert!(rt; tell(&facts, entries) && fault == wanted, "failed at {len}");
     }
     Ok(())
 }

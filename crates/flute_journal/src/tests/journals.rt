@@ -15,7 +15,11 @@ fn journals_are_read(rt: HostRuntime) -> Result<(), Fail> {
         for piece in [1, 2, 7] {
             let mut source = ShortSource::new(&journal, piece, usize::MAX);
             let (facts, fault) = read(&rt, &mut source, MANY)?;
-            assert!(rt; tell(&facts, told) && fault == None, "{piece} of {}", parts.len());
+            assert!(rt;
+                tell(&facts, told) && fault == None,
+                "{piece} of {}",
+                parts.len()
+            );
         }
     }
     Ok(())
@@ -53,7 +57,8 @@ fn journals_are_written(rt: HostRuntime) -> Result<(), Fail> {
 #[test]
 fn sinks_that_fail(rt: HostRuntime) -> Result<(), Fail> {
     let journal = bytes(rt.alloc(), vectors::WHOLE)?;
-    for good in 0..110 {
+    assert_eq!(rt; journal.len(), 110);
+    for good in 0..journal.len() {
         let mut sink = ShortSink::new(rt.alloc(), good);
         assert!(rt; !write_again(&rt, &journal, &mut sink)?);
         assert_eq!(rt; sink.as_slice(), &journal[..good]);

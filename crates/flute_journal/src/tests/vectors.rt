@@ -15,16 +15,22 @@ pub const INFO: &str = "000000000005 0004 00000002";
 
 /// Behind the key of its first symbol, and of its last, short and padded.
 pub const HELL: &str = "0000 0000 0004 68656C6C";
+
 pub const LETTER_O: &str = "0000 0001 0001 6F";
+
 pub const PADDED_O: &str = "0000 0001 0004 6F000000";
 
 /// Behind the key of a symbol that it does not have.
 pub const LETTER_X: &str = "0000 0002 0001 78";
 
 pub const END_0: &str = "FF 0000000000000000";
+
 pub const END_1: &str = "FF 0000000000000001";
+
 pub const END_2: &str = "FF 0000000000000002";
+
 pub const END_3: &str = "FF 0000000000000003";
+
 pub const END_4: &str = "FF 0000000000000004";
 
 /// No fact: 15 bytes.
@@ -45,7 +51,20 @@ pub const OTHERS: &[&str] = &[
 
 /// The whole file and the other symbols, joined: 136 bytes.
 pub const JOINED: &[&str] = &[
-    HEADER, "01", KEY, INFO, "03", KEY, HELL, "04", KEY, "0000 0001", "03", KEY, LETTER_X, END_4,
+    HEADER,
+    "01",
+    KEY,
+    INFO,
+    "03",
+    KEY,
+    HELL,
+    "04",
+    KEY,
+    "0000 0001",
+    "03",
+    KEY,
+    LETTER_X,
+    END_4,
 ];
 
 /// The bytes that parts in hex have.

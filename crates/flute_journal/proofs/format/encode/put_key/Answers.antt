@@ -11,7 +11,8 @@ returns-clause-items c =
     let tag = c.match-instance.tag.0 in
     let n = c.match-instance.tag.1 in
     let object : tag ∷ in_bytes 14 n ≡ object_bytes k.object = elim c.match-instance.branch [
-        in-Some w ↦ rw w.tag-is (instance_bytes k.object _ _ w.in-Some.ensures.value w.from.ensures)
-      | in-None w ↦ rw w.tag-is (file_bytes k.object _ w.in-None.ensures.value w.toi.ensures.value) ] in
+      | in-Some w ↦ rw w.tag-is (instance_bytes k.object _ _ w.in-Some.ensures.value w.from.ensures)
+      | in-None w ↦ rw w.tag-is (file_bytes k.object _ w.in-None.ensures.value w.toi.ensures.value)
+    ] in
     rw (c.put-3.ensures.items, c.put-2.ensures.items, c.put.ensures.items, c.to_be_bytes.ensures, c.to_be_bytes-2.ensures, c.tsi.ensures.value)
     (regroup c.args.head.now.items (in_bytes 6 k.session.tsi) (tag ∷ []) (in_bytes 14 n) ∙ ap (λ (z : List ℕ). c.args.head.now.items ++ (in_bytes 6 k.session.tsi ++ z)) object)
