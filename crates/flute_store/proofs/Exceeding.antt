@@ -170,7 +170,7 @@ module _ {K X : Type 0} {cmp : K → K → Ordering} (order : IsTotalOrder cmp) 
       ]
 
 -- ---- what stands
-info_stands : (key : Key) (c : Cell Information) → IsKnown c → fact_at (info_facts key c) (info_address key) ≢ None
+pub info_stands : (key : Key) (c : Cell Information) → IsKnown c → fact_at (info_facts key c) (info_address key) ≢ None
 info_stands key Absent h e = h refl
 info_stands key (One i) h e = none_is_not_some (Info key i) (sym e ∙ at-one_here (Info key i))
 info_stands key Conflict h e = none_is_not_some (InfoConflict key) (sym e ∙ at-one_here (InfoConflict key))
@@ -185,17 +185,17 @@ known_or_absent Absent = inl refl
 known_or_absent (One v) = inr (λ e. cc)
 known_or_absent Conflict = inr (λ e. cc)
 
-a_fact : (F : List Fact) (a : Address) → fact_at F a ≢ None → (f : Fact) × Member f F × (address f ≡ a)
+pub a_fact : (F : List Fact) (a : Address) → fact_at F a ≢ None → (f : Fact) × Member f F × (address f ≡ a)
 a_fact F a h = elim (fact_at-some_named F a) [
   | inl n ↦ n
   | inr e ↦ absurd (h e)
 ]
 
 module _ {n : ℕ} (m : List (Session × List (ObjectName × Object n))) (p : SolidStore m) where
-  ordered_session : (os : List (ObjectName × Object n)) → SolidSession os → OrderedSession os
+  pub ordered_session : (os : List (ObjectName × Object n)) → SolidSession os → OrderedSession os
   ordered_session os q = record { ordered = q.ordered; each = EachValue-weaker SolidObject OrderedObject (λ x r. r.ordered) os q.each }
 
-  ordered_store : OrderedStore m
+  pub ordered_store : OrderedStore m
   ordered_store = record { ordered = p.ordered; each = EachValue-weaker SolidSession OrderedSession ordered_session m p.each }
 
   module _ (s : Session) (os : List (ObjectName × Object n)) (f : value_at session_cmp m s ≡ Some os) where
@@ -206,13 +206,13 @@ module _ {n : ℕ} (m : List (Session × List (ObjectName × Object n))) (p : So
       r : SolidObject x
       r = each-value_at object_cmp SolidObject os o x q.each h
 
-      at-held : (part : Part) → fact_at (content m) (record { key = key_of s o; part = part }) ≡ fact_at (object_facts (key_of s o) x) (record { key = key_of s o; part = part })
+      pub at-held : (part : Part) → fact_at (content m) (record { key = key_of s o; part = part }) ≡ fact_at (object_facts (key_of s o) x) (record { key = key_of s o; part = part })
       at-held part =
           let a : Address = record { key = key_of s o; part = part } in
           at-content m a ordered_store ∙ ap (λ z. option_map_or (λ os. fact_at (session_facts s os) a) z None) f
           ∙ at-session os a (ordered_session os q) ∙ ap (λ z. option_map_or (λ v. fact_at (object_facts (key_of s o) v) a) z None) h
 
-      symbol_stands : (id : SymbolId) (c : Cell (List ℕ)) → value_at symbol_id_cmp x.symbols id ≡ Some c → IsKnown c → fact_at (content m) (symbol_address (key_of s o) id) ≢ None
+      pub symbol_stands : (id : SymbolId) (c : Cell (List ℕ)) → value_at symbol_id_cmp x.symbols id ≡ Some c → IsKnown c → fact_at (content m) (symbol_address (key_of s o) id) ≢ None
       symbol_stands id c g k e =
           let key = key_of s o in
           cell_stands key id c k (sym (at-held (SymbolPart id) ∙ at-object x key id r.ordered ∙ ap (λ z. option_map_or (λ c. fact_at (symbol_facts key id c) (symbol_address key id)) z None) g) ∙ e)
@@ -239,7 +239,7 @@ module _ {n : ℕ} (m : List (Session × List (ObjectName × Object n))) (p : So
           (fact.0, fact.1, ap (symbol_of key) fact.2 ∙ ap (λ b. cond b (Some id) None) (key_itself key))) in
           omega (arith, c, length-keys_of x.symbols)
 
-    first_object : (es : List (ObjectName × Object n)) → es ≡ os → es ≢ [] → (key : Key) × (part : Part) × (key.session ≡ s) × (fact_at (content m) (record { key = key; part = part }) ≢ None)
+    pub first_object : (es : List (ObjectName × Object n)) → es ≡ os → es ≢ [] → (key : Key) × (part : Part) × (key.session ≡ s) × (fact_at (content m) (record { key = key; part = part }) ≢ None)
     first_object [] e h = absurd (h refl)
     first_object (d ∷ es) e h =
         let stands = object_stands d.0 d.1 (subst (λ l. value_at object_cmp l d.0 ≡ Some d.1) e (first_value object_total object_tells d es)) in

@@ -10,3 +10,4 @@ pub mod Spelled
 pub mod Refused
 pub mod KeyLists
 pub mod Lengths
+pub mod Memory

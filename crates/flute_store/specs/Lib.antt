@@ -8,3 +8,4 @@ pub mod ObjectFacts
 pub mod Held
 pub mod Taken
 pub mod Keys
+pub mod Memory

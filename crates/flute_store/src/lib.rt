@@ -8,6 +8,8 @@ mod news;
 mod object;
 mod store;
 mod taken;
+#[cfg(test)]
+mod tests;
 mod walk;
 
 pub use store::{Shelf, Store};

@@ -7,6 +7,7 @@ ghost use Rattle.flute_parts.specs.declared.key.Key.{Key as Name};
 ghost use Rattle.flute_parts.specs.Facts.{fact_at, Same, Below, IsRising};
 ghost use Rattle.flute_parts.specs.Limits.{Over};
 ghost use Rattle.flute_store.specs.News.{news_facts, IsNews};
+ghost use Rattle.flute_store.specs.Memory.{HasNew};
 ghost use Rattle.flute_store.specs.Held.{HasCell, HoldsObject};
 ghost use Rattle.flute_parts.specs.SymbolBytes.{HasSymbolSize};
 ghost use Rattle.flute_wire.specs.Content.{Content};
@@ -71,6 +72,7 @@ impl<const SESSIONS: u32, const OBJECTS: u32, const SYMBOLS: u32> Store<
         ensures above { Below self.old self.new }
         ensures below { Below self.new (self.old ++ other.now) }
         ensures full { result ≡ Err JoinRefusal.Full → Over (self.old ++ other.now) SESSIONS OBJECTS SYMBOLS }
+        ensures memory { result ≡ Err JoinRefusal.OutOfMemory → HasNew self.old other.now }
     {
         let _ = &other.sessions;
         self.sessions.join_from(alloc, &other.sessions)

@@ -1,13 +1,14 @@
 use Rattle.std.proofs.Common.{ap, sym, ◌∙◌, ◌++◌, subst}
 use Rattle.std.proofs.Common.{◌≡◌, refl}
 use Rattle.std.proofs.lemmas.Result.{on_ok_weaker, IfErr-at_err}
-use Rattle.flute_join.specs.JoinMap.{MapOver}
-use Rattle.flute_join.specs.declared.refusal.JoinRefusal.TheVariants.{Full}
+use Rattle.flute_join.specs.JoinMap.{MapOver, MapNeedsMemory}
+use Rattle.flute_join.specs.declared.refusal.JoinRefusal.TheVariants.{Full, OutOfMemory}
 use Rattle.flute_parts.specs.Order.{session_cmp, object_cmp}
 use Rattle.flute_parts.proofs.Named.{Over-below}
 use Rattle.flute_parts.proofs.Facts.{Below-from_Same}
 use Rattle.flute_parts.specs.Facts.{Same, Below}
-use Rattle.flute_store.specs.ObjectJoin.{object_join, session_join, store_join, ObjectOver}
+use Rattle.flute_store.specs.ObjectJoin.{object_join, session_join, store_join, ObjectOver, ObjectNeedsMemory}
+use Rattle.flute_store.proofs.Memory.{needs-new}
 use Rattle.flute_store.proofs.Exceeding.{solid-store, solid-join, beyond-over, over-beyond}
 use Rattle.flute_store.specs.Content.{content}
 use Rattle.flute_store.specs.WellFormed.{IsStore}
@@ -55,3 +56,13 @@ returns-clause-full g c =
     (beyond-over s o J (solid-join old other (solid-store s o old c.self.invariant) (solid-store s o other c.other.invariant))
     (over-beyond s o old other (solid-store s o old c.self.invariant) (solid-store s o other c.other.invariant)
     (IfErr-at_err (λ x. x ≡ Full → MapOver session_cmp session_join s (MapOver object_cmp object_join o ObjectOver) old other) e c.join_from.ensures.full refl))))
+
+pub returns-clause-memory : goal.returns-clause-memory
+returns-clause-memory g c =
+    let old = c.self.inside.sessions in
+    let other = c.other.inside.sessions in
+    let s = g.row.SESSIONS in
+    let o = g.row.OBJECTS in
+    rw (← c.self.view_is, ← c.other.view_is)
+    (λ e. needs-new old other (solid-store s o old c.self.invariant) (solid-store s o other c.other.invariant)
+    (IfErr-at_err (λ why. why ≡ OutOfMemory → MapNeedsMemory session_cmp (MapNeedsMemory object_cmp ObjectNeedsMemory) old other) e c.join_from.ensures.memory refl))
