@@ -11,3 +11,5 @@ pub mod Refused
 pub mod KeyLists
 pub mod Lengths
 pub mod Memory
+pub mod Runs
+pub mod WholeObjects

@@ -9,3 +9,6 @@ pub mod Held
 pub mod Taken
 pub mod Keys
 pub mod Memory
+pub mod Objects
+pub mod Laws
+pub mod Examples

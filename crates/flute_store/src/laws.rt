@@ -1,9 +1,10 @@
-//! Laws of what stores hold, each the contract of a function that does nothing.
+//! Laws of what stores hold and of objects, each the contract of a function that does nothing.
 ghost use Rattle.std.specs.Prelude.{◌≡◌, ◌≢◌, ◌++◌, List, None};
 ghost use Rattle.flute_parts.specs.Addresses.{address};
 ghost use Rattle.flute_parts.specs.Facts.{fact_at, Same, Below};
 ghost use Rattle.flute_parts.specs.declared.fact.Fact.{Fact as Known};
 ghost use Rattle.flute_store.specs.Held.{HasCell};
+ghost use Rattle.flute_store.specs.Laws.{SameWhole, SameObject, SameGaps, GapsListWants, GapsAreRuns, GapsAreUnique, WholeHasNoGap};
 
 /// What a refused `absorb` leaves, joined again with success, gives the join.
 pub fn absorbing_again_gives_the_join()
@@ -14,4 +15,20 @@ pub fn absorbing_again_gives_the_join()
 /// At a held address a fact needs no new session, object or symbol.
 pub fn held_addresses_have_cells()
     ensures { (held : List Known) (fact : Known) → fact_at held (address fact) ≢ None → HasCell held fact }
+{}
+
+/// Lists of facts that come to the same at each address make the same of each object.
+pub fn objects_agree()
+    ensures whole { SameWhole }
+    ensures bytes { SameObject }
+    ensures gaps { SameGaps }
+{}
+
+/// Gaps are the maximal runs of the symbols that are not held as one fitting value, and an object is whole exactly
+/// where it has no gap.
+pub fn gaps_are_maximal_runs()
+    ensures wants { GapsListWants }
+    ensures runs { GapsAreRuns }
+    ensures unique { GapsAreUnique }
+    ensures whole { WholeHasNoGap }
 {}

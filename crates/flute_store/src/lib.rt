@@ -2,6 +2,7 @@
 #![tactic(auto)]
 
 mod entering;
+mod gap;
 mod keys;
 pub mod laws;
 mod news;
@@ -12,5 +13,6 @@ mod taken;
 mod tests;
 mod walk;
 
+pub use gap::{Gap, Reason};
 pub use store::{Shelf, Store};
 pub use taken::{TakeFault, Taken};

@@ -1,0 +1,153 @@
+-- Maximal runs: they list what they were made of, and nothing else does.
+use Rattle.std.proofs.Common.{◌≡◌, ℕ, zero, suc, ◌+◌, ◌-◌, ◌≤◌, true, cond, ◌&&◌, List, [], ◌∷◌, ◌++◌, map, refl, sym, ap, ◌∙◌, subst, inl, inr, arith}
+use Rattle.std.specs.Prelude.{flat_map, ◌==◌}
+use Rattle.std.specs.List.{range_with_len}
+use Rattle.std.proofs.lemmas.Bool.{false≢true}
+use Rattle.std.proofs.lemmas.Bool.Decides.{nat_tests}
+use Rattle.flute_parts.specs.declared.symbol_id.SymbolId.{SymbolId}
+use Rattle.flute_store.specs.declared.gap.Reason.{Reason}
+use Rattle.flute_store.specs.declared.gap.Reason.TheVariants.{Missing, Conflicting, Misfit}
+use Rattle.flute_store.specs.declared.gap.Gap.{Gap}
+use Rattle.flute_parts.specs.Partition.{symbol_id}
+use Rattle.flute_store.specs.Objects.{same_reason, goes_on, one, before, runs, listed, IsApart, AreRuns}
+use Rattle.flute_parts.specs.Equality.{both}
+use Rattle.std.proofs.lemmas.Bool.{cases_Bool}
+
+abbrev Want : Type 0
+Want = SymbolId × Reason
+
+reason_same : (r s : Reason) → same_reason r s ≡ true → r ≡ s
+reason_same Missing Missing h = refl
+reason_same Conflicting Conflicting h = refl
+reason_same Misfit Misfit h = refl
+reason_same Missing Conflicting h = absurd (false≢true h)
+reason_same Missing Misfit h = absurd (false≢true h)
+reason_same Conflicting Missing h = absurd (false≢true h)
+reason_same Conflicting Misfit h = absurd (false≢true h)
+reason_same Misfit Missing h = absurd (false≢true h)
+reason_same Misfit Conflicting h = absurd (false≢true h)
+
+reason_itself : (r : Reason) → same_reason r r ≡ true
+reason_itself Missing = refl
+reason_itself Conflicting = refl
+reason_itself Misfit = refl
+
+goes_on-sbn : (g h : Gap) → goes_on g h ≡ true → g.sbn ≡ h.sbn
+goes_on-sbn g h e =
+    let p = both (g.sbn == h.sbn) ((g.last + 1 == h.first) && same_reason g.reason h.reason) e in
+    let t = p.0 in grind (arith, nat_tests)
+
+goes_on-first : (g h : Gap) → goes_on g h ≡ true → g.last + 1 ≡ h.first
+goes_on-first g h e =
+    let p = both (g.sbn == h.sbn) ((g.last + 1 == h.first) && same_reason g.reason h.reason) e in
+    let q = both (g.last + 1 == h.first) (same_reason g.reason h.reason) p.1 in
+    let t = q.0 in grind (arith, nat_tests)
+
+goes_on-reason : (g h : Gap) → goes_on g h ≡ true → g.reason ≡ h.reason
+goes_on-reason g h e =
+    let p = both (g.sbn == h.sbn) ((g.last + 1 == h.first) && same_reason g.reason h.reason) e in
+    let q = both (g.last + 1 == h.first) (same_reason g.reason h.reason) p.1 in
+    reason_same g.reason h.reason q.1
+
+abbrev entry : ℕ → Reason → ℕ → Want
+entry n r i = (symbol_id n i, r)
+
+-- a gap lists its first symbol and then the others
+listed-first : (n a last : ℕ) (r : Reason) → a ≤ last → map (entry n r) (range_with_len a (last + 1 - a)) ≡ entry n r a ∷ map (entry n r) (range_with_len (a + 1) (last + 1 - (a + 1)))
+listed-first n a last r h =
+    let e : last + 1 - a ≡ suc (last + 1 - (a + 1)) = omega arith in
+    ap (λ k. map (entry n r) (range_with_len a k)) e
+
+listed-one : (w : Want) → listed (one w) ≡ w ∷ []
+listed-one (id, r) =
+    let e : id.esi + 1 - id.esi ≡ 1 = omega arith in
+    ap (λ k. map (entry id.sbn r) (range_with_len id.esi k)) e
+
+-- a gap of one symbol before others, where it is made one with the first of them
+before-listed : (w : Want) (gaps : List Gap) → AreRuns gaps → flat_map listed (before (one w) gaps) ≡ w ∷ flat_map listed gaps
+unfolding AreRuns
+before-listed (id, r) [] s = ap (λ xs. xs ++ []) (listed-one (id, r))
+before-listed (id, r) (h ∷ gaps) s = elim (cases_Bool (goes_on (one (id, r)) h)) [
+  | inr e ↦
+      ap (λ b. flat_map listed (cond b (record h { first = id.esi } ∷ gaps) (one (id, r) ∷ h ∷ gaps))) e
+      ∙ ap (λ xs. xs ++ flat_map listed (h ∷ gaps)) (listed-one (id, r))
+  | inl e ↦
+      let n = goes_on-sbn (one (id, r)) h e in
+      let f = goes_on-first (one (id, r)) h e in
+      let q = goes_on-reason (one (id, r)) h e in
+      let l = s.0 in
+      ap (λ b. flat_map listed (cond b (record h { first = id.esi } ∷ gaps) (one (id, r) ∷ h ∷ gaps))) e
+      ∙ ap (λ xs. xs ++ flat_map listed gaps) (listed-first h.sbn id.esi h.last h.reason (omega arith))
+      ∙ ap (λ x. entry x h.reason id.esi ∷ (map (entry h.sbn h.reason) (range_with_len (id.esi + 1) (h.last + 1 - (id.esi + 1))) ++ flat_map listed gaps)) (sym n)
+      ∙ ap (λ x. entry id.sbn x id.esi ∷ (map (entry h.sbn h.reason) (range_with_len (id.esi + 1) (h.last + 1 - (id.esi + 1))) ++ flat_map listed gaps)) (sym q)
+      ∙ ap (λ x. (id, r) ∷ (map (entry h.sbn h.reason) (range_with_len x (h.last + 1 - x)) ++ flat_map listed gaps)) f
+]
+
+-- a gap that begins earlier goes on in the same ones
+lengthened : (a : ℕ) (h : Gap) (gaps : List Gap) → a ≤ h.last → AreRuns (h ∷ gaps) → AreRuns (record h { first = a } ∷ gaps)
+unfolding AreRuns
+lengthened a h [] l s = (l, tt, s.2)
+lengthened a h (k ∷ gaps) l s = (l, s.1, s.2)
+
+before-runs : (w : Want) (gaps : List Gap) → AreRuns gaps → AreRuns (before (one w) gaps)
+unfolding AreRuns
+before-runs (id, r) [] s = (omega arith, tt, tt)
+before-runs (id, r) (h ∷ gaps) s = elim (cases_Bool (goes_on (one (id, r)) h)) [
+  | inr e ↦ subst (λ b. AreRuns (cond b (record h { first = id.esi } ∷ gaps) (one (id, r) ∷ h ∷ gaps))) (sym e) (omega arith, e, s)
+  | inl e ↦
+      let f = goes_on-first (one (id, r)) h e in
+      let l = s.0 in
+      subst (λ b. AreRuns (cond b (record h { first = id.esi } ∷ gaps) (one (id, r) ∷ h ∷ gaps))) (sym e) (lengthened id.esi h gaps (omega arith) s)
+]
+
+pub runs-are : (ws : List Want) → AreRuns (runs ws)
+unfolding runs AreRuns
+runs-are [] = tt
+runs-are (w ∷ ws) = before-runs w (runs ws) (runs-are ws)
+
+pub runs-listed : (ws : List Want) → flat_map listed (runs ws) ≡ ws
+unfolding runs
+runs-listed [] = refl
+runs-listed (w ∷ ws) = before-listed w (runs ws) (runs-are ws) ∙ ap (λ xs. w ∷ xs) (runs-listed ws)
+
+abbrev gap : ℕ → ℕ → ℕ → Reason → Gap
+gap n a l r = record { sbn = n; first = a; last = l; reason = r }
+
+before-apart : (g : Gap) (gaps : List Gap) → IsApart g gaps → before g gaps ≡ g ∷ gaps
+before-apart g [] s = refl
+before-apart g (h ∷ gaps) s = ap (λ b. cond b (record h { first = g.first } ∷ gaps) (g ∷ h ∷ gaps)) s
+
+-- where a gap begins does not matter to what follows it
+apart-from : (n a b l : ℕ) (r : Reason) (gaps : List Gap) → IsApart (gap n a l r) gaps → IsApart (gap n b l r) gaps
+apart-from n a b l r [] s = tt
+apart-from n a b l r (h ∷ gaps) s = s
+
+eqb_true : (n : ℕ) → (n == n) ≡ true
+eqb_true n = grind (arith, nat_tests)
+
+goes_on-next : (n a l : ℕ) (r : Reason) → goes_on (gap n a a r) (gap n (a + 1) l r) ≡ true
+goes_on-next n a l r =
+    ap (λ b. b && ((a + 1 == a + 1) && same_reason r r)) (eqb_true n)
+    ∙ ap (λ b. b && same_reason r r) (eqb_true (a + 1))
+    ∙ reason_itself r
+
+-- the symbols of a gap before others are that gap before the others' runs, where it does not go on in those
+gap-runs : (k n a l : ℕ) (r : Reason) (ws : List Want) (gaps : List Gap) → a + k ≡ l → runs ws ≡ gaps → IsApart (gap n a l r) gaps → runs (map (entry n r) (range_with_len a (suc k)) ++ ws) ≡ gap n a l r ∷ gaps
+unfolding runs
+gap-runs zero n a l r ws gaps h e s =
+    let same : l ≡ a = omega arith in
+    ap (before (gap n a a r)) e
+    ∙ before-apart (gap n a a r) gaps (subst (λ x. IsApart (gap n a x r) gaps) same s)
+    ∙ ap (λ x. gap n a x r ∷ gaps) (sym same)
+gap-runs (suc k) n a l r ws gaps h e s =
+    ap (before (gap n a a r)) (gap-runs k n (a + 1) l r ws gaps (omega arith) e (apart-from n a (a + 1) l r gaps s))
+    ∙ ap (λ b. cond b (gap n a l r ∷ gaps) (gap n a a r ∷ gap n (a + 1) l r ∷ gaps)) (goes_on-next n a l r)
+
+pub runs-unique : (gaps : List Gap) → AreRuns gaps → runs (flat_map listed gaps) ≡ gaps
+unfolding runs AreRuns
+runs-unique [] s = refl
+runs-unique (g ∷ gaps) s =
+    let f = s.0 in
+    let e : g.last + 1 - g.first ≡ suc (g.last - g.first) = omega arith in
+    ap (λ k. runs (map (entry g.sbn g.reason) (range_with_len g.first k) ++ flat_map listed gaps)) e
+    ∙ gap-runs (g.last - g.first) g.sbn g.first g.last g.reason (flat_map listed gaps) gaps (omega arith) (runs-unique gaps s.2) s.1
