@@ -13,3 +13,7 @@ pub mod Lengths
 pub mod Memory
 pub mod Runs
 pub mod WholeObjects
+pub mod SortedSymbols
+pub mod Lookups
+pub mod Looks
+pub mod GapSteps

@@ -1,5 +1,5 @@
 -- Maximal runs: they list what they were made of, and nothing else does.
-use Rattle.std.proofs.Common.{◌≡◌, ℕ, zero, suc, ◌+◌, ◌-◌, ◌≤◌, true, cond, ◌&&◌, List, [], ◌∷◌, ◌++◌, map, refl, sym, ap, ◌∙◌, subst, inl, inr, arith}
+use Rattle.std.proofs.Common.{◌≡◌, ℕ, zero, suc, ◌+◌, ◌-◌, ◌<◌, ◌≤◌, true, false, cond, ◌&&◌, List, [], ◌∷◌, ◌++◌, map, refl, sym, ap, ◌∙◌, subst, inl, inr, arith}
 use Rattle.std.specs.Prelude.{flat_map, ◌==◌}
 use Rattle.std.specs.List.{range_with_len}
 use Rattle.std.proofs.lemmas.Bool.{false≢true}
@@ -12,6 +12,7 @@ use Rattle.flute_parts.specs.Partition.{symbol_id}
 use Rattle.flute_store.specs.Objects.{same_reason, goes_on, one, before, runs, listed, IsApart, AreRuns}
 use Rattle.flute_parts.specs.Equality.{both}
 use Rattle.std.proofs.lemmas.Bool.{cases_Bool}
+use Rattle.flute_store.proofs.Lookups.{Elsewhere}
 
 abbrev Want : Type 0
 Want = SymbolId × Reason
@@ -151,3 +152,36 @@ runs-unique (g ∷ gaps) s =
     let e : g.last + 1 - g.first ≡ suc (g.last - g.first) = omega arith in
     ap (λ k. runs (map (entry g.sbn g.reason) (range_with_len g.first k) ++ flat_map listed gaps)) e
     ∙ gap-runs (g.last - g.first) g.sbn g.first g.last g.reason (flat_map listed gaps) gaps (omega arith) (runs-unique gaps s.2) s.1
+
+-- a gap that differs from the one of w
+not-goes : (g h : Gap) → (g.sbn ≡ h.sbn → g.last + 1 ≡ h.first → g.reason ≡ h.reason → ⊥) → goes_on g h ≡ false
+not-goes g h n = elim (cases_Bool (goes_on g h)) [
+  | inl e ↦ absurd (n (goes_on-sbn g h e) (goes_on-first g h e) (goes_on-reason g h e))
+  | inr e ↦ e
+]
+
+apart-before : (g : Gap) (w : Want) (gaps : List Gap) → (w.0 ≡ symbol_id g.sbn (g.last + 1) → w.1 ≡ g.reason → ⊥) → IsApart g (before (one w) gaps)
+apart-before g (id, r) [] n = not-goes g (one (id, r)) (λ s f q. n (λ i. record { sbn = sym s i; esi = sym f i }) (sym q))
+apart-before g (id, r) (h ∷ gaps) n = elim (cases_Bool (goes_on (one (id, r)) h)) [
+  | inl e ↦
+      let k = goes_on-sbn (one (id, r)) h e in
+      let q = goes_on-reason (one (id, r)) h e in
+      subst (λ b. IsApart g (cond b (record h { first = id.esi } ∷ gaps) (one (id, r) ∷ h ∷ gaps))) (sym e)
+      (not-goes g (record h { first = id.esi }) (λ s f p. n (λ i. record { sbn = (k ∙ sym s) i; esi = sym f i }) (q ∙ sym p)))
+  | inr e ↦
+      subst (λ b. IsApart g (cond b (record h { first = id.esi } ∷ gaps) (one (id, r) ∷ h ∷ gaps))) (sym e)
+      (not-goes g (one (id, r)) (λ s f q. n (λ i. record { sbn = sym s i; esi = sym f i }) (sym q)))
+]
+
+pub apart-runs : (g : Gap) (ws : List Want) → Elsewhere (symbol_id g.sbn (g.last + 1)) g.reason ws → IsApart g (runs ws)
+unfolding runs
+apart-runs g [] e = tt
+apart-runs g (w ∷ ws) e = apart-before g w (runs ws) e
+
+-- wanted symbols that follow one another for one reason, before others that do not go on, are one gap
+pub runs-first : (n a b : ℕ) (r : Reason) (ws : List Want) → a < b → Elsewhere (symbol_id n b) r ws → runs (map (λ i. (symbol_id n i, r)) (range_with_len a (b - a)) ++ ws) ≡ record { sbn = n; first = a; last = b - 1; reason = r } ∷ runs ws
+runs-first n a b r ws l e =
+    let k : b - a ≡ suc (b - 1 - a) = omega arith in
+    let z : b - 1 + 1 ≡ b = omega arith in
+    ap (λ k. runs (map (entry n r) (range_with_len a k) ++ ws)) k
+    ∙ gap-runs (b - 1 - a) n a (b - 1) r ws (runs ws) (omega arith) refl (apart-runs (gap n a (b - 1) r) ws (subst (λ x. Elsewhere (symbol_id n x) r ws) (sym z) e))

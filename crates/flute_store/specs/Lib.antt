@@ -12,3 +12,6 @@ pub mod Memory
 pub mod Objects
 pub mod Laws
 pub mod Examples
+pub mod HeldLeft
+pub mod Wanted
+pub mod GapWalk

@@ -3,6 +3,8 @@
 
 mod entering;
 mod gap;
+mod gap_walk;
+mod held_left;
 mod keys;
 pub mod laws;
 mod news;

@@ -1,0 +1,252 @@
+-- What comes next on a walk, and what is left then.
+use Rattle.std.proofs.Common.{◌≡◌, ◌≢◌, ℕ, ◌+◌, ◌-◌, ◌<◌, ◌≤◌, Bool, true, false, cond, List, [], ◌∷◌, ◌++◌, length, map, drop, Option, Some, None, refl, sym, ap, ◌∙◌, subst, inl, inr, arith}
+use Rattle.std.specs.Prelude.{◌==◌, option_map}
+use Rattle.std.specs.List.{cons_option}
+use Rattle.std.specs.Map.{keys_of}
+use Rattle.std.specs.List.Sorted.{IsStrictlySortedBy}
+use Rattle.std.specs.declared.cmp.Ordering.{Ordering}
+use Rattle.std.specs.declared.cmp.Ordering.TheVariants.{Less, Equal, Greater}
+use Rattle.std.specs.Ordering.{match_ordering}
+use Rattle.std.proofs.lemmas.Bool.{cases_Bool}
+use Rattle.std.proofs.lemmas.Bool.Decides.{nat_tests}
+use Rattle.std.proofs.lemmas.Map.Keys.{sorted_tail}
+use Rattle.flute_join.specs.Cell.{IsKnown}
+use Rattle.flute_join.specs.JoinMap.{IsOrdered, EachValue}
+use Rattle.flute_parts.specs.Information.{sizes}
+use Rattle.flute_parts.specs.Order.{symbol_id_cmp}
+use Rattle.flute_parts.specs.Equality.{symbol_id_place}
+use Rattle.flute_parts.specs.Partition.{symbol_id}
+use Rattle.flute_parts.specs.declared.symbol_id.SymbolId.{SymbolId}
+use Rattle.flute_store.specs.declared.gap.Reason.{Reason}
+use Rattle.flute_store.specs.declared.gap_walk.Look.{Look}
+use Rattle.flute_store.specs.declared.gap_walk.Look.TheVariants.{End, BlockEnd, Passed, Fitting, Wanted, NotHeld}
+use Rattle.flute_store.specs.declared.gap_walk.GapWalk.{GapWalk}
+use Rattle.flute_store.specs.Wanted.{want_cell, with_reason, wanted, block_from, blocks_from}
+use Rattle.flute_store.specs.GapWalk.{symbols_left, left, bound, IsWalk, Keeps, after_pass, after_take, after_begin, look_wanted, look_held, look_of}
+use Rattle.flute_store.proofs.SortedSymbols.{Above, Later, above-before, above-block, later-blocks, block_from-first, block_from-end, blocks_from-next}
+use Rattle.flute_store.proofs.Lookups.{Entry, wanted-past, wanted-here}
+
+abbrev pub here : GapWalk → SymbolId
+here w = symbol_id w.sbn w.esi
+
+-- the next symbol is held, and this is why it is wanted, if it is
+pub record AtHere (w : GapWalk) (why : Option Reason) : Type 0 where
+  pub inside : w.esi ≢ w.size
+  pub first : Entry
+  pub others : List Entry
+  pub held : w.held ≡ first ∷ others
+  pub at_here : first.0 ≡ here w
+  pub why_is : want_cell w.partition (here w) (Some first.1) ≡ why
+
+pub record AtPassed (w : GapWalk) : Type 0 where
+  pub inside : w.esi ≢ w.size
+  pub first : Entry
+  pub others : List Entry
+  pub held : w.held ≡ first ∷ others
+  pub before : symbol_id_cmp first.0 (here w) ≡ Less
+
+-- the first of these is after p, if there is one
+abbrev pub FirstAfter : SymbolId → List Entry → Type 0
+FirstAfter p [] = Unit {0}
+FirstAfter p (e ∷ es) = symbol_id_cmp e.0 p ≡ Greater
+
+abbrev pub Tells : GapWalk → Look → Type 0
+Tells w End = (w.esi ≡ w.size) × (w.begun ≡ length (sizes w.partition))
+Tells w BlockEnd = (w.esi ≡ w.size) × (w.begun ≢ length (sizes w.partition))
+Tells w Passed = AtPassed w
+Tells w Fitting = AtHere w None
+Tells w (Wanted reason) = AtHere w (Some reason)
+Tells w NotHeld = (w.esi ≢ w.size) × FirstAfter (here w) w.held
+
+equal_numbers : (m n : ℕ) → (m == n) ≡ true → m ≡ n
+equal_numbers m n h = grind (arith, nat_tests)
+
+other_numbers : (m n : ℕ) → (m == n) ≡ false → m ≢ n
+other_numbers m n h = grind (arith, nat_tests)
+
+tells-wanted : (w : GapWalk) (o : Option Reason) → AtHere w o → Tells w (look_wanted o)
+tells-wanted w None h = h
+tells-wanted w (Some r) h = h
+
+tells-held : (w : GapWalk) (held : List Entry) → w.held ≡ held → w.esi ≢ w.size → Tells w (look_held w.partition (here w) held)
+tells-held w [] h i = (i, subst (FirstAfter (here w)) (sym h) tt)
+tells-held w (e ∷ es) h i = by_order (symbol_id_cmp e.0 (here w)) refl
+  where
+    by_order : (o : Ordering) → symbol_id_cmp e.0 (here w) ≡ o → Tells w (match_ordering o Passed (look_wanted (want_cell w.partition e.0 (Some e.1))) NotHeld)
+    by_order Less l = record { inside = i; first = e; others = es; held = h; before = l }
+    by_order Equal l =
+        let p = symbol_id_place e.0 (here w) l in
+        tells-wanted w (want_cell w.partition e.0 (Some e.1)) (record { inside = i; first = e; others = es; held = h; at_here = p; why_is = ap (λ x. want_cell w.partition x (Some e.1)) (sym p) })
+    by_order Greater l = (i, subst (FirstAfter (here w)) (sym h) l)
+
+pub tells : (w : GapWalk) → Tells w (look_of w)
+unfolding look_of
+tells w = elim (cases_Bool (w.esi == w.size)) [
+  | inr f ↦
+      subst (λ b. Tells w (cond b (cond (w.begun == length (sizes w.partition)) End BlockEnd) (look_held w.partition (here w) w.held))) (sym f)
+      (tells-held w w.held refl (other_numbers w.esi w.size f))
+  | inl t ↦
+      let e = equal_numbers w.esi w.size t in
+      subst (λ b. Tells w (cond b (cond (w.begun == length (sizes w.partition)) End BlockEnd) (look_held w.partition (here w) w.held))) (sym t)
+      (elim (cases_Bool (w.begun == length (sizes w.partition))) [
+        | inl u ↦ subst (λ b. Tells w (cond b End BlockEnd)) (sym u) (e, equal_numbers w.begun (length (sizes w.partition)) u)
+        | inr u ↦ subst (λ b. Tells w (cond b End BlockEnd)) (sym u) (e, other_numbers w.begun (length (sizes w.partition)) u)
+      ])
+]
+
+pub told : (w : GapWalk) (l : Look) → look_of w ≡ l → Tells w l
+told w l h = subst (Tells w) h (tells w)
+
+-- ---- the symbols that are left
+
+abbrev pub others_left : GapWalk → List SymbolId
+others_left w = block_from w.sbn (w.esi + 1) w.size ++ blocks_from w.partition w.begun
+
+pub symbols-first : (w : GapWalk) → w.esi < w.size → symbols_left w ≡ here w ∷ others_left w
+symbols-first w l = ap (λ xs. xs ++ blocks_from w.partition w.begun) (block_from-first w.sbn w.esi w.size l)
+
+pub blocks-later : (w : GapWalk) → IsWalk w → 0 < w.size → Later w.sbn (blocks_from w.partition w.begun)
+blocks-later w p l = later-blocks w.partition w.sbn w.begun (p.in_block l)
+
+pub others-above : (w : GapWalk) → IsWalk w → w.esi < w.size → Above (here w) (others_left w)
+others-above w p l = above-block w.sbn w.esi w.size (blocks_from w.partition w.begun) (blocks-later w p (omega (arith, l)))
+
+pub inside-less : (w : GapWalk) → IsWalk w → w.esi ≢ w.size → w.esi < w.size
+inside-less w p i = let l = p.within in omega (arith, l, i)
+
+-- ---- steps
+
+held-length : (held : List Entry) (e : Entry) (es : List Entry) → held ≡ e ∷ es → length held ≡ length (drop 1 held) + 1
+held-length held e es h = ap (λ (x : List Entry). length x) h ∙ (let f : length (e ∷ es) ≡ length es + 1 = omega arith in f) ∙ ap (λ (x : List Entry). length (drop 1 x) + 1) (sym h)
+
+held-ordered : (held : List Entry) (e : Entry) (es : List Entry) → held ≡ e ∷ es → IsOrdered symbol_id_cmp held → IsOrdered symbol_id_cmp (drop 1 held)
+held-ordered held e es h s =
+    subst (λ (x : List Entry). IsOrdered symbol_id_cmp (drop 1 x)) (sym h) (sorted_tail symbol_id_cmp e.0 (keys_of es) (subst (IsOrdered symbol_id_cmp) h s))
+
+held-known : (held : List Entry) (e : Entry) (es : List Entry) → held ≡ e ∷ es → EachValue IsKnown held → EachValue IsKnown (drop 1 held)
+held-known held e es h s =
+    let k : EachValue IsKnown (e ∷ es) = subst (EachValue IsKnown) h s in
+    subst (λ (x : List Entry). EachValue IsKnown (drop 1 x)) (sym h) k.1
+
+pub step-pass : (w : GapWalk) → IsWalk w → AtPassed w → Keeps w (after_pass w)
+unfolding left
+step-pass w p t =
+    let l = inside-less w p t.inside in
+    let n = held-length w.held t.first t.others t.held in
+    let b : bound (after_pass w) ≡ bound w = omega (arith, n) in
+    let f = p.few in
+    record {
+      walk = record {
+        ordered = held-ordered w.held t.first t.others t.held p.ordered;
+        known = held-known w.held t.first t.others t.held p.known;
+        begun = p.begun;
+        within = p.within;
+        longest = p.longest;
+        in_block = p.in_block;
+        few = omega (arith, b, f);
+      };
+      left_is =
+          ap (λ (x : List Entry). wanted w.partition (drop 1 x) (symbols_left w)) t.held
+          ∙ ap (wanted w.partition t.others) (symbols-first w l)
+          ∙ sym (wanted-past w.partition t.first t.others (here w ∷ others_left w) (t.before, above-before t.first.0 (here w) (others_left w) t.before (others-above w p l)))
+          ∙ ap (wanted w.partition (t.first ∷ t.others)) (sym (symbols-first w l))
+          ∙ ap (λ (x : List Entry). wanted w.partition x (symbols_left w)) (sym t.held);
+      bound_is = b;
+    }
+
+-- a held symbol of the partition is passed
+pub take-bound : (w : GapWalk) (why : Option Reason) → AtHere w why → bound (after_take w) ≡ bound w
+take-bound w why t = let n = held-length w.held t.first t.others t.held in omega (arith, n)
+
+pub take-walk : (w : GapWalk) (why : Option Reason) → IsWalk w → AtHere w why → IsWalk (after_take w)
+take-walk w why p t =
+    let l = inside-less w p t.inside in
+    let b = take-bound w why t in
+    let f = p.few in
+    record {
+      ordered = held-ordered w.held t.first t.others t.held p.ordered;
+      known = held-known w.held t.first t.others t.held p.known;
+      begun = p.begun;
+      within = omega (arith, l);
+      longest = p.longest;
+      in_block = p.in_block;
+      few = omega (arith, b, f);
+    }
+
+pub take-left : (w : GapWalk) (why : Option Reason) → IsWalk w → AtHere w why → left w ≡ cons_option (option_map (with_reason (here w)) why) (left (after_take w))
+unfolding left
+take-left w why p t =
+    let l = inside-less w p t.inside in
+    ap (λ (x : List Entry). wanted w.partition x (symbols_left w)) t.held
+    ∙ ap (wanted w.partition (t.first ∷ t.others)) (symbols-first w l)
+    ∙ wanted-here w.partition t.first t.others (here w) (others_left w) t.at_here (others-above w p l)
+    ∙ ap (λ o. cons_option (option_map (with_reason (here w)) o) (wanted w.partition t.others (others_left w))) t.why_is
+    ∙ ap (λ (x : List Entry). cons_option (option_map (with_reason (here w)) why) (wanted w.partition (drop 1 x) (others_left w))) (sym t.held)
+
+pub step-take : (w : GapWalk) → IsWalk w → AtHere w None → Keeps w (after_take w)
+step-take w p t = record { walk = take-walk w None p t; left_is = sym (take-left w None p t); bound_is = take-bound w None t }
+
+-- where the block has no symbol left, those of the other blocks are
+pub symbols-end : (w : GapWalk) → w.esi ≡ w.size → symbols_left w ≡ blocks_from w.partition w.begun
+symbols-end w e = ap (λ k. block_from w.sbn k w.size ++ blocks_from w.partition w.begun) e ∙ ap (λ xs. xs ++ blocks_from w.partition w.begun) (block_from-end w.sbn w.size)
+
+pub step-begin : (w : GapWalk) → IsWalk w → Tells w BlockEnd → (after_begin w).size ≤ 65536 → Keeps w (after_begin w)
+unfolding left
+step-begin w p t s =
+    let c = p.begun in
+    let d = t.1 in
+    let l : w.begun < length (sizes w.partition) = omega (arith, c, d) in
+    let b : bound (after_begin w) ≡ bound w = omega (arith, l) in
+    let f = p.few in
+    record {
+      walk = record {
+        ordered = p.ordered;
+        known = p.known;
+        begun = omega (arith, l);
+        within = omega arith;
+        longest = s;
+        in_block = λ z. omega arith;
+        few = omega (arith, b, f);
+      };
+      left_is = ap (wanted w.partition w.held) (sym (blocks_from-next w.partition w.begun l) ∙ sym (symbols-end w t.0));
+      bound_is = b;
+    }
+
+-- ---- what comes next, from its parts
+
+pub look-end : (w : GapWalk) → w.esi ≡ w.size → w.begun ≡ length (sizes w.partition) → End ≡ look_of w
+unfolding look_of
+look-end w e f = sym (ap (λ b. cond b (cond (w.begun == length (sizes w.partition)) End BlockEnd) (look_held w.partition (here w) w.held)) (is_same w.esi w.size e) ∙ ap (λ b. cond b End BlockEnd) (is_same w.begun (length (sizes w.partition)) f))
+  where
+    is_same : (m n : ℕ) → m ≡ n → (m == n) ≡ true
+    is_same m n h = grind (arith, nat_tests)
+
+is_other : (m n : ℕ) → m ≢ n → (m == n) ≡ false
+is_other m n h = grind (arith, nat_tests)
+
+pub look-block_end : (w : GapWalk) → w.esi ≡ w.size → w.begun ≢ length (sizes w.partition) → BlockEnd ≡ look_of w
+unfolding look_of
+look-block_end w e f = sym (ap (λ b. cond b (cond (w.begun == length (sizes w.partition)) End BlockEnd) (look_held w.partition (here w) w.held)) (is_same w.esi w.size e) ∙ ap (λ b. cond b End BlockEnd) (is_other w.begun (length (sizes w.partition)) f))
+  where
+    is_same : (m n : ℕ) → m ≡ n → (m == n) ≡ true
+    is_same m n h = grind (arith, nat_tests)
+
+look-inside : (w : GapWalk) (held : List Entry) → w.esi ≢ w.size → w.held ≡ held → look_held w.partition (here w) held ≡ look_of w
+unfolding look_of
+look-inside w held i h = ap (look_held w.partition (here w)) (sym h) ∙ sym (ap (λ b. cond b (cond (w.begun == length (sizes w.partition)) End BlockEnd) (look_held w.partition (here w) w.held)) (is_other w.esi w.size i))
+
+pub look-none : (w : GapWalk) → w.esi ≢ w.size → w.held ≡ [] → NotHeld ≡ look_of w
+look-none w i h = look-inside w [] i h
+
+pub look-first : (w : GapWalk) (e : Entry) (es : List Entry) (o : Ordering) → w.esi ≢ w.size → w.held ≡ e ∷ es → symbol_id_cmp e.0 (here w) ≡ o → match_ordering o Passed (look_wanted (want_cell w.partition e.0 (Some e.1))) NotHeld ≡ look_of w
+look-first w e es o i h c = ap (λ o. match_ordering o Passed (look_wanted (want_cell w.partition e.0 (Some e.1))) NotHeld) (sym c) ∙ look-inside w (e ∷ es) i h
+
+pub here-small : (w : GapWalk) (why : Option Reason) → IsWalk w → AtHere w why → w.esi < 65536
+here-small w why p t = let l = inside-less w p t.inside in let m = p.longest in omega (arith, l, m)
+
+pub block-left : (w : GapWalk) → IsWalk w → Tells w BlockEnd → w.begun < length (sizes w.partition)
+block-left w p t = let c = p.begun in let d = t.1 in omega (arith, c, d)
+
+pub left-ended : (w : GapWalk) (b : Bool) (t : ℕ) → left (record w { ended = b; ticks = t }) ≡ left w
+unfolding left
+left-ended w b t = refl
