@@ -1,14 +1,11 @@
 -- How many sessions, objects and symbols the content of a store names.
-use Rattle.std.proofs.Common.{append-nil, ◌≡◌, ◌≢◌, ℕ, ◌+◌, ◌<◌, ◌≤◌, List, [], ◌∷◌, ◌++◌, length, Bool, true, false, cond, ◌||◌, Option, Some, None, unwrap_or, refl, sym, ap, ◌∙◌, subst, inl, inr, ◌⊎◌, arith}
-use Rattle.std.specs.Prelude.{flat_map}
+use Rattle.std.proofs.Common.{append-nil, ◌≡◌, ◌≢◌, ℕ, ◌≤◌, List, [], ◌∷◌, ◌++◌, length, Bool, true, false, cond, ◌||◌, Option, Some, None, unwrap_or, refl, sym, ap, ◌∙◌, subst, inl, inr, arith}
 use Rattle.std.specs.declared.cmp.Ordering.{Ordering}
-use Rattle.std.specs.declared.cmp.Ordering.TheVariants.{Less, Equal, Greater}
 use Rattle.std.specs.Ordering.{is_eq}
 use Rattle.std.specs.Option.{option_map_or}
-use Rattle.std.specs.Cmp.{IsTotalOrder}
 use Rattle.std.specs.Map.{keys_of}
 use Rattle.std.proofs.lemmas.Map.Entries.{length-keys_of}
-use Rattle.std.proofs.lemmas.Bool.{false≢true, cases_Bool}
+use Rattle.std.proofs.lemmas.Bool.{cases_Bool}
 use Rattle.flute_parts.specs.Session.{Session}
 use Rattle.flute_parts.specs.declared.object_key.ObjectName.{ObjectName}
 use Rattle.flute_parts.specs.declared.key.Key.{Key}
@@ -18,21 +15,20 @@ use Rattle.flute_parts.specs.declared.address.Part.TheVariants.{Info as InfoPart
 use Rattle.flute_parts.specs.declared.address.Address.{Address}
 use Rattle.flute_parts.specs.declared.fact.Fact.{Fact}
 use Rattle.flute_parts.specs.Order.{session_cmp, object_cmp, symbol_id_cmp, same_key, same_symbol_id, same_session, same_object}
-use Rattle.flute_parts.specs.Addresses.{info_address, symbol_address, address}
+use Rattle.flute_parts.specs.Addresses.{symbol_address, address}
 use Rattle.flute_parts.specs.Totality.{session_total, object_total, symbol_id_total}
 use Rattle.flute_parts.specs.Facts.{fact_at}
 use Rattle.flute_parts.specs.Equality.{session_place, object_place, symbol_id_place, session_same, key_same}
 use Rattle.flute_parts.specs.Limits.{firsts, named, symbol_in, session_of, object_of, symbol_of, sessions, objects, symbols, Over, more_sessions, more_objects, more_symbols}
 use Rattle.flute_parts.proofs.Counted.{Tells, has, has-firsts, Distinct, Distinct-firsts, length-Distinct}
-use Rattle.flute_parts.proofs.Facts.{Member, Names, fact_at-member_some, fact_at-some_named}
+use Rattle.flute_parts.proofs.Facts.{Member, fact_at-member_some}
 use Rattle.flute_parts.proofs.Named.{named-member, named-names, session_tells, object_tells, symbol_id_tells}
-use Rattle.flute_join.specs.JoinMap.{value_at, IsOrdered, EachValue, IsSound}
+use Rattle.flute_join.specs.JoinMap.{value_at}
 use Rattle.flute_join.proofs.Sound.{each-value_at}
 use Rattle.flute_join.proofs.Single.{none_is_not_some}
-use Rattle.flute_join.specs.declared.cell.Cell.{Cell}
 use Rattle.flute_store.specs.declared.object.Object.{Object}
-use Rattle.flute_store.specs.Content.{key_of, symbol_facts, symbols_facts, object_facts, session_facts, content}
-use Rattle.flute_store.specs.WellFormed.{AreSymbols, IsObject, IsSession, IsStore}
+use Rattle.flute_store.specs.Content.{key_of, symbol_facts, object_facts, session_facts, content}
+use Rattle.flute_store.specs.WellFormed.{IsObject, IsSession, IsStore}
 use Rattle.flute_store.proofs.At.{at-entries}
 use Rattle.flute_store.proofs.StoreJoin.{OrderedObject, OrderedSession, OrderedStore, ordered-session, ordered-store, in_session, in_store, entry_facts, symbols_apart, objects_apart, sessions_apart, object-symbol}
 

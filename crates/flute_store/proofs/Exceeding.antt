@@ -1,5 +1,5 @@
 -- A store that passes the limits names more than they allow.
-use Rattle.std.proofs.Common.{◌≡◌, ◌≢◌, ℕ, ◌<◌, ◌≤◌, List, [], ◌∷◌, ◌++◌, length, Bool, true, false, cond, ◌||◌, Option, Some, None, unwrap_or, refl, sym, ap, ◌∙◌, subst, inl, inr, ◌⊎◌, arith, bytes_eq}
+use Rattle.std.proofs.Common.{◌≡◌, ◌≢◌, ℕ, ◌<◌, List, [], ◌∷◌, length, Bool, true, false, cond, ◌||◌, Option, Some, None, unwrap_or, refl, sym, ap, ◌∙◌, subst, inl, inr, ◌⊎◌, arith, bytes_eq}
 use Rattle.std.specs.declared.cmp.Ordering.{Ordering}
 use Rattle.std.specs.declared.cmp.Ordering.TheVariants.{Less}
 use Rattle.std.specs.Ordering.{is_eq}
@@ -7,7 +7,7 @@ use Rattle.std.specs.Cmp.{IsTotalOrder, eq_by_cmp_equiv}
 use Rattle.std.specs.Map.{keys_of}
 use Rattle.std.specs.List.Sorted.{IsStrictlySortedBy}
 use Rattle.flute_join.specs.Cell.{cell_join, IsKnown}
-use Rattle.flute_join.specs.JoinMap.{map_join, join_values, value_at, IsOrdered, EachValue, IsSound, MapOver}
+use Rattle.flute_join.specs.JoinMap.{map_join, join_values, value_at, IsOrdered, EachValue, MapOver}
 use Rattle.flute_join.proofs.Ordered.{ordered-map_join, EachValue-map_join}
 use Rattle.flute_join.specs.declared.cell.Cell.{Cell}
 use Rattle.flute_join.specs.declared.cell.Cell.TheVariants.{Absent, One, Conflict}
@@ -19,7 +19,7 @@ use Rattle.flute_parts.specs.Order.{session_cmp, object_cmp, symbol_id_cmp, same
 use Rattle.flute_parts.specs.Addresses.{info_address, symbol_address, address}
 use Rattle.flute_parts.specs.Totality.{session_total, object_total, symbol_id_total}
 use Rattle.flute_parts.specs.Facts.{fact_at, same_information}
-use Rattle.flute_parts.specs.Equality.{session_place, object_place, symbol_id_place, key_itself, session_itself}
+use Rattle.flute_parts.specs.Equality.{object_place, symbol_id_place, key_itself, session_itself}
 use Rattle.flute_parts.specs.Limits.{Over, more_sessions, more_objects, more_symbols, session_of, object_of, symbol_of, sessions, objects, symbols}
 use Rattle.flute_parts.specs.Information.{Information}
 use Rattle.flute_parts.specs.declared.address.Part.{Part}
@@ -46,10 +46,10 @@ use Rattle.flute_store.proofs.Counting.{count-ge, at-content, at-session, at-obj
 use Rattle.flute_store.specs.declared.object.Object.{Object}
 use Rattle.flute_store.specs.declared.news.News.{News}
 use Rattle.flute_store.specs.declared.news.Told.{Told}
-use Rattle.flute_store.specs.ObjectJoin.{object_join, ObjectOver, symbols_join, session_join, store_join, cells, object_join_laws, session_laws}
+use Rattle.flute_store.specs.ObjectJoin.{object_join, ObjectOver, session_join, store_join, cells, object_join_laws}
 use Rattle.flute_store.specs.Content.{key_of, info_facts, symbol_facts, object_facts, session_facts, content}
-use Rattle.flute_store.specs.News.{news_object, told_symbols, IsNews}
-use Rattle.flute_store.specs.WellFormed.{AreSymbols, IsObject, IsSession, IsStore}
+use Rattle.flute_store.specs.News.{told_symbols, IsNews}
+use Rattle.flute_store.specs.WellFormed.{IsObject, IsSession, IsStore}
 use Rattle.flute_store.specs.Beyond.{AnyValue, ObjectBeyond, SessionBeyond, StoreBeyond}
 use Rattle.flute_store.proofs.OnePair.{absent-right, some-right, known-join, known-told, told-some}
 use Rattle.flute_store.proofs.OneObject.{one_object, told-ordered}

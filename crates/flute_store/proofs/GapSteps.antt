@@ -1,5 +1,5 @@
 -- The gaps that a walk gives.
-use Rattle.std.proofs.Common.{◌≡◌, ◌≢◌, ℕ, zero, suc, ◌+◌, ◌-◌, ◌<◌, ◌≤◌, Bool, true, false, cond, ◌&&◌, List, [], ◌∷◌, ◌++◌, length, map, Option, Some, None, refl, sym, ap, ◌∙◌, subst, inl, inr, ◌⊎◌, arith, append_assoc}
+use Rattle.std.proofs.Common.{◌≡◌, ◌≢◌, ℕ, zero, suc, ◌+◌, ◌-◌, ◌<◌, ◌≤◌, Bool, true, false, cond, ◌&&◌, List, [], ◌∷◌, ◌++◌, length, map, Some, None, refl, sym, ap, ◌∙◌, subst, inl, inr, ◌⊎◌, arith, append_assoc}
 use Rattle.std.specs.Prelude.{◌==◌, nat_lt}
 use Rattle.std.specs.List.{range_with_len}
 use Rattle.std.specs.Map.{keys_of}
@@ -13,7 +13,7 @@ use Rattle.flute_join.specs.Cell.{IsKnown}
 use Rattle.flute_join.specs.JoinMap.{IsOrdered, EachValue, value_at}
 use Rattle.flute_join.specs.declared.cell.Cell.{Cell}
 use Rattle.flute_join.specs.declared.cell.Cell.TheVariants.{Absent, One, Conflict}
-use Rattle.flute_parts.specs.Information.{Information, sizes}
+use Rattle.flute_parts.specs.Information.{Information}
 use Rattle.flute_parts.specs.Order.{symbol_id_cmp}
 use Rattle.flute_parts.specs.Equality.{both}
 use Rattle.flute_parts.specs.Totality.{symbol_id_total}
@@ -21,14 +21,13 @@ use Rattle.flute_parts.specs.Partition.{symbol_id, fits}
 use Rattle.flute_parts.specs.declared.symbol_id.SymbolId.{SymbolId}
 use Rattle.flute_store.specs.declared.gap.Reason.{Reason}
 use Rattle.flute_store.specs.declared.gap.Reason.TheVariants.{Missing, Misfit}
-use Rattle.flute_store.specs.declared.gap.Gap.{Gap}
 use Rattle.flute_store.specs.declared.gap_walk.Look.{Look}
 use Rattle.flute_store.specs.declared.gap_walk.Look.TheVariants.{End, BlockEnd, Passed, Fitting, Wanted, NotHeld}
 use Rattle.flute_store.specs.declared.gap_walk.GapWalk.{GapWalk}
 use Rattle.flute_store.specs.Objects.{runs}
 use Rattle.flute_store.specs.Wanted.{want_cell, wanted, block_from, blocks_from}
-use Rattle.flute_store.specs.GapWalk.{symbols_left, left, gaps_left, bound, IsWalk, Keeps, after_pass, after_take, look_of, until_held, until_of, GivesGap, GoesOn, EndsRun, IsRun, RunsOn}
-use Rattle.flute_store.proofs.SortedSymbols.{Above, sbn-less, esi-less, above-before, above-later, above-block, block_from-first, block_from-end, blocks_from-end}
+use Rattle.flute_store.specs.GapWalk.{left, gaps_left, bound, IsWalk, after_pass, after_take, look_of, until_held, until_of, GivesGap, GoesOn, EndsRun, IsRun, RunsOn}
+use Rattle.flute_store.proofs.SortedSymbols.{Above, sbn-less, esi-less, above-before, above-later, above-block, blocks_from-end}
 use Rattle.flute_store.proofs.Lookups.{Entry, Elsewhere, value-before, value-first, wanted-missing, elsewhere-above, elsewhere-here}
 use Rattle.flute_store.proofs.Runs.{runs-first}
 use Rattle.flute_store.proofs.Looks.{here, AtHere, AtPassed, FirstAfter, Tells, told, others_left, symbols-first, symbols-end, blocks-later, others-above, inside-less, step-pass, take-bound, take-walk, take-left}
@@ -228,7 +227,7 @@ until-is n a size (e ∷ es) l s f = elim (cases_Bool ((e.0.sbn == n) && nat_lt 
       let m = same_number e.0.sbn n b.0 in
       let j = less_number e.0.esi size b.1 in
       subst (λ b. Until n a size (cond b e.0.esi size) (e ∷ es)) (sym t) (record {
-        less = elim (greater-cases e.0 (symbol_id n a) f) [ | inl g ↦ absurd (omega (arith, g, m)) | inr g ↦ g.1 ];
+        less = elim (greater-cases e.0 (symbol_id n a) f) [ inl g ↦ absurd (omega (arith, g, m)) | inr g ↦ g.1 ];
         within = omega (arith, j);
         none = λ i h. first-less n i e es s (less_in n i e.0 m h);
         next = inr (j, e, es, refl, λ i. record { sbn = m i; esi = e.0.esi });

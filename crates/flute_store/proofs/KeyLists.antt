@@ -1,8 +1,7 @@
 -- The keys of a store rise, and are those of the objects that it holds.
-use Rattle.std.proofs.Common.{◌≡◌, ℕ, zero, suc, ◌<◌, List, [], ◌∷◌, ◌++◌, length, get_or, Bool, true, false, cond, Option, Some, None, unwrap_or, refl, sym, ap, ◌∙◌, subst, inl, inr, ◌⊎◌, ◌↔◌, arith}
-use Rattle.std.specs.Prelude.{map, flat_map, Contains}
-use Rattle.std.specs.declared.cmp.Ordering.{Ordering}
-use Rattle.std.specs.declared.cmp.Ordering.TheVariants.{Less, Equal}
+use Rattle.std.proofs.Common.{◌≡◌, ℕ, zero, suc, List, [], ◌∷◌, ◌++◌, Bool, true, false, cond, Some, unwrap_or, refl, sym, ap, ◌∙◌, subst, inl, inr, ◌↔◌, arith}
+use Rattle.std.specs.Prelude.{Contains}
+use Rattle.std.specs.declared.cmp.Ordering.TheVariants.{Less}
 use Rattle.std.specs.Ordering.{is_eq, ordering_then}
 use Rattle.std.specs.Cmp.{Equal-is}
 use Rattle.std.specs.Map.{keys_of}
@@ -24,7 +23,7 @@ use Rattle.flute_store.specs.declared.object.Object.{Object}
 use Rattle.flute_store.specs.Content.{key_of, content}
 use Rattle.flute_store.specs.Keys.{session_keys, store_keys}
 use Rattle.flute_store.specs.Held.{HoldsObject}
-use Rattle.flute_store.specs.WellFormed.{IsSession, IsStore}
+use Rattle.flute_store.specs.WellFormed.{IsStore}
 use Rattle.flute_store.proofs.StoreJoin.{OrderedSession, OrderedStore, ordered-store}
 use Rattle.flute_store.proofs.Exceeding.{first_value, later_value, solid-store, object_stands}
 use Rattle.flute_store.proofs.Held.{object_held}

@@ -1,6 +1,6 @@
 -- Where a join may ask for memory, the other store has a fact at an address that is not held.
-use Rattle.std.proofs.Common.{◌≡◌, ◌≢◌, ℕ, List, Option, Some, None, refl, sym, ap, ◌∙◌, inl, inr, ◌⊎◌}
-use Rattle.std.specs.Prelude.{IsSome, Contains}
+use Rattle.std.proofs.Common.{◌≡◌, ◌≢◌, ℕ, List, Option, Some, None, refl, sym, ap, ◌∙◌, inl, inr}
+use Rattle.std.specs.Prelude.{IsSome}
 use Rattle.std.specs.Option.{option_map_or, ForSome}
 use Rattle.flute_join.specs.Cell.{CellNeedsMemory, IsKnown, one_value}
 use Rattle.flute_join.specs.JoinMap.{value_at, MapNeedsMemory}
@@ -14,7 +14,7 @@ use Rattle.flute_parts.specs.declared.address.Part.{Part}
 use Rattle.flute_parts.specs.declared.address.Part.TheVariants.{Info as InfoPart, Symbol as SymbolPart}
 use Rattle.flute_parts.specs.declared.address.Address.{Address}
 use Rattle.flute_parts.specs.declared.fact.Fact.{Fact}
-use Rattle.flute_parts.specs.Addresses.{address, info_address, symbol_address}
+use Rattle.flute_parts.specs.Addresses.{info_address, symbol_address}
 use Rattle.flute_parts.specs.Facts.{fact_at}
 use Rattle.flute_parts.specs.Order.{session_cmp, object_cmp, symbol_id_cmp}
 use Rattle.flute_parts.proofs.Facts.{Contains-from}

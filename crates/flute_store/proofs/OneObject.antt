@@ -1,5 +1,5 @@
 -- The store of one object.
-use Rattle.std.proofs.Common.{◌≡◌, List, [], ◌∷◌, ◌++◌, ℕ, Option, Some, None, refl, sym, ap, ◌∙◌}
+use Rattle.std.proofs.Common.{◌≡◌, List, [], ◌∷◌, ◌++◌, ℕ, Option, Some, None, refl, ap, ◌∙◌}
 use Rattle.std.specs.List.Sorted.{IsStrictlySortedBy}
 use Rattle.flute_join.specs.JoinMap.{IsOrdered}
 use Rattle.flute_parts.specs.Order.{symbol_id_cmp}
@@ -13,7 +13,7 @@ use Rattle.flute_store.specs.declared.news.Told.{Told}
 use Rattle.flute_store.specs.declared.news.News.{News}
 use Rattle.flute_store.specs.Content.{content}
 use Rattle.flute_store.specs.News.{told_symbols, news_object, news_facts}
-use Rattle.flute_store.proofs.StoreJoin.{OrderedObject, OrderedSession, OrderedStore}
+use Rattle.flute_store.proofs.StoreJoin.{OrderedStore}
 
 pub told-ordered : (o : Option (SymbolId × Told)) → IsOrdered symbol_id_cmp (told_symbols o)
 unfolding IsStrictlySortedBy

@@ -1,10 +1,9 @@
 -- What is known of datagrams that are packets.
-use Rattle.std.proofs.Common.{◌≡◌, ℕ, ◌≤◌, ◌<◌, List, [], ◌++◌, length, drop, Bool, true, false, nat_lt, refl, sym, ap, ◌∙◌, subst, inl, inr, arith, length-append, length-drop}
+use Rattle.std.proofs.Common.{ℕ, ◌≤◌, ◌<◌, List, ◌++◌, length, nat_lt, sym, ap, subst, inl, inr, arith, length-append, length-drop}
 use Rattle.std.specs.Prelude.{IfSome}
 use Rattle.std.proofs.lemmas.Bool.{cases_Bool}
 use Rattle.std.proofs.lemmas.Bool.Decides.{nat_tests}
 use Rattle.flute_parts.specs.SymbolBytes.{HasSymbolSize}
-use Rattle.flute_parts.specs.declared.symbol_id.SymbolId.{SymbolId}
 use Rattle.flute_wire.specs.Content.{Content}
 use Rattle.flute_wire.specs.Datagram.{Spells, symbol_of}
 

@@ -1,6 +1,6 @@
 -- The content of the join of two stores comes to the contents appended.
-use Rattle.std.proofs.Common.{◌≡◌, ℕ, List, [], ◌∷◌, ◌++◌, Bool, true, false, cond, Option, Some, None, refl, sym, ap, ◌∙◌, subst, inl, inr, ◌⊎◌}
-use Rattle.std.specs.Prelude.{flat_map, bytes_eq, ◌&&◌}
+use Rattle.std.proofs.Common.{◌≡◌, ℕ, List, [], ◌∷◌, ◌++◌, None, refl, sym, ap, ◌∙◌, subst}
+use Rattle.std.specs.Prelude.{bytes_eq, ◌&&◌}
 use Rattle.flute_parts.specs.Totality.{session_total, object_total, symbol_id_total}
 use Rattle.flute_parts.specs.Session.{Session}
 use Rattle.flute_parts.specs.declared.object_key.ObjectName.{ObjectName}
@@ -10,16 +10,16 @@ use Rattle.flute_parts.specs.declared.address.Part.{Part}
 use Rattle.flute_parts.specs.declared.address.Part.TheVariants.{Info as InfoPart, Symbol as SymbolPart}
 use Rattle.flute_parts.specs.declared.address.Address.{Address}
 use Rattle.flute_parts.specs.declared.fact.Fact.{Fact}
-use Rattle.flute_parts.specs.declared.fact.Fact.TheVariants.{Info, InfoConflict, Symbol, SymbolConflict}
+use Rattle.flute_parts.specs.declared.fact.Fact.TheVariants.{Info, Symbol}
 use Rattle.flute_parts.specs.Information.{Information}
-use Rattle.flute_parts.specs.Order.{session_cmp, object_cmp, symbol_id_cmp, same_key, same_symbol_id}
-use Rattle.flute_parts.specs.Addresses.{info_address, symbol_address, address}
+use Rattle.flute_parts.specs.Order.{session_cmp, object_cmp, symbol_id_cmp, same_symbol_id}
+use Rattle.flute_parts.specs.Addresses.{info_address, symbol_address}
 use Rattle.flute_parts.specs.Facts.{fact_at, Same, Below, same_information}
 use Rattle.flute_parts.specs.Equality.{session_place, object_place, symbol_id_place, key_itself, symbol_id_itself}
 use Rattle.flute_parts.proofs.Joined.{joined, joined-none, fact_at-append}
 use Rattle.flute_parts.proofs.Facts.{Below-trans, Below-from_Same}
 use Rattle.flute_join.specs.Cell.{cell_join}
-use Rattle.flute_join.specs.JoinMap.{map_join, value_at, IsOrdered, EachValue}
+use Rattle.flute_join.specs.JoinMap.{IsOrdered, EachValue}
 use Rattle.flute_join.specs.declared.cell.Cell.{Cell}
 use Rattle.flute_join.specs.Semilattice.{IsBelow}
 use Rattle.flute_join.proofs.Ordered.{ordered-map_join, EachValue-map_join}
@@ -27,7 +27,7 @@ use Rattle.flute_store.specs.declared.object.Object.{Object}
 use Rattle.flute_store.specs.ObjectJoin.{object_join, symbols_join, session_join, store_join}
 use Rattle.flute_store.specs.Content.{key_of, info_facts, symbol_facts, symbols_facts, object_facts, session_facts, content}
 use Rattle.flute_store.specs.WellFormed.{IsObject, IsSession, IsStore}
-use Rattle.flute_store.proofs.At.{Elsewhere, elsewhere-none, elsewhere-append, elsewhere-flat_map, elsewhere-cell, at-cell_join, at-entries, at-map_join}
+use Rattle.flute_store.proofs.At.{Elsewhere, elsewhere-none, elsewhere-append, elsewhere-flat_map, elsewhere-cell, at-cell_join, at-map_join}
 
 -- ---- where the facts of a cell stand
 

@@ -1,6 +1,5 @@
 -- An object of which something is known has a fact.
 use Rattle.std.specs.Prelude.{◌≡◌, ◌≢◌, ℕ, List, [], ◌∷◌, ◌++◌, refl}
-use Rattle.std.proofs.Common.{sym, ap, ◌∙◌}
 use Rattle.flute_join.specs.Cell.{IsKnown}
 use Rattle.flute_join.specs.JoinMap.{EachValue}
 use Rattle.flute_join.specs.declared.cell.Cell.{Cell}

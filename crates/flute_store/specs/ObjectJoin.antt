@@ -1,13 +1,11 @@
 -- The join of two objects.
 use Rattle.std.specs.Prelude.{ℕ, ◌⊎◌, List, bytes_eq}
-use Rattle.std.specs.Cmp.{IsTotalOrder}
 use Rattle.std.proofs.lemmas.Cmp.{nat_list_eq_equiv}
 use Rattle.flute_join.specs.Semilattice.{IsJoin}
 use Rattle.flute_join.specs.Cell.{cell_join, cell_join_laws, CellNeedsMemory}
 use Rattle.flute_join.specs.JoinMap.{map_join, MapOver, MapNeedsMemory}
 use Rattle.flute_join.specs.MapLaws.{map_join_laws}
 use Rattle.flute_join.specs.declared.cell.Cell.{Cell}
-use Rattle.flute_parts.specs.Information.{Information}
 use Rattle.flute_parts.specs.Order.{session_cmp, object_cmp, symbol_id_cmp}
 use Rattle.flute_parts.specs.Facts.{same_information}
 use Rattle.flute_parts.specs.Equality.{object_place, symbol_id_place, information_same, bytes_same}

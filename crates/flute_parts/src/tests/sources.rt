@@ -1,8 +1,6 @@
 //! Sources, and devices that fail.
 
-use crate::{
-    DeviceFault, MemorySource, ShortSink, ShortSource, Sink, Source, StdSource,
-};
+use crate::{DeviceFault, MemorySource, ShortSink, ShortSource, Sink, Source, StdSource};
 use std::io::{self, ErrorKind, Read};
 use std::test::Fail;
 

@@ -1,5 +1,5 @@
-use Rattle.std.proofs.Common.{◌≡◌, ◌<◌, ◌≤◌, List, ℕ, [], ◌∷◌, length, bytes_eq, OnOk, Option, Some, None, sym, ap, ◌∙◌, lit<, subst, arith, inl, inr}
-use Rattle.std.specs.BTreeMap.{is_at, insert_entry}
+use Rattle.std.proofs.Common.{◌≡◌, ◌<◌, ℕ, [], length, bytes_eq, sym, ap, ◌∙◌, lit<, subst, arith, inl, inr}
+use Rattle.std.specs.BTreeMap.{is_at}
 use Rattle.std.specs.Map.{set_value}
 use Rattle.std.proofs.lemmas.Result.{on_ok_weaker, on_err_weaker, err_from_is_err_and}
 use Rattle.std.proofs.lemmas.Map.Steps.{set_value_same}

@@ -1,5 +1,5 @@
-use Rattle.std.proofs.Common.{◌≡◌, ◌<◌, ◌≤◌, List, ℕ, [], ◌∷◌, length, bytes_eq, OnOk, Option, Some, None, sym, ap, ◌∙◌, lit<, subst, arith, inl, inr}
-use Rattle.std.specs.BTreeMap.{is_at, insert_entry}
+use Rattle.std.proofs.Common.{◌≡◌, ◌<◌, List, ℕ, [], ◌∷◌, length, sym, ap, ◌∙◌, lit<, subst, arith, inl, inr}
+use Rattle.std.specs.BTreeMap.{is_at}
 use Rattle.std.specs.Map.{set_value}
 use Rattle.std.proofs.lemmas.Result.{on_ok_weaker, on_err_weaker, err_from_is_err_and}
 use Rattle.std.proofs.lemmas.Map.Steps.{set_value_same}
@@ -7,12 +7,9 @@ use Rattle.flute_join.proofs.Single.{single_held, added_joins}
 use Rattle.flute_join.proofs.Sound.{each-value_at}
 use Rattle.flute_parts.specs.Order.{object_cmp, session_cmp}
 use Rattle.flute_parts.specs.Equality.{session_place}
-use Rattle.flute_parts.specs.Facts.{same_information}
 use Rattle.flute_parts.specs.declared.object_key.ObjectName.{ObjectName}
 use Rattle.flute_parts.specs.Totality.{session_total}
-use Rattle.flute_join.specs.Cell.{cell_join}
 use Rattle.flute_join.specs.MapLaws.{nothing_join}
-use Rattle.flute_join.specs.declared.cell.Cell.TheVariants.{Absent}
 use Rattle.flute_store.specs.declared.object.Object.{Object}
 use Rattle.flute_store.specs.ObjectJoin.{object_join, session_join, session_laws}
 use Rattle.flute_store.specs.News.{news_object}

@@ -1,7 +1,7 @@
-use Rattle.std.proofs.Common.{◌≡◌, ◌<◌, ◌≤◌, List, ℕ, [], ◌∷◌, length, OnOk, bytes_eq, Option, Some, None, sym, ap, ◌∙◌, subst, arith}
+use Rattle.std.proofs.Common.{◌<◌, length, bytes_eq, sym, ap, ◌∙◌, arith}
 use Rattle.std.specs.BTreeMap.{is_at}
 use Rattle.std.specs.Map.{set_value}
-use Rattle.flute_join.specs.Cell.{cell_join, IsKnown}
+use Rattle.flute_join.specs.Cell.{IsKnown}
 use Rattle.flute_join.proofs.Single.{single_held, added_joins}
 use Rattle.flute_join.proofs.Sound.{each-value_at}
 use Rattle.flute_parts.specs.Order.{symbol_id_cmp}

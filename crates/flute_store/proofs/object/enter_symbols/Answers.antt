@@ -1,4 +1,4 @@
-use Rattle.std.proofs.Common.{◌≡◌, Option, Some, None, ap, sym, ◌∙◌, subst, bytes_eq}
+use Rattle.std.proofs.Common.{ap, sym, ◌∙◌, subst, bytes_eq}
 use Rattle.flute_join.specs.Cell.{cell_join}
 use Rattle.flute_join.specs.MapLaws.{join_nothing}
 use Rattle.flute_parts.specs.Order.{symbol_id_cmp}

@@ -1,4 +1,4 @@
-use Rattle.std.proofs.Common.{◌-◌, sym, ap, subst, arith}
+use Rattle.std.proofs.Common.{◌-◌, sym, subst, arith}
 use Rattle.flute_store.specs.declared.gap.Reason.TheVariants.{Missing}
 use Rattle.flute_store.specs.GapWalk.{GivesGap}
 use Rattle.flute_store.proofs.GapSteps.{missing-less, missing-within, gap-missing}

@@ -1,6 +1,5 @@
-use Rattle.std.proofs.Common.{◌≡◌, ◌≢◌, [], Option, Some, None, ap, sym, ◌∙◌, subst, bytes_eq, ℕ, Err}
+use Rattle.std.proofs.Common.{◌≡◌, ◌≢◌, None, ℕ}
 use Rattle.std.proofs.lemmas.Result.{err_from_is_err_and}
-use Rattle.flute_join.specs.Cell.{cell_join}
 use Rattle.flute_join.specs.declared.cell.Cell.TheVariants.{Absent}
 use Rattle.flute_parts.specs.Facts.{same_information}
 use Rattle.flute_parts.specs.Totality.{symbol_id_total}
@@ -8,7 +7,7 @@ use Rattle.flute_parts.specs.Equality.{symbol_id_place}
 use Rattle.flute_store.specs.declared.object.Object.{Object}
 use Rattle.flute_store.specs.declared.news.News.{News}
 use Rattle.flute_store.specs.ObjectJoin.{object_join, symbols_join, cells}
-use Rattle.flute_store.specs.News.{news_object, told_symbols, IsNews}
+use Rattle.flute_store.specs.News.{news_object, told_symbols}
 use Rattle.flute_store.specs.WellFormed.{AreSymbols, IsObject}
 use Rattle.flute_store.proofs.OnePair.{absent-right, some-right, told-some}
 use Rattle.flute_store.proofs.object.Object.enter.Goals as goal

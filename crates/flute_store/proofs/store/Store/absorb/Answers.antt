@@ -1,4 +1,4 @@
-use Rattle.std.proofs.Common.{ap, sym, ◌∙◌, ◌++◌, subst}
+use Rattle.std.proofs.Common.{sym, ◌++◌, subst}
 use Rattle.std.proofs.Common.{◌≡◌, refl}
 use Rattle.std.proofs.lemmas.Result.{on_ok_weaker, IfErr-at_err}
 use Rattle.flute_join.specs.JoinMap.{MapOver, MapNeedsMemory}
@@ -6,12 +6,11 @@ use Rattle.flute_join.specs.declared.refusal.JoinRefusal.TheVariants.{Full, OutO
 use Rattle.flute_parts.specs.Order.{session_cmp, object_cmp}
 use Rattle.flute_parts.proofs.Named.{Over-below}
 use Rattle.flute_parts.proofs.Facts.{Below-from_Same}
-use Rattle.flute_parts.specs.Facts.{Same, Below}
+use Rattle.flute_parts.specs.Facts.{Same}
 use Rattle.flute_store.specs.ObjectJoin.{object_join, session_join, store_join, ObjectOver, ObjectNeedsMemory}
 use Rattle.flute_store.proofs.Memory.{needs-new}
 use Rattle.flute_store.proofs.Exceeding.{solid-store, solid-join, beyond-over, over-beyond}
 use Rattle.flute_store.specs.Content.{content}
-use Rattle.flute_store.specs.WellFormed.{IsStore}
 use Rattle.flute_store.proofs.StoreJoin.{ordered-store, content-join, content-below, content-below_join}
 use Rattle.flute_store.proofs.store.Store.absorb.Goals as goal
 

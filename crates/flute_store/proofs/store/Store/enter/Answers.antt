@@ -1,16 +1,12 @@
-use Rattle.std.proofs.Common.{◌≡◌, [], ◌∷◌, ◌++◌, List, ℕ, Err, OnOk, ap, sym, ◌∙◌, subst}
+use Rattle.std.proofs.Common.{◌≡◌, ◌++◌, Err, sym, subst}
 use Rattle.std.proofs.lemmas.Result.{on_ok_weaker}
 use Rattle.flute_join.specs.declared.refusal.JoinRefusal.TheVariants.{Full}
-use Rattle.flute_parts.specs.Session.{Session}
-use Rattle.flute_parts.specs.declared.object_key.ObjectName.{ObjectName}
 use Rattle.flute_parts.specs.Facts.{Same}
-use Rattle.flute_parts.specs.Limits.{Over}
 use Rattle.flute_parts.proofs.Named.{Over-below}
 use Rattle.flute_parts.proofs.Facts.{Below-from_Same}
-use Rattle.flute_store.specs.declared.object.Object.{Object}
 use Rattle.flute_store.specs.Content.{content}
 use Rattle.flute_store.specs.ObjectJoin.{store_join}
-use Rattle.flute_store.specs.News.{news_object, news_facts}
+use Rattle.flute_store.specs.News.{news_facts}
 use Rattle.flute_store.proofs.StoreJoin.{ordered-store, content-join}
 use Rattle.std.proofs.Common.{Result, Ok, refl}
 use Rattle.flute_join.specs.declared.refusal.JoinRefusal.{JoinRefusal}

@@ -1,14 +1,8 @@
-use Rattle.std.proofs.Common.{◌≡◌, [], ◌++◌, ◌↔◌, List, length, Ok, Err, sym, ap, ◌∙◌, subst, lit<}
-use Rattle.std.specs.Prelude.{IsOk}
-use Rattle.std.specs.List.{AllByRecursion}
+use Rattle.std.proofs.Common.{◌≡◌, [], lit<}
 use Rattle.std.proofs.lemmas.Result.{err_from_is_err_and}
 use Rattle.flute_join.proofs.Below.{ok_is_not_err}
-use Rattle.flute_parts.specs.Facts.{Same}
-use Rattle.flute_parts.specs.Limits.{Over}
-use Rattle.flute_wire.specs.Facts.{facts_of}
 use Rattle.flute_wire.specs.Reading.{facts}
 use Rattle.flute_wire.proofs.Computed.{facts-Spells, facts-refused}
-use Rattle.flute_store.specs.declared.taken.TakeFault.TheVariants.{Full}
 use Rattle.flute_store.proofs.Counting.{not_over_more}
 use Rattle.flute_store.proofs.Refused.{full_fault, no_datagram_fault, not_full}
 use Rattle.flute_store.proofs.Spelled.{spelled-size}
