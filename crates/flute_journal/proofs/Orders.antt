@@ -1,5 +1,5 @@
 -- Rising facts, each after the one before it.
-use Rattle.std.proofs.Common.{◌≡◌, true, List, [], ◌∷◌, ◌++◌, Option, Some, None, IsTrue, refl, sym, ap, ◌∙◌, subst}
+use Rattle.std.proofs.Common.{◌≡◌, true, List, [], ◌∷◌, Option, Some, None, IsTrue, refl, ap}
 use Rattle.std.specs.declared.cmp.Ordering.{Ordering}
 use Rattle.std.specs.declared.cmp.Ordering.TheVariants.{Less, Equal, Greater}
 use Rattle.std.specs.Ordering.{is_lt}
@@ -10,7 +10,6 @@ use Rattle.flute_parts.specs.Order.{address_cmp}
 use Rattle.flute_parts.specs.Facts.{StandAfter, IsRising}
 use Rattle.flute_parts.proofs.Rising.{StandAfter-before}
 use Rattle.flute_journal.specs.Faults.{is_after}
-use Rattle.flute_journal.specs.Journal.{last_of}
 
 -- each address is above the one before it, the first above the last one
 abbrev pub Rises : Option Address → List Fact → Type 0

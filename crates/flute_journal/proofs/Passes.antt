@@ -1,16 +1,15 @@
 -- What was spelled has no fault, and where bytes that begin like a journal stop.
-use Rattle.std.proofs.Common.{◌≡◌, ℕ, ◌+◌, ◌<◌, ◌≤◌, ◌^◌, Bool, true, false, List, [], ◌∷◌, ◌++◌, length, take, drop, Option, Some, None, IsTrue, inl, inr, ◌⊎◌, refl, sym, ap, ◌∙◌, subst, append_assoc, arith}
+use Rattle.std.proofs.Common.{◌≡◌, ℕ, ◌<◌, ◌≤◌, ◌^◌, true, List, [], ◌∷◌, ◌++◌, length, take, drop, Option, Some, None, inl, inr, ◌⊎◌, refl, sym, ap, ◌∙◌, subst, append_assoc, arith}
 use Rattle.std.specs.List.{flat_map, AllByRecursion}
-use Rattle.std.proofs.lemmas.Bool.{cases_lt, le-leb, le-ltb}
-use Rattle.std.proofs.lemmas.List.{length-append, drop_at, append-nil}
+use Rattle.std.proofs.lemmas.Bool.{cases_lt}
+use Rattle.std.proofs.lemmas.List.{length-append, append-nil}
 use Rattle.flute_parts.specs.Information.{Information, information, info_fault}
 use Rattle.flute_parts.specs.Addresses.{info_address, symbol_address}
-use Rattle.flute_parts.specs.declared.key.Key.{Key}
 use Rattle.flute_parts.specs.declared.address.Address.{Address}
 use Rattle.flute_parts.specs.declared.fact.Fact.{Fact}
 use Rattle.flute_parts.specs.declared.fact.Fact.TheVariants.{Info, InfoConflict, Symbol, SymbolConflict}
 use Rattle.flute_parts.specs.Addresses.{address}
-use Rattle.flute_parts.specs.Facts.{fact_at, Same, Below, IsRising}
+use Rattle.flute_parts.specs.Facts.{fact_at, Below, IsRising}
 use Rattle.flute_parts.proofs.Facts.{Same-append, Same-twice}
 use Rattle.flute_journal.specs.declared.format.Kind.{Kind}
 use Rattle.flute_journal.specs.declared.format.Kind.TheVariants as kinds
@@ -22,7 +21,7 @@ use Rattle.flute_journal.specs.Format.{header, key_bytes, id_bytes, info_bytes, 
 use Rattle.flute_journal.specs.Faults.{Before, first_fault, cut, info_in, info_checks, is_after, header_fault, next_fault}
 use Rattle.flute_journal.specs.Parsing.{bytes_fault}
 use Rattle.flute_journal.specs.Parsing.{byte_of, at_place, rest_fault}
-use Rattle.flute_journal.specs.Journal.{IsFact, IsInfo, IsSymbol, Collects, Journal, AreEntries, IsJournalWithin, last_of, before, StopsBehind, Stops, in_header, behind}
+use Rattle.flute_journal.specs.Journal.{IsFact, IsInfo, IsSymbol, Journal, AreEntries, last_of, before, Stops, in_header, behind}
 use Rattle.flute_journal.proofs.Numbers.{number-in_bytes}
 use Rattle.flute_journal.proofs.Orders.{Rises, rising-rises}
 use Rattle.flute_journal.proofs.Checks.{first-pass, cut-passes, info_passes, length_passes}

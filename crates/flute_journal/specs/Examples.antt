@@ -4,7 +4,7 @@ use Rattle.flute_parts.specs.Session.{session}
 use Rattle.flute_parts.specs.Information.{information}
 use Rattle.flute_parts.specs.Facts.{IsRising, fact_at}
 use Rattle.flute_parts.specs.declared.info.InfoFault.TheVariants.{SymbolLength}
-use Rattle.flute_parts.specs.declared.object_key.ObjectName.TheVariants.{Instance, File}
+use Rattle.flute_parts.specs.declared.object_key.ObjectName.TheVariants.{File}
 use Rattle.flute_parts.specs.declared.key.Key.{Key}
 use Rattle.flute_parts.specs.declared.symbol_id.SymbolId.{SymbolId}
 use Rattle.flute_parts.specs.declared.address.Part.TheVariants.{Symbol as SymbolPart}

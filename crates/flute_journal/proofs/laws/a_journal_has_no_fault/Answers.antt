@@ -1,6 +1,5 @@
-use Rattle.std.proofs.Common.{◌≡◌, ℕ, ◌≤◌, length, List, None, sym, ap, ◌∙◌, arith}
-use Rattle.flute_parts.specs.Facts.{fact_at}
-use Rattle.flute_journal.proofs.Passes.{beyond, front-below}
+use Rattle.std.proofs.Common.{arith}
+use Rattle.flute_journal.proofs.Passes.{beyond}
 use Rattle.flute_journal.proofs.laws.a_journal_has_no_fault.Goals as goal
 
 pub returns : goal.returns

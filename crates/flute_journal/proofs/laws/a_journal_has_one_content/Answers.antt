@@ -1,6 +1,5 @@
-use Rattle.std.proofs.Common.{◌≡◌, ℕ, ◌≤◌, length, List, None, sym, ap, ◌∙◌, arith}
+use Rattle.std.proofs.Common.{sym, ap, ◌∙◌}
 use Rattle.flute_parts.specs.Facts.{fact_at}
-use Rattle.flute_journal.proofs.Passes.{beyond, front-below}
 use Rattle.flute_journal.proofs.laws.a_journal_has_one_content.Goals as goal
 use Rattle.std.proofs.lemmas.List.{append-nil}
 use Rattle.std.specs.Prelude.{[]}

@@ -1,8 +1,7 @@
-use Rattle.std.proofs.Common.{◌≡◌, ℕ, ◌≤◌, length, List, None, sym, ap, ◌∙◌, arith}
-use Rattle.flute_parts.specs.Facts.{fact_at}
-use Rattle.flute_journal.proofs.Passes.{beyond, front-below}
+use Rattle.std.proofs.Common.{length, arith}
+use Rattle.flute_journal.proofs.Passes.{beyond}
 use Rattle.flute_journal.proofs.laws.a_journal_stops_at_the_bound.Goals as goal
-use Rattle.flute_journal.specs.Journal.{AreEntries, IsJournalWithin}
+use Rattle.flute_journal.specs.Journal.{AreEntries}
 
 pub returns : goal.returns
 returns c bs F es limit f j s =

@@ -1,6 +1,6 @@
-use Rattle.std.proofs.Common.{◌≡◌, List, [], ◌++◌, None, sym, ap, ◌∙◌}
+use Rattle.std.proofs.Common.{[], sym, ap, ◌∙◌}
 use Rattle.std.proofs.lemmas.List.{append-nil}
-use Rattle.flute_parts.specs.Facts.{fact_at, Same}
+use Rattle.flute_parts.specs.Facts.{fact_at}
 use Rattle.flute_journal.specs.Format.{spelling}
 use Rattle.flute_journal.proofs.Entries.{spelling-injective}
 use Rattle.flute_parts.proofs.Rising.{rising_unique}
