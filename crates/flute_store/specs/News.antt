@@ -10,6 +10,7 @@ use Rattle.flute_parts.specs.declared.object_key.ObjectName.{ObjectName}
 use Rattle.flute_parts.specs.declared.key.Key.{Key}
 use Rattle.flute_parts.specs.declared.symbol_id.SymbolId.{SymbolId}
 use Rattle.flute_parts.specs.declared.fact.Fact.{Fact}
+use Rattle.flute_store.specs.ObjectJoin.{symbols_join, session_join, store_join}
 use Rattle.flute_store.specs.Content.{info_facts, symbols_facts}
 use Rattle.flute_store.specs.declared.news.Told.{Told}
 use Rattle.flute_store.specs.declared.news.Told.TheVariants.{One as OneTold, Conflict as ConflictTold}
@@ -56,3 +57,13 @@ IsHeldObject {n} os object news = (x : Object n) × (value_at object_cmp os obje
 
 abbrev pub IsHeldSession : {n : ℕ} → List (Session × List (ObjectName × Object n)) → Key → News → Type 0
 IsHeldSession {n} m key news = (os : List (ObjectName × Object n)) × (value_at session_cmp m key.session ≡ Some os) × IsHeldObject os key.object news
+
+-- what is told, joined into the symbols of an object, into a session and into a store
+abbrev pub with_symbol : List (SymbolId × Cell (List ℕ)) → SymbolId → Told → List (SymbolId × Cell (List ℕ))
+with_symbol symbols id told = symbols_join symbols ((id, told_cell told) ∷ [])
+
+abbrev pub with_object : {n : ℕ} → List (ObjectName × Object n) → ObjectName → News → List (ObjectName × Object n)
+with_object os object news = session_join os ((object, news_object news) ∷ [])
+
+abbrev pub with_session : {n : ℕ} → List (Session × List (ObjectName × Object n)) → Key → News → List (Session × List (ObjectName × Object n))
+with_session m key news = store_join m ((key.session, (key.object, news_object news) ∷ []) ∷ [])

@@ -1,9 +1,8 @@
 //! What is told of an object, joined into the maps of a store.
-ghost use Rattle.std.specs.Prelude.{◌≡◌, [], ◌∷◌, OnOk, OnErr, IsOk};
+ghost use Rattle.std.specs.Prelude.{◌≡◌, OnOk, OnErr, IsOk};
 ghost use Rattle.flute_join.specs.JoinMap.{EachValue, IsSound};
 ghost use Rattle.flute_parts.specs.Order.{session_cmp};
-ghost use Rattle.flute_store.specs.ObjectJoin.{session_join, store_join};
-ghost use Rattle.flute_store.specs.News.{news_object, IsNews, IsHeldObject, IsHeldSession};
+ghost use Rattle.flute_store.specs.News.{with_object, with_session, IsNews, IsHeldObject, IsHeldSession};
 ghost use Rattle.flute_store.specs.WellFormed.{IsObject, IsSession};
 ghost use Rattle.flute_store.specs.Beyond.{SessionBeyond, StoreBeyond};
 
@@ -27,7 +26,8 @@ pub type Sessions<const SESSIONS: u32, const OBJECTS: u32, const SYMBOLS: u32> =
     SESSIONS,
 >;
 
-/// Joins what is told of an object into a session. After a refusal the session is unchanged.
+/// Joins what is told of an object into a session. `Full` comes before any memory is asked for. After a refusal the
+/// session is unchanged.
 pub fn enter_object<const OBJECTS: u32, const SYMBOLS: u32>(
     objects: &mut Objects<OBJECTS, SYMBOLS>,
     alloc: Global,
@@ -36,11 +36,12 @@ pub fn enter_object<const OBJECTS: u32, const SYMBOLS: u32>(
 ) -> Result<(), JoinRefusal>
     requires each { EachValue IsObject objects.old }
     requires news { IsNews news.now }
-    ensures ok { OnOk result (objects.new ≡ session_join objects.old ((key, news_object news.now) ∷ [])) }
+    ensures ok { OnOk result (objects.new ≡ with_object objects.old key news.now) }
     ensures err { OnErr result (objects.new ≡ objects.old) }
-    ensures full { result ≡ Err JoinRefusal.Full → SessionBeyond OBJECTS (session_join objects.old ((key, news_object news.now) ∷ [])) }
+    ensures full { result ≡ Err JoinRefusal.Full → SessionBeyond OBJECTS (with_object objects.old key news.now) }
     ensures held { IsHeldObject objects.old key news.now → IsOk result }
-    ensures room { (result ≡ Err JoinRefusal.Full → ⊥) → IsSession OBJECTS (session_join objects.old ((key, news_object news.now) ∷ [])) }
+    ensures room { (result ≡ Err JoinRefusal.Full → ⊥)
+        → IsSession OBJECTS (with_object objects.old key news.now) }
 {
     if let Some(held) = objects.get_mut(&key) {
         return held.enter(alloc, news);
@@ -53,7 +54,8 @@ pub fn enter_object<const OBJECTS: u32, const SYMBOLS: u32>(
     objects.add_new(key, object)
 }
 
-/// Joins what is told of an object into the sessions. After a refusal they are unchanged.
+/// Joins what is told of an object into the sessions. `Full` comes before any memory is asked for. After a refusal
+/// they are unchanged.
 pub fn enter_session<const SESSIONS: u32, const OBJECTS: u32, const SYMBOLS: u32>(
     sessions: &mut Sessions<SESSIONS, OBJECTS, SYMBOLS>,
     alloc: Global,
@@ -62,11 +64,13 @@ pub fn enter_session<const SESSIONS: u32, const OBJECTS: u32, const SYMBOLS: u32
 ) -> Result<(), JoinRefusal>
     requires each { EachValue (IsSession OBJECTS) sessions.old }
     requires news { IsNews news.now }
-    ensures ok { OnOk result (sessions.new ≡ store_join sessions.old ((key.now.session, (key.now.object, news_object news.now) ∷ []) ∷ [])) }
+    ensures ok { OnOk result (sessions.new ≡ with_session sessions.old key.now news.now) }
     ensures err { OnErr result (sessions.new ≡ sessions.old) }
-    ensures full { result ≡ Err JoinRefusal.Full → StoreBeyond SESSIONS OBJECTS (store_join sessions.old ((key.now.session, (key.now.object, news_object news.now) ∷ []) ∷ [])) }
+    ensures full { result ≡ Err JoinRefusal.Full
+        → StoreBeyond SESSIONS OBJECTS (with_session sessions.old key.now news.now) }
     ensures held { IsHeldSession sessions.old key.now news.now → IsOk result }
-    ensures room { (result ≡ Err JoinRefusal.Full → ⊥) → IsSound session_cmp SESSIONS (IsSession OBJECTS) (store_join sessions.old ((key.now.session, (key.now.object, news_object news.now) ∷ []) ∷ [])) }
+    ensures room { (result ≡ Err JoinRefusal.Full → ⊥)
+        → IsSound session_cmp SESSIONS (IsSession OBJECTS) (with_session sessions.old key.now news.now) }
 {
     if let Some(held) = sessions.get_mut(&key.session) {
         return enter_object(held, alloc, key.object, news);

@@ -1,11 +1,17 @@
 //! What is held of one object.
-ghost use Rattle.std.specs.Prelude.{◌≡◌, ◌<◌, [], ◌∷◌, length, OnOk, OnErr, IsSome, IsOk};
+ghost use Rattle.std.specs.Prelude.{◌≡◌, ◌<◌, [], length, OnOk, OnErr, IsSome, IsOk};
 ghost use Rattle.flute_join.specs.Cell.{IsKnown};
 ghost use Rattle.flute_join.specs.JoinMap.{EachValue, IsSound, value_at};
 ghost use Rattle.flute_parts.specs.Order.{symbol_id_cmp};
-ghost use Rattle.flute_store.specs.News.{told_cell, told_symbols, HasSize, HasSizes, IsHeldSymbol};
+ghost use Rattle.flute_store.specs.News.{with_symbol, told_symbols, HasSize, HasSizes, IsHeldSymbol};
 ghost use Rattle.flute_store.specs.WellFormed.{AreSymbols};
-ghost use Rattle.flute_store.specs.ObjectJoin.{object_join, ObjectOver, ObjectNeedsMemory, object_join_laws, symbols_join};
+ghost use Rattle.flute_store.specs.ObjectJoin.{
+  object_join,
+  ObjectOver,
+  ObjectNeedsMemory,
+  object_join_laws,
+  symbols_join,
+};
 
 use crate::news::{News, Told, meet_info};
 use flute_join::{Cell, Join, JoinMap, JoinRefusal};
@@ -54,11 +60,13 @@ fn enter_symbol<const SYMBOLS: u32>(
 ) -> Result<(), JoinRefusal>
     requires each { EachValue IsKnown symbols.old }
     requires size { HasSize told.now }
-    ensures ok { OnOk result (symbols.new ≡ symbols_join symbols.old ((id, told_cell told.now) ∷ [])) }
+    ensures ok { OnOk result (symbols.new ≡ with_symbol symbols.old id told.now) }
     ensures err { OnErr result (symbols.new ≡ symbols.old) }
-    ensures full { result ≡ Err JoinRefusal.Full → SYMBOLS < length (symbols_join symbols.old ((id, told_cell told.now) ∷ [])) }
+    ensures full { result ≡ Err JoinRefusal.Full
+        → SYMBOLS < length (with_symbol symbols.old id told.now) }
     ensures held { IsSome (value_at symbol_id_cmp symbols.old id) → IsOk result }
-    ensures room { (result ≡ Err JoinRefusal.Full → ⊥) → IsSound symbol_id_cmp SYMBOLS IsKnown (symbols_join symbols.old ((id, told_cell told.now) ∷ [])) }
+    ensures room { (result ≡ Err JoinRefusal.Full → ⊥)
+        → IsSound symbol_id_cmp SYMBOLS IsKnown (with_symbol symbols.old id told.now) }
 {
     if let Some(held) = symbols.get_mut(&id) {
         told.meet(held);
@@ -81,9 +89,11 @@ fn enter_symbols<const SYMBOLS: u32>(
     requires sizes { HasSizes told.now }
     ensures ok { OnOk result (symbols.new ≡ symbols_join symbols.old (told_symbols told.now)) }
     ensures err { OnErr result (symbols.new ≡ symbols.old) }
-    ensures full { result ≡ Err JoinRefusal.Full → SYMBOLS < length (symbols_join symbols.old (told_symbols told.now)) }
+    ensures full { result ≡ Err JoinRefusal.Full
+        → SYMBOLS < length (symbols_join symbols.old (told_symbols told.now)) }
     ensures held { IsHeldSymbol symbols.old told.now → IsOk result }
-    ensures room { (result ≡ Err JoinRefusal.Full → ⊥) → AreSymbols SYMBOLS (symbols_join symbols.old (told_symbols told.now)) }
+    ensures room { (result ≡ Err JoinRefusal.Full → ⊥)
+        → AreSymbols SYMBOLS (symbols_join symbols.old (told_symbols told.now)) }
 {
     match told {
         Some((id, told)) => enter_symbol(symbols, alloc, *id, told),
@@ -112,9 +122,11 @@ impl<const SYMBOLS: u32> Object<SYMBOLS> {
         requires news { IsNews news.now }
         ensures ok { OnOk result (self.new ≡ object_join self.old (news_object news.now)) }
         ensures err { OnErr result (self.new ≡ self.old) }
-        ensures full { result ≡ Err JoinRefusal.Full → SYMBOLS < length (object_join self.old (news_object news.now)).symbols }
+        ensures full { result ≡ Err JoinRefusal.Full
+            → SYMBOLS < length (object_join self.old (news_object news.now)).symbols }
         ensures held { IsHeldSymbol self.old.symbols news.now.symbol → IsOk result }
-        ensures room { (result ≡ Err JoinRefusal.Full → ⊥) → IsObject (object_join self.old (news_object news.now)) }
+        ensures room { (result ≡ Err JoinRefusal.Full → ⊥)
+            → IsObject (object_join self.old (news_object news.now)) }
     {
         enter_symbols(&mut self.symbols, alloc, &news.symbol)?;
         meet_info(&mut self.info, &news.info);

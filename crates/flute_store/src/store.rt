@@ -1,5 +1,22 @@
 //! A store of receptions.
-ghost use Rattle.std.specs.Prelude.{◌≡◌, ◌≤◌, ◌+◌, ◌*◌, Contains, [], ◌∷◌, ◌++◌, length, OnOk, OnErr, IfOk, IfSome, IsOk, ◌↔◌, is_some};
+ghost use Rattle.std.specs.Prelude.{
+  ◌≡◌,
+  ◌≤◌,
+  ◌+◌,
+  ◌*◌,
+  ◌↔◌,
+  [],
+  ◌∷◌,
+  ◌++◌,
+  length,
+  Contains,
+  is_some,
+  OnOk,
+  OnErr,
+  IfOk,
+  IfSome,
+  IsOk,
+};
 ghost use Rattle.std.specs.List.{AllByRecursion};
 ghost use Rattle.std.specs.List.Sorted.{IsStrictlySortedBy};
 ghost use Rattle.flute_parts.specs.Order.{key_cmp};
@@ -28,7 +45,11 @@ use flute_wire::{Packet, read};
 use std::alloc::Global;
 use std::marker::Model;
 
-/// Sessions of objects, seen as the list of their facts in the order of the addresses.
+/// What was received: at most `SESSIONS` sessions, `OBJECTS` objects of each and `SYMBOLS` symbols of each object, with
+/// an object's transmission information beside them. Proofs see it as the list of its facts in the order of their
+/// addresses, one at each.
+///
+/// No session is held without an object, and no object without information or a symbol.
 #[derive(Drop)]
 pub struct Store<const SESSIONS: u32, const OBJECTS: u32, const SYMBOLS: u32> {
     sessions: Sessions<SESSIONS, OBJECTS, SYMBOLS>,
@@ -57,7 +78,7 @@ impl<const SESSIONS: u32, const OBJECTS: u32, const SYMBOLS: u32> Store<
     OBJECTS,
     SYMBOLS,
 > {
-    /// The empty store.
+    /// The empty store. It takes no memory.
     pub fn new(alloc: Global) -> Self
         ensures { result ≡ [] }
     {
@@ -66,7 +87,16 @@ impl<const SESSIONS: u32, const OBJECTS: u32, const SYMBOLS: u32> Store<
         }
     }
 
-    /// Joins another store into this one. After a refusal the facts lie between the old ones and those of both.
+    /// Joins another store into this one: it holds the facts of both, and where they tell two values, the conflict.
+    ///
+    /// It looks up each session, object and symbol of the other store once, and copies the bytes of a symbol only
+    /// where the symbol is new.
+    ///
+    /// # Errors
+    ///
+    /// `Full` only where both together pass the limits, and `OutOfMemory` only where the other store has a fact at an
+    /// address that is not held here. After either this store has its old facts and perhaps some of the other one's:
+    /// absorbing that again with success gives the join.
     pub fn absorb(&mut self, alloc: Global, other: &Self) -> Result<(), JoinRefusal>
         ensures ok { OnOk result (Same self.new (self.old ++ other.now)) }
         ensures above { Below self.old self.new }
@@ -74,6 +104,7 @@ impl<const SESSIONS: u32, const OBJECTS: u32, const SYMBOLS: u32> Store<
         ensures full { result ≡ Err JoinRefusal.Full → Over (self.old ++ other.now) SESSIONS OBJECTS SYMBOLS }
         ensures memory { result ≡ Err JoinRefusal.OutOfMemory → HasNew self.old other.now }
     {
+        // By this the proof knows that the other store is one.
         let _ = &other.sessions;
         self.sessions.join_from(alloc, &other.sessions)
     }
@@ -90,7 +121,13 @@ impl<const SESSIONS: u32, const OBJECTS: u32, const SYMBOLS: u32> Store<
         enter_session(&mut self.sessions, alloc, key, news)
     }
 
-    /// Adds a fact. After a refusal the store is unchanged.
+    /// Adds a fact. Where another value is held at its address, the conflict is held from then on, and a conflict that
+    /// is told makes one. It costs as much as [`take`](Store::take).
+    ///
+    /// # Errors
+    ///
+    /// `Full` exactly where the fact needs a new session, object or symbol beyond the limits, before any memory is
+    /// asked for, and else `OutOfMemory`. Neither comes at a held address. After each the store is unchanged.
     pub fn add(&mut self, alloc: Global, fact: &Fact) -> Result<(), JoinRefusal>
         ensures ok { OnOk result (Same self.new (self.old ++ fact.now ∷ [])) }
         ensures err { OnErr result (self.new ≡ self.old) }
@@ -122,7 +159,18 @@ impl<const SESSIONS: u32, const OBJECTS: u32, const SYMBOLS: u32> Store<
         })
     }
 
-    /// Adds the facts of a datagram.
+    /// Adds the facts of a datagram: the transmission information of its object and its encoding symbol, as far as it
+    /// has them. What is held at an address already is joined, as by [`add`](Store::add). Whether a symbol fits the
+    /// information is not looked at, nor whether there is any.
+    ///
+    /// It looks up the session, the object and the symbol once each. A new symbol's bytes are copied once; at a held
+    /// address nothing is copied, and no memory is asked for.
+    ///
+    /// # Errors
+    ///
+    /// `Datagram` with the first refusal of [`read`](flute_wire::read), else `Full` exactly where a fact needs a new
+    /// session, object or symbol beyond the limits, and else `OutOfMemory`. Where every fact stands at a held address
+    /// neither of the last two comes. After each the store is unchanged: of two facts it never keeps one.
     pub fn take(&mut self, alloc: Global, datagram: &[u8]) -> Result<Taken, TakeFault>
         ensures ok { OnOk result (Same self.new (self.old ++ facts datagram.now)) }
         ensures number { IfOk result (λ taken. taken.facts ≡ length (facts datagram.now)) }
@@ -141,29 +189,36 @@ impl<const SESSIONS: u32, const OBJECTS: u32, const SYMBOLS: u32> Store<
         }
     }
 
-    /// The facts in the order of their addresses.
+    /// The facts in the rising order of their addresses: sessions, in each its FDT Instances and then its files, and of
+    /// each object the information before the symbols. The bytes of a symbol are borrowed, 1 to 65,535 of them.
+    ///
+    /// It takes no memory, and goes once over what is held.
     pub fn walk(&self) -> Walk<'_, Objects<OBJECTS, SYMBOLS>>
         ensures value { result ≡ self.now }
         ensures rising { IsRising self.now }
         ensures within { ¬ Over self.now SESSIONS OBJECTS SYMBOLS }
         ensures few { length self.now ≤ SESSIONS * OBJECTS * (SYMBOLS + 1) }
     {
+        // By this the proof knows that the store is within its limits.
         let _ = &self.sessions;
         let sessions = self.sessions.iter();
         Walk::new(sessions)
     }
 
-    /// The keys of the objects of which something is held, in rising order.
+    /// The keys of the objects of which something is held, in rising order. It takes no memory, and goes once over the
+    /// sessions and objects.
     pub fn objects(&self) -> Keys<'_, Objects<OBJECTS, SYMBOLS>>
         ensures rising { IsStrictlySortedBy key_cmp result }
         ensures held { (key : Name) → Contains result key ↔ HoldsObject self.now key }
     {
+        // By this the proof knows that each session has an object.
         let _ = &self.sessions;
         let sessions = self.sessions.iter();
         Keys::new(sessions)
     }
 
-    /// Whether a fact stands at the address.
+    /// Whether a value or a conflict is held at the address. It takes no memory, and looks up the session, the object
+    /// and the symbol once each.
     pub fn contains(&self, address: &Address) -> bool
         ensures { result ≡ is_some (fact_at self.now address.now) }
     {
