@@ -9,3 +9,5 @@ pub mod Calls
 pub mod Bodies
 pub mod Orders
 pub mod Passes
+pub mod Found
+pub mod Existence

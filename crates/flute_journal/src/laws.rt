@@ -5,7 +5,7 @@ ghost use Rattle.flute_parts.specs.Facts.{Same, Below, IsRising};
 ghost use Rattle.flute_parts.specs.declared.fact.Fact.{Fact};
 ghost use Rattle.flute_journal.specs.declared.fault.ReadFault.{ReadFault as Fault};
 ghost use Rattle.flute_journal.specs.Format.{header, entry, spelling};
-ghost use Rattle.flute_journal.specs.Journal.{IsFact, Journal, Stops, IsJournalWithin};
+ghost use Rattle.flute_journal.specs.Journal.{IsByte, IsFact, Journal, Stops, IsJournalWithin};
 ghost use Rattle.flute_journal.specs.declared.fault.ReadFault.TheVariants as faults;
 
 /// What an entry spells is read in one way, whatever follows it.
@@ -52,4 +52,10 @@ pub fn first_entries_are_below()
 /// Rising facts that come to the same at each address are spelled alike.
 pub fn rising_facts_have_one_spelling()
     ensures { (es fs : List Fact) → IsRising es → IsRising fs → Same es fs → spelling es ≡ spelling fs }
+{}
+
+/// Bytes are a journal within the bound, or they stop at a fault.
+pub fn bytes_are_a_journal_or_stop()
+    ensures { (bs : List ℕ) (limit : ℕ) → AllByRecursion IsByte bs
+        → ((es : List Fact) × IsJournalWithin limit bs es) ⊎ ((es : List Fact) × ((f : Fault) × Stops bs limit es f)) }
 {}

@@ -238,4 +238,5 @@ fn laws_can_be_called() {
     laws::bytes_stop_once();
     laws::first_entries_are_below();
     laws::rising_facts_have_one_spelling();
+    laws::bytes_are_a_journal_or_stop();
 }
