@@ -11,3 +11,4 @@ pub mod Orders
 pub mod Passes
 pub mod Found
 pub mod Existence
+pub mod Whole

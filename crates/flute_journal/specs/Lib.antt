@@ -8,3 +8,4 @@ pub mod Reading
 pub mod Writing
 pub mod Examples
 pub mod Readers
+pub mod Whole

@@ -3,6 +3,7 @@
 mod faults;
 mod journals;
 mod vectors;
+mod whole;
 
 ghost use Rattle.std.specs.Prelude.{◌≡◌};
 ghost use Rattle.flute_parts.specs.Addresses.{fact_of};
