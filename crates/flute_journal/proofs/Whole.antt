@@ -1,29 +1,24 @@
 -- A journal that is read entry by entry.
-use Rattle.std.proofs.Common.{◌≡◌, ℕ, ◌+◌, ◌-◌, ◌<◌, ◌≤◌, true, List, [], ◌∷◌, ◌++◌, length, drop, Option, Some, None, IsTrue, inl, inr, ◌⊎◌, Result, Ok, Err, refl, sym, ap, ◌∙◌, subst, append_assoc, arith}
-use Rattle.std.specs.Prelude.{IfSome, if◌then◌else◌}
-use Rattle.std.proofs.Common.{Bool, false, not, take}
-use Rattle.std.proofs.lemmas.List.{take-append-drop, drop-drop}
-use Rattle.std.proofs.lemmas.Slice.Eq.{bytes_eq-Decides}
+use Rattle.std.proofs.Common.{◌≡◌, ℕ, ◌+◌, List, [], ◌∷◌, ◌++◌, length, drop, Option, Some, None, IsTrue, inl, inr, refl, sym, ap, ◌∙◌, subst, append_assoc, arith}
+use Rattle.std.specs.Prelude.{IfSome}
 use Rattle.flute_journal.specs.declared.fault.ReadFault.{ReadFault}
 use Rattle.flute_journal.specs.declared.fault.ReadFault.TheVariants as faults
 use Rattle.flute_journal.specs.Input.{IsFaultOf}
 use Rattle.flute_journal.specs.Whole.{HasFault}
 use Rattle.flute_journal.proofs.Existence.{entries_more, header_is}
-use Rattle.std.specs.List.{flat_map, AllByRecursion}
-use Rattle.std.specs.Io.KnownBytes.{Consumes, Keeps, IsAtEnd}
-use Rattle.std.proofs.KnownBytes.{Consumes-trans, Consumes-whole, Consumes-nil}
-use Rattle.std.proofs.lemmas.List.{append-nil, length-append, flat_map_more}
-use Rattle.std.proofs.lemmas.List.Concat.{flat_map-cons}
-use Rattle.std.proofs.lemmas.Grind.{flat_map-append}
+use Rattle.std.specs.List.{flat_map}
+use Rattle.std.specs.Io.KnownBytes.{Consumes}
+use Rattle.std.proofs.KnownBytes.{Consumes-trans, Consumes-nil}
+use Rattle.std.proofs.lemmas.List.{length-append, flat_map_more}
 use Rattle.flute_parts.specs.Addresses.{address}
 use Rattle.flute_parts.specs.declared.address.Address.{Address}
 use Rattle.flute_parts.specs.declared.fact.Fact.{Fact}
 use Rattle.flute_journal.specs.declared.reader.Stage.{Stage}
-use Rattle.flute_journal.specs.declared.reader.Stage.TheVariants.{Header, Entries, Ended, Failed}
-use Rattle.flute_journal.specs.Format.{magic, version, header, entry, end, spelling}
+use Rattle.flute_journal.specs.declared.reader.Stage.TheVariants.{Header, Entries, Failed}
+use Rattle.flute_journal.specs.Format.{header, entry}
 use Rattle.flute_journal.specs.Faults.{is_after, header_fault, next_fault}
-use Rattle.flute_journal.specs.Journal.{IsFact, last_of, AreEntries, IsJournalWithin, Stops, in_header, behind}
-use Rattle.flute_journal.specs.Reading.{position, opening, GivesEntry, GivesEnd, GivesFault, or_else, fault_from}
+use Rattle.flute_journal.specs.Journal.{last_of, AreEntries, Stops, in_header, behind}
+use Rattle.flute_journal.specs.Reading.{position, opening, GivesEntry, GivesFault, or_else, fault_from}
 
 -- where a reader stands behind these entries
 abbrev pub stage_at : List Fact → Stage
