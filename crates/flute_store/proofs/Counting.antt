@@ -78,7 +78,7 @@ named_part : (part : Part) (x : SymbolId) → symbol_in part ≡ Some x → part
 named_part InfoPart x e = absurd (none_is_not_some x e)
 named_part (SymbolPart id) x e = ap (λ o. SymbolPart (unwrap_or o x)) e
 
-named_symbol : (key : Key) (a : Address) (x : SymbolId) → symbol_of key a ≡ Some x → a ≡ symbol_address key x
+pub named_symbol : (key : Key) (a : Address) (x : SymbolId) → symbol_of key a ≡ Some x → a ≡ symbol_address key x
 named_symbol key a x e = elim (cases_Bool (same_key a.key key)) [
   | inl t ↦
       let k = key_same a.key key t in

@@ -17,3 +17,5 @@ pub mod SortedSymbols
 pub mod Lookups
 pub mod Looks
 pub mod GapSteps
+pub mod Found
+pub mod ToldObjects

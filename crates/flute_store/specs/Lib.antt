@@ -15,3 +15,6 @@ pub mod Examples
 pub mod HeldLeft
 pub mod Wanted
 pub mod GapWalk
+pub mod Found
+pub mod GapsLeft
+pub mod GapAnswers

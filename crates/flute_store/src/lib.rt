@@ -8,9 +8,11 @@
 mod entering;
 mod gap;
 mod gap_walk;
+mod gaps;
 mod held_left;
 mod keys;
 pub mod laws;
+mod lookup;
 mod news;
 mod object;
 mod store;
@@ -20,5 +22,6 @@ mod tests;
 mod walk;
 
 pub use gap::{Gap, Reason};
+pub use gaps::{GapFault, Gaps};
 pub use store::{Shelf, Store};
 pub use taken::{TakeFault, Taken};

@@ -52,7 +52,7 @@ use std::marker::Model;
 /// No session is held without an object, and no object without information or a symbol.
 #[derive(Drop)]
 pub struct Store<const SESSIONS: u32, const OBJECTS: u32, const SYMBOLS: u32> {
-    sessions: Sessions<SESSIONS, OBJECTS, SYMBOLS>,
+    pub(crate) sessions: Sessions<SESSIONS, OBJECTS, SYMBOLS>,
 }
 
 /// A store of the size that the program uses.

@@ -1,0 +1,50 @@
+-- What is wanted of an object, and its bytes, from the symbols that are held.
+use Rattle.std.proofs.Common.{◌≡◌, ℕ, ◌+◌, false, List, length, Option, Some, None, refl, sym, ap, ◌∙◌, arith}
+use Rattle.std.specs.Prelude.{filter_map, option_map}
+use Rattle.flute_join.specs.JoinMap.{value_at}
+use Rattle.flute_join.specs.declared.cell.Cell.{Cell}
+use Rattle.flute_join.specs.declared.cell.Cell.TheVariants.{Absent, One, Conflict}
+use Rattle.flute_parts.specs.Information.{Information, sizes}
+use Rattle.flute_parts.specs.Order.{symbol_id_cmp}
+use Rattle.flute_parts.specs.Partition.{ids}
+use Rattle.flute_parts.specs.declared.key.Key.{Key}
+use Rattle.flute_parts.specs.declared.symbol_id.SymbolId.{SymbolId}
+use Rattle.flute_parts.specs.declared.fact.Fact.{Fact}
+use Rattle.flute_parts.specs.declared.fact.Fact.TheVariants.{Info, InfoConflict}
+use Rattle.flute_store.specs.declared.object.Object.{Object}
+use Rattle.flute_store.specs.Objects.{want, wants, runs}
+use Rattle.flute_store.specs.Wanted.{want_cell, with_reason, wanted}
+use Rattle.flute_store.specs.Found.{cell_fact, symbol_fact, IsTold}
+use Rattle.flute_store.specs.GapWalk.{left, gaps_left}
+use Rattle.flute_store.specs.GapsLeft.{GapsLeft}
+use Rattle.flute_store.specs.GapAnswers.{GivesGaps}
+use Rattle.flute_store.proofs.SortedSymbols.{blocks_from-all}
+
+want-symbol : (info : Information) (key : Key) (id : SymbolId) (found : Option (Cell (List ℕ))) → want info id (symbol_fact key id found) ≡ want_cell info id found
+want-symbol info key id None = refl
+want-symbol info key id (Some Absent) = refl
+want-symbol info key id (Some (One b)) = refl
+want-symbol info key id (Some Conflict) = refl
+
+-- what is wanted is told by the held symbols
+pub wants-told : {n : ℕ} (F : List Fact) (key : Key) (x : Object n) (info : Information) → IsTold F key x → wants F key info ≡ wanted info x.symbols (ids info)
+unfolding wants wanted
+wants-told F key x info t = λ i. filter_map (λ id. option_map (with_reason id) ((ap (want info id) (t.each id) ∙ want-symbol info key id (value_at symbol_id_cmp x.symbols id)) i)) (ids info)
+
+-- a walk begins with all symbols of the partition
+pub start-left : (info : Information) (held : List (SymbolId × Cell (List ℕ))) → gaps_left (record { partition = info; held = held; sbn = 0; esi = 0; size = 0; begun = 0; ticks = 0; ended = false }) ≡ runs (wanted info held (ids info))
+unfolding left
+start-left info held = ap (λ xs. runs (wanted info held xs)) (blocks_from-all info)
+
+pub gives-gaps : {n : ℕ} (F : List Fact) (key : Key) (x : Object n) (info : Information) (held : List (SymbolId × Cell (List ℕ))) (g : GapsLeft) → IsTold F key x → x.info ≡ One info → held ≡ x.symbols
+    → g.gaps ≡ runs (wanted info held (ids info)) → g.ticks ≡ 0 → g.bound ≡ length (sizes info) + length held + 1 → GivesGaps F key g
+gives-gaps F key x info held g t e h a b c =
+    let n = t.count in
+    let m : length held ≡ length x.symbols = ap (λ (s : List (SymbolId × Cell (List ℕ))). length s) h in
+    record {
+      info = info;
+      information = t.info ∙ ap (cell_fact (Info key) (InfoConflict key)) e;
+      gaps_are = a ∙ ap (λ s. runs (wanted info s (ids info))) h ∙ ap runs (sym (wants-told F key x info t));
+      ticks_are = b;
+      bound_is = omega (arith, c, n, m);
+    }

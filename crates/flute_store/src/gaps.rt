@@ -1,0 +1,134 @@
+//! What is missing of an object, gap after gap.
+ghost use Rattle.std.specs.Prelude.{◌≡◌, ℕ, ◌+◌, ◌<◌, ◌≤◌, ◌^◌, length, MatchResult};
+ghost use Rattle.std.specs.Iterator.{YieldsFirst, MakesProgress, item_count};
+ghost use Rattle.flute_join.specs.Cell.{IsKnown};
+ghost use Rattle.flute_join.specs.JoinMap.{IsOrdered, EachValue};
+ghost use Rattle.flute_parts.specs.Information.{sizes};
+ghost use Rattle.flute_parts.specs.Order.{symbol_id_cmp};
+ghost use Rattle.flute_parts.specs.Partition.{ids};
+ghost use Rattle.flute_store.specs.Objects.{runs};
+ghost use Rattle.flute_store.specs.Wanted.{wanted};
+ghost use Rattle.flute_store.specs.GapAnswers.{GivesGaps, TellsGapFault};
+
+use crate::gap::Gap;
+use crate::gap_walk::GapWalk;
+use crate::held_left::HeldLeft;
+use crate::store::Store;
+use flute_join::Cell;
+use flute_parts::{Bytes, Info, Key, Partition, SymbolId};
+use std::collections::btree_map;
+use std::marker::Model;
+use thiserror::Error;
+
+/// Why the gaps of an object are not told. The first that applies is told.
+#[derive(Clone, Copy, Debug, PartialEq, Eq, Error)]
+pub enum GapFault {
+    /// Nothing of the object is held.
+    #[error("no object")]
+    NoObject,
+    /// Symbols of the object are held, and no information.
+    #[error("no information")]
+    NoInformation,
+    /// Two values of the information were told.
+    #[error("conflicting information")]
+    ConflictingInformation,
+}
+
+/// The gaps of an object, in the order of its partition.
+///
+/// It walks the held symbols and the blocks side by side: however long the object is, all its gaps take no more
+/// ticks than there are blocks and held symbols, and one. It takes no memory.
+#[derive(Drop)]
+pub struct Gaps<'a> {
+    walk: GapWalk<'a>,
+}
+
+impl<'a> Model for Gaps<'a> {
+    ghost use Rattle.flute_store.specs.GapsLeft.{GapsLeft};
+
+    ghost Value = { GapsLeft };
+
+    ghost use Rattle.flute_store.specs.GapWalk.{gaps_left, bound, IsWalk};
+
+    ghost view = { λ g. record { gaps = gaps_left g.walk; ticks = g.walk.ticks; bound = bound g.walk } };
+
+    ghost invariant = { λ g. IsWalk g.walk };
+}
+
+impl<'a> Gaps<'a> {
+    // The gaps of an object with this information and these symbols.
+    pub(crate) fn new(info: &Info, symbols: btree_map::Iter<'a, SymbolId, Cell<Bytes>>) -> Gaps<'a>
+        requires ordered { IsOrdered symbol_id_cmp symbols }
+        requires known { EachValue IsKnown symbols }
+        requires few { length symbols < 2 ^ 32 }
+        ensures gaps { result.gaps ≡ runs (wanted info.now symbols.entry (ids info.now)) }
+        ensures ticks { result.ticks ≡ 0 }
+        ensures bound { result.bound ≡ length (sizes info.now) + length symbols.entry + 1 }
+    {
+        let partition = Partition::of(info);
+        let _blocks = partition.blocks();
+        Gaps {
+            walk: GapWalk {
+                partition,
+                held: HeldLeft::new(symbols),
+                sbn: 0,
+                esi: 0,
+                size: 0,
+                begun: 0,
+                ticks: 0,
+                ended: false,
+            },
+        }
+    }
+
+    /// How many steps were taken so far: each passes a held symbol or begins a block, and the first to find that
+    /// nothing is left is one too. It takes constant time.
+    pub fn ticks(&self) -> u64
+        ensures value { result ≡ self.now.ticks }
+        ensures bounded { self.now.ticks ≤ self.now.bound }
+    {
+        self.walk.ticks
+    }
+}
+
+impl Iterator for Gaps<'_> {
+    type Item = Gap;
+
+    ghost next_gives = { YieldsFirst (λ g. g.gaps) };
+
+    ghost remaining = { item_count (λ g. g.gaps) };
+
+    /// The next gap, by constant time a tick. None where none is left, and again None after that.
+    fn next(&mut self) -> Option<Gap>
+        ensures steps { YieldsFirst (λ g. g.gaps) self.old result self.new }
+        ensures goes { MakesProgress (λ _. Unit {0}) (item_count (λ g. g.gaps)) self.old result self.new }
+        ensures bound { self.new.bound ≡ self.old.bound }
+    {
+        self.walk.next()
+    }
+}
+
+impl<const SESSIONS: u32, const OBJECTS: u32, const SYMBOLS: u32> Store<
+    SESSIONS,
+    OBJECTS,
+    SYMBOLS,
+> {
+    /// The symbols of an object's partition that are not held as one fitting value, grouped into the longest runs of
+    /// symbols of one block that follow one another and are missing for one reason. A held symbol that the
+    /// partition does not have is no gap.
+    ///
+    /// `NoObject` where nothing of the object is held, `NoInformation` where no information of it is, and
+    /// `ConflictingInformation` where two values of it were told. It takes no memory, and the time of three look-ups.
+    pub fn gaps(&self, key: &Key) -> Result<Gaps<'_>, GapFault>
+        ensures { MatchResult result (λ gaps. GivesGaps self.now key.now gaps) (λ fault. TellsGapFault self.now key.now fault) }
+    {
+        let Some(object) = self.object(key) else {
+            return Err(GapFault::NoObject);
+        };
+        match &object.info {
+            Cell::Absent => Err(GapFault::NoInformation),
+            Cell::One(info) => Ok(Gaps::new(info, object.symbols.iter())),
+            Cell::Conflict => Err(GapFault::ConflictingInformation),
+        }
+    }
+}
