@@ -19,3 +19,4 @@ pub mod Looks
 pub mod GapSteps
 pub mod Found
 pub mod ToldObjects
+pub mod HowMany

@@ -18,3 +18,4 @@ pub mod GapWalk
 pub mod Found
 pub mod GapsLeft
 pub mod GapAnswers
+pub mod Status

@@ -64,9 +64,10 @@ impl<'a> Gaps<'a> {
         ensures gaps { result.gaps ≡ runs (wanted info.now symbols.entry (ids info.now)) }
         ensures ticks { result.ticks ≡ 0 }
         ensures bound { result.bound ≡ length (sizes info.now) + length symbols.entry + 1 }
+        ensures few { length (ids info.now) ≤ 2 ^ 32 }
     {
         let partition = Partition::of(info);
-        let _blocks = partition.blocks();
+        let _limits = (partition.blocks(), partition.symbols());
         Gaps {
             walk: GapWalk {
                 partition,

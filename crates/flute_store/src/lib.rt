@@ -15,6 +15,7 @@ pub mod laws;
 mod lookup;
 mod news;
 mod object;
+mod status;
 mod store;
 mod taken;
 #[cfg(test)]
@@ -23,5 +24,6 @@ mod walk;
 
 pub use gap::{Gap, Reason};
 pub use gaps::{GapFault, Gaps};
+pub use status::Status;
 pub use store::{Shelf, Store};
 pub use taken::{TakeFault, Taken};

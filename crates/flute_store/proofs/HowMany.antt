@@ -1,0 +1,200 @@
+-- How many symbols are wanted for each reason.
+use Rattle.std.proofs.Common.{◌≡◌, ℕ, zero, suc, ◌+◌, ◌-◌, ◌<◌, ◌≤◌, ◌^◌, Bool, true, false, cond, List, [], ◌∷◌, ◌++◌, length, map, Option, Some, None, refl, sym, ap, ◌∙◌, subst, arith}
+use Rattle.std.specs.Prelude.{filter, flat_map, option_map}
+use Rattle.std.specs.List.{range_with_len, cons_option}
+use Rattle.flute_join.specs.JoinMap.{value_at}
+use Rattle.flute_join.specs.declared.cell.Cell.{Cell}
+use Rattle.flute_join.specs.declared.cell.Cell.TheVariants.{One}
+use Rattle.flute_parts.specs.Information.{Information}
+use Rattle.flute_parts.specs.Order.{symbol_id_cmp}
+use Rattle.flute_parts.specs.Addresses.{info_address}
+use Rattle.flute_parts.specs.Facts.{fact_at}
+use Rattle.flute_parts.specs.Partition.{symbol_id, ids}
+use Rattle.flute_parts.specs.declared.key.Key.{Key}
+use Rattle.flute_parts.specs.declared.symbol_id.SymbolId.{SymbolId}
+use Rattle.flute_parts.specs.declared.fact.Fact.{Fact}
+use Rattle.flute_parts.specs.declared.fact.Fact.TheVariants.{Info, InfoConflict}
+use Rattle.flute_store.specs.declared.gap.Reason.{Reason}
+use Rattle.flute_store.specs.declared.gap.Reason.TheVariants.{Missing, Conflicting, Misfit}
+use Rattle.flute_store.specs.declared.gap.Gap.{Gap}
+use Rattle.flute_store.specs.declared.object.Object.{Object}
+use Rattle.flute_store.specs.declared.status.Wanted.{Wanted}
+use Rattle.flute_store.specs.Objects.{Whole, wants, runs, listed, same_reason, AreRuns}
+use Rattle.flute_store.specs.Wanted.{want_cell, with_reason, wanted}
+use Rattle.flute_store.specs.Found.{cell_fact, IsTold}
+use Rattle.flute_store.specs.Status.{how_many, IsCount, Adds, IsPartial}
+use Rattle.flute_store.proofs.Runs.{runs-are, runs-listed}
+use Rattle.flute_store.proofs.WholeObjects.{gapless-whole}
+use Rattle.flute_store.proofs.ToldObjects.{wants-told}
+
+abbrev Want : Type 0
+Want = SymbolId × Reason
+
+abbrev step : Bool → ℕ → ℕ
+step true n = suc n
+step false n = n
+
+how-nil : (r : Reason) → how_many r [] ≡ 0
+unfolding how_many
+how-nil r = refl
+
+how-cons : (r : Reason) (w : Want) (ws : List Want) → how_many r (w ∷ ws) ≡ step (same_reason r w.1) (how_many r ws)
+unfolding how_many
+how-cons r w ws = by_reason (same_reason r w.1)
+  where
+    by_reason : (b : Bool) → length (cond b (w ∷ filter (λ (w : Want). same_reason r w.1) ws) (filter (λ (w : Want). same_reason r w.1) ws)) ≡ step b (length (filter (λ (w : Want). same_reason r w.1) ws))
+    by_reason true = refl
+    by_reason false = refl
+
+pub how-append : (r : Reason) (ws vs : List Want) → how_many r (ws ++ vs) ≡ how_many r ws + how_many r vs
+how-append r [] vs = omega (arith, how-nil r)
+how-append r (w ∷ ws) vs = how-cons r w (ws ++ vs) ∙ ap (step (same_reason r w.1)) (how-append r ws vs) ∙ more (same_reason r w.1) (how_many r ws) (how_many r vs) ∙ ap (λ n. n + how_many r vs) (sym (how-cons r w ws))
+  where
+    more : (b : Bool) (m n : ℕ) → step b (m + n) ≡ step b m + n
+    more true m n = omega arith
+    more false m n = refl
+
+-- each is wanted for one of the three reasons
+pub how-all : (ws : List Want) → how_many Missing ws + how_many Conflicting ws + how_many Misfit ws ≡ length ws
+how-all [] = omega (arith, how-nil Missing, how-nil Conflicting, how-nil Misfit)
+how-all (w ∷ ws) =
+    (λ i. how-cons Missing w ws i + how-cons Conflicting w ws i + how-cons Misfit w ws i)
+    ∙ one_more w.1 (how_many Missing ws) (how_many Conflicting ws) (how_many Misfit ws) (length ws) (how-all ws)
+  where
+    one_more : (r : Reason) (a b c n : ℕ) → a + b + c ≡ n → step (same_reason Missing r) a + step (same_reason Conflicting r) b + step (same_reason Misfit r) c ≡ suc n
+    one_more Missing a b c n e = omega (arith, e)
+    one_more Conflicting a b c n e = omega (arith, e)
+    one_more Misfit a b c n e = omega (arith, e)
+
+-- the symbols of a gap are wanted for its reason
+abbrev times : Bool → ℕ → ℕ
+times true n = n
+times false n = 0
+
+how-range : (r s : Reason) (n a k : ℕ) → how_many r (map (λ i. (symbol_id n i, s)) (range_with_len a k)) ≡ times (same_reason r s) k
+how-range r s n a zero = how-nil r ∙ none (same_reason r s)
+  where
+    none : (b : Bool) → 0 ≡ times b 0
+    none true = refl
+    none false = refl
+how-range r s n a (suc k) = how-cons r (symbol_id n a, s) (map (λ i. (symbol_id n i, s)) (range_with_len (a + 1) k)) ∙ ap (step (same_reason r s)) (how-range r s n (a + 1) k) ∙ more (same_reason r s)
+  where
+    more : (b : Bool) → step b (times b k) ≡ times b (suc k)
+    more true = refl
+    more false = refl
+
+pub how-listed : (r : Reason) (g : Gap) → how_many r (listed g) ≡ times (same_reason r g.reason) (g.last + 1 - g.first)
+how-listed r g = how-range r g.reason g.sbn g.first (g.last + 1 - g.first)
+
+pub adds-reason : (g : Gap) (old new : Wanted) (r : Reason) → g.reason ≡ r → new.missing ≡ old.missing + times (same_reason Missing r) (g.last + 1 - g.first)
+    → new.conflicting ≡ old.conflicting + times (same_reason Conflicting r) (g.last + 1 - g.first) → new.misfit ≡ old.misfit + times (same_reason Misfit r) (g.last + 1 - g.first) → Adds g old new
+adds-reason g old new r e m n f =
+    let k = g.last + 1 - g.first in
+    let is : (q : Reason) → times (same_reason q r) k ≡ how_many q (listed g) = λ q. ap (λ s. times (same_reason q s) k) (sym e) ∙ sym (how-listed q g) in
+    record {
+      missing = m ∙ ap (λ n. old.missing + n) (is Missing);
+      conflicting = n ∙ ap (λ n. old.conflicting + n) (is Conflicting);
+      misfit = f ∙ ap (λ n. old.misfit + n) (is Misfit);
+    }
+
+-- so many are counted, and the others are left
+pub record Counts (count : Wanted) (all rest : List Want) : Type 0 where
+  pub missing : count.missing + how_many Missing rest ≡ how_many Missing all
+  pub conflicting : count.conflicting + how_many Conflicting rest ≡ how_many Conflicting all
+  pub misfit : count.misfit + how_many Misfit rest ≡ how_many Misfit all
+
+pub counts-more : (g : Gap) (count new : Wanted) (all rest : List Want) → Counts count all (listed g ++ rest) → Adds g count new → Counts new all rest
+counts-more g count new all rest c a =
+    let m = c.missing in let n = c.conflicting in let f = c.misfit in
+    let am = a.missing in let an = a.conflicting in let af = a.misfit in
+    record {
+      missing = omega (arith, m, am, how-append Missing (listed g) rest);
+      conflicting = omega (arith, n, an, how-append Conflicting (listed g) rest);
+      misfit = omega (arith, f, af, how-append Misfit (listed g) rest);
+    }
+
+pub counts-few : (count : Wanted) (all rest : List Want) → Counts count all rest → length all ≤ 2 ^ 32 → (count.missing < 2 ^ 33) × (count.conflicting < 2 ^ 33) × (count.misfit < 2 ^ 33)
+counts-few count all rest c l =
+    let m = c.missing in let n = c.conflicting in let f = c.misfit in
+    let t = how-all all in
+    (omega (arith, m, t, l), omega (arith, n, t, l), omega (arith, f, t, l))
+
+pub counts-none : (all : List Want) → Counts (record { missing = 0; conflicting = 0; misfit = 0 }) all all
+counts-none all = record { missing = omega arith; conflicting = omega arith; misfit = omega arith }
+
+pub counts-all : (count : Wanted) (all : List Want) → Counts count all [] → IsCount count all
+unfolding how_many
+counts-all count all c =
+    let m = c.missing in let n = c.conflicting in let f = c.misfit in
+    record { missing = omega (arith, m); conflicting = omega (arith, n); misfit = omega (arith, f) }
+
+-- no more symbols are wanted than there are
+length-wanted : (info : Information) (held : List (SymbolId × Cell (List ℕ))) (xs : List SymbolId) → length (wanted info held xs) ≤ length xs
+unfolding wanted
+length-wanted info held [] = omega arith
+length-wanted info held (x ∷ xs) = one_more (option_map (with_reason x) (want_cell info x (value_at symbol_id_cmp held x))) (length-wanted info held xs)
+  where
+    one_more : (o : Option Want) → length (wanted info held xs) ≤ length xs → length (cons_option o (wanted info held xs)) ≤ suc (length xs)
+    one_more None l = omega (arith, l)
+    one_more (Some w) l = omega (arith, l)
+
+pub few-wanted : (info : Information) (held : List (SymbolId × Cell (List ℕ))) (gs : List Gap) → gs ≡ runs (wanted info held (ids info)) → length (ids info) ≤ 2 ^ 32 → length (flat_map listed gs) ≤ 2 ^ 32
+few-wanted info held gs e l =
+    let s : flat_map listed gs ≡ wanted info held (ids info) = ap (flat_map listed) e ∙ runs-listed (wanted info held (ids info)) in
+    let t : length (flat_map listed gs) ≡ length (wanted info held (ids info)) = ap (λ (x : List Want). length x) s in
+    let m = length-wanted info held (ids info) in
+    omega (arith, t, m, l)
+
+pub are-runs : (ws : List Want) (gs : List Gap) → gs ≡ runs ws → AreRuns gs
+are-runs ws gs e = subst AreRuns (sym e) (runs-are ws)
+
+-- ---- the status of an object
+
+module _ {n : ℕ} (F : List Fact) (key : Key) (x : Object n) (info : Information) (held : List (SymbolId × Cell (List ℕ))) (gs : List Gap) (count : Wanted)
+    (t : IsTold F key x) (e : x.info ≡ One info) (h : held ≡ x.symbols) (g : gs ≡ runs (wanted info held (ids info))) (c : IsCount count (flat_map listed gs)) where
+  are_wants : flat_map listed gs ≡ wants F key info
+  are_wants = ap (flat_map listed) g ∙ runs-listed (wanted info held (ids info)) ∙ ap (λ s. wanted info s (ids info)) h ∙ sym (wants-told F key x info t)
+
+  one_information : fact_at F (info_address key) ≡ Some (Info key info)
+  one_information = t.info ∙ ap (cell_fact (Info key) (InfoConflict key)) e
+
+  no_want : (ws : List Want) → length ws ≡ 0 → ws ≡ []
+  no_want [] l = refl
+  no_want (w ∷ ws) l = absurd (omega (arith, l))
+
+  total : length (wants F key info) ≡ count.missing + count.conflicting + count.misfit
+  total =
+      let a = how-all (flat_map listed gs) in
+      let m = c.missing in let n = c.conflicting in let f = c.misfit in
+      let b : length (flat_map listed gs) ≡ length (wants F key info) = ap (λ (x : List Want). length x) are_wants in
+      omega (arith, a, b, m, n, f)
+
+  pub is-whole : count.missing ≡ 0 → count.conflicting ≡ 0 → count.misfit ≡ 0 → Whole F key info
+  unfolding runs
+  is-whole a b d = let s = total in gapless-whole F key info one_information (ap runs (no_want (wants F key info) (omega (arith, s, a, b, d))))
+
+  pub is-partial : (count.missing ≡ 0 → count.conflicting ≡ 0 → count.misfit ≡ 0 → ⊥) → IsPartial F key count.missing count.conflicting count.misfit
+  is-partial z = record {
+    info = info;
+    information = one_information;
+    some = λ w. let s = total in let l : length (wants F key info) ≡ 0 = ap (λ (x : List Want). length x) w in z (omega (arith, s, l)) (omega (arith, s, l)) (omega (arith, s, l));
+    missing_are = c.missing ∙ ap (how_many Missing) are_wants;
+    conflicting_are = c.conflicting ∙ ap (how_many Conflicting) are_wants;
+    misfit_are = c.misfit ∙ ap (how_many Misfit) are_wants;
+  }
+
+-- ---- gap after gap
+
+pub record FirstGap (g : Gap) (gs : List Gap) (count : Wanted) (all : List Want) : Type 0 where
+  pub order : g.first ≤ g.last
+  pub runs_are : AreRuns gs
+  pub counted : Counts count all (listed g ++ flat_map listed gs)
+
+pub first-gap : (g : Gap) (gs rest : List Gap) (count : Wanted) (all : List Want) → gs ≡ g ∷ rest → AreRuns gs → Counts count all (flat_map listed gs) → FirstGap g rest count all
+unfolding AreRuns
+first-gap g gs rest count all e r c =
+    let s : AreRuns (g ∷ rest) = subst AreRuns e r in
+    record { order = s.0; runs_are = s.2; counted = subst (λ (x : List Gap). Counts count all (flat_map listed x)) e c }
+
+pub last-gap : (gs : List Gap) (count : Wanted) (all : List Want) → gs ≡ [] → Counts count all (flat_map listed gs) → IsCount count all
+last-gap gs count all e c = counts-all count all (subst (λ (x : List Gap). Counts count all (flat_map listed x)) e c)

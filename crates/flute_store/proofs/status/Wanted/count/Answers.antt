@@ -1,0 +1,24 @@
+use Rattle.std.specs.Prelude.{flat_map}
+use Rattle.flute_store.specs.Objects.{listed}
+use Rattle.flute_store.proofs.HowMany.{first-gap, last-gap, counts-few, counts-more}
+use Rattle.flute_store.proofs.status.Wanted.count.Goals as goal
+
+pub add-requires-clause-order : goal.add-requires-clause-order
+add-requires-clause-order c = (first-gap _ _ _ _ _ c.in-Some.ensures.steps c.loop-gap.invariant.0 c.loop-gap.invariant.1).order
+
+pub add-requires-clause-missing : goal.add-requires-clause-missing
+add-requires-clause-missing c = (counts-few _ _ _ c.loop-gap.invariant.1 c.requires.few).0
+
+pub add-requires-clause-conflicting : goal.add-requires-clause-conflicting
+add-requires-clause-conflicting c = (counts-few _ _ _ c.loop-gap.invariant.1 c.requires.few).1
+
+pub add-requires-clause-misfit : goal.add-requires-clause-misfit
+add-requires-clause-misfit c = (counts-few _ _ _ c.loop-gap.invariant.1 c.requires.few).2
+
+pub loop-gap-preserved : goal.loop-gap-preserved
+loop-gap-preserved c =
+    let f = first-gap _ _ _ _ _ c.in-Some.ensures.steps c.loop-gap.invariant.0 c.loop-gap.invariant.1 in
+    (f.runs_are, counts-more c.in-Some.gap c.loop-gap.wanted c.add.new.self (flat_map listed c.args.gaps.gaps) (flat_map listed c.next.new.self.gaps) f.counted c.add.ensures)
+
+pub returns : goal.returns
+returns c = last-gap _ _ _ c.in_default.ensures.steps.0 c.loop-gap.invariant.1

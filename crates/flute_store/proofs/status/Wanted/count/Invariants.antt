@@ -1,0 +1,11 @@
+use Rattle.std.proofs.Common.{length}
+use Rattle.std.specs.Prelude.{flat_map}
+use Rattle.flute_store.specs.Objects.{listed, AreRuns}
+use Rattle.flute_store.proofs.HowMany.{Counts}
+use Rattle.flute_store.proofs.status.Wanted.count.Given as goal
+
+abbrev pub invariant-loop-gap : goal.invariant-loop-gap
+invariant-loop-gap l = AreRuns l.gaps.gaps × Counts l.wanted (flat_map listed l.initial.gaps.gaps) (flat_map listed l.gaps.gaps)
+
+abbrev pub decreases-loop-gap : goal.decreases-loop-gap
+decreases-loop-gap l = length l.gaps.gaps
