@@ -30,7 +30,7 @@ pub use info::{Info, InfoFault};
 pub use key::Key;
 pub use memory_sink::MemorySink;
 pub use memory_source::MemorySource;
-pub use object_key::ObjectKey;
+pub use object_key::{ObjectKey, ObjectName};
 pub use partition::Partition;
 pub use session_key::SessionKey;
 pub use short_sink::ShortSink;

@@ -4,7 +4,7 @@ use flute_join::Place;
 use std::cmp::Ordering;
 use std::marker::Model;
 
-/// What an object is named by.
+/// What an object is named by, as contracts see an [`ObjectKey`]. It may be out of range; a key is not.
 #[derive(Clone, Copy, Debug)]
 pub enum ObjectName {
     /// An FDT Instance, by its FDT Instance ID.
