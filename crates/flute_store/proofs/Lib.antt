@@ -20,3 +20,4 @@ pub mod GapSteps
 pub mod Found
 pub mod ToldObjects
 pub mod HowMany
+pub mod BytesSteps

@@ -22,7 +22,7 @@ use Rattle.flute_store.proofs.SortedSymbols.{Above}
 abbrev pub Entry : Type 0
 Entry = SymbolId × Cell (List ℕ)
 
-value-past : (e : Entry) (es : List Entry) (q : SymbolId) → symbol_id_cmp e.0 q ≡ Less → value_at symbol_id_cmp (e ∷ es) q ≡ value_at symbol_id_cmp es q
+pub value-past : (e : Entry) (es : List Entry) (q : SymbolId) → symbol_id_cmp e.0 q ≡ Less → value_at symbol_id_cmp (e ∷ es) q ≡ value_at symbol_id_cmp es q
 value-past e es q l = ap (λ o. cond (is_eq o) (Some e.1) (value_at symbol_id_cmp es q)) (symbol_id_total.antisymm q e.0 ∙ ap ordering_reverse l)
 
 value-here : (e : Entry) (es : List Entry) (q : SymbolId) → e.0 ≡ q → value_at symbol_id_cmp (e ∷ es) q ≡ Some e.1

@@ -1,5 +1,5 @@
 -- What is wanted of an object, and its bytes, from the symbols that are held.
-use Rattle.std.proofs.Common.{◌≡◌, ℕ, ◌+◌, false, List, length, Option, Some, None, refl, sym, ap, ◌∙◌, arith}
+use Rattle.std.proofs.Common.{◌≡◌, ℕ, ◌+◌, List, length, Option, Some, None, refl, sym, ap, ◌∙◌, arith}
 use Rattle.std.specs.Prelude.{filter_map, option_map}
 use Rattle.flute_join.specs.JoinMap.{value_at}
 use Rattle.flute_join.specs.declared.cell.Cell.{Cell}
@@ -15,7 +15,7 @@ use Rattle.flute_store.specs.declared.object.Object.{Object}
 use Rattle.flute_store.specs.Objects.{want, wants, runs}
 use Rattle.flute_store.specs.Wanted.{want_cell, with_reason, wanted}
 use Rattle.flute_store.specs.Found.{cell_fact, symbol_fact, IsTold}
-use Rattle.flute_store.specs.GapWalk.{left, gaps_left}
+use Rattle.flute_store.specs.GapWalk.{at_start, left, gaps_left}
 use Rattle.flute_store.specs.GapsLeft.{GapsLeft}
 use Rattle.flute_store.specs.GapAnswers.{GivesGaps}
 use Rattle.flute_store.proofs.SortedSymbols.{blocks_from-all}
@@ -32,7 +32,7 @@ unfolding wants wanted
 wants-told F key x info t = λ i. filter_map (λ id. option_map (with_reason id) ((ap (want info id) (t.each id) ∙ want-symbol info key id (value_at symbol_id_cmp x.symbols id)) i)) (ids info)
 
 -- a walk begins with all symbols of the partition
-pub start-left : (info : Information) (held : List (SymbolId × Cell (List ℕ))) → gaps_left (record { partition = info; held = held; sbn = 0; esi = 0; size = 0; begun = 0; ticks = 0; ended = false }) ≡ runs (wanted info held (ids info))
+pub start-left : (info : Information) (held : List (SymbolId × Cell (List ℕ))) → gaps_left (at_start info held) ≡ runs (wanted info held (ids info))
 unfolding left
 start-left info held = ap (λ xs. runs (wanted info held xs)) (blocks_from-all info)
 

@@ -46,6 +46,9 @@ pub record IsWalk (w : GapWalk) : Type 0 where
   pub in_block : 0 < w.size → w.sbn < w.begun
   pub few : bound w < 2 ^ 34
 
+abbrev pub at_start : Information → List (SymbolId × Cell (List ℕ)) → GapWalk
+at_start info held = record { partition = info; held = held; sbn = 0; esi = 0; size = 0; begun = 0; ticks = 0; ended = false }
+
 abbrev pub after_pass : GapWalk → GapWalk
 after_pass w = record w { held = drop 1 w.held; ticks = w.ticks + 1 }
 

@@ -19,3 +19,5 @@ pub mod Found
 pub mod GapsLeft
 pub mod GapAnswers
 pub mod Status
+pub mod BytesLeft
+pub mod Extract

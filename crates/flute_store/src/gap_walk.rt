@@ -3,15 +3,19 @@ ghost use Rattle.std.specs.Prelude.{◌≡◌, ◌-◌, ◌<◌, ◌≤◌, ◌^
 ghost use Rattle.std.specs.Bool.{OnTrue, OnFalse};
 ghost use Rattle.std.specs.Iterator.{YieldsFirst};
 ghost use Rattle.flute_parts.specs.Information.{sizes};
-ghost use Rattle.flute_parts.specs.Partition.{symbol_id};
+ghost use Rattle.flute_parts.specs.Partition.{symbol_id, ids};
+ghost use Rattle.flute_parts.specs.Order.{symbol_id_cmp};
+ghost use Rattle.flute_join.specs.Cell.{IsKnown};
+ghost use Rattle.flute_join.specs.JoinMap.{IsOrdered, EachValue};
 ghost use Rattle.flute_store.specs.Wanted.{want_cell};
-ghost use Rattle.flute_store.specs.GapWalk.{after_pass, after_begin, after_take, gaps_left, bound, IsWalk, look_of, IsStop, Keeps, until_of, GivesGap, GoesOn, EndsRun, RunsOn};
+ghost use Rattle.flute_store.specs.GapWalk.{at_start, after_pass, after_begin, after_take, gaps_left, bound, IsWalk, look_of, IsStop, Keeps, until_of, GivesGap, GoesOn, EndsRun, RunsOn};
 
 use crate::gap::{Gap, Reason};
 use crate::held_left::HeldLeft;
 use flute_join::Cell;
-use flute_parts::{Bytes, Partition, SymbolId};
+use flute_parts::{Bytes, Info, Partition, SymbolId};
 use std::cmp::Ordering;
+use std::collections::btree_map;
 
 /// What comes next on a walk.
 #[derive(Clone, Copy)]
@@ -64,7 +68,30 @@ fn want(partition: &Partition, id: SymbolId, cell: &Cell<Bytes>) -> Option<Reaso
     }
 }
 
-impl GapWalk<'_> {
+impl<'a> GapWalk<'a> {
+    /// A walk over an object with this information and these symbols.
+    pub fn new(info: &Info, symbols: btree_map::Iter<'a, SymbolId, Cell<Bytes>>) -> GapWalk<'a>
+        requires ordered { IsOrdered symbol_id_cmp symbols }
+        requires known { EachValue IsKnown symbols }
+        requires few { length symbols < 2 ^ 32 }
+        ensures start { result ≡ at_start info.now symbols.entry }
+        ensures walk { IsWalk result }
+        ensures few { length (ids info.now) ≤ 2 ^ 32 }
+    {
+        let partition = Partition::of(info);
+        let _limits = (partition.blocks(), partition.symbols());
+        GapWalk {
+            partition,
+            held: HeldLeft::new(symbols),
+            sbn: 0,
+            esi: 0,
+            size: 0,
+            begun: 0,
+            ticks: 0,
+            ended: false,
+        }
+    }
+
     // The next symbol of the block.
     fn here(&self) -> SymbolId
         requires { self.now.esi < 65536 }
@@ -77,7 +104,7 @@ impl GapWalk<'_> {
     }
 
     // What comes next.
-    fn look(&self) -> Look
+    pub fn look(&self) -> Look
         requires { IsWalk self.now }
         ensures { result ≡ look_of self.now }
     {
@@ -102,7 +129,7 @@ impl GapWalk<'_> {
     }
 
     // Passes the first held symbol.
-    fn pass(&mut self)
+    pub fn pass(&mut self)
         requires { self.old.ticks < 2 ^ 64 - 1 }
         ensures { self.new ≡ after_pass self.old }
     {
@@ -111,7 +138,7 @@ impl GapWalk<'_> {
     }
 
     // Passes the first held symbol and the next symbol of the block, which it is.
-    fn take(&mut self)
+    pub fn take(&mut self)
         requires ticks { self.old.ticks < 2 ^ 64 - 1 }
         requires esi { self.old.esi < 65536 }
         ensures { self.new ≡ after_take self.old }
@@ -121,7 +148,7 @@ impl GapWalk<'_> {
     }
 
     // Begins the next block.
-    fn begin(&mut self)
+    pub fn begin(&mut self)
         requires ticks { self.old.ticks < 2 ^ 64 - 1 }
         requires block { self.old.begun < length (sizes self.old.partition) }
         ensures block { self.new ≡ after_begin self.old }

@@ -12,10 +12,9 @@ ghost use Rattle.flute_store.specs.GapAnswers.{GivesGaps, TellsGapFault};
 
 use crate::gap::Gap;
 use crate::gap_walk::GapWalk;
-use crate::held_left::HeldLeft;
 use crate::store::Store;
 use flute_join::Cell;
-use flute_parts::{Bytes, Info, Key, Partition, SymbolId};
+use flute_parts::{Bytes, Info, Key, SymbolId};
 use std::collections::btree_map;
 use std::marker::Model;
 use thiserror::Error;
@@ -66,19 +65,8 @@ impl<'a> Gaps<'a> {
         ensures bound { result.bound ≡ length (sizes info.now) + length symbols.entry + 1 }
         ensures few { length (ids info.now) ≤ 2 ^ 32 }
     {
-        let partition = Partition::of(info);
-        let _limits = (partition.blocks(), partition.symbols());
         Gaps {
-            walk: GapWalk {
-                partition,
-                held: HeldLeft::new(symbols),
-                sbn: 0,
-                esi: 0,
-                size: 0,
-                begun: 0,
-                ticks: 0,
-                ended: false,
-            },
+            walk: GapWalk::new(info, symbols),
         }
     }
 

@@ -6,6 +6,7 @@
 #![tactic(auto)]
 
 mod entering;
+mod extract;
 mod gap;
 mod gap_walk;
 mod gaps;
@@ -22,6 +23,7 @@ mod taken;
 mod tests;
 mod walk;
 
+pub use extract::ExtractFault;
 pub use gap::{Gap, Reason};
 pub use gaps::{GapFault, Gaps};
 pub use status::Status;

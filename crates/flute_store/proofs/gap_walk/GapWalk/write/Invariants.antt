@@ -1,0 +1,13 @@
+use Rattle.std.proofs.Common.{◌≡◌, [], ◌-◌, take}
+use Rattle.flute_store.specs.GapWalk.{IsWalk, left, bound}
+use Rattle.flute_store.specs.BytesLeft.{bytes_left}
+use Rattle.flute_store.proofs.BytesSteps.{IsWriting}
+use Rattle.flute_store.proofs.gap_walk.GapWalk.write.Given as goal
+
+abbrev pub invariant-loop-bytes : goal.invariant-loop-bytes
+invariant-loop-bytes g l = IsWalk l.self × (left l.self ≡ [])
+    × IsWriting (g.W.Sink.written l.initial.sink) (g.W.Sink.written l.sink) (take l.len (bytes_left l.initial.self)) (take l.rest (bytes_left l.self))
+    × (g.W.Sink.failures l.sink ≡ g.W.Sink.failures l.initial.sink)
+
+abbrev pub decreases-loop-bytes : goal.decreases-loop-bytes
+decreases-loop-bytes g l = bound l.self - l.self.ticks

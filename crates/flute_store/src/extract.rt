@@ -1,0 +1,176 @@
+//! Whole objects.
+ghost use Rattle.std.specs.Prelude.{◌≡◌, ◌+◌, ◌<◌, ◌≤◌, ◌^◌, [], length, take, MatchOption, if◌then◌else◌, is_ok};
+ghost use Rattle.std.specs.Bool.{OnTrue, OnFalse};
+ghost use Rattle.flute_join.specs.Cell.{IsKnown};
+ghost use Rattle.flute_join.specs.JoinMap.{IsOrdered, EachValue};
+ghost use Rattle.flute_parts.specs.Order.{symbol_id_cmp};
+ghost use Rattle.flute_parts.specs.Partition.{ids};
+ghost use Rattle.flute_parts.specs.Devices.{Writes};
+ghost use Rattle.flute_store.specs.Wanted.{wanted};
+ghost use Rattle.flute_store.specs.GapWalk.{left, IsWalk, look_of};
+ghost use Rattle.flute_store.specs.BytesLeft.{cell_bytes, held_bytes, bytes_left, KeepsBytes, IsNext, GivesBytes};
+ghost use Rattle.flute_store.specs.Extract.{Extracts, failed};
+
+use crate::gap_walk::{GapWalk, Look};
+use crate::gaps::Gaps;
+use crate::store::Store;
+use flute_join::Cell;
+use flute_parts::{Bytes, DeviceFault, Info, Key, Sink, SymbolId};
+use std::collections::btree_map;
+use thiserror::Error;
+
+/// Why an object is not written. The first that applies is told.
+#[derive(Clone, Copy, Debug, PartialEq, Eq, Error)]
+pub enum ExtractFault {
+    /// Nothing of the object is held.
+    #[error("no object")]
+    NoObject,
+    /// Symbols of the object are held, and no information.
+    #[error("no information")]
+    NoInformation,
+    /// Two values of the information were told.
+    #[error("conflicting information")]
+    ConflictingInformation,
+    /// Some symbol of the partition is not held as one fitting value.
+    #[error("not whole")]
+    NotWhole {
+        /// The first such symbol.
+        first: SymbolId,
+    },
+    /// The sink failed.
+    #[error("write")]
+    Write,
+}
+
+// The one value of a cell, or no bytes.
+fn bytes_in<'a>(cell: &'a Cell<Bytes>) -> &'a [u8]
+    ensures { result.now ≡ cell_bytes cell.now }
+{
+    match cell {
+        Cell::One(bytes) => bytes.as_slice(),
+        _ => &[],
+    }
+}
+
+// The first `len` of the bytes, or all of them where there are no more.
+fn up_to(bytes: &[u8], len: u64) -> &[u8]
+    ensures { result.now ≡ take len bytes.now }
+{
+    if len < bytes.len() as u64 {
+        &bytes[..len as usize]
+    } else {
+        bytes
+    }
+}
+
+impl<'a> GapWalk<'a> {
+    // Passes a held symbol that stands before the next symbol, or begins the next block.
+    fn pass_before(&mut self) -> bool
+        requires { IsWalk self.old }
+        ensures keeps { KeepsBytes self.old self.new }
+        ensures rises { self.old.ticks ≤ self.new.ticks }
+        ensures ticks { OnTrue result (self.old.ticks < self.new.ticks) }
+        ensures stop { OnFalse result (IsNext (look_of self.new)) }
+    {
+        match self.look() {
+            Look::BlockEnd => self.begin(),
+            Look::Passed => self.pass(),
+            _ => return false,
+        }
+        true
+    }
+
+    // The bytes of the next symbol, which is passed. No symbol that is left is wanted.
+    fn next_bytes(&mut self) -> Option<&'a [u8]>
+        requires walk { IsWalk self.old }
+        requires whole { left self.old ≡ [] }
+        ensures { GivesBytes self.old result self.new }
+    {
+        while self.pass_before() {}
+        match self.look() {
+            Look::Fitting => {}
+            _ => return None,
+        }
+        let Some((_, cell)) = self.held.first() else {
+            return None;
+        };
+        self.take();
+        Some(bytes_in(cell))
+    }
+
+    // Writes the symbols that are left one behind the other, up to `len` bytes. None of them is wanted.
+    fn write<W: Sink>(&mut self, sink: &mut W, len: u64) -> Result<(), DeviceFault>
+        requires walk { IsWalk self.old }
+        requires whole { left self.old ≡ [] }
+        ensures bytes { Writes (W.written sink.old) (W.written sink.new) (take len (bytes_left self.old)) result }
+        ensures failures { W.failures sink.new ≡ W.failures sink.old + (if is_ok result then 0 else 1) }
+    {
+        let mut rest = len;
+        while let Some(bytes) = self.next_bytes() {
+            let bytes = up_to(bytes, rest);
+            sink.write_all(bytes)?;
+            rest -= bytes.len() as u64;
+        }
+        Ok(())
+    }
+}
+
+// Writes the object of this information and these symbols, of which none is wanted.
+fn write_object<W: Sink>(
+    info: &Info,
+    symbols: btree_map::Iter<'_, SymbolId, Cell<Bytes>>,
+    sink: &mut W,
+) -> Result<(), DeviceFault>
+    requires ordered { IsOrdered symbol_id_cmp symbols }
+    requires known { EachValue IsKnown symbols }
+    requires few { length symbols < 2 ^ 32 }
+    requires whole { wanted info.now symbols (ids info.now) ≡ [] }
+    ensures bytes { Writes (W.written sink.old) (W.written sink.new) (take info.now.transfer_length (held_bytes symbols.entry (ids info.now))) result }
+    ensures failures { W.failures sink.new ≡ W.failures sink.old + (if is_ok result then 0 else 1) }
+{
+    let mut walk = GapWalk::new(info, symbols);
+    walk.write(sink, info.length())
+}
+
+impl<const SESSIONS: u32, const OBJECTS: u32, const SYMBOLS: u32> Store<
+    SESSIONS,
+    OBJECTS,
+    SYMBOLS,
+> {
+    /// Writes an object that is whole, and answers its length in bytes: its symbols in the order of the partition,
+    /// without the padding of the last one (RFC 5052, section 9.1).
+    ///
+    /// `NoObject` where nothing of the object is held, `NoInformation` where no information of it is,
+    /// `ConflictingInformation` where two values of it were told, and `NotWhole` where some symbol of the partition
+    /// is not held as one fitting value: after these nothing was written. `Write` where the sink failed: it then
+    /// took a first part of the object, and not all.
+    ///
+    /// It hands each symbol to the sink as it lies in the store. It takes no memory of its own, and time by the
+    /// number of blocks and of held symbols.
+    pub fn extract<W: Sink>(&self, key: &Key, sink: &mut W) -> Result<u64, ExtractFault>
+        ensures bytes { Extracts W.written self.now key.now sink.old sink.new result }
+        ensures failures { W.failures sink.new ≡ W.failures sink.old + failed result }
+    {
+        let Some(object) = self.object(key) else {
+            return Err(ExtractFault::NoObject);
+        };
+        let info = match &object.info {
+            Cell::Absent => return Err(ExtractFault::NoInformation),
+            Cell::Conflict => return Err(ExtractFault::ConflictingInformation),
+            Cell::One(info) => info,
+        };
+        let mut gaps = Gaps::new(info, object.symbols.iter());
+        if let Some(gap) = gaps.next() {
+            return Err(ExtractFault::NotWhole {
+                first: SymbolId {
+                    sbn: gap.sbn,
+                    esi: gap.first,
+                },
+            });
+        }
+        match write_object(info, object.symbols.iter(), sink) {
+            Ok(()) => Ok(info.length()),
+            Err(_) => Err(ExtractFault::Write),
+        }
+    }
+}
