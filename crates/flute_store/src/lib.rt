@@ -23,9 +23,12 @@ mod taken;
 mod tests;
 mod walk;
 
+pub use entering::Objects;
 pub use extract::ExtractFault;
 pub use gap::{Gap, Reason};
 pub use gaps::{GapFault, Gaps};
+pub use keys::Keys;
 pub use status::Status;
 pub use store::{Shelf, Store};
 pub use taken::{TakeFault, Taken};
+pub use walk::Walk;
