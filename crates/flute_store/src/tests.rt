@@ -1,5 +1,6 @@
 //! Worked examples of what a store holds.
 
+mod objects;
 mod vectors;
 
 use crate::{Shelf, Store, TakeFault, Taken, laws};
