@@ -12,3 +12,5 @@ pub mod Passes
 pub mod Found
 pub mod Existence
 pub mod Whole
+pub mod Saving
+pub mod Loading

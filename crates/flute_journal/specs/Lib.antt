@@ -9,3 +9,4 @@ pub mod Writing
 pub mod Examples
 pub mod Readers
 pub mod Whole
+pub mod Stores

@@ -1,6 +1,7 @@
 //! Why a journal could not be read or written.
 
-use flute_parts::InfoFault;
+use flute_join::JoinRefusal;
+use flute_parts::{DeviceFault, InfoFault};
 use thiserror::Error;
 
 /// Why a journal could not be read: the first fault of its bytes in the order of their fields, or why they were read no
@@ -54,4 +55,49 @@ pub enum SaveFault {
     /// The sink failed. A first part of the journal was written, and not all of it.
     #[error("Write")]
     Write,
+}
+
+impl From<DeviceFault> for SaveFault {
+    fn from(_fault: DeviceFault) -> SaveFault {
+        SaveFault::Write
+    }
+}
+
+/// Why no store was read. The first that was met is told.
+#[derive(Clone, Copy, Debug, PartialEq, Eq, Error)]
+pub enum LoadFault {
+    /// The journal could not be read.
+    #[error("{0}")]
+    Read(ReadFault),
+    /// An entry needs a new session, object or symbol beyond the limits of the store.
+    #[error("Full")]
+    Full,
+    /// There was no memory for an entry in the store.
+    #[error("OutOfMemory")]
+    OutOfMemory,
+}
+
+impl From<ReadFault> for LoadFault {
+    ghost use Rattle.std.specs.Prelude.{◌≡◌};
+    ghost use Rattle.flute_journal.specs.declared.fault.LoadFault.TheVariants.{Read};
+
+    ghost from_gives = { λ why fault. fault ≡ Read why };
+
+    fn from(why: ReadFault) -> LoadFault {
+        LoadFault::Read(why)
+    }
+}
+
+impl From<JoinRefusal> for LoadFault {
+    ghost use Rattle.std.specs.Prelude.{◌≡◌};
+    ghost use Rattle.flute_journal.specs.Stores.{refused};
+
+    ghost from_gives = { λ why fault. fault ≡ refused why };
+
+    fn from(why: JoinRefusal) -> LoadFault {
+        match why {
+            JoinRefusal::Full => LoadFault::Full,
+            JoinRefusal::OutOfMemory => LoadFault::OutOfMemory,
+        }
+    }
 }

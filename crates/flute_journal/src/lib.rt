@@ -5,12 +5,16 @@ mod fault;
 mod format;
 mod input;
 pub mod laws;
+mod load;
 mod reader;
 mod reading;
+mod save;
 pub mod writing;
 
-pub use fault::{ReadFault, SaveFault};
+pub use fault::{LoadFault, ReadFault, SaveFault};
+pub use load::read_store;
 pub use reader::JournalReader;
+pub use save::write_store;
 
 #[cfg(test)]
 mod tests;

@@ -72,6 +72,25 @@ impl Fact {
         };
         Address { key, part }
     }
+
+    /// The same fact, with its bytes borrowed. It takes no memory.
+    pub fn as_ref(&self) -> FactRef<'_>
+        ensures { fact_of result ≡ self.now }
+    {
+        match self {
+            Fact::Info { key, info } => FactRef::Info {
+                key: *key,
+                info: *info,
+            },
+            Fact::InfoConflict { key } => FactRef::InfoConflict { key: *key },
+            Fact::Symbol { key, id, bytes } => FactRef::Symbol {
+                key: *key,
+                id: *id,
+                bytes: bytes.as_slice(),
+            },
+            Fact::SymbolConflict { key, id } => FactRef::SymbolConflict { key: *key, id: *id },
+        }
+    }
 }
 
 impl FactRef<'_> {

@@ -138,7 +138,14 @@ fn facts_stand_at_their_addresses(rt: HostRuntime) -> Result<(), Fail> {
     ];
     for (fact, part) in facts.iter().zip([Part::Info, Part::Info, part, part]) {
         assert_eq!(rt; fact.address(), Address { key: *key, part });
+        assert!(rt; is_at(key, part, &fact.as_ref()));
     }
+    let borrowed = FactRef::Symbol {
+        key: *key,
+        id,
+        bytes: b"lo",
+    };
+    assert!(rt; facts[2].as_ref() == borrowed && facts[0].as_ref() != borrowed);
     for (i, fact) in facts.iter().enumerate() {
         for (j, other) in facts.iter().enumerate() {
             assert_eq!(rt; fact == other, i == j);

@@ -1,0 +1,44 @@
+-- What stores are written as, and what they are read from.
+use Rattle.std.specs.Prelude.{◌≡◌, ℕ, List, ◌++◌, Option, ⊤, Result, Err, IfSome}
+use Rattle.std.specs.List.{flat_map}
+use Rattle.flute_join.specs.declared.refusal.JoinRefusal.{JoinRefusal}
+use Rattle.flute_join.specs.declared.refusal.JoinRefusal.TheVariants as join
+use Rattle.flute_parts.specs.Facts.{Same}
+use Rattle.flute_parts.specs.Limits.{Over}
+use Rattle.flute_parts.specs.declared.fact.Fact.{Fact}
+use Rattle.flute_journal.specs.declared.fault.ReadFault.TheVariants as faults
+use Rattle.flute_journal.specs.declared.fault.LoadFault.{LoadFault}
+use Rattle.flute_journal.specs.declared.fault.LoadFault.TheVariants.{Read, Full, OutOfMemory}
+use Rattle.flute_journal.specs.Format.{header, entry}
+use Rattle.flute_journal.specs.Journal.{AreEntries, IsJournalWithin}
+use Rattle.flute_journal.specs.Whole.{HasFault}
+
+-- the bytes are the journal of what these facts come to, with at most so many entries
+abbrev pub IsJournalOf : ℕ → List ℕ → List Fact → Type 0
+IsJournalOf limit bytes facts = (entries : List Fact) × IsJournalWithin limit bytes entries × Same facts entries
+
+-- the bytes begin as a journal with these entries does, at most so many
+pub record BeginsWith (limit : ℕ) (bytes : List ℕ) (entries : List Fact) : Type 0 where
+  pub are_entries : AreEntries limit entries
+  pub rest : List ℕ
+  pub whole : bytes ≡ header ++ flat_map entry entries ++ rest
+
+-- the bytes begin with entries that pass the limits of a store
+abbrev pub BeginsOver : ℕ → ℕ → ℕ → ℕ → List ℕ → Type 0
+BeginsOver sessions objects symbols limit bytes = (entries : List Fact) × BeginsWith limit bytes entries × Over entries sessions objects symbols
+
+-- why the bytes that were left are not read into a store; memory may run out at any entry
+abbrev pub IsLoadFault : ℕ → ℕ → ℕ → ℕ → Option (List ℕ) → LoadFault → Type 0
+IsLoadFault sessions objects symbols limit old (Read f) = HasFault limit old f
+IsLoadFault sessions objects symbols limit old Full = IfSome old (BeginsOver sessions objects symbols limit)
+IsLoadFault sessions objects symbols limit old OutOfMemory = ⊤
+
+-- the fault that a store's refusal is
+abbrev pub refused : JoinRefusal → LoadFault
+refused join.Full = Full
+refused join.OutOfMemory = OutOfMemory
+
+-- how often the source failed in a call that gave this: once, where it answers `Read(Read)`
+abbrev pub load_failed : {T : Type 0} → Result T LoadFault → ℕ
+load_failed (Err (Read faults.Read)) = 1
+load_failed _ = 0

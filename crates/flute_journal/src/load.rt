@@ -1,0 +1,43 @@
+//! A journal as a store.
+ghost use Rattle.std.specs.Prelude.{◌≡◌, ◌+◌, IfOk, IfErr, IfSome};
+ghost use Rattle.std.specs.Io.KnownBytes.{IsAtEnd};
+ghost use Rattle.flute_parts.specs.Limits.{Over};
+ghost use Rattle.flute_journal.specs.Stores.{IsJournalOf, IsLoadFault, load_failed};
+
+use crate::fault::LoadFault;
+use crate::reader::JournalReader;
+use flute_parts::Source;
+use flute_store::Store;
+use std::alloc::Global;
+
+/// Reads the journal that the source holds, which may have at most `max_entries` entries, into a new store.
+///
+/// It reads entry by entry, and holds one of them beside the store. The whole source is read where it succeeds.
+///
+/// # Errors
+///
+/// The first that is met:
+///
+/// - `Read` with the fault that [`JournalReader::next`] answers;
+/// - `Full` where an entry needs a new session, object or symbol beyond the limits;
+/// - `OutOfMemory` where there is no memory for an entry in the store.
+///
+/// There is no store after any of these, and nothing past the entry at fault was read.
+pub fn read_store<const SESSIONS: u32, const OBJECTS: u32, const SYMBOLS: u32, R: Source>(
+    alloc: Global,
+    source: &mut R,
+    max_entries: u64,
+) -> Result<Store<SESSIONS, OBJECTS, SYMBOLS>, LoadFault>
+    ensures journal { IfOk result (λ store. IfSome (R.unread source.old) (λ bytes. IsJournalOf max_entries bytes store)) }
+    ensures end { IfOk result (λ _. IsAtEnd (R.unread source.new)) }
+    ensures within { IfOk result (λ store. ¬ Over store SESSIONS OBJECTS SYMBOLS) }
+    ensures fault { IfErr result (IsLoadFault SESSIONS OBJECTS SYMBOLS max_entries (R.unread source.old)) }
+    ensures failures { R.failures source.new ≡ R.failures source.old + load_failed result }
+{
+    let mut store = Store::new(alloc);
+    let mut reader = JournalReader::new(source, max_entries);
+    while let Some(fact) = reader.next(alloc)? {
+        store.add(alloc, &fact)?;
+    }
+    Ok(store)
+}
