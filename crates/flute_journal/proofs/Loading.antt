@@ -1,5 +1,5 @@
 -- A store that is read entry by entry.
-use Rattle.std.proofs.Common.{◌≡◌, ℕ, ◌+◌, ◌<◌, List, [], ◌∷◌, ◌++◌, length, true, if◌then◌else◌, Option, Some, None, Result, Err, inl, inr, refl, sym, ap, ◌∙◌, subst, append_assoc, append-nil, arith}
+use Rattle.std.proofs.Common.{◌≡◌, ℕ, ◌+◌, ◌<◌, List, [], ◌∷◌, ◌++◌, length, Bool, true, false, if◌then◌else◌, Option, Some, None, Ok, Err, inl, inr, refl, sym, ap, ◌∙◌, subst, append_assoc, append-nil, arith}
 use Rattle.std.specs.Prelude.{IfSome}
 use Rattle.std.specs.List.{flat_map}
 use Rattle.std.specs.Io.KnownBytes.{Consumes, IsAtEnd}
@@ -20,9 +20,10 @@ use Rattle.flute_journal.specs.declared.reader.Stage.{Stage}
 use Rattle.flute_journal.specs.declared.reader.Stage.TheVariants.{Header, Entries, Ended}
 use Rattle.flute_journal.specs.Format.{header, entry, end, spelling}
 use Rattle.flute_journal.specs.Journal.{AreEntries, IsJournalWithin}
-use Rattle.flute_journal.specs.Reading.{is_open, position, opening, GivesEntry, GivesEnd}
+use Rattle.flute_journal.specs.Reading.{is_open, position, opening, GivesEntry, GivesEnd, GivesFault, Gives}
+use Rattle.flute_journal.specs.Whole.{HasFault}
 use Rattle.flute_journal.specs.Stores.{IsJournalOf, BeginsWith, BeginsOver, IsLoadFault, refused, load_failed}
-use Rattle.flute_journal.proofs.Whole.{stage_at, read_of, Sofar, sofar-none, sofar-next}
+use Rattle.flute_journal.proofs.Whole.{stage_at, read_of, Sofar, sofar-none, sofar-next, sofar-fault}
 
 -- these entries were read, and what they come to is held within the limits
 pub record Loaded (s o y limit : ℕ) (first now : Option (List ℕ)) (stage : Stage) (content : List Fact) : Type 0 where
@@ -131,18 +132,49 @@ open_at : (es : List Fact) → is_open (stage_at es) ≡ true
 open_at [] = refl
 open_at (e ∷ es) = refl
 
-failed_same : {T X : Type 0} (f : ReadFault) → failed {T} (Err f) ≡ load_failed {X} (Err (Read f))
-failed_same faults.Read = refl
-failed_same f = refl
+failed_same : (T X : Type 0) (f : ReadFault) → failed {T = T} (Err f) ≡ load_failed {T = X} (Err (Read f))
+failed_same T X faults.Read = refl
+failed_same T X f = refl
 
-pub loaded-failed : {T X : Type 0} (s o y limit : ℕ) (u v : Option (List ℕ)) (stage : Stage) (F : List Fact) (f : ReadFault) (n m k : ℕ) → Loaded s o y limit u v stage F
-    → m ≡ n → k ≡ m + (if is_open stage then failed {T} (Err f) else 0) → k ≡ n + load_failed {X} (Err (Read f))
-loaded-failed {T} {X} s o y limit u v stage F f n m k l e h =
+pub loaded-failed : (T X : Type 0) (s o y limit : ℕ) (u v : Option (List ℕ)) (stage : Stage) (F : List Fact) (f : ReadFault) (n m k : ℕ) → Loaded s o y limit u v stage F
+    → m ≡ n → k ≡ m + (if is_open stage then failed {T = T} (Err f) else 0) → k ≡ n + load_failed {T = X} (Err (Read f))
+loaded-failed T X s o y limit u v stage F f n m k l e h =
     h
-    ∙ ap (λ b. m + (if b then failed {T} (Err f) else 0)) (ap is_open l.sofar.stage_is ∙ open_at l.entries)
-    ∙ ap (λ a. a + failed {T} (Err f)) e
-    ∙ ap (λ a. n + a) (failed_same {T} {X} f)
+    ∙ ap (λ b. m + (if b then failed {T = T} (Err f) else 0)) (ap is_open l.sofar.stage_is ∙ open_at l.entries)
+    ∙ ap (λ a. a + failed {T = T} (Err f)) e
+    ∙ ap (λ a. n + a) (failed_same T X f)
 
-pub load-refused : (s o y limit : ℕ) (u : Option (List ℕ)) (why : JoinRefusal) → (why ≡ join.Full → IfSome u (BeginsOver s o y limit)) → IsLoadFault s o y limit u (refused why)
-load-refused s o y limit u join.Full h = h refl
-load-refused s o y limit u join.OutOfMemory h = tt
+-- no failure is counted where something was given
+pub loaded-read : (b : Bool) (n m k : ℕ) → m ≡ n → k ≡ m + (if b then 0 else 0) → k ≡ n
+loaded-read true n m k e h = omega (arith, e, h)
+loaded-read false n m k e h = omega (arith, e, h)
+
+-- What a reader gave, and what became of it in the store.
+
+given-entry : (limit bound : ℕ) (v w : Option (List ℕ)) (old new : Stage) (given : Option Fact) (f : Fact) → bound ≡ limit → given ≡ Some f → Gives bound old new v w (Ok given)
+    → GivesEntry limit old new v w f
+given-entry limit bound v w old new given f b e h =
+    subst (λ (n : ℕ). GivesEntry n old new v w f) b (subst (λ (o : Option Fact). Gives bound old new v w (Ok o)) e h)
+
+pub loaded-given : {X : Type 0} (s o y limit bound : ℕ) (u v w : Option (List ℕ)) (old new : Stage) (F G : List Fact) (given : Option Fact) (f : Fact) (x : X)
+    → Loaded s o y limit u v old F → bound ≡ limit → given ≡ Some f → Gives bound old new v w (Ok given) → Same G (F ++ f ∷ [])
+    → (Over (F ++ f ∷ []) s o y → Ok x ≡ Err join.Full) → Loaded s o y limit u w new G
+loaded-given s o y limit bound u v w old new F G given f x l b e h same full =
+    loaded-next s o y limit u v w old new F G f l (given-entry limit bound v w old new given f b e h) same (λ over. let is = full over in absurd cc)
+
+pub loaded-full : (s o y limit bound : ℕ) (u v w : Option (List ℕ)) (old new : Stage) (F : List Fact) (given : Option Fact) (f : Fact) (why : JoinRefusal)
+    → Loaded s o y limit u v old F → bound ≡ limit → given ≡ Some f → Gives bound old new v w (Ok given)
+    → (why ≡ join.Full → Over (F ++ f ∷ []) s o y) → IsLoadFault s o y limit u (refused why)
+loaded-full s o y limit bound u v w old new F given f join.Full l b e h full =
+    loaded-over s o y limit u v w old new F f l (given-entry limit bound v w old new given f b e h) (full refl)
+loaded-full s o y limit bound u v w old new F given f join.OutOfMemory l b e h full = tt
+
+pub loaded-all : (s o y limit bound : ℕ) (u v w : Option (List ℕ)) (old new : Stage) (F : List Fact) (given : Option Fact) → Loaded s o y limit u v old F
+    → bound ≡ limit → given ≡ None → Gives bound old new v w (Ok given) → IsLoaded limit u w F
+loaded-all s o y limit bound u v w old new F None l b e h = loaded-end s o y limit u v w old new F l h
+loaded-all s o y limit bound u v w old new F (Some f) l b e h = absurd cc
+
+pub loaded-fault : (s o y limit bound : ℕ) (u v w : Option (List ℕ)) (old new : Stage) (F : List Fact) (f : ReadFault) → Loaded s o y limit u v old F
+    → bound ≡ limit → GivesFault bound old new v w f → HasFault limit u f
+loaded-fault s o y limit bound u v w old new F f l b h =
+    sofar-fault limit u v w old new l.entries f l.sofar (subst (λ (n : ℕ). GivesFault n old new v w f) b h)
