@@ -1,5 +1,5 @@
 -- A store that is written entry by entry.
-use Rattle.std.proofs.Common.{◌≡◌, ℕ, ◌+◌, ◌<◌, ◌≤◌, ◌^◌, List, [], ◌∷◌, ◌++◌, length, Option, Result, Ok, Err, refl, sym, ap, ◌∙◌, subst, append_assoc, append-nil, arith}
+use Rattle.std.proofs.Common.{◌≡◌, ℕ, ◌+◌, ◌<◌, ◌≤◌, ◌^◌, List, [], ◌∷◌, ◌++◌, length, Option, refl, sym, ap, ◌∙◌, subst, append_assoc, append-nil, arith}
 use Rattle.std.specs.List.{flat_map, AllByRecursion}
 use Rattle.std.specs.Io.KnownBytes.{Appends}
 use Rattle.std.proofs.KnownBytes.{Appends-trans}
@@ -7,10 +7,10 @@ use Rattle.std.proofs.lemmas.Grind.{flat_map-append}
 use Rattle.std.proofs.lemmas.List.{length-append, flat_map_more}
 use Rattle.flute_parts.specs.declared.fact.Fact.{Fact}
 use Rattle.flute_parts.specs.Facts.{Same, IsRising}
-use Rattle.flute_parts.specs.Devices.{AppendsPart, Writes}
+use Rattle.flute_parts.specs.Devices.{AppendsPart}
 use Rattle.flute_parts.proofs.Facts.{Same-itself}
 use Rattle.flute_parts.proofs.Rising.{rising_unique}
-use Rattle.flute_parts.proofs.Appended.{AppendsPart-first, AppendsPart-second, Writes-behind}
+use Rattle.flute_parts.proofs.Appended.{AppendsPart-first, AppendsPart-second}
 use Rattle.flute_journal.specs.Format.{header, entry, end, spelling}
 use Rattle.flute_journal.specs.Journal.{IsFact, Collects, Journal}
 use Rattle.flute_journal.proofs.Existence.{all_more}
@@ -35,12 +35,6 @@ saved-next facts left rest u v w count f s e valid h = record {
   counted = omega (arith, s.counted, length-append s.done (f ∷ []));
   written = subst (Appends u w) (flat_map_more entry header s.done f) (Appends-trans u v w (header ++ flat_map entry s.done) (entry f) s.written h);
 }
-
--- the entry of another fact can be counted
-pub saved-small : (facts left rest : List Fact) (u v : Option (List ℕ)) (count most : ℕ) (f : Fact) → Saved facts left u v count → left ≡ f ∷ rest
-    → length facts ≤ most → most < 2 ^ 64 → count + 1 < 2 ^ 64
-saved-small facts left rest u v count most f s e few small =
-    omega (arith, few, small, s.counted, ap length s.parts, length-append s.done left, ap length e)
 
 -- the spelling, in which an entry stands behind those that were written
 spelled : (done rest : List Fact) (f : Fact) (n : ℕ) → ((header ++ flat_map entry done) ++ entry f) ++ (flat_map entry rest ++ end n) ≡ header ++ flat_map entry (done ++ f ∷ rest) ++ end n
@@ -69,14 +63,23 @@ saved-done facts left u v count s e = sym (append-nil s.done) ∙ ap (λ (x : Li
 pub saved-count : (facts left : List Fact) (u v : Option (List ℕ)) (count : ℕ) → Saved facts left u v count → left ≡ [] → count ≡ length facts
 saved-count facts left u v count s e = s.counted ∙ ap length (saved-done facts left u v count s e)
 
--- and then the end
-pub saved-end : {T E : Type 0} (facts left : List Fact) (u v w : Option (List ℕ)) (count : ℕ) (r : Result T E) → Saved facts left u v count → left ≡ []
-    → Writes v w (end count) r → Writes u w (spelling facts) r
-saved-end facts left u v w count r s e h =
-    let all = saved-done facts left u v count s e in
-    subst (λ (x : List ℕ). Writes u w x r)
-    (ap (λ (x : List Fact). header ++ flat_map entry x ++ end count) all ∙ ap (λ (n : ℕ). header ++ flat_map entry facts ++ end n) (saved-count facts left u v count s e))
-    (Writes-behind u v w (header ++ flat_map entry s.done) (end count) r s.written h)
+spelled_all : (facts left : List Fact) (u v : Option (List ℕ)) (count : ℕ) → (s : Saved facts left u v count) → left ≡ []
+    → (header ++ flat_map entry s.done) ++ end count ≡ spelling facts
+spelled_all facts left u v count s e =
+    ap (λ (x : List Fact). header ++ flat_map entry x ++ end count) (saved-done facts left u v count s e)
+    ∙ ap (λ (n : ℕ). header ++ flat_map entry facts ++ end n) (saved-count facts left u v count s e)
+
+-- and then the end, or a part of it
+
+pub saved-whole : (facts left : List Fact) (u v w : Option (List ℕ)) (count : ℕ) → Saved facts left u v count → left ≡ [] → Appends v w (end count)
+    → Appends u w (spelling facts)
+saved-whole facts left u v w count s e h =
+    subst (Appends u w) (spelled_all facts left u v count s e) (Appends-trans u v w (header ++ flat_map entry s.done) (end count) s.written h)
+
+pub saved-cut : (facts left : List Fact) (u v w : Option (List ℕ)) (count : ℕ) → Saved facts left u v count → left ≡ [] → AppendsPart v w (end count)
+    → AppendsPart u w (spelling facts)
+saved-cut facts left u v w count s e h =
+    subst (AppendsPart u w) (spelled_all facts left u v count s e) (AppendsPart-second u v w (header ++ flat_map entry s.done) (end count) s.written h)
 
 pub saved-journal : (facts left : List Fact) (u v : Option (List ℕ)) (count most : ℕ) → Saved facts left u v count → left ≡ [] → IsRising facts
     → length facts ≤ most → most < 2 ^ 64 → Journal (spelling facts) facts

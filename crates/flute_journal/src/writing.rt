@@ -2,6 +2,7 @@
 ghost use Rattle.std.specs.Prelude.{◌≡◌, ℕ, ◌+◌, if◌then◌else◌, is_ok};
 ghost use Rattle.flute_parts.specs.Addresses.{fact_of};
 ghost use Rattle.flute_parts.specs.Devices.{Writes};
+ghost use Rattle.flute_store.specs.Walk.{IsSized};
 ghost use Rattle.flute_journal.specs.Format.{header, entry, end};
 ghost use Rattle.flute_journal.specs.Journal.{IsFact};
 
@@ -26,7 +27,8 @@ pub fn write_header<W: Sink>(sink: &mut W) -> Result<(), DeviceFault>
 ///
 /// `DeviceFault` where the sink failed. A first part was then written, and not all.
 pub fn write_entry<W: Sink>(sink: &mut W, fact: &FactRef<'_>) -> Result<(), DeviceFault>
-    requires valid { IsFact (fact_of fact.now) }
+    requires sized { IsSized (fact_of fact.now) }
+    ensures valid { IsFact (fact_of fact.now) }
     ensures bytes { Writes (W.written sink.old) (W.written sink.new) (entry (fact_of fact.now)) result }
     ensures failures { W.failures sink.new ≡ W.failures sink.old + (if is_ok result then 0 else 1) }
 {

@@ -2,7 +2,11 @@
 ghost use Rattle.std.specs.Prelude.{◌≡◌, ℕ, ◌+◌, ◌<◌, ◌≤◌, ◌^◌, ◌++◌, length};
 ghost use Rattle.arrayvec.specs.ArrayVec.{array_vec_len};
 ghost use Rattle.flute_parts.specs.Addresses.{fact_of};
+ghost use Rattle.std.specs.List.{AllByRecursion};
+ghost use Rattle.flute_store.specs.Walk.{IsSized};
+ghost use Rattle.flute_journal.specs.Numbers.{in_bytes};
 ghost use Rattle.flute_journal.specs.Format.{key_bytes, id_bytes, info_bytes, entry, end};
+ghost use Rattle.flute_journal.specs.Journal.{IsByte, IsKey, IsId, IsInfo, IsFact};
 ghost use Rattle.flute_journal.specs.Writing.{symbol_of};
 
 use super::END;
@@ -14,8 +18,9 @@ pub type Head = ArrayVec<u8, 34>;
 
 /// The front of an entry.
 pub fn head_of(fact: &FactRef<'_>) -> Head
-    requires { length (symbol_of (fact_of fact.now)) < 2 ^ 16 }
-    ensures { result.items ++ symbol_of (fact_of fact.now) ≡ entry (fact_of fact.now) }
+    requires sized { IsSized (fact_of fact.now) }
+    ensures bytes { result.items ++ symbol_of (fact_of fact.now) ≡ entry (fact_of fact.now) }
+    ensures valid { IsFact (fact_of fact.now) }
 {
     let mut head = Head::new();
     match fact {
@@ -32,7 +37,7 @@ pub fn head_of(fact: &FactRef<'_>) -> Head
             put(&mut head, &[3]);
             put_key(&mut head, key);
             put_id(&mut head, *id);
-            put(&mut head, &(bytes.len() as u16).to_be_bytes());
+            put_length(&mut head, bytes);
         }
         FactRef::SymbolConflict { key, id } => {
             put(&mut head, &[4]);
@@ -76,6 +81,7 @@ fn put_key(head: &mut Head, key: &Key)
     requires { array_vec_len head.old ≤ 1 }
     ensures items { head.new.items ≡ head.old.items ++ key_bytes key.now }
     ensures len { array_vec_len head.new ≡ array_vec_len head.old + 21 }
+    ensures valid { IsKey key.now }
 {
     let (tag, number) = match key.object.instance() {
         Some(number) => (0, u128::from(number)),
@@ -90,6 +96,7 @@ fn put_id(head: &mut Head, id: SymbolId)
     requires { array_vec_len head.old ≤ 22 }
     ensures items { head.new.items ≡ head.old.items ++ id_bytes id }
     ensures len { array_vec_len head.new ≡ array_vec_len head.old + 4 }
+    ensures valid { IsId id }
 {
     put(head, &id.sbn.to_be_bytes());
     put(head, &id.esi.to_be_bytes());
@@ -99,8 +106,20 @@ fn put_info(head: &mut Head, info: &Info)
     requires { array_vec_len head.old ≤ 22 }
     ensures items { head.new.items ≡ head.old.items ++ info_bytes info.now }
     ensures len { array_vec_len head.new ≡ array_vec_len head.old + 12 }
+    ensures valid { IsInfo info.now }
 {
     put(head, &info.length().to_be_bytes()[2..]);
     put(head, &info.symbol().to_be_bytes());
     put(head, &info.block().to_be_bytes());
+}
+
+// Appends the number of the bytes of a symbol.
+fn put_length(head: &mut Head, bytes: &[u8])
+    requires room { array_vec_len head.old ≤ 26 }
+    requires short { length bytes.now < 2 ^ 16 }
+    ensures items { head.new.items ≡ head.old.items ++ in_bytes 2 (length bytes.now) }
+    ensures len { array_vec_len head.new ≡ array_vec_len head.old + 2 }
+    ensures octets { AllByRecursion IsByte bytes.now }
+{
+    put(head, &(bytes.len() as u16).to_be_bytes());
 }

@@ -13,7 +13,7 @@ returns-clause-bytes g c =
     let v = g.W.Sink.written c.write_all.new.self in
     let w = g.W.Sink.written c.write_all-2.new.self in
     let head = c.head_of-head.result.items in
-    subst (λ (b : List ℕ). Writes u w b c.write_all-2.result) c.head_of-head.ensures
+    subst (λ (b : List ℕ). Writes u w b c.write_all-2.result) c.head_of-head.ensures.bytes
     (Writes-behind u v w head (symbol_of f) c.write_all-2.result
     (subst (Appends u v) c.as_slice.ensures.value c.in_ok-write_all.ensures.bytes)
     (subst (λ (b : List ℕ). Writes v w b c.write_all-2.result) c.symbol_of.ensures c.write_all-2.ensures.bytes))
