@@ -6,7 +6,7 @@ use Rattle.std.proofs.KnownBytes.{Appends-trans}
 use Rattle.flute_join.specs.JoinMap.{value_at}
 use Rattle.flute_join.specs.declared.cell.Cell.{Cell}
 use Rattle.flute_join.specs.declared.cell.Cell.TheVariants.{Absent, One, Conflict}
-use Rattle.flute_parts.specs.Information.{Information}
+use Rattle.flute_parts.specs.Information.{Information, IsValid}
 use Rattle.flute_parts.specs.Order.{symbol_id_cmp}
 use Rattle.flute_parts.specs.Addresses.{info_address}
 use Rattle.flute_parts.specs.Facts.{fact_at}
@@ -29,10 +29,11 @@ use Rattle.flute_store.specs.Wanted.{wanted, blocks_from}
 use Rattle.flute_store.specs.GapWalk.{at_start, symbols_left, left, IsWalk, after_pass, after_take, after_begin, look_of}
 use Rattle.flute_store.specs.BytesLeft.{cell_bytes, found_bytes, held_bytes, bytes_left, KeepsBytes, IsNext, GivesFirst}
 use Rattle.flute_store.proofs.SortedSymbols.{Above, above-before, blocks_from-all, blocks_from-next, blocks_from-end}
-use Rattle.flute_store.proofs.Lookups.{Entry, value-past, value-first}
+use Rattle.flute_store.proofs.Lookups.{Entry, value-past, value-here}
 use Rattle.flute_store.proofs.Runs.{runs-listed}
 use Rattle.flute_store.proofs.WholeObjects.{gapless-whole}
 use Rattle.flute_store.proofs.ToldObjects.{wants-told}
+use Rattle.flute_store.proofs.ObjectLength.{object-length}
 use Rattle.flute_store.specs.Extract.{IsNotWhole, WritesWhole, WritesPart}
 use Rattle.flute_store.proofs.Looks.{here, AtHere, AtPassed, Tells, told, others_left, symbols-first, symbols-end, others-above, inside-less, block-left, step-pass, step-begin, step-take, take-left}
 use Rattle.flute_store.proofs.GapSteps.{gap-missing}
@@ -44,7 +45,7 @@ bytes-past e es (x ∷ xs) a = (λ i. found_bytes (value-past e es x a.0 i) ++ b
 
 bytes-here : (e : Entry) (es : List Entry) (q : SymbolId) (xs : List SymbolId) → e.0 ≡ q → Above q xs → held_bytes (e ∷ es) (q ∷ xs) ≡ cell_bytes e.1 ++ held_bytes es xs
 unfolding held_bytes
-bytes-here e es q xs h a = (λ i. found_bytes (value-first e es q h i) ++ bytes-past e es xs (subst (λ z. Above z xs) (sym h) a) i)
+bytes-here e es q xs h a = (λ i. found_bytes (value-here e es q h i) ++ bytes-past e es xs (subst (λ z. Above z xs) (sym h) a) i)
 
 pub pass-bytes : (w : GapWalk) → IsWalk w → AtPassed w → KeepsBytes w (after_pass w)
 unfolding bytes_left
@@ -230,12 +231,13 @@ module _ {n : ℕ} (F : List Fact) (key : Key) (x : Object n) (info : Informatio
   pub whole-object : gs ≡ [] → Whole F key info
   whole-object f = gapless-whole F key info one_information (are_gaps ∙ f)
 
-  pub writes-whole : {W : Type 0} (written : W → Option (List ℕ)) (old new : W) (again : List Entry) (length : ℕ) → gs ≡ [] → again ≡ x.symbols → Appends (written old) (written new) (take info.transfer_length (held_bytes again (ids info))) → length ≡ info.transfer_length → WritesWhole written F key old new length
-  writes-whole written old new again length f a w l = record {
+  pub writes-whole : {W : Type 0} (written : W → Option (List ℕ)) (old new : W) (again : List Entry) (length : ℕ) → gs ≡ [] → again ≡ x.symbols → Appends (written old) (written new) (take info.transfer_length (held_bytes again (ids info))) → length ≡ info.transfer_length → IsValid info → WritesWhole written F key old new length
+  writes-whole written old new again length f a w l v = record {
     info = info;
     whole = whole-object f;
     bytes = subst (Appends (written old) (written new)) (ap (λ (s : List Entry). take info.transfer_length (held_bytes s (ids info))) a ∙ sym (object-told F key x info t)) w;
     length_is = l;
+    exact = object-length F key info v (whole-object f) ∙ sym l;
   }
 
   pub writes-part : {W : Type 0} (written : W → Option (List ℕ)) (old new : W) (again : List Entry) → gs ≡ [] → again ≡ x.symbols → AppendsPart (written old) (written new) (take info.transfer_length (held_bytes again (ids info))) → WritesPart written F key old new

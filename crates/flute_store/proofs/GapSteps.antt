@@ -28,7 +28,7 @@ use Rattle.flute_store.specs.Objects.{runs}
 use Rattle.flute_store.specs.Wanted.{want_cell, wanted, block_from, blocks_from}
 use Rattle.flute_store.specs.GapWalk.{left, gaps_left, bound, IsWalk, after_pass, after_take, look_of, until_held, until_of, GivesGap, GoesOn, EndsRun, IsRun, RunsOn}
 use Rattle.flute_store.proofs.SortedSymbols.{Above, sbn-less, esi-less, above-before, above-later, above-block, blocks_from-end}
-use Rattle.flute_store.proofs.Lookups.{Entry, Elsewhere, value-before, value-first, wanted-missing, elsewhere-above, elsewhere-here}
+use Rattle.flute_store.proofs.Lookups.{Entry, Elsewhere, value-before, value-here, wanted-missing, elsewhere-above, elsewhere-here}
 use Rattle.flute_store.proofs.Runs.{runs-first}
 use Rattle.flute_store.proofs.Looks.{here, AtHere, AtPassed, FirstAfter, Tells, told, others_left, symbols-first, symbols-end, blocks-later, others-above, inside-less, step-pass, take-bound, take-walk, take-left}
 
@@ -287,7 +287,7 @@ missing-elsewhere w p l (inr n) =
     let e = n.1 in
     subst (λ xs. Elsewhere q Missing (wanted w.partition w.held xs)) (sym (symbols-first (after_missing w) n.0))
     (elsewhere-here w.partition w.held q Missing (others_left (after_missing w))
-    (λ z. known-not_missing w.partition q e.1 (first-known w.held e n.2 n.3 p.known) (sym (ap (want_cell w.partition q) (ap (λ (x : List Entry). value_at symbol_id_cmp x q) n.3 ∙ value-first e n.2 q n.4)) ∙ z))
+    (λ z. known-not_missing w.partition q e.1 (first-known w.held e n.2 n.3 p.known) (sym (ap (want_cell w.partition q) (ap (λ (x : List Entry). value_at symbol_id_cmp x q) n.3 ∙ value-here e n.2 q n.4)) ∙ z))
     (above-block w.sbn (until_of w) w.size (blocks_from w.partition w.begun) (blocks-later w p l)))
 
 missing-left : (w : GapWalk) → Until w.sbn w.esi w.size (until_of w) w.held → left w ≡ map (λ i. (symbol_id w.sbn i, Missing)) (range_with_len w.esi (until_of w - w.esi)) ++ left (after_missing w)

@@ -20,4 +20,5 @@ pub mod GapSteps
 pub mod Found
 pub mod ToldObjects
 pub mod HowMany
+pub mod ObjectLength
 pub mod BytesSteps

@@ -25,7 +25,7 @@ Entry = SymbolId × Cell (List ℕ)
 pub value-past : (e : Entry) (es : List Entry) (q : SymbolId) → symbol_id_cmp e.0 q ≡ Less → value_at symbol_id_cmp (e ∷ es) q ≡ value_at symbol_id_cmp es q
 value-past e es q l = ap (λ o. cond (is_eq o) (Some e.1) (value_at symbol_id_cmp es q)) (symbol_id_total.antisymm q e.0 ∙ ap ordering_reverse l)
 
-value-here : (e : Entry) (es : List Entry) (q : SymbolId) → e.0 ≡ q → value_at symbol_id_cmp (e ∷ es) q ≡ Some e.1
+pub value-here : (e : Entry) (es : List Entry) (q : SymbolId) → e.0 ≡ q → value_at symbol_id_cmp (e ∷ es) q ≡ Some e.1
 value-here e es q h = ap (λ b. cond b (Some e.1) (value_at symbol_id_cmp es q)) (ap (λ x. is_eq (symbol_id_cmp q x)) h ∙ symbol_id_itself q)
 
 -- nothing is held of a symbol before all that are held
@@ -77,6 +77,3 @@ elsewhere-above info held p r (x ∷ xs) a = elsewhere-cons p x r (want_cell inf
 pub elsewhere-here : (info : Information) (held : List Entry) (p : SymbolId) (r : Reason) (xs : List SymbolId) → (want_cell info p (value_at symbol_id_cmp held p) ≡ Some r → ⊥) → Above p xs → Elsewhere p r (wanted info held (p ∷ xs))
 unfolding wanted
 elsewhere-here info held p r xs h a = elsewhere-cons p p r (want_cell info p (value_at symbol_id_cmp held p)) (wanted info held xs) (λ e f. h f) (elsewhere-above info held p r xs a)
-
-pub value-first : (e : Entry) (es : List Entry) (q : SymbolId) → e.0 ≡ q → value_at symbol_id_cmp (e ∷ es) q ≡ Some e.1
-value-first = value-here

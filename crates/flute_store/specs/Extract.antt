@@ -1,5 +1,5 @@
 -- What is written of an object.
-use Rattle.std.specs.Prelude.{◌≡◌, ℕ, List, ◌∷◌, Option, Some, Result, Ok, Err}
+use Rattle.std.specs.Prelude.{◌≡◌, ℕ, List, ◌∷◌, length, Option, Some, Result, Ok, Err}
 use Rattle.std.specs.Io.KnownBytes.{Appends}
 use Rattle.flute_parts.specs.Information.{Information}
 use Rattle.flute_parts.specs.Addresses.{info_address}
@@ -27,12 +27,13 @@ pub record IsNotWhole (F : List Fact) (key : Key) (first : SymbolId) : Type 0 wh
   pub first_is : first ≡ symbol_id gap.sbn gap.first
 
 module _ {W : Type 0} (written : W → Option (List ℕ)) (F : List Fact) (key : Key) (old new : W) where
-  -- the object is whole, and was written
-  pub record WritesWhole (length : ℕ) : Type 0 where
+  -- the object is whole and was written: n bytes, as many as the transfer length says
+  pub record WritesWhole (n : ℕ) : Type 0 where
     pub info : Information
     pub whole : Whole F key info
     pub bytes : Appends (written old) (written new) (object F key info)
-    pub length_is : length ≡ info.transfer_length
+    pub length_is : n ≡ info.transfer_length
+    pub exact : length (object F key info) ≡ n
 
   -- the object is whole, and a first part of it was written, and not all
   pub record WritesPart : Type 0 where
@@ -49,7 +50,7 @@ module _ {W : Type 0} (written : W → Option (List ℕ)) (F : List Fact) (key :
   TellsExtractFault Write = WritesPart
 
   abbrev pub Extracts : Result ℕ ExtractFault → Type 0
-  Extracts (Ok length) = WritesWhole length
+  Extracts (Ok n) = WritesWhole n
   Extracts (Err fault) = TellsExtractFault fault
 
 -- how often the sink failed

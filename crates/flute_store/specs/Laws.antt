@@ -1,6 +1,6 @@
 -- Laws of objects and of their gaps.
-use Rattle.std.specs.Prelude.{◌≡◌, List, [], flat_map, ◌↔◌, Some}
-use Rattle.flute_parts.specs.Information.{Information}
+use Rattle.std.specs.Prelude.{◌≡◌, List, [], length, flat_map, ◌↔◌, Some}
+use Rattle.flute_parts.specs.Information.{Information, IsValid}
 use Rattle.flute_parts.specs.Addresses.{info_address}
 use Rattle.flute_parts.specs.Facts.{fact_at, Same}
 use Rattle.flute_parts.specs.declared.key.Key.{Key}
@@ -32,3 +32,7 @@ GapsAreUnique = (F : List Fact) (key : Key) (info : Information) (others : List 
 -- an object with one information is whole exactly where it has no gap
 abbrev pub WholeHasNoGap : Type 0
 WholeHasNoGap = (F : List Fact) (key : Key) (info : Information) → fact_at F (info_address key) ≡ Some (Info key info) → Whole F key info ↔ (gaps F key info ≡ [])
+
+-- a whole object has as many bytes as its transfer length says
+abbrev pub WholeHasItsLength : Type 0
+WholeHasItsLength = (F : List Fact) (key : Key) (info : Information) → IsValid info → Whole F key info → length (object F key info) ≡ info.transfer_length

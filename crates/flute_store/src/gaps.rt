@@ -107,7 +107,8 @@ impl<const SESSIONS: u32, const OBJECTS: u32, const SYMBOLS: u32> Store<
     /// partition does not have is no gap.
     ///
     /// `NoObject` where nothing of the object is held, `NoInformation` where no information of it is, and
-    /// `ConflictingInformation` where two values of it were told. It takes no memory, and the time of three look-ups.
+    /// `ConflictingInformation` where two values of it were told. It takes no memory, and the time of two look-ups:
+    /// of the session, and of its object.
     pub fn gaps(&self, key: &Key) -> Result<Gaps<'_>, GapFault>
         ensures { MatchResult result (λ gaps. GivesGaps self.now key.now gaps) (λ fault. TellsGapFault self.now key.now fault) }
     {

@@ -4,7 +4,7 @@ ghost use Rattle.flute_parts.specs.Addresses.{address};
 ghost use Rattle.flute_parts.specs.Facts.{fact_at, Same, Below};
 ghost use Rattle.flute_parts.specs.declared.fact.Fact.{Fact as Known};
 ghost use Rattle.flute_store.specs.Held.{HasCell};
-ghost use Rattle.flute_store.specs.Laws.{SameWhole, SameObject, SameGaps, GapsListWants, GapsAreRuns, GapsAreUnique, WholeHasNoGap};
+ghost use Rattle.flute_store.specs.Laws.{SameWhole, SameObject, SameGaps, GapsListWants, GapsAreRuns, GapsAreUnique, WholeHasNoGap, WholeHasItsLength};
 
 /// What a refused `absorb` leaves, joined again with success, gives the join.
 pub fn absorbing_again_gives_the_join()
@@ -31,4 +31,9 @@ pub fn gaps_are_maximal_runs()
     ensures runs { GapsAreRuns }
     ensures unique { GapsAreUnique }
     ensures whole { WholeHasNoGap }
+{}
+
+/// A whole object has as many bytes as its transfer length says, never one more or less.
+pub fn whole_objects_have_their_length()
+    ensures { WholeHasItsLength }
 {}

@@ -16,7 +16,7 @@ write_object-requires-clause-whole g c =
 pub returns-in-Ok-clause-bytes : goal.returns-in-Ok-clause-bytes
 returns-in-Ok-clause-bytes g c =
     writes-whole c.args.self.now c.args.key.now c.in-Some.object.now c.in-One.info c.iter.result c.new-gaps.result.gaps c.in-Some.ensures c.in-One.is c.iter.ensures.rest c.new-gaps.ensures.gaps
-    g.W.Sink.written c.args.sink.now c.write_object.new.sink c.iter-2.result c.length.result c.in_default-next.ensures.steps.0 c.iter-2.ensures.rest c.in-Ok.ensures.bytes c.length.ensures.value
+    g.W.Sink.written c.args.sink.now c.write_object.new.sink c.iter-2.result c.length.result c.in_default-next.ensures.steps.0 c.iter-2.ensures.rest c.in-Ok.ensures.bytes c.length.ensures.value c.length.ensures.valid
 
 pub returns-in-Err-clause-bytes : goal.returns-in-Err-clause-bytes
 returns-in-Err-clause-bytes g c =

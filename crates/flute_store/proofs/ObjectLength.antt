@@ -1,0 +1,117 @@
+-- A whole object has as many bytes as its transfer length says.
+use Rattle.std.proofs.Common.{◌≡◌, ℕ, zero, suc, ◌+◌, ◌-◌, ◌*◌, ◌<◌, ◌≤◌, ◌||◌, ◌&&◌, Bool, true, false, List, [], ◌∷◌, length, get_or, take, Some, refl, sym, ap, ◌∙◌, subst, inl, inr, ◌⊎◌, arith}
+use Rattle.std.specs.Prelude.{flat_map, ◌==◌}
+use Rattle.std.proofs.lemmas.Bool.Decides.{nat_tests}
+use Rattle.std.proofs.lemmas.Grind.{div_ceil_times}
+use Rattle.std.proofs.lemmas.List.{length-append, length-take-le}
+use Rattle.std.proofs.lemmas.Option.{slice_get-get_or}
+use Rattle.flute_parts.specs.Equality.{both}
+use Rattle.flute_parts.specs.Information.{Information, symbol_count, IsValid}
+use Rattle.flute_parts.specs.Addresses.{symbol_address}
+use Rattle.flute_parts.specs.Facts.{fact_at}
+use Rattle.flute_parts.specs.Partition.{ids, place, last_length, fits_at, fits}
+use Rattle.flute_parts.specs.declared.key.Key.{Key}
+use Rattle.flute_parts.specs.declared.symbol_id.SymbolId.{SymbolId}
+use Rattle.flute_parts.specs.declared.fact.Fact.{Fact}
+use Rattle.flute_parts.proofs.Division.{div_ceil-pos}
+use Rattle.flute_parts.proofs.Split.{cases_zero, places-inverse, ids_counted}
+use Rattle.flute_store.specs.Objects.{Whole, bytes_of, object}
+
+-- each symbol has e bytes, or is the last and has m
+abbrev Each : (SymbolId → List ℕ) → ℕ → ℕ → List SymbolId → Type 0
+Each f e m xs = (k : ℕ) (x : SymbolId) → k < length xs → get_or xs k x ≡ x → (length (f x) ≡ e) ⊎ ((k + 1 ≡ length xs) × (length (f x) ≡ m))
+
+times-suc : (n e : ℕ) → suc n * e ≡ e + n * e
+times-suc n e = omega arith
+
+-- so all of them have no fewer than the first ones with e, and the last with m
+length-each : (f : SymbolId → List ℕ) (e m : ℕ) (x : SymbolId) (xs : List SymbolId) → m ≤ e → Each f e m (x ∷ xs) → length xs * e + m ≤ length (flat_map f (x ∷ xs))
+length-each f e m x [] l h =
+    let a = length-append (f x) [] in
+    elim (h 0 x (omega arith) refl) [
+      | inl p ↦ omega (arith, a, p)
+      | inr p ↦ omega (arith, a, p.1)
+    ]
+length-each f e m x (y ∷ ys) l h =
+    let a = length-append (f x) (flat_map f (y ∷ ys)) in
+    let t = times-suc (length ys) e in
+    let more = length-each f e m y ys l (λ k z b g. elim (h (suc k) z (omega (arith, b)) g) [
+      | inl p ↦ inl p
+      | inr p ↦ inr (omega (arith, p.0), p.1)
+    ]) in
+    elim (h 0 x (omega arith) refl) [
+      | inl p ↦ omega (arith, a, t, more, p)
+      | inr p ↦ absurd (omega (arith, p.0))
+    ]
+
+either : (a b : Bool) → (a || b) ≡ true → (a ≡ true) ⊎ (b ≡ true)
+either true b h = inl refl
+either false b h = inr h
+
+is_equal : (m n : ℕ) → (m == n) ≡ true → m ≡ n
+is_equal m n t = grind (arith, nat_tests)
+
+-- how long a symbol is that fits
+fits-length : (info : Information) (id : SymbolId) (n k : ℕ) → IsValid info → k < length (ids info) → get_or (ids info) k id ≡ id → fits info id n ≡ true → (n ≡ info.symbol_length) ⊎ ((k + 1 ≡ length (ids info)) × (n ≡ last_length info))
+unfolding fits
+fits-length info id n k v l g h =
+    let at_k : place info id ≡ Some k = (places-inverse info id k).1 (slice_get-get_or (ids info) k id l ∙ ap Some g) in
+    let count = ids_counted info v in
+    let told : fits_at info (Some k) n ≡ true = sym (ap (λ p. fits_at info p n) at_k) ∙ h in
+    elim (either (n == info.symbol_length) ((k + 1 == symbol_count info) && (n == last_length info)) told) [
+      | inl p ↦ inl (is_equal n info.symbol_length p)
+      | inr p ↦
+          let q = both (k + 1 == symbol_count info) (n == last_length info) p in
+          inr (is_equal (k + 1) (symbol_count info) q.0 ∙ sym count, is_equal n (last_length info) q.1)
+    ]
+
+symbol_bytes : List Fact → Key → SymbolId → List ℕ
+symbol_bytes F key id = bytes_of (fact_at F (symbol_address key id))
+
+each-symbol : (F : List Fact) (key : Key) (info : Information) → IsValid info → Whole F key info → Each (symbol_bytes F key) info.symbol_length (last_length info) (ids info)
+unfolding symbol_bytes
+each-symbol F key info v w k id l g =
+    let held = w.each id (k, l, g) in
+    let e : length (bytes_of (fact_at F (symbol_address key id))) ≡ length held.bytes = ap (λ o. length (bytes_of o)) held.value in
+    elim (fits-length info id (length held.bytes) k v l g held.fitting) [
+      | inl p ↦ inl (e ∙ p)
+      | inr p ↦ inr (p.0, e ∙ p.1)
+    ]
+
+-- the last symbol is no longer than the others
+last-short : (info : Information) → 0 < info.symbol_length → last_length info ≤ info.symbol_length
+last-short info h =
+    let b = div_ceil_times info.transfer_length info.symbol_length h in
+    shorter info.transfer_length (symbol_count info) info.symbol_length b.0
+  where
+    shorter : (l t e : ℕ) → l ≤ t * e → l - (t - 1) * e ≤ e
+    shorter l zero e h = omega (arith, h)
+    shorter l (suc t) e h =
+        let less : suc t - 1 ≡ t = omega arith in
+        let times : (suc t - 1) * e ≡ t * e = ap (λ k. k * e) less in
+        omega (arith, h, times-suc t e, times)
+
+enough : (info : Information) (f : SymbolId → List ℕ) (xs : List SymbolId) → length xs ≡ symbol_count info → 0 < length xs → last_length info ≤ info.symbol_length → Each f info.symbol_length (last_length info) xs → info.transfer_length ≤ length (flat_map f xs)
+enough info f [] c p l h = absurd (omega (arith, p))
+enough info f (x ∷ xs) c p l h =
+    let t : length xs ≡ symbol_count info - 1 = omega (arith, c) in
+    let all = length-each f info.symbol_length (last_length info) x xs l h in
+    covers info.transfer_length (length (flat_map f (x ∷ xs))) ((symbol_count info - 1) * info.symbol_length) (subst (λ k. k * info.symbol_length + last_length info ≤ length (flat_map f (x ∷ xs))) t all)
+  where
+    covers : (l n a : ℕ) → a + (l - a) ≤ n → l ≤ n
+    covers l n a h = omega (arith, h)
+
+pub object-length : (F : List Fact) (key : Key) (info : Information) → IsValid info → Whole F key info → length (object F key info) ≡ info.transfer_length
+unfolding object symbol_bytes
+object-length F key info v w = elim (cases_zero info.transfer_length) [
+  | inl z ↦ none info.transfer_length (flat_map (λ id. bytes_of (fact_at F (symbol_address key id))) (ids info)) z
+  | inr l ↦
+      let h = v.parts l in
+      let count = ids_counted info v in
+      let pos = div_ceil-pos info.transfer_length info.symbol_length l in
+      length-take-le info.transfer_length (flat_map (λ id. bytes_of (fact_at F (symbol_address key id))) (ids info))
+      (enough info (symbol_bytes F key) (ids info) count (omega (arith, count, pos)) (last-short info h.symbol) (each-symbol F key info v w))
+]
+  where
+    none : (n : ℕ) (xs : List ℕ) → n ≡ 0 → length (take n xs) ≡ n
+    none n xs z = ap (λ k. length (take k xs)) z ∙ sym z
