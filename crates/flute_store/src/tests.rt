@@ -1,6 +1,7 @@
 //! Worked examples of what a store holds.
 
 mod objects;
+mod slow_listing;
 mod vectors;
 
 use crate::{Shelf, Store, TakeFault, Taken, laws};

@@ -21,7 +21,7 @@ const PADDED: Told = (0, 1, b"o\0\0\0");
 
 const OTHER_LENGTH: Told = (0, 1, b"o!");
 
-fn key() -> Option<Key> {
+pub fn key() -> Option<Key> {
     let session = SessionKey::new(7)?;
     let object = ObjectKey::file(1)?;
     Some(Key { session, object })
@@ -69,7 +69,7 @@ fn gap(sbn: u16, first: u16, last: u16, reason: Reason) -> Gap {
     }
 }
 
-fn partial(missing: u64, conflicting: u64, misfit: u64) -> Status {
+pub fn partial(missing: u64, conflicting: u64, misfit: u64) -> Status {
     Status::Partial {
         missing,
         conflicting,
@@ -77,11 +77,11 @@ fn partial(missing: u64, conflicting: u64, misfit: u64) -> Status {
     }
 }
 
-// The status, the gaps, and at most so many ticks.
-fn check_gaps(
+/// The status, the gaps, and at most so many ticks.
+pub fn check_gaps<const SESSIONS: u32, const OBJECTS: u32, const SYMBOLS: u32>(
     rt: &impl Abort,
     alloc: Global,
-    store: &Small,
+    store: &Store<SESSIONS, OBJECTS, SYMBOLS>,
     status: Status,
     gaps: &[Gap],
     ticks: u64,
@@ -272,4 +272,5 @@ fn an_object_may_lack_its_information(rt: HostRuntime) {
     assert!(rt; sink.as_slice().is_empty());
     laws::objects_agree();
     laws::gaps_are_maximal_runs();
+    laws::whole_objects_have_their_length();
 }
