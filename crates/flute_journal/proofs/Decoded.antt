@@ -1,6 +1,7 @@
 -- What the functions that decode come to, of plain bytes.
 use Rattle.std.proofs.Common.{◌≡◌, ℕ, ◌-◌, ◌≤◌, true, false, not, List, [], ◌∷◌, ◌++◌, length, take, drop, take_all, Option, Result, Ok, Err, refl, sym, ap, ◌∙◌, subst, append_assoc, arith}
 use Rattle.std.proofs.lemmas.List.{length-drop, take-append-drop, append-nil, take_at}
+use Rattle.std.proofs.lemmas.Slice.Eq.{bytes_eq-Decides}
 use Rattle.std.specs.Prelude.{bytes_eq}
 use Rattle.std.specs.List.{AllByRecursion, IsSplitAt}
 use Rattle.flute_parts.specs.BigEndian.{big_endian}
@@ -12,8 +13,8 @@ use Rattle.flute_journal.specs.declared.format.Fixed.{Fixed}
 use Rattle.flute_journal.specs.declared.fault.ReadFault.{ReadFault}
 use Rattle.flute_journal.specs.declared.fault.ReadFault.TheVariants as faults
 use Rattle.flute_journal.specs.Numbers.{in_bytes}
-use Rattle.flute_journal.specs.Format.{magic, version, key_bytes, info_bytes}
-use Rattle.flute_journal.specs.Faults.{cut, is_key, key_in, info_in, header_fault, rest_checks}
+use Rattle.flute_journal.specs.Format.{key_bytes, info_bytes}
+use Rattle.flute_journal.specs.Faults.{cut, is_key, key_in, info_in, opening_fault, rest_checks}
 use Rattle.flute_journal.specs.Journal.{IsByte, IsKey}
 use Rattle.flute_journal.specs.Parsing.{rest_size, fixed_size, byte_of, at_place, fixed_bytes, FixedIs, StopsFront, Parses, rest_fault, body_fault, bytes_fault}
 use Rattle.flute_journal.proofs.Numbers.{octets-take, spelled, spelled_pair}
@@ -31,10 +32,20 @@ joined bs a b n s = sym (take-append-drop n bs) ∙ ap (λ (x : List ℕ). x ++ 
 front_octets : (bs a b : List ℕ) (n : ℕ) → IsSplitAt bs n a b → AllByRecursion IsByte bs → AllByRecursion IsByte a
 front_octets bs a b n s h = subst (AllByRecursion IsByte) (sym s.1) (octets-take n bs h)
 
-pub header_version : (bs a b : List ℕ) → length bs ≤ 6 → IsSplitAt bs 4 a b → bytes_eq a magic ≡ true → 2 ≤ length b → bytes_eq b version ≡ false → StopsFront 6 header_fault bs faults.Version
-header_version bs a b most s e some wrong =
-    stops_here 6 header_fault bs faults.Version (λ h. cc) (λ h. cc)
-    (λ r. ap (λ (x : List ℕ). header_fault (x ++ r)) (joined bs a b 4 s) ∙ version_wrong a b r s.3 (omega (arith, most, some, s.4)) e wrong)
+pub opening_version : (o bs a b : List ℕ) → length bs ≤ 6 → IsSplitAt bs 4 a b → bytes_eq a (take 4 o) ≡ true → 2 ≤ length b → bytes_eq b (take 2 (drop 4 o)) ≡ false
+    → StopsFront 6 (opening_fault o) bs faults.Version
+opening_version o bs a b most s e some wrong =
+    stops_here 6 (opening_fault o) bs faults.Version (λ h. cc) (λ h. cc)
+    (λ r. ap (λ (x : List ℕ). opening_fault o (x ++ r)) (joined bs a b 4 s) ∙ version_wrong o a b r s.3 (omega (arith, most, some, s.4)) e wrong)
+
+pub opening_read : (o bs a b : List ℕ) → length o ≡ 6 → length bs ≤ 6 → IsSplitAt bs 4 a b → bytes_eq a (take 4 o) ≡ true → 2 ≤ length b → bytes_eq b (take 2 (drop 4 o)) ≡ true → bs ≡ o
+opening_read o bs a b len most s e some e' =
+    let front : a ≡ take 4 o = (bytes_eq-Decides a (take 4 o)).0 e in
+    let back : b ≡ take 2 (drop 4 o) = (bytes_eq-Decides b (take 2 (drop 4 o))).0 e' in
+    joined bs a b 4 s
+    ∙ ap (λ (x : List ℕ). x ++ b) front
+    ∙ ap (λ (x : List ℕ). take 4 o ++ x) (back ∙ take_all 2 (drop 4 o) (omega (arith, len, length-drop 4 o)))
+    ∙ take-append-drop 4 o
 
 -- the number at the end was read, and nothing stands behind it
 pub end_read : (bs a b : List ℕ) (n count : ℕ) → IsSplitAt bs 8 a b → AllByRecursion IsByte bs → length b ≡ 0 → n ≡ big_endian a → n ≡ count → bs ≡ in_bytes 8 count

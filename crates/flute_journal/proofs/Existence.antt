@@ -1,33 +1,39 @@
 -- Bytes are a journal or stop at a fault.
-use Rattle.std.proofs.Common.{◌≡◌, true, ℕ, zero, suc, ◌<◌, ◌≤◌, List, [], ◌∷◌, ◌++◌, length, take, drop, Option, Some, None, IsTrue, inl, inr, ◌⊎◌, refl, sym, ap, ◌∙◌, subst, append_assoc, arith}
+use Rattle.std.proofs.Common.{◌≡◌, true, ℕ, zero, suc, ◌<◌, ◌≤◌, List, [], ◌∷◌, ◌++◌, length, take, drop, take_all, Option, Some, None, IsTrue, inl, inr, ◌⊎◌, refl, sym, ap, ◌∙◌, subst, append_assoc, arith}
 use Rattle.std.specs.List.{flat_map, AllByRecursion}
-use Rattle.std.proofs.lemmas.List.{length-append, take-append-drop, drop-drop, flat_map_more}
+use Rattle.std.proofs.lemmas.List.{length-append, length-drop, take-append-drop, drop-drop, flat_map_more}
 use Rattle.std.proofs.lemmas.Slice.Eq.{bytes_eq-Decides}
 use Rattle.flute_parts.specs.Addresses.{address}
 use Rattle.flute_parts.specs.declared.address.Address.{Address}
 use Rattle.flute_parts.specs.declared.fact.Fact.{Fact}
 use Rattle.flute_journal.specs.declared.fault.ReadFault.{ReadFault}
-use Rattle.flute_journal.specs.Format.{magic, version, header, entry}
-use Rattle.flute_journal.specs.Faults.{is_after, header_fault, next_fault}
+use Rattle.flute_journal.specs.Format.{header, entry}
+use Rattle.flute_journal.specs.Faults.{is_after, opening_fault, header_fault, next_fault}
 use Rattle.flute_journal.specs.Journal.{IsByte, IsFact, AreEntries, IsJournalWithin, Stops, in_header, behind, last_of, before}
 use Rattle.flute_journal.proofs.Numbers.{octets-drop}
 use Rattle.flute_journal.proofs.Orders.{Rises, rising-rises, rises-rising}
 use Rattle.flute_journal.proofs.Parts.{entry_least}
 use Rattle.flute_journal.proofs.Found.{first-none, is_true, Next, at_end, at_entry, next_found}
 
-pub header_is : (y : List ℕ) → header_fault y ≡ None → y ≡ header ++ drop 6 y
-header_is y e =
+pub opening_is : (o y : List ℕ) → length o ≡ 6 → opening_fault o y ≡ None → y ≡ o ++ drop 6 y
+opening_is o y len e =
     let a = first-none _ _ _ e in
     let b = first-none _ _ _ a.1 in
     let c = first-none _ _ _ b.1 in
     let d = first-none _ _ _ c.1 in
-    let front : take 4 y ≡ magic = (bytes_eq-Decides (take 4 y) magic).0 (is_true _ b.0) in
-    let back : take 2 (drop 4 y) ≡ version = (bytes_eq-Decides (take 2 (drop 4 y)) version).0 (is_true _ d.0) in
+    let front : take 4 y ≡ take 4 o = (bytes_eq-Decides (take 4 y) (take 4 o)).0 (is_true _ b.0) in
+    let back : take 2 (drop 4 y) ≡ take 2 (drop 4 o) = (bytes_eq-Decides (take 2 (drop 4 y)) (take 2 (drop 4 o))).0 (is_true _ d.0) in
+    let rest : take 2 (drop 4 o) ≡ drop 4 o = take_all 2 (drop 4 o) (omega (arith, len, length-drop 4 o)) in
     sym (take-append-drop 4 y)
     ∙ ap (λ (l : List ℕ). l ++ drop 4 y) front
-    ∙ ap (λ (l : List ℕ). magic ++ l) (sym (take-append-drop 2 (drop 4 y)))
-    ∙ ap (λ (l : List ℕ). magic ++ (l ++ drop 2 (drop 4 y))) back
-    ∙ ap (λ (l : List ℕ). magic ++ (version ++ l)) (drop-drop 2 4 y)
+    ∙ ap (λ (l : List ℕ). take 4 o ++ l) (sym (take-append-drop 2 (drop 4 y)))
+    ∙ ap (λ (l : List ℕ). take 4 o ++ (l ++ drop 2 (drop 4 y))) (back ∙ rest)
+    ∙ sym (append_assoc (take 4 o) (drop 4 o) (drop 2 (drop 4 y)))
+    ∙ ap (λ (l : List ℕ). l ++ drop 2 (drop 4 y)) (take-append-drop 4 o)
+    ∙ ap (λ (l : List ℕ). o ++ l) (drop-drop 2 4 y)
+
+pub header_is : (y : List ℕ) → header_fault y ≡ None → y ≡ header ++ drop 6 y
+header_is y e = opening_is header y refl e
 
 pub all_more : (es : List Fact) (f : Fact) → AllByRecursion IsFact es → IsFact f → AllByRecursion IsFact (es ++ f ∷ [])
 all_more [] f p v = (v, tt)
@@ -49,7 +55,7 @@ entries_more limit es f a v o few = record {
 abbrev pub Decided : ℕ → List ℕ → Type 0
 Decided limit bytes = ((es : List Fact) × IsJournalWithin limit bytes es) ⊎ ((es : List Fact) × ((f : ReadFault) × Stops bytes limit es f))
 
-octets-behind : (xs ys : List ℕ) → AllByRecursion IsByte (xs ++ ys) → AllByRecursion IsByte ys
+pub octets-behind : (xs ys : List ℕ) → AllByRecursion IsByte (xs ++ ys) → AllByRecursion IsByte ys
 octets-behind [] ys h = h
 octets-behind (x ∷ xs) ys h = octets-behind xs ys h.1
 

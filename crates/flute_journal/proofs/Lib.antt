@@ -14,3 +14,5 @@ pub mod Existence
 pub mod Whole
 pub mod Saving
 pub mod Loading
+pub mod Records
+pub mod Files

@@ -15,7 +15,7 @@ use Rattle.flute_journal.specs.declared.fault.ReadFault.TheVariants as faults
 use Rattle.flute_parts.specs.BigEndian.{big_endian}
 use Rattle.flute_journal.specs.Numbers.{in_bytes}
 use Rattle.flute_journal.specs.Format.{magic, version, header, key_bytes, id_bytes, symbol_bytes, rest_bytes, body, entry, kind, key_of}
-use Rattle.flute_journal.specs.Faults.{Check, Before, first_fault, cut, id_in, is_after, in_order, is_kind, id_checks, bytes_checks, rest_checks, body_checks, entry_checks, end_checks, header_fault, next_fault}
+use Rattle.flute_journal.specs.Faults.{Check, Before, first_fault, cut, id_in, is_after, in_order, is_kind, id_checks, bytes_checks, rest_checks, body_checks, entry_checks, end_checks, opening_fault, header_fault, next_fault}
 use Rattle.flute_journal.specs.Parsing.{byte_of, rest_size, fixed_size, at_place, rest_fault, body_fault, bytes_fault, cut_fault, IsBody}
 use Rattle.flute_journal.specs.Input.{IsWithin}
 use Rattle.flute_journal.specs.Journal.{IsKey, IsId, IsFact}
@@ -25,36 +25,36 @@ use Rattle.flute_journal.proofs.Entries.{key-injective, id-injective}
 
 -- the header
 
-abbrev header_checks : List ℕ → List ℕ → List ℕ → List Check
-header_checks bytes front back =
-    (not (bytes_eq front magic), faults.Magic) ∷ cut 6 bytes ∷ (not (bytes_eq back version), faults.Version) ∷ []
+abbrev opening_checks : List ℕ → List ℕ → List ℕ → List ℕ → List Check
+opening_checks opening bytes front back =
+    (not (bytes_eq front (take 4 opening)), faults.Magic) ∷ cut 6 bytes ∷ (not (bytes_eq back (take 2 (drop 4 opening))), faults.Version) ∷ []
 
-pub magic_wrong : (bs r : List ℕ) → length bs ≡ 4 → bytes_eq bs magic ≡ false → header_fault (bs ++ r) ≡ Some faults.Magic
-magic_wrong bs r len e =
-    first-pass (cut 4 (bs ++ r)) (header_checks (bs ++ r) (take 4 (bs ++ r)) (take 2 (drop 4 (bs ++ r)))) (cut-passes 4 bs r (omega (arith, len)))
-    ∙ ap (λ (x : List ℕ). first_fault (header_checks (bs ++ r) x (take 2 (drop 4 (bs ++ r))))) (take_at bs r 4 len)
-    ∙ first-stop (not (bytes_eq bs magic), faults.Magic) (cut 6 (bs ++ r) ∷ (not (bytes_eq (take 2 (drop 4 (bs ++ r))) version), faults.Version) ∷ []) (ap not e)
+pub magic_wrong : (o bs r : List ℕ) → length bs ≡ 4 → bytes_eq bs (take 4 o) ≡ false → opening_fault o (bs ++ r) ≡ Some faults.Magic
+magic_wrong o bs r len e =
+    first-pass (cut 4 (bs ++ r)) (opening_checks o (bs ++ r) (take 4 (bs ++ r)) (take 2 (drop 4 (bs ++ r)))) (cut-passes 4 bs r (omega (arith, len)))
+    ∙ ap (λ (x : List ℕ). first_fault (opening_checks o (bs ++ r) x (take 2 (drop 4 (bs ++ r))))) (take_at bs r 4 len)
+    ∙ first-stop (not (bytes_eq bs (take 4 o)), faults.Magic) (cut 6 (bs ++ r) ∷ (not (bytes_eq (take 2 (drop 4 (bs ++ r))) (take 2 (drop 4 o))), faults.Version) ∷ []) (ap not e)
 
-pub header_comes : (bs v r : List ℕ) → length bs ≡ 4 → length v ≡ 2 → bytes_eq bs magic ≡ true
-    → header_fault ((bs ++ v) ++ r) ≡ first_fault ((not (bytes_eq v version), faults.Version) ∷ [])
-header_comes bs v r len len' e =
+pub opening_comes : (o bs v r : List ℕ) → length bs ≡ 4 → length v ≡ 2 → bytes_eq bs (take 4 o) ≡ true
+    → opening_fault o ((bs ++ v) ++ r) ≡ first_fault ((not (bytes_eq v (take 2 (drop 4 o))), faults.Version) ∷ [])
+opening_comes o bs v r len len' e =
     let whole = (bs ++ v) ++ r in
     let six : length (bs ++ v) ≡ 6 = omega (arith, len, len', length-append bs v) in
     let grouped : whole ≡ bs ++ (v ++ r) = append_assoc bs v r in
     let front : take 4 whole ≡ bs = ap (take 4) grouped ∙ take_at bs (v ++ r) 4 len in
     let back : take 2 (drop 4 whole) ≡ v = ap (λ (x : List ℕ). take 2 (drop 4 x)) grouped ∙ ap (take 2) (drop_at bs (v ++ r) 4 len) ∙ take_at v r 2 len' in
-    first-pass (cut 4 whole) (header_checks whole (take 4 whole) (take 2 (drop 4 whole))) (cut-passes 4 (bs ++ v) r (omega (arith, six)))
-    ∙ ap (λ (x : List ℕ). first_fault (header_checks whole x (take 2 (drop 4 whole)))) front
-    ∙ first-pass (not (bytes_eq bs magic), faults.Magic) (cut 6 whole ∷ (not (bytes_eq (take 2 (drop 4 whole)) version), faults.Version) ∷ []) (ap not e)
-    ∙ first-pass (cut 6 whole) ((not (bytes_eq (take 2 (drop 4 whole)) version), faults.Version) ∷ []) (cut-passes 6 (bs ++ v) r (omega (arith, six)))
-    ∙ ap (λ (x : List ℕ). first_fault ((not (bytes_eq x version), faults.Version) ∷ [])) back
+    first-pass (cut 4 whole) (opening_checks o whole (take 4 whole) (take 2 (drop 4 whole))) (cut-passes 4 (bs ++ v) r (omega (arith, six)))
+    ∙ ap (λ (x : List ℕ). first_fault (opening_checks o whole x (take 2 (drop 4 whole)))) front
+    ∙ first-pass (not (bytes_eq bs (take 4 o)), faults.Magic) (cut 6 whole ∷ (not (bytes_eq (take 2 (drop 4 whole)) (take 2 (drop 4 o))), faults.Version) ∷ []) (ap not e)
+    ∙ first-pass (cut 6 whole) ((not (bytes_eq (take 2 (drop 4 whole)) (take 2 (drop 4 o))), faults.Version) ∷ []) (cut-passes 6 (bs ++ v) r (omega (arith, six)))
+    ∙ ap (λ (x : List ℕ). first_fault ((not (bytes_eq x (take 2 (drop 4 o))), faults.Version) ∷ [])) back
 
-pub version_wrong : (bs v r : List ℕ) → length bs ≡ 4 → length v ≡ 2 → bytes_eq bs magic ≡ true → bytes_eq v version ≡ false → header_fault ((bs ++ v) ++ r) ≡ Some faults.Version
-version_wrong bs v r len len' e wrong =
-    header_comes bs v r len len' e ∙ first-stop (not (bytes_eq v version), faults.Version) [] (ap not wrong)
+pub version_wrong : (o bs v r : List ℕ) → length bs ≡ 4 → length v ≡ 2 → bytes_eq bs (take 4 o) ≡ true → bytes_eq v (take 2 (drop 4 o)) ≡ false → opening_fault o ((bs ++ v) ++ r) ≡ Some faults.Version
+version_wrong o bs v r len len' e wrong =
+    opening_comes o bs v r len len' e ∙ first-stop (not (bytes_eq v (take 2 (drop 4 o))), faults.Version) [] (ap not wrong)
 
 pub header_passes : (r : List ℕ) → header_fault (header ++ r) ≡ None
-header_passes r = header_comes magic version r refl refl refl
+header_passes r = opening_comes header magic version r refl refl refl
 
 -- the end
 

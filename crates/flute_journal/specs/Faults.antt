@@ -15,7 +15,7 @@ use Rattle.flute_parts.specs.declared.address.Address.{Address}
 use Rattle.flute_journal.specs.declared.fault.ReadFault.{ReadFault}
 use Rattle.flute_journal.specs.declared.fault.ReadFault.TheVariants as faults
 use Rattle.flute_journal.specs.Numbers.{number_at}
-use Rattle.flute_journal.specs.Format.{magic, version}
+use Rattle.flute_journal.specs.Format.{header}
 
 -- whether the bytes have a fault, and the fault
 abbrev pub Check : Type 0
@@ -30,13 +30,17 @@ first_fault (check ∷ checks) = if check.0 then Some check.1 else first_fault c
 abbrev pub cut : ℕ → List ℕ → Check
 cut n bytes = (nat_lt (length bytes) n, faults.Cut)
 
-abbrev pub header_fault : List ℕ → Option ReadFault
-header_fault bytes = first_fault (
+-- of a file that begins with these six bytes: a magic number of four, and a version
+abbrev pub opening_fault : List ℕ → List ℕ → Option ReadFault
+opening_fault opening bytes = first_fault (
     cut 4 bytes
-    ∷ (not (bytes_eq (take 4 bytes) magic), faults.Magic)
+    ∷ (not (bytes_eq (take 4 bytes) (take 4 opening)), faults.Magic)
     ∷ cut 6 bytes
-    ∷ (not (bytes_eq (take 2 (drop 4 bytes)) version), faults.Version)
+    ∷ (not (bytes_eq (take 2 (drop 4 bytes)) (take 2 (drop 4 opening))), faults.Version)
     ∷ [])
+
+abbrev pub header_fault : List ℕ → Option ReadFault
+header_fault bytes = opening_fault header bytes
 
 -- The fields of a key, of a symbol's id and of information.
 

@@ -6,6 +6,8 @@ pub mod Input
 pub mod Parsing
 pub mod Reading
 pub mod Writing
+pub mod Records
+pub mod DatagramReaders
 pub mod Examples
 pub mod Readers
 pub mod Whole

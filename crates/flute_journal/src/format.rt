@@ -5,9 +5,9 @@ ghost use Rattle.flute_journal.specs.Parsing.{byte_of, fixed_size};
 
 mod decode;
 mod encode;
-mod number;
+pub mod number;
 
-pub use decode::{check_end, check_header, parse};
+pub use decode::{check_end, check_opening, parse};
 pub use encode::{Head, end_of, head_of, symbol_of};
 use flute_parts::{Fact, Key, SymbolId};
 

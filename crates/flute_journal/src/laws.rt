@@ -7,6 +7,7 @@ ghost use Rattle.flute_journal.specs.declared.fault.ReadFault.{ReadFault as Faul
 ghost use Rattle.flute_journal.specs.Format.{header, entry, spelling};
 ghost use Rattle.flute_journal.specs.Journal.{IsByte, IsFact, Journal, Stops, IsJournalWithin};
 ghost use Rattle.flute_journal.specs.declared.fault.ReadFault.TheVariants as faults;
+ghost use Rattle.flute_journal.specs.Records.{IsFileOf, IsFileWithin, FileStops};
 
 /// What an entry spells is read in one way, whatever follows it.
 pub fn entry_has_one_reading()
@@ -58,4 +59,20 @@ pub fn rising_facts_have_one_spelling()
 pub fn bytes_are_a_journal_or_stop()
     ensures { (bs : List ℕ) (limit : ℕ) → AllByRecursion IsByte bs
         → ((es : List Fact) × IsJournalWithin limit bs es) ⊎ ((es : List Fact) × ((f : Fault) × Stops bs limit es f)) }
+{}
+
+/// A datagram file is the file of one list of datagrams.
+pub fn a_file_has_one_reading()
+    ensures { (bs : List ℕ) (ds es : List (List ℕ)) → IsFileOf bs ds → IsFileOf bs es → ds ≡ es }
+{}
+
+/// Bytes aren't both a datagram file within the bound and at fault.
+pub fn a_file_has_no_fault()
+    ensures { (bs : List ℕ) (limit : ℕ) (ds es : List (List ℕ)) (f : Fault) → IsFileWithin limit bs ds → FileStops bs limit es f → ⊥ }
+{}
+
+/// Bytes are a datagram file within the bound, or they stop at a fault.
+pub fn bytes_are_a_file_or_stop()
+    ensures { (bs : List ℕ) (limit : ℕ) → AllByRecursion IsByte bs
+        → ((ds : List (List ℕ)) × IsFileWithin limit bs ds) ⊎ ((ds : List (List ℕ)) × ((f : Fault) × FileStops bs limit ds f)) }
 {}

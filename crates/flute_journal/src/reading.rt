@@ -11,7 +11,7 @@ ghost use Rattle.flute_journal.specs.Parsing.{at_place, fixed_size, fixed_bytes,
 ghost use Rattle.flute_journal.specs.Reading.{ReadsNext, ReadsEnd};
 
 use crate::fault::ReadFault;
-use crate::format::{END, Fixed, Kind, LONGEST, check_end, check_header, parse};
+use crate::format::{END, Fixed, HEADER, Kind, LONGEST, check_end, check_opening, parse};
 use crate::input::{fill, front};
 use flute_parts::{Address, Bytes, Fact, Source};
 use std::alloc::Global;
@@ -24,7 +24,7 @@ pub fn read_header<R: Source>(source: &mut R) -> Result<(), ReadFault>
 {
     let mut buffer = [0; 6];
     let front = front(source, &mut buffer)?;
-    check_header(front)
+    check_opening(&HEADER, front)
 }
 
 /// Reads the next entry, or the end, behind so many entries, of which the last is at `last`. A journal may have

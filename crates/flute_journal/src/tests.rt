@@ -1,5 +1,6 @@
 //! The worked examples of the format: what each journal tells, what is written, and why other bytes are none.
 
+mod datagram_files;
 mod faults;
 mod journals;
 mod vectors;

@@ -3,8 +3,8 @@
 ghost use Rattle.std.specs.Prelude.{◌≡◌, ◌<◌, ◌≤◌, ◌++◌, IsTrue, MatchOption, MatchResult, length, true, false, Some};
 ghost use Rattle.flute_parts.specs.Information.{info_fault};
 ghost use Rattle.flute_journal.specs.Numbers.{in_bytes};
-ghost use Rattle.flute_journal.specs.Format.{header, key_bytes, id_bytes};
-ghost use Rattle.flute_journal.specs.Faults.{is_after, is_key, key_in as key_of_bytes, info_in as info_of_bytes, header_fault};
+ghost use Rattle.flute_journal.specs.Format.{key_bytes, id_bytes};
+ghost use Rattle.flute_journal.specs.Faults.{is_after, is_key, key_in as key_of_bytes, info_in as info_of_bytes, opening_fault};
 ghost use Rattle.flute_journal.specs.Journal.{IsKey, IsId, IsInfo};
 ghost use Rattle.flute_journal.specs.Parsing.{FixedIs, Parses, StopsFront, fixed_bytes, fixed_size, rest_size, body_fault, rest_fault, bytes_fault, end_fault};
 ghost use Rattle.flute_journal.specs.declared.format.Kind.TheVariants as kinds;
@@ -15,21 +15,21 @@ use super::{Fixed, Kind};
 use crate::fault::ReadFault;
 use flute_parts::{Address, Fact, Info, InfoFault, Key, ObjectKey, Part, SessionKey, SymbolId};
 
-/// Looks at the magic number and the version.
-pub fn check_header(bytes: &[u8]) -> Result<(), ReadFault>
+/// Looks at the first six bytes of a file: its magic number and its version.
+pub fn check_opening(opening: &[u8; 6], bytes: &[u8]) -> Result<(), ReadFault>
     requires { length bytes.now ≤ 6 }
-    ensures { Parses 6 (λ _. bytes.now ≡ header) header_fault bytes.now result }
+    ensures { Parses 6 (λ _. bytes.now ≡ opening.now) (opening_fault opening.now) bytes.now result }
 {
     let Some((magic, rest)) = bytes.split_at_checked(4) else {
         return Err(ReadFault::Cut);
     };
-    if magic != b"FLJN".as_slice() {
+    if magic != &opening[..4] {
         return Err(ReadFault::Magic);
     }
     if rest.len() < 2 {
         return Err(ReadFault::Cut);
     }
-    if rest != [0, 1].as_slice() {
+    if rest != &opening[4..] {
         return Err(ReadFault::Version);
     }
     Ok(())

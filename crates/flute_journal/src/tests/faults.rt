@@ -239,4 +239,7 @@ fn laws_can_be_called() {
     laws::first_entries_are_below();
     laws::rising_facts_have_one_spelling();
     laws::bytes_are_a_journal_or_stop();
+    laws::a_file_has_one_reading();
+    laws::a_file_has_no_fault();
+    laws::bytes_are_a_file_or_stop();
 }

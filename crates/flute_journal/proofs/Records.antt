@@ -1,0 +1,179 @@
+-- The records of a datagram file.
+use Rattle.std.proofs.Common.{◌≡◌, ℕ, ◌+◌, ◌^◌, ◌<◌, ◌≤◌, leb, List, [], ◌∷◌, ◌++◌, length, take, drop, Option, Some, None, inl, inr, refl, sym, ap, ◌∙◌, subst, append_assoc, arith}
+use Rattle.std.proofs.lemmas.Bool.{le-leb, lt-leb}
+use Rattle.std.proofs.lemmas.List.{take_at, drop_at, length-append, append-nil, flat_map_more}
+use Rattle.std.specs.List.{flat_map, AllByRecursion}
+use Rattle.std.specs.Io.KnownBytes.{Consumes, IsAtEnd}
+use Rattle.std.proofs.KnownBytes.{Consumes-trans, Consumes-nil}
+use Rattle.std.specs.Prelude.{IfSome}
+use Rattle.flute_parts.specs.BigEndian.{big_endian}
+use Rattle.flute_journal.specs.declared.fault.ReadFault.{ReadFault}
+use Rattle.flute_journal.specs.declared.fault.ReadFault.TheVariants as faults
+use Rattle.flute_journal.specs.declared.datagram_reader.FileStage.{FileStage}
+use Rattle.flute_journal.specs.declared.datagram_reader.FileStage.TheVariants.{Header, Records, Ended, Failed}
+use Rattle.flute_journal.specs.Numbers.{in_bytes}
+use Rattle.flute_journal.specs.Faults.{first_fault, cut, opening_fault}
+use Rattle.flute_journal.specs.Input.{IsFaultOf}
+use Rattle.flute_journal.specs.Journal.{IsByte}
+use Rattle.flute_journal.specs.Parsing.{cut_fault}
+use Rattle.flute_journal.specs.Records.{file_header, record_of, IsDatagram, AreDatagrams, IsFileWithin, FileStops, in_header, behind, HasFileFault, record_checks, record_fault, given, opening, or_else, file_fault_from, GivesRecord, GivesNone, GivesFileFault}
+use Rattle.flute_journal.proofs.Checks.{first-pass, first-stop, cut-passes}
+use Rattle.flute_journal.proofs.Fronts.{fault-behind}
+use Rattle.flute_journal.proofs.Existence.{opening_is}
+
+-- a byte follows as many records as there may be
+pub too_many_records : (limit count : ℕ) (front r : List ℕ) → 0 < length front → limit ≤ count → record_fault limit count (front ++ r) ≡ Some faults.TooMany
+too_many_records limit count [] r some le = absurd (omega (arith, some))
+too_many_records limit count (b ∷ bs) r some le =
+    first-stop (leb limit count, faults.TooMany) (cut 2 (b ∷ bs ++ r) ∷ cut (big_endian (take 2 (b ∷ bs ++ r))) (drop 2 (b ∷ bs ++ r)) ∷ []) (le-leb limit count le)
+
+-- a record within the bound is cut within its bytes, or not at all
+record_checked : (limit count : ℕ) (front r : List ℕ) → count < limit → length front ≡ 2 → first_fault (record_checks limit count (front ++ r)) ≡ cut_fault (big_endian front) r
+record_checked limit count front r few len =
+    let whole = front ++ r in
+    first-pass (leb limit count, faults.TooMany) (cut 2 whole ∷ cut (big_endian (take 2 whole)) (drop 2 whole) ∷ []) (lt-leb limit count few)
+    ∙ first-pass (cut 2 whole) (cut (big_endian (take 2 whole)) (drop 2 whole) ∷ []) (cut-passes 2 front r (omega (arith, len)))
+    ∙ ap (λ (x : List ℕ). first_fault (cut (big_endian x) (drop 2 whole) ∷ [])) (take_at front r 2 len)
+    ∙ ap (λ (x : List ℕ). first_fault (cut (big_endian front) x ∷ [])) (drop_at front r 2 len)
+
+pub record_comes : (limit count n : ℕ) (front r : List ℕ) → count < limit → length front ≡ 2 → n ≡ big_endian front → record_fault limit count (front ++ r) ≡ cut_fault n r
+record_comes limit count n [] r few len is = absurd (omega (arith, len))
+record_comes limit count n (b ∷ bs) r few len is = record_checked limit count (b ∷ bs) r few len ∙ ap (λ k. cut_fault k r) (sym is)
+
+-- the bytes of a record could not be read
+pub record_stops : (limit count n : ℕ) (u v : Option (List ℕ)) (front : List ℕ) (f : ReadFault) → count < limit → length front ≡ 2 → n ≡ big_endian front
+    → Consumes u v front → IsFaultOf (cut_fault n) v f → IsFaultOf (record_fault limit count) u f
+record_stops limit count n u v front f few len is took h =
+    fault-behind u v front (record_fault limit count) (cut_fault n) f took (λ r e. record_comes limit count n front r few len is ∙ e) h
+
+-- a record was read whole
+pub record_read : (limit count n : ℕ) (u v w : Option (List ℕ)) (front d : List ℕ) → count < limit → in_bytes 2 n ≡ front → n < 2 ^ 16
+    → Consumes u v front → length d ≡ n → AllByRecursion IsByte d → Consumes v w d → IsDatagram d × (count < limit) × Consumes u w (record_of d)
+record_read limit count n u v w front d few spells small took size octs rest = (
+  record { short = omega (arith, size, small); octets = octs },
+  few,
+  subst (λ (x : List ℕ). Consumes u w (x ++ d)) (sym (ap (in_bytes 2) size ∙ spells)) (Consumes-trans u v w front d took rest),
+)
+
+-- A file that is read record by record.
+
+-- where a reader stands behind these records
+abbrev pub file_stage_at : List (List ℕ) → FileStage
+file_stage_at [] = Header
+file_stage_at (d ∷ ds) = Records (length (d ∷ ds))
+
+-- what was read up to the next record, without what stands before it
+abbrev pub file_read_of : List (List ℕ) → List ℕ
+file_read_of [] = []
+file_read_of (d ∷ ds) = file_header ++ flat_map record_of (d ∷ ds)
+
+-- these records were read, and nothing else
+pub record FileSofar (limit : ℕ) (first now : Option (List ℕ)) (stage : FileStage) (datagrams : List (List ℕ)) : Type 0 where
+  pub are_datagrams : AreDatagrams limit datagrams
+  pub stage_is : stage ≡ file_stage_at datagrams
+  pub read : Consumes first now (file_read_of datagrams)
+
+pub file_sofar-none : (limit : ℕ) (u : Option (List ℕ)) → FileSofar limit u u Header []
+file_sofar-none limit u = record {
+  are_datagrams = record { valid = tt; few = omega arith };
+  stage_is = refl;
+  read = Consumes-nil u;
+}
+
+given_is : (ds : List (List ℕ)) → given (file_stage_at ds) ≡ length ds
+given_is [] = refl
+given_is (d ∷ ds) = refl
+
+stage_more : (ds : List (List ℕ)) (d : List ℕ) → Records (length ds + 1) ≡ file_stage_at (ds ++ d ∷ [])
+stage_more [] d = refl
+stage_more (e ∷ ds) d = ap Records (let n : length (e ∷ ds) + 1 ≡ length (e ∷ (ds ++ d ∷ [])) = omega (arith, length-append ds (d ∷ [])) in n)
+
+read_more : (ds : List (List ℕ)) (d : List ℕ) → file_read_of ds ++ (opening (file_stage_at ds) ++ record_of d) ≡ file_read_of (ds ++ d ∷ [])
+read_more [] d = flat_map_more record_of file_header [] d
+read_more (e ∷ ds) d = flat_map_more record_of file_header (e ∷ ds) d
+
+read_all : (ds : List (List ℕ)) → file_read_of ds ++ opening (file_stage_at ds) ≡ file_header ++ flat_map record_of ds
+read_all [] = refl
+read_all (d ∷ ds) = append-nil (file_header ++ flat_map record_of (d ∷ ds))
+
+all_more : (ds : List (List ℕ)) (d : List ℕ) → AllByRecursion IsDatagram ds → IsDatagram d → AllByRecursion IsDatagram (ds ++ d ∷ [])
+all_more [] d p v = (v, tt)
+all_more (e ∷ ds) d p v = (p.0, all_more ds d p.1 v)
+
+pub datagrams_more : (limit : ℕ) (ds : List (List ℕ)) (d : List ℕ) → AreDatagrams limit ds → IsDatagram d → length ds < limit → AreDatagrams limit (ds ++ d ∷ [])
+datagrams_more limit ds d a v few = record { valid = all_more ds d a.valid v; few = omega (arith, few, length-append ds (d ∷ [])) }
+
+next_at : (limit : ℕ) (u v w : Option (List ℕ)) (new : FileStage) (ds : List (List ℕ)) (d : List ℕ) → AreDatagrams limit ds → Consumes u v (file_read_of ds)
+    → GivesRecord limit (file_stage_at ds) new v w d → FileSofar limit u w new (ds ++ d ∷ [])
+next_at limit u v w new ds d a took h = record {
+  are_datagrams = datagrams_more limit ds d a h.valid (omega (arith, h.within, given_is ds));
+  stage_is = h.goes_on ∙ ap (λ k. Records (k + 1)) (given_is ds) ∙ stage_more ds d;
+  read = subst (Consumes u w) (read_more ds d) (Consumes-trans u v w (file_read_of ds) (opening (file_stage_at ds) ++ record_of d) took h.bytes);
+}
+
+pub file_sofar-next : (limit : ℕ) (u v w : Option (List ℕ)) (old new : FileStage) (ds : List (List ℕ)) (d : List ℕ) → FileSofar limit u v old ds
+    → GivesRecord limit old new v w d → FileSofar limit u w new (ds ++ d ∷ [])
+file_sofar-next limit u v w old new ds d s h =
+    next_at limit u v w new ds d s.are_datagrams s.read (subst (λ (x : FileStage). GivesRecord limit x new v w d) s.stage_is h)
+
+not_ended : (ds : List (List ℕ)) → file_stage_at ds ≡ Ended → ⊥
+not_ended [] e = cc
+not_ended (d ∷ ds) e = cc
+
+not_failed : (ds : List (List ℕ)) (f : ReadFault) → file_stage_at ds ≡ Failed f → ⊥
+not_failed [] f e = cc
+not_failed (d ∷ ds) f e = cc
+
+whole_file : (limit : ℕ) (u w : Option (List ℕ)) (ds : List (List ℕ)) → AreDatagrams limit ds → Consumes u w (file_header ++ flat_map record_of ds) → IsAtEnd w
+    → IfSome u (λ bytes. IsFileWithin limit bytes ds)
+whole_file limit None w ds a took e = tt
+whole_file limit (Some x) None ds a took e = absurd took
+whole_file limit (Some x) (Some y) ds a took e = record {
+  file = record { valid = a.valid; bytes_are = took ∙ ap (λ (z : List ℕ). (file_header ++ flat_map record_of ds) ++ z) e ∙ append-nil (file_header ++ flat_map record_of ds) };
+  few = a.few;
+}
+
+-- the records so far are those of the whole file
+pub file_sofar-end : (limit : ℕ) (u v w : Option (List ℕ)) (old new : FileStage) (ds : List (List ℕ)) → FileSofar limit u v old ds
+    → GivesNone old new v w → IfSome u (λ bytes. IsFileWithin limit bytes ds)
+file_sofar-end limit u v w old new ds s h = elim h.bytes [
+  | inl p ↦ absurd (not_ended ds (sym s.stage_is ∙ p.0))
+  | inr p ↦
+      let took : Consumes v w (opening (file_stage_at ds)) = subst (λ (x : FileStage). Consumes v w (opening x)) s.stage_is p.1 in
+      let all : Consumes u w (file_header ++ flat_map record_of ds) =
+      subst (Consumes u w) (read_all ds) (Consumes-trans u v w (file_read_of ds) (opening (file_stage_at ds)) s.read took) in
+      whole_file limit u w ds s.are_datagrams all p.2
+]
+
+from_header : (limit : ℕ) (y : List ℕ) (f : ReadFault) (o : Option ReadFault) → opening_fault file_header y ≡ o → or_else o (record_fault limit 0 (drop 6 y)) ≡ Some f
+    → (datagrams : List (List ℕ)) × FileStops y limit datagrams f
+from_header limit y f (Some g) e h = ([], in_header refl (e ∙ h))
+from_header limit y f None e h = (
+  [],
+  behind (record { are_datagrams = record { valid = tt; few = omega arith }; rest = drop 6 y; whole = opening_is file_header y refl e; first = h }),
+)
+
+stops_at : (limit : ℕ) (x y : List ℕ) (ds : List (List ℕ)) (f : ReadFault) → AreDatagrams limit ds → x ≡ file_read_of ds ++ y → file_fault_from (file_stage_at ds) limit y ≡ Some f
+    → (datagrams : List (List ℕ)) × FileStops x limit datagrams f
+stops_at limit x y [] f a took h = subst (λ (z : List ℕ). (datagrams : List (List ℕ)) × FileStops z limit datagrams f) (sym took) (from_header limit y f (opening_fault file_header y) refl h)
+stops_at limit x y (d ∷ ds) f a took h =
+    (d ∷ ds, behind (record { are_datagrams = a; rest = y; whole = took ∙ append_assoc file_header (flat_map record_of (d ∷ ds)) y; first = h }))
+
+known_stops : (limit : ℕ) (u v : Option (List ℕ)) (ds : List (List ℕ)) (f : ReadFault) → AreDatagrams limit ds → Consumes u v (file_read_of ds)
+    → IfSome v (λ y. file_fault_from (file_stage_at ds) limit y ≡ Some f) → IfSome u (λ x. (datagrams : List (List ℕ)) × FileStops x limit datagrams f)
+known_stops limit None v ds f a took h = tt
+known_stops limit (Some x) None ds f a took h = absurd took
+known_stops limit (Some x) (Some y) ds f a took h = stops_at limit x y ds f a took h
+
+fault_at : (limit : ℕ) (u v : Option (List ℕ)) (ds : List (List ℕ)) (f : ReadFault) → AreDatagrams limit ds → Consumes u v (file_read_of ds)
+    → IsFaultOf (file_fault_from (file_stage_at ds) limit) v f → HasFileFault limit u f
+fault_at limit u v ds faults.Read a took h = tt
+fault_at limit u v ds faults.OutOfMemory a took h = tt
+fault_at limit u v ds f a took h = known_stops limit u v ds f a took h
+
+pub file_sofar-fault : (limit : ℕ) (u v w : Option (List ℕ)) (old new : FileStage) (ds : List (List ℕ)) (f : ReadFault) → FileSofar limit u v old ds
+    → GivesFileFault limit old new v w f → HasFileFault limit u f
+file_sofar-fault limit u v w old new ds f s h = elim h.found [
+  | inl p ↦ absurd (not_failed ds f (sym s.stage_is ∙ p.0))
+  | inr p ↦ fault_at limit u v ds f s.are_datagrams s.read (subst (λ (x : FileStage). IsFaultOf (file_fault_from x limit) v f) s.stage_is p.1)
+]

@@ -1,0 +1,15 @@
+use Rattle.std.proofs.Common.{◌≡◌, length, rules}
+use Rattle.flute_journal.proofs.Checks.{not_true, not_false}
+use Rattle.flute_journal.proofs.Decoded.{opening_version, opening_read}
+use Rattle.flute_journal.proofs.format.decode.check_opening.Goals as goal
+
+pub returns-then-ne-2 : goal.returns-then-ne-2
+returns-then-ne-2 c =
+    opening_version c.args.opening.now c.args.bytes.now c.in-Some.magic.now c.in-Some.rest.now c.requires c.in-Some.ensures.cases
+    (not_false _ c.if-ne.ensures) c.if-rest-lt2.false (not_true _ c.if-ne-2.ensures)
+
+pub returns : goal.returns
+returns c =
+    let six : length c.args.opening.now ≡ 6 = search rules in
+    opening_read c.args.opening.now c.args.bytes.now c.in-Some.magic.now c.in-Some.rest.now six c.requires c.in-Some.ensures.cases
+    (not_false _ c.if-ne.ensures) c.if-rest-lt2.false (not_false _ c.if-ne-2.ensures)

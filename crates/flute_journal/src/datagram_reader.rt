@@ -1,0 +1,184 @@
+//! Reading a datagram file, record by record.
+ghost use Rattle.std.specs.Prelude.{◌≡◌, ℕ, ◌+◌, ◌<◌, ◌≤◌, ◌^◌, IfOk, IfSome, if◌then◌else◌, length as length_of};
+ghost use Rattle.std.specs.List.{AllByRecursion};
+ghost use Rattle.flute_parts.specs.BigEndian.{big_endian};
+ghost use Rattle.flute_journal.specs.Numbers.{in_bytes};
+ghost use Rattle.flute_journal.specs.Input.{Advances, Reads, failed};
+ghost use Rattle.flute_journal.specs.Journal.{IsByte};
+ghost use Rattle.flute_journal.specs.Faults.{opening_fault};
+ghost use Rattle.flute_journal.specs.Parsing.{cut_fault};
+ghost use Rattle.flute_journal.specs.Records.{file_header, is_open, GivesOfFile, IsDatagram, ReadsFileFrom, ReadsRecord, file_stage_behind};
+ghost use Rattle.flute_journal.specs.DatagramReaders.{datagrams_source_of, records_limit_of, file_stage_of};
+
+use crate::fault::ReadFault;
+use crate::format::check_opening;
+use crate::format::number::number;
+use crate::input::{fill, front};
+use flute_parts::Source;
+use flute_wire::Datagram;
+use std::alloc::Global;
+
+/// The bytes of the header: `FLDG`, and the version.
+pub const FILE_HEADER: [u8; 6] = *b"FLDG\x00\x01";
+
+/// Where a reader stands.
+#[derive(Clone, Copy)]
+pub enum FileStage {
+    /// Before the header.
+    Header,
+    /// Behind so many whole records.
+    Records { count: u64 },
+    /// At the end of the input.
+    Ended,
+    /// At a fault, for good.
+    Failed(ReadFault),
+}
+
+/// A datagram file that is read record by record. It never reads past what it has given.
+#[derive(Drop)]
+pub struct DatagramReader<'a, R> {
+    source: &'a mut R,
+    max_records: u64,
+    stage: FileStage,
+}
+
+impl<'a, R: Source> DatagramReader<'a, R> {
+    /// A reader of the datagram file that the source holds, which may have at most `max_records` records. It takes no
+    /// memory, and reads nothing yet.
+    pub fn new(source: &'a mut R, max_records: u64) -> DatagramReader<'a, R>
+        ensures source { (datagrams_source_of result).ghost_name ≡ source.entry.ghost_name }
+        ensures unread { (datagrams_source_of result).now ≡ source.old }
+        ensures limit { records_limit_of result ≡ max_records }
+        ensures stage { file_stage_of result ≡ FileStage.Header }
+    {
+        DatagramReader {
+            source,
+            max_records,
+            stage: FileStage::Header,
+        }
+    }
+
+    /// The next datagram, of 0 to 65,535 bytes, whatever they say. None once the input ends between two records, and
+    /// from then on.
+    ///
+    /// The bytes of the datagram are the only memory that is taken.
+    ///
+    /// # Errors
+    ///
+    /// - `Magic` and `Version` of the header;
+    /// - `TooMany` where a byte follows `max_records` records;
+    /// - `Cut` where the input ends within the header or a record;
+    /// - `Read` where the source fails in this call, and `OutOfMemory` where there is no memory for a datagram.
+    ///
+    /// Each later call answers the same fault, and reads nothing.
+    pub fn next(&mut self, alloc: Global) -> Result<Option<Datagram>, ReadFault>
+        ensures source { (datagrams_source_of self.new).ghost_name ≡ (datagrams_source_of self.old).ghost_name }
+        ensures limit { records_limit_of self.new ≡ records_limit_of self.old }
+        ensures gives { GivesOfFile (records_limit_of self.old) (file_stage_of self.old) (file_stage_of self.new)
+            (R.unread (datagrams_source_of self.old).now) (R.unread (datagrams_source_of self.new).now) result }
+        ensures failures { R.failures (datagrams_source_of self.new).now
+            ≡ R.failures (datagrams_source_of self.old).now + (if is_open (file_stage_of self.old) then failed result else 0) }
+    {
+        let (count, given) = match self.stage {
+            FileStage::Ended => return Ok(None),
+            FileStage::Failed(fault) => return Err(fault),
+            FileStage::Header => (0, read_first(alloc, self.source, self.max_records)),
+            FileStage::Records { count } => (
+                count,
+                read_record(alloc, self.source, self.max_records, count),
+            ),
+        };
+        self.stage = stage_behind(count, &given);
+        given
+    }
+}
+
+// Reads the header, and then the first record if there is one.
+fn read_first<R: Source>(
+    alloc: Global,
+    source: &mut R,
+    max_records: u64,
+) -> Result<Option<Datagram>, ReadFault>
+    ensures reads { ReadsFileFrom max_records FileStage.Header (R.unread source.old) (R.unread source.new) result }
+    ensures failures { R.failures source.new ≡ R.failures source.old + failed result }
+{
+    read_header(source)?;
+    read_record(alloc, source, max_records, 0)
+}
+
+// Reads the magic number and the version.
+fn read_header<R: Source>(source: &mut R) -> Result<(), ReadFault>
+    ensures reads { Reads (λ _. file_header) (λ _. Unit {0}) (opening_fault file_header) (R.unread source.old) (R.unread source.new) result }
+    ensures failures { R.failures source.new ≡ R.failures source.old + failed result }
+{
+    let mut buffer = [0; 6];
+    let front = front(source, &mut buffer)?;
+    check_opening(&FILE_HEADER, front)
+}
+
+// Reads the next record behind so many, if a byte follows. A file may have `max_records`.
+fn read_record<R: Source>(
+    alloc: Global,
+    source: &mut R,
+    max_records: u64,
+    count: u64,
+) -> Result<Option<Datagram>, ReadFault>
+    ensures reads { ReadsRecord max_records count (R.unread source.old) (R.unread source.new) result }
+    ensures failures { R.failures source.new ≡ R.failures source.old + failed result }
+{
+    let mut buffer = [0; 2];
+    let front = front(source, &mut buffer)?;
+    if front.is_empty() {
+        return Ok(None);
+    }
+    if count >= max_records {
+        return Err(ReadFault::TooMany);
+    }
+    if front.len() < 2 {
+        return Err(ReadFault::Cut);
+    }
+    let datagram = read_datagram(alloc, source, length_in(front))?;
+    Ok(Some(datagram))
+}
+
+// The number of the bytes of a datagram.
+fn length_in(field: &[u8]) -> u16
+    requires { length_of field.now ≡ 2 }
+    ensures value { result ≡ big_endian field.now }
+    ensures spelled { in_bytes 2 result ≡ field.now }
+{
+    number(field) as u16
+}
+
+// Reads so many bytes of a datagram.
+fn read_datagram<R: Source>(
+    alloc: Global,
+    source: &mut R,
+    length: u16,
+) -> Result<Datagram, ReadFault>
+    ensures reads { Reads (λ bytes. bytes) (λ bytes. (length_of bytes ≡ length) × AllByRecursion IsByte bytes) (cut_fault length) (R.unread source.old) (R.unread source.new) result }
+    ensures failures { R.failures source.new ≡ R.failures source.old + failed result }
+{
+    let Ok(mut octets) = vec![in alloc; 0; usize::from(length)] else {
+        return Err(ReadFault::OutOfMemory);
+    };
+    if fill(source, &mut octets)? < usize::from(length) {
+        return Err(ReadFault::Cut);
+    }
+    match Datagram::from_vec(octets) {
+        Ok(datagram) => Ok(datagram),
+        Err(_) => Err(ReadFault::OutOfMemory),
+    }
+}
+
+// Where a reader stands behind what it gave, if so many records stood before.
+fn stage_behind(count: u64, given: &Result<Option<Datagram>, ReadFault>) -> FileStage
+    requires { IfOk given.now (λ o. IfSome o (λ _. count + 1 < 2 ^ 64)) }
+    ensures { result ≡ file_stage_behind count given.now }
+{
+    match given {
+        Ok(Some(_)) => FileStage::Records { count: count + 1 },
+        Ok(None) => FileStage::Ended,
+        Err(fault) => FileStage::Failed(*fault),
+    }
+}

@@ -1,0 +1,182 @@
+//! Datagram files: what is read of them, in any pieces, and their faults.
+ghost use Rattle.std.specs.Prelude.{◌≡◌, ℕ, None, IfOk, IfErr, IfSome};
+ghost use Rattle.flute_journal.specs.Records.{IsFileWithin, HasFileFault};
+
+use super::vectors::bytes;
+use super::*;
+use flute_parts::{DeviceFault, MemorySource, ShortSource};
+use flute_wire::Datagram;
+use std::alloc::Global;
+
+/// Two datagrams of session 7 and file 1, with its information and the symbols 0/0 and 0/1: 87 bytes.
+const TWO: &[&str] = &["464C44470001", "0028", FIRST, "0025", SECOND];
+
+const FIRST: &str =
+    "10A00800 00000000 00000007 00000001 40040000 00000005 00000004 00000002 00000000 68656C6C";
+
+const SECOND: &str =
+    "10A00800 00000000 00000007 00000001 40040000 00000005 00000004 00000002 00000001 6F";
+
+/// The datagrams of the file that the source holds.
+fn datagrams_of<R: Source>(
+    alloc: Global,
+    source: &mut R,
+    max_records: u64,
+) -> Result<Vec<Datagram>, ReadFault>
+    ensures read { IfOk result (λ v. IfSome (R.unread source.old) (λ bs. IsFileWithin max_records bs v.items)) }
+    ensures fault { IfErr result (HasFileFault max_records (R.unread source.old)) }
+{
+    let mut reader = DatagramReader::new(source, max_records);
+    let mut datagrams = Vec::new(alloc);
+    while let Some(datagram) = reader.next(alloc)? {
+        if datagrams.push(datagram).is_err() {
+            return Err(ReadFault::OutOfMemory);
+        }
+    }
+    Ok(datagrams)
+}
+
+/// The lengths of the datagrams that a reader gives, and the fault that it stays at, or None where it stays at the end.
+fn lengths<R: Source>(
+    rt: &HostRuntime,
+    source: &mut R,
+    max_records: u64,
+) -> Result<(Vec<usize>, Option<ReadFault>), Fail> {
+    let mut reader = DatagramReader::new(source, max_records);
+    let mut lengths = Vec::new(rt.alloc());
+    for _ in 0..2_000 {
+        match reader.next(rt.alloc()) {
+            Ok(Some(datagram)) => lengths.push(datagram.as_slice().len())?,
+            Ok(None) => {
+                return match reader.next(rt.alloc()) {
+                    Ok(None) => Ok((lengths, None)),
+                    _ => Err(Fail::from("no longer at the end")),
+                };
+            }
+            Err(fault) => {
+                return match reader.next(rt.alloc()) {
+                    Err(again) if again == fault => Ok((lengths, Some(fault))),
+                    _ => Err(Fail::from("no longer at the fault")),
+                };
+            }
+        }
+    }
+    Err(Fail::from("neither an end nor a fault"))
+}
+
+/// In one piece, and in pieces of 1, 2 and 7 bytes.
+#[test]
+fn datagram_files_are_read(rt: HostRuntime) -> Result<(), Fail> {
+    let file = bytes(rt.alloc(), TWO)?;
+    assert_eq!(rt; file.len(), 87);
+    let first = bytes(rt.alloc(), &[FIRST])?;
+    let second = bytes(rt.alloc(), &[SECOND])?;
+    let datagrams = datagrams_of(rt.alloc(), &mut MemorySource::new(&file), 2)?;
+    assert_eq!(rt; datagrams.len(), 2);
+    assert_eq!(rt; datagrams[0].as_slice(), first.as_slice());
+    assert_eq!(rt; datagrams[1].as_slice(), second.as_slice());
+    for piece in [1, 2, 7] {
+        let mut source = ShortSource::new(&file, piece, usize::MAX);
+        let datagrams = datagrams_of(rt.alloc(), &mut source, 2)?;
+        assert_eq!(rt; datagrams.len(), 2);
+        assert_eq!(rt; datagrams[1].as_slice(), second.as_slice());
+    }
+    Ok(())
+}
+
+/// A file that ends within its header or a record is cut, and one that ends between records is whole.
+#[test]
+fn datagram_files_are_cut(rt: HostRuntime) -> Result<(), Fail> {
+    let file = bytes(rt.alloc(), TWO)?;
+    for n in 0..file.len() {
+        let (lengths, fault) = lengths(&rt, &mut MemorySource::new(&file[..n]), 100)?;
+        let whole: &[usize] = if n < 48 { &[] } else { &[40] };
+        let cut = if n == 6 || n == 48 {
+            None
+        } else {
+            Some(ReadFault::Cut)
+        };
+        assert_eq!(rt; lengths.as_slice(), whole, "of {n} bytes");
+        assert!(rt; fault == cut, "of {n} bytes");
+    }
+    Ok(())
+}
+
+#[test]
+fn datagram_files_have_faults(rt: HostRuntime) -> Result<(), Fail> {
+    let rows: [(&[&str], u64, usize, Option<ReadFault>); 8] = [
+        (&["474C44470001"], 9, 0, Some(ReadFault::Magic)),
+        (&["464C4A4E0001"], 9, 0, Some(ReadFault::Magic)),
+        (&["464C44470002"], 9, 0, Some(ReadFault::Version)),
+        (&["464C44470001"], 0, 0, None),
+        (&["464C44470001", "00"], 0, 0, Some(ReadFault::TooMany)),
+        (&["464C44470001", "0000"], 1, 1, None),
+        (
+            &["464C44470001", "0000", "0001 61"],
+            1,
+            1,
+            Some(ReadFault::TooMany),
+        ),
+        (&["464C44470001", "0000", "0001 61"], 2, 2, None),
+    ];
+    for (parts, max_records, records, fault) in rows {
+        let file = bytes(rt.alloc(), parts)?;
+        let (lengths, found) = lengths(&rt, &mut MemorySource::new(&file), max_records)?;
+        assert_eq!(rt; lengths.len(), records);
+        assert!(rt; found == fault, "behind {records}");
+        let whole = datagrams_of(rt.alloc(), &mut MemorySource::new(&file), max_records);
+        assert!(rt; whole.err() == fault, "behind {records}");
+    }
+    Ok(())
+}
+
+/// A header and then zeros without end, a byte at a time.
+#[derive(Drop)]
+struct Zeros {
+    given: usize,
+}
+
+impl Source for Zeros {
+    ghost failures = { λ _. 0 };
+
+    ghost unread = { λ _. None };
+
+    fn read(&mut self, buffer: &mut [u8]) -> Result<usize, DeviceFault> {
+        let Some(first) = buffer.first_mut() else {
+            return Ok(0);
+        };
+        *first = b"FLDG\x00\x01".get(self.given).copied().unwrap_or(0);
+        self.given = self.given.saturating_add(1);
+        Ok(1)
+    }
+}
+
+/// Records without end stop at the bound.
+#[test]
+fn records_without_end(rt: HostRuntime) -> Result<(), Fail> {
+    let (lengths, fault) = lengths(&rt, &mut Zeros { given: 0 }, 1_000)?;
+    assert_eq!(rt; lengths.len(), 1_000);
+    assert!(rt; lengths.iter().all(|length| *length == 0));
+    assert!(rt; fault == Some(ReadFault::TooMany));
+    Ok(())
+}
+
+/// A source that fails, behind each number of bytes.
+#[test]
+fn sources_of_datagrams_fail(rt: HostRuntime) -> Result<(), Fail> {
+    let file = bytes(rt.alloc(), TWO)?;
+    for good in 0..=file.len() {
+        let mut source = ShortSource::new(&file, 5, good);
+        let (lengths, fault) = lengths(&rt, &mut source, 100)?;
+        let whole = if good < 48 {
+            0
+        } else if good < 87 {
+            1
+        } else {
+            2
+        };
+        assert_eq!(rt; lengths.len(), whole, "behind {good} bytes");
+        assert!(rt; fault == Some(ReadFault::Read), "behind {good} bytes");
+    }
+    Ok(())
+}
