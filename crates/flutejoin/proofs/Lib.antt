@@ -1,2 +1,5 @@
 mod Encoded
 mod Pieced
+mod Shown
+mod Mapped
+mod Written

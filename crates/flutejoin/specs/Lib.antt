@@ -2,3 +2,4 @@ pub mod Lines
 pub mod Pieces
 pub mod Status
 pub mod Packet
+pub mod Show

@@ -3,6 +3,9 @@ use Rattle.std.specs.Prelude.{ℕ, List, ◌++◌, length, codes, decimal, Optio
 use Rattle.hex.specs.Hex.{encode_lower}
 use Rattle.flute_parts.specs.Information.{Information}
 use Rattle.flute_parts.specs.declared.symbol_id.SymbolId.{SymbolId}
+use Rattle.flute_parts.specs.declared.key.Key.{Key}
+use Rattle.flute_parts.specs.declared.fact.Fact.{Fact}
+use Rattle.flute_parts.specs.declared.fact.Fact.TheVariants.{Info, InfoConflict, Symbol, SymbolConflict}
 use Rattle.flute_parts.specs.declared.object_key.ObjectName.{ObjectName}
 use Rattle.flute_parts.specs.declared.object_key.ObjectName.TheVariants.{Instance, File}
 use Rattle.flute_wire.specs.Content.{Content}
@@ -21,9 +24,13 @@ abbrev pub information_words : Information → List ℕ
 information_words i =
     codes "info length " ++ decimal i.transfer_length ++ codes " symbol " ++ decimal i.symbol_length ++ codes " block " ++ decimal i.max_block_length
 
--- block and symbol ID, and how many bytes
+-- the block and the symbol in it
+abbrev pub id_words : SymbolId → List ℕ
+id_words id = codes "symbol " ++ decimal id.sbn ++ codes "/" ++ decimal id.esi
+
+-- and how many bytes
 abbrev pub symbol_words : SymbolId → ℕ → List ℕ
-symbol_words id len = codes "symbol " ++ decimal id.sbn ++ codes "/" ++ decimal id.esi ++ codes " length " ++ decimal len ++ codes " "
+symbol_words id len = id_words id ++ codes " length " ++ decimal len ++ codes " "
 
 abbrev pub info_or_none : Option Information → List ℕ
 info_or_none None = codes "info none"
@@ -37,3 +44,20 @@ symbol_or_none (Some symbol) = symbol_words symbol.0 (length symbol.1) ++ encode
 unfoldable pub packet_lines : Content → List ℕ
 packet_lines c =
     line (codes "session " ++ decimal c.tsi) ++ (line (object_words (object_of c.toi c.instance)) ++ (line (info_or_none c.info) ++ line (symbol_or_none c.symbol)))
+
+-- a session by its TSI, and its object
+abbrev pub key_words : Key → List ℕ
+key_words key = codes "session " ++ decimal key.session.tsi ++ codes " " ++ object_words key.object
+
+-- what is told of a part of an object
+abbrev pub fact_words : Fact → List ℕ
+fact_words (Info key info) = key_words key ++ codes " " ++ information_words info
+fact_words (InfoConflict key) = key_words key ++ codes " info conflict"
+fact_words (Symbol key id bytes) = key_words key ++ codes " " ++ symbol_words id (length bytes) ++ encode_lower bytes
+fact_words (SymbolConflict key id) = key_words key ++ codes " " ++ id_words id ++ codes " conflict"
+
+unfoldable pub fact_line : Fact → List ℕ
+fact_line fact = line (fact_words fact)
+
+unfoldable pub entries_line : ℕ → List ℕ
+entries_line n = line (codes "entries " ++ decimal n)

@@ -1,9 +1,11 @@
--- The lines of a packet in three pieces, as they are written.
+-- Lines in pieces, as they are written: words, then bytes in hexadecimal, then a line feed.
 use Rattle.std.specs.Prelude.{ℕ, List, [], ◌++◌, length, codes, decimal, Option, Some, None}
 use Rattle.flute_parts.specs.declared.symbol_id.SymbolId.{SymbolId}
 use Rattle.flute_wire.specs.Content.{Content}
 use Rattle.flute_wire.specs.Facts.{object_of}
-use Rattle.flutejoin.specs.Lines.{object_words, info_or_none, symbol_words}
+use Rattle.flute_parts.specs.declared.fact.Fact.{Fact}
+use Rattle.flute_parts.specs.declared.fact.Fact.TheVariants.{Info, InfoConflict, Symbol, SymbolConflict}
+use Rattle.flutejoin.specs.Lines.{object_words, info_or_none, key_words, information_words, id_words, symbol_words}
 
 abbrev pub symbol_head : Option (SymbolId × List ℕ) → List ℕ
 symbol_head None = codes "symbol none"
@@ -16,3 +18,14 @@ symbol_bytes (Some symbol) = symbol.1
 -- all before the symbol's bytes
 unfoldable pub packet_head : Content → List ℕ
 packet_head c = codes "session " ++ decimal c.tsi ++ codes "\n" ++ object_words (object_of c.toi c.instance) ++ codes "\n" ++ info_or_none c.info ++ codes "\n" ++ symbol_head c.symbol
+
+-- the words of a fact's line, and the bytes behind them
+unfoldable pub fact_head : Fact → List ℕ
+fact_head (Info key info) = key_words key ++ codes " " ++ information_words info
+fact_head (InfoConflict key) = key_words key ++ codes " info conflict"
+fact_head (Symbol key id bytes) = key_words key ++ codes " " ++ symbol_words id (length bytes)
+fact_head (SymbolConflict key id) = key_words key ++ codes " " ++ id_words id ++ codes " conflict"
+
+abbrev pub fact_bytes : Fact → List ℕ
+fact_bytes (Symbol key id bytes) = bytes
+fact_bytes fact = []

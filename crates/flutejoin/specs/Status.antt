@@ -1,7 +1,15 @@
 -- The program's status after a fault.
 use Rattle.std.specs.Prelude.{ℕ, ⊤}
 use Rattle.flutejoin.specs.declared.command_fault.CommandFault.{CommandFault}
-use Rattle.flutejoin.specs.declared.command_fault.CommandFault.TheVariants.{CommandLine, NotText, BadHex, Refused, OutOfMemory, CannotWrite}
+use Rattle.flutejoin.specs.declared.command_fault.CommandFault.TheVariants.{CommandLine, NotText, BadHex, Refused, CannotOpen, Input, OutOfMemory, CannotWrite}
+use Rattle.flute_journal.specs.declared.fault.ReadFault.{ReadFault}
+use Rattle.flute_journal.specs.declared.fault.ReadFault.TheVariants as faults
+
+-- a journal at fault is wrong, and a failed device or want of memory is not its fault
+abbrev pub read_status : ReadFault → ℕ
+read_status faults.Read = 3
+read_status faults.OutOfMemory = 3
+read_status fault = 1
 
 -- 1 for what is wrong in the input, 2 for the command line, and 3 for memory and devices
 abbrev pub status_of : CommandFault → ℕ
@@ -9,6 +17,8 @@ status_of (CommandLine text) = 2
 status_of NotText = 2
 status_of BadHex = 1
 status_of (Refused refusal) = 1
+status_of (CannotOpen number) = 3
+status_of (Input number fault) = read_status fault
 status_of OutOfMemory = 3
 status_of CannotWrite = 3
 

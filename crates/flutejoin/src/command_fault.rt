@@ -1,6 +1,7 @@
 //! What a command answers when it fails.
-ghost use Rattle.std.specs.Prelude.{◌≡◌};
+ghost use Rattle.std.specs.Prelude.{◌≡◌, Ok, Err, MatchResult};
 
+use flute_journal::ReadFault;
 use flute_wire::Refusal;
 use thiserror::Error;
 
@@ -20,6 +21,12 @@ pub enum CommandFault {
     /// The datagram is refused.
     #[error("refused: {0}")]
     Refused(Refusal),
+    /// The input with this number, from 1, could not be opened.
+    #[error("cannot open input {0}")]
+    CannotOpen(usize),
+    /// The input with this number, from 1, is no journal, or could not be read.
+    #[error("input {0}: {1}")]
+    Input(usize, ReadFault),
     /// There was no memory.
     #[error("out of memory")]
     OutOfMemory,
@@ -39,7 +46,20 @@ impl CommandFault {
         match self {
             CommandFault::BadHex | CommandFault::Refused(_) => 1,
             CommandFault::CommandLine(_) | CommandFault::NotText => 2,
+            CommandFault::CannotOpen(_) => 3,
+            CommandFault::Input(_, ReadFault::Read | ReadFault::OutOfMemory) => 3,
+            CommandFault::Input(..) => 1,
             CommandFault::OutOfMemory | CommandFault::CannotWrite => 3,
         }
+    }
+}
+
+/// What was read of the input with this number, from 1.
+pub fn at_input<T: Drop>(number: usize, read: Result<T, ReadFault>) -> Result<T, CommandFault>
+    ensures { MatchResult read (λ x. result ≡ Ok x) (λ f. result ≡ Err (CommandFault.Input number f)) }
+{
+    match read {
+        Ok(value) => Ok(value),
+        Err(fault) => Err(CommandFault::Input(number, fault)),
     }
 }

@@ -3,14 +3,19 @@
 
 mod command_fault;
 mod hex_digits;
+mod limits;
 mod line;
 mod lines;
 mod packet;
+mod show;
 mod text;
+mod writing;
 
 pub use command_fault::CommandFault;
+pub use limits::MAX_ENTRIES;
 pub use line::{Line, line_of};
 pub use packet::packet_to;
+pub use show::show_to;
 
 #[cfg(test)]
 mod tests;

@@ -17,6 +17,8 @@ A datagram is given as hexadecimal digits, two for each byte. Example:
 pub enum Line<'a> {
     /// Print what the datagram `hex` says.
     Packet { hex: &'a str },
+    /// Print the entries of the journal `j`.
+    Show { j: &'a str },
 }
 
 /// Reads the words after the program's name.
@@ -31,6 +33,9 @@ pub fn line_of(alloc: Global, words: &[String]) -> Result<Line<'_>, CommandFault
     let command = command(alloc).map_err(parser_fault)?;
     let matches = command.try_get_matches_from(words).map_err(parser_fault)?;
     match matches.subcommand() {
+        Some(("show", matches)) => Ok(Line::Show {
+            j: text(matches, "J"),
+        }),
         Some((_, matches)) => Ok(Line::Packet {
             hex: text(matches, "HEX"),
         }),
@@ -62,7 +67,8 @@ fn command<'a>(alloc: Global) -> Result<Command<'a>, clap::Error> {
         .bin_name("flutejoin")?
         .subcommand_required(true)
         .arg_required_else_help(true)
-        .subcommand(packet_command(alloc)?)?;
+        .subcommand(packet_command(alloc)?)?
+        .subcommand(show_command(alloc)?)?;
     Ok(command)
 }
 
@@ -76,4 +82,19 @@ fn packet_command<'a>(alloc: Global) -> Result<Command<'a>, clap::Error> {
         .after_help(EXAMPLE)
         .arg(hex)?;
     Ok(command)
+}
+
+fn show_command<'a>(alloc: Global) -> Result<Command<'a>, clap::Error> {
+    let command = Command::new(alloc, "show")
+        .about("Prints the entries of a journal, one a line")
+        .arg(journal(alloc))?;
+    Ok(command)
+}
+
+// The argument of a command that reads one journal.
+fn journal<'a>(alloc: Global) -> Arg<'a> {
+    Arg::new(alloc, "J")
+        .required(true)
+        .action(ArgAction::Set)
+        .help("The journal")
 }

@@ -1,11 +1,11 @@
 //! The words of the lines that are printed.
 ghost use Rattle.std.specs.Prelude.{◌≡◌, ◌+◌, ◌≤◌, ◌++◌, length};
 ghost use Rattle.std.specs.Option.{option_map};
-ghost use Rattle.flutejoin.specs.Lines.{object_words, information_words, symbol_words, info_or_none};
+ghost use Rattle.flutejoin.specs.Lines.{key_words, object_words, information_words, id_words, symbol_words, info_or_none};
 ghost use Rattle.flutejoin.specs.Pieces.{symbol_head};
 
 use crate::text::Text;
-use flute_parts::{Info, ObjectKey, SymbolId};
+use flute_parts::{Info, Key, ObjectKey, SymbolId};
 
 /// Appends `object` and a file's TOI, or `object fdt` and an FDT Instance's ID.
 pub fn push_object(text: &mut Text, object: &ObjectKey)
@@ -51,16 +51,37 @@ pub fn push_info(text: &mut Text, info: Option<Info>)
     }
 }
 
+/// Appends the session's TSI and the name of the object.
+pub fn push_key(text: &mut Text, key: &Key)
+    requires { length text.old + 120 ≤ 512 }
+    ensures text { text.new ≡ text.old ++ key_words key.now }
+    ensures len { length text.new ≤ length text.old + 120 }
+{
+    text.push("session ");
+    text.push_number(key.session.tsi());
+    text.push(" ");
+    push_object(text, &key.object);
+}
+
+/// Appends `symbol` and the numbers of the symbol: its block, and its place there.
+pub fn push_symbol_id(text: &mut Text, id: SymbolId)
+    requires { length text.old + 90 ≤ 512 }
+    ensures text { text.new ≡ text.old ++ id_words id }
+    ensures len { length text.new ≤ length text.old + 90 }
+{
+    text.push("symbol ");
+    text.push_number(id.sbn);
+    text.push("/");
+    text.push_number(id.esi);
+}
+
 /// Appends `symbol`, the numbers of the symbol and how many bytes it has: all but these.
 pub fn push_symbol(text: &mut Text, id: SymbolId, len: usize)
     requires { length text.old + 160 ≤ 512 }
     ensures text { text.new ≡ text.old ++ symbol_words id len }
     ensures len { length text.new ≤ length text.old + 160 }
 {
-    text.push("symbol ");
-    text.push_number(id.sbn);
-    text.push("/");
-    text.push_number(id.esi);
+    push_symbol_id(text, id);
     text.push(" length ");
     text.push_number(len);
     text.push(" ");

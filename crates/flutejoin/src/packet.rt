@@ -7,9 +7,9 @@ ghost use Rattle.flutejoin.specs.Pieces.{packet_head, symbol_bytes};
 ghost use Rattle.flutejoin.specs.Packet.{IsHexOf, IsHexFault, HasLines, FailsWith, write_failures};
 
 use crate::command_fault::CommandFault;
-use crate::hex_digits::write_hex;
 use crate::lines::{push_info, push_object, push_symbol_head};
 use crate::text::Text;
+use crate::writing::write_line;
 use flute_parts::{DeviceFault, Sink};
 use flute_wire::{Packet, read};
 use hex::FromHexError;
@@ -56,9 +56,7 @@ fn write_packet<W: Sink>(sink: &mut W, packet: &Packet<'_>) -> Result<(), Device
     ensures failures { W.failures sink.new ≡ W.failures sink.old + (if is_ok result then 0 else 1) }
 {
     let head = head_of(packet);
-    sink.write_all(head.as_slice())?;
-    write_hex(sink, symbol_bytes(packet))?;
-    sink.write_all(b"\n")
+    write_line(sink, &head, symbol_bytes(packet))
 }
 
 // All that is written before the symbol's bytes.

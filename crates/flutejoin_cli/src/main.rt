@@ -1,14 +1,19 @@
 //! The program `flutejoin`.
 #![tactic(auto)]
 
-use flute_parts::StdSink;
-use flutejoin::{CommandFault, Line, line_of, packet_to};
+use flute_parts::{StdSink, StdSource};
+use flutejoin::{CommandFault, Line, line_of, packet_to, show_to};
 use std::env;
-use std::io::{self, BufWriter, ErrorKind};
+use std::fs::{self, File};
+use std::io::{self, BufReader, BufWriter, ErrorKind, Printer};
 use std::process::ExitCode;
 
-/// How many bytes of output are put together before they are written.
-const OUTPUT_BUFFER: usize = 65_536;
+/// How many bytes are read, or written, at once.
+const BUFFER: usize = 65_536;
+
+type Input = StdSource<BufReader<File>>;
+
+type Output<'a> = StdSink<BufWriter<Printer<'a, HostRuntime>>>;
 
 fn main(rt: HostRuntime) -> ExitCode {
     match run(&rt) {
@@ -25,6 +30,7 @@ fn run(rt: &HostRuntime) -> Result<(), CommandFault> {
     })?;
     match line_of(rt.alloc(), words.as_slice())? {
         Line::Packet { hex } => packet(rt, hex),
+        Line::Show { j } => show(rt, j),
     }
 }
 
@@ -49,10 +55,39 @@ fn fail(rt: &HostRuntime, fault: &CommandFault) -> ExitCode {
 }
 
 fn packet(rt: &HostRuntime, hex: &str) -> Result<(), CommandFault> {
-    let writer = BufWriter::with_capacity(rt.alloc(), OUTPUT_BUFFER, io::writer(rt)).map_err(
-        |_| CommandFault::OutOfMemory,
-    )?;
-    let mut output = StdSink::new(writer);
+    let mut output = standard_output(rt)?;
     packet_to(rt.alloc(), hex, &mut output)?;
     output.flush().map_err(|_| CommandFault::CannotWrite)
+}
+
+fn show(rt: &HostRuntime, j: &str) -> Result<(), CommandFault> {
+    let mut input = input(rt, 1, j)?;
+    let mut output = standard_output(rt)?;
+    let shown = show_to(rt.alloc(), &mut input, &mut output);
+    let flushed = output.flush().map_err(|_| CommandFault::CannotWrite);
+    shown.and(flushed)
+}
+
+/// Opens the input with this number, from 1. A folder is none.
+fn input(rt: &HostRuntime, number: usize, path: &str) -> Result<Input, CommandFault> {
+    let file = file_at(rt, path).map_err(|_| CommandFault::CannotOpen(number))?;
+    let reader = BufReader::with_capacity(rt.alloc(), BUFFER, file).map_err(
+        |_| CommandFault::OutOfMemory,
+    )?;
+    Ok(StdSource::new(reader))
+}
+
+fn file_at(rt: &HostRuntime, path: &str) -> io::Result<File> {
+    let file = fs::open(rt, path)?;
+    if file.metadata()?.is_dir() {
+        return Err(ErrorKind::IsADirectory.into());
+    }
+    Ok(file)
+}
+
+fn standard_output(rt: &HostRuntime) -> Result<Output<'_>, CommandFault> {
+    let writer = BufWriter::with_capacity(rt.alloc(), BUFFER, io::writer(rt)).map_err(
+        |_| CommandFault::OutOfMemory,
+    )?;
+    Ok(StdSink::new(writer))
 }

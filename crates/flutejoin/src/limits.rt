@@ -1,0 +1,4 @@
+//! How much the commands take in.
+
+/// The greatest number of entries of a journal that is read, and of records of a datagram file.
+pub const MAX_ENTRIES: u64 = 16_777_216;

@@ -1,0 +1,106 @@
+//! The command `show`: a line for each entry of a journal.
+ghost use Rattle.std.specs.Prelude.{◌≡◌, ◌+◌, if◌then◌else◌, is_ok, IfErr, OnOk};
+ghost use Rattle.flute_parts.specs.Devices.{Writes};
+ghost use Rattle.flutejoin.specs.Lines.{fact_line, entries_line};
+ghost use Rattle.flutejoin.specs.Pieces.{fact_head, fact_bytes};
+ghost use Rattle.flutejoin.specs.Show.{ShowsAll, ShowFails, read_failures};
+ghost use Rattle.flutejoin.specs.Packet.{write_failures};
+
+use crate::command_fault::{CommandFault, at_input};
+use crate::limits::MAX_ENTRIES;
+use crate::lines::{push_information, push_key, push_symbol, push_symbol_id};
+use crate::text::Text;
+use crate::writing::write_line;
+use flute_journal::JournalReader;
+use flute_parts::{DeviceFault, Fact, Sink, Source};
+use std::alloc::Global;
+
+/// Writes what the journal holds that the source gives: a line for each entry as it is read, and then the number of the
+/// entries. The journal may have at most 16,777,216 entries.
+///
+/// # Errors
+///
+/// `Input` with the fault of the journal, or where the source failed or there was no memory for a symbol: the lines of the
+/// entries before it were written, and no more. `CannotWrite` where the sink failed: it took a first part of the lines, and
+/// not all.
+pub fn show_to<R: Source, W: Sink>(
+    alloc: Global,
+    source: &mut R,
+    sink: &mut W,
+) -> Result<(), CommandFault>
+    ensures printed { OnOk result (ShowsAll (R.unread source.old) (W.written sink.old) (W.written sink.new)) }
+    ensures failed { IfErr result (ShowFails (R.unread source.old) (W.written sink.old) (W.written sink.new)) }
+    ensures read_failures { R.failures source.new ≡ R.failures source.old + read_failures result }
+    ensures failures { W.failures sink.new ≡ W.failures sink.old + write_failures result }
+{
+    let mut reader = JournalReader::new(source, MAX_ENTRIES);
+    let mut count = 0;
+    while let Some(fact) = at_input(1, reader.next(alloc))? {
+        if write_fact(sink, &fact).is_err() {
+            return Err(CommandFault::CannotWrite);
+        }
+        count += 1;
+    }
+    match write_entries(sink, count) {
+        Ok(()) => Ok(()),
+        Err(_) => Err(CommandFault::CannotWrite),
+    }
+}
+
+fn write_fact<W: Sink>(sink: &mut W, fact: &Fact) -> Result<(), DeviceFault>
+    ensures line { Writes (W.written sink.old) (W.written sink.new) (fact_line fact.now) result }
+    ensures failures { W.failures sink.new ≡ W.failures sink.old + (if is_ok result then 0 else 1) }
+{
+    let head = head_of(fact);
+    write_line(sink, &head, bytes_of(fact))
+}
+
+fn write_entries<W: Sink>(sink: &mut W, count: u64) -> Result<(), DeviceFault>
+    ensures line { Writes (W.written sink.old) (W.written sink.new) (entries_line count) result }
+    ensures failures { W.failures sink.new ≡ W.failures sink.old + (if is_ok result then 0 else 1) }
+{
+    let mut text = Text::new();
+    text.push("entries ");
+    text.push_number(count);
+    write_line(sink, &text, &[])
+}
+
+// All of the line before a symbol's bytes.
+fn head_of(fact: &Fact) -> Text
+    ensures { result ≡ fact_head fact.now }
+{
+    let mut text = Text::new();
+    match fact {
+        Fact::Info { key, info } => {
+            push_key(&mut text, key);
+            text.push(" ");
+            push_information(&mut text, info);
+        }
+        Fact::InfoConflict { key } => {
+            push_key(&mut text, key);
+            text.push(" info conflict");
+        }
+        Fact::Symbol { key, id, bytes } => {
+            push_key(&mut text, key);
+            text.push(" ");
+            push_symbol(&mut text, *id, bytes.as_slice().len());
+        }
+        Fact::SymbolConflict { key, id } => {
+            push_key(&mut text, key);
+            text.push(" ");
+            push_symbol_id(&mut text, *id);
+            text.push(" conflict");
+        }
+    }
+    text
+}
+
+// The bytes that a line ends with.
+fn bytes_of(fact: &Fact) -> &[u8]
+    ensures { result.now ≡ fact_bytes fact.now }
+{
+    match fact {
+        Fact::Symbol { bytes, .. } => bytes.as_slice(),
+        _ => &[],
+    }
+}
