@@ -6,13 +6,14 @@ ghost use Rattle.flute_parts.specs.Devices.{Writes};
 use flute_parts::{DeviceFault, Sink};
 
 /// How many bytes are put into digits at a time.
-const PIECE: usize = 256;
+const PIECE: usize = 512;
 
 /// Writes bytes as lower-case hexadecimal digits, two for each. It takes no memory.
 ///
 /// # Errors
 ///
 /// `DeviceFault` where the sink failed: it then took a first part of the digits, and not all.
+#[inline(never)]
 pub fn write_hex<W: Sink>(sink: &mut W, bytes: &[u8]) -> Result<(), DeviceFault>
     ensures digits { Writes (W.written sink.old) (W.written sink.new) (encode_lower bytes.now) result }
     ensures failures { W.failures sink.new ≡ W.failures sink.old + (if is_ok result then 0 else 1) }

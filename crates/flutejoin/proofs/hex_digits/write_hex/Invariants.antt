@@ -5,7 +5,7 @@ use Rattle.hex.specs.Hex.{encode_lower}
 use Rattle.flutejoin.proofs.hex_digits.write_hex.Given as goal
 
 abbrev pub invariant-loop-rest : goal.invariant-loop-rest
-invariant-loop-rest g l = (length l.digits ≡ 512)
+invariant-loop-rest g l = (length l.digits ≡ 1024)
     × ((front : List ℕ) × (l.bytes ≡ front ++ l.rest) × Appends (g.W.Sink.written l.initial.sink) (g.W.Sink.written l.sink) (encode_lower front))
     × (g.W.Sink.failures l.sink ≡ g.W.Sink.failures l.initial.sink)
 
