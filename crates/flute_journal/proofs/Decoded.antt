@@ -26,10 +26,10 @@ pub nothing : (bs : List ℕ) → length bs ≡ 0 → bs ≡ []
 nothing [] e = refl
 nothing (b ∷ bs) e = absurd (omega (arith, e))
 
-joined : (bs a b : List ℕ) (n : ℕ) → IsSplitAt bs n a b → bs ≡ a ++ b
+pub joined : (bs a b : List ℕ) (n : ℕ) → IsSplitAt bs n a b → bs ≡ a ++ b
 joined bs a b n s = sym (take-append-drop n bs) ∙ ap (λ (x : List ℕ). x ++ drop n bs) (sym s.1) ∙ ap (λ (x : List ℕ). a ++ x) (sym s.2)
 
-front_octets : (bs a b : List ℕ) (n : ℕ) → IsSplitAt bs n a b → AllByRecursion IsByte bs → AllByRecursion IsByte a
+pub front_octets : (bs a b : List ℕ) (n : ℕ) → IsSplitAt bs n a b → AllByRecursion IsByte bs → AllByRecursion IsByte a
 front_octets bs a b n s h = subst (AllByRecursion IsByte) (sym s.1) (octets-take n bs h)
 
 pub opening_version : (o bs a b : List ℕ) → length bs ≤ 6 → IsSplitAt bs 4 a b → bytes_eq a (take 4 o) ≡ true → 2 ≤ length b → bytes_eq b (take 2 (drop 4 o)) ≡ false

@@ -1,5 +1,5 @@
 -- A store that is read entry by entry.
-use Rattle.std.proofs.Common.{◌≡◌, ℕ, ◌+◌, ◌<◌, List, [], ◌∷◌, ◌++◌, length, Bool, true, false, if◌then◌else◌, Option, Some, None, Ok, Err, inl, inr, refl, sym, ap, ◌∙◌, subst, append_assoc, append-nil, arith}
+use Rattle.std.proofs.Common.{◌≡◌, ℕ, ◌+◌, List, [], ◌∷◌, ◌++◌, length, Bool, true, false, if◌then◌else◌, Option, Some, None, Ok, Err, inl, inr, refl, sym, ap, ◌∙◌, subst, append_assoc, append-nil, arith}
 use Rattle.std.specs.Prelude.{IfSome}
 use Rattle.std.specs.List.{flat_map}
 use Rattle.std.specs.Io.KnownBytes.{Consumes, IsAtEnd}
@@ -13,13 +13,12 @@ use Rattle.flute_parts.proofs.Facts.{Same-itself, Same-sym, Same-trans, Same-app
 use Rattle.flute_parts.proofs.Named.{Over-below}
 use Rattle.flute_journal.specs.declared.fault.ReadFault.{ReadFault}
 use Rattle.flute_journal.specs.declared.fault.ReadFault.TheVariants as faults
-use Rattle.flute_journal.specs.declared.fault.LoadFault.{LoadFault}
 use Rattle.flute_journal.specs.declared.fault.LoadFault.TheVariants.{Read}
 use Rattle.flute_journal.specs.Input.{failed}
 use Rattle.flute_journal.specs.declared.reader.Stage.{Stage}
-use Rattle.flute_journal.specs.declared.reader.Stage.TheVariants.{Header, Entries, Ended}
+use Rattle.flute_journal.specs.declared.reader.Stage.TheVariants.{Header, Ended}
 use Rattle.flute_journal.specs.Format.{header, entry, end, spelling}
-use Rattle.flute_journal.specs.Journal.{AreEntries, IsJournalWithin}
+use Rattle.flute_journal.specs.Journal.{AreEntries}
 use Rattle.flute_journal.specs.Reading.{is_open, position, opening, GivesEntry, GivesEnd, GivesFault, Gives}
 use Rattle.flute_journal.specs.Whole.{HasFault}
 use Rattle.flute_journal.specs.Stores.{IsJournalOf, BeginsWith, BeginsOver, IsLoadFault, refused, load_failed}
@@ -43,8 +42,8 @@ pub loaded-none : (s o y limit : ℕ) (u v : Option (List ℕ)) (stage : Stage) 
 loaded-none s o y limit u v stage content e is c =
     subst (λ (x : Option (List ℕ)). Loaded s o y limit u x stage content) (sym e)
     (subst (λ (x : Stage). Loaded s o y limit u u x content) (sym is)
-        (subst (λ (x : List Fact). Loaded s o y limit u u Header x) (sym c)
-            (record { entries = []; sofar = sofar-none limit u; same = Same-itself []; fits = none-over s o y })))
+    (subst (λ (x : List Fact). Loaded s o y limit u u Header x) (sym c)
+    (record { entries = []; sofar = sofar-none limit u; same = Same-itself []; fits = none-over s o y })))
 
 over-same : (F G : List Fact) (s o y : ℕ) → Same F G → Over F s o y → Over G s o y
 over-same F G s o y h = Over-below F G s o y (Below-from_Same F G h)

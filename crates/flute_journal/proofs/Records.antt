@@ -1,8 +1,8 @@
 -- The records of a datagram file.
-use Rattle.std.proofs.Common.{◌≡◌, ℕ, ◌+◌, ◌^◌, ◌<◌, ◌≤◌, leb, List, [], ◌∷◌, ◌++◌, length, take, drop, Option, Some, None, inl, inr, refl, sym, ap, ◌∙◌, subst, append_assoc, arith}
-use Rattle.std.proofs.lemmas.Bool.{le-leb, lt-leb}
+use Rattle.std.proofs.Common.{◌≡◌, ℕ, ◌+◌, ◌^◌, ◌<◌, ◌≤◌, true, false, leb, ◌⊎◌, List, [], ◌∷◌, ◌++◌, length, take, drop, Option, Some, None, inl, inr, refl, sym, ap, ◌∙◌, subst, append_assoc, arith}
+use Rattle.std.proofs.lemmas.Bool.{le-leb, lt-leb, lt-ltb}
 use Rattle.std.proofs.lemmas.List.{take_at, drop_at, length-append, append-nil, flat_map_more}
-use Rattle.std.specs.List.{flat_map, AllByRecursion}
+use Rattle.std.specs.List.{flat_map, AllByRecursion, IsSplitAt}
 use Rattle.std.specs.Io.KnownBytes.{Consumes, IsAtEnd}
 use Rattle.std.proofs.KnownBytes.{Consumes-trans, Consumes-nil}
 use Rattle.std.specs.Prelude.{IfSome}
@@ -12,11 +12,13 @@ use Rattle.flute_journal.specs.declared.fault.ReadFault.TheVariants as faults
 use Rattle.flute_journal.specs.declared.datagram_reader.FileStage.{FileStage}
 use Rattle.flute_journal.specs.declared.datagram_reader.FileStage.TheVariants.{Header, Records, Ended, Failed}
 use Rattle.flute_journal.specs.Numbers.{in_bytes}
-use Rattle.flute_journal.specs.Faults.{first_fault, cut, opening_fault}
+use Rattle.flute_journal.specs.Faults.{Check, first_fault, cut, opening_fault}
 use Rattle.flute_journal.specs.Input.{IsFaultOf}
 use Rattle.flute_journal.specs.Journal.{IsByte}
-use Rattle.flute_journal.specs.Parsing.{cut_fault}
-use Rattle.flute_journal.specs.Records.{file_header, record_of, IsDatagram, AreDatagrams, IsFileWithin, FileStops, in_header, behind, HasFileFault, record_checks, record_fault, given, opening, or_else, file_fault_from, GivesRecord, GivesNone, GivesFileFault}
+use Rattle.flute_journal.specs.Parsing.{StopsFront, cut_fault}
+use Rattle.flute_journal.specs.Records.{file_header, record_of, IsCut, IsDatagram, AreDatagrams, IsFileWithin, FileStops, in_header, behind, HasFileFault, record_checks, record_fault, given, opening, or_else, file_fault_from, GivesRecord, GivesNone, GivesFileFault}
+use Rattle.flute_journal.proofs.Numbers.{octets-drop}
+use Rattle.flute_journal.proofs.Decoded.{joined, front_octets}
 use Rattle.flute_journal.proofs.Checks.{first-pass, first-stop, cut-passes}
 use Rattle.flute_journal.proofs.Fronts.{fault-behind}
 use Rattle.flute_journal.proofs.Existence.{opening_is}
@@ -54,6 +56,24 @@ record_read limit count n u v w front d few spells small took size octs rest = (
   few,
   subst (λ (x : List ℕ). Consumes u w (x ++ d)) (sym (ap (in_bytes 2) size ∙ spells)) (Consumes-trans u v w front d took rest),
 )
+
+-- a record at the front of bytes in memory
+pub record_split : (bs field rest d later : List ℕ) (n : ℕ) → IsSplitAt bs 2 field rest → IsSplitAt rest n d later → in_bytes 2 n ≡ field → n < 2 ^ 16 → AllByRecursion IsByte bs
+    → IsDatagram d × (bs ≡ record_of d ++ later)
+record_split bs field rest d later n s t spells small oct = (
+  record {
+    short = omega (arith, t.3, small);
+    octets = front_octets rest d later n t (subst (AllByRecursion IsByte) (sym s.2) (octets-drop 2 bs oct));
+  },
+  joined bs field rest 2 s
+      ∙ ap (λ (x : List ℕ). x ++ rest) (sym spells ∙ ap (in_bytes 2) (sym t.3))
+      ∙ ap (λ (x : List ℕ). in_bytes 2 (length d) ++ x) (joined rest d later n t)
+      ∙ sym (append_assoc (in_bytes 2 (length d)) d later),
+)
+
+pub cut_behind : (bs field rest : List ℕ) (n : ℕ) → IsSplitAt bs 2 field rest → n ≡ big_endian field → length rest < n → IsCut bs
+cut_behind bs field rest n s is few =
+    inr (subst (λ (x : List ℕ). length x < big_endian (take 2 bs)) s.2 (subst (λ (x : List ℕ). length rest < big_endian x) s.1 (subst (λ k. length rest < k) is few)))
 
 -- A file that is read record by record.
 
@@ -177,3 +197,71 @@ file_sofar-fault limit u v w old new ds f s h = elim h.found [
   | inl p ↦ absurd (not_failed ds f (sym s.stage_is ∙ p.0))
   | inr p ↦ fault_at limit u v ds f s.are_datagrams s.read (subst (λ (x : FileStage). IsFaultOf (file_fault_from x limit) v f) s.stage_is p.1)
 ]
+
+first_of : (c d : Check) → c.1 ≡ faults.Cut → d.0 ≡ true → d.1 ≡ faults.Cut → first_fault (c ∷ d ∷ []) ≡ Some faults.Cut
+first_of (true, f) d e h k = ap Some e
+first_of (false, f) d e h k = first-stop d [] h ∙ ap Some k
+
+opening_fault_found : (limit : ℕ) (file : List ℕ) (f : ReadFault) → opening_fault file_header file ≡ Some f → HasFileFault limit (Some file) f
+opening_fault_found limit file faults.Read e = tt
+opening_fault_found limit file faults.OutOfMemory e = tt
+opening_fault_found limit file f e = ([], in_header refl e)
+
+nothing_behind : (opening rest : List ℕ) (n : ℕ) → length opening ≡ n → (length rest ≡ 0 ⊎ (6 ≤ n)) → length opening < 6 → rest ≡ []
+nothing_behind opening [] n len h short = refl
+nothing_behind opening (b ∷ bs) n len (inl e) short = absurd (omega (arith, e))
+nothing_behind opening (b ∷ bs) n len (inr e) short = absurd (omega (arith, len, e, short))
+
+-- A file that lies in memory, read so far.
+pub record FileRead (limit : ℕ) (file : List ℕ) (datagrams : List (List ℕ)) (rest : List ℕ) : Type 0 where
+  pub are_datagrams : AreDatagrams limit datagrams
+  pub whole : file ≡ file_header ++ flat_map record_of datagrams ++ rest
+
+pub file_read-none : (limit : ℕ) (file opening rest : List ℕ) (n : ℕ) → IsSplitAt file n opening rest → opening ≡ file_header → FileRead limit file [] rest
+file_read-none limit file opening rest n s is = record {
+  are_datagrams = record { valid = tt; few = omega arith };
+  whole = joined file opening rest n s ∙ ap (λ (x : List ℕ). x ++ rest) is;
+}
+
+pub file_read-next : (limit : ℕ) (file : List ℕ) (ds : List (List ℕ)) (d rest later : List ℕ) → FileRead limit file ds rest → length ds < limit → IsDatagram d → rest ≡ record_of d ++ later
+    → FileRead limit file (ds ++ d ∷ []) later
+file_read-next limit file ds d rest later h few v is = record {
+  are_datagrams = datagrams_more limit ds d h.are_datagrams v few;
+  whole =
+      h.whole ∙ ap (λ (x : List ℕ). file_header ++ flat_map record_of ds ++ x) is
+      ∙ sym (append_assoc (file_header ++ flat_map record_of ds) (record_of d) later)
+      ∙ ap (λ (x : List ℕ). x ++ later) (flat_map_more record_of file_header ds d);
+}
+
+pub file_read-end : (limit : ℕ) (file : List ℕ) (ds : List (List ℕ)) (rest : List ℕ) → FileRead limit file ds rest → length rest ≡ 0 → IsFileWithin limit file ds
+file_read-end limit file ds [] h e = record {
+  file = record { valid = h.are_datagrams.valid; bytes_are = h.whole ∙ append-nil (file_header ++ flat_map record_of ds) };
+  few = h.are_datagrams.few;
+}
+file_read-end limit file ds (b ∷ bs) h e = absurd (omega (arith, e))
+
+pub file_read-stops : (limit : ℕ) (file : List ℕ) (ds : List (List ℕ)) (rest : List ℕ) (f : ReadFault) → FileRead limit file ds rest → record_fault limit (length ds) rest ≡ Some f
+    → (datagrams : List (List ℕ)) × FileStops file limit datagrams f
+file_read-stops limit file ds rest f h e = (ds, behind (record { are_datagrams = h.are_datagrams; rest = rest; whole = h.whole; first = e }))
+
+pub many_at : (limit count : ℕ) (rest : List ℕ) → 0 < length rest → limit ≤ count → record_fault limit count rest ≡ Some faults.TooMany
+many_at limit count rest some le = ap (record_fault limit count) (sym (append-nil rest)) ∙ too_many_records limit count rest [] some le
+
+cut_passed : (limit count : ℕ) (rest : List ℕ) → count < limit → IsCut rest → first_fault (record_checks limit count rest) ≡ Some faults.Cut
+cut_passed limit count rest few (inl short) =
+    first-pass (leb limit count, faults.TooMany) (cut 2 rest ∷ cut (big_endian (take 2 rest)) (drop 2 rest) ∷ []) (lt-leb limit count few)
+    ∙ first-stop (cut 2 rest) (cut (big_endian (take 2 rest)) (drop 2 rest) ∷ []) (lt-ltb (length rest) 2 short)
+cut_passed limit count rest few (inr short) =
+    first-pass (leb limit count, faults.TooMany) (cut 2 rest ∷ cut (big_endian (take 2 rest)) (drop 2 rest) ∷ []) (lt-leb limit count few)
+    ∙ first_of (cut 2 rest) (cut (big_endian (take 2 rest)) (drop 2 rest)) refl (lt-ltb (length (drop 2 rest)) (big_endian (take 2 rest)) short) refl
+
+pub cut_at : (limit count : ℕ) (rest : List ℕ) → 0 < length rest → count < limit → IsCut rest → record_fault limit count rest ≡ Some faults.Cut
+cut_at limit count [] some few h = absurd (omega (arith, some))
+cut_at limit count (b ∷ bs) some few h = cut_passed limit count (b ∷ bs) few h
+
+-- the header of a file in memory is at fault
+pub opening_stops : (limit : ℕ) (file opening rest : List ℕ) (n : ℕ) (f : ReadFault) → IsSplitAt file n opening rest → (length rest ≡ 0 ⊎ (6 ≤ n)) → StopsFront 6 (opening_fault file_header) opening f
+    → HasFileFault limit (Some file) f
+opening_stops limit file opening rest n f s whole stops =
+    let bytes : file ≡ opening ++ rest = joined file opening rest n s in
+    opening_fault_found limit file f (ap (opening_fault file_header) bytes ∙ stops.whole rest (λ e. nothing_behind opening rest n s.3 whole (stops.short e)))

@@ -6,13 +6,13 @@ use Rattle.std.proofs.KnownBytes.{Appends-trans}
 use Rattle.std.proofs.lemmas.Grind.{flat_map-append}
 use Rattle.std.proofs.lemmas.List.{length-append, flat_map_more}
 use Rattle.flute_parts.specs.declared.fact.Fact.{Fact}
-use Rattle.flute_parts.specs.Facts.{Same, IsRising}
+use Rattle.flute_parts.specs.Facts.{IsRising}
 use Rattle.flute_parts.specs.Devices.{AppendsPart}
 use Rattle.flute_parts.proofs.Facts.{Same-itself}
 use Rattle.flute_parts.proofs.Rising.{rising_unique}
 use Rattle.flute_parts.proofs.Appended.{AppendsPart-first, AppendsPart-second}
 use Rattle.flute_journal.specs.Format.{header, entry, end, spelling}
-use Rattle.flute_journal.specs.Journal.{IsFact, Collects, Journal}
+use Rattle.flute_journal.specs.Journal.{IsFact, Journal}
 use Rattle.flute_journal.proofs.Existence.{all_more}
 
 -- of these facts some are left, and the others were written, so many entries behind the header
@@ -52,7 +52,7 @@ saved-part facts left rest u v w count f s e h =
     let n = length facts in
     subst (AppendsPart u w) (spelled s.done rest f n ∙ ap (λ (x : List Fact). header ++ flat_map entry x ++ end n) (sym all))
     (AppendsPart-first u w ((header ++ flat_map entry s.done) ++ entry f) (flat_map entry rest ++ end n)
-        (AppendsPart-second u v w (header ++ flat_map entry s.done) (entry f) s.written h))
+    (AppendsPart-second u v w (header ++ flat_map entry s.done) (entry f) s.written h))
 
 pub header-part : (facts : List Fact) (u v : Option (List ℕ)) → AppendsPart u v header → AppendsPart u v (spelling facts)
 header-part facts u v h = AppendsPart-first u v header (flat_map entry facts ++ end (length facts)) h

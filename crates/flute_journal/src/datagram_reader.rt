@@ -141,8 +141,8 @@ fn read_record<R: Source>(
     Ok(Some(datagram))
 }
 
-// The number of the bytes of a datagram.
-fn length_in(field: &[u8]) -> u16
+/// The number of the bytes of a datagram.
+pub fn length_in(field: &[u8]) -> u16
     requires { length_of field.now ≡ 2 }
     ensures value { result ≡ big_endian field.now }
     ensures spelled { in_bytes 2 result ≡ field.now }

@@ -1,6 +1,7 @@
 //! Journals: the facts of a reception as bytes, each address once and in rising order.
 #![tactic(auto)]
 
+mod datagram_file;
 mod datagram_reader;
 mod fault;
 mod format;
@@ -12,6 +13,7 @@ mod reading;
 mod save;
 pub mod writing;
 
+pub use datagram_file::datagrams_in;
 pub use datagram_reader::DatagramReader;
 pub use fault::{LoadFault, ReadFault, SaveFault};
 pub use load::read_store;

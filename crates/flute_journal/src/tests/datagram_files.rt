@@ -75,6 +75,10 @@ fn datagram_files_are_read(rt: HostRuntime) -> Result<(), Fail> {
     assert_eq!(rt; datagrams.len(), 2);
     assert_eq!(rt; datagrams[0].as_slice(), first.as_slice());
     assert_eq!(rt; datagrams[1].as_slice(), second.as_slice());
+    let slices = datagrams_in(rt.alloc(), &file, 2)?;
+    assert_eq!(rt; slices.len(), 2);
+    assert_eq!(rt; slices[0], first.as_slice());
+    assert_eq!(rt; slices[1], second.as_slice());
     for piece in [1, 2, 7] {
         let mut source = ShortSource::new(&file, piece, usize::MAX);
         let datagrams = datagrams_of(rt.alloc(), &mut source, 2)?;
@@ -98,6 +102,8 @@ fn datagram_files_are_cut(rt: HostRuntime) -> Result<(), Fail> {
         };
         assert_eq!(rt; lengths.as_slice(), whole, "of {n} bytes");
         assert!(rt; fault == cut, "of {n} bytes");
+        let slices = datagrams_in(rt.alloc(), &file[..n], 100);
+        assert!(rt; slices.err() == cut, "of {n} bytes");
     }
     Ok(())
 }
@@ -126,6 +132,8 @@ fn datagram_files_have_faults(rt: HostRuntime) -> Result<(), Fail> {
         assert!(rt; found == fault, "behind {records}");
         let whole = datagrams_of(rt.alloc(), &mut MemorySource::new(&file), max_records);
         assert!(rt; whole.err() == fault, "behind {records}");
+        let slices = datagrams_in(rt.alloc(), &file, max_records);
+        assert!(rt; slices.err() == fault, "behind {records}");
     }
     Ok(())
 }

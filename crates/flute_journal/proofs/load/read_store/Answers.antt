@@ -33,7 +33,7 @@ returns-in_err-add-clause-fault g c =
     let e = err_from_is_err_and c.from_residual-in_err-add.result c.from_residual-in_err-add.ensures.1 in
     rw (e.1 ∙ ap Err e.2)
     (loaded-full _ _ _ _ _ _ _ _ _ _ _ _ _ _ c.loop-store.invariant.0 c.loop-store.invariant.1 c.in-Some.is c.in_ok-fact.ensures.gives
-        (λ full. c.in_err-add.ensures.full.0 (ap Err full)))
+    (λ full. c.in_err-add.ensures.full.0 (ap Err full)))
 
 pub loop-store-preserved-in_ok-add : goal.loop-store-preserved-in_ok-add
 loop-store-preserved-in_ok-add g c = (

@@ -1,8 +1,5 @@
 -- The store holds what the entries so far come to, within its limits.
-use Rattle.std.proofs.Common.{◌≡◌, ℕ, ◌+◌, ◌-◌, List, length}
-use Rattle.flute_parts.specs.Facts.{Same}
-use Rattle.flute_parts.specs.Limits.{Over}
-use Rattle.flute_parts.specs.declared.fact.Fact.{Fact}
+use Rattle.std.proofs.Common.{◌≡◌, ◌-◌}
 use Rattle.flute_journal.proofs.Loading.{Loaded, entries_at}
 use Rattle.flute_journal.proofs.load.read_store.Given as goal
 

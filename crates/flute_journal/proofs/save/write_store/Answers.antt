@@ -1,4 +1,4 @@
-use Rattle.std.proofs.Common.{Err, ◌≡◌, rules, arith, sym, ap, ◌∙◌, subst}
+use Rattle.std.proofs.Common.{rules}
 use Rattle.std.proofs.lemmas.Result.{err_from_is_err_and}
 use Rattle.flute_journal.proofs.Saving.{header-part, saved-next, saved-part, saved-whole, saved-cut, only-spelling}
 use Rattle.flute_journal.proofs.save.write_store.Goals as goal

@@ -1,5 +1,5 @@
 -- What was written so far are the header and the entries of the facts that are not left.
-use Rattle.std.proofs.Common.{◌≡◌, ℕ, length}
+use Rattle.std.proofs.Common.{◌≡◌}
 use Rattle.flute_journal.proofs.Saving.{Saved}
 use Rattle.flute_journal.proofs.save.write_store.Given as goal
 
