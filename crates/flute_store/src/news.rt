@@ -1,5 +1,5 @@
 //! What is told of an object at once.
-ghost use Rattle.std.specs.Prelude.{◌≡◌, [], ◌∷◌, length, IfSome, IfNone, IfOk, IfErr, bytes_eq};
+ghost use Rattle.std.specs.Prelude.{◌≡◌, [], ◌∷◌, length, IfSome, IfNone, IfOk, IfErr, IsOk, bytes_eq};
 ghost use Rattle.flute_join.specs.Cell.{cell_join, IsKnown};
 ghost use Rattle.flute_parts.specs.Addresses.{address};
 ghost use Rattle.flute_parts.specs.Facts.{same_information};
@@ -90,11 +90,13 @@ impl<'a> News<'a> {
 }
 
 impl Told<'_> {
-    /// A cell of its own. Its bytes are as many as a symbol's, so the one refusal is `OutOfMemory`.
+    /// A cell of its own. Its bytes are as many as a symbol's, so the one refusal is `OutOfMemory`. A conflict takes
+    /// no memory.
     pub fn to_cell(&self, alloc: Global) -> Result<Cell<Bytes>, JoinRefusal>
         requires { HasSize self.now }
         ensures ok { IfOk result (λ c. c ≡ told_cell self.now) }
         ensures err { IfErr result (λ e. e ≡ JoinRefusal.OutOfMemory) }
+        ensures conflict { self.now ≡ Told.Conflict → IsOk result }
     {
         match self {
             Told::One(bytes) => match Bytes::new(alloc, bytes) {

@@ -4,6 +4,7 @@ use flute_parts::{Bytes, Fact, Info, Key, MemorySink, ObjectKey, SessionKey, Std
 use std::alloc::Global;
 use std::io::{self, ErrorKind, Write};
 use std::process::Abort;
+use std::test::Fail;
 
 type Small = Store<2, 2, 8>;
 
@@ -273,4 +274,36 @@ fn an_object_may_lack_its_information(rt: HostRuntime) {
     laws::objects_agree();
     laws::gaps_are_maximal_runs();
     laws::whole_objects_have_their_length();
+}
+
+#[test]
+fn faults_of_gaps_are_shown(rt: HostRuntime) -> Result<(), Fail> {
+    for (fault, text) in [
+        (GapFault::NoObject, "no object"),
+        (GapFault::NoInformation, "no information"),
+        (GapFault::ConflictingInformation, "conflicting information"),
+    ] {
+        let shown = format!(in rt.alloc(); "{fault}")?;
+        assert_eq!(rt; shown.as_str(), text);
+    }
+    Ok(())
+}
+
+#[test]
+fn faults_of_objects_are_shown(rt: HostRuntime) -> Result<(), Fail> {
+    let first = SymbolId { sbn: 0, esi: 1 };
+    for (fault, text) in [
+        (ExtractFault::NoObject, "no object"),
+        (ExtractFault::NoInformation, "no information"),
+        (
+            ExtractFault::ConflictingInformation,
+            "conflicting information",
+        ),
+        (ExtractFault::NotWhole { first }, "not whole"),
+        (ExtractFault::Write, "write"),
+    ] {
+        let shown = format!(in rt.alloc(); "{fault}")?;
+        assert_eq!(rt; shown.as_str(), text);
+    }
+    Ok(())
 }
