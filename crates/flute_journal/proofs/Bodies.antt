@@ -7,6 +7,8 @@ use Rattle.flute_parts.specs.declared.key.Key.{Key}
 use Rattle.flute_parts.specs.declared.symbol_id.SymbolId.{SymbolId}
 use Rattle.flute_parts.specs.declared.address.Address.{Address}
 use Rattle.flute_parts.specs.declared.fact.Fact.{Fact}
+use Rattle.flute_parts.specs.declared.fact.Fact.TheVariants as facts
+use Rattle.flute_store.specs.Walk.{IsSized}
 use Rattle.flute_journal.specs.declared.format.Kind.{Kind}
 use Rattle.flute_journal.specs.declared.format.Kind.TheVariants as kinds
 use Rattle.flute_journal.specs.declared.format.Fixed.TheVariants.{Symbol}
@@ -51,3 +53,10 @@ pub body_ends : (k : Kind) (u v w : Option (List ℕ)) (front part : List ℕ) �
     → (all : List ℕ) × Consumes u w all × IsWithin entry IsFact all
 body_ends k u v w front part is took rest h =
     (front ++ part, Consumes-trans u v w front part took rest, subst (λ (x : List ℕ). IsWithin entry IsFact (x ++ part)) (sym is) (entry_within k part h))
+
+-- a symbol of a fact has as many bytes as one has
+pub fact_sized : (f : Fact) → IsFact f → IsSized f
+fact_sized (facts.Info key info) v = tt
+fact_sized (facts.InfoConflict key) v = tt
+fact_sized (facts.Symbol key id bytes) v = record { some = v.2.some; few = omega (arith, v.2.short) }
+fact_sized (facts.SymbolConflict key id) v = tt

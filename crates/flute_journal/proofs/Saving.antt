@@ -1,5 +1,5 @@
 -- A store that is written entry by entry.
-use Rattle.std.proofs.Common.{◌≡◌, ℕ, ◌+◌, ◌<◌, ◌≤◌, ◌^◌, List, [], ◌∷◌, ◌++◌, length, Option, refl, sym, ap, ◌∙◌, subst, append_assoc, append-nil, arith}
+use Rattle.std.proofs.Common.{◌≡◌, ℕ, ◌+◌, List, [], ◌∷◌, ◌++◌, length, Option, refl, sym, ap, ◌∙◌, subst, append_assoc, append-nil, arith}
 use Rattle.std.specs.List.{flat_map, AllByRecursion}
 use Rattle.std.specs.Io.KnownBytes.{Appends}
 use Rattle.std.proofs.KnownBytes.{Appends-trans}
@@ -8,7 +8,6 @@ use Rattle.std.proofs.lemmas.List.{length-append, flat_map_more}
 use Rattle.flute_parts.specs.declared.fact.Fact.{Fact}
 use Rattle.flute_parts.specs.Facts.{IsRising}
 use Rattle.flute_parts.specs.Devices.{AppendsPart}
-use Rattle.flute_parts.proofs.Facts.{Same-itself}
 use Rattle.flute_parts.proofs.Rising.{rising_unique}
 use Rattle.flute_parts.proofs.Appended.{AppendsPart-first, AppendsPart-second}
 use Rattle.flute_journal.specs.Format.{header, entry, end, spelling}
@@ -80,15 +79,6 @@ pub saved-cut : (facts left : List Fact) (u v w : Option (List ℕ)) (count : �
     → AppendsPart u w (spelling facts)
 saved-cut facts left u v w count s e h =
     subst (AppendsPart u w) (spelled_all facts left u v count s e) (AppendsPart-second u v w (header ++ flat_map entry s.done) (end count) s.written h)
-
-pub saved-journal : (facts left : List Fact) (u v : Option (List ℕ)) (count most : ℕ) → Saved facts left u v count → left ≡ [] → IsRising facts
-    → length facts ≤ most → most < 2 ^ 64 → Journal (spelling facts) facts
-saved-journal facts left u v count most s e rising few small = (
-  facts,
-  record { valid = subst (AllByRecursion IsFact) (saved-done facts left u v count s e) s.valid; rising = rising; same = Same-itself facts },
-  omega (arith, few, small),
-  refl,
-)
 
 -- rising facts have no other journal
 pub only-spelling : (facts : List Fact) → IsRising facts → (bytes : List ℕ) → Journal bytes facts → bytes ≡ spelling facts

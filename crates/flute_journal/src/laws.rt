@@ -6,6 +6,7 @@ ghost use Rattle.flute_parts.specs.declared.fact.Fact.{Fact};
 ghost use Rattle.flute_journal.specs.declared.fault.ReadFault.{ReadFault as Fault};
 ghost use Rattle.flute_journal.specs.Format.{header, entry, spelling};
 ghost use Rattle.flute_journal.specs.Journal.{IsByte, IsFact, Journal, Stops, IsJournalWithin};
+ghost use Rattle.flute_journal.specs.Stores.{IsJournalOf};
 ghost use Rattle.flute_journal.specs.declared.fault.ReadFault.TheVariants as faults;
 ghost use Rattle.flute_journal.specs.Records.{IsFileOf, IsFileWithin, FileStops};
 
@@ -27,6 +28,11 @@ pub fn no_journal_begins_another()
 /// Lists with one journal come to the same at each address.
 pub fn a_journal_has_one_content()
     ensures { (bs : List ℕ) (F G : List Fact) → Journal bs F → Journal bs G → Same F G }
+{}
+
+/// A journal within a bound is the journal of the facts that its entries are.
+pub fn a_journal_within_a_bound_is_one()
+    ensures { (bs : List ℕ) (limit : ℕ) (F : List Fact) → limit < 2 ^ 64 → IsJournalOf limit bs F → Journal bs F }
 {}
 
 /// A journal stops nowhere but behind more entries than the bound.

@@ -11,7 +11,7 @@ mod load;
 mod reader;
 mod reading;
 mod save;
-pub mod writing;
+mod writing;
 
 pub use datagram_file::datagrams_in;
 pub use datagram_reader::DatagramReader;

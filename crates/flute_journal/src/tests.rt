@@ -3,17 +3,16 @@
 mod datagram_files;
 mod faults;
 mod journals;
+mod stores;
 mod vectors;
-mod whole;
-
-ghost use Rattle.std.specs.Prelude.{◌≡◌};
-ghost use Rattle.flute_parts.specs.Addresses.{fact_of};
 
 use super::*;
-use flute_parts::{
-    Bytes, Fact, FactRef, Info, InfoFault, Key, ObjectKey, SessionKey, Source, SymbolId,
-};
+use flute_parts::{Fact, FactRef, Info, InfoFault, Key, ObjectKey, SessionKey, Source, SymbolId};
+use flute_store::Store;
 use std::test::Fail;
+
+/// More than any of the journals here needs.
+type Small = Store<4, 4, 4>;
 
 /// The bound of journals that are not refused for it.
 const MANY: u64 = 16_777_216;
@@ -74,30 +73,12 @@ impl Told {
     }
 }
 
-fn borrowed(fact: &Fact) -> FactRef<'_>
-    ensures { fact_of result ≡ fact.now }
-{
-    match fact {
-        Fact::Info { key, info } => FactRef::Info {
-            key: *key,
-            info: *info,
-        },
-        Fact::InfoConflict { key } => FactRef::InfoConflict { key: *key },
-        Fact::Symbol { key, id, bytes } => FactRef::Symbol {
-            key: *key,
-            id: *id,
-            bytes: bytes.as_slice(),
-        },
-        Fact::SymbolConflict { key, id } => FactRef::SymbolConflict { key: *key, id: *id },
-    }
-}
-
 fn tell(facts: &[Fact], told: &[Told]) -> bool {
     facts.len() == told.len()
         && facts
             .iter()
             .zip(told)
-            .all(|(fact, told)| Some(borrowed(fact)) == told.fact())
+            .all(|(fact, told)| Some(fact.as_ref()) == told.fact())
 }
 
 /// All the entries that a reader gives, and the fault that it stays at, or None where it stays at the end.

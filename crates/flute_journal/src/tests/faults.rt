@@ -141,9 +141,21 @@ fn faults_are_told_in_the_order_of_the_fields(rt: HostRuntime) -> Result<(), Fai
             let (facts, fault) = read(&rt, &mut source, *max_entries)?;
             assert_eq!(rt; facts.len(), *entries, "entries of {number}");
             assert!(rt; fault == Some(*wanted), "fault of {number}");
+            let mut source = ShortSource::new(&input, piece, usize::MAX);
+            let fault = load(&rt, &mut source, *max_entries);
+            assert!(rt;
+                fault == Some(LoadFault::Read(*wanted)),
+                "store of {number}"
+            );
         }
     }
     Ok(())
+}
+
+/// Why no store is read.
+fn load<R: Source>(rt: &HostRuntime, source: &mut R, max_entries: u64) -> Option<LoadFault> {
+    let store: Result<Small, LoadFault> = read_store(rt.alloc(), source, max_entries);
+    store.err()
 }
 
 /// As many entries as may come, and the largest key.
@@ -161,6 +173,8 @@ fn bounds_that_are_kept(rt: HostRuntime) -> Result<(), Fail> {
             fault == None && facts.len() as u64 == max_entries,
             "{max_entries}"
         );
+        let fault = load(&rt, &mut MemorySource::new(&input), max_entries);
+        assert!(rt; fault == None, "store of {max_entries}");
     }
     Ok(())
 }
@@ -193,6 +207,10 @@ fn journals_that_end_early(rt: HostRuntime) -> Result<(), Fail> {
         let (facts, fault) = read(&rt, &mut source, MANY)?;
         let wanted = Some(ReadFault::Read);
         assert!(rt; tell(&facts, entries) && fault == wanted, "failed at {len}");
+        let mut source = ShortSource::new(&journal, 7, len);
+        let fault = load(&rt, &mut source, MANY);
+        let wanted = Some(LoadFault::Read(ReadFault::Read));
+        assert!(rt; fault == wanted, "store failed at {len}");
     }
     Ok(())
 }
@@ -224,6 +242,13 @@ fn faults_have_names(rt: HostRuntime) -> Result<(), Fail> {
         assert!(rt; is_shown(&rt, &fault, name)?, "{name}");
     }
     assert!(rt; is_shown(&rt, &SaveFault::Write, "Write")?);
+    for (fault, name) in [
+        (LoadFault::Read(ReadFault::Count), "Count"),
+        (LoadFault::Full, "Full"),
+        (LoadFault::OutOfMemory, "OutOfMemory"),
+    ] {
+        assert!(rt; is_shown(&rt, &fault, name)?, "{name}");
+    }
     Ok(())
 }
 
@@ -233,6 +258,7 @@ fn laws_can_be_called() {
     laws::one_journal_for_one_content();
     laws::no_journal_begins_another();
     laws::a_journal_has_one_content();
+    laws::a_journal_within_a_bound_is_one();
     laws::a_journal_stops_at_the_bound();
     laws::a_journal_has_no_fault();
     laws::bytes_stop_once();

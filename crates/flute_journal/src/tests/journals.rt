@@ -1,9 +1,8 @@
-//! Journals, read in any pieces and written.
+//! Journals, read in any pieces.
 
 use super::vectors::{self, bytes};
 use super::*;
-use crate::writing::{write_end, write_entry, write_header};
-use flute_parts::{MemorySink, MemorySource, ShortSink, ShortSource, Sink};
+use flute_parts::{MemorySource, ShortSource};
 
 /// In one piece, and in pieces of 1, 2 and 7 bytes.
 #[test]
@@ -39,47 +38,4 @@ fn no_byte_past_an_entry_is_read(rt: HostRuntime) -> Result<(), Fail> {
         assert_eq!(rt; source.read(&mut rest)?, left, "behind {entries}");
     }
     Ok(())
-}
-
-/// What was read is written as the same bytes.
-#[test]
-fn journals_are_written(rt: HostRuntime) -> Result<(), Fail> {
-    for (parts, _) in JOURNALS {
-        let journal = bytes(rt.alloc(), parts)?;
-        let mut sink = MemorySink::new(rt.alloc());
-        assert!(rt; write_again(&rt, &journal, &mut sink)?);
-        assert_eq!(rt; sink.as_slice(), journal.as_slice());
-    }
-    Ok(())
-}
-
-/// A sink that takes some bytes has them, and the call has failed.
-#[test]
-fn sinks_that_fail(rt: HostRuntime) -> Result<(), Fail> {
-    let journal = bytes(rt.alloc(), vectors::WHOLE)?;
-    assert_eq!(rt; journal.len(), 110);
-    for good in 0..journal.len() {
-        let mut sink = ShortSink::new(rt.alloc(), good);
-        assert!(rt; !write_again(&rt, &journal, &mut sink)?);
-        assert_eq!(rt; sink.as_slice(), &journal[..good]);
-    }
-    Ok(())
-}
-
-/// Writes the journal that the bytes are, and answers whether the sink took it all.
-fn write_again<W: Sink>(rt: &HostRuntime, journal: &[u8], sink: &mut W) -> Result<bool, Fail> {
-    let mut source = MemorySource::new(journal);
-    let mut reader = JournalReader::new(&mut source, MANY);
-    if write_header(sink).is_err() {
-        return Ok(false);
-    }
-    for count in 0..10 {
-        let Some(fact) = reader.next(rt.alloc())? else {
-            return Ok(write_end(sink, count).is_ok());
-        };
-        if write_entry(sink, &borrowed(&fact)).is_err() {
-            return Ok(false);
-        }
-    }
-    Err(Fail::from("no end"))
 }

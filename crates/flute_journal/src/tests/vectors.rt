@@ -1,4 +1,4 @@
-//! Journals in hex, by name and in parts. Spaces are no part of them.
+//! Journals and datagrams in hex, by name, the journals in parts. Spaces are no part of them.
 //!
 //! They are of session 7 and file 1, `hello` of 5 bytes, in symbols of 4 bytes and blocks of at most 2 symbols.
 
@@ -66,6 +66,47 @@ pub const JOINED: &[&str] = &[
     LETTER_X,
     END_4,
 ];
+
+/// The whole file, with two values of its last symbol.
+pub const LAST_IN_CONFLICT: &[&str] = &[
+    HEADER,
+    "01",
+    KEY,
+    INFO,
+    "03",
+    KEY,
+    HELL,
+    "04",
+    KEY,
+    "0000 0001",
+    END_3,
+];
+
+/// A datagram of its information and symbol 0.
+pub const INFO_AND_FIRST_SYMBOL: &str =
+    "10A00800 00000000 00000007 00000001 40040000 00000005 00000004 00000002 00000000 68656C6C";
+
+/// Of its information and the last symbol, short.
+pub const INFO_AND_LAST_SYMBOL: &str =
+    "10A00800 00000000 00000007 00000001 40040000 00000005 00000004 00000002 00000001 6F";
+
+/// Of its information and the last symbol, padded to 4 bytes.
+pub const INFO_AND_PADDED_SYMBOL: &str =
+    "10A00800 00000000 00000007 00000001 40040000 00000005 00000004 00000002 00000001 6F000000";
+
+/// Of symbol 0, with a TSI and a TOI of 16 bits each.
+pub const FIRST_SYMBOL_NARROW: &str = "10100300 00000000 00070001 00000000 68656C6C";
+
+/// Of its information.
+pub const INFO_ALONE: &str =
+    "10A00800 00000000 00000007 00000001 40040000 00000005 00000004 00000002";
+
+/// Of other information: blocks of at most 3 symbols.
+pub const OTHER_INFO: &str =
+    "10A00800 00000000 00000007 00000001 40040000 00000005 00000004 00000003";
+
+/// Of the last symbol.
+pub const LAST_SYMBOL: &str = "10A00400 00000000 00000007 00000001 00000001 6F";
 
 /// The bytes that parts in hex have.
 pub fn bytes(alloc: Global, parts: &[&str]) -> Result<Vec<u8>, Fail> {

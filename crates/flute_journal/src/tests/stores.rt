@@ -1,0 +1,111 @@
+//! Stores, written as journals and read.
+
+use super::vectors::{
+    self, FIRST_SYMBOL_NARROW, INFO_ALONE, INFO_AND_FIRST_SYMBOL, INFO_AND_LAST_SYMBOL,
+    INFO_AND_PADDED_SYMBOL, LAST_SYMBOL, OTHER_INFO, bytes,
+};
+use super::*;
+use flute_parts::{MemorySink, MemorySource, ShortSink};
+use std::alloc::Global;
+
+/// A new store that took these datagrams.
+fn taken(alloc: Global, datagrams: &[&str]) -> Result<Small, Fail> {
+    let mut store = Store::new(alloc);
+    for datagram in datagrams {
+        let datagram = bytes(alloc, &[datagram])?;
+        store.take(alloc, &datagram)?;
+    }
+    Ok(store)
+}
+
+/// Whether the store is written as this journal, with so many entries.
+fn is_written(alloc: Global, store: &Small, journal: &[&str], entries: u64) -> Result<bool, Fail> {
+    let mut sink = MemorySink::new(alloc);
+    let count = write_store(store, &mut sink)?;
+    Ok(count == entries && sink.as_slice() == bytes(alloc, journal)?.as_slice())
+}
+
+/// What came is written in order and once, however it came: in any order, repeated, and with fields of other widths.
+#[test]
+fn stores_are_written(rt: HostRuntime) -> Result<(), Fail> {
+    let alloc = rt.alloc();
+    let first = INFO_AND_FIRST_SYMBOL;
+    let last = INFO_AND_LAST_SYMBOL;
+    let narrow = FIRST_SYMBOL_NARROW;
+    let received: &[(&[&str], &[&str], u64)] = &[
+        (&[], vectors::NOTHING, 0),
+        (&[first, last], vectors::WHOLE, 3),
+        (&[last, first, last, first, last, first], vectors::WHOLE, 3),
+        (&[narrow, INFO_ALONE, LAST_SYMBOL], vectors::WHOLE, 3),
+        (&[INFO_ALONE, OTHER_INFO, INFO_ALONE], vectors::CONFLICT, 1),
+    ];
+    for (number, (datagrams, journal, entries)) in received.iter().enumerate() {
+        let store = taken(alloc, datagrams)?;
+        assert!(rt; is_written(alloc, &store, journal, *entries)?, "{number}");
+    }
+    Ok(())
+}
+
+#[test]
+fn joined_stores_are_written(rt: HostRuntime) -> Result<(), Fail> {
+    let alloc = rt.alloc();
+    let mut store = taken(alloc, &[INFO_AND_FIRST_SYMBOL])?;
+    let other = taken(alloc, &[INFO_AND_LAST_SYMBOL])?;
+    for _ in 0..2 {
+        store.absorb(alloc, &other)?;
+        assert!(rt; is_written(alloc, &store, vectors::WHOLE, 3)?);
+    }
+    store.absorb(alloc, &taken(alloc, &[INFO_AND_PADDED_SYMBOL])?)?;
+    assert!(rt; is_written(alloc, &store, vectors::LAST_IN_CONFLICT, 3)?);
+    Ok(())
+}
+
+/// What is read holds what the journal tells, and is written as the same journal.
+#[test]
+fn stores_are_read(rt: HostRuntime) -> Result<(), Fail> {
+    let alloc = rt.alloc();
+    for (journal, told) in JOURNALS {
+        let input = bytes(alloc, journal)?;
+        let store: Small = read_store(alloc, &mut MemorySource::new(&input), MANY)?;
+        let entries = told.len();
+        assert_eq!(rt; store.walk().count(), entries);
+        for (fact, told) in store.walk().zip(*told) {
+            assert!(rt; Some(fact) == told.fact(), "of {entries}");
+        }
+        assert!(rt;
+            is_written(alloc, &store, journal, entries as u64)?,
+            "of {entries}"
+        );
+    }
+    Ok(())
+}
+
+/// A journal of two symbols, and a store of one.
+#[test]
+fn a_store_that_is_too_small(rt: HostRuntime) -> Result<(), Fail> {
+    let input = bytes(rt.alloc(), vectors::WHOLE)?;
+    let store: Result<Store<1, 1, 1>, LoadFault> = read_store(
+        rt.alloc(),
+        &mut MemorySource::new(&input),
+        MANY,
+    );
+    assert!(rt; store.err() == Some(LoadFault::Full));
+    let store: Store<1, 1, 2> = read_store(rt.alloc(), &mut MemorySource::new(&input), MANY)?;
+    assert_eq!(rt; store.walk().count(), 3);
+    Ok(())
+}
+
+/// A sink that takes some bytes has them, and the call has failed.
+#[test]
+fn sinks_that_fail(rt: HostRuntime) -> Result<(), Fail> {
+    let store = taken(rt.alloc(), &[INFO_AND_FIRST_SYMBOL, INFO_AND_LAST_SYMBOL])?;
+    let journal = bytes(rt.alloc(), vectors::WHOLE)?;
+    assert_eq!(rt; journal.len(), 110);
+    for good in 0..journal.len() {
+        let mut sink = ShortSink::new(rt.alloc(), good);
+        let fault = write_store(&store, &mut sink).err();
+        assert!(rt; fault == Some(SaveFault::Write), "{good}");
+        assert_eq!(rt; sink.as_slice(), &journal[..good]);
+    }
+    Ok(())
+}
