@@ -8,3 +8,6 @@ mod Existence
 mod Exact
 mod Decided
 pub mod Computed
+pub mod Written
+pub mod Pieces
+mod Faults

@@ -7,3 +7,7 @@ pub mod Walk
 pub mod Facts
 pub mod Reading
 pub mod Examples
+pub mod Writing
+pub mod Outgoing
+pub mod Encoding
+pub mod Carousel

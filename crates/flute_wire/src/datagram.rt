@@ -72,6 +72,14 @@ impl Datagram {
         Ok(Datagram { bytes })
     }
 
+    /// These bytes, which are few enough.
+    pub(crate) fn of(bytes: Vec<u8>) -> Datagram
+        requires { length bytes.items ≤ 65535 }
+        ensures { result ≡ bytes.items }
+    {
+        Datagram { bytes }
+    }
+
     /// The bytes, at most 65,535.
     pub fn as_slice(&self) -> &[u8]
         ensures bytes { result.now ≡ self.now }

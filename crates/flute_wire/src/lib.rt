@@ -6,6 +6,8 @@
 #![tactic(auto)]
 
 mod datagram;
+mod datagrams;
+mod encoding;
 mod extensions;
 mod first_word;
 mod header;
@@ -14,12 +16,17 @@ mod numbers;
 mod packet;
 mod reading;
 mod refusal;
+mod sending;
+mod writing;
 
 pub use datagram::{Datagram, DatagramFault};
+pub use datagrams::Datagrams;
 pub use laws::{computed_reading, one_reading};
 pub use packet::Packet;
 pub use reading::read;
 pub use refusal::Refusal;
+pub use sending::{CarouselFault, carousel};
+pub use writing::{Outgoing, WriteFault, write};
 
 #[cfg(test)]
 mod tests;

@@ -1,0 +1,53 @@
+//! Datagrams in order.
+
+use crate::datagram::Datagram;
+use std::alloc::{AllocError, Global};
+use std::marker::Model;
+
+/// A list of datagrams. [`carousel`](crate::carousel) makes it.
+#[derive(Debug, Drop)]
+pub struct Datagrams {
+    list: Vec<Datagram>,
+}
+
+impl Model for Datagrams {
+    ghost use Rattle.std.specs.Prelude.{ℕ, List};
+
+    ghost Value = { List (List ℕ) };
+
+    ghost view = { λ d. d.list.items };
+}
+
+impl Datagrams {
+    ghost use Rattle.std.specs.Prelude.{◌≡◌, [], ◌∷◌, ◌++◌, length, slice_get, IfOk, OnOk};
+    ghost use Rattle.std.specs.Option.{option_copied};
+
+    /// No datagram, with room for so many.
+    pub(crate) fn with_capacity(alloc: Global, capacity: usize) -> Result<Datagrams, AllocError>
+        ensures { IfOk result (λ datagrams. datagrams ≡ []) }
+    {
+        let list = Vec::with_capacity(alloc, capacity)?;
+        Ok(Datagrams { list })
+    }
+
+    /// Adds one at the end. Without memory for it, it is dropped, and nothing is added.
+    pub(crate) fn push(&mut self, datagram: Datagram) -> Result<(), AllocError>
+        ensures { OnOk result (self.new ≡ self.old ++ datagram ∷ []) }
+    {
+        self.list.push(datagram).map_err(|_| AllocError)
+    }
+
+    /// How many there are.
+    pub fn len(&self) -> usize
+        ensures { result ≡ length self.now }
+    {
+        self.list.len()
+    }
+
+    /// The datagram at this place, from 0. None from their number on.
+    pub fn get(&self, place: usize) -> Option<&Datagram>
+        ensures { option_copied result ≡ slice_get self.now place }
+    {
+        self.list.get(place)
+    }
+}

@@ -1,0 +1,106 @@
+//! Packets written as datagrams.
+
+ghost use Rattle.std.specs.Prelude.{◌≡◌, Some, None, IfOk, IfErr, IfSome, OnOk, Err};
+ghost use Rattle.flute_wire.specs.Outgoing.{said};
+ghost use Rattle.flute_wire.specs.Reading.{facts};
+ghost use Rattle.flute_wire.specs.Writing.{IsWritten, told, words_to_write, write_fault};
+ghost use Rattle.flute_wire.specs.declared.writing.WriteFault.TheVariants as faults;
+
+use crate::datagram::{Datagram, MAX_LEN};
+use crate::encoding::bytes_of;
+use flute_parts::{Info, Key, SymbolId};
+use std::alloc::{AllocError, Global};
+use thiserror::Error;
+
+/// What a datagram is to say: an object, its transmission information if that is to be told, and one symbol with its
+/// bytes if there is one.
+#[derive(Clone, Copy, Debug)]
+pub struct Outgoing<'a> {
+    pub key: Key,
+    pub info: Option<Info>,
+    pub symbol: Option<(SymbolId, &'a [u8])>,
+}
+
+/// Why no datagram is written, in the order of the checks: the first that applies is told. Shown by its name.
+#[derive(Clone, Copy, Debug, PartialEq, Eq, Error)]
+pub enum WriteFault {
+    /// The Transport Session Identifier is 2^32 or more.
+    #[error("Tsi")]
+    Tsi,
+    /// The Transport Object Identifier is 2^32 or more.
+    #[error("Toi")]
+    Toi,
+    /// The symbol has no bytes.
+    #[error("EmptySymbol")]
+    EmptySymbol,
+    /// The datagram would have more than 65,535 bytes.
+    #[error("TooLong")]
+    TooLong,
+    /// There was no memory for the datagram.
+    #[error("OutOfMemory")]
+    OutOfMemory,
+}
+
+/// The 32-bit words of the header, where the packet can be written. It takes no memory.
+///
+/// # Errors
+///
+/// The first of `Tsi` to `TooLong` that applies.
+pub fn header_words(outgoing: &Outgoing<'_>) -> Result<u8, WriteFault>
+    ensures words { IfOk result (λ words. words ≡ words_to_write (said outgoing.now)) }
+    ensures sound { OnOk result (write_fault (said outgoing.now) ≡ None) }
+    ensures fault { IfErr result (λ fault. write_fault (said outgoing.now) ≡ Some fault) }
+{
+    if outgoing.key.session.tsi() >= 1 << 32 {
+        return Err(WriteFault::Tsi);
+    }
+    if outgoing.key.object.toi() >= 1 << 32 {
+        return Err(WriteFault::Toi);
+    }
+    let is_instance = outgoing.key.object.instance().is_some();
+    let fdt_words = if is_instance { 1 } else { 0 };
+    let fti_words = if outgoing.info.is_some() { 4 } else { 0 };
+    let words = 4 + fdt_words + fti_words;
+    if let Some((_, bytes)) = outgoing.symbol {
+        if bytes.is_empty() {
+            return Err(WriteFault::EmptySymbol);
+        }
+        if bytes.len() > MAX_LEN - 4 - 4 * usize::from(words) {
+            return Err(WriteFault::TooLong);
+        }
+    }
+    Ok(words)
+}
+
+/// The datagram of a packet that can be written, with so many words in its header.
+pub fn encoded(alloc: Global, outgoing: &Outgoing<'_>, words: u8) -> Result<Datagram, AllocError>
+    requires words { words ≡ words_to_write (said outgoing.now) }
+    requires sound { write_fault (said outgoing.now) ≡ None }
+    ensures written { IfOk result (λ datagram. IsWritten datagram (said outgoing.now)) }
+    ensures facts { IfOk result (λ datagram. facts datagram ≡ told outgoing.now.key outgoing.now.info (said outgoing.now).symbol) }
+{
+    let bytes = bytes_of(alloc, outgoing, words)?;
+    Ok(Datagram::of(bytes))
+}
+
+/// Writes a packet of FLUTE version 2 as a datagram. [`read`](crate::read) gives back the same key, information and
+/// symbol.
+///
+/// There is one form (RFC 5651, section 5.1): a TSI, a TOI and congestion control information of 32 bits each, the
+/// last of them 0. EXT_FDT follows where the object is an FDT Instance (RFC 6726, section 3.4.1), and then EXT_FTI
+/// where there is information (RFC 5775, section 4.2). The FEC Payload ID and the symbol's bytes end the datagram;
+/// without a symbol it ends with its header. The symbol's bytes are copied once, into the one piece of memory that is
+/// asked for.
+///
+/// # Errors
+///
+/// The first [`WriteFault`] that applies, in the order of that list.
+pub fn write(alloc: Global, outgoing: &Outgoing<'_>) -> Result<Datagram, WriteFault>
+    ensures written { IfOk result (λ datagram. IsWritten datagram (said outgoing.now)) }
+    ensures facts { IfOk result (λ datagram. facts datagram ≡ told outgoing.now.key outgoing.now.info (said outgoing.now).symbol) }
+    ensures fault { IfSome (write_fault (said outgoing.now)) (λ fault. result ≡ Err fault) }
+    ensures memory { IfErr result (λ fault. write_fault (said outgoing.now) ≡ None → fault ≡ faults.OutOfMemory) }
+{
+    let words = header_words(outgoing)?;
+    encoded(alloc, outgoing, words).map_err(|_| WriteFault::OutOfMemory)
+}
