@@ -49,7 +49,7 @@ shorter key i id other bytes more some few none =
       limit = omega (arith, a, b, l, few);
     })
 
-length-piece : (i : Information) (content : List ℕ) (k : ℕ) → length (piece i content k) ≡ min i.symbol_length (length content - k * i.symbol_length)
+pub length-piece : (i : Information) (content : List ℕ) (k : ℕ) → length (piece i content k) ≡ min i.symbol_length (length content - k * i.symbol_length)
 length-piece i content k = length-take i.symbol_length (drop (k * i.symbol_length) content) ∙ ap (min i.symbol_length) (length-drop (k * i.symbol_length) content)
 
 symbol_is : (i : Information) (content : List ℕ) (k : ℕ) (id : SymbolId) → slice_get (ids i) k ≡ Some id → slice_get (symbols_of i content) k ≡ Some (id, piece i content k)

@@ -11,3 +11,4 @@ pub mod Computed
 pub mod Written
 pub mod Pieces
 mod Faults
+pub mod Cut

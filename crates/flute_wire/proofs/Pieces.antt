@@ -16,9 +16,14 @@ use Rattle.std.proofs.lemmas.List.{length-map}
 use Rattle.std.proofs.lemmas.List.FromFn.{length-enumerate_from}
 use Rattle.flute_parts.proofs.Split.{ids_counted, cases_zero}
 use Rattle.flute_parts.proofs.Division.{div_ceil-pos, div_ceil-zero}
+use Rattle.std.specs.Prelude.{flat_map}
+use Rattle.std.proofs.lemmas.List.Concat.{flat_map-cons}
+use Rattle.flute_parts.specs.declared.fact.Fact.{Fact}
 use Rattle.flute_wire.specs.Content.{Content}
-use Rattle.flute_wire.specs.Writing.{packet_at, IsWritten}
-use Rattle.flute_wire.specs.Carousel.{piece, with_piece, symbols_of, payloads_of, packets_of}
+use Rattle.flute_wire.specs.Reading.{facts}
+use Rattle.flute_wire.proofs.Written.{facts_told}
+use Rattle.flute_wire.specs.Writing.{packet_at, told, IsWritten}
+use Rattle.flute_wire.specs.Carousel.{piece, with_piece, symbols_of, payloads_of, packets_of, facts_sent}
 
 -- the element at a place, with the place
 pub slice_get-enumerate_from : {X : Type 0} (n : ℕ) (xs : List X) (k : ℕ) → slice_get (enumerate_from n xs) k ≡ option_map (λ x. (n + k, x)) (slice_get xs k)
@@ -157,3 +162,18 @@ one_more key i content k ds d v h all one =
     let c = packet_at key (Some i) (slice_get (symbols_of i content) k) in
     let cs = packets_of key i content in
     subst (λ (xs : List Content). AllZip IsWritten (ds ++ d ∷ []) xs) (sym (take_one_more cs k c (packet_there key i content k v h))) (both_push ds (take k cs) d c all one)
+
+-- what the packets tell
+all_told : (key : Key) (i : Information) (payloads : List (Option (SymbolId × List ℕ))) (ds : List (List ℕ))
+    → AllZip IsWritten ds (map (packet_at key (Some i)) payloads) → flat_map facts ds ≡ flat_map (told key (Some i)) payloads
+all_told key i [] [] all = refl
+all_told key i [] (d ∷ ds) all = absurd all
+all_told key i (p ∷ ps) [] all = absurd all
+all_told key i (p ∷ ps) (d ∷ ds) all =
+    let one = facts_told d key (Some i) p all.0 in
+    let rest = all_told key i ps ds all.1 in
+    flat_map-cons facts d ds ∙ ap (λ (fs : List Fact). fs ++ flat_map facts ds) one ∙ ap (λ (fs : List Fact). told key (Some i) p ++ fs) rest ∙ sym (flat_map-cons (told key (Some i)) p ps)
+
+pub facts_are_sent : (key : Key) (i : Information) (content : List ℕ) (ds : List (List ℕ)) → AllZip IsWritten ds (packets_of key i content) → flat_map facts ds ≡ facts_sent key i content
+unfolding packets_of facts_sent
+facts_are_sent key i content ds all = all_told key i (payloads_of i content) ds all

@@ -1,13 +1,14 @@
 -- The datagrams that carry an object.
-use Rattle.std.specs.Prelude.{ℕ, ◌*◌, ◌==◌, if◌then◌else◌, List, [], ◌∷◌, length, map, take, drop, Option, Some, None}
+use Rattle.std.specs.Prelude.{ℕ, ◌*◌, ◌==◌, if◌then◌else◌, List, [], ◌∷◌, length, map, flat_map, take, drop, Option, Some, None}
 use Rattle.std.specs.List.{enumerate_from}
 use Rattle.std.specs.Option.{option_map, option_or}
 use Rattle.flute_parts.specs.Information.{Information}
 use Rattle.flute_parts.specs.Partition.{ids}
 use Rattle.flute_parts.specs.declared.symbol_id.SymbolId.{SymbolId}
 use Rattle.flute_parts.specs.declared.key.Key.{Key}
+use Rattle.flute_parts.specs.declared.fact.Fact.{Fact}
 use Rattle.flute_wire.specs.Content.{Content}
-use Rattle.flute_wire.specs.Writing.{packet_at, write_fault}
+use Rattle.flute_wire.specs.Writing.{packet_at, told, write_fault}
 use Rattle.flute_wire.specs.declared.writing.WriteFault.{WriteFault}
 use Rattle.flute_wire.specs.declared.sending.CarouselFault.{CarouselFault}
 use Rattle.flute_wire.specs.declared.sending.CarouselFault.TheVariants.{Length, Write}
@@ -40,3 +41,7 @@ first_fault (c ∷ cs) = option_or (write_fault c) (first_fault cs)
 -- why an object is not sent, the first that applies
 unfoldable pub carousel_fault : Key → Information → List ℕ → Option CarouselFault
 carousel_fault key i content = if length content == i.transfer_length then option_map (λ fault. Write fault) (first_fault (packets_of key i content)) else Some Length
+
+-- what the datagrams of an object tell: its information, with each symbol in turn, or once alone
+unfoldable pub facts_sent : Key → Information → List ℕ → List Fact
+facts_sent key i content = flat_map (told key (Some i)) (payloads_of i content)

@@ -11,3 +11,4 @@ pub mod Writing
 pub mod Outgoing
 pub mod Encoding
 pub mod Carousel
+pub mod SendingExamples

@@ -1,6 +1,10 @@
 //! Laws of the format, each the contract of a function that does nothing.
 
-ghost use Rattle.std.specs.Prelude.{◌≡◌, ◌↔◌, ◌⊎◌, ℕ, List, [], Some};
+ghost use Rattle.std.specs.Prelude.{◌≡◌, ◌↔◌, ◌⊎◌, ℕ, true, List, [], length, map, flat_map, Contains, Some};
+ghost use Rattle.flute_parts.specs.Information.{Information, IsValid};
+ghost use Rattle.flute_parts.specs.Partition.{ids, fits};
+ghost use Rattle.flute_parts.specs.declared.symbol_id.SymbolId.{SymbolId};
+ghost use Rattle.flute_wire.specs.Carousel.{symbols_of};
 ghost use Rattle.flute_wire.specs.Content.{Content};
 ghost use Rattle.flute_wire.specs.Datagram.{Spells};
 ghost use Rattle.flute_wire.specs.Refusals.{Applies};
@@ -21,4 +25,16 @@ pub fn computed_reading()
     ensures packet { (d : List ℕ) (p : Content) → (packet d ≡ Some p) ↔ Spells d p }
     ensures facts { (d : List ℕ) (p : Content) → Spells d p → facts d ≡ facts_of p }
     ensures no_facts { (d : List ℕ) (r : Reason) → Applies r d → facts d ≡ [] }
+{}
+
+/// An object is cut into the symbols of its partition: their bytes joined are the object, each fits, and no two bytes
+/// are sent as one symbol.
+pub fn an_object_is_cut_into_symbols()
+    ensures ids { (i : Information) (content : List ℕ) → map (λ s. s.0) (symbols_of i content) ≡ ids i }
+    ensures joined { (i : Information) (content : List ℕ) → IsValid i → length content ≡ i.transfer_length
+        → flat_map (λ s. s.1) (symbols_of i content) ≡ content }
+    ensures fit { (i : Information) (content : List ℕ) (s : SymbolId × List ℕ) → IsValid i → length content ≡ i.transfer_length
+        → Contains (symbols_of i content) s → fits i s.0 (length s.1) ≡ true }
+    ensures one { (i : Information) (content : List ℕ) (s t : SymbolId × List ℕ) → Contains (symbols_of i content) s
+        → Contains (symbols_of i content) t → s.0 ≡ t.0 → s ≡ t }
 {}

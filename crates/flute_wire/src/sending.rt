@@ -1,11 +1,12 @@
 //! Whole objects sent.
 
-ghost use Rattle.std.specs.Prelude.{◌≡◌, ◌*◌, ◌≤◌, length, take, drop, slice_get, Some, None, IfOk, IfErr, IfSome, Err};
+ghost use Rattle.std.specs.Prelude.{◌≡◌, ◌*◌, ◌≤◌, length, take, drop, flat_map, slice_get, Some, None, IfOk, IfErr, OnOk, IfSome, Err};
 ghost use Rattle.std.specs.List.{AllZip};
 ghost use Rattle.std.specs.Option.{option_map};
 ghost use Rattle.flute_parts.specs.Information.{IsValid};
-ghost use Rattle.flute_wire.specs.Carousel.{symbols_of, packets_of, carousel_fault};
+ghost use Rattle.flute_wire.specs.Carousel.{symbols_of, packets_of, facts_sent, carousel_fault};
 ghost use Rattle.flute_wire.specs.Outgoing.{said};
+ghost use Rattle.flute_wire.specs.Reading.{facts};
 ghost use Rattle.flute_wire.specs.Writing.{IsWritten, packet_at, words_to_write, write_fault};
 ghost use Rattle.flute_wire.specs.declared.sending.CarouselFault.TheVariants as faults;
 
@@ -67,7 +68,8 @@ fn datagrams_of(
     requires whole { length content.now ≡ info.now.transfer_length }
     requires words { words ≡ words_to_write (packet_at key.now (Some info.now) None) }
     requires sound { write_fault (packet_at key.now (Some info.now) (slice_get (symbols_of info.now content.now) 0)) ≡ None }
-    ensures { IfOk result (λ datagrams. AllZip IsWritten datagrams (packets_of key.now info.now content.now)) }
+    ensures written { IfOk result (λ datagrams. AllZip IsWritten datagrams (packets_of key.now info.now content.now)) }
+    ensures facts { IfOk result (λ datagrams. flat_map facts datagrams ≡ facts_sent key.now info.now content.now) }
 {
     let partition = Partition::of(info);
     let count = partition.symbols().max(1);
@@ -96,7 +98,9 @@ pub fn carousel(
     info: &Info,
     content: &[u8],
 ) -> Result<Datagrams, CarouselFault>
+    ensures whole { OnOk result (length content.now ≡ info.now.transfer_length) }
     ensures written { IfOk result (λ datagrams. AllZip IsWritten datagrams (packets_of key.now info.now content.now)) }
+    ensures facts { IfOk result (λ datagrams. flat_map facts datagrams ≡ facts_sent key.now info.now content.now) }
     ensures fault { IfSome (carousel_fault key.now info.now content.now) (λ fault. result ≡ Err fault) }
     ensures memory { IfErr result (λ fault. carousel_fault key.now info.now content.now ≡ None → fault ≡ faults.OutOfMemory) }
 {

@@ -4,7 +4,9 @@ mod cuts;
 mod datagrams;
 mod packets;
 mod refusals;
+mod sent;
 mod vectors;
+mod written;
 
 use super::*;
 use flute_parts::SymbolId;

@@ -35,4 +35,5 @@ fn texts(rt: HostRuntime) -> Result<(), Fail> {
 fn laws() {
     one_reading();
     computed_reading();
+    an_object_is_cut_into_symbols();
 }

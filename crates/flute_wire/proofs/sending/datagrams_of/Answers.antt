@@ -5,8 +5,9 @@ use Rattle.flute_parts.specs.Information.{Information}
 use Rattle.flute_parts.specs.Partition.{ids}
 use Rattle.flute_parts.specs.declared.symbol_id.SymbolId.{SymbolId}
 use Rattle.flute_wire.specs.Carousel.{packets_of}
+use Rattle.flute_wire.specs.Content.{Content}
 use Rattle.flute_wire.specs.Writing.{IsWritten, packet_at, write_fault}
-use Rattle.flute_wire.proofs.Pieces.{one_more, length-packets_of}
+use Rattle.flute_wire.proofs.Pieces.{one_more, length-packets_of, facts_are_sent}
 use Rattle.flute_wire.proofs.Faults.{all_sent}
 use Rattle.flute_wire.proofs.sending.datagrams_of.Goals as goal
 
@@ -37,4 +38,5 @@ returns c =
     let count : c.max-count.result ≡ max (length (ids i)) 1 = c.max-count.ensures ∙ ap (λ (n : ℕ). max n 1) (c.symbols.ensures.value ∙ ap (λ (p : Information). length (ids p)) c.of-partition.ensures) in
     let all : take c.loop-place.place (packets_of key i content) ≡ packets_of key i content =
     take_all c.loop-place.place (packets_of key i content) (omega (arith, count, c.loop-place-test.false, length-packets_of key i content c.requires.valid)) in
-    subst (λ (cs : List _). AllZip IsWritten c.loop-place.datagrams cs) all c.loop-place.invariant
+    let written : AllZip IsWritten c.loop-place.datagrams (packets_of key i content) = subst (λ (cs : List Content). AllZip IsWritten c.loop-place.datagrams cs) all c.loop-place.invariant in
+    record { written = written; facts = facts_are_sent key i content c.loop-place.datagrams written }
