@@ -1,6 +1,5 @@
 -- What the calls of a reader come to.
-use Rattle.std.proofs.Common.{◌≡◌, ℕ, true, List, [], ◌++◌, drop, Option, Some, None, Result, Ok, Err, inr, refl, sym, ap, ◌∙◌, subst, arith}
-use Rattle.std.proofs.lemmas.List.{append-nil}
+use Rattle.std.proofs.Common.{◌≡◌, ℕ, true, List, ◌++◌, drop, Option, Some, None, Result, Ok, Err, inr, refl, sym, ap, ◌∙◌, subst}
 use Rattle.std.specs.Prelude.{IfSome}
 use Rattle.std.specs.Io.KnownBytes.{Consumes}
 use Rattle.std.proofs.KnownBytes.{Consumes-trans}
@@ -15,9 +14,9 @@ use Rattle.flute_journal.specs.Faults.{header_fault, next_fault}
 use Rattle.flute_journal.specs.Parsing.{at_place}
 use Rattle.flute_journal.specs.Input.{Advances, IsFaultOf, StaysWithin}
 use Rattle.flute_journal.specs.Journal.{IsFact}
-use Rattle.flute_journal.specs.Reading.{ReadsNext, is_open, position, or_else, fault_from, ReadsFrom, stage_behind, Gives}
+use Rattle.flute_journal.specs.Reading.{ReadsNext, is_open, position, or_else, fault_from, in_opening, in_entry, ReadsFrom, stage_behind, Gives}
 use Rattle.flute_journal.proofs.Fronts.{fault-behind}
-use Rattle.flute_journal.proofs.Parts.{header_passes, entry_within-short}
+use Rattle.flute_journal.proofs.Parts.{header_passes}
 
 known-weaker : (u : Option (List ℕ)) (p q : List ℕ → Option ReadFault) (f : ReadFault) → ((bs : List ℕ) → p bs ≡ Some f → q bs ≡ Some f)
     → IfSome u (λ bs. p bs ≡ Some f) → IfSome u (λ bs. q bs ≡ Some f)
@@ -35,12 +34,12 @@ pub reads_entries : (limit count : ℕ) (last : Option Address) (u v : Option (L
 reads_entries limit count last u v (Ok (Some f)) h w = h
 reads_entries limit count last u v (Ok None) h w = h
 reads_entries limit count last u v (Err f) h w =
-    (h, (w.0, w.1, record { front = []; more = w.0; parts = refl; within_opening = omega arith; within_entry = w.2 }))
+    (h, (w.0, w.1, in_entry w.0 refl w.2))
 
 pub reads_header : (limit : ℕ) (u v : Option (List ℕ)) (f : ReadFault) → IsFaultOf header_fault u f → Advances u v 6 → ReadsFrom limit Header u v (Err f)
 reads_header limit u v f h a = (
   fault-weaker u header_fault (fault_from Header limit) f (λ bs e. ap (λ o. or_else o (next_fault (position Header) limit (drop 6 bs))) e) h,
-  (a.0, a.1, record { front = a.0; more = []; parts = sym (append-nil a.0); within_opening = a.2; within_entry = entry_within-short [] (omega arith) }),
+  (a.0, a.1, in_opening a.2),
 )
 
 pub reads_first : (limit : ℕ) (u v w : Option (List ℕ)) (r : Result (Option Fact) ReadFault) → Consumes u v header
@@ -50,7 +49,7 @@ reads_first limit u v w (Ok None) took h s = (Consumes-trans u v w header (end 0
 reads_first limit u v w (Err f) took h s = (
   fault-behind u v header (fault_from Header limit) (next_fault (at_place 0 None) limit) f took
       (λ r e. ap (λ o. or_else o (next_fault (position Header) limit (drop 6 (header ++ r)))) (header_passes r) ∙ e) h,
-  (header ++ s.0, Consumes-trans u v w header s.0 took s.1, record { front = header; more = s.0; parts = refl; within_opening = omega arith; within_entry = s.2 }),
+  (header ++ s.0, Consumes-trans u v w header s.0 took s.1, in_entry s.0 refl s.2),
 )
 
 pub gives : (limit : ℕ) (old new : Stage) (u v : Option (List ℕ)) (r : Result (Option Fact) ReadFault) → is_open old ≡ true

@@ -64,13 +64,10 @@ pub record GivesEnd (old new : Stage) (left after : Option (List ℕ)) : Type 0 
   pub ended : new ≡ Ended
   pub bytes : ((old ≡ Ended) × Keeps left after) ⊎ (IsTrue (is_open old) × Consumes left after (opening old ++ end (position old).count) × IsAtEnd after)
 
--- What a failed call has read: at most as many bytes as stand before the next entry, and then nothing behind a whole entry.
-pub record IsPart (old : Stage) (part : List ℕ) : Type 0 where
-  pub front : List ℕ
-  pub more : List ℕ
-  pub parts : part ≡ front ++ more
-  pub within_opening : length front ≤ length (opening old)
-  pub within_entry : IsWithin entry IsFact more
+-- What a failed call has read: no more bytes than stand before the next entry, or all these and nothing behind a whole entry.
+pub data IsPart (old : Stage) (part : List ℕ) : Type 0 where
+  in_opening : length part ≤ length (opening old) → IsPart old part
+  in_entry : (more : List ℕ) → part ≡ opening old ++ more → IsWithin entry IsFact more → IsPart old part
 
 -- a fault was found, now or before
 pub record GivesFault (limit : ℕ) (old new : Stage) (left after : Option (List ℕ)) (f : ReadFault) : Type 0 where
