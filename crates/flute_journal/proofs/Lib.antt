@@ -16,3 +16,11 @@ pub mod Saving
 pub mod Loading
 pub mod Records
 pub mod Files
+pub mod MergeFacts
+pub mod MergeRising
+pub mod MergeBytes
+pub mod MergeSides
+pub mod MergeTurns
+pub mod MergeAhead
+pub mod MergeStops
+pub mod MergeStates

@@ -12,3 +12,5 @@ pub mod Examples
 pub mod Readers
 pub mod Whole
 pub mod Stores
+pub mod MergeTurns
+pub mod Merges

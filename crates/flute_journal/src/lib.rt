@@ -8,6 +8,7 @@ mod format;
 mod input;
 pub mod laws;
 mod load;
+mod merge;
 mod reader;
 mod reading;
 mod save;
@@ -17,6 +18,7 @@ pub use datagram_file::datagrams_in;
 pub use datagram_reader::DatagramReader;
 pub use fault::{LoadFault, ReadFault, SaveFault};
 pub use load::read_store;
+pub use merge::{MergeFault, merge_streams};
 pub use reader::JournalReader;
 pub use save::write_store;
 

@@ -1,0 +1,99 @@
+-- What a merge of two journals comes to.
+use Rattle.std.specs.Prelude.{◌≡◌, ◌≢◌, ℕ, ◌<◌, ◌≤◌, ◌^◌, List, [], ◌∷◌, ◌++◌, length, Option, Some, ⊤, IfSome, Result, Ok, Err}
+use Rattle.std.specs.List.{flat_map, AllByRecursion}
+use Rattle.std.specs.Io.KnownBytes.{Appends, Consumes}
+use Rattle.flute_parts.specs.declared.fact.Fact.{Fact}
+use Rattle.flute_journal.specs.declared.merge.MergeFault.{MergeFault}
+use Rattle.flute_journal.specs.declared.merge.MergeFault.TheVariants.{First, Second, Write}
+use Rattle.flute_journal.specs.Format.{header, entry, spelling}
+use Rattle.flute_journal.specs.Input.{IsWithin, failed}
+use Rattle.flute_journal.specs.Journal.{IsFact, Collects, Journal, IsJournalWithin}
+use Rattle.flute_journal.specs.Whole.{HasFault}
+
+-- both inputs are journals of at most so many entries, and the journal of both was appended, which has n entries
+pub record Merged (limit n : ℕ) (first second old new : Option (List ℕ)) : Type 0 where
+  pub first_entries : List Fact
+  pub second_entries : List Fact
+  pub first_is : IfSome first (λ xs. IsJournalWithin limit xs first_entries)
+  pub second_is : IfSome second (λ ys. IsJournalWithin limit ys second_entries)
+  pub entries : List Fact
+  pub collects : Collects (first_entries ++ second_entries) entries
+  pub few : length entries < 2 ^ 64
+  pub count : n ≡ length entries
+  pub appended : Appends old new (spelling entries)
+
+-- the bytes go on, and are then the others
+abbrev pub IsProperPrefix : List ℕ → List ℕ → Type 0
+IsProperPrefix bytes whole = (more : List ℕ) × (more ≢ []) × (bytes ++ more ≡ whole)
+
+-- what was appended is no journal, and where both inputs are, it is a first part of the journal of both
+pub record StopsShort (first second old new : Option (List ℕ)) : Type 0 where
+  pub bytes : List ℕ
+  pub appended : Appends old new bytes
+  pub no_journal : (facts : List Fact) → Journal bytes facts → ⊥
+  pub prefix : (xs ys whole : List ℕ) (F G : List Fact) → first ≡ Some xs → second ≡ Some ys → Journal xs F → Journal ys G → Journal whole (F ++ G)
+      → IsProperPrefix bytes whole
+
+-- the header and whole entries
+abbrev pub front : List Fact → List ℕ
+front entries = header ++ flat_map entry entries
+
+-- the bytes begin with these whole entries
+abbrev pub BeginsWith : List ℕ → List Fact → Type 0
+BeginsWith bytes [] = ⊤
+BeginsWith bytes (f ∷ fs) = (rest : List ℕ) × (bytes ≡ front (f ∷ fs) ++ rest)
+
+-- the bytes are no more than a header's, or these whole entries and then no byte behind one entry more
+pub data EndsBehind (entries : List Fact) (bytes : List ℕ) : Type 0 where
+  in_header : entries ≡ [] → length bytes ≤ length header → EndsBehind entries bytes
+  behind : (part : List ℕ) → bytes ≡ front entries ++ part → IsWithin entry IsFact part → EndsBehind entries bytes
+
+-- of an input these whole entries were read, and at most one more
+pub record ReadsBehind (input left : Option (List ℕ)) (entries : List Fact) : Type 0 where
+  pub valid : AllByRecursion IsFact entries
+  pub bytes : List ℕ
+  pub read : Consumes input left bytes
+  pub ends : EndsBehind entries bytes
+
+-- What was read, and what was appended: whole entries of both inputs and at most one more of each, and all that the
+-- whole entries come to.
+pub record KeepsUp (first first_left second second_left old new : Option (List ℕ)) : Type 0 where
+  pub first_entries : List Fact
+  pub second_entries : List Fact
+  pub first_read : ReadsBehind first first_left first_entries
+  pub second_read : ReadsBehind second second_left second_entries
+  pub entries : List Fact
+  pub collects : Collects (first_entries ++ second_entries) entries
+  pub bytes : List ℕ
+  pub appended : Appends old new bytes
+  pub begins : BeginsWith bytes entries
+
+-- the fault that is told of an input is that of its bytes, if it is one of theirs
+abbrev pub NamesFault : ℕ → Option (List ℕ) → Option (List ℕ) → MergeFault → Type 0
+NamesFault limit first second (First f) = HasFault limit first f
+NamesFault limit first second (Second f) = HasFault limit second f
+NamesFault limit first second Write = ⊤
+
+-- how often each device failed in a merge that gave this
+abbrev pub first_failed : Result ℕ MergeFault → ℕ
+first_failed (Err (First f)) = failed {T = Option Fact} (Err f)
+first_failed _ = 0
+
+abbrev pub second_failed : Result ℕ MergeFault → ℕ
+second_failed (Err (Second f)) = failed {T = Option Fact} (Err f)
+second_failed _ = 0
+
+abbrev pub sink_failed : Result ℕ MergeFault → ℕ
+sink_failed (Err Write) = 1
+sink_failed _ = 0
+
+-- what holds of a merge that has stopped
+pub record Stopped (limit : ℕ) (first first_left second second_left old new : Option (List ℕ)) (fault : MergeFault) : Type 0 where
+  pub short : StopsShort first second old new
+  pub keeps_up : KeepsUp first first_left second second_left old new
+  pub names : NamesFault limit first second fault
+
+-- and of one that came to an end or has stopped
+abbrev pub MergeGives : ℕ → Option (List ℕ) → Option (List ℕ) → Option (List ℕ) → Option (List ℕ) → Option (List ℕ) → Option (List ℕ) → Result ℕ MergeFault → Type 0
+MergeGives limit first first_left second second_left old new (Ok n) = Merged limit n first second old new
+MergeGives limit first first_left second second_left old new (Err f) = Stopped limit first first_left second second_left old new f
