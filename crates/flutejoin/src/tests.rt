@@ -1,3 +1,6 @@
+mod show;
+mod vectors;
+
 use crate::{CommandFault, Line, line_of, packet_to};
 use flute_parts::{MemorySink, StdSink};
 use std::alloc::{AllocError, Global};
@@ -150,6 +153,9 @@ fn command_lines_are_read(rt: HostRuntime) -> Result<(), Fail> {
     let words = words_of(rt.alloc(), "packet 10A0")?;
     let line = line_of(rt.alloc(), words.as_slice())?;
     assert!(rt; matches!(&line, Line::Packet { hex: "10A0" }));
+    let words = words_of(rt.alloc(), "show J")?;
+    let line = line_of(rt.alloc(), words.as_slice())?;
+    assert!(rt; matches!(&line, Line::Show { j: "J" }));
     for text in [
         "",
         "frob",
@@ -158,6 +164,8 @@ fn command_lines_are_read(rt: HostRuntime) -> Result<(), Fail> {
         "packet --tsi 7",
         "--help",
         "packet --help",
+        "show",
+        "show J J",
         "--version",
     ] {
         let words = words_of(rt.alloc(), text)?;
@@ -177,6 +185,7 @@ fn command_lines_are_read(rt: HostRuntime) -> Result<(), Fail> {
 fn the_other_faults_have_their_texts(rt: HostRuntime) -> Result<(), Fail> {
     let rows = [
         (CommandFault::NotText, "an argument is not text", 2),
+        (CommandFault::CannotOpen(2), "cannot open input 2", 3),
         (CommandFault::OutOfMemory, "out of memory", 3),
         (CommandFault::CannotWrite, "cannot write", 3),
     ];
