@@ -6,6 +6,7 @@ use Rattle.flute_journal.specs.Format.{header, entry, end}
 use Rattle.flute_journal.specs.Reading.{is_open}
 use Rattle.flute_journal.specs.Readers.{source_of, stage_of}
 use Rattle.flute_journal.proofs.MergeStates.{state-start, state-turn, state-ended, turn-falls, valid-lower, few-joined, none-failed, one-failed, failed-never, open-first, open-second, finished, stop-first_early, stop-second_early, stop-header, stop-lower, stop-first, stop-second, stop-end, gives_at, refills_at, part-from_failed, whole-from_done}
+use Rattle.flute_journal.proofs.Bodies.{fact_sized}
 use Rattle.flute_journal.proofs.merge.merge_entries.Goals as goal
 
 pub returns-in-Err-clause-gives : goal.returns-in-Err-clause-gives
@@ -29,7 +30,7 @@ returns-then-is_err-clause-gives g c =
     (part-from_failed _ _ header c.write_header.result (sym c.is_err.ensures.value ∙ c.if-is_err.true) c.write_header.ensures.bytes)
 
 pub write_entry-requires : goal.write_entry-requires
-write_entry-requires g c = record { valid = valid-lower c.loop-order.invariant.state c.in-Some.order (fact_of c.in-Some.fact) c.in-Some.ensures }
+write_entry-requires g c = record { sized = fact_sized (fact_of c.in-Some.fact) (valid-lower c.loop-order.invariant.state c.in-Some.order (fact_of c.in-Some.fact) c.in-Some.ensures) }
 
 pub loop-order-init : goal.loop-order-init
 loop-order-init g c = record {
