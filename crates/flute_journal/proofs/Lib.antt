@@ -16,6 +16,7 @@ pub mod Saving
 pub mod Loading
 pub mod Records
 pub mod Files
+pub mod Sending
 pub mod MergeFacts
 pub mod MergeRising
 pub mod MergeBytes

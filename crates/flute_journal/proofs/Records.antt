@@ -116,12 +116,12 @@ read_all : (ds : List (List ℕ)) → file_read_of ds ++ opening (file_stage_at 
 read_all [] = refl
 read_all (d ∷ ds) = append-nil (file_header ++ flat_map record_of (d ∷ ds))
 
-all_more : (ds : List (List ℕ)) (d : List ℕ) → AllByRecursion IsDatagram ds → IsDatagram d → AllByRecursion IsDatagram (ds ++ d ∷ [])
-all_more [] d p v = (v, tt)
-all_more (e ∷ ds) d p v = (p.0, all_more ds d p.1 v)
+pub datagrams_all : (ds : List (List ℕ)) (d : List ℕ) → AllByRecursion IsDatagram ds → IsDatagram d → AllByRecursion IsDatagram (ds ++ d ∷ [])
+datagrams_all [] d p v = (v, tt)
+datagrams_all (e ∷ ds) d p v = (p.0, datagrams_all ds d p.1 v)
 
 pub datagrams_more : (limit : ℕ) (ds : List (List ℕ)) (d : List ℕ) → AreDatagrams limit ds → IsDatagram d → length ds < limit → AreDatagrams limit (ds ++ d ∷ [])
-datagrams_more limit ds d a v few = record { valid = all_more ds d a.valid v; few = omega (arith, few, length-append ds (d ∷ [])) }
+datagrams_more limit ds d a v few = record { valid = datagrams_all ds d a.valid v; few = omega (arith, few, length-append ds (d ∷ [])) }
 
 next_at : (limit : ℕ) (u v w : Option (List ℕ)) (new : FileStage) (ds : List (List ℕ)) (d : List ℕ) → AreDatagrams limit ds → Consumes u v (file_read_of ds)
     → GivesRecord limit (file_stage_at ds) new v w d → FileSofar limit u w new (ds ++ d ∷ [])

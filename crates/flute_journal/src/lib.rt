@@ -3,6 +3,7 @@
 
 mod datagram_file;
 mod datagram_reader;
+mod datagram_writing;
 mod fault;
 mod format;
 mod input;
@@ -16,6 +17,7 @@ mod writing;
 
 pub use datagram_file::datagrams_in;
 pub use datagram_reader::DatagramReader;
+pub use datagram_writing::write_datagrams;
 pub use fault::{LoadFault, ReadFault, SaveFault};
 pub use load::read_store;
 pub use merge::{MergeFault, merge_streams};

@@ -4,8 +4,8 @@ ghost use Rattle.flute_journal.specs.Records.{IsFileWithin, HasFileFault};
 
 use super::vectors::bytes;
 use super::*;
-use flute_parts::{DeviceFault, MemorySource, ShortSource};
-use flute_wire::Datagram;
+use flute_parts::{DeviceFault, MemorySink, MemorySource, ShortSink, ShortSource};
+use flute_wire::{Datagram, carousel};
 use std::alloc::Global;
 
 /// Two datagrams of session 7 and file 1, with its information and the symbols 0/0 and 0/1: 87 bytes.
@@ -134,6 +134,26 @@ fn datagram_files_have_faults(rt: HostRuntime) -> Result<(), Fail> {
         assert!(rt; whole.err() == fault, "behind {records}");
         let slices = datagrams_in(rt.alloc(), &file, max_records);
         assert!(rt; slices.err() == fault, "behind {records}");
+    }
+    Ok(())
+}
+
+/// What is sent is written, in as many bytes as a sink takes.
+#[test]
+fn datagram_files_are_written(rt: HostRuntime) -> Result<(), Fail> {
+    let file = bytes(rt.alloc(), TWO)?;
+    let (Some(session), Some(object)) = (SessionKey::new(7), ObjectKey::file(1)) else {
+        return Err(Fail::from("no key"));
+    };
+    let info = Info::new(5, 4, 2)?;
+    let datagrams = carousel(rt.alloc(), &Key { session, object }, &info, b"hello")?;
+    let mut sink = MemorySink::new(rt.alloc());
+    assert_eq!(rt; write_datagrams(&datagrams, &mut sink)?, 2);
+    assert_eq!(rt; sink.as_slice(), file.as_slice());
+    for good in 0..file.len() {
+        let mut sink = ShortSink::new(rt.alloc(), good);
+        assert!(rt; write_datagrams(&datagrams, &mut sink) == Err(SaveFault::Write));
+        assert_eq!(rt; sink.as_slice(), &file[..good], "of {good} bytes");
     }
     Ok(())
 }

@@ -1,0 +1,53 @@
+//! Datagrams as a datagram file.
+ghost use Rattle.std.specs.Prelude.{◌≡◌, ◌+◌, ◌≤◌, ◌++◌, length, flat_map, IfOk, if◌then◌else◌, is_ok};
+ghost use Rattle.flute_parts.specs.Devices.{Writes};
+ghost use Rattle.std.specs.List.{AllByRecursion};
+ghost use Rattle.flute_journal.specs.Numbers.{in_bytes};
+ghost use Rattle.flute_journal.specs.Journal.{IsByte};
+ghost use Rattle.flute_journal.specs.Records.{file_header, record_of, IsDatagram, IsFileOf};
+
+use crate::datagram_reader::FILE_HEADER;
+use crate::fault::SaveFault;
+use flute_parts::{DeviceFault, Sink};
+use flute_wire::{Datagram, Datagrams};
+
+/// Writes a datagram file, a record for each datagram in their order, and answers the number of the records. It takes no
+/// memory of its own.
+///
+/// # Errors
+///
+/// `Write` where the sink failed. A first part of the file was then written, and not all of it.
+pub fn write_datagrams<W: Sink>(datagrams: &Datagrams, sink: &mut W) -> Result<u64, SaveFault>
+    ensures bytes { Writes (W.written sink.old) (W.written sink.new) (file_header ++ flat_map record_of datagrams.now) result }
+    ensures file { IfOk result (λ _. IsFileOf (file_header ++ flat_map record_of datagrams.now) datagrams.now) }
+    ensures count { IfOk result (λ count. count ≡ length datagrams.now) }
+    ensures failures { W.failures sink.new ≡ W.failures sink.old + (if is_ok result then 0 else 1) }
+{
+    let count = datagrams.len();
+    sink.write_all(&FILE_HEADER)?;
+    let mut place = 0;
+    while let Some(datagram) = datagrams.get(place) {
+        write_record(sink, datagram)?;
+        place += 1;
+    }
+    Ok(count as u64)
+}
+
+fn write_record<W: Sink>(sink: &mut W, datagram: &Datagram) -> Result<(), DeviceFault>
+    ensures valid { IsDatagram datagram.now }
+    ensures bytes { Writes (W.written sink.old) (W.written sink.new) (record_of datagram.now) result }
+    ensures failures { W.failures sink.new ≡ W.failures sink.old + (if is_ok result then 0 else 1) }
+{
+    let bytes = datagram.as_slice();
+    sink.write_all(&length_field(bytes))?;
+    sink.write_all(bytes)
+}
+
+// The number of the bytes of a datagram.
+fn length_field(bytes: &[u8]) -> [u8; 2]
+    requires { length bytes.now ≤ 65535 }
+    ensures field { result ≡ in_bytes 2 (length bytes.now) }
+    ensures octets { AllByRecursion IsByte bytes.now }
+{
+    (bytes.len() as u16).to_be_bytes()
+}
