@@ -1,4 +1,5 @@
 //! Worked examples of what is missing of an object, and of whole objects.
+use super::{taken, vectors};
 use crate::{ExtractFault, Gap, GapFault, Reason, Status, Store, laws};
 use flute_parts::{Bytes, Fact, Info, Key, MemorySink, ObjectKey, SessionKey, StdSink, SymbolId};
 use std::alloc::Global;
@@ -204,6 +205,26 @@ fn whole_objects_are_written(rt: HostRuntime) {
     let mut sink = MemorySink::new(rt.alloc());
     assert_eq!(rt; store.extract(&key, &mut sink), Ok(0));
     assert_eq!(rt; sink.as_slice(), b"".as_slice());
+}
+
+/// From datagrams to the object, with the last symbol short or padded; and not from a part of them.
+#[test]
+fn taken_objects_are_written(rt: HostRuntime) -> Result<(), Fail> {
+    let key = key().expect(&rt, "a key");
+    let first = vectors::INFO_AND_FIRST_SYMBOL;
+    let wanted = SymbolId { sbn: 0, esi: 1 };
+    let not_whole = Err(ExtractFault::NotWhole { first: wanted });
+    for (last, answer, object) in [
+        (vectors::INFO_AND_LAST_SYMBOL, Ok(5), b"hello".as_slice()),
+        (vectors::INFO_AND_PADDED_SYMBOL, Ok(5), b"hello"),
+        (first, not_whole, b""),
+    ] {
+        let store = taken(rt.alloc(), &[first, last])?;
+        let mut sink = MemorySink::new(rt.alloc());
+        assert!(rt; store.extract(&key, &mut sink) == answer);
+        assert_eq!(rt; sink.as_slice(), object);
+    }
+    Ok(())
 }
 
 /// A writer that takes so many bytes, two at a time, and then fails.
