@@ -98,11 +98,11 @@ empty_is i z = grind (arith, nat_tests)
 not_empty : (i : Information) → 0 < i.transfer_length → (i.transfer_length == 0) ≡ false
 not_empty i l = grind (arith, nat_tests)
 
-payloads_none : (i : Information) (content : List ℕ) → i.transfer_length ≡ 0 → payloads_of i content ≡ None ∷ []
+pub payloads_none : (i : Information) (content : List ℕ) → i.transfer_length ≡ 0 → payloads_of i content ≡ None ∷ []
 unfolding payloads_of
 payloads_none i content z = ap (λ (b : Bool). cond b (None ∷ []) (map (λ s. Some s) (symbols_of i content))) (empty_is i z)
 
-payloads_some : (i : Information) (content : List ℕ) → 0 < i.transfer_length → payloads_of i content ≡ map (λ s. Some s) (symbols_of i content)
+pub payloads_some : (i : Information) (content : List ℕ) → 0 < i.transfer_length → payloads_of i content ≡ map (λ s. Some s) (symbols_of i content)
 unfolding payloads_of
 payloads_some i content l = ap (λ (b : Bool). cond b (None ∷ []) (map (λ s. Some s) (symbols_of i content))) (not_empty i l)
 

@@ -4,7 +4,12 @@ ghost use Rattle.std.specs.Prelude.{◌≡◌, ◌↔◌, ◌⊎◌, ℕ, true, 
 ghost use Rattle.flute_parts.specs.Information.{Information, IsValid};
 ghost use Rattle.flute_parts.specs.Partition.{ids, fits};
 ghost use Rattle.flute_parts.specs.declared.symbol_id.SymbolId.{SymbolId};
-ghost use Rattle.flute_wire.specs.Carousel.{symbols_of};
+ghost use Rattle.flute_parts.specs.declared.key.Key.{Key};
+ghost use Rattle.flute_parts.specs.declared.fact.Fact.{Fact};
+ghost use Rattle.flute_parts.specs.declared.fact.Fact.TheVariants.{Info, Symbol};
+ghost use Rattle.flute_wire.specs.Carousel.{symbols_of, packets_of, facts_sent};
+ghost use Rattle.flute_wire.specs.Writing.{IsWritten};
+ghost use Rattle.std.specs.List.{AllZip};
 ghost use Rattle.flute_wire.specs.Content.{Content};
 ghost use Rattle.flute_wire.specs.Datagram.{Spells};
 ghost use Rattle.flute_wire.specs.Refusals.{Applies};
@@ -37,4 +42,12 @@ pub fn an_object_is_cut_into_symbols()
         → Contains (symbols_of i content) s → fits i s.0 (length s.1) ≡ true }
     ensures one { (i : Information) (content : List ℕ) (s t : SymbolId × List ℕ) → Contains (symbols_of i content) s
         → Contains (symbols_of i content) t → s.0 ≡ t.0 → s ≡ t }
+{}
+
+/// What an object's datagrams tell is its information and each of its symbols, and nothing else.
+pub fn an_object_is_told_by_its_datagrams()
+    ensures facts { (key : Key) (i : Information) (content : List ℕ) (f : Fact) → IsValid i → Contains (facts_sent key i content) f
+        ↔ ((f ≡ Info key i) ⊎ ((s : SymbolId × List ℕ) × Contains (symbols_of i content) s × (f ≡ Symbol key s.0 s.1))) }
+    ensures datagrams { (key : Key) (i : Information) (content : List ℕ) (datagrams : List (List ℕ))
+        → AllZip IsWritten datagrams (packets_of key i content) → flat_map facts datagrams ≡ facts_sent key i content }
 {}

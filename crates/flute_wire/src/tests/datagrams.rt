@@ -36,4 +36,5 @@ fn laws() {
     one_reading();
     computed_reading();
     an_object_is_cut_into_symbols();
+    an_object_is_told_by_its_datagrams();
 }

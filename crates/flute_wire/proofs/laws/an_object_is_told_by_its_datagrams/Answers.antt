@@ -1,0 +1,6 @@
+use Rattle.flute_wire.proofs.Pieces.{facts_are_sent}
+use Rattle.flute_wire.proofs.Told.{told-iff}
+use Rattle.flute_wire.proofs.laws.an_object_is_told_by_its_datagrams.Goals as goal
+
+pub returns : goal.returns
+returns c = record { facts = told-iff; datagrams = facts_are_sent }
