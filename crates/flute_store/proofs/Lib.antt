@@ -22,3 +22,4 @@ pub mod ToldObjects
 pub mod HowMany
 pub mod ObjectLength
 pub mod BytesSteps
+mod Sent

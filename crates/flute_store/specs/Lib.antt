@@ -21,3 +21,4 @@ pub mod GapAnswers
 pub mod Status
 pub mod BytesLeft
 pub mod Extract
+pub mod Sent

@@ -5,6 +5,7 @@ ghost use Rattle.flute_parts.specs.Facts.{fact_at, Same, Below};
 ghost use Rattle.flute_parts.specs.declared.fact.Fact.{Fact as Known};
 ghost use Rattle.flute_store.specs.Held.{HasCell};
 ghost use Rattle.flute_store.specs.Laws.{SameWhole, SameObject, SameGaps, GapsListWants, GapsAreRuns, GapsAreUnique, WholeHasNoGap, WholeHasItsLength};
+ghost use Rattle.flute_store.specs.Sent.{DatagramsGiveTheObject};
 
 /// What a refused `absorb` leaves, joined again with success, gives the join.
 pub fn absorbing_again_gives_the_join()
@@ -36,4 +37,10 @@ pub fn gaps_are_maximal_runs()
 /// A whole object has as many bytes as its transfer length says, never one more or less.
 pub fn whole_objects_have_their_length()
     ensures { WholeHasItsLength }
+{}
+
+/// Where as much is known of an object as the datagrams tell that carry it, in any order and with any repeats, it is
+/// whole, and its bytes are those that were sent.
+pub fn datagrams_give_the_object()
+    ensures { DatagramsGiveTheObject }
 {}

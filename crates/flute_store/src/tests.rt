@@ -1,6 +1,7 @@
 //! Worked examples of what a store holds.
 
 mod objects;
+mod sent;
 mod slow_listing;
 mod vectors;
 
