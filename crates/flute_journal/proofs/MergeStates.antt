@@ -26,7 +26,7 @@ use Rattle.flute_journal.specs.Whole.{HasFault}
 use Rattle.flute_journal.specs.Merges.{front, BeginsWith, ReadsBehind, NamesFault, MergeGives}
 use Rattle.flute_journal.specs.MergeTurns.{IsLower, Refills}
 use Rattle.flute_journal.proofs.Whole.{Sofar, stage_at, sofar-none, sofar-fault}
-use Rattle.flute_journal.proofs.MergeBytes.{front-snoc, begins-front}
+use Rattle.flute_journal.proofs.MergeBytes.{front-snoc, written-begins, written-snoc}
 use Rattle.flute_journal.proofs.MergeRising.{last_of-snoc}
 use Rattle.flute_journal.proofs.MergeSides.{AtEnd, Side, all-last, open_behind, side-from, reads-sofar, reads-side, reads-fault}
 use Rattle.flute_journal.proofs.MergeTurns.{Joined, IsAbove, Passes, used_of, ok_is, lower-valid, lower-first, lower-second, turned, side-refill, above-refill, reads-passed}
@@ -136,8 +136,8 @@ state-start limit u u' v v' w w' s s' t t' left right p q g h a = record {
 }
 
 stop_early : (limit : ℕ) (u u' v v' w w' : Option (List ℕ)) (s t : Stage) (bs more : List ℕ) (e : MergeFault) → s ≡ Header → t ≡ Header → Appends w w' bs → bs ++ more ≡ header
-    → ReadsBehind u u' [] → ReadsBehind v v' [] → NamesFault limit u v e → MergeGives limit u u' v v' w w' (Err e)
-stop_early limit u u' v v' w w' s t bs more e p q a h x y n = record {
+    → ReadsBehind u u' [] → ReadsBehind v v' [] → BeginsWith e bs [] → NamesFault limit u v e → MergeGives limit u u' v v' w w' (Err e)
+stop_early limit u u' v v' w w' s t bs more e p q a h x y b n = record {
   short = short-begun u v w w' bs a (record {
     first_entries = [];
     second_entries = [];
@@ -148,7 +148,7 @@ stop_early limit u u' v v' w w' s t bs more e p q a h x y n = record {
     more = more;
     written = h;
   });
-  keeps_up = record { first_entries = []; second_entries = []; first_read = x; second_read = y; entries = []; collects = none_joined.collects; bytes = bs; appended = a; begins = tt };
+  keeps_up = record { first_entries = []; second_entries = []; first_read = x; second_read = y; entries = []; collects = none_joined.collects; bytes = bs; appended = a; begins = b };
   names = n;
 }
 
@@ -156,21 +156,21 @@ pub stop-first_early : (limit : ℕ) (u u' v w : Option (List ℕ)) (s s' t : St
     → Gives limit s s' u u' (Err f) → MergeGives limit u u' v v w w (Err (First f))
 stop-first_early limit u u' v w s s' t f p q g =
     stop_early limit u u' v v w w s t [] header (First f) p q (Appends-nil w) refl
-    (reads-fault limit u u u' s s' [] f (fresh limit u s p) g) (reads-sofar limit v v t [] (fresh limit v t q))
+    (reads-fault limit u u u' s s' [] f (fresh limit u s p) g) (reads-sofar limit v v t [] (fresh limit v t q)) refl
     (sofar-fault limit u u u' s s' [] f (fresh limit u s p) g)
 
 pub stop-second_early : (limit : ℕ) (u u' v v' w : Option (List ℕ)) (s s' t t' : Stage) (left : Option Fact) (f : ReadFault) → s ≡ Header → t ≡ Header
     → Gives limit s s' u u' (Ok left) → Gives limit t t' v v' (Err f) → MergeGives limit u u' v v' w w (Err (Second f))
 stop-second_early limit u u' v v' w s s' t t' left f p q g h =
     stop_early limit u u' v v' w w s t [] header (Second f) p q (Appends-nil w) refl
-    (reads-side limit u u' s' [] left (fresh_side limit u u' s s' left p g)) (reads-fault limit v v v' t t' [] f (fresh limit v t q) h)
+    (reads-side limit u u' s' [] left (fresh_side limit u u' s s' left p g)) (reads-fault limit v v v' t t' [] f (fresh limit v t q) h) refl
     (sofar-fault limit v v v' t t' [] f (fresh limit v t q) h)
 
 pub stop-header : (limit : ℕ) (u u' v v' w w' : Option (List ℕ)) (s s' t t' : Stage) (left right : Option Fact) → s ≡ Header → t ≡ Header
     → Gives limit s s' u u' (Ok left) → Gives limit t t' v v' (Ok right) → AppendsPart w w' header → MergeGives limit u u' v v' w w' (Err Write)
 stop-header limit u u' v v' w w' s s' t t' left right p q g h a =
     stop_early limit u u' v v' w w' s t a.part a.rest Write p q a.appended (sym a.whole)
-    (reads-side limit u u' s' [] left (fresh_side limit u u' s s' left p g)) (reads-side limit v v' t' [] right (fresh_side limit v v' t t' right q h)) tt
+    (reads-side limit u u' s' [] left (fresh_side limit u u' s s' left p g)) (reads-side limit v v' t' [] right (fresh_side limit v v' t t' right q h)) (a.part, refl) tt
 
 -- Between two turns.
 
@@ -242,7 +242,7 @@ module _ {limit : ℕ} {u u' : Option (List ℕ)} {s : Stage} {left : Option Fac
             collects = state.joined_are.collects;
             bytes = bs;
             appended = appended;
-            begins = begins-front state.joined a.part;
+            begins = written-begins state.joined a.part;
           };
           names = tt;
         }
@@ -253,8 +253,8 @@ module _ {limit : ℕ} {u u' : Option (List ℕ)} {s : Stage} {left : Option Fac
     -- once the next entry was written
     stopped_behind : (u'' v'' w'' : Option (List ℕ)) (e : MergeFault) → Appends w' w'' (entry g)
         → ReadsBehind u u'' (state.first ++ used_of (is_le order) left) → ReadsBehind v v'' (state.second ++ used_of (is_ge order) right)
-        → NamesFault limit u v e → MergeGives limit u u'' v v'' w w'' (Err e)
-    stopped_behind u'' v'' w'' e a p q n =
+        → BeginsWith e (front (state.joined ++ g ∷ [])) (state.joined ++ g ∷ []) → NamesFault limit u v e → MergeGives limit u u'' v v'' w w'' (Err e)
+    stopped_behind u'' v'' w'' e a p q b n =
         let bs : List ℕ = front (state.joined ++ g ∷ []) in
         record {
           short = short-begun u v w w'' bs (next_bytes w'' a) (begun_next bs [] (append-nil bs));
@@ -267,7 +267,7 @@ module _ {limit : ℕ} {u u' : Option (List ℕ)} {s : Stage} {left : Option Fac
             collects = next_joined.collects;
             bytes = bs;
             appended = next_bytes w'' a;
-            begins = subst (λ x. BeginsWith x (state.joined ++ g ∷ [])) (append-nil bs) (begins-front (state.joined ++ g ∷ []) []);
+            begins = b;
           };
           names = n;
         }
@@ -276,7 +276,8 @@ module _ {limit : ℕ} {u u' : Option (List ℕ)} {s : Stage} {left : Option Fac
         → Refills {T = Unit {0}} (is_le order) limit s s' u' u'' left o (Err f) → MergeGives limit u u'' v v' w w'' (Err (First f))
     stop-first u'' w'' s' o f a r =
         let b = refill_fault (is_le order) limit u u' u'' s s' state.first left o g f state.first_side passes_first r in
-        stopped_behind u'' v' w'' (First f) a b.0 (reads-passed (is_ge order) limit v v' t state.second right g state.second_side passes_second) b.1
+        stopped_behind u'' v' w'' (First f) a b.0 (reads-passed (is_ge order) limit v v' t state.second right g state.second_side passes_second)
+        (written-snoc state.joined g) b.1
 
     pub open-first : (u'' : Option (List ℕ)) (s' : Stage) (o : Option Fact) (f : ReadFault)
         → Refills {T = Unit {0}} (is_le order) limit s s' u' u'' left o (Err f) → IsTrue (is_open s)
@@ -288,7 +289,7 @@ module _ {limit : ℕ} {u u' : Option (List ℕ)} {s : Stage} {left : Option Fac
     stop-second u'' v'' w'' s' t' o p f a q r =
         let b = refill_fault (is_ge order) limit v v' v'' t t' state.second right p g f state.second_side passes_second r in
         let n = side-refill (is_le order) limit u u' u'' s s' state.first left o g state.first_side passes_first q in
-        stopped_behind u'' v'' w'' (Second f) a (reads-side limit u u'' s' (state.first ++ used_of (is_le order) left) o n) b.0 b.1
+        stopped_behind u'' v'' w'' (Second f) a (reads-side limit u u'' s' (state.first ++ used_of (is_le order) left) o n) b.0 (written-snoc state.joined g) b.1
 
     pub open-second : (v'' : Option (List ℕ)) (t' : Stage) (p : Option Fact) (f : ReadFault)
         → Refills {T = Unit {0}} (is_ge order) limit t t' v' v'' right p (Err f) → IsTrue (is_open t)
@@ -368,7 +369,7 @@ module _ {limit : ℕ} {u u' : Option (List ℕ)} {s : Stage} {v v' : Option (Li
           collects = state.joined_are.collects;
           bytes = bs;
           appended = appended;
-          begins = begins-front state.joined a.part;
+          begins = written-begins state.joined a.part;
         };
         names = tt;
       }

@@ -38,10 +38,15 @@ pub record StopsShort (first second old new : Option (List ℕ)) : Type 0 where
 abbrev pub front : List Fact → List ℕ
 front entries = header ++ flat_map entry entries
 
--- the bytes begin with these whole entries
-abbrev pub BeginsWith : List ℕ → List Fact → Type 0
-BeginsWith bytes [] = ⊤
-BeginsWith bytes (f ∷ fs) = (rest : List ℕ) × (bytes ≡ front (f ∷ fs) ++ rest)
+-- what is written up to these entries: the header comes with the first
+abbrev pub written : List Fact → List ℕ
+written [] = []
+written (f ∷ fs) = front (f ∷ fs)
+
+-- The bytes begin with what is written up to these entries, and are no more than that where an input was at fault.
+abbrev pub BeginsWith : MergeFault → List ℕ → List Fact → Type 0
+BeginsWith Write bytes entries = (rest : List ℕ) × (bytes ≡ written entries ++ rest)
+BeginsWith fault bytes entries = bytes ≡ written entries
 
 -- the bytes are no more than a header's, or these whole entries and then no byte behind one entry more
 pub data EndsBehind (entries : List Fact) (bytes : List ℕ) : Type 0 where
@@ -57,7 +62,7 @@ pub record ReadsBehind (input left : Option (List ℕ)) (entries : List Fact) : 
 
 -- What was read, and what was appended: whole entries of both inputs and at most one more of each, and all that the
 -- whole entries come to.
-pub record KeepsUp (first first_left second second_left old new : Option (List ℕ)) : Type 0 where
+pub record KeepsUp (first first_left second second_left old new : Option (List ℕ)) (fault : MergeFault) : Type 0 where
   pub first_entries : List Fact
   pub second_entries : List Fact
   pub first_read : ReadsBehind first first_left first_entries
@@ -66,7 +71,7 @@ pub record KeepsUp (first first_left second second_left old new : Option (List �
   pub collects : Collects (first_entries ++ second_entries) entries
   pub bytes : List ℕ
   pub appended : Appends old new bytes
-  pub begins : BeginsWith bytes entries
+  pub begins : BeginsWith fault bytes entries
 
 -- the fault that is told of an input is that of its bytes, if it is one of theirs
 abbrev pub NamesFault : ℕ → Option (List ℕ) → Option (List ℕ) → MergeFault → Type 0
@@ -90,7 +95,7 @@ sink_failed _ = 0
 -- what holds of a merge that has stopped
 pub record Stopped (limit : ℕ) (first first_left second second_left old new : Option (List ℕ)) (fault : MergeFault) : Type 0 where
   pub short : StopsShort first second old new
-  pub keeps_up : KeepsUp first first_left second second_left old new
+  pub keeps_up : KeepsUp first first_left second second_left old new fault
   pub names : NamesFault limit first second fault
 
 -- and of one that came to an end or has stopped

@@ -54,7 +54,7 @@ pub fn merge_streams<A: Source, B: Source, W: Sink>(
     requires bound { max_entries < 2 ^ 63 }
     ensures merged { IfOk result (λ n. Merged max_entries n (A.unread first.old) (B.unread second.old) (W.written sink.old) (W.written sink.new)) }
     ensures short { IfErr result (λ _. StopsShort (A.unread first.old) (B.unread second.old) (W.written sink.old) (W.written sink.new)) }
-    ensures keeps_up { IfErr result (λ _. KeepsUp (A.unread first.old) (A.unread first.new) (B.unread second.old) (B.unread second.new)
+    ensures keeps_up { IfErr result (KeepsUp (A.unread first.old) (A.unread first.new) (B.unread second.old) (B.unread second.new)
         (W.written sink.old) (W.written sink.new)) }
     ensures fault { IfErr result (NamesFault max_entries (A.unread first.old) (B.unread second.old)) }
     ensures first_failures { A.failures first.new ≡ A.failures first.old + first_failed result }

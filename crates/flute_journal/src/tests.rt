@@ -3,6 +3,7 @@
 mod datagram_files;
 mod faults;
 mod journals;
+mod merges;
 mod stores;
 mod vectors;
 
