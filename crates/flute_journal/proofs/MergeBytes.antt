@@ -8,7 +8,7 @@ use Rattle.flute_journal.specs.Numbers.{in_bytes}
 use Rattle.flute_journal.specs.Format.{header, entry, end, spelling}
 use Rattle.flute_journal.specs.Input.{IsWithin}
 use Rattle.flute_journal.specs.Journal.{IsFact}
-use Rattle.flute_journal.specs.Merges.{front, written}
+use Rattle.flute_journal.specs.Merges.{front, written_up_to}
 use Rattle.flute_journal.proofs.Entries.{entry-injective, not_end, cons_grouped}
 
 pub front-append : (es fs : List Fact) → front (es ++ fs) ≡ front es ++ flat_map entry fs
@@ -17,11 +17,11 @@ front-append es fs = ap (λ (x : List ℕ). header ++ x) (flat_map-append entry 
 pub front-snoc : (es : List Fact) (f : Fact) → front es ++ entry f ≡ front (es ++ f ∷ [])
 front-snoc es f = flat_map_more entry header es f
 
-pub written-begins : (es : List Fact) (part : List ℕ) → (rest : List ℕ) × (front es ++ part ≡ written es ++ rest)
+pub written-begins : (es : List Fact) (part : List ℕ) → (rest : List ℕ) × (front es ++ part ≡ written_up_to es ++ rest)
 written-begins [] part = (header ++ part, refl)
 written-begins (e ∷ es) part = (part, refl)
 
-pub written-snoc : (es : List Fact) (f : Fact) → front (es ++ f ∷ []) ≡ written (es ++ f ∷ [])
+pub written-snoc : (es : List Fact) (f : Fact) → front (es ++ f ∷ []) ≡ written_up_to (es ++ f ∷ [])
 written-snoc [] f = refl
 written-snoc (e ∷ es) f = refl
 

@@ -39,14 +39,14 @@ abbrev pub front : List Fact → List ℕ
 front entries = header ++ flat_map entry entries
 
 -- what is written up to these entries: the header comes with the first
-abbrev pub written : List Fact → List ℕ
-written [] = []
-written (f ∷ fs) = front (f ∷ fs)
+abbrev pub written_up_to : List Fact → List ℕ
+written_up_to [] = []
+written_up_to (f ∷ fs) = front (f ∷ fs)
 
 -- The bytes begin with what is written up to these entries, and are no more than that where an input was at fault.
 abbrev pub BeginsWith : MergeFault → List ℕ → List Fact → Type 0
-BeginsWith Write bytes entries = (rest : List ℕ) × (bytes ≡ written entries ++ rest)
-BeginsWith fault bytes entries = bytes ≡ written entries
+BeginsWith Write bytes entries = (rest : List ℕ) × (bytes ≡ written_up_to entries ++ rest)
+BeginsWith fault bytes entries = bytes ≡ written_up_to entries
 
 -- the bytes are no more than a header's, or these whole entries and then no byte behind one entry more
 pub data EndsBehind (entries : List Fact) (bytes : List ℕ) : Type 0 where

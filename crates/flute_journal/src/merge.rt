@@ -29,7 +29,7 @@ pub enum MergeFault {
 }
 
 /// Appends the journal of all that two journals tell, and answers the number of its entries. Each may have at most
-/// `max_entries` entries.
+/// `max_entries` entries, which are fewer than 2^63.
 ///
 /// The first entry of each is read, and then the header written. Each turn writes the entry at the lower address, or at
 /// an equal address what both come to, and then reads the next entry of each input whose entry was used, of `first`
@@ -42,8 +42,8 @@ pub enum MergeFault {
 /// - `Write` where the sink failed.
 ///
 /// What was appended is then no journal of anything. Where both inputs are journals it is a first part of the journal of
-/// both, and not all of it. Of each input, the entries were read whole that stand at addresses whose entry was appended
-/// whole, and at most one more.
+/// both, and not all of it; after `First` or `Second` it is whole entries behind the header, or nothing. Of each input,
+/// the entries were read whole that stand at addresses whose entry was appended whole, and at most one more.
 pub fn merge_streams<A: Source, B: Source, W: Sink>(
     alloc: Global,
     first: &mut A,

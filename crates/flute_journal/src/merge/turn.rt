@@ -13,7 +13,8 @@ use flute_parts::{Address, Fact, FactRef, Part, Source};
 use std::alloc::Global;
 use std::cmp::Ordering;
 
-/// What two entries come to at the lower of their addresses, and how the addresses compare. No entry stands above each.
+/// What the held entries of two inputs come to at the lower of their addresses, and which input has an entry there: the
+/// first (`Less`), the second (`Greater`), or both (`Equal`). None where no entry is held.
 pub fn lower<'a>(
     first: &'a Option<Fact>,
     second: &'a Option<Fact>,

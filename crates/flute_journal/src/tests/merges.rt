@@ -177,6 +177,24 @@ fn fault_before_the_header_is_written(rt: HostRuntime) -> Result<(), Fail> {
     Ok(())
 }
 
+/// Where both inputs have a fault in one turn, that of the first is told: before the header, and behind the information
+/// that both have.
+#[test]
+fn both_inputs_have_a_fault(rt: HostRuntime) -> Result<(), Fail> {
+    let whole = bytes(rt.alloc(), WHOLE)?;
+    for (len, written) in [(3, 0), (50, 40)] {
+        let (Some(cut), Some(begun)) = (whole.get(..len), whole.get(..written)) else {
+            return Err(Fail::from("a short journal"));
+        };
+        let mut sink = MemorySink::new(rt.alloc());
+        let mut first = ShortSource::new(&whole, 7, len);
+        let answer = merged(&rt, &mut first, &mut MemorySource::new(cut), &mut sink);
+        assert!(rt; answer == Err(MergeFault::First(ReadFault::Read)), "{len}");
+        assert_eq!(rt; sink.as_slice(), begun);
+    }
+    Ok(())
+}
+
 /// The bound holds for each input: the third entry of the first is met when two were written.
 #[test]
 fn inputs_beyond_the_bound(rt: HostRuntime) -> Result<(), Fail> {
