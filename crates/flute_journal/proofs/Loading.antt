@@ -1,5 +1,5 @@
 -- A store that is read entry by entry.
-use Rattle.std.proofs.Common.{◌≡◌, ℕ, ◌+◌, List, [], ◌∷◌, ◌++◌, length, Bool, true, false, if◌then◌else◌, Option, Some, None, Ok, Err, inl, inr, refl, sym, ap, ◌∙◌, subst, append_assoc, append-nil, arith}
+use Rattle.std.proofs.Common.{◌≡◌, ◌≤◌, ℕ, ◌+◌, List, [], ◌∷◌, ◌++◌, length, Bool, true, false, if◌then◌else◌, Option, Some, None, Ok, Err, inl, inr, refl, sym, ap, ◌∙◌, subst, append_assoc, append-nil, arith}
 use Rattle.std.specs.Prelude.{IfSome}
 use Rattle.std.specs.List.{flat_map}
 use Rattle.std.specs.Io.KnownBytes.{Consumes, IsAtEnd}
@@ -19,10 +19,11 @@ use Rattle.flute_journal.specs.declared.reader.Stage.{Stage}
 use Rattle.flute_journal.specs.declared.reader.Stage.TheVariants.{Header, Ended}
 use Rattle.flute_journal.specs.Format.{header, entry, end, spelling}
 use Rattle.flute_journal.specs.Journal.{AreEntries}
-use Rattle.flute_journal.specs.Reading.{is_open, position, opening, GivesEntry, GivesEnd, GivesFault, Gives}
+use Rattle.flute_journal.specs.Reading.{is_open, position, opening, GivesEntry, GivesEnd, GivesFault, Gives, IsPart}
 use Rattle.flute_journal.specs.Whole.{HasFault}
-use Rattle.flute_journal.specs.Stores.{IsJournalOf, BeginsWith, BeginsOver, IsLoadFault, refused, load_failed}
-use Rattle.flute_journal.proofs.Whole.{stage_at, read_of, Sofar, sofar-none, sofar-next, sofar-fault}
+use Rattle.flute_journal.specs.Stores.{IsJournalOf, BeginsWith, BeginsOver, IsLoadFault, ReadsPart, refused, load_failed}
+use Rattle.flute_journal.proofs.Parts.{entry_within-short}
+use Rattle.flute_journal.proofs.Whole.{stage_at, read_of, not_failed, Sofar, sofar-none, sofar-next, sofar-fault}
 
 -- these entries were read, and what they come to is held within the limits
 pub record Loaded (s o y limit : ℕ) (first now : Option (List ℕ)) (stage : Stage) (content : List Fact) : Type 0 where
@@ -177,3 +178,60 @@ pub loaded-fault : (s o y limit bound : ℕ) (u v w : Option (List ℕ)) (old ne
     → bound ≡ limit → GivesFault bound old new v w f → HasFault limit u f
 loaded-fault s o y limit bound u v w old new F f l b h =
     sofar-fault limit u v w old new l.entries f l.sofar (subst (λ (n : ℕ). GivesFault n old new v w f) b h)
+
+-- What was read where no store was.
+
+no_front : (front : List ℕ) → length front ≤ 0 → front ≡ []
+no_front [] h = refl
+no_front (x ∷ front) h = absurd (omega (arith, h))
+
+part-at : (limit : ℕ) (u v w : Option (List ℕ)) (es : List Fact) (part : List ℕ) → AreEntries limit es → Consumes u v (read_of es) → Consumes v w part → IsPart (stage_at es) part
+    → ReadsPart limit u w
+part-at limit u v w [] part a took more p = record {
+  entries = [];
+  are_entries = a;
+  front = p.front;
+  more = p.more;
+  within_header = p.within_opening;
+  within_entry = p.within_entry;
+  read = subst (Consumes u w) (p.parts ∙ ap (λ (x : List ℕ). x ++ p.more) (sym (append-nil p.front))) (Consumes-trans u v w [] part took more);
+}
+part-at limit u v w (e ∷ es) part a took more p =
+    let none : part ≡ p.more = p.parts ∙ ap (λ (x : List ℕ). x ++ p.more) (no_front p.front p.within_opening) in
+    record {
+      entries = e ∷ es;
+      are_entries = a;
+      front = header;
+      more = p.more;
+      within_header = omega arith;
+      within_entry = p.within_entry;
+      read = subst (λ (x : List ℕ). Consumes u w (header ++ flat_map entry (e ∷ es) ++ x)) none (Consumes-trans u v w (header ++ flat_map entry (e ∷ es)) part took more);
+    }
+
+part-found : (limit : ℕ) (u v w : Option (List ℕ)) (new : Stage) (es : List Fact) (f : ReadFault) → AreEntries limit es → Consumes u v (read_of es)
+    → GivesFault limit (stage_at es) new v w f → ReadsPart limit u w
+part-found limit u v w new es f a took h = elim h.found [
+  | inl p ↦ absurd (not_failed es f p.0)
+  | inr p ↦ part-at limit u v w es p.2.0 a took p.2.1 p.2.2
+]
+
+pub fault-part : (s o y limit bound : ℕ) (u v w : Option (List ℕ)) (old new : Stage) (F : List Fact) (f : ReadFault) → Loaded s o y limit u v old F
+    → bound ≡ limit → GivesFault bound old new v w f → ReadsPart limit u w
+fault-part s o y limit bound u v w old new F f l b h =
+    part-found limit u v w new l.entries f l.sofar.are_entries l.sofar.read
+    (subst (λ (x : Stage). GivesFault limit x new v w f) l.sofar.stage_is (subst (λ (n : ℕ). GivesFault n old new v w f) b h))
+
+pub refused-part : (s o y limit bound : ℕ) (u v w : Option (List ℕ)) (old new : Stage) (F : List Fact) (given : Option Fact) (f : Fact) → Loaded s o y limit u v old F
+    → bound ≡ limit → given ≡ Some f → Gives bound old new v w (Ok given) → ReadsPart limit u w
+refused-part s o y limit bound u v w old new F given f l b e h =
+    let es = l.entries ++ f ∷ [] in
+    let next = sofar-next limit u v w old new l.entries f l.sofar (given-entry limit bound v w old new given f b e h) in
+    record {
+      entries = es;
+      are_entries = next.are_entries;
+      front = header;
+      more = [];
+      within_header = omega arith;
+      within_entry = entry_within-short [] (omega arith);
+      read = subst (Consumes u w) (read_some l.entries f ∙ sym (append-nil (header ++ flat_map entry es))) next.read;
+    }

@@ -109,7 +109,7 @@ fault_at limit u v es faults.Read a took h = tt
 fault_at limit u v es faults.OutOfMemory a took h = tt
 fault_at limit u v es f a took h = known_stops limit u v es f a took h
 
-not_failed : (es : List Fact) (f : ReadFault) → stage_at es ≡ Failed f → ⊥
+pub not_failed : (es : List Fact) (f : ReadFault) → stage_at es ≡ Failed f → ⊥
 not_failed [] f e = cc
 not_failed (x ∷ es) f e = cc
 

@@ -1,6 +1,7 @@
 -- What stores are written as, and what they are read from.
-use Rattle.std.specs.Prelude.{◌≡◌, ℕ, List, ◌++◌, Option, ⊤, Result, Err, IfSome}
+use Rattle.std.specs.Prelude.{◌≡◌, ℕ, ◌≤◌, List, ◌++◌, length, Option, ⊤, Result, Err, IfSome}
 use Rattle.std.specs.List.{flat_map}
+use Rattle.std.specs.Io.KnownBytes.{Consumes}
 use Rattle.flute_join.specs.declared.refusal.JoinRefusal.{JoinRefusal}
 use Rattle.flute_join.specs.declared.refusal.JoinRefusal.TheVariants as join
 use Rattle.flute_parts.specs.Facts.{Same}
@@ -10,7 +11,8 @@ use Rattle.flute_journal.specs.declared.fault.ReadFault.TheVariants as faults
 use Rattle.flute_journal.specs.declared.fault.LoadFault.{LoadFault}
 use Rattle.flute_journal.specs.declared.fault.LoadFault.TheVariants.{Read, Full, OutOfMemory}
 use Rattle.flute_journal.specs.Format.{header, entry}
-use Rattle.flute_journal.specs.Journal.{AreEntries, IsJournalWithin}
+use Rattle.flute_journal.specs.Input.{IsWithin}
+use Rattle.flute_journal.specs.Journal.{IsFact, AreEntries, IsJournalWithin}
 use Rattle.flute_journal.specs.Whole.{HasFault}
 
 -- the bytes are the journal of what these facts come to, with at most so many entries
@@ -32,6 +34,16 @@ abbrev pub IsLoadFault : ℕ → ℕ → ℕ → ℕ → Option (List ℕ) → L
 IsLoadFault sessions objects symbols limit old (Read f) = HasFault limit old f
 IsLoadFault sessions objects symbols limit old Full = IfSome old (BeginsOver sessions objects symbols limit)
 IsLoadFault sessions objects symbols limit old OutOfMemory = ⊤
+
+-- where no store was read: the header and entries were read, at most so many, and of what stands behind them nothing past the next one
+pub record ReadsPart (limit : ℕ) (old new : Option (List ℕ)) : Type 0 where
+  pub entries : List Fact
+  pub are_entries : AreEntries limit entries
+  pub front : List ℕ
+  pub more : List ℕ
+  pub within_header : length front ≤ length header
+  pub within_entry : IsWithin entry IsFact more
+  pub read : Consumes old new (front ++ flat_map entry entries ++ more)
 
 -- the fault that a store's refusal is
 abbrev pub refused : JoinRefusal → LoadFault

@@ -2,7 +2,7 @@
 ghost use Rattle.std.specs.Prelude.{◌≡◌, ◌+◌, IfOk, IfErr, IfSome};
 ghost use Rattle.std.specs.Io.KnownBytes.{IsAtEnd};
 ghost use Rattle.flute_parts.specs.Limits.{Over};
-ghost use Rattle.flute_journal.specs.Stores.{IsJournalOf, IsLoadFault, load_failed};
+ghost use Rattle.flute_journal.specs.Stores.{IsJournalOf, IsLoadFault, ReadsPart, load_failed};
 
 use crate::fault::LoadFault;
 use crate::reader::JournalReader;
@@ -22,7 +22,7 @@ use std::alloc::Global;
 /// - `Full` where an entry needs a new session, object or symbol beyond the limits;
 /// - `OutOfMemory` where there is no memory for an entry in the store.
 ///
-/// There is no store after any of these, and nothing past the entry at fault was read.
+/// There is no store after any of these, and nothing past the entry at which it ended was read.
 pub fn read_store<const SESSIONS: u32, const OBJECTS: u32, const SYMBOLS: u32, R: Source>(
     alloc: Global,
     source: &mut R,
@@ -32,6 +32,7 @@ pub fn read_store<const SESSIONS: u32, const OBJECTS: u32, const SYMBOLS: u32, R
     ensures end { IfOk result (λ _. IsAtEnd (R.unread source.new)) }
     ensures within { IfOk result (λ store. ¬ Over store SESSIONS OBJECTS SYMBOLS) }
     ensures fault { IfErr result (IsLoadFault SESSIONS OBJECTS SYMBOLS max_entries (R.unread source.old)) }
+    ensures reads { IfErr result (λ _. ReadsPart max_entries (R.unread source.old) (R.unread source.new)) }
     ensures failures { R.failures source.new ≡ R.failures source.old + load_failed result }
 {
     let mut store = Store::new(alloc);

@@ -4,8 +4,8 @@ use Rattle.std.specs.Io.KnownBytes.{IsAtEnd}
 use Rattle.flute_parts.specs.declared.fact.Fact.{Fact}
 use Rattle.flute_store.specs.declared.store.Store.{Store}
 use Rattle.flute_journal.specs.Reading.{is_open}
-use Rattle.flute_journal.specs.Stores.{load_failed}
-use Rattle.flute_journal.proofs.Loading.{loaded-none, loaded-given, loaded-fits, loaded-full, loaded-all, loaded-fault, loaded-failed, loaded-read}
+use Rattle.flute_journal.specs.Stores.{ReadsPart, load_failed}
+use Rattle.flute_journal.proofs.Loading.{loaded-none, loaded-given, loaded-fits, loaded-full, loaded-all, loaded-fault, loaded-failed, loaded-read, fault-part, refused-part}
 use Rattle.flute_journal.proofs.load.read_store.Goals as goal
 
 pub loop-store-init : goal.loop-store-init
@@ -27,6 +27,20 @@ returns-in_err-fact-clause-failures g c =
     let total : g.R.Source.failures c.next.new.self.source.now ≡ g.R.Source.failures c.args.source.now + load_failed c.from_residual.result =
     rw (e.1 ∙ ap Err e.2) (loaded-failed (Option Fact) (Store g.row.SESSIONS g.row.OBJECTS g.row.SYMBOLS) _ _ _ _ _ _ _ _ _ _ _ _ c.loop-store.invariant.0 c.loop-store.invariant.3 c.in_err-fact.ensures.failures) in
     search (rules, total)
+
+pub returns-in_err-fact-clause-reads : goal.returns-in_err-fact-clause-reads
+returns-in_err-fact-clause-reads g c =
+    let e = err_from_is_err_and c.from_residual.result c.from_residual.ensures.1 in
+    let reads : ReadsPart c.args.max_entries (g.R.Source.unread c.args.source.now) (g.R.Source.unread c.next.new.self.source.now) =
+    fault-part _ _ _ _ _ _ _ _ _ _ _ _ c.loop-store.invariant.0 c.loop-store.invariant.1 c.in_err-fact.ensures.gives in
+    rw (e.1) (search (rules, reads))
+
+pub returns-in_err-add-clause-reads : goal.returns-in_err-add-clause-reads
+returns-in_err-add-clause-reads g c =
+    let e = err_from_is_err_and c.from_residual-in_err-add.result c.from_residual-in_err-add.ensures.1 in
+    let reads : ReadsPart c.args.max_entries (g.R.Source.unread c.args.source.now) (g.R.Source.unread c.next.new.self.source.now) =
+    refused-part _ _ _ _ _ _ _ _ _ _ _ _ _ c.loop-store.invariant.0 c.loop-store.invariant.1 c.in-Some.is c.in_ok-fact.ensures.gives in
+    rw (e.1) (search (rules, reads))
 
 pub returns-in_err-add-clause-fault : goal.returns-in_err-add-clause-fault
 returns-in_err-add-clause-fault g c =
