@@ -35,7 +35,7 @@ IsLoadFault sessions objects symbols limit old (Read f) = HasFault limit old f
 IsLoadFault sessions objects symbols limit old Full = IfSome old (BeginsOver sessions objects symbols limit)
 IsLoadFault sessions objects symbols limit old OutOfMemory = ⊤
 
--- where no store was read: the header and entries were read, at most so many, and of what stands behind them nothing past the next one
+-- what was read where no store was: no more than the header, entries, at most so many, and of what stands behind these nothing past one more
 pub record ReadsPart (limit : ℕ) (old new : Option (List ℕ)) : Type 0 where
   pub entries : List Fact
   pub are_entries : AreEntries limit entries
