@@ -19,9 +19,9 @@ use Rattle.flute_journal.specs.declared.reader.Stage.{Stage}
 use Rattle.flute_journal.specs.declared.reader.Stage.TheVariants.{Header, Ended}
 use Rattle.flute_journal.specs.Format.{header, entry, end, spelling}
 use Rattle.flute_journal.specs.Journal.{AreEntries}
-use Rattle.flute_journal.specs.Reading.{is_open, position, opening, GivesEntry, GivesEnd, GivesFault, Gives, IsPart}
+use Rattle.flute_journal.specs.Reading.{is_open, position, opening, GivesEntry, GivesEnd, GivesFault, Gives, IsPart, in_opening, in_entry}
 use Rattle.flute_journal.specs.Whole.{HasFault}
-use Rattle.flute_journal.specs.Stores.{IsJournalOf, BeginsWith, BeginsOver, IsLoadFault, ReadsPart, refused, load_failed}
+use Rattle.flute_journal.specs.Stores.{IsJournalOf, BeginsWith, BeginsOver, IsLoadFault, ReadsPart, in_header, behind, refused, load_failed}
 use Rattle.flute_journal.proofs.Parts.{entry_within-short}
 use Rattle.flute_journal.proofs.Whole.{stage_at, read_of, not_failed, Sofar, sofar-none, sofar-next, sofar-fault}
 
@@ -181,32 +181,20 @@ loaded-fault s o y limit bound u v w old new F f l b h =
 
 -- What was read where no store was.
 
-no_front : (front : List ℕ) → length front ≤ 0 → front ≡ []
-no_front [] h = refl
-no_front (x ∷ front) h = absurd (omega (arith, h))
+no_bytes : (part : List ℕ) → length part ≤ 0 → part ≡ []
+no_bytes [] h = refl
+no_bytes (x ∷ part) h = absurd (omega (arith, h))
 
 part-at : (limit : ℕ) (u v w : Option (List ℕ)) (es : List Fact) (part : List ℕ) → AreEntries limit es → Consumes u v (read_of es) → Consumes v w part → IsPart (stage_at es) part
     → ReadsPart limit u w
-part-at limit u v w [] part a took more p = record {
-  entries = [];
-  are_entries = a;
-  front = p.front;
-  more = p.more;
-  within_header = p.within_opening;
-  within_entry = p.within_entry;
-  read = subst (Consumes u w) (p.parts ∙ ap (λ (x : List ℕ). x ++ p.more) (sym (append-nil p.front))) (Consumes-trans u v w [] part took more);
-}
-part-at limit u v w (e ∷ es) part a took more p =
-    let none : part ≡ p.more = p.parts ∙ ap (λ (x : List ℕ). x ++ p.more) (no_front p.front p.within_opening) in
-    record {
-      entries = e ∷ es;
-      are_entries = a;
-      front = header;
-      more = p.more;
-      within_header = omega arith;
-      within_entry = p.within_entry;
-      read = subst (λ (x : List ℕ). Consumes u w (header ++ flat_map entry (e ∷ es) ++ x)) none (Consumes-trans u v w (header ++ flat_map entry (e ∷ es)) part took more);
-    }
+part-at limit u v w [] part a took more (in_opening few) = in_header part (Consumes-trans u v w [] part took more) few
+part-at limit u v w [] part a took more (in_entry front e within) = behind [] front a (subst (Consumes u w) e (Consumes-trans u v w [] part took more)) within
+part-at limit u v w (e ∷ es) part a took more (in_opening few) =
+    let read = Consumes-trans u v w (header ++ flat_map entry (e ∷ es)) part took more in
+    behind (e ∷ es) [] a (subst (λ (x : List ℕ). Consumes u w (header ++ flat_map entry (e ∷ es) ++ x)) (no_bytes part few) read) (entry_within-short [] (omega arith))
+part-at limit u v w (e ∷ es) part a took more (in_entry front is within) =
+    let read = Consumes-trans u v w (header ++ flat_map entry (e ∷ es)) part took more in
+    behind (e ∷ es) front a (subst (λ (x : List ℕ). Consumes u w (header ++ flat_map entry (e ∷ es) ++ x)) is read) within
 
 part-found : (limit : ℕ) (u v w : Option (List ℕ)) (new : Stage) (es : List Fact) (f : ReadFault) → AreEntries limit es → Consumes u v (read_of es)
     → GivesFault limit (stage_at es) new v w f → ReadsPart limit u w
@@ -226,12 +214,5 @@ pub refused-part : (s o y limit bound : ℕ) (u v w : Option (List ℕ)) (old ne
 refused-part s o y limit bound u v w old new F given f l b e h =
     let es = l.entries ++ f ∷ [] in
     let next = sofar-next limit u v w old new l.entries f l.sofar (given-entry limit bound v w old new given f b e h) in
-    record {
-      entries = es;
-      are_entries = next.are_entries;
-      front = header;
-      more = [];
-      within_header = omega arith;
-      within_entry = entry_within-short [] (omega arith);
-      read = subst (Consumes u w) (read_some l.entries f ∙ sym (append-nil (header ++ flat_map entry es))) next.read;
-    }
+    behind es [] next.are_entries (subst (Consumes u w) (read_some l.entries f ∙ sym (append-nil (header ++ flat_map entry es))) next.read)
+    (entry_within-short [] (omega arith))

@@ -35,15 +35,10 @@ IsLoadFault sessions objects symbols limit old (Read f) = HasFault limit old f
 IsLoadFault sessions objects symbols limit old Full = IfSome old (BeginsOver sessions objects symbols limit)
 IsLoadFault sessions objects symbols limit old OutOfMemory = ⊤
 
--- what was read where no store was: no more than the header, entries, at most so many, and of what stands behind these nothing past one more
-pub record ReadsPart (limit : ℕ) (old new : Option (List ℕ)) : Type 0 where
-  pub entries : List Fact
-  pub are_entries : AreEntries limit entries
-  pub front : List ℕ
-  pub more : List ℕ
-  pub within_header : length front ≤ length header
-  pub within_entry : IsWithin entry IsFact more
-  pub read : Consumes old new (front ++ flat_map entry entries ++ more)
+-- what was read where no store was: no more bytes than the header has, or the header, entries, at most so many, and nothing past one more
+pub data ReadsPart (limit : ℕ) (old new : Option (List ℕ)) : Type 0 where
+  in_header : (part : List ℕ) → Consumes old new part → length part ≤ length header → ReadsPart limit old new
+  behind : (entries : List Fact) (more : List ℕ) → AreEntries limit entries → Consumes old new (header ++ flat_map entry entries ++ more) → IsWithin entry IsFact more → ReadsPart limit old new
 
 -- the fault that a store's refusal is
 abbrev pub refused : JoinRefusal → LoadFault

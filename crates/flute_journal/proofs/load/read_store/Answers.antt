@@ -1,4 +1,4 @@
-use Rattle.std.proofs.Common.{◌≡◌, ◌+◌, rules, ap, ◌∙◌, Option, Err}
+use Rattle.std.proofs.Common.{◌≡◌, ◌+◌, rules, ap, ◌∙◌, subst, Option, Err}
 use Rattle.std.proofs.lemmas.Result.{err_from_is_err_and}
 use Rattle.std.specs.Io.KnownBytes.{IsAtEnd}
 use Rattle.flute_parts.specs.declared.fact.Fact.{Fact}
@@ -31,16 +31,18 @@ returns-in_err-fact-clause-failures g c =
 pub returns-in_err-fact-clause-reads : goal.returns-in_err-fact-clause-reads
 returns-in_err-fact-clause-reads g c =
     let e = err_from_is_err_and c.from_residual.result c.from_residual.ensures.1 in
-    let reads : ReadsPart c.args.max_entries (g.R.Source.unread c.args.source.now) (g.R.Source.unread c.next.new.self.source.now) =
-    fault-part _ _ _ _ _ _ _ _ _ _ _ _ c.loop-store.invariant.0 c.loop-store.invariant.1 c.in_err-fact.ensures.gives in
-    rw (e.1) (search (rules, reads))
+    let read = fault-part _ _ _ _ _ _ _ _ _ _ _ _ c.loop-store.invariant.0 c.loop-store.invariant.1 c.in_err-fact.ensures.gives in
+    let reads : (x : g.row.R.Denot) → c.next.new.self.source.now ≡ x → ReadsPart c.args.max_entries (g.R.Source.unread c.args.source.now) (g.R.Source.unread x) =
+    λ x same. subst (λ (z : g.row.R.Denot). ReadsPart c.args.max_entries (g.R.Source.unread c.args.source.now) (g.R.Source.unread z)) same read in
+    rw e.1 (reads _ (search rules))
 
 pub returns-in_err-add-clause-reads : goal.returns-in_err-add-clause-reads
 returns-in_err-add-clause-reads g c =
     let e = err_from_is_err_and c.from_residual-in_err-add.result c.from_residual-in_err-add.ensures.1 in
-    let reads : ReadsPart c.args.max_entries (g.R.Source.unread c.args.source.now) (g.R.Source.unread c.next.new.self.source.now) =
-    refused-part _ _ _ _ _ _ _ _ _ _ _ _ _ c.loop-store.invariant.0 c.loop-store.invariant.1 c.in-Some.is c.in_ok-fact.ensures.gives in
-    rw (e.1) (search (rules, reads))
+    let read = refused-part _ _ _ _ _ _ _ _ _ _ _ _ _ c.loop-store.invariant.0 c.loop-store.invariant.1 c.in-Some.is c.in_ok-fact.ensures.gives in
+    let reads : (x : g.row.R.Denot) → c.next.new.self.source.now ≡ x → ReadsPart c.args.max_entries (g.R.Source.unread c.args.source.now) (g.R.Source.unread x) =
+    λ x same. subst (λ (z : g.row.R.Denot). ReadsPart c.args.max_entries (g.R.Source.unread c.args.source.now) (g.R.Source.unread z)) same read in
+    rw e.1 (reads _ (search rules))
 
 pub returns-in_err-add-clause-fault : goal.returns-in_err-add-clause-fault
 returns-in_err-add-clause-fault g c =
