@@ -3,3 +3,5 @@ mod Pieced
 mod Shown
 mod Mapped
 mod Written
+mod Listed
+mod Told

@@ -3,3 +3,4 @@ pub mod Pieces
 pub mod Status
 pub mod Packet
 pub mod Show
+pub mod Objects

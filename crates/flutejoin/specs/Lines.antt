@@ -8,6 +8,11 @@ use Rattle.flute_parts.specs.declared.fact.Fact.{Fact}
 use Rattle.flute_parts.specs.declared.fact.Fact.TheVariants.{Info, InfoConflict, Symbol, SymbolConflict}
 use Rattle.flute_parts.specs.declared.object_key.ObjectName.{ObjectName}
 use Rattle.flute_parts.specs.declared.object_key.ObjectName.TheVariants.{Instance, File}
+use Rattle.flute_store.specs.declared.gap.Reason.{Reason}
+use Rattle.flute_store.specs.declared.gap.Reason.TheVariants.{Missing, Conflicting, Misfit}
+use Rattle.flute_store.specs.declared.gap.Gap.{Gap}
+use Rattle.flute_store.specs.declared.status.Status.{Status}
+use Rattle.flute_store.specs.declared.status.Status.TheVariants.{NoInformation, ConflictingInformation, Partial, Whole}
 use Rattle.flute_wire.specs.Content.{Content}
 use Rattle.flute_wire.specs.Facts.{object_of}
 
@@ -61,3 +66,23 @@ fact_line fact = line (fact_words fact)
 
 unfoldable pub entries_line : ℕ → List ℕ
 entries_line n = line (codes "entries " ++ decimal n)
+
+-- how much of an object is held
+abbrev pub status_words : Status → List ℕ
+status_words NoInformation = codes "no information"
+status_words ConflictingInformation = codes "conflicting information"
+status_words (Partial missing conflicting misfit) =
+    codes "partial missing " ++ decimal missing ++ codes " conflicting " ++ decimal conflicting ++ codes " misfit " ++ decimal misfit
+status_words (Whole length) = codes "whole " ++ decimal length
+
+unfoldable pub status_line : Key → Status → List ℕ
+status_line key status = line (key_words key ++ codes " " ++ status_words status)
+
+abbrev pub reason_words : Reason → List ℕ
+reason_words Missing = codes " missing"
+reason_words Conflicting = codes " conflicting"
+reason_words Misfit = codes " misfit"
+
+-- symbols of one block, from the first to the last
+unfoldable pub gap_line : Gap → List ℕ
+gap_line g = line (codes "gap " ++ decimal g.sbn ++ codes "/" ++ decimal g.first ++ codes "-" ++ decimal g.last ++ reason_words g.reason)

@@ -2,6 +2,7 @@
 #![tactic(auto)]
 
 mod command_fault;
+mod gaps;
 mod hex_digits;
 mod limits;
 mod line;
@@ -12,6 +13,7 @@ mod text;
 mod writing;
 
 pub use command_fault::CommandFault;
+pub use gaps::gaps_to;
 pub use limits::MAX_ENTRIES;
 pub use line::{Line, line_of};
 pub use packet::packet_to;
