@@ -4,3 +4,5 @@ pub mod Status
 pub mod Packet
 pub mod Show
 pub mod Objects
+pub mod Load
+pub mod Extract

@@ -64,8 +64,12 @@ fact_words (SymbolConflict key id) = key_words key ++ codes " " ++ id_words id +
 unfoldable pub fact_line : Fact → List ℕ
 fact_line fact = line (fact_words fact)
 
-unfoldable pub entries_line : ℕ → List ℕ
-entries_line n = line (codes "entries " ++ decimal n)
+-- what was counted, and how many
+unfoldable pub count_line : List ℕ → ℕ → List ℕ
+count_line word n = line (word ++ codes " " ++ decimal n)
+
+abbrev pub entries_line : ℕ → List ℕ
+entries_line n = count_line (codes "entries") n
 
 -- how much of an object is held
 abbrev pub status_words : Status → List ℕ

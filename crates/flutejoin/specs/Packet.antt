@@ -43,6 +43,6 @@ IsHexFault text OutOfMemory = ⊤
 IsHexFault text _ = ⊥
 
 -- a failed write is the one failure of a device that it answers
-abbrev pub write_failures : Result Unit CommandFault → ℕ
+abbrev pub write_failures : {T : Type 0} → Result T CommandFault → ℕ
 write_failures (Err CannotWrite) = 1
 write_failures _ = 0

@@ -60,6 +60,6 @@ ShowFails input old new CannotWrite = ShowsPart input old new
 ShowFails input old new _ = ⊥
 
 -- how often the source has failed, if a command answers this
-abbrev pub read_failures : Result Unit CommandFault → ℕ
+abbrev pub read_failures : {T : Type 0} → Result T CommandFault → ℕ
 read_failures (Err (Input number faults.Read)) = 1
 read_failures _ = 0

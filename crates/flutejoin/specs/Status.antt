@@ -1,7 +1,7 @@
 -- The program's status after a fault.
 use Rattle.std.specs.Prelude.{ℕ, ⊤}
 use Rattle.flutejoin.specs.declared.command_fault.CommandFault.{CommandFault}
-use Rattle.flutejoin.specs.declared.command_fault.CommandFault.TheVariants.{CommandLine, NotText, BadHex, Refused, CannotOpen, Input, OutOfMemory, CannotWrite}
+use Rattle.flutejoin.specs.declared.command_fault.CommandFault.TheVariants.{CommandLine, NotText, BadNumber, BadKey, BadHex, Refused, CannotOpen, Input, Full, NoObject, NoInformation, ConflictingInformation, NotWhole, OutOfMemory, CannotCreate, CannotWrite}
 use Rattle.flute_journal.specs.declared.fault.ReadFault.{ReadFault}
 use Rattle.flute_journal.specs.declared.fault.ReadFault.TheVariants as faults
 
@@ -15,15 +15,25 @@ read_status fault = 1
 abbrev pub status_of : CommandFault → ℕ
 status_of (CommandLine text) = 2
 status_of NotText = 2
+status_of (BadNumber option) = 2
+status_of BadKey = 2
 status_of BadHex = 1
 status_of (Refused refusal) = 1
 status_of (CannotOpen number) = 3
 status_of (Input number fault) = read_status fault
+status_of Full = 1
+status_of NoObject = 1
+status_of NoInformation = 1
+status_of ConflictingInformation = 1
+status_of (NotWhole sbn esi) = 1
 status_of OutOfMemory = 3
+status_of CannotCreate = 3
 status_of CannotWrite = 3
 
 -- the faults of reading a command line
 abbrev pub IsLineFault : CommandFault → Type 0
 IsLineFault (CommandLine text) = ⊤
+IsLineFault (BadNumber option) = ⊤
+IsLineFault BadKey = ⊤
 IsLineFault OutOfMemory = ⊤
 IsLineFault _ = ⊥

@@ -15,6 +15,12 @@ pub enum CommandFault {
     /// A word of the command line is not UTF-8.
     #[error("an argument is not text")]
     NotText,
+    /// The value of the option with this name is not 1 to 39 decimal digits, or not within its range.
+    #[error("bad number: --{0}")]
+    BadNumber(&'static str),
+    /// The TOI is 0 and no FDT Instance is named, or it is another and one is.
+    #[error("bad key")]
+    BadKey,
     /// The text is not an even number of hexadecimal digits.
     #[error("bad hex")]
     BadHex,
@@ -27,9 +33,28 @@ pub enum CommandFault {
     /// The input with this number, from 1, is no journal, or could not be read.
     #[error("input {0}: {1}")]
     Input(usize, ReadFault),
+    /// A journal has more sessions, objects or symbols than a store holds.
+    #[error("full")]
+    Full,
+    /// Nothing of the object is held.
+    #[error("no object")]
+    NoObject,
+    /// Symbols of the object are held, and no information.
+    #[error("no information")]
+    NoInformation,
+    /// Two values of the object's information were told.
+    #[error("conflicting information")]
+    ConflictingInformation,
+    /// Some symbol of the object is not held as one fitting value: this one is the first, by its source block number and
+    /// its encoding symbol ID.
+    #[error("not whole: {sbn}/{esi}")]
+    NotWhole { sbn: u16, esi: u16 },
     /// There was no memory.
     #[error("out of memory")]
     OutOfMemory,
+    /// The output could not be created.
+    #[error("cannot create output")]
+    CannotCreate,
     /// The output could not be written.
     #[error("cannot write")]
     CannotWrite,
@@ -44,11 +69,14 @@ impl CommandFault {
         ensures { result ≡ status_of self.now }
     {
         match self {
-            CommandFault::BadHex | CommandFault::Refused(_) => 1,
+            CommandFault::BadHex | CommandFault::Refused(_) | CommandFault::Full => 1,
+            CommandFault::NoObject | CommandFault::NoInformation => 1,
+            CommandFault::ConflictingInformation | CommandFault::NotWhole { .. } => 1,
             CommandFault::CommandLine(_) | CommandFault::NotText => 2,
-            CommandFault::CannotOpen(_) => 3,
+            CommandFault::BadNumber(_) | CommandFault::BadKey => 2,
             CommandFault::Input(_, ReadFault::Read | ReadFault::OutOfMemory) => 3,
             CommandFault::Input(..) => 1,
+            CommandFault::CannotOpen(_) | CommandFault::CannotCreate => 3,
             CommandFault::OutOfMemory | CommandFault::CannotWrite => 3,
         }
     }

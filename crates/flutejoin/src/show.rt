@@ -1,7 +1,7 @@
 //! The command `show`: a line for each entry of a journal.
 ghost use Rattle.std.specs.Prelude.{◌≡◌, ◌+◌, if◌then◌else◌, is_ok, IfErr, OnOk};
 ghost use Rattle.flute_parts.specs.Devices.{Writes};
-ghost use Rattle.flutejoin.specs.Lines.{fact_line, entries_line};
+ghost use Rattle.flutejoin.specs.Lines.{fact_line};
 ghost use Rattle.flutejoin.specs.Pieces.{fact_head, fact_bytes};
 ghost use Rattle.flutejoin.specs.Show.{ShowsAll, ShowFails, read_failures};
 ghost use Rattle.flutejoin.specs.Packet.{write_failures};
@@ -10,7 +10,7 @@ use crate::command_fault::{CommandFault, at_input};
 use crate::limits::MAX_ENTRIES;
 use crate::lines::{push_information, push_key, push_symbol, push_symbol_id};
 use crate::text::Text;
-use crate::writing::write_line;
+use crate::writing::{write_count, write_line};
 use flute_journal::JournalReader;
 use flute_parts::{DeviceFault, Fact, Sink, Source};
 use std::alloc::Global;
@@ -41,7 +41,7 @@ pub fn show_to<R: Source, W: Sink>(
         }
         count += 1;
     }
-    match write_entries(sink, count) {
+    match write_count(sink, "entries", count) {
         Ok(()) => Ok(()),
         Err(_) => Err(CommandFault::CannotWrite),
     }
@@ -53,16 +53,6 @@ fn write_fact<W: Sink>(sink: &mut W, fact: &Fact) -> Result<(), DeviceFault>
 {
     let head = head_of(fact);
     write_line(sink, &head, bytes_of(fact))
-}
-
-fn write_entries<W: Sink>(sink: &mut W, count: u64) -> Result<(), DeviceFault>
-    ensures line { Writes (W.written sink.old) (W.written sink.new) (entries_line count) result }
-    ensures failures { W.failures sink.new ≡ W.failures sink.old + (if is_ok result then 0 else 1) }
-{
-    let mut text = Text::new();
-    text.push("entries ");
-    text.push_number(count);
-    write_line(sink, &text, &[])
 }
 
 // All of the line before a symbol's bytes.

@@ -1,8 +1,13 @@
 //! Lines, written to a sink.
-ghost use Rattle.std.specs.Prelude.{◌≡◌, ◌+◌, ◌++◌, codes, if◌then◌else◌, is_ok};
+ghost use Rattle.std.specs.Prelude.{◌≡◌, ◌+◌, ◌≤◌, ◌++◌, length, codes, if◌then◌else◌, is_ok, OnOk, IfErr};
+ghost use Rattle.std.specs.Io.KnownBytes.{Appends};
 ghost use Rattle.hex.specs.Hex.{encode_lower};
-ghost use Rattle.flute_parts.specs.Devices.{Writes};
+ghost use Rattle.flute_parts.specs.Devices.{Writes, AppendsPart};
+ghost use Rattle.flutejoin.specs.Lines.{count_line};
+ghost use Rattle.flutejoin.specs.Objects.{FailsToWrite};
+ghost use Rattle.flutejoin.specs.Packet.{write_failures};
 
+use crate::command_fault::CommandFault;
 use crate::hex_digits::write_hex;
 use crate::text::Text;
 use flute_parts::{DeviceFault, Sink};
@@ -19,4 +24,38 @@ pub fn write_line<W: Sink>(sink: &mut W, words: &Text, bytes: &[u8]) -> Result<(
     sink.write_all(words.as_slice())?;
     write_hex(sink, bytes)?;
     sink.write_all(b"\n")
+}
+
+/// Writes a line of a word and a number.
+///
+/// # Errors
+///
+/// `DeviceFault` where the sink failed: it then took a first part of the line, and not all.
+pub fn write_count<W: Sink>(sink: &mut W, word: &str, count: u64) -> Result<(), DeviceFault>
+    requires { length word.now ≤ 100 }
+    ensures line { Writes (W.written sink.old) (W.written sink.new) (count_line word.now count) result }
+    ensures failures { W.failures sink.new ≡ W.failures sink.old + (if is_ok result then 0 else 1) }
+{
+    let mut text = Text::new();
+    text.push(word);
+    text.push(" ");
+    text.push_number(count);
+    write_line(sink, &text, &[])
+}
+
+/// Writes a line of a word of at most 100 bytes and a number: what a command answers of its work.
+///
+/// # Errors
+///
+/// `CannotWrite` where the sink failed: it took a first part of the line, and not all.
+pub fn count_to<W: Sink>(word: &str, count: u64, sink: &mut W) -> Result<(), CommandFault>
+    requires { length word.now ≤ 100 }
+    ensures printed { OnOk result (Appends (W.written sink.old) (W.written sink.new) (count_line word.now count)) }
+    ensures failed { IfErr result (FailsToWrite (AppendsPart (W.written sink.old) (W.written sink.new) (count_line word.now count))) }
+    ensures failures { W.failures sink.new ≡ W.failures sink.old + write_failures result }
+{
+    match write_count(sink, word, count) {
+        Ok(()) => Ok(()),
+        Err(_) => Err(CommandFault::CannotWrite),
+    }
 }

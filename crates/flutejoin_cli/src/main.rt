@@ -1,8 +1,13 @@
 //! The program `flutejoin`.
 #![tactic(auto)]
 
-use flute_parts::{StdSink, StdSource};
-use flutejoin::{CommandFault, Line, line_of, packet_to, show_to};
+ghost use Rattle.std.specs.Prelude.{◌≤◌, length};
+
+use flute_parts::{Key, StdSink, StdSource};
+use flute_store::Shelf;
+use flutejoin::{
+    CommandFault, Line, check_whole, count_to, extract_to, gaps_to, line_of, load, packet_to, show_to,
+};
 use std::env;
 use std::fs::{self, File};
 use std::io::{self, BufReader, BufWriter, ErrorKind, Printer};
@@ -12,6 +17,8 @@ use std::process::ExitCode;
 const BUFFER: usize = 65_536;
 
 type Input = StdSource<BufReader<File>>;
+
+type OutputFile = StdSink<BufWriter<File>>;
 
 type Output<'a> = StdSink<BufWriter<Printer<'a, HostRuntime>>>;
 
@@ -31,6 +38,8 @@ fn run(rt: &HostRuntime) -> Result<(), CommandFault> {
     match line_of(rt.alloc(), words.as_slice())? {
         Line::Packet { hex } => packet(rt, hex),
         Line::Show { j } => show(rt, j),
+        Line::Gaps { j } => gaps(rt, j),
+        Line::Extract { out, key, j } => extract(rt, out, &key, j),
     }
 }
 
@@ -68,6 +77,38 @@ fn show(rt: &HostRuntime, j: &str) -> Result<(), CommandFault> {
     shown.and(flushed)
 }
 
+fn gaps(rt: &HostRuntime, j: &str) -> Result<(), CommandFault> {
+    let shelf = loaded(rt, j)?;
+    let mut output = standard_output(rt)?;
+    gaps_to(&shelf, &mut output)?;
+    output.flush().map_err(|_| CommandFault::CannotWrite)
+}
+
+/// Creates the file only where the object is whole.
+fn extract(rt: &HostRuntime, out: &str, key: &Key, j: &str) -> Result<(), CommandFault> {
+    let shelf = loaded(rt, j)?;
+    check_whole(&shelf, key)?;
+    let mut file = output_file(rt, out)?;
+    let bytes = extract_to(&shelf, key, &mut file)?;
+    file.flush().map_err(|_| CommandFault::CannotWrite)?;
+    tell_count(rt, "bytes", bytes)
+}
+
+/// Prints the one line of a word and a number.
+fn tell_count(rt: &HostRuntime, word: &str, count: u64) -> Result<(), CommandFault>
+    requires { length word.now ≤ 100 }
+{
+    let mut output = standard_output(rt)?;
+    count_to(word, count, &mut output)?;
+    output.flush().map_err(|_| CommandFault::CannotWrite)
+}
+
+/// The store that a journal makes.
+fn loaded(rt: &HostRuntime, path: &str) -> Result<Shelf, CommandFault> {
+    let mut input = input(rt, 1, path)?;
+    load(rt.alloc(), &mut input)
+}
+
 /// Opens the input with this number, from 1. A folder is none.
 fn input(rt: &HostRuntime, number: usize, path: &str) -> Result<Input, CommandFault> {
     let file = file_at(rt, path).map_err(|_| CommandFault::CannotOpen(number))?;
@@ -83,6 +124,14 @@ fn file_at(rt: &HostRuntime, path: &str) -> io::Result<File> {
         return Err(ErrorKind::IsADirectory.into());
     }
     Ok(file)
+}
+
+fn output_file(rt: &HostRuntime, path: &str) -> Result<OutputFile, CommandFault> {
+    let file = fs::create(rt, path).map_err(|_| CommandFault::CannotCreate)?;
+    let writer = BufWriter::with_capacity(rt.alloc(), BUFFER, file).map_err(
+        |_| CommandFault::OutOfMemory,
+    )?;
+    Ok(StdSink::new(writer))
 }
 
 fn standard_output(rt: &HostRuntime) -> Result<Output<'_>, CommandFault> {

@@ -88,7 +88,7 @@ returns-in-Err-clause-failed g c =
     let to = c.next.new.self.stage in
     let s = g.W.Sink.written c.args.sink.now in
     let t = g.W.Sink.written c.loop-fact.sink in
-    let t' = g.W.Sink.written c.write_entries.new.sink in
+    let t' = g.W.Sink.written c.write_count.new.sink in
     let r = read_done c.next.result c.at_input.result 1 c.in_ok-fact.field-0 c.at_input.ensures c.in_ok-fact.was ∙ ap Ok c.in_default.is in
     let gave = end_given c.loop-fact.reader.max_entries from to v w c.next.result c.next.ensures.gives r in
     shown-cut u v w from to s t t' c.loop-fact.count c.loop-fact.invariant.shown gave c.in-Err.ensures.line
@@ -102,7 +102,7 @@ returns-in-Ok-clause-printed g c =
     let to = c.next.new.self.stage in
     let s = g.W.Sink.written c.args.sink.now in
     let t = g.W.Sink.written c.loop-fact.sink in
-    let t' = g.W.Sink.written c.write_entries.new.sink in
+    let t' = g.W.Sink.written c.write_count.new.sink in
     let r = read_done c.next.result c.at_input.result 1 c.in_ok-fact.field-0 c.at_input.ensures c.in_ok-fact.was ∙ ap Ok c.in_default.is in
     let gave = end_given c.loop-fact.reader.max_entries from to v w c.next.result c.next.ensures.gives r in
     shown-all u v w from to s t t' c.loop-fact.count c.loop-fact.invariant.shown gave c.in-Ok.ensures.line

@@ -1,0 +1,34 @@
+//! A journal, read into a store of the size that the program uses.
+ghost use Rattle.std.specs.Prelude.{◌≡◌, ◌+◌, IfOk, IfErr, IfSome};
+ghost use Rattle.std.specs.Io.KnownBytes.{IsAtEnd};
+ghost use Rattle.flute_journal.specs.Stores.{IsJournalOf};
+ghost use Rattle.flutejoin.specs.Show.{max_entries, read_failures};
+ghost use Rattle.flutejoin.specs.Load.{LoadFails};
+
+use crate::command_fault::CommandFault;
+use crate::limits::MAX_ENTRIES;
+use flute_journal::{LoadFault, read_store};
+use flute_parts::Source;
+use flute_store::Shelf;
+use std::alloc::Global;
+
+/// Reads the journal that the source gives, of at most 16,777,216 entries, into a new store.
+///
+/// # Errors
+///
+/// The first that is met: `Input` with the fault of the journal, or where the source failed or there was no memory for a
+/// symbol; `Full` where an entry needs a new session, object or symbol beyond the limits of the store; `OutOfMemory` where
+/// the store found none for an entry.
+pub fn load<R: Source>(alloc: Global, source: &mut R) -> Result<Shelf, CommandFault>
+    ensures journal { IfOk result (λ shelf. IfSome (R.unread source.old) (λ bytes. IsJournalOf max_entries bytes shelf)) }
+    ensures end { IfOk result (λ _. IsAtEnd (R.unread source.new)) }
+    ensures failed { IfErr result (LoadFails (R.unread source.old)) }
+    ensures failures { R.failures source.new ≡ R.failures source.old + read_failures result }
+{
+    match read_store(alloc, source, MAX_ENTRIES) {
+        Ok(shelf) => Ok(shelf),
+        Err(LoadFault::Read(fault)) => Err(CommandFault::Input(1, fault)),
+        Err(LoadFault::Full) => Err(CommandFault::Full),
+        Err(LoadFault::OutOfMemory) => Err(CommandFault::OutOfMemory),
+    }
+}

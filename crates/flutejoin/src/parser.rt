@@ -1,0 +1,101 @@
+//! What the parser of the command line is told: the commands, and their options.
+
+use clap::{Arg, ArgAction, Command};
+use std::alloc::Global;
+
+/// An example that the help texts of datagrams end with.
+const DATAGRAM_EXAMPLE: &str = "\
+A datagram is given as hexadecimal digits, two for each byte. Example:
+  flutejoin packet 10A004000000000000000007000000010000000068656C6C";
+
+/// The program's command, with a subcommand for each of its commands.
+pub fn command<'a>(alloc: Global) -> Result<Command<'a>, clap::Error> {
+    let command = Command::new(alloc, "flutejoin")
+        .version("0.1.0")
+        .about("Reads FLUTE version 2 datagrams (RFC 6726), and journals of what was received")
+        .after_help(DATAGRAM_EXAMPLE)
+        .no_binary_name(true)
+        .bin_name("flutejoin")?
+        .subcommand_required(true)
+        .arg_required_else_help(true)
+        .subcommand(packet_command(alloc)?)?
+        .subcommand(show_command(alloc)?)?
+        .subcommand(gaps_command(alloc)?)?
+        .subcommand(extract_command(alloc)?)?;
+    Ok(command)
+}
+
+fn packet_command<'a>(alloc: Global) -> Result<Command<'a>, clap::Error> {
+    let hex = input(alloc, "HEX").help("The datagram in hexadecimal digits, two for each byte");
+    let command = Command::new(alloc, "packet")
+        .about("Prints what one datagram says: its session, object, information and symbol")
+        .after_help(DATAGRAM_EXAMPLE)
+        .arg(hex)?;
+    Ok(command)
+}
+
+fn show_command<'a>(alloc: Global) -> Result<Command<'a>, clap::Error> {
+    let command = Command::new(alloc, "show")
+        .about("Prints the entries of a journal, a line each")
+        .arg(journal(alloc))?;
+    Ok(command)
+}
+
+fn gaps_command<'a>(alloc: Global) -> Result<Command<'a>, clap::Error> {
+    let command = Command::new(alloc, "gaps")
+        .about("Prints how much of each object a journal has, and which symbols are missing")
+        .arg(journal(alloc))?;
+    Ok(command)
+}
+
+fn extract_command<'a>(alloc: Global) -> Result<Command<'a>, clap::Error> {
+    let command = Command::new(alloc, "extract")
+        .about("Writes an object that a journal has whole to a file")
+        .arg(output(alloc))?
+        .arg(session(alloc))?
+        .arg(object(alloc))?
+        .arg(instance(alloc))?
+        .arg(journal(alloc))?;
+    Ok(command)
+}
+
+fn journal<'a>(alloc: Global) -> Arg<'a> {
+    input(alloc, "J").help("The journal")
+}
+
+fn input<'a>(alloc: Global, name: &'a str) -> Arg<'a> {
+    Arg::new(alloc, name).required(true).action(ArgAction::Set)
+}
+
+fn output<'a>(alloc: Global) -> Arg<'a> {
+    Arg::new(alloc, "OUT")
+        .short('o')
+        .required(true)
+        .action(ArgAction::Set)
+        .help("The file that is written")
+}
+
+fn session<'a>(alloc: Global) -> Arg<'a> {
+    number(alloc, "tsi")
+        .required(true)
+        .help("The session, by its Transport Session Identifier")
+}
+
+fn object<'a>(alloc: Global) -> Arg<'a> {
+    number(alloc, "toi").required(true).help(
+        "The object, by its Transport Object Identifier: 0 for an FDT Instance",
+    )
+}
+
+fn instance<'a>(alloc: Global) -> Arg<'a> {
+    number(alloc, "fdt").help("The FDT Instance ID, with --toi 0 alone")
+}
+
+// An option with a number, which is looked at later: also where it begins with a hyphen.
+fn number<'a>(alloc: Global, name: &'a str) -> Arg<'a> {
+    Arg::new(alloc, name)
+        .long(name)
+        .value_name("N")
+        .allow_hyphen_values(true)
+        .action(ArgAction::Set)
+}
