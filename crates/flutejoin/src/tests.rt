@@ -1,7 +1,9 @@
+mod objects;
 mod show;
 mod vectors;
+mod words;
 
-use crate::{CommandFault, Line, line_of, packet_to};
+use crate::{CommandFault, packet_to};
 use flute_parts::{MemorySink, StdSink};
 use std::alloc::{AllocError, Global};
 use std::io::{self, ErrorKind, Write};
@@ -149,43 +151,11 @@ fn a_failed_write_leaves_a_first_part(rt: HostRuntime) -> Result<(), Fail> {
 }
 
 #[test]
-fn command_lines_are_read(rt: HostRuntime) -> Result<(), Fail> {
-    let words = words_of(rt.alloc(), "packet 10A0")?;
-    let line = line_of(rt.alloc(), words.as_slice())?;
-    assert!(rt; matches!(&line, Line::Packet { hex: "10A0" }));
-    let words = words_of(rt.alloc(), "show J")?;
-    let line = line_of(rt.alloc(), words.as_slice())?;
-    assert!(rt; matches!(&line, Line::Show { j: "J" }));
-    for text in [
-        "",
-        "frob",
-        "packet",
-        "packet 10 A0",
-        "packet --tsi 7",
-        "--help",
-        "packet --help",
-        "show",
-        "show J J",
-        "--version",
-    ] {
-        let words = words_of(rt.alloc(), text)?;
-        let fault = line_of(rt.alloc(), words.as_slice())
-            .err()
-            .ok_or("a fault")?;
-        assert!(rt;
-            matches!(&fault, CommandFault::CommandLine(_)),
-            "for {text}"
-        );
-        assert_eq!(rt; fault.status(), 2);
-    }
-    Ok(())
-}
-
-#[test]
 fn the_other_faults_have_their_texts(rt: HostRuntime) -> Result<(), Fail> {
     let rows = [
         (CommandFault::NotText, "an argument is not text", 2),
         (CommandFault::CannotOpen(2), "cannot open input 2", 3),
+        (CommandFault::CannotCreate, "cannot create output", 3),
         (CommandFault::OutOfMemory, "out of memory", 3),
         (CommandFault::CannotWrite, "cannot write", 3),
     ];

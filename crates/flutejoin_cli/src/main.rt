@@ -6,7 +6,8 @@ ghost use Rattle.std.specs.Prelude.{◌≤◌, length};
 use flute_parts::{Key, StdSink, StdSource};
 use flute_store::Shelf;
 use flutejoin::{
-    CommandFault, Line, check_whole, count_to, extract_to, gaps_to, line_of, load, packet_to, show_to,
+    CommandFault, Line, check_whole, count_to, extract_to, gaps_to, line_of, load, packet_to,
+    show_to,
 };
 use std::env;
 use std::fs::{self, File};

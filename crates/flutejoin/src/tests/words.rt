@@ -1,0 +1,151 @@
+//! Which words of the command line are taken, and what they make.
+
+use super::words_of;
+use crate::{CommandFault, Line, line_of};
+use flute_parts::{Key, ObjectKey, SessionKey};
+use std::test::Fail;
+
+fn file(tsi: u64, toi: u128) -> Option<Key> {
+    let session = SessionKey::new(tsi)?;
+    let object = ObjectKey::file(toi)?;
+    Some(Key { session, object })
+}
+
+#[test]
+fn commands_are_read(rt: HostRuntime) -> Result<(), Fail> {
+    let words = words_of(rt.alloc(), "packet 10A0")?;
+    let line = line_of(rt.alloc(), words.as_slice())?;
+    assert!(rt; matches!(&line, Line::Packet { hex: "10A0" }));
+    let words = words_of(rt.alloc(), "show J")?;
+    let line = line_of(rt.alloc(), words.as_slice())?;
+    assert!(rt; matches!(&line, Line::Show { j: "J" }));
+    let words = words_of(rt.alloc(), "gaps J")?;
+    let line = line_of(rt.alloc(), words.as_slice())?;
+    assert!(rt; matches!(&line, Line::Gaps { j: "J" }));
+    let words = words_of(rt.alloc(), "extract -o OUT --tsi 7 --toi 1 J")?;
+    let line = line_of(rt.alloc(), words.as_slice())?;
+    let Line::Extract {
+        out: "OUT",
+        key,
+        j: "J",
+    } = line
+    else {
+        return Err(Fail::from("another line"));
+    };
+    assert!(rt; Some(key) == file(7, 1));
+    Ok(())
+}
+
+// Numbers at their greatest, and with zeros before them; and an FDT Instance.
+#[test]
+fn keys_are_read(rt: HostRuntime) -> Result<(), Fail> {
+    let most = 5_192_296_858_534_827_628_530_496_329_220_095;
+    let rows = [
+        (
+            "--tsi 281474976710655 --toi 5192296858534827628530496329220095",
+            file((1 << 48) - 1, most),
+        ),
+        (
+            "--tsi 0 --toi 000000000000000000000000000000000000001",
+            file(0, 1),
+        ),
+        ("--tsi=7 --toi=1", file(7, 1)),
+        ("--tsi 7 --toi 0 --fdt 1048575", instance(7, 1_048_575)),
+    ];
+    for (options, key) in rows {
+        let mut words = words_of(rt.alloc(), "extract -o OUT J")?;
+        for word in words_of(rt.alloc(), options)? {
+            words.push(word)?;
+        }
+        let line = line_of(rt.alloc(), words.as_slice())?;
+        let Line::Extract { key: read, .. } = line else {
+            return Err(Fail::from("another line"));
+        };
+        assert!(rt; Some(read) == key, "for {options}");
+    }
+    Ok(())
+}
+
+fn instance(tsi: u64, instance: u32) -> Option<Key> {
+    let session = SessionKey::new(tsi)?;
+    let object = ObjectKey::fdt(instance)?;
+    Some(Key { session, object })
+}
+
+#[test]
+fn other_words_are_left_to_the_parser(rt: HostRuntime) -> Result<(), Fail> {
+    for text in [
+        "",
+        "frob",
+        "packet",
+        "packet 10 A0",
+        "packet --tsi 7",
+        "show",
+        "show J J",
+        "gaps",
+        "extract -o OUT --tsi 7 J",
+        "extract --tsi 7 --toi 1 J",
+        "extract -o OUT --tsi 7 --toi 1",
+        "--help",
+        "packet --help",
+        "--version",
+    ] {
+        let words = words_of(rt.alloc(), text)?;
+        let fault = line_of(rt.alloc(), words.as_slice())
+            .err()
+            .ok_or("a fault")?;
+        assert!(rt;
+            matches!(&fault, CommandFault::CommandLine(_)),
+            "for {text}"
+        );
+        assert_eq!(rt; fault.status(), 2);
+    }
+    Ok(())
+}
+
+// The first number that is wrong is told, and the key after all numbers.
+#[test]
+fn bad_numbers_and_keys_are_told(rt: HostRuntime) -> Result<(), Fail> {
+    let rows = [
+        ("--tsi x --toi 1", "bad number: --tsi"),
+        ("--tsi x --toi y --fdt z", "bad number: --tsi"),
+        ("--toi y --tsi 7 --fdt z", "bad number: --toi"),
+        ("--tsi 281474976710656 --toi 1", "bad number: --tsi"),
+        ("--tsi -5 --toi 1", "bad number: --tsi"),
+        ("--tsi +5 --toi 1", "bad number: --tsi"),
+        ("--tsi 0x7 --toi 1", "bad number: --tsi"),
+        ("--tsi= --toi 1", "bad number: --tsi"),
+        (
+            "--tsi 0000000000000000000000000000000000000007 --toi 1",
+            "bad number: --tsi",
+        ),
+        (
+            "--tsi 7 --toi 5192296858534827628530496329220096",
+            "bad number: --toi",
+        ),
+        (
+            "--tsi 7 --toi 999999999999999999999999999999999999999",
+            "bad number: --toi",
+        ),
+        ("--tsi 7 --toi 0 --fdt 1048576", "bad number: --fdt"),
+        ("--tsi 7 --toi 5 --fdt x", "bad number: --fdt"),
+        ("--tsi 7 --toi 0", "bad key"),
+        ("--tsi 7 --toi 5 --fdt 3", "bad key"),
+    ];
+    for (options, text) in rows {
+        let mut words = words_of(rt.alloc(), "extract -o OUT J")?;
+        for word in words_of(rt.alloc(), options)? {
+            words.push(word)?;
+        }
+        let fault = line_of(rt.alloc(), words.as_slice())
+            .err()
+            .ok_or("a fault")?;
+        assert_eq!(rt;
+            fault.to_string(rt.alloc())?.as_str(),
+            text,
+            "for {options}"
+        );
+        assert_eq!(rt; fault.status(), 2);
+    }
+    Ok(())
+}
