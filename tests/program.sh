@@ -12,14 +12,14 @@ failed=0
 # check NAME STATUS OUT ERR: what the last run left must be this ("-": anything)
 check() {
     ok=1
-    [ "$status" = "$2" ] || ok=0
+    [ "$2" = - ] || [ "$status" = "$2" ] || ok=0
     [ "$3" = - ] || [ "$(cat out)" = "$3" ] || ok=0
     [ "$4" = - ] || [ "$(cat err)" = "$4" ] || ok=0
     if [ $ok = 1 ]; then
         passed=$((passed + 1))
     else
         failed=$((failed + 1))
-        echo "program: $1: status $status, standard output '$(cat out)', standard error '$(cat err)'"
+        echo "program: $1: status $status, standard output '$(head -c 400 out)', standard error '$(head -c 400 err)'"
     fi
 }
 
@@ -35,6 +35,15 @@ run_to() {
     : > out
     "$program" "$@" > "$to" 2> err
     status=$?
+}
+
+# file NAME HEX..: makes a file of these bytes
+file() {
+    name=$1
+    shift
+    for pair in $(echo "$*" | tr -d ' \n' | sed 's/../& /g'); do
+        printf "\\$(printf %o "0x$pair")"
+    done > "$name"
 }
 
 symbol=10A004000000000000000007000000010000000068656C6C
@@ -61,6 +70,140 @@ run packet 10A008000000000000000007000000014004000000000005000000000000000200000
 check 'information that is not valid' 1 '' 'refused: 12 Information SymbolLength'
 run packet "$(head -c 65535 /dev/zero | od -An -v -tx1 | tr -d ' \n')"
 check '65,535 zero bytes' 1 '' 'refused: 3 LctVersion'
+
+header=464C4A4E0001
+key='000000000007 01 0000000000000000000000000001'
+info="01 $key 000000000005 0004 00000002"
+first="03 $key 0000 0000 0004 68656C6C"
+last="03 $key 0000 0001 0001 6F"
+file whole "$header $info $first $last FF 0000000000000003"
+file empty "$header FF 0000000000000000"
+file conflict "$header 02 $key FF 0000000000000001"
+file symbol "$header $first FF 0000000000000001"
+file part "$header $info $first FF 0000000000000002"
+file instance "$header 03 000000000007 00 0000000000000000000000000003 0000 0000 0001 3C FF 0000000000000001"
+
+info_line='session 7 object 1 info length 5 symbol 4 block 2'
+first_line='session 7 object 1 symbol 0/0 length 4 68656c6c'
+last_line='session 7 object 1 symbol 0/1 length 1 6f'
+run show whole
+check 'show' 0 "$info_line
+$first_line
+$last_line
+entries 3" ''
+run show empty
+check 'show of an empty journal' 0 'entries 0' ''
+run show conflict
+check 'show of a conflict' 0 'session 7 object 1 info conflict
+entries 1' ''
+run show instance
+check 'show of an FDT Instance' 0 'session 7 object fdt 3 symbol 0/0 length 1 3c
+entries 1' ''
+run show /dev/stdin < whole
+check 'show of standard input' 0 "$info_line
+$first_line
+$last_line
+entries 3" ''
+
+# Each fault of a journal: its name, and the lines before it.
+fault() {
+    file bad "$2"
+    run show bad
+    check "a journal at fault: $1" 1 "$3" "input 1: $1"
+}
+fault Magic "474C4A4E0001 FF 0000000000000000" ''
+fault Version "464C4A4E0003 FF 0000000000000000" ''
+fault Kind "$header 05 $key" ''
+fault Key "$header 02 000000000007 02 0000000000000000000000000001 FF 0000000000000001" ''
+fault 'Information SymbolLength' "$header 01 $key 000000000005 0000 00000002 FF 0000000000000001" ''
+fault EmptySymbol "$header $info 03 $key 0000 0000 0000 FF 0000000000000002" "$info_line"
+fault Order "$header $info $last $first FF 0000000000000003" "$info_line
+$last_line"
+fault Count "$header $info FF 0000000000000002" "$info_line"
+fault Cut "$header $info $first" "$info_line
+$first_line"
+fault Trailing "$header $info FF 0000000000000001 00" "$info_line"
+: > nothing
+run show nothing
+check 'an empty file' 1 '' 'input 1: Cut'
+
+run show missing
+check 'a file that is not there' 3 '' 'cannot open input 1'
+mkdir folder
+run show folder
+check 'a folder' 3 '' 'cannot open input 1'
+run show /proc/self/mem
+check 'a file that cannot be read' 3 '' 'input 1: Read'
+run_to /dev/full show whole
+check 'show to a full standard output' 3 '' 'cannot write'
+run_to /dev/full show bad
+check 'show of a bad journal to a full standard output' 1 '' 'input 1: Trailing'
+{ "$program" show whole 2> err; echo $? > told; } | head -n 1 > out
+status=$(cat told)
+check 'show to a reader of one line' - "$info_line" -
+# More than a pipe holds, so that the reader is gone before the end.
+file long "$header"
+for symbol_id in 0 1 2 3; do
+    file head "03 $key 0000 000$symbol_id FFFF"
+    { cat head; head -c 65535 /dev/zero; } >> long
+done
+file end FF 0000000000000004
+cat end >> long
+{ "$program" show long 2> err; echo $? > told; } | head -c 10 > out
+status=$(cat told)
+check 'show to a reader that goes away' 3 'session 7 ' 'cannot write'
+run show long
+wc -c < out | tr -d ' ' > size
+mv size out
+check 'show of long symbols' 0 524466 ''
+
+run gaps whole
+check 'gaps of a whole object' 0 'session 7 object 1 whole 5' ''
+run gaps part
+check 'gaps of a part' 0 'session 7 object 1 partial missing 1 conflicting 0 misfit 0
+gap 0/1-1 missing' ''
+run gaps symbol
+check 'gaps of an object without information' 0 'session 7 object 1 no information' ''
+run gaps conflict
+check 'gaps of an object whose information is in conflict' 0 'session 7 object 1 conflicting information' ''
+run gaps empty
+check 'gaps of an empty journal' 0 '' ''
+run gaps bad
+check 'gaps of a bad journal' 1 '' 'input 1: Trailing'
+run gaps missing
+check 'gaps of a file that is not there' 3 '' 'cannot open input 1'
+run_to /dev/full gaps whole
+check 'gaps to a full standard output' 3 '' 'cannot write'
+
+run extract -o got --tsi 7 --toi 1 whole
+check 'extract' 0 'bytes 5' ''
+[ "$(cat got)" = hello ] || check 'the object that was extracted' x - -
+run extract -o got2 --tsi 7 --toi 1 part
+check 'extract of a part' 1 '' 'not whole: 0/1'
+[ ! -e got2 ] || check 'no file of an object that is not whole' x - -
+run extract -o got2 --tsi 7 --toi 2 whole
+check 'extract of another object' 1 '' 'no object'
+run extract -o got2 --tsi 7 --toi 1 symbol
+check 'extract without information' 1 '' 'no information'
+run extract -o got2 --tsi 7 --toi 0 --fdt 3 instance
+check 'extract of an FDT Instance' 1 '' 'no information'
+run extract -o got2 --tsi 7 --toi 1 conflict
+check 'extract with information in conflict' 1 '' 'conflicting information'
+run extract -o no/got --tsi 7 --toi 1 whole
+check 'an output that cannot be created' 3 '' 'cannot create output'
+run extract -o no/got --tsi 7 --toi 1 part
+check 'the object before the output' 1 '' 'not whole: 0/1'
+run extract -o /dev/full --tsi 7 --toi 1 whole
+check 'an output that is full' 3 '' 'cannot write'
+run extract -o got2 --tsi x --toi 0 missing
+check 'the first bad number' 2 '' 'bad number: --tsi'
+run extract -o got2 --tsi 7 --toi 0 missing
+check 'the key before the input' 2 '' 'bad key'
+run extract -o got2 --tsi 7 --toi 1 missing
+check 'extract from a file that is not there' 3 '' 'cannot open input 1'
+[ ! -e got2 ] || check 'no file after a fault' x - -
+run_to /dev/full extract -o got2 --tsi 7 --toi 1 whole
+check 'extract to a full standard output' 3 '' 'cannot write'
 
 run frob
 check 'a command that does not exist' 2 '' -
