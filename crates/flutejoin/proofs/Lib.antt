@@ -5,3 +5,9 @@ mod Mapped
 mod Written
 mod Listed
 mod Told
+mod Receptions
+mod Taking
+mod Places
+mod Outcomes
+mod Running
+mod Driving

@@ -6,3 +6,10 @@ pub mod Show
 pub mod Objects
 pub mod Load
 pub mod Extract
+pub mod Held
+pub mod Steps
+pub mod Known
+pub mod Refused
+pub mod Outcome
+pub mod Faults
+pub mod Runs

@@ -1,6 +1,7 @@
 //! The commands of the program `flutejoin`, each over any sink, and its command line.
 #![tactic(auto)]
 
+mod blob;
 mod command_fault;
 mod extract;
 mod gaps;
@@ -13,9 +14,13 @@ mod numbers;
 mod packet;
 mod parser;
 mod show;
+mod replicas;
+mod runs;
+mod steps;
 mod text;
 mod writing;
 
+pub use blob::Blob;
 pub use command_fault::CommandFault;
 pub use extract::{check_whole, extract_to};
 pub use gaps::gaps_to;
@@ -25,6 +30,9 @@ pub use loading::load;
 pub use packet::packet_to;
 pub use show::show_to;
 pub use writing::count_to;
+pub use replicas::Replicas;
+pub use runs::{RunFault, run};
+pub use steps::{MAX_ENTRIES, Step, StepFault};
 
 #[cfg(test)]
 mod tests;

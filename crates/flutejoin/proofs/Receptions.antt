@@ -1,0 +1,96 @@
+-- Lists of facts, what stands above them, and their journals.
+use Rattle.std.proofs.Common.{◌≡◌, ◌≢◌, ◌<◌, ◌≤◌, ◌^◌, ℕ, List, [], ◌∷◌, ◌++◌, length, None, refl, sym, ap, subst, ◌∙◌, append_assoc, arith}
+use Rattle.std.specs.List.{flat_map, AllByRecursion}
+use Rattle.std.proofs.lemmas.List.{append-nil}
+use Rattle.flute_parts.specs.declared.address.Address.{Address}
+use Rattle.flute_parts.specs.declared.fact.Fact.{Fact}
+use Rattle.flute_parts.specs.declared.fact.Fact.TheVariants.{Info, InfoConflict, Symbol, SymbolConflict}
+use Rattle.flute_parts.specs.Addresses.{symbol_address}
+use Rattle.flute_parts.specs.Facts.{fact_at, Same, Below}
+use Rattle.flute_parts.proofs.Joined.{joined, joined-none, fact_at-append}
+use Rattle.flute_parts.proofs.Facts.{Same-itself, Same-sym, Same-trans, Same-append, Same-swap, Same-twice, Below-trans, Below-from_Same}
+use Rattle.flute_parts.proofs.Named.{Over-below}
+use Rattle.flute_parts.proofs.Rising.{rising_unique}
+use Rattle.flute_store.specs.Held.{HasCell}
+use Rattle.flute_journal.specs.declared.fault.ReadFault.{ReadFault}
+use Rattle.flute_journal.specs.Format.{header, entry, spelling}
+use Rattle.flute_journal.specs.Journal.{Journal, IsJournalWithin, Stops}
+use Rattle.flute_journal.proofs.Entries.{spelling-injective}
+use Rattle.flute_journal.proofs.Passes.{beyond, front-below}
+use Rattle.flutejoin.specs.Held.{Capacity, IsOver}
+use Rattle.flutejoin.specs.Outcome.{IsLonger, BeginsWith}
+use Rattle.flutejoin.specs.declared.steps.TheConstants.{MAX_ENTRIES}
+
+pub Below-left : (F G : List Fact) → Below F (F ++ G)
+Below-left F G =
+    let P : List Fact → Type 0 = λ H. Same H (F ++ G) in
+    subst P (append_assoc F F G) (Same-append (F ++ F) F G G (Same-twice F) (Same-itself G))
+
+pub Below-right : (F G : List Fact) → Below G (F ++ G)
+Below-right F G = Below-trans G (G ++ F) (F ++ G) (Below-left G F) (Below-from_Same (G ++ F) (F ++ G) (Same-swap G F))
+
+-- what passes a capacity passes it with more
+pub IsOver-below : (F G : List Fact) (c : Capacity) → Below F G → IsOver F c → IsOver G c
+IsOver-below F G c below over = Over-below F G c.sessions c.objects c.symbols below over
+
+-- what stands stays where more is told
+stays : (F G : List Fact) (a : Address) → Below F G → fact_at F a ≢ None → fact_at G a ≢ None
+stays F G a below some none =
+    some (sym (joined-none a (fact_at F a)) ∙ ap (joined a (fact_at F a)) (sym none) ∙ sym (fact_at-append F G a) ∙ below.each a ∙ none)
+
+pub HasCell-below : (F G : List Fact) (f : Fact) → Below F G → HasCell F f → HasCell G f
+HasCell-below F G (Info key info) below h = (h.0, stays F G (record { key = key; part = h.0 }) below h.1)
+HasCell-below F G (InfoConflict key) below h = (h.0, stays F G (record { key = key; part = h.0 }) below h.1)
+HasCell-below F G (Symbol key id bytes) below h = stays F G (symbol_address key id) below h
+HasCell-below F G (SymbolConflict key id) below h = stays F G (symbol_address key id) below h
+
+pub HasCells-below : (F G fs : List Fact) → Below F G → AllByRecursion (HasCell F) fs → AllByRecursion (HasCell G) fs
+HasCells-below F G [] below h = tt
+HasCells-below F G (f ∷ fs) below h = (HasCell-below F G f below h.0, HasCells-below F G fs below h.1)
+
+-- journals
+
+pub Same-from_journals : (bs : List ℕ) (F G : List Fact) → Journal bs F → Journal bs G → Same F G
+Same-from_journals bs F G j k =
+    let one = spelling-injective j.0 k.0 [] [] j.1.valid k.1.valid j.2 k.2 (append-nil (spelling j.0) ∙ sym j.3 ∙ k.3 ∙ sym (append-nil (spelling k.0))) in
+    record { each = λ a. j.1.same.each a ∙ ap (λ z. fact_at z a) one.0 ∙ sym (k.1.same.each a) }
+
+pub Journal-of_same : (bs : List ℕ) (F G : List Fact) → Same F G → Journal bs F → Journal bs G
+Journal-of_same bs F G same j =
+    (j.0, record { valid = j.1.valid; rising = j.1.rising; same = Same-trans G F j.0 (Same-sym F G same) j.1.same }, j.2, j.3)
+
+pub Journal-only : (bs cs : List ℕ) (F G : List Fact) → Same F G → Journal bs F → Journal cs G → bs ≡ cs
+Journal-only bs cs F G same j k =
+    let one = rising_unique j.0 k.0 j.1.rising k.1.rising
+      (Same-trans j.0 F k.0 (Same-sym F j.0 j.1.same) (Same-trans F G k.0 same k.1.same)) in
+    j.3 ∙ ap spelling one ∙ sym k.3
+
+pub Journal-from_within : (bs : List ℕ) (entries : List Fact) → IsJournalWithin MAX_ENTRIES bs entries → Journal bs entries
+Journal-from_within bs entries j =
+    (entries, record { valid = j.are_entries.valid; rising = j.are_entries.rising; same = Same-itself entries }, omega (arith, j.are_entries.few), j.bytes_are)
+
+-- bytes are no journal and at fault too
+pub never_both : (bs : List ℕ) (entries es : List Fact) (f : ReadFault) → IsJournalWithin MAX_ENTRIES bs entries → Stops bs MAX_ENTRIES es f → ⊥
+never_both bs entries es f j stops =
+    let b = beyond MAX_ENTRIES entries es bs f j.are_entries.valid j.are_entries.rising (omega (arith, j.are_entries.few)) j.bytes_are stops in
+    omega (arith, b.1, j.are_entries.few)
+
+-- a journal stops its reader behind too many entries alone
+pub too_many : (bs : List ℕ) (F es : List Fact) (f : ReadFault) → Journal bs F → Stops bs MAX_ENTRIES es f → (f ≡ ReadFault.TooMany) × IsLonger F MAX_ENTRIES
+too_many bs F es f j stops =
+    let b = beyond MAX_ENTRIES j.0 es bs f j.1.valid j.1.rising j.2 j.3 stops in
+    (b.0, record { entries = j.0; rising = j.1.rising; same = j.1.same; many = b.1 })
+
+-- where more than so many addresses are told by one of two lists that are the same, they are by the other
+pub IsLonger-same : (F G : List Fact) (limit : ℕ) → Same F G → IsLonger F limit → IsLonger G limit
+IsLonger-same F G limit same h = record { entries = h.entries; rising = h.rising; same = Same-trans G F h.entries (Same-sym F G same) h.same; many = h.many }
+
+pub not_longer : (F entries : List Fact) (bs : List ℕ) → IsJournalWithin MAX_ENTRIES bs entries → Same F entries → IsLonger F MAX_ENTRIES → ⊥
+not_longer F entries bs j same h =
+    let e = rising_unique h.entries entries h.rising j.are_entries.rising (Same-trans h.entries F entries (Same-sym F h.entries h.same) same) in
+    let n : length h.entries ≡ length entries = ap length e in
+    omega (arith, h.many, n, j.are_entries.few)
+
+-- the entries that a journal begins with tell nothing more than it
+pub begins_below : (bs : List ℕ) (F es : List Fact) → Journal bs F → BeginsWith bs es → Below es F
+begins_below bs F es j begins = front-below bs F es begins.rest j begins.are_entries.valid begins.whole

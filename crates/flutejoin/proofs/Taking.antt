@@ -1,0 +1,85 @@
+-- A datagram that was taken, or refused and counted.
+use Rattle.std.proofs.Common.{◌≡◌, ◌<◌, ◌≤◌, ◌++◌, ◌↔◌, ◌⊎◌, ℕ, zero, suc, List, [], Option, Some, None, Bool, true, false, cond, Result, Ok, Err, IsOk, refl, sym, ap, subst, ◌∙◌, inl, inr, arith, append-nil}
+use Rattle.std.specs.Prelude.{is_none}
+use Rattle.std.specs.List.{AllByRecursion}
+use Rattle.flute_parts.specs.declared.fact.Fact.{Fact}
+use Rattle.flute_parts.specs.Facts.{Same}
+use Rattle.flute_parts.specs.Limits.{Over}
+use Rattle.flute_parts.proofs.Facts.{Same-itself, Same-sym}
+use Rattle.flute_parts.proofs.Named.{Over-below}
+use Rattle.flute_parts.proofs.Facts.{Below-from_Same}
+use Rattle.flute_wire.specs.Content.{Content}
+use Rattle.flute_wire.specs.Datagram.{Spells}
+use Rattle.flute_wire.specs.Refusals.{Applies, Refuses, rank}
+use Rattle.flute_wire.specs.Reading.{packet, facts}
+use Rattle.flute_wire.specs.declared.refusal.Refusal.{Refusal}
+use Rattle.flute_wire.proofs.Computed.{packet-iff, facts-refused}
+use Rattle.flute_store.specs.Held.{HasCell}
+use Rattle.flute_store.specs.declared.taken.Taken.{Taken}
+use Rattle.flute_store.specs.declared.taken.TakeFault.{TakeFault}
+use Rattle.flute_store.specs.declared.taken.TakeFault.TheVariants.{Datagram, Full, OutOfMemory}
+use Rattle.flutejoin.specs.Refused.{is_refused}
+
+abbrev pub IsPacket : List ℕ → Type 0
+IsPacket d = (p : Content) × Spells d p
+
+-- each datagram is a packet, or some refusal applies, and never both
+pub record HasOneReading (d : List ℕ) : Type 0 where
+  pub some : IsPacket d ↔ ((r : Refusal) → ¬ Applies r d)
+
+pub is_refused-no : (d : List ℕ) → IsPacket d → is_refused d ≡ false
+is_refused-no d p = ap is_none ((packet-iff d p.0).1 p.1)
+
+pub is_refused-yes : (d : List ℕ) (r : Refusal) → HasOneReading d → Applies r d → is_refused d ≡ true
+is_refused-yes d r one applies = go (packet d) refl
+  where
+    go : (o : Option Content) → packet d ≡ o → is_none o ≡ true
+    go None e = refl
+    go (Some p) e = absurd (one.some.0 (p, (packet-iff d p).0 e) r applies)
+
+-- where no refusal is the first to apply, none applies
+none_applies : (d : List ℕ) → ((r : Refusal) → ¬ Refuses d r) → (n : ℕ) (r : Refusal) → rank r < n → ¬ Applies r d
+none_applies d none zero r below applies = omega arith
+none_applies d none (suc n) r below applies =
+    none r (record { applies = applies; first = λ q before. none_applies d none n q (omega arith) })
+
+pub is_packet : (d : List ℕ) → HasOneReading d → ((r : Refusal) → ¬ Refuses d r) → IsPacket d
+is_packet d one none = one.some.1 (λ r. none_applies d none (suc (rank r)) r (omega arith))
+
+-- what the call of a store says of its refusals
+abbrev pub TellsRefusals : List ℕ → Result Taken TakeFault → Type 0
+TellsRefusals d result = (r : Refusal) → (result ≡ Err (Datagram r)) ↔ Refuses d r
+
+pub ok_is_packet : (d : List ℕ) (result : Result Taken TakeFault) (t : Taken) → HasOneReading d → TellsRefusals d result → result ≡ Ok t → IsPacket d
+ok_is_packet d result t one tells is = is_packet d one (λ r refuses. let e = (tells r).1 refuses in cc)
+
+pub full_is_packet : (d : List ℕ) (result : Result Taken TakeFault) → HasOneReading d → TellsRefusals d result → result ≡ Err Full → IsPacket d
+full_is_packet d result one tells is = is_packet d one (λ r refuses. let e = (tells r).1 refuses in cc)
+
+pub memory_is_packet : (d : List ℕ) (result : Result Taken TakeFault) → HasOneReading d → TellsRefusals d result → result ≡ Err OutOfMemory → IsPacket d
+memory_is_packet d result one tells is = is_packet d one (λ r refuses. let e = (tells r).1 refuses in cc)
+
+-- a store that took the datagram is within its limits
+pub ok_within : (s o y : ℕ) (old new : List Fact) (d : List ℕ) (result : Result Taken TakeFault) (t : Taken) → result ≡ Ok t → Same new (old ++ facts d)
+  → (result ≡ Err Full) ↔ Over (old ++ facts d) s o y → ¬ Over new s o y
+ok_within s o y old new d result t is same full over =
+    let e = full.1 (Over-below new (old ++ facts d) s o y (Below-from_Same new (old ++ facts d) same) over) in cc
+
+-- a refused datagram gives nothing
+pub refused_same : (old new : List Fact) (d : List ℕ) (r : Refusal) → Applies r d → new ≡ old → Same new (old ++ facts d)
+refused_same old new d r applies same = rw (facts-refused d r applies, append-nil old, same) (Same-itself old)
+
+pub refused_within : (s o y : ℕ) (old new : List Fact) (d : List ℕ) (result : Result Taken TakeFault) (r : Refusal) → Applies r d → new ≡ old → result ≡ Err (Datagram r)
+  → (result ≡ Err Full) ↔ Over (old ++ facts d) s o y → ¬ Over new s o y
+refused_within s o y old new d result r applies same is full over =
+    let e = full.1 (Over-below new (old ++ facts d) s o y (Below-from_Same new (old ++ facts d) (refused_same old new d r applies same)) over) in cc
+
+-- where its facts stand at held addresses, a packet is taken
+abbrev pub TakesHeld : List Fact → List ℕ → Result Taken TakeFault → Type 0
+TakesHeld old d result = (p : Content) → Spells d p → AllByRecursion (HasCell old) (facts d) → IsOk result
+
+pub not_held : (old : List Fact) (d : List ℕ) (result : Result Taken TakeFault) (f : TakeFault) → IsPacket d → TakesHeld old d result → result ≡ Err f → ¬ AllByRecursion (HasCell old) (facts d)
+not_held old d result f spelled held is cells =
+    let P : Result Taken TakeFault → Type 0 = λ r. IsOk r in
+    let e : IsOk {T = Taken} {E = TakeFault} (Err f) = subst P is (held spelled.0 spelled.1 cells) in
+    cc
