@@ -9,5 +9,6 @@ mod Receptions
 mod Taking
 mod Places
 mod Outcomes
+mod Journaled
 mod Running
 mod Driving

@@ -60,10 +60,10 @@ unchanged_at before now i old content h e =
     let with_refused : List ℕ → Held = λ x. record { contents = before.contents; refused = x } in
     ap with_contents k ∙ ap with_refused h.refused
 
-content_at : (before now : Held) (i : ℕ) (old content : List Fact) → IsChangedAt before now i old content → held_by now.contents i ≡ content
+pub content_at : (before now : Held) (i : ℕ) (old content : List Fact) → IsChangedAt before now i old content → held_by now.contents i ≡ content
 content_at before now i old content h = rw h.contents (get_or-set_same before.contents i content [] h.within)
 
-others_at : (before now : Held) (i : ℕ) (old content : List Fact) → IsChangedAt before now i old content → (r : ℕ) → r ≢ i → held_by now.contents r ≡ held_by before.contents r
+pub others_at : (before now : Held) (i : ℕ) (old content : List Fact) → IsChangedAt before now i old content → (r : ℕ) → r ≢ i → held_by now.contents r ≡ held_by before.contents r
 others_at before now i old content h r ne = rw h.contents (get_or-set_other before.contents i r content [] ne)
 
 -- a step that gave its replica what it gives

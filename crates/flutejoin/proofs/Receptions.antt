@@ -18,7 +18,8 @@ use Rattle.flute_journal.specs.Journal.{Journal, IsJournalWithin, Stops}
 use Rattle.flute_journal.proofs.Entries.{spelling-injective}
 use Rattle.flute_journal.proofs.Passes.{beyond, front-below}
 use Rattle.flutejoin.specs.Held.{Capacity, IsOver}
-use Rattle.flutejoin.specs.Outcome.{IsLonger, BeginsWith}
+use Rattle.flute_journal.specs.Stores.{BeginsWith}
+use Rattle.flutejoin.specs.Outcome.{IsLonger}
 use Rattle.flutejoin.specs.declared.steps.TheConstants.{MAX_ENTRIES}
 
 pub Below-left : (F G : List Fact) → Below F (F ++ G)
@@ -92,5 +93,5 @@ not_longer F entries bs j same h =
     omega (arith, h.many, n, j.are_entries.few)
 
 -- the entries that a journal begins with tell nothing more than it
-pub begins_below : (bs : List ℕ) (F es : List Fact) → Journal bs F → BeginsWith bs es → Below es F
+pub begins_below : (bs : List ℕ) (F es : List Fact) → Journal bs F → BeginsWith MAX_ENTRIES bs es → Below es F
 begins_below bs F es j begins = front-below bs F es begins.rest j begins.are_entries.valid begins.whole

@@ -20,7 +20,7 @@ use Rattle.flutejoin.specs.Held.{Held, Capacity, IsOver}
 use Rattle.flutejoin.specs.Steps.{held_by, given_to, held_after, NamesReplicas, target_of, LoadsJournal, FitsStep, EachSame, EachBelow}
 use Rattle.flutejoin.specs.Known.{nothing_held, known, known_after, held_after_next, Fits}
 use Rattle.flutejoin.specs.Refused.{is_refused_take, CountsRefused, one_more}
-use Rattle.flutejoin.specs.Outcome.{IsDone, IsRefused, HasCause, IsReadFault, BeginsOver}
+use Rattle.flutejoin.specs.Outcome.{IsDone, IsRefused, HasCause, IsReadFault, LoadsOver}
 use Rattle.flutejoin.specs.Runs.{new_held, IsRunDone, HasCauseAt, HasNoCause, IsFirstWithCause}
 use Rattle.flutejoin.proofs.Places.{EachSame-itself, EachSame-sym, EachSame-trans, given_to-each_same, given_to-each_below, EachBelow-from_same}
 
@@ -119,7 +119,7 @@ each_more_at P steps k step is here before j s within e =
     ]
 
 -- a `Load` that was done began with no entries over the limit
-no_start_over : (limit : Capacity) (before : Held) (step : Step) (now : Held) → IsDone limit before step now → BeginsOver limit step → ⊥
+no_start_over : (limit : Capacity) (before : Held) (step : Step) (now : Held) → IsDone limit before step now → LoadsOver limit step → ⊥
 no_start_over limit before (Load replica journal) now done begins =
     let F = done.journal.0 in
     let same = (done.content F (inl (Journal-from_within journal F done.journal.1))).each replica in

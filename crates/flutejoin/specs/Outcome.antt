@@ -1,13 +1,13 @@
 -- What a step leaves, done or refused.
 use Rattle.std.specs.Prelude.{◌≡◌, ◌≢◌, ℕ, ◌<◌, List, [], ◌∷◌, ◌++◌, ⊤, ◌⊎◌, length}
-use Rattle.std.specs.List.{flat_map, AllByRecursion}
+use Rattle.std.specs.List.{AllByRecursion}
 use Rattle.flute_parts.specs.declared.fact.Fact.{Fact}
 use Rattle.flute_parts.specs.Facts.{Same, IsRising}
 use Rattle.flute_wire.specs.Reading.{facts}
 use Rattle.flute_store.specs.Held.{HasCell}
 use Rattle.flute_journal.specs.declared.fault.ReadFault.{ReadFault}
-use Rattle.flute_journal.specs.Format.{header, entry}
-use Rattle.flute_journal.specs.Journal.{AreEntries, Stops}
+use Rattle.flute_journal.specs.Journal.{Stops}
+use Rattle.flute_journal.specs.Stores.{BeginsOver}
 use Rattle.flutejoin.specs.declared.steps.Step.{Step}
 use Rattle.flutejoin.specs.declared.steps.Step.TheVariants.{Take, Load, Add, Merge, Reopen}
 use Rattle.flutejoin.specs.declared.steps.StepFault.{StepFault}
@@ -58,25 +58,19 @@ IsReadFault held (Take replica datagram) fault = ⊥
 IsReadFault held (Add replica fact) fault = ⊥
 IsReadFault held (Merge into from) fault = ⊥
 
--- bytes that begin as a journal of these entries
-pub record BeginsWith (bytes : List ℕ) (entries : List Fact) : Type 0 where
-  pub are_entries : AreEntries MAX_ENTRIES entries
-  pub rest : List ℕ
-  pub whole : bytes ≡ header ++ flat_map entry entries ++ rest
-
 -- a `Load` begins with entries that are over the capacity
-abbrev pub BeginsOver : Capacity → Step → Type 0
-BeginsOver capacity (Load replica journal) = (entries : List Fact) × BeginsWith journal entries × IsOver entries capacity
-BeginsOver capacity (Take replica datagram) = ⊥
-BeginsOver capacity (Add replica fact) = ⊥
-BeginsOver capacity (Merge into from) = ⊥
-BeginsOver capacity (Reopen replica) = ⊥
+abbrev pub LoadsOver : Capacity → Step → Type 0
+LoadsOver capacity (Load replica journal) = BeginsOver capacity.sessions capacity.objects capacity.symbols MAX_ENTRIES journal
+LoadsOver capacity (Take replica datagram) = ⊥
+LoadsOver capacity (Add replica fact) = ⊥
+LoadsOver capacity (Merge into from) = ⊥
+LoadsOver capacity (Reopen replica) = ⊥
 
 -- a step has a cause for its fault, by what is held before it
 abbrev pub HasCause : Capacity → List (List Fact) → Step → List Fact → StepFault → Type 0
 HasCause capacity held step origin NoReplica = ¬ NamesReplicas (length held) step
 HasCause capacity held step origin (Journal fault) = IsReadFault held step fault
-HasCause capacity held step origin Full = IsOver (held_by (held_after held step origin) (target_of step)) capacity ⊎ BeginsOver capacity step
+HasCause capacity held step origin Full = IsOver (held_by (held_after held step origin) (target_of step)) capacity ⊎ LoadsOver capacity step
 HasCause capacity held step origin OutOfMemory = ⊤
 
 -- a refusal by a fault that leaves everything unchanged, whatever the step

@@ -15,9 +15,11 @@ ghost use Rattle.flutejoin.specs.declared.steps.Step.TheVariants as doing;
 ghost use Rattle.flutejoin.specs.declared.steps.StepFault.TheVariants as faults;
 ghost use Rattle.flute_join.specs.declared.refusal.JoinRefusal.TheVariants as refusals;
 
-use crate::steps::{Step, StepFault};
+use crate::blob::Blob;
+use crate::steps::{MAX_ENTRIES, Step, StepFault};
 use flute_join::JoinRefusal;
-use flute_parts::Fact;
+use flute_journal::{read_store, write_store};
+use flute_parts::{Fact, MemorySink, MemorySource};
 use flute_store::{Store, TakeFault};
 use flute_wire::{Datagram, one_reading};
 use std::alloc::Global;
@@ -190,6 +192,36 @@ impl<const SESSIONS: u32, const OBJECTS: u32, const SYMBOLS: u32> Replicas<
         let _ = target.walk();
         self.replicas[into].store = target;
         Ok(joined?)
+    }
+
+    fn load(&mut self, alloc: Global, replica: u32, journal: &Blob) -> Result<(), StepFault>
+        ensures done { OnOk result (IsDone (capacity SESSIONS OBJECTS SYMBOLS) self.old (doing.Load replica journal.now) self.new) }
+        ensures refused { IfErr result (IsRefused (capacity SESSIONS OBJECTS SYMBOLS) self.old (doing.Load replica journal.now) self.new) }
+    {
+        let place = self.place(replica)?;
+        let mut source = MemorySource::new(journal.as_slice());
+        let store = read_store(alloc, &mut source, MAX_ENTRIES)?;
+        let target = &mut self.replicas[place];
+        let joined = target.store.absorb(alloc, &store);
+        // By this the proof knows that the store is within its limits.
+        let _ = target.store.walk();
+        Ok(joined?)
+    }
+
+    fn reopen(&mut self, alloc: Global, replica: u32) -> Result<(), StepFault>
+        requires { SESSIONS * OBJECTS * (SYMBOLS + 1) < 2 ^ 64 }
+        ensures done { OnOk result (IsDone (capacity SESSIONS OBJECTS SYMBOLS) self.old (doing.Reopen replica) self.new) }
+        ensures refused { IfErr result (IsRefused (capacity SESSIONS OBJECTS SYMBOLS) self.old (doing.Reopen replica) self.new) }
+    {
+        let place = self.place(replica)?;
+        let mut sink = MemorySink::new(alloc);
+        let Ok(_entries) = write_store(&self.replicas[place].store, &mut sink) else {
+            return Err(StepFault::OutOfMemory);
+        };
+        let mut source = MemorySource::new(sink.as_slice());
+        let store = read_store(alloc, &mut source, MAX_ENTRIES)?;
+        self.replicas[place].store = store;
+        Ok(())
     }
 
     /// Does one step.

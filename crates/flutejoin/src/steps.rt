@@ -2,7 +2,7 @@
 
 use crate::blob::Blob;
 use flute_join::JoinRefusal;
-use flute_journal::ReadFault;
+use flute_journal::{LoadFault, ReadFault};
 use flute_parts::Fact;
 use flute_wire::Datagram;
 use thiserror::Error;
@@ -66,6 +66,23 @@ impl From<JoinRefusal> for StepFault {
         match why {
             JoinRefusal::Full => StepFault::Full,
             JoinRefusal::OutOfMemory => StepFault::OutOfMemory,
+        }
+    }
+}
+
+impl From<LoadFault> for StepFault {
+    ghost use Rattle.flutejoin.specs.Faults.{fault_of_load};
+    ghost use Rattle.std.specs.Prelude.{◌≡◌};
+
+    ghost from_gives = { λ why fault. fault ≡ fault_of_load why };
+
+    fn from(why: LoadFault) -> StepFault {
+        match why {
+            LoadFault::Read(ReadFault::OutOfMemory) | LoadFault::OutOfMemory => {
+                StepFault::OutOfMemory
+            }
+            LoadFault::Read(fault) => StepFault::Journal(fault),
+            LoadFault::Full => StepFault::Full,
         }
     }
 }
