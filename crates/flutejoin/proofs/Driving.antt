@@ -1,16 +1,17 @@
 -- Steps in turn, refused or not.
-use Rattle.std.proofs.Common.{◌≡◌, ◌≢◌, ℕ, Bool, true, false, List, [], ◌∷◌, ◌++◌, refl, sym, ◌∙◌, ap, subst, arith, ◌<◌, ◌≤◌, ◌+◌, ◌-◌, length, ◌⊎◌, inl, inr, zero, suc, Option, Some, None, add-one, append_assoc, Result, Ok, Err, OnOk, OnErr, IfErr, IsOk, is_ok}
+use Rattle.std.proofs.Common.{◌≡◌, ◌≢◌, ℕ, Bool, true, false, cond, eqb, ◌^◌, min, take, count_by, List, [], ◌∷◌, ◌++◌, refl, sym, ◌∙◌, ap, subst, arith, ◌<◌, ◌≤◌, ◌+◌, ◌-◌, length, ◌⊎◌, inl, inr, zero, suc, Option, Some, None, add-one, append_assoc, Result, Ok, Err, OnOk, OnErr, IfErr, IsOk, is_ok}
 use Rattle.std.proofs.Math.ListN.{set, length-set}
-use Rattle.std.specs.Prelude.{slice_get, slice_index, slice_set}
-use Rattle.std.proofs.lemmas.Bool.{cases_eq, cases_lt, false≢true}
-use Rattle.std.proofs.lemmas.List.{set_past, get_or-set_other, get_or-set_same, set-set, set-get_or}
+use Rattle.std.specs.Prelude.{slice_get, slice_index, slice_set, is_none}
+use Rattle.std.proofs.lemmas.Bool.{cases_eq, cases_lt, cases_Bool, false≢true, and_parts, eqb-true}
+use Rattle.std.proofs.lemmas.List.{take_all, set_past, get_or-set_other, get_or-set_same, set-set, set-get_or}
 use Rattle.std.proofs.lemmas.Option.{slice_get_within}
 use Rattle.flute_parts.specs.declared.fact.Fact.{Fact}
 use Rattle.flute_parts.specs.Facts.{Same, Below}
-use Rattle.flute_wire.specs.Reading.{facts}
+use Rattle.flute_wire.specs.Content.{Content}
+use Rattle.flute_wire.specs.Reading.{packet, packet_facts, facts}
 use Rattle.flute_journal.specs.Journal.{Journal}
 use Rattle.flute_parts.proofs.Facts.{Same-itself, Same-sym, Same-trans, Same-append, Same-twice, Below-itself, Below-trans, Below-append, Below-from_Same, Same-from_Below}
-use Rattle.flutejoin.proofs.Receptions.{Below-left, Below-right, IsOver-below, Same-from_journals, Journal-of_same}
+use Rattle.flutejoin.proofs.Receptions.{Same-from_journals, Journal-from_within, HasCell-below, HasCells-below}
 use Rattle.flutejoin.specs.declared.steps.Step.{Step}
 use Rattle.flutejoin.specs.declared.steps.Step.TheVariants.{Take, Load, Add, Merge, Reopen}
 use Rattle.flutejoin.specs.declared.steps.StepFault.{StepFault}
@@ -18,10 +19,12 @@ use Rattle.flutejoin.specs.declared.steps.TheConstants.{MAX_ENTRIES}
 use Rattle.flutejoin.specs.Held.{Held, Capacity, IsOver}
 use Rattle.flutejoin.specs.Steps.{held_by, given_to, held_after, NamesReplicas, LoadsJournal, FitsStep, EachSame, EachBelow}
 use Rattle.flutejoin.specs.Known.{known, known_after, known_of_done, done_among, held_after_next, if_done, Fits, IsRetried}
+use Rattle.flutejoin.specs.Refused.{is_refused, is_refused_take, one_more}
 use Rattle.flutejoin.specs.Outcome.{IsDone, IsRefused, NeedsNothing}
 use Rattle.flutejoin.specs.Runs.{IsDriven}
 use Rattle.flutejoin.proofs.Places.{EachSame-itself, EachSame-sym, EachSame-trans, EachBelow-itself, EachBelow-trans, EachBelow-from_same, EachSame-set, given_to-each_below}
-use Rattle.flutejoin.proofs.Running.{held_after-same, each_more, some_same}
+use Rattle.flutejoin.proofs.Running.{held_after-same, some_same, one_more-min, count_by-more}
+use Rattle.flutejoin.proofs.Outcomes.{held_after-above}
 
 -- replicas that hold more hold more after a step
 pub held_after-below : (A B : List (List Fact)) (step : Step) (origin : List Fact) → EachBelow A B → EachBelow (held_after A step origin) (held_after B step origin)
@@ -67,13 +70,45 @@ known_after-marked held steps done origins k step b is within =
       (known_after-agree held (done_among steps (set done k b)) (done_among steps done) origins k
         (λ j below. ap (λ o. if_done o (slice_get steps j)) (slice_get-set_other done k j b (λ e. absurd (omega arith)))))
 
+-- a step that needs nothing needs nothing where more is held
+NeedsNothing-below : (A B : List (List Fact)) (step : Step) → EachBelow A B → NeedsNothing A step → NeedsNothing B step
+NeedsNothing-below A B (Take replica datagram) h needs = (omega (arith, needs.0, h.count), HasCells-below (held_by A replica) (held_by B replica) (facts datagram) (h.each replica) needs.1)
+NeedsNothing-below A B (Add replica fact) h needs = (omega (arith, needs.0, h.count), HasCell-below (held_by A replica) (held_by B replica) fact (h.each replica) needs.1)
+NeedsNothing-below A B (Merge into from) h needs = (omega (arith, needs.0, h.count), needs.1)
+NeedsNothing-below A B (Load replica journal) h needs = needs
+NeedsNothing-below A B (Reopen replica) h needs = needs
+
+-- a refused datagram has no facts
+refused_facts : (d : List ℕ) → is_refused d ≡ true → facts d ≡ []
+unfolding facts
+refused_facts d h = go (packet d) h
+  where
+    go : (o : Option Content) → is_none o ≡ true → packet_facts o ≡ []
+    go None e = refl
+    go (Some content) e = cc
+
+-- so a `Take` of one, at a replica that is there, needs nothing
+refused_needs_nothing : (r : ℕ) (held : List (List Fact)) (step : Step) → r < length held → is_refused_take r step ≡ true → NeedsNothing held step
+refused_needs_nothing r held (Take replica datagram) within h =
+    let both = and_parts (eqb replica r) (is_refused datagram) h in
+    (omega (arith, within, eqb-true replica r both.0), rw (refused_facts datagram both.1) tt)
+refused_needs_nothing r held (Load replica journal) within h = cc
+refused_needs_nothing r held (Add replica fact) within h = cc
+refused_needs_nothing r held (Merge into from) within h = cc
+refused_needs_nothing r held (Reopen replica) within h = cc
+
 -- the first k steps, refused or not
 pub record DriveSoFar (before : Held) (steps : List Step) (done : List Bool) (k : ℕ) (now : Held) : Type 0 where
   pub as_many : length now.contents ≡ length before.contents
   pub named : (j : ℕ) (step : Step) → j < k → slice_get steps j ≡ Some step → slice_get done j ≡ Some true → NamesReplicas (length before.contents) step × LoadsJournal MAX_ENTRIES step
-  pub sure : (j : ℕ) (step : Step) → j < k → slice_get steps j ≡ Some step → NeedsNothing (length before.contents) step → slice_get done j ≡ Some true
+  pub sure : (j : ℕ) (step : Step) → j < k → slice_get steps j ≡ Some step → NeedsNothing before.contents step → slice_get done j ≡ Some true
+  pub sure_since : (origins : ℕ → List Fact) → Fits steps origins → (j : ℕ) (step : Step) → j < k → slice_get steps j ≡ Some step
+    → NeedsNothing (known_after before.contents (done_among steps done) origins j) step → slice_get done j ≡ Some true
+  pub kept : EachBelow before.contents now.contents
   pub least : (origins : ℕ → List Fact) → Fits steps origins → EachBelow (known_after before.contents (done_among steps done) origins k) now.contents
   pub most : (origins : ℕ → List Fact) → Fits steps origins → EachBelow now.contents (known_after before.contents (slice_get steps) origins k)
+  pub refused : (r : ℕ) → r < length before.contents → slice_index before.refused r < 2 ^ 64
+    → slice_index now.refused r ≡ min (slice_index before.refused r + count_by (is_refused_take r) (take k steps)) (2 ^ 64 - 1)
 
 pub drive_start : (before : Held) (steps : List Step) (done : List Bool) → DriveSoFar before steps done 0 before
 drive_start before steps done =
@@ -81,9 +116,27 @@ drive_start before steps done =
       as_many = refl;
       named = λ j step below. absurd (omega arith);
       sure = λ j step below. absurd (omega arith);
+      sure_since = λ origins fits j step below. absurd (omega arith);
+      kept = EachBelow-itself before.contents;
       least = λ origins fits. rw (known_after-none before.contents (done_among steps done) origins) (EachBelow-itself before.contents);
       most = λ origins fits. rw (known_after-none before.contents (slice_get steps) origins) (EachBelow-itself before.contents);
+      refused = λ r within small. omega (arith, small);
     }
+
+-- a step that was done has an origin that fits it
+some_origin : (limit : Capacity) (before : Held) (step : Step) (now : Held) → IsDone limit before step now → (origin : List Fact) × FitsStep step origin
+some_origin limit before (Take replica datagram) now done = ([], tt)
+some_origin limit before (Load replica journal) now done = (done.journal.0, inl (Journal-from_within journal done.journal.0 done.journal.1))
+some_origin limit before (Add replica fact) now done = ([], tt)
+some_origin limit before (Merge into from) now done = ([], tt)
+some_origin limit before (Reopen replica) now done = ([], tt)
+
+-- so it takes nothing away
+done_above : (limit : Capacity) (before : Held) (step : Step) (now : Held) → IsDone limit before step now → EachBelow before.contents now.contents
+done_above limit before step now done =
+    let o = some_origin limit before step now done in
+    EachBelow-trans before.contents (held_after before.contents step o.0) now.contents
+      (held_after-above before.contents step o.0) (EachBelow-from_same (held_after before.contents step o.0) now.contents (done.content o.0 o.1))
 
 -- the marks of earlier steps stay, and one more is set
 named_more : (before mid : Held) (steps : List Step) (done : List Bool) (k : ℕ) (step : Step) (b : Bool) → DriveSoFar before steps done k mid → slice_get steps k ≡ Some step → k < length done
@@ -101,24 +154,64 @@ named_more before mid steps done k step b so_far is within here j s below e mark
         subst P (some_same (slice_get steps k) step s is (subst Q same e)) (here (cc))
     ]
 
--- what needs nothing is done, one step further
-sure_more : (before mid : Held) (steps : List Step) (done : List Bool) (k : ℕ) (step : Step) (b : Bool) → DriveSoFar before steps done k mid → slice_get steps k ≡ Some step → k < length done
-  → (NeedsNothing (length before.contents) step → b ≡ true)
-  → (j : ℕ) (s : Step) → j < k + 1 → slice_get steps j ≡ Some s → NeedsNothing (length before.contents) s → slice_get (set done k b) j ≡ Some true
-sure_more before mid steps done k step b so_far is within here j s below e needs =
+-- what is marked wherever P holds so far is so one step further
+marked_more : (P : ℕ → Step → Type 0) (steps : List Step) (done : List Bool) (k : ℕ) (step : Step) (b : Bool) → slice_get steps k ≡ Some step → k < length done
+  → (P k step → b ≡ true) → ((j : ℕ) (s : Step) → j < k → slice_get steps j ≡ Some s → P j s → slice_get done j ≡ Some true)
+  → (j : ℕ) (s : Step) → j < k + 1 → slice_get steps j ≡ Some s → P j s → slice_get (set done k b) j ≡ Some true
+marked_more P steps done k step b is within here so_far j s below e holds =
     elim (cases_lt j k) [
-      inl low ↦ slice_get-set_other done k j b (λ d. absurd (omega arith)) ∙ so_far.sure j s low e needs
+      inl low ↦ slice_get-set_other done k j b (λ d. absurd (omega arith)) ∙ so_far j s low e holds
     | inr high ↦
         let same : j ≡ k = omega arith in
         let Q : ℕ → Type 0 = λ i. slice_get steps i ≡ Some s in
         let R : ℕ → Type 0 = λ i. slice_get (set done k b) i ≡ Some true in
-        let P : Step → Type 0 = λ t. NeedsNothing (length before.contents) t in
-        let on : b ≡ true = here (subst P (sym (some_same (slice_get steps k) step s is (subst Q same e))) needs) in
+        let S : ℕ → Type 0 = λ i. P i s in
+        let on : b ≡ true = here (subst (P k) (sym (some_same (slice_get steps k) step s is (subst Q same e))) (subst S same holds)) in
         subst R (sym same) (slice_get-set_same done k b within ∙ ap Some on)
     ]
 
+-- a mark that is set changes nothing of what was given before its step
+known_after-before : (held : List (List Fact)) (steps : List Step) (done : List Bool) (origins : ℕ → List Fact) (k j : ℕ) (b : Bool) → j ≤ k
+  → known_after held (done_among steps (set done k b)) origins j ≡ known_after held (done_among steps done) origins j
+known_after-before held steps done origins k j b low =
+    known_after-agree held (done_among steps (set done k b)) (done_among steps done) origins j
+      (λ i below. ap (λ o. if_done o (slice_get steps i)) (slice_get-set_other done k i b (λ e. absurd (omega arith))))
+
+-- what needs nothing, by what is held at first or was given since, is done, one step further
+sure_more : (before mid : Held) (steps : List Step) (done : List Bool) (k : ℕ) (step : Step) (b : Bool) → DriveSoFar before steps done k mid → slice_get steps k ≡ Some step → k < length done
+  → (NeedsNothing mid.contents step → b ≡ true)
+  → (j : ℕ) (s : Step) → j < k + 1 → slice_get steps j ≡ Some s → NeedsNothing before.contents s → slice_get (set done k b) j ≡ Some true
+sure_more before mid steps done k step b so_far is within here =
+    marked_more (λ j s. NeedsNothing before.contents s) steps done k step b is within
+      (λ needs. here (NeedsNothing-below before.contents mid.contents step so_far.kept needs)) so_far.sure
+
+sure_since_more : (before mid : Held) (steps : List Step) (done : List Bool) (k : ℕ) (step : Step) (b : Bool) → DriveSoFar before steps done k mid → slice_get steps k ≡ Some step → k < length done
+  → (NeedsNothing mid.contents step → b ≡ true) → (origins : ℕ → List Fact) → Fits steps origins
+  → (j : ℕ) (s : Step) → j < k + 1 → slice_get steps j ≡ Some s → NeedsNothing (known_after before.contents (done_among steps (set done k b)) origins j) s → slice_get (set done k b) j ≡ Some true
+sure_since_more before mid steps done k step b so_far is within here origins fits =
+    marked_more (λ j s. NeedsNothing (known_after before.contents (done_among steps (set done k b)) origins j) s) steps done k step b is within
+      (λ needs.
+        let P : List (List Fact) → Type 0 = λ A. NeedsNothing A step in
+        here (NeedsNothing-below _ mid.contents step (so_far.least origins fits) (subst P (known_after-before before.contents steps done origins k k b (omega arith)) needs)))
+      (λ j s below e needs.
+        let P : List (List Fact) → Type 0 = λ A. NeedsNothing A s in
+        so_far.sure_since origins fits j s below e (subst P (known_after-before before.contents steps done origins k j b (omega arith)) needs))
+
+-- the count of refused datagrams, one step further
+counted_more : (old mid now : ℕ) (r : ℕ) (steps : List Step) (k : ℕ) (step : Step) → slice_get steps k ≡ Some step
+  → mid ≡ min (old + count_by (is_refused_take r) (take k steps)) (2 ^ 64 - 1) → now ≡ cond (is_refused_take r step) (one_more mid) mid
+  → now ≡ min (old + count_by (is_refused_take r) (take (k + 1) steps)) (2 ^ 64 - 1)
+counted_more old mid now r steps k step is before e =
+    e ∙ ap (λ n. cond (is_refused_take r step) (one_more n) n) before
+    ∙ one_more-min (old + count_by (is_refused_take r) (take k steps)) (is_refused_take r step)
+    ∙ ap (λ n. min n (2 ^ 64 - 1)) (append_one old (count_by (is_refused_take r) (take k steps)) (cond (is_refused_take r step) 1 0))
+    ∙ ap (λ n. min (old + n) (2 ^ 64 - 1)) (sym (count_by-more (is_refused_take r) steps k step (is_refused_take r step) is refl))
+  where
+    append_one : (a b c : ℕ) → a + b + c ≡ a + (b + c)
+    append_one a b c = omega arith
+
 pub drive_more : (limit : Capacity) (before : Held) (steps : List Step) (done : List Bool) (k : ℕ) (step : Step) (mid now : Held) (r : Result (Unit {0}) StepFault) → DriveSoFar before steps done k mid → slice_get steps k ≡ Some step → k < length done
-  → OnOk r (IsDone limit mid step now) → IfErr r (λ f. IsRefused limit mid step now f) → (NeedsNothing (length mid.contents) step → IsOk r) → DriveSoFar before steps (set done k (is_ok r)) (k + 1) now
+  → OnOk r (IsDone limit mid step now) → IfErr r (λ f. IsRefused limit mid step now f) → (NeedsNothing mid.contents step → IsOk r) → DriveSoFar before steps (set done k (is_ok r)) (k + 1) now
 drive_more limit before steps done k step mid now (Ok x) so_far is within done_now refused needs =
     record {
       as_many = done_now.as_many ∙ so_far.as_many;
@@ -126,27 +219,38 @@ drive_more limit before steps done k step mid now (Ok x) so_far is within done_n
         let Q : ℕ → Type 0 = λ n. NamesReplicas n step in
         named_more before mid steps done k step true so_far is within (λ _. (subst Q so_far.as_many done_now.named, done_now.journal));
       sure = sure_more before mid steps done k step true so_far is within (λ _. refl);
+      sure_since = sure_since_more before mid steps done k step true so_far is within (λ _. refl);
+      kept = EachBelow-trans before.contents mid.contents now.contents so_far.kept (done_above limit mid step now done_now);
       least = λ origins fits.
         rw (known_after-marked before.contents steps done origins k step true is within)
         (EachBelow-trans _ _ _ (held_after-below _ _ step (origins k) (so_far.least origins fits)) (EachBelow-from_same _ _ (done_now.content (origins k) (fits k step is))));
       most = λ origins fits.
         rw (known_after-next before.contents (slice_get steps) origins k (Some step) is)
         (EachBelow-trans _ _ _ (EachBelow-from_same _ _ (EachSame-sym _ _ (done_now.content (origins k) (fits k step is)))) (held_after-below _ _ step (origins k) (so_far.most origins fits)));
+      refused = λ r there small. counted_more (slice_index before.refused r) (slice_index mid.refused r) (slice_index now.refused r) r steps k step is (so_far.refused r there small) (done_now.refused r);
     }
 drive_more limit before steps done k step mid now (Err f) so_far is within done_now refused needs =
     record {
       as_many = sym refused.kept.count ∙ so_far.as_many;
       named = named_more before mid steps done k step false so_far is within (λ off. absurd (false≢true off));
-      sure =
-        let Q : ℕ → Type 0 = λ n. NeedsNothing n step in
-        sure_more before mid steps done k step false so_far is within (λ n. needs (subst Q (sym so_far.as_many) n));
+      sure = sure_more before mid steps done k step false so_far is within needs;
+      sure_since = sure_since_more before mid steps done k step false so_far is within needs;
+      kept = EachBelow-trans before.contents mid.contents now.contents so_far.kept refused.kept;
       least = λ origins fits.
         rw (known_after-marked before.contents steps done origins k step false is within)
         (EachBelow-trans _ _ _ (so_far.least origins fits) refused.kept);
       most = λ origins fits.
         rw (known_after-next before.contents (slice_get steps) origins k (Some step) is)
         (EachBelow-trans _ _ _ (refused.no_more (origins k) (fits k step is)) (held_after-below _ _ step (origins k) (so_far.most origins fits)));
+      refused = λ r there small. counted_more (slice_index before.refused r) (slice_index mid.refused r) (slice_index now.refused r) r steps k step is (so_far.refused r there small)
+        (ap (λ counts. slice_index counts r) refused.refused ∙ sym (ap (λ b. cond b (one_more (slice_index mid.refused r)) (slice_index mid.refused r)) (not_counted r there)));
     }
+  where
+    not_counted : (r : ℕ) → r < length before.contents → is_refused_take r step ≡ false
+    not_counted r there = elim (cases_Bool (is_refused_take r step)) [
+      | inl counts ↦ absurd (false≢true (needs (refused_needs_nothing r mid.contents step (omega (arith, there, so_far.as_many)) counts)))
+      | inr misses ↦ misses
+    ]
 
 -- the same is given twice
 given_to-twice : (A : List (List Fact)) (i : ℕ) (F G : List Fact) → Same F G → EachSame (given_to (given_to A i F) i G) (given_to A i G)
@@ -273,6 +377,7 @@ drive_done before steps done k now so_far same past within =
       named = λ j s is on. (all.named j s (slice_get_within steps j s is) is on).0;
       journals = λ j s is on. (all.named j s (slice_get_within steps j s is) is on).1;
       sure = λ j s is needs. all.sure j s (slice_get_within steps j s is) is needs;
+      sure_since = λ origins fits j s is needs. all.sure_since origins fits j s (slice_get_within steps j s is) is needs;
       least = all.least;
       most = all.most;
       whole = λ retried origins fits.
@@ -280,4 +385,5 @@ drive_done before steps done k now so_far same past within =
         let low = EachBelow-trans _ _ _ (EachBelow-from_same _ _ (EachSame-sym _ _ given)) (all.least origins fits) in
         let high = all.most origins fits in
         record { count = low.count; each = λ r. Same-from_Below _ _ (low.each r) (high.each r) };
+      refused = λ r there small. all.refused r there small ∙ ap (λ ss. min (slice_index before.refused r + count_by (is_refused_take r) ss) (2 ^ 64 - 1)) (take_all (length steps) steps (omega arith));
     }

@@ -52,11 +52,11 @@ known_after-start held steps origins = refl
 held_after-count : (held : List (List Fact)) (step : Step) (origin : List Fact) (now : List (List Fact)) → EachSame (held_after held step origin) now → length now ≡ length (held_after held step origin)
 held_after-count held step origin now h = sym h.count
 
-one_more-min : (n : ℕ) (b : Bool) → cond b (one_more (min n (2 ^ 64 - 1))) (min n (2 ^ 64 - 1)) ≡ min (n + cond b 1 0) (2 ^ 64 - 1)
+pub one_more-min : (n : ℕ) (b : Bool) → cond b (one_more (min n (2 ^ 64 - 1))) (min n (2 ^ 64 - 1)) ≡ min (n + cond b 1 0) (2 ^ 64 - 1)
 one_more-min n true = grind (arith, nat_tests)
 one_more-min n false = omega arith
 
-count_by-more : (p : Step → Bool) (steps : List Step) (k : ℕ) (step : Step) (b : Bool) → slice_get steps k ≡ Some step → p step ≡ b → count_by p (take (k + 1) steps) ≡ count_by p (take k steps) + cond b 1 0
+pub count_by-more : (p : Step → Bool) (steps : List Step) (k : ℕ) (step : Step) (b : Bool) → slice_get steps k ≡ Some step → p step ≡ b → count_by p (take (k + 1) steps) ≡ count_by p (take k steps) + cond b 1 0
 count_by-more p steps k step true is e =
     count_by_more_yes p steps k step (slice_get_within steps k step is) (ap p (get_or_from_slice_get steps k step step is) ∙ e)
 count_by-more p steps k step false is e =

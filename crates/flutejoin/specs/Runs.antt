@@ -50,8 +50,6 @@ IsRunRefused capacity count steps (At k fault) = (k < length steps) × IsFirstWi
 -- all the steps in turn, of which some were done
 pub record IsDriven (before : Held) (steps : List Step) (done : List Bool) (now : Held) : Type 0 where
   pub as_many : length now.contents ≡ length before.contents
-  -- as many marks as steps
-  pub marks : length done ≡ length steps
   -- a step that was done names replicas that are there, and a `Load` read a journal within the bound
   pub named : (k : ℕ) (step : Step) → slice_get steps k ≡ Some step → slice_get done k ≡ Some true → NamesReplicas (length before.contents) step
   pub journals : (k : ℕ) (step : Step) → slice_get steps k ≡ Some step → slice_get done k ≡ Some true → LoadsJournal MAX_ENTRIES step
