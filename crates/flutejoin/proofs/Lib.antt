@@ -10,5 +10,6 @@ mod Taking
 mod Places
 mod Outcomes
 mod Journaled
+mod Given
 mod Running
 mod Driving

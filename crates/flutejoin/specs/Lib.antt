@@ -13,3 +13,4 @@ pub mod Refused
 pub mod Outcome
 pub mod Faults
 pub mod Runs
+pub mod Laws

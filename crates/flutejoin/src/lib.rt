@@ -7,6 +7,7 @@ mod extract;
 mod gaps;
 mod hex_digits;
 mod limits;
+pub mod laws;
 mod line;
 mod lines;
 mod loading;
