@@ -1,6 +1,17 @@
 -- What replicas hold that were given the same.
-use Rattle.std.proofs.Common.{ℕ, List}
+use Rattle.std.proofs.Common.{◌≡◌, ℕ, List, Option, sym, subst, ◌∙◌}
+use Rattle.std.specs.Io.KnownBytes.{Appends}
+use Rattle.flute_parts.specs.declared.key.Key.{Key}
 use Rattle.flute_parts.specs.declared.fact.Fact.{Fact}
+use Rattle.flute_parts.specs.Addresses.{info_address}
+use Rattle.flute_parts.specs.Devices.{AppendsPart}
+use Rattle.flute_store.specs.Extract.{WritesWhole, TellsExtractFault}
+use Rattle.flute_store.specs.declared.extract.ExtractFault.{ExtractFault}
+use Rattle.flute_store.specs.declared.extract.ExtractFault.TheVariants.{NoObject, NoInformation, ConflictingInformation, NotWhole, Write}
+use Rattle.flute_store.proofs.WholeObjects.{Whole-same, object-same, gaps-same}
+use Rattle.flute_journal.specs.Format.{spelling}
+use Rattle.flute_journal.specs.Journal.{Journal}
+use Rattle.flutejoin.proofs.Receptions.{Journal-of_same, Journal-only}
 use Rattle.flute_parts.specs.Facts.{Same, SameMembers}
 use Rattle.flute_parts.proofs.Facts.{Same-sym, Same-trans, Same-members}
 use Rattle.flutejoin.specs.declared.steps.Step.{Step}
@@ -35,3 +46,49 @@ runs_leave n m steps others origins further r q now then done done_too fits fits
   other_left = run_leaves m others further q then done_too fits_too;
   members = members;
 }
+
+-- what a store holds that a run left
+pub store_same : (count : ℕ) (steps : List Step) (origins : ℕ → List Fact) (r : ℕ) (now : Held) (F : List Fact) → IsRunDone count steps now → Fits steps origins → F ≡ held_by now.contents r → Same F (known_by count steps origins r)
+store_same count steps origins r now F done fits is =
+    let P : List Fact → Type 0 = λ G. Same G (known_by count steps origins r) in
+    subst P (sym is) (run_leaves count steps origins r now done fits).same
+
+-- its journal is that of what the replica was given, and of what any other was given with the same members
+pub written_as_given : (old new : Option (List ℕ)) (F K : List Fact) → Same F K → Appends old new (spelling F) → Journal (spelling F) F → (bytes : List ℕ) × Journal bytes K × Appends old new bytes
+written_as_given old new F K same written journal = (spelling F, Journal-of_same (spelling F) F K same journal, written)
+
+pub written_as_others : (old new : Option (List ℕ)) (F K L : List Fact) (bytes : List ℕ) → Same F K → SameMembers K L → Appends old new (spelling F) → Journal (spelling F) F → Journal bytes L → Appends old new bytes
+written_as_others old new F K L bytes same members written journal other =
+    let P : List ℕ → Type 0 = λ bs. Appends old new bs in
+    subst P (Journal-only (spelling F) bytes F L (Same-trans F K L same (Same-members K L members)) journal other) written
+
+pub cut_as_given : (old new : Option (List ℕ)) (F K : List Fact) (bytes : List ℕ) → Same F K → AppendsPart old new (spelling F) → ((bs : List ℕ) → Journal bs F → bs ≡ spelling F) → Journal bytes K → AppendsPart old new bytes
+cut_as_given old new F K bytes same written only journal =
+    let P : List ℕ → Type 0 = λ bs. AppendsPart old new bs in
+    subst P (sym (only bytes (Journal-of_same bytes K F (Same-sym F K same) journal))) written
+
+-- what is told of an object by lists that come to the same
+module _ {W : Type 0} (written : W → Option (List ℕ)) (F G : List Fact) (key : Key) (old new : W) (same : Same F G) where
+  pub whole-same : (n : ℕ) → WritesWhole written F key old new n → WritesWhole written G key old new n
+  whole-same n h =
+      let P : List ℕ → Type 0 = λ bs. Appends (written old) (written new) bs in
+      record { info = h.info; whole = Whole-same F G key h.info same h.whole; bytes = subst P (object-same F G key h.info same) h.bytes; length_is = h.length_is }
+
+  pub extract_fault-same : (f : ExtractFault) → TellsExtractFault written F key old new f → TellsExtractFault written G key old new f
+  extract_fault-same NoObject h = ((λ part. sym (same.each (record { key = key; part = part })) ∙ h.0 part), h.1)
+  extract_fault-same NoInformation h =
+      let heard = h.0.0 in
+      (((heard.0, λ e. heard.1 (same.each (record { key = key; part = heard.0 }) ∙ e)), sym (same.each (info_address key)) ∙ h.0.1), h.1)
+  extract_fault-same ConflictingInformation h = (sym (same.each (info_address key)) ∙ h.0, h.1)
+  extract_fault-same (NotWhole first) h =
+      (record {
+        info = h.0.info;
+        information = sym (same.each (info_address key)) ∙ h.0.information;
+        gap = h.0.gap;
+        others = h.0.others;
+        gaps_are = sym (gaps-same F G key h.0.info same) ∙ h.0.gaps_are;
+        first_is = h.0.first_is;
+      }, h.1)
+  extract_fault-same Write h =
+      let P : List ℕ → Type 0 = λ bs. AppendsPart (written old) (written new) bs in
+      record { info = h.info; whole = Whole-same F G key h.info same h.whole; bytes = subst P (object-same F G key h.info same) h.bytes }

@@ -14,3 +14,4 @@ pub mod Outcome
 pub mod Faults
 pub mod Runs
 pub mod Laws
+pub mod Outputs

@@ -1,0 +1,34 @@
+-- What is written of a replica after a run.
+use Rattle.std.specs.Prelude.{◌≡◌, ℕ, List, Option, Result, Ok, Err}
+use Rattle.std.specs.Io.KnownBytes.{Appends}
+use Rattle.flute_parts.specs.declared.key.Key.{Key}
+use Rattle.flute_parts.specs.declared.fact.Fact.{Fact}
+use Rattle.flute_parts.specs.Facts.{SameMembers}
+use Rattle.flute_parts.specs.Devices.{AppendsPart}
+use Rattle.flute_store.specs.Extract.{WritesWhole, TellsExtractFault}
+use Rattle.flute_journal.specs.Journal.{Journal}
+use Rattle.flutejoin.specs.declared.steps.Step.{Step}
+use Rattle.flutejoin.specs.declared.outputs.OutputFault.{OutputFault}
+use Rattle.flutejoin.specs.declared.outputs.OutputFault.TheVariants.{Save, Extract}
+use Rattle.flutejoin.specs.Known.{Fits, known_by}
+
+module _ {W : Type 0} (written : W → Option (List ℕ)) (F : List Fact) (old new : W) where
+  -- the journal of these facts was written, or after a failed write a first part of it, or nothing
+  abbrev pub TellsJournal : Result ℕ OutputFault → Type 0
+  TellsJournal (Ok entries) = (bytes : List ℕ) × Journal bytes F × Appends (written old) (written new) bytes
+  TellsJournal (Err (Save f)) = (bytes : List ℕ) → Journal bytes F → AppendsPart (written old) (written new) bytes
+  TellsJournal (Err _) = new ≡ old
+
+  -- the object that these facts make was written, or why not, or nothing
+  abbrev pub TellsObject : Key → Result ℕ OutputFault → Type 0
+  TellsObject key (Ok length) = WritesWhole written F key old new length
+  TellsObject key (Err (Extract f)) = TellsExtractFault written F key old new f
+  TellsObject key (Err _) = new ≡ old
+
+-- Whatever other steps give a replica q the same facts, in whatever order, however often, by whatever merges and
+-- journals: its journal is what was written of replica r.
+abbrev pub WritesAsOthers : ℕ → List Step → ℕ → Option (List ℕ) → Option (List ℕ) → Type 0
+WritesAsOthers count steps r old new =
+    (m : ℕ) (others : List Step) (q : ℕ) (origins further : ℕ → List Fact) → Fits steps origins → Fits others further
+    → SameMembers (known_by count steps origins r) (known_by m others further q)
+    → (bytes : List ℕ) → Journal bytes (known_by m others further q) → Appends old new bytes
