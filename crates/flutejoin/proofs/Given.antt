@@ -32,7 +32,7 @@ run_leaves count steps origins r now done fits =
     record { fits = fits; same = Same-sym (known_by count steps origins r) (held_by now.contents r) ((done.content origins fits).each r) }
 
 pub runs_leave : (n m : ℕ) (steps others : List Step) (origins further : ℕ → List Fact) (r q : ℕ) (now then : Held) → IsRunDone n steps now → IsRunDone m others then → Fits steps origins → Fits others further
-  → SameMembers (known_by n steps origins r) (known_by m others further q) → GivenTheSame (held_by now.contents r) (held_by then.contents q)
+    → SameMembers (known_by n steps origins r) (known_by m others further q) → GivenTheSame (held_by now.contents r) (held_by then.contents q)
 runs_leave n m steps others origins further r q now then done done_too fits fits_too members = record {
   count = n;
   steps = steps;
@@ -80,15 +80,17 @@ module _ {W : Type 0} (written : W → Option (List ℕ)) (F G : List Fact) (key
       let heard = h.0.0 in
       (((heard.0, λ e. heard.1 (same.each (record { key = key; part = heard.0 }) ∙ e)), sym (same.each (info_address key)) ∙ h.0.1), h.1)
   extract_fault-same ConflictingInformation h = (sym (same.each (info_address key)) ∙ h.0, h.1)
-  extract_fault-same (NotWhole first) h =
-      (record {
-        info = h.0.info;
-        information = sym (same.each (info_address key)) ∙ h.0.information;
-        gap = h.0.gap;
-        others = h.0.others;
-        gaps_are = sym (gaps-same F G key h.0.info same) ∙ h.0.gaps_are;
-        first_is = h.0.first_is;
-      }, h.1)
+  extract_fault-same (NotWhole first) h = (
+    record {
+      info = h.0.info;
+      information = sym (same.each (info_address key)) ∙ h.0.information;
+      gap = h.0.gap;
+      others = h.0.others;
+      gaps_are = sym (gaps-same F G key h.0.info same) ∙ h.0.gaps_are;
+      first_is = h.0.first_is;
+    },
+    h.1,
+  )
   extract_fault-same Write h =
       let P : List ℕ → Type 0 = λ bs. AppendsPart (written old) (written new) bs in
       record { info = h.info; whole = Whole-same F G key h.info same h.whole; bytes = subst P (object-same F G key h.info same) h.bytes }

@@ -1,5 +1,5 @@
 -- Journals that were loaded, or written and read back.
-use Rattle.std.proofs.Common.{◌≡◌, ◌≢◌, ℕ, List, [], ◌∷◌, ◌++◌, refl, sym, ◌∙◌, ap, subst, arith, ◌<◌, ◌+◌, length, ◌⊎◌, inl, inr, Option, Some, None, Result, Ok, Err}
+use Rattle.std.proofs.Common.{◌≡◌, ◌≢◌, ℕ, List, [], ◌++◌, refl, sym, ◌∙◌, ap, subst, arith, ◌+◌, length, ◌⊎◌, inl, inr, Option, Some, Err}
 use Rattle.std.specs.Prelude.{IfSome}
 use Rattle.std.specs.Io.KnownBytes.{Appends}
 use Rattle.std.proofs.Math.ListN.{set, length-set}
@@ -14,7 +14,6 @@ use Rattle.flute_journal.specs.declared.fault.LoadFault.TheVariants as load
 use Rattle.flute_journal.specs.Journal.{Journal, IsJournalWithin, Stops}
 use Rattle.flute_journal.specs.Whole.{HasFault}
 use Rattle.flute_journal.specs.Stores.{IsJournalOf, IsLoadFault, load_failed}
-use Rattle.flutejoin.specs.declared.steps.Step.{Step}
 use Rattle.flutejoin.specs.declared.steps.Step.TheVariants.{Load, Reopen}
 use Rattle.flutejoin.specs.declared.steps.StepFault.{StepFault}
 use Rattle.flutejoin.specs.declared.steps.StepFault.TheVariants as step
@@ -22,7 +21,7 @@ use Rattle.flutejoin.specs.declared.steps.StepFault.TheVariants.{Full, OutOfMemo
 use Rattle.flutejoin.specs.declared.steps.TheConstants.{MAX_ENTRIES}
 use Rattle.flutejoin.specs.Faults.{fault_of_read, fault_of_load}
 use Rattle.flutejoin.specs.Held.{Held, Capacity, IsOver}
-use Rattle.flutejoin.specs.Steps.{held_by, target_of, FitsStep, EachSame}
+use Rattle.flutejoin.specs.Steps.{held_by, FitsStep, EachSame}
 use Rattle.flutejoin.specs.Outcome.{IsDone, IsRefused, IsLonger}
 use Rattle.flutejoin.proofs.Receptions.{IsOver-below, Same-from_journals, Journal-from_within, too_many, not_longer, begins_below}
 use Rattle.flutejoin.proofs.Places.{EachSame-itself, EachSame-set}
@@ -35,31 +34,34 @@ origin_same bs replica F origin journal (inr none) = absurd (none.0 F journal)
 
 -- a `Load` that was done
 pub loaded_done : (limit : Capacity) (before now : Held) (i : ℕ) (old content loaded : List Fact) (bs : List ℕ) (F : List Fact) → IsChangedAt before now i old content → IsJournalWithin MAX_ENTRIES bs F → Same loaded F
-  → Same content (old ++ loaded) → (IsOver content limit → ⊥) → IsDone limit before (Load i bs) now
+    → Same content (old ++ loaded) → (IsOver content limit → ⊥) → IsDone limit before (Load i bs) now
 loaded_done limit before now i old content loaded bs F h journal same joined inside =
     given_done limit before (Load i bs) now old content h (λ k. k) (F, journal) tt (λ r. refl)
-      (λ origin fits. (origin, refl,
-        Same-trans content (old ++ loaded) (old ++ origin) joined
-        (Same-append old old loaded origin (Same-itself old) (Same-trans loaded F origin same (origin_same bs i F origin (Journal-from_within bs F journal) fits)))))
-      inside
+    (λ origin fits. (
+      origin,
+      refl,
+      Same-trans content (old ++ loaded) (old ++ origin) joined
+          (Same-append old old loaded origin (Same-itself old) (Same-trans loaded F origin same (origin_same bs i F origin (Journal-from_within bs F journal) fits))),
+    ))
+    inside
 
 -- a `Load` whose store was not taken in whole
 pub loaded_refused : (limit : Capacity) (before now : Held) (i : ℕ) (old content loaded : List Fact) (bs : List ℕ) (F : List Fact) (fault : StepFault) → IsChangedAt before now i old content → IsJournalWithin MAX_ENTRIES bs F → Same loaded F
-  → Below old content → Below content (old ++ loaded) → ((fault ≡ Full) × IsOver (old ++ loaded) limit) ⊎ (fault ≡ OutOfMemory) → IsRefused limit before (Load i bs) now fault
+    → Below old content → Below content (old ++ loaded) → ((fault ≡ Full) × IsOver (old ++ loaded) limit) ⊎ (fault ≡ OutOfMemory) → IsRefused limit before (Load i bs) now fault
 loaded_refused limit before now i old content loaded bs F fault h journal same below above cause =
     let whole : (origin : List Fact) → FitsStep (Load i bs) origin → Below (old ++ loaded) (old ++ origin) = λ origin fits.
-      Below-from_Same (old ++ loaded) (old ++ origin) (Same-append old old loaded origin (Same-itself old) (Same-trans loaded F origin same (origin_same bs i F origin (Journal-from_within bs F journal) fits))) in
+    Below-from_Same (old ++ loaded) (old ++ origin) (Same-append old old loaded origin (Same-itself old) (Same-trans loaded F origin same (origin_same bs i F origin (Journal-from_within bs F journal) fits))) in
     elim cause [
-      inl full ↦
-        let P : StepFault → Type 0 = λ f. IsRefused limit before (Load i bs) now f in
-        subst P (sym full.0)
-        (between_refused limit before (Load i bs) now old content Full h (λ e. e)
+      | inl full ↦
+          let P : StepFault → Type 0 = λ f. IsRefused limit before (Load i bs) now f in
+          subst P (sym full.0)
+          (between_refused limit before (Load i bs) now old content Full h (λ e. e)
           (λ origin fits. inl (over_given limit before.contents i old origin h.within h.held (IsOver-below (old ++ loaded) (old ++ origin) limit (whole origin fits) full.1))) below
           (λ origin fits. (origin, refl, Below-trans content (old ++ loaded) (old ++ origin) above (whole origin fits))))
-    | inr memory ↦
-        let P : StepFault → Type 0 = λ f. IsRefused limit before (Load i bs) now f in
-        subst P (sym memory)
-        (between_refused limit before (Load i bs) now old content OutOfMemory h (λ e. e)
+      | inr memory ↦
+          let P : StepFault → Type 0 = λ f. IsRefused limit before (Load i bs) now f in
+          subst P (sym memory)
+          (between_refused limit before (Load i bs) now old content OutOfMemory h (λ e. e)
           (λ origin _. tt) below
           (λ origin fits. (origin, refl, Below-trans content (old ++ loaded) (old ++ origin) above (whole origin fits))))
     ]
@@ -85,19 +87,19 @@ tells_fault bs read.Trailing h other = inr (refl, h)
 
 -- a `Load` whose journal was not read
 pub not_loaded : (limit : Capacity) (before : Held) (i : ℕ) (bs : List ℕ) (fault : LoadFault) → IsLoadFault limit.sessions limit.objects limit.symbols MAX_ENTRIES (Some bs) fault → fault ≢ load.Read read.Read
-  → IsRefused limit before (Load i bs) before (fault_of_load fault)
+    → IsRefused limit before (Load i bs) before (fault_of_load fault)
 not_loaded limit before i bs load.Full cause other = unchanged_refused limit before (Load i bs) before Full refl (λ origin _. inr cause)
 not_loaded limit before i bs load.OutOfMemory cause other = unchanged_refused limit before (Load i bs) before OutOfMemory refl (λ origin _. tt)
 not_loaded limit before i bs (load.Read f) cause other =
     let P : StepFault → Type 0 = λ g. IsRefused limit before (Load i bs) before g in
     elim (tells_fault bs f cause (λ e. other (ap load.Read e))) [
-      inl memory ↦ subst P (sym memory) (unchanged_refused limit before (Load i bs) before OutOfMemory refl (λ origin _. tt))
-    | inr at ↦ subst P (sym at.0) (unchanged_refused limit before (Load i bs) before (step.Journal f) refl (λ origin _. at.1))
+      | inl memory ↦ subst P (sym memory) (unchanged_refused limit before (Load i bs) before OutOfMemory refl (λ origin _. tt))
+      | inr at ↦ subst P (sym at.0) (unchanged_refused limit before (Load i bs) before (step.Journal f) refl (λ origin _. at.1))
     ]
 
 -- a `Reopen` that was done
 pub reopened_done : (limit : Capacity) (before now : Held) (i : ℕ) (old content : List Fact) (bs : List ℕ) → IsChangedAt before now i old content → Journal bs old → IsJournalOf MAX_ENTRIES bs content
-  → ¬ IsOver content limit → IsDone limit before (Reopen i) now
+    → ¬ IsOver content limit → IsDone limit before (Reopen i) now
 reopened_done limit before now i old content bs h written read inside =
     let F = read.0 in
     let whole : Same old F = Same-from_journals bs old F written (Journal-from_within bs F read.1) in
@@ -108,11 +110,11 @@ reopened_done limit before now i old content bs h written read inside =
       as_many = ap length h.contents ∙ length-set before.contents i content;
       journal = tt;
       readable = λ many.
-        let P : List Fact → Type 0 = λ G. IsLonger G MAX_ENTRIES in
-        not_longer old F bs read.1 whole (subst P h.held many);
+          let P : List Fact → Type 0 = λ G. IsLonger G MAX_ENTRIES in
+          not_longer old F bs read.1 whole (subst P h.held many);
       content = λ origin _.
-        let P : List (List Fact) → Type 0 = λ A. EachSame A now.contents in
-        subst P stays (rw h.contents (EachSame-set before.contents before.contents i old content h.within (EachSame-itself before.contents) again));
+          let P : List (List Fact) → Type 0 = λ A. EachSame A now.contents in
+          subst P stays (rw h.contents (EachSame-set before.contents before.contents i old content h.within (EachSame-itself before.contents) again));
       others = others_at before now i old content h;
       refused = λ r. rw h.refused refl;
       within = λ over. let P : List Fact → Type 0 = λ G. IsOver G limit in inside (subst P (content_at before now i old content h) over);
@@ -120,16 +122,16 @@ reopened_done limit before now i old content bs h written read inside =
 
 -- a `Reopen` whose journal was not read back
 pub not_reopened : (limit : Capacity) (before : Held) (i : ℕ) (old : List Fact) (bs : List ℕ) (fault : LoadFault) → held_by before.contents i ≡ old → Journal bs old
-  → IsLoadFault limit.sessions limit.objects limit.symbols MAX_ENTRIES (Some bs) fault → fault ≢ load.Read read.Read → IsRefused limit before (Reopen i) before (fault_of_load fault)
+    → IsLoadFault limit.sessions limit.objects limit.symbols MAX_ENTRIES (Some bs) fault → fault ≢ load.Read read.Read → IsRefused limit before (Reopen i) before (fault_of_load fault)
 not_reopened limit before i old bs load.Full held written cause other =
     unchanged_refused limit before (Reopen i) before Full refl (λ origin _. inl (rw held (IsOver-below cause.0 old limit (begins_below bs old cause.0 written cause.1) cause.2)))
 not_reopened limit before i old bs load.OutOfMemory held written cause other = unchanged_refused limit before (Reopen i) before OutOfMemory refl (λ origin _. tt)
 not_reopened limit before i old bs (load.Read f) held written cause other =
     let P : StepFault → Type 0 = λ g. IsRefused limit before (Reopen i) before g in
     elim (tells_fault bs f cause (λ e. other (ap load.Read e))) [
-      inl memory ↦ subst P (sym memory) (unchanged_refused limit before (Reopen i) before OutOfMemory refl (λ origin _. tt))
-    | inr at ↦ subst P (sym at.0) (unchanged_refused limit before (Reopen i) before (step.Journal f) refl (λ origin _.
-        let many = too_many bs old at.1.0 f written at.1.1 in (many.0, rw held many.1)))
+      | inl memory ↦ subst P (sym memory) (unchanged_refused limit before (Reopen i) before OutOfMemory refl (λ origin _. tt))
+      | inr at ↦ subst P (sym at.0) (unchanged_refused limit before (Reopen i) before (step.Journal f) refl (λ origin _.
+          let many = too_many bs old at.1.0 f written at.1.1 in (many.0, rw held many.1)))
     ]
 
 -- the bytes that a source told
@@ -141,7 +143,7 @@ journal_known old bs cs F known is h =
     subst P is (subst Q known h)
 
 pub fault_known : (limit : Capacity) (old : Option (List ℕ)) (bs cs : List ℕ) (f : LoadFault) → old ≡ Some bs → bs ≡ cs
-  → IsLoadFault limit.sessions limit.objects limit.symbols MAX_ENTRIES old f → IsLoadFault limit.sessions limit.objects limit.symbols MAX_ENTRIES (Some cs) f
+    → IsLoadFault limit.sessions limit.objects limit.symbols MAX_ENTRIES old f → IsLoadFault limit.sessions limit.objects limit.symbols MAX_ENTRIES (Some cs) f
 fault_known limit old bs cs f known is h =
     let Q : Option (List ℕ) → Type 0 = λ o. IsLoadFault limit.sessions limit.objects limit.symbols MAX_ENTRIES o f in
     subst Q (known ∙ ap Some is) h

@@ -10,6 +10,7 @@ mod Taking
 mod Places
 mod Outcomes
 mod Journaled
+mod Blobs
 mod Given
 mod Running
 mod Driving

@@ -1,11 +1,11 @@
 -- One replica changed, among the others.
-use Rattle.std.proofs.Common.{◌≡◌, ◌≢◌, ℕ, Bool, true, false, List, [], ◌∷◌, ◌++◌, map, cond, eqb, refl, sym, ◌∙◌, ap, subst, arith, ◌<◌, ◌≤◌, length, get_or, ◌⊎◌, inl, inr, append_assoc, zero, suc}
+use Rattle.std.proofs.Common.{◌≡◌, ◌≢◌, ℕ, List, [], ◌∷◌, ◌++◌, refl, sym, ◌∙◌, ap, subst, arith, ◌<◌, ◌≤◌, length, get_or, inl, inr, zero, suc}
 use Rattle.std.proofs.Math.ListN.{set, length-set}
 use Rattle.std.proofs.lemmas.Bool.{cases_eq, cases_lt}
-use Rattle.std.proofs.lemmas.List.{append-nil, map-set, get_or-set_same, get_or-set_other, set_past, get_or_past}
+use Rattle.std.proofs.lemmas.List.{get_or-set_same, get_or-set_other, set_past}
 use Rattle.flute_parts.specs.declared.fact.Fact.{Fact}
 use Rattle.flute_parts.specs.Facts.{Same, Below}
-use Rattle.flute_parts.proofs.Facts.{Same-itself, Same-sym, Same-trans, Same-append, Same-twice, Below-itself, Below-trans, Below-append, Below-from_Same, Same-from_Below}
+use Rattle.flute_parts.proofs.Facts.{Same-itself, Same-sym, Same-trans, Same-append, Below-itself, Below-trans, Below-append, Below-from_Same}
 use Rattle.flutejoin.specs.Steps.{held_by, given_to, EachSame, EachBelow}
 use Rattle.flutejoin.proofs.Receptions.{Below-left}
 
@@ -33,10 +33,10 @@ EachBelow-trans A B C h k =
 pub each_set : (R : List Fact → List Fact → Type 0) (A B : List (List Fact)) (i : ℕ) (x y : List Fact) → i < length A → i < length B → R x y → ((r : ℕ) → r ≢ i → R (held_by A r) (held_by B r)) → (r : ℕ) → R (held_by (set A i x) r) (held_by (set B i y) r)
 each_set R A B i x y within_A within_B here others r =
     elim (cases_eq r i) [
-      inl e ↦
-        let P : ℕ → Type 0 = λ q. R (held_by (set A i x) q) (held_by (set B i y) q) in
-        subst P (sym e) (rw (get_or-set_same A i x [], get_or-set_same B i y []) here)
-    | inr ne ↦ rw (get_or-set_other A i r x [] ne, get_or-set_other B i r y [] ne) (others r ne)
+      | inl e ↦
+          let P : ℕ → Type 0 = λ q. R (held_by (set A i x) q) (held_by (set B i y) q) in
+          subst P (sym e) (rw (get_or-set_same A i x [], get_or-set_same B i y []) here)
+      | inr ne ↦ rw (get_or-set_other A i r x [] ne, get_or-set_other B i r y [] ne) (others r ne)
     ]
 
 pub EachSame-set : (A B : List (List Fact)) (i : ℕ) (x y : List Fact) → i < length A → EachSame A B → Same x y → EachSame (set A i x) (set B i y)
@@ -68,23 +68,23 @@ given_to-same A i more content within h =
 pub given_to-each_same : (A B : List (List Fact)) (i : ℕ) (more less : List Fact) → EachSame A B → Same more less → EachSame (given_to A i more) (given_to B i less)
 given_to-each_same A B i more less h same =
     elim (cases_lt i (length A)) [
-      inl within ↦ EachSame-set A B i (held_by A i ++ more) (held_by B i ++ less) within h (Same-append (held_by A i) (held_by B i) more less (h.each i) same)
-    | inr past ↦
-        let e : set A i (held_by A i ++ more) ≡ A = set_past A i (held_by A i ++ more) past in
-        let past_B : length B ≤ i = omega (arith, h.count) in
-        let d : set B i (held_by B i ++ less) ≡ B = set_past B i (held_by B i ++ less) past_B in
-        rw (e, d) h
+      | inl within ↦ EachSame-set A B i (held_by A i ++ more) (held_by B i ++ less) within h (Same-append (held_by A i) (held_by B i) more less (h.each i) same)
+      | inr past ↦
+          let e : set A i (held_by A i ++ more) ≡ A = set_past A i (held_by A i ++ more) past in
+          let past_B : length B ≤ i = omega (arith, h.count) in
+          let d : set B i (held_by B i ++ less) ≡ B = set_past B i (held_by B i ++ less) past_B in
+          rw (e, d) h
     ]
 
 pub given_to-each_below : (A B : List (List Fact)) (i : ℕ) (more less : List Fact) → EachBelow A B → Below more less → EachBelow (given_to A i more) (given_to B i less)
 given_to-each_below A B i more less h below =
     elim (cases_lt i (length A)) [
-      inl within ↦ EachBelow-set A B i (held_by A i ++ more) (held_by B i ++ less) within h (Below-append (held_by A i) (held_by B i) more less (h.each i) below)
-    | inr past ↦
-        let e : set A i (held_by A i ++ more) ≡ A = set_past A i (held_by A i ++ more) past in
-        let past_B : length B ≤ i = omega (arith, h.count) in
-        let d : set B i (held_by B i ++ less) ≡ B = set_past B i (held_by B i ++ less) past_B in
-        rw (e, d) h
+      | inl within ↦ EachBelow-set A B i (held_by A i ++ more) (held_by B i ++ less) within h (Below-append (held_by A i) (held_by B i) more less (h.each i) below)
+      | inr past ↦
+          let e : set A i (held_by A i ++ more) ≡ A = set_past A i (held_by A i ++ more) past in
+          let past_B : length B ≤ i = omega (arith, h.count) in
+          let d : set B i (held_by B i ++ less) ≡ B = set_past B i (held_by B i ++ less) past_B in
+          rw (e, d) h
     ]
 
 -- what was held is below what is held with more
@@ -93,14 +93,14 @@ given_to-above A i more =
     record {
       count = sym (length-set A i (held_by A i ++ more));
       each = λ r.
-        elim (cases_eq r i) [
-          inl e ↦
-            elim (cases_lt i (length A)) [
-              inl within ↦
-                let P : ℕ → Type 0 = λ q. Below (held_by A q) (held_by (given_to A i more) q) in
-                subst P (sym e) (rw (get_or-set_same A i (held_by A i ++ more) []) (Below-left (held_by A i) more))
-            | inr past ↦ rw (set_past A i (held_by A i ++ more) past) (Below-itself (held_by A r))
-            ]
-        | inr ne ↦ rw (get_or-set_other A i r (held_by A i ++ more) [] ne) (Below-itself (held_by A r))
-        ];
+          elim (cases_eq r i) [
+            | inl e ↦
+                elim (cases_lt i (length A)) [
+                  | inl within ↦
+                      let P : ℕ → Type 0 = λ q. Below (held_by A q) (held_by (given_to A i more) q) in
+                      subst P (sym e) (rw (get_or-set_same A i (held_by A i ++ more) []) (Below-left (held_by A i) more))
+                  | inr past ↦ rw (set_past A i (held_by A i ++ more) past) (Below-itself (held_by A r))
+                ]
+            | inr ne ↦ rw (get_or-set_other A i r (held_by A i ++ more) [] ne) (Below-itself (held_by A r))
+          ];
     }

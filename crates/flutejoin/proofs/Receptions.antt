@@ -1,6 +1,6 @@
 -- Lists of facts, what stands above them, and their journals.
-use Rattle.std.proofs.Common.{◌≡◌, ◌≢◌, ◌<◌, ◌≤◌, ◌^◌, ℕ, List, [], ◌∷◌, ◌++◌, length, None, refl, sym, ap, subst, ◌∙◌, append_assoc, arith}
-use Rattle.std.specs.List.{flat_map, AllByRecursion}
+use Rattle.std.proofs.Common.{◌≡◌, ◌≢◌, ℕ, List, [], ◌∷◌, ◌++◌, length, None, sym, ap, subst, ◌∙◌, append_assoc, arith}
+use Rattle.std.specs.List.{AllByRecursion}
 use Rattle.std.proofs.lemmas.List.{append-nil}
 use Rattle.flute_parts.specs.declared.address.Address.{Address}
 use Rattle.flute_parts.specs.declared.fact.Fact.{Fact}
@@ -13,7 +13,7 @@ use Rattle.flute_parts.proofs.Named.{Over-below}
 use Rattle.flute_parts.proofs.Rising.{rising_unique}
 use Rattle.flute_store.specs.Held.{HasCell}
 use Rattle.flute_journal.specs.declared.fault.ReadFault.{ReadFault}
-use Rattle.flute_journal.specs.Format.{header, entry, spelling}
+use Rattle.flute_journal.specs.Format.{spelling}
 use Rattle.flute_journal.specs.Journal.{Journal, IsJournalWithin, Stops}
 use Rattle.flute_journal.proofs.Entries.{spelling-injective}
 use Rattle.flute_journal.proofs.Passes.{beyond, front-below}
@@ -63,7 +63,7 @@ Journal-of_same bs F G same j =
 pub Journal-only : (bs cs : List ℕ) (F G : List Fact) → Same F G → Journal bs F → Journal cs G → bs ≡ cs
 Journal-only bs cs F G same j k =
     let one = rising_unique j.0 k.0 j.1.rising k.1.rising
-      (Same-trans j.0 F k.0 (Same-sym F j.0 j.1.same) (Same-trans F G k.0 same k.1.same)) in
+    (Same-trans j.0 F k.0 (Same-sym F j.0 j.1.same) (Same-trans F G k.0 same k.1.same)) in
     j.3 ∙ ap spelling one ∙ sym k.3
 
 pub Journal-from_within : (bs : List ℕ) (entries : List Fact) → IsJournalWithin MAX_ENTRIES bs entries → Journal bs entries

@@ -1,28 +1,28 @@
 -- A run so far.
-use Rattle.std.proofs.Common.{◌≡◌, ◌≢◌, ℕ, Bool, true, false, List, [], ◌∷◌, ◌++◌, map, take, cond, eqb, refl, sym, ◌∙◌, ap, subst, arith, ◌<◌, ◌≤◌, ◌+◌, ◌-◌, ◌^◌, length, get_or, ◌⊎◌, inl, inr, zero, suc, Option, Some, None, add-one, min, sum_by, count_by}
-use Rattle.std.specs.Prelude.{slice_get, slice_index, replicate, IfSome}
-use Rattle.std.proofs.lemmas.Bool.{cases_eq, cases_lt, ne_eqb}
+use Rattle.std.proofs.Common.{◌≡◌, ℕ, Bool, true, false, List, [], ◌∷◌, ◌++◌, take, cond, refl, sym, ◌∙◌, ap, subst, arith, ◌<◌, ◌≤◌, ◌+◌, ◌-◌, ◌^◌, length, get_or, inl, inr, zero, suc, Option, Some, add-one, min, count_by}
+use Rattle.std.specs.Prelude.{slice_get, slice_index, replicate}
+use Rattle.std.proofs.lemmas.Bool.{cases_lt}
 use Rattle.std.proofs.lemmas.Bool.Decides.{nat_tests}
-use Rattle.std.proofs.lemmas.List.{take_more, take_all, length-replicate, get_or-replicate, get_or_past, get_or-set_same}
+use Rattle.std.proofs.lemmas.List.{take_all, length-replicate, get_or-set_same}
 use Rattle.std.proofs.lemmas.List.Sums.{count_by_more_no, count_by_more_yes}
-use Rattle.std.proofs.lemmas.Option.{slice_get_within, slice_get_past, get_or_from_slice_get}
+use Rattle.std.proofs.lemmas.Option.{slice_get_within, get_or_from_slice_get}
 use Rattle.flute_parts.specs.declared.fact.Fact.{Fact}
-use Rattle.flute_parts.specs.Facts.{Same, Below}
+use Rattle.flute_parts.specs.Facts.{Same}
 use Rattle.flute_wire.specs.Reading.{facts}
-use Rattle.flute_parts.proofs.Facts.{Same-itself, Same-sym, Same-trans, Same-append, Same-twice, Below-itself, Below-trans, Below-append, Below-from_Same, Same-from_Below}
+use Rattle.flute_parts.proofs.Facts.{Same-itself, Below-trans, Below-from_Same}
 use Rattle.flutejoin.proofs.Receptions.{Below-right, IsOver-below, IsLonger-same, Journal-from_within, never_both, begins_below}
 use Rattle.flutejoin.specs.declared.steps.Step.{Step}
 use Rattle.flutejoin.specs.declared.steps.Step.TheVariants.{Take, Load, Add, Merge, Reopen}
 use Rattle.flutejoin.specs.declared.steps.StepFault.{StepFault}
 use Rattle.flutejoin.specs.declared.steps.StepFault.TheVariants.{NoReplica, Journal, Full, OutOfMemory}
 use Rattle.flutejoin.specs.declared.steps.TheConstants.{MAX_ENTRIES}
-use Rattle.flutejoin.specs.Held.{Held, Capacity, IsOver}
-use Rattle.flutejoin.specs.Steps.{held_by, given_to, held_after, NamesReplicas, target_of, LoadsJournal, FitsStep, EachSame, EachBelow}
-use Rattle.flutejoin.specs.Known.{nothing_held, known, known_after, held_after_next, Fits}
-use Rattle.flutejoin.specs.Refused.{is_refused_take, CountsRefused, one_more}
-use Rattle.flutejoin.specs.Outcome.{IsDone, IsRefused, HasCause, IsReadFault, LoadsOver}
-use Rattle.flutejoin.specs.Runs.{new_held, IsRunDone, HasCauseAt, HasNoCause, IsFirstWithCause}
-use Rattle.flutejoin.proofs.Places.{EachSame-itself, EachSame-sym, EachSame-trans, given_to-each_same, given_to-each_below, EachBelow-from_same}
+use Rattle.flutejoin.specs.Held.{Held, Capacity}
+use Rattle.flutejoin.specs.Steps.{held_by, given_to, held_after, NamesReplicas, target_of, LoadsJournal, FitsStep, EachSame}
+use Rattle.flutejoin.specs.Known.{nothing_held, known_after, Fits}
+use Rattle.flutejoin.specs.Refused.{is_refused_take, one_more}
+use Rattle.flutejoin.specs.Outcome.{IsDone, IsRefused, HasCause, LoadsOver}
+use Rattle.flutejoin.specs.Runs.{new_held, IsRunDone, HasNoCause, IsFirstWithCause}
+use Rattle.flutejoin.proofs.Places.{EachSame-itself, EachSame-sym, EachSame-trans, given_to-each_same}
 
 -- replicas that hold the same hold the same after a step
 pub held_after-same : (A B : List (List Fact)) (step : Step) (origin : List Fact) → EachSame A B → EachSame (held_after A step origin) (held_after B step origin)
@@ -85,11 +85,11 @@ some_same o x y e d = cc
 pub each_more : (P : Step → Type 0) (steps : List Step) (k : ℕ) (step : Step) → slice_get steps k ≡ Some step → P step → ((j : ℕ) (s : Step) → j < k → slice_get steps j ≡ Some s → P s) → (j : ℕ) (s : Step) → j < k + 1 → slice_get steps j ≡ Some s → P s
 each_more P steps k step is here before j s within e =
     elim (cases_lt j k) [
-      inl below ↦ before j s below e
-    | inr above ↦
-        let same : j ≡ k = omega arith in
-        let Q : ℕ → Type 0 = λ i. slice_get steps i ≡ Some s in
-        subst P (some_same (slice_get steps k) step s is (subst Q same e)) here
+      | inl below ↦ before j s below e
+      | inr above ↦
+          let same : j ≡ k = omega arith in
+          let Q : ℕ → Type 0 = λ i. slice_get steps i ≡ Some s in
+          subst P (some_same (slice_get steps k) step s is (subst Q same e)) here
     ]
 
 -- replicas that hold the same have the same causes
@@ -110,12 +110,12 @@ HasCause-same limit A B step origin OutOfMemory h cause = tt
 each_more_at : (P : ℕ → Step → Type 0) (steps : List Step) (k : ℕ) (step : Step) → slice_get steps k ≡ Some step → P k step → ((j : ℕ) (s : Step) → j < k → slice_get steps j ≡ Some s → P j s) → (j : ℕ) (s : Step) → j < k + 1 → slice_get steps j ≡ Some s → P j s
 each_more_at P steps k step is here before j s within e =
     elim (cases_lt j k) [
-      inl below ↦ before j s below e
-    | inr above ↦
-        let same : j ≡ k = omega arith in
-        let Q : ℕ → Type 0 = λ i. slice_get steps i ≡ Some s in
-        let R : ℕ → Type 0 = λ i. P i s in
-        subst R (sym same) (subst (P k) (some_same (slice_get steps k) step s is (subst Q same e)) here)
+      | inl below ↦ before j s below e
+      | inr above ↦
+          let same : j ≡ k = omega arith in
+          let Q : ℕ → Type 0 = λ i. slice_get steps i ≡ Some s in
+          let R : ℕ → Type 0 = λ i. P i s in
+          subst R (sym same) (subst (P k) (some_same (slice_get steps k) step s is (subst Q same e)) here)
     ]
 
 -- a `Load` that was done began with no entries over the limit
@@ -126,11 +126,11 @@ no_start_over limit before (Load replica journal) now done begins =
     let there : held_by (given_to before.contents replica F) replica ≡ held_by before.contents replica ++ F = get_or-set_same before.contents replica (held_by before.contents replica ++ F) [] done.named in
     let P : List Fact → Type 0 = λ G. Same G (held_by now.contents replica) in
     done.within
-      (IsOver-below begins.0 (held_by now.contents replica) limit
-        (Below-trans begins.0 F (held_by now.contents replica) (begins_below journal F begins.0 (Journal-from_within journal F done.journal.1) begins.1)
-          (Below-trans F (held_by before.contents replica ++ F) (held_by now.contents replica) (Below-right (held_by before.contents replica) F)
-            (Below-from_Same (held_by before.contents replica ++ F) (held_by now.contents replica) (subst P there same))))
-        begins.2)
+    (IsOver-below begins.0 (held_by now.contents replica) limit
+    (Below-trans begins.0 F (held_by now.contents replica) (begins_below journal F begins.0 (Journal-from_within journal F done.journal.1) begins.1)
+    (Below-trans F (held_by before.contents replica ++ F) (held_by now.contents replica) (Below-right (held_by before.contents replica) F)
+    (Below-from_Same (held_by before.contents replica ++ F) (held_by now.contents replica) (subst P there same))))
+    begins.2)
 no_start_over limit before (Take replica datagram) now done begins = begins
 no_start_over limit before (Add replica fact) now done begins = begins
 no_start_over limit before (Merge into from) now done begins = begins
@@ -157,25 +157,25 @@ run_more limit count steps k step before now so_far is done =
       named = each_more (NamesReplicas count) steps k step is (subst Q so_far.as_many done.named) so_far.named;
       journals = each_more (LoadsJournal MAX_ENTRIES) steps k step is done.journal so_far.journals;
       content = λ origins fits.
-        rw (known_after-more (nothing_held count) steps origins k step is)
-        (EachSame-trans _ _ _ (held_after-same _ _ step (origins k) (so_far.content origins fits)) (done.content (origins k) (fits k step is)));
+          rw (known_after-more (nothing_held count) steps origins k step is)
+          (EachSame-trans _ _ _ (held_after-same _ _ step (origins k) (so_far.content origins fits)) (done.content (origins k) (fits k step is)));
       clear = λ origins fits j s below e fault not_memory cause.
-        each_more_at (λ i t. HasNoCause limit (known_after (nothing_held count) (slice_get steps) origins i) t (origins i)) steps k step is
+          each_more_at (λ i t. HasNoCause limit (known_after (nothing_held count) (slice_get steps) origins i) t (origins i)) steps k step is
           (λ f g c. done_clear limit before step now (origins k) done (fits k step is) f g
-            (HasCause-same limit (known_after (nothing_held count) (slice_get steps) origins k) before.contents step (origins k) f (so_far.content origins fits) c))
+          (HasCause-same limit (known_after (nothing_held count) (slice_get steps) origins k) before.contents step (origins k) f (so_far.content origins fits) c))
           (so_far.clear origins fits) j s below e fault not_memory cause;
       refused = λ r.
-        done.refused r ∙ ap (λ n. cond (is_refused_take r step) (one_more n) n) (so_far.refused r)
-        ∙ one_more-min (count_by (is_refused_take r) (take k steps)) (is_refused_take r step)
-        ∙ ap (λ n. min n (2 ^ 64 - 1)) (sym (count_by-more (is_refused_take r) steps k step (is_refused_take r step) is refl));
+          done.refused r ∙ ap (λ n. cond (is_refused_take r step) (one_more n) n) (so_far.refused r)
+          ∙ one_more-min (count_by (is_refused_take r) (take k steps)) (is_refused_take r step)
+          ∙ ap (λ n. min n (2 ^ 64 - 1)) (sym (count_by-more (is_refused_take r) steps k step (is_refused_take r step) is refl));
     }
 
 pub run_refused : (limit : Capacity) (count : ℕ) (steps : List Step) (k : ℕ) (step : Step) (before now : Held) (fault : StepFault) → RunSoFar limit count steps k before → slice_get steps k ≡ Some step → IsRefused limit before step now fault → IsFirstWithCause limit count steps k fault
 run_refused limit count steps k step before now fault so_far is refused =
     record {
       cause = λ origins fits.
-        rw is
-        (HasCause-same limit before.contents (known_after (nothing_held count) (slice_get steps) origins k) step (origins k) fault
+          rw is
+          (HasCause-same limit before.contents (known_after (nothing_held count) (slice_get steps) origins k) step (origins k) fault
           (EachSame-sym _ _ (so_far.content origins fits)) (refused.cause (origins k) (fits k step is)));
       none_before = so_far.clear;
     }

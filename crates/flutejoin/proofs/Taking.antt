@@ -1,11 +1,11 @@
 -- A datagram that was taken, or refused and counted.
-use Rattle.std.proofs.Common.{◌≡◌, ◌<◌, ◌≤◌, ◌++◌, ◌↔◌, ◌⊎◌, ℕ, zero, suc, List, [], Option, Some, None, Bool, true, false, cond, Result, Ok, Err, IsOk, refl, sym, ap, subst, ◌∙◌, inl, inr, arith, append-nil}
+use Rattle.std.proofs.Common.{◌≡◌, ◌<◌, ◌++◌, ◌↔◌, ℕ, zero, suc, List, Option, Some, None, true, false, Result, Ok, Err, IsOk, refl, ap, subst, arith, append-nil}
 use Rattle.std.specs.Prelude.{is_none}
 use Rattle.std.specs.List.{AllByRecursion}
 use Rattle.flute_parts.specs.declared.fact.Fact.{Fact}
 use Rattle.flute_parts.specs.Facts.{Same}
 use Rattle.flute_parts.specs.Limits.{Over}
-use Rattle.flute_parts.proofs.Facts.{Same-itself, Same-sym}
+use Rattle.flute_parts.proofs.Facts.{Same-itself}
 use Rattle.flute_parts.proofs.Named.{Over-below}
 use Rattle.flute_parts.proofs.Facts.{Below-from_Same}
 use Rattle.flute_wire.specs.Content.{Content}
@@ -61,7 +61,7 @@ memory_is_packet d result one tells is = is_packet d one (λ r refuses. let e = 
 
 -- a store that took the datagram is within its limits
 pub ok_within : (s o y : ℕ) (old new : List Fact) (d : List ℕ) (result : Result Taken TakeFault) (t : Taken) → result ≡ Ok t → Same new (old ++ facts d)
-  → (result ≡ Err Full) ↔ Over (old ++ facts d) s o y → ¬ Over new s o y
+    → (result ≡ Err Full) ↔ Over (old ++ facts d) s o y → ¬ Over new s o y
 ok_within s o y old new d result t is same full over =
     let e = full.1 (Over-below new (old ++ facts d) s o y (Below-from_Same new (old ++ facts d) same) over) in cc
 
@@ -70,7 +70,7 @@ pub refused_same : (old new : List Fact) (d : List ℕ) (r : Refusal) → Applie
 refused_same old new d r applies same = rw (facts-refused d r applies, append-nil old, same) (Same-itself old)
 
 pub refused_within : (s o y : ℕ) (old new : List Fact) (d : List ℕ) (result : Result Taken TakeFault) (r : Refusal) → Applies r d → new ≡ old → result ≡ Err (Datagram r)
-  → (result ≡ Err Full) ↔ Over (old ++ facts d) s o y → ¬ Over new s o y
+    → (result ≡ Err Full) ↔ Over (old ++ facts d) s o y → ¬ Over new s o y
 refused_within s o y old new d result r applies same is full over =
     let e = full.1 (Over-below new (old ++ facts d) s o y (Below-from_Same new (old ++ facts d) (refused_same old new d r applies same)) over) in cc
 

@@ -15,3 +15,4 @@ pub mod Faults
 pub mod Runs
 pub mod Laws
 pub mod Outputs
+pub mod Blob

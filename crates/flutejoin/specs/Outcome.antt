@@ -1,5 +1,5 @@
 -- What a step leaves, done or refused.
-use Rattle.std.specs.Prelude.{◌≡◌, ◌≢◌, ℕ, ◌<◌, List, [], ◌∷◌, ◌++◌, ⊤, ◌⊎◌, length}
+use Rattle.std.specs.Prelude.{◌≡◌, ◌≢◌, ℕ, ◌<◌, List, ⊤, ◌⊎◌, length}
 use Rattle.std.specs.List.{AllByRecursion}
 use Rattle.flute_parts.specs.declared.fact.Fact.{Fact}
 use Rattle.flute_parts.specs.Facts.{Same, IsRising}

@@ -1,5 +1,5 @@
 -- What a run leaves.
-use Rattle.std.specs.Prelude.{◌≡◌, ◌≢◌, ℕ, ◌<◌, ◌+◌, ◌-◌, ◌^◌, List, [], Bool, true, ⊤, length, slice_get, slice_index, replicate, count_by, Some, IfSome, min}
+use Rattle.std.specs.Prelude.{◌≡◌, ◌≢◌, ℕ, ◌<◌, ◌+◌, ◌-◌, ◌^◌, List, Bool, true, ⊤, length, slice_get, slice_index, replicate, count_by, Some, IfSome, min}
 use Rattle.flute_parts.specs.declared.fact.Fact.{Fact}
 use Rattle.flutejoin.specs.declared.steps.Step.{Step}
 use Rattle.flutejoin.specs.declared.steps.StepFault.{StepFault}
@@ -40,7 +40,7 @@ HasNoCause capacity held step origin = (fault : StepFault) → fault ≢ OutOfMe
 pub record IsFirstWithCause (capacity : Capacity) (count : ℕ) (steps : List Step) (k : ℕ) (fault : StepFault) : Type 0 where
   pub cause : HasCauseAt capacity count steps k fault
   pub none_before : (origins : ℕ → List Fact) → Fits steps origins → (j : ℕ) (step : Step) → j < k → slice_get steps j ≡ Some step
-    → HasNoCause capacity (known_after (nothing_held count) (slice_get steps) origins j) step (origins j)
+      → HasNoCause capacity (known_after (nothing_held count) (slice_get steps) origins j) step (origins j)
 
 -- a run that stopped: for want of memory for the replicas, or at a step with a cause
 abbrev pub IsRunRefused : Capacity → ℕ → List Step → RunFault → Type 0
@@ -56,7 +56,7 @@ pub record IsDriven (before : Held) (steps : List Step) (done : List Bool) (now 
   -- a step that takes no memory, by what was held at first or what the steps done before it gave, was done
   pub sure : (k : ℕ) (step : Step) → slice_get steps k ≡ Some step → NeedsNothing before.contents step → slice_get done k ≡ Some true
   pub sure_since : (origins : ℕ → List Fact) → Fits steps origins → (k : ℕ) (step : Step) → slice_get steps k ≡ Some step
-    → NeedsNothing (known_after before.contents (done_among steps done) origins k) step → slice_get done k ≡ Some true
+      → NeedsNothing (known_after before.contents (done_among steps done) origins k) step → slice_get done k ≡ Some true
   -- each replica has what the steps that were done gave it
   pub least : (origins : ℕ → List Fact) → Fits steps origins → EachBelow (known_of_done before.contents steps done origins) now.contents
   -- and no more than what all steps give it
@@ -65,4 +65,4 @@ pub record IsDriven (before : Held) (steps : List Step) (done : List Bool) (now 
   pub whole : IsRetried steps done → (origins : ℕ → List Fact) → Fits steps origins → EachSame (known before.contents steps origins) now.contents
   -- each refused datagram is counted, in 64 bits that stay at their greatest
   pub refused : (r : ℕ) → r < length before.contents → slice_index before.refused r < 2 ^ 64
-    → slice_index now.refused r ≡ min (slice_index before.refused r + count_by (is_refused_take r) steps) (2 ^ 64 - 1)
+      → slice_index now.refused r ≡ min (slice_index before.refused r + count_by (is_refused_take r) steps) (2 ^ 64 - 1)

@@ -22,7 +22,7 @@ mod steps;
 mod text;
 mod writing;
 
-pub use blob::Blob;
+pub use blob::{Blob, BlobFault};
 pub use command_fault::CommandFault;
 pub use extract::{check_whole, extract_to};
 pub use gaps::gaps_to;

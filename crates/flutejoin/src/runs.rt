@@ -16,10 +16,7 @@ pub enum RunFault {
     Start,
     /// A step was refused. Steps are numbered from 0.
     #[error("step {step}: {fault}")]
-    At {
-        step: usize,
-        fault: StepFault,
-    },
+    At { step: usize, fault: StepFault },
 }
 
 /// Does all the steps in turn on so many new replicas, up to the first that is refused.

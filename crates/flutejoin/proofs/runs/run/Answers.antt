@@ -1,6 +1,5 @@
 -- A run, step by step.
-use Rattle.std.proofs.Common.{◌≡◌, ◌<◌, ◌≤◌, length, refl, arith, Some}
-use Rattle.std.specs.Prelude.{slice_get}
+use Rattle.std.proofs.Common.{refl, arith}
 use Rattle.std.proofs.lemmas.Option.{slice_get_read}
 use Rattle.flutejoin.proofs.Running.{run_start, run_more, run_refused, run_done}
 use Rattle.flutejoin.proofs.runs.run.Goals as goal
@@ -11,13 +10,14 @@ loop-k-init g c = rw c.in-Ok.ensures.empty (run_start _ c.args.count c.args.step
 pub loop-k-preserved : goal.loop-k-preserved
 loop-k-preserved g c =
     run_more _ c.args.count c.args.steps.now c.loop-k.k c.index-steps-k.result c.loop-k.replicas c.step.new.self c.loop-k.invariant
-      (slice_get_read c.args.steps.now _ c.loop-k.k c.index-steps-k.result refl c.loop-k-test.true c.index-steps-k.is) c.in_default-step.ensures.done
+    (slice_get_read c.args.steps.now _ c.loop-k.k c.index-steps-k.result refl c.loop-k-test.true c.index-steps-k.is) c.in_default-step.ensures.done
 
 pub returns-in-Err-clause-refused : goal.returns-in-Err-clause-refused
-returns-in-Err-clause-refused g c =
-    (c.loop-k-test.true,
-    run_refused _ c.args.count c.args.steps.now c.loop-k.k c.index-steps-k.result c.loop-k.replicas c.step.new.self c.in-Err.fault c.loop-k.invariant
-      (slice_get_read c.args.steps.now _ c.loop-k.k c.index-steps-k.result refl c.loop-k-test.true c.index-steps-k.is) c.in-Err.ensures.refused)
+returns-in-Err-clause-refused g c = (
+  c.loop-k-test.true,
+  run_refused _ c.args.count c.args.steps.now c.loop-k.k c.index-steps-k.result c.loop-k.replicas c.step.new.self c.in-Err.fault c.loop-k.invariant
+      (slice_get_read c.args.steps.now _ c.loop-k.k c.index-steps-k.result refl c.loop-k-test.true c.index-steps-k.is) c.in-Err.ensures.refused,
+)
 
 pub returns-clause-done : goal.returns-clause-done
 returns-clause-done g c =

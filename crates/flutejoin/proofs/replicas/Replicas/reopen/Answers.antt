@@ -23,10 +23,10 @@ returns-in_err-store-clause-refused g c =
     let whole = written_whole _ _ _ c.as_slice.result.now c.new-sink.ensures.bytes c.as_slice.ensures c.in-Ok.ensures.bytes in
     rw (refused.1, refused.2, ← c.in_ok-place.ensures.ok.0)
     (not_reopened (capacity g.row.SESSIONS g.row.OBJECTS g.row.SYMBOLS) c.args.self.now c.in_ok-place.place c.index.result.now.store c.as_slice.result.now c.in_err-store.field-0.0
-      (held_at _ _ _ _ _ c.index.result.now c.self.view_is c.in_ok-place.ensures.ok.1 c.index.ensures)
-      (journal_written _ c.as_slice.result.now c.index.result.now.store _ whole refl c.in-Ok.ensures.journal)
-      (fault_known (capacity g.row.SESSIONS g.row.OBJECTS g.row.SYMBOLS) _ _ _ c.in_err-store.field-0.0 c.new-source.ensures.bytes refl c.in_err-store.ensures.fault)
-      (did_not_fail (List Fact) c.in_err-store.field-0.0 _ c.in_err-store.ensures.failures))
+    (held_at _ _ _ _ _ c.index.result.now c.self.view_is c.in_ok-place.ensures.ok.1 c.index.ensures)
+    (journal_written _ c.as_slice.result.now c.index.result.now.store _ whole refl c.in-Ok.ensures.journal)
+    (fault_known (capacity g.row.SESSIONS g.row.OBJECTS g.row.SYMBOLS) _ _ _ c.in_err-store.field-0.0 c.new-source.ensures.bytes refl c.in_err-store.ensures.fault)
+    (did_not_fail (List Fact) c.in_err-store.field-0.0 _ c.in_err-store.ensures.failures))
 
 pub returns-clause-done : goal.returns-clause-done
 returns-clause-done g c =
@@ -34,9 +34,9 @@ returns-clause-done g c =
     let whole = written_whole _ _ _ c.as_slice.result.now c.new-sink.ensures.bytes c.as_slice.ensures c.in-Ok.ensures.bytes in
     rw (← c.in_ok-place.ensures.ok.0, ← c.self.view_is)
     (reopened_done (capacity g.row.SESSIONS g.row.OBJECTS g.row.SYMBOLS) _ _ _ _ c.in_ok-store.store c.as_slice.result.now
-      (changed _ _ c.self.inside.replicas.items c.in_ok-place.place c.index_mut.result.now _ within c.index_mut.ensures.value refl)
-      (journal_written _ c.as_slice.result.now c.index.result.now.store _ whole
-        (ap (λ x. x.store) (same_read c.self.inside.replicas.items c.in_ok-place.place c.index.result.now c.index_mut.result.now within c.index.ensures c.index_mut.ensures.value))
-        c.in-Ok.ensures.journal)
-      (journal_known _ _ c.as_slice.result.now c.in_ok-store.store c.new-source.ensures.bytes refl c.in_ok-store.ensures.journal)
-      c.in_ok-store.ensures.within)
+    (changed _ _ c.self.inside.replicas.items c.in_ok-place.place c.index_mut.result.now _ within c.index_mut.ensures.value refl)
+    (journal_written _ c.as_slice.result.now c.index.result.now.store _ whole
+    (ap (λ x. x.store) (same_read c.self.inside.replicas.items c.in_ok-place.place c.index.result.now c.index_mut.result.now within c.index.ensures c.index_mut.ensures.value))
+    c.in-Ok.ensures.journal)
+    (journal_known _ _ c.as_slice.result.now c.in_ok-store.store c.new-source.ensures.bytes refl c.in_ok-store.ensures.journal)
+    c.in_ok-store.ensures.within)

@@ -15,19 +15,19 @@ pub returns-clause-done : goal.returns-clause-done
 returns-clause-done g c =
     rw (← c.in_ok-place.ensures.ok.0, ← c.as_slice.ensures.bytes, ← c.self.view_is)
     (ok_from_three c.take.result c.take.ensures.content c.take.ensures.counted c.take.ensures.within (λ content counted within.
-      taken_done _ _ c.self.inside.replicas.items c.in_ok-place.place c.index_mut-target.result.now c.take.new.self (capacity g.row.SESSIONS g.row.OBJECTS g.row.SYMBOLS) _
-        (within_items _ _ _ _ _ c.self.view_is c.in_ok-place.ensures.ok.1) c.index_mut-target.ensures.value content counted within))
+    taken_done _ _ c.self.inside.replicas.items c.in_ok-place.place c.index_mut-target.result.now c.take.new.self (capacity g.row.SESSIONS g.row.OBJECTS g.row.SYMBOLS) _
+    (within_items _ _ _ _ _ c.self.view_is c.in_ok-place.ensures.ok.1) c.index_mut-target.ensures.value content counted within))
 
 pub returns-clause-refused : goal.returns-clause-refused
 returns-clause-refused g c =
     rw (← c.in_ok-place.ensures.ok.0, ← c.as_slice.ensures.bytes, ← c.self.view_is)
     (err_from c.take.result c.take.ensures.fault c.take.ensures.err (λ fault cause same.
-      taken_refused (capacity g.row.SESSIONS g.row.OBJECTS g.row.SYMBOLS) _ _ _ _ _ _ _
-        (changed _ _ c.self.inside.replicas.items c.in_ok-place.place c.index_mut-target.result.now _ (within_items _ _ _ _ _ c.self.view_is c.in_ok-place.ensures.ok.1) c.index_mut-target.ensures.value (ap (λ x. x.refused) same))
-        (ap (λ x. x.store) same) cause))
+    taken_refused (capacity g.row.SESSIONS g.row.OBJECTS g.row.SYMBOLS) _ _ _ _ _ _ _
+    (changed _ _ c.self.inside.replicas.items c.in_ok-place.place c.index_mut-target.result.now _ (within_items _ _ _ _ _ c.self.view_is c.in_ok-place.ensures.ok.1) c.index_mut-target.ensures.value (ap (λ x. x.refused) same))
+    (ap (λ x. x.store) same) cause))
 
 pub returns-clause-sure : goal.returns-clause-sure
 returns-clause-sure g c = λ needs.
     c.take.ensures.sure (cells_at c.args.self.now.contents c.args.replica c.in_ok-place.place _ _ _
-      (held_at _ _ _ _ _ c.index_mut-target.result.now c.self.view_is c.in_ok-place.ensures.ok.1 c.index_mut-target.ensures.value)
-      c.in_ok-place.ensures.ok.0 (ap facts c.as_slice.ensures.bytes) needs.1)
+    (held_at _ _ _ _ _ c.index_mut-target.result.now c.self.view_is c.in_ok-place.ensures.ok.1 c.index_mut-target.ensures.value)
+    c.in_ok-place.ensures.ok.0 (ap facts c.as_slice.ensures.bytes) needs.1)
