@@ -14,7 +14,7 @@ use Rattle.flutejoin.proofs.Receptions.{Same-from_journals, Journal-from_within,
 use Rattle.flutejoin.specs.declared.steps.Step.{Step}
 use Rattle.flutejoin.specs.declared.steps.Step.TheVariants.{Take, Load, Add, Merge, Reopen}
 use Rattle.flutejoin.specs.declared.steps.StepFault.{StepFault}
-use Rattle.flutejoin.specs.declared.steps.TheConstants.{MAX_ENTRIES}
+use Rattle.flutejoin.specs.declared.limits.TheConstants.{MAX_ENTRIES}
 use Rattle.flutejoin.specs.Held.{Held, Capacity}
 use Rattle.flutejoin.specs.Steps.{held_by, given_to, held_after, NamesReplicas, LoadsJournal, FitsStep, EachSame, EachBelow}
 use Rattle.flutejoin.specs.Known.{known_after, done_among, held_after_next, if_done, Fits, IsRetried}

@@ -1,5 +1,5 @@
 -- What replicas hold that were given the same.
-use Rattle.std.proofs.Common.{◌≡◌, ℕ, List, Option, sym, subst, ◌∙◌}
+use Rattle.std.proofs.Common.{◌≡◌, ℕ, List, Option, length, sym, ap, subst, ◌∙◌}
 use Rattle.std.specs.Io.KnownBytes.{Appends}
 use Rattle.flute_parts.specs.declared.key.Key.{Key}
 use Rattle.flute_parts.specs.declared.fact.Fact.{Fact}
@@ -72,7 +72,7 @@ module _ {W : Type 0} (written : W → Option (List ℕ)) (F G : List Fact) (key
   pub whole-same : (n : ℕ) → WritesWhole written F key old new n → WritesWhole written G key old new n
   whole-same n h =
       let P : List ℕ → Type 0 = λ bs. Appends (written old) (written new) bs in
-      record { info = h.info; whole = Whole-same F G key h.info same h.whole; bytes = subst P (object-same F G key h.info same) h.bytes; length_is = h.length_is }
+      record { info = h.info; whole = Whole-same F G key h.info same h.whole; bytes = subst P (object-same F G key h.info same) h.bytes; length_is = h.length_is; exact = ap length (sym (object-same F G key h.info same)) ∙ h.exact }
 
   pub extract_fault-same : (f : ExtractFault) → TellsExtractFault written F key old new f → TellsExtractFault written G key old new f
   extract_fault-same NoObject h = ((λ part. sym (same.each (record { key = key; part = part })) ∙ h.0 part), h.1)

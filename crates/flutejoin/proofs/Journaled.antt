@@ -18,7 +18,7 @@ use Rattle.flutejoin.specs.declared.steps.Step.TheVariants.{Load, Reopen}
 use Rattle.flutejoin.specs.declared.steps.StepFault.{StepFault}
 use Rattle.flutejoin.specs.declared.steps.StepFault.TheVariants as step
 use Rattle.flutejoin.specs.declared.steps.StepFault.TheVariants.{Full, OutOfMemory}
-use Rattle.flutejoin.specs.declared.steps.TheConstants.{MAX_ENTRIES}
+use Rattle.flutejoin.specs.declared.limits.TheConstants.{MAX_ENTRIES}
 use Rattle.flutejoin.specs.Faults.{fault_of_read, fault_of_load}
 use Rattle.flutejoin.specs.Held.{Held, Capacity, IsOver}
 use Rattle.flutejoin.specs.Steps.{held_by, FitsStep, EachSame}

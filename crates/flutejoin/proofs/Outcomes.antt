@@ -15,7 +15,7 @@ use Rattle.flutejoin.specs.declared.steps.Step.{Step}
 use Rattle.flutejoin.specs.declared.steps.Step.TheVariants.{Take, Load, Add, Merge, Reopen}
 use Rattle.flutejoin.specs.declared.steps.StepFault.{StepFault}
 use Rattle.flutejoin.specs.declared.steps.StepFault.TheVariants.{NoReplica, Full, OutOfMemory}
-use Rattle.flutejoin.specs.declared.steps.TheConstants.{MAX_ENTRIES}
+use Rattle.flutejoin.specs.declared.limits.TheConstants.{MAX_ENTRIES}
 use Rattle.flutejoin.specs.Faults.{fault_of_join}
 use Rattle.flutejoin.specs.Held.{Held, Capacity, IsOver}
 use Rattle.flutejoin.specs.Steps.{held_by, given_to, held_after, NamesReplicas, target_of, LoadsJournal, FitsStep, EachSame, EachBelow}

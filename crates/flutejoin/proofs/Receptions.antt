@@ -20,7 +20,7 @@ use Rattle.flute_journal.proofs.Passes.{beyond, front-below}
 use Rattle.flutejoin.specs.Held.{Capacity, IsOver}
 use Rattle.flute_journal.specs.Stores.{BeginsWith}
 use Rattle.flutejoin.specs.Outcome.{IsLonger}
-use Rattle.flutejoin.specs.declared.steps.TheConstants.{MAX_ENTRIES}
+use Rattle.flutejoin.specs.declared.limits.TheConstants.{MAX_ENTRIES}
 
 pub Below-left : (F G : List Fact) → Below F (F ++ G)
 Below-left F G =

@@ -6,7 +6,7 @@ use Rattle.flutejoin.specs.declared.steps.StepFault.{StepFault}
 use Rattle.flutejoin.specs.declared.steps.StepFault.TheVariants.{OutOfMemory}
 use Rattle.flutejoin.specs.declared.runs.RunFault.{RunFault}
 use Rattle.flutejoin.specs.declared.runs.RunFault.TheVariants.{Start, At}
-use Rattle.flutejoin.specs.declared.steps.TheConstants.{MAX_ENTRIES}
+use Rattle.flutejoin.specs.declared.limits.TheConstants.{MAX_ENTRIES}
 use Rattle.flutejoin.specs.Held.{Held, Capacity}
 use Rattle.flutejoin.specs.Steps.{NamesReplicas, LoadsJournal, EachSame, EachBelow}
 use Rattle.flutejoin.specs.Known.{nothing_held, known, known_after, known_of_done, done_among, Fits, IsRetried}

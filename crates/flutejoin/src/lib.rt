@@ -1,4 +1,5 @@
-//! The commands of the program `flutejoin`, each over any sink, and its command line.
+//! Replicas of a store and the steps that they take, the commands of the program `flutejoin`, each over any source and
+//! sink, and its command line.
 #![tactic(auto)]
 
 mod blob;
@@ -6,8 +7,8 @@ mod command_fault;
 mod extract;
 mod gaps;
 mod hex_digits;
-mod limits;
 pub mod laws;
+mod limits;
 mod line;
 mod lines;
 mod loading;
@@ -15,9 +16,9 @@ mod numbers;
 mod outputs;
 mod packet;
 mod parser;
-mod show;
 mod replicas;
 mod runs;
+mod show;
 mod steps;
 mod text;
 mod writing;
@@ -31,11 +32,11 @@ pub use line::{Line, line_of};
 pub use loading::load;
 pub use outputs::{OutputFault, journal_after, object_after};
 pub use packet::packet_to;
-pub use show::show_to;
-pub use writing::count_to;
 pub use replicas::Replicas;
 pub use runs::{RunFault, run};
-pub use steps::{MAX_ENTRIES, Step, StepFault};
+pub use show::show_to;
+pub use steps::{Step, StepFault};
+pub use writing::count_to;
 
 #[cfg(test)]
 mod tests;

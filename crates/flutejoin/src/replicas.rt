@@ -16,7 +16,8 @@ ghost use Rattle.flutejoin.specs.declared.steps.StepFault.TheVariants as faults;
 ghost use Rattle.flute_join.specs.declared.refusal.JoinRefusal.TheVariants as refusals;
 
 use crate::blob::Blob;
-use crate::steps::{MAX_ENTRIES, Step, StepFault};
+use crate::limits::MAX_ENTRIES;
+use crate::steps::{Step, StepFault};
 use flute_join::JoinRefusal;
 use flute_journal::{read_store, write_store};
 use flute_parts::{Fact, MemorySink, MemorySource};

@@ -7,9 +7,6 @@ use flute_parts::Fact;
 use flute_wire::Datagram;
 use thiserror::Error;
 
-/// The most entries of a journal that a step reads.
-pub const MAX_ENTRIES: u64 = 16_777_216;
-
 /// One thing that is done to replicas. Replicas are numbered from 0.
 #[derive(Debug, Drop)]
 pub enum Step {
