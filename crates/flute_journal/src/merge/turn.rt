@@ -25,14 +25,14 @@ pub fn lower<'a>(
         (Some(first), Some(second)) => {
             let order = first.address().cmp(&second.address());
             let fact = match order {
-                Ordering::Less => borrowed(first),
+                Ordering::Less => first.as_ref(),
                 Ordering::Equal => joined(first, second),
-                Ordering::Greater => borrowed(second),
+                Ordering::Greater => second.as_ref(),
             };
             Some((order, fact))
         }
-        (Some(first), None) => Some((Ordering::Less, borrowed(first))),
-        (None, Some(second)) => Some((Ordering::Greater, borrowed(second))),
+        (Some(first), None) => Some((Ordering::Less, first.as_ref())),
+        (None, Some(second)) => Some((Ordering::Greater, second.as_ref())),
         (None, None) => None,
     }
 }
@@ -43,31 +43,12 @@ fn joined<'a>(first: &'a Fact, second: &'a Fact) -> FactRef<'a>
     ensures { fact_at (first.now ∷ second.now ∷ []) (address first.now) ≡ Some (fact_of result) }
 {
     if first == second {
-        return borrowed(first);
+        return first.as_ref();
     }
     let Address { key, part } = first.address();
     match part {
         Part::Info => FactRef::InfoConflict { key },
         Part::Symbol(id) => FactRef::SymbolConflict { key, id },
-    }
-}
-
-// The same fact, with its bytes borrowed.
-fn borrowed(fact: &Fact) -> FactRef<'_>
-    ensures { fact_of result ≡ fact.now }
-{
-    match fact {
-        Fact::Info { key, info } => FactRef::Info {
-            key: *key,
-            info: *info,
-        },
-        Fact::InfoConflict { key } => FactRef::InfoConflict { key: *key },
-        Fact::Symbol { key, id, bytes } => FactRef::Symbol {
-            key: *key,
-            id: *id,
-            bytes: bytes.as_slice(),
-        },
-        Fact::SymbolConflict { key, id } => FactRef::SymbolConflict { key: *key, id: *id },
     }
 }
 

@@ -7,7 +7,7 @@ use Rattle.flute_journal.proofs.merge.turn.joined.Goals as goal
 pub returns-then-eq : goal.returns-then-eq
 returns-then-eq c =
     let e : same_fact c.args.first.now c.args.second.now ≡ true = search rules in
-    two_alike c.args.first.now c.args.second.now c.requires e ∙ ap Some (sym c.borrowed.ensures)
+    two_alike c.args.first.now c.args.second.now c.requires e ∙ ap Some (sym c.as_ref.ensures)
 
 pub returns-in-Info : goal.returns-in-Info
 returns-in-Info c =
