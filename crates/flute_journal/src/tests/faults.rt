@@ -215,7 +215,8 @@ fn journals_that_end_early(rt: HostRuntime) -> Result<(), Fail> {
     Ok(())
 }
 
-fn is_shown<T: Display>(rt: &HostRuntime, shown: &T, text: &str) -> Result<bool, Fail> {
+/// Whether a fault is told with this text.
+pub fn is_shown<T: Display>(rt: &HostRuntime, shown: &T, text: &str) -> Result<bool, Fail> {
     Ok(format!(in rt.alloc(); "{shown}")?.as_str() == text)
 }
 

@@ -1,12 +1,12 @@
 //! Journals merged as streams: in any pieces, with inputs that are none, and with devices that fail.
 
+use super::faults::is_shown;
 use super::vectors::{
     CONFLICT, END_3, END_4, HEADER, HELL, INFO, JOINED, KEY, LETTER_O, LETTER_X, NOTHING, OTHERS,
     PADDED_O, WHOLE, bytes,
 };
 use super::*;
 use flute_parts::{MemorySink, MemorySource, ShortSink, ShortSource};
-use std::fmt::Display;
 
 /// The symbol conflict of the whole file and the other symbols, behind its key.
 const LAST: &str = "0000 0001";
@@ -250,10 +250,6 @@ fn merges_know_no_limits_of_a_store(rt: HostRuntime) -> Result<(), Fail> {
         assert_eq!(rt; sink.as_slice(), all.as_slice());
     }
     Ok(())
-}
-
-fn is_shown<T: Display>(rt: &HostRuntime, shown: &T, text: &str) -> Result<bool, Fail> {
-    Ok(format!(in rt.alloc(); "{shown}")?.as_str() == text)
 }
 
 #[test]
