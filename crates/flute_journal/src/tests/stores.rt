@@ -6,6 +6,7 @@ use super::vectors::{
 };
 use super::*;
 use flute_parts::{MemorySink, MemorySource, ShortSink};
+use flute_store::Shelf;
 use std::alloc::Global;
 
 /// A new store that took these datagrams.
@@ -43,6 +44,18 @@ fn stores_are_written(rt: HostRuntime) -> Result<(), Fail> {
         let store = taken(alloc, datagrams)?;
         assert!(rt; is_written(alloc, &store, journal, *entries)?, "{number}");
     }
+    Ok(())
+}
+
+/// A new store of the program's size.
+#[test]
+fn a_new_store_is_written(rt: HostRuntime) -> Result<(), Fail> {
+    let mut sink = MemorySink::new(rt.alloc());
+    assert_eq!(rt; write_store(&Shelf::new(rt.alloc()), &mut sink)?, 0);
+    let journal = bytes(rt.alloc(), vectors::NOTHING)?;
+    assert_eq!(rt; sink.as_slice(), journal.as_slice());
+    let shelf: Shelf = read_store(rt.alloc(), &mut MemorySource::new(&journal), 0)?;
+    assert!(rt; shelf.walk().next().is_none());
     Ok(())
 }
 
