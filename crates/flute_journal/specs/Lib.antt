@@ -14,3 +14,4 @@ pub mod Whole
 pub mod Stores
 pub mod MergeTurns
 pub mod Merges
+pub mod RecordExamples

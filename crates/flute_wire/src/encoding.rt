@@ -5,9 +5,10 @@ ghost use Rattle.std.specs.Option.{option_map};
 ghost use Rattle.byteorder.specs.Endian.{big_bytes};
 ghost use Rattle.flute_parts.specs.ObjectName.{IsObjectName, instance_of};
 ghost use Rattle.flute_wire.specs.Outgoing.{said};
-ghost use Rattle.flute_wire.specs.Writing.{spelling, fdt_bytes, fti_bytes, symbol_bytes, words_to_write, write_fault};
+ghost use Rattle.flute_wire.specs.Writing.{spelling, word_bytes, fdt_bytes, fti_bytes, symbol_bytes, words_to_write, write_fault};
 ghost use Rattle.flute_wire.specs.Encoding.{HasFittingId, HasFittingInformation, IsEncodable};
 
+use crate::extensions::{EXT_FDT, EXT_FTI};
 use crate::writing::Outgoing;
 use byteorder::{BigEndian, ByteOrder};
 use flute_parts::{Info, Key, SymbolId};
@@ -20,20 +21,22 @@ const FIRST_BYTES: [u8; 2] = [0x10, 0xA0];
 /// FLUTE's version 2, above the 20 bits of the FDT Instance ID (RFC 6726, section 3.4.1).
 const FLUTE_VERSION: u32 = 2 << 20;
 
-fn put_u16(out: &mut Vec<u8>, number: u16) -> Result<(), AllocError>
-    ensures { OnOk result (out.new.items ≡ out.old.items ++ big_bytes 2 number) }
-{
-    let mut bytes = [0; 2];
-    BigEndian::write_u16(&mut bytes, number);
-    out.extend_from_slice(&bytes)
-}
+/// The 32-bit words of EXT_FTI (RFC 5445, section 3.2.2.2).
+const FTI_WORDS: u8 = 4;
 
-fn put_u32(out: &mut Vec<u8>, number: u32) -> Result<(), AllocError>
-    ensures { OnOk result (out.new.items ≡ out.old.items ++ big_bytes 4 number) }
+/// The bytes of the FEC Payload ID (RFC 5445, section 3.2.1).
+pub const PAYLOAD_ID_LEN: usize = 4;
+
+/// The header up to its extensions, with so many words in all: the congestion control information is 0.
+fn fixed_fields(words: u8, tsi: u32, toi: u32) -> [u8; 16]
+    ensures { result ≡ word_bytes words ++ (big_bytes 4 0 ++ (big_bytes 4 tsi ++ big_bytes 4 toi)) }
 {
-    let mut bytes = [0; 4];
-    BigEndian::write_u32(&mut bytes, number);
-    out.extend_from_slice(&bytes)
+    let mut bytes = [0; 16];
+    bytes[..2].copy_from_slice(&FIRST_BYTES);
+    bytes[2] = words;
+    BigEndian::write_u32(&mut bytes[8..12], tsi);
+    BigEndian::write_u32(&mut bytes[12..], toi);
+    bytes
 }
 
 /// Appends EXT_FDT, where the object is an FDT Instance.
@@ -42,7 +45,7 @@ fn put_fdt(out: &mut Vec<u8>, key: &Key) -> Result<(), AllocError>
     ensures fits { OnOk result (IsObjectName key.now.object) }
 {
     if let Some(instance) = key.object.instance() {
-        let mut bytes = [192, 0, 0, 0];
+        let mut bytes = [EXT_FDT, 0, 0, 0];
         BigEndian::write_u24(&mut bytes[1..], FLUTE_VERSION + instance);
         out.extend_from_slice(&bytes)?;
     }
@@ -55,8 +58,8 @@ fn fti_of(info: &Info) -> [u8; 16]
     ensures fits { HasFittingInformation (Some info.now) }
 {
     let mut bytes = [0; 16];
-    bytes[0] = 64;
-    bytes[1] = 4;
+    bytes[0] = EXT_FTI;
+    bytes[1] = FTI_WORDS;
     BigEndian::write_u48(&mut bytes[2..8], info.length());
     BigEndian::write_u16(&mut bytes[10..12], info.symbol());
     BigEndian::write_u32(&mut bytes[12..], info.block());
@@ -74,14 +77,23 @@ fn put_fti(out: &mut Vec<u8>, info: Option<Info>) -> Result<(), AllocError>
     }
 }
 
+/// The FEC Payload ID.
+fn payload_id(id: SymbolId) -> [u8; PAYLOAD_ID_LEN]
+    ensures { result ≡ big_bytes 2 id.sbn ++ big_bytes 2 id.esi }
+{
+    let mut bytes = [0; PAYLOAD_ID_LEN];
+    BigEndian::write_u16(&mut bytes[..2], id.sbn);
+    BigEndian::write_u16(&mut bytes[2..], id.esi);
+    bytes
+}
+
 /// Appends the FEC Payload ID and the bytes of the symbol, where there is one.
 fn put_symbol(out: &mut Vec<u8>, symbol: Option<(SymbolId, &[u8])>) -> Result<(), AllocError>
     ensures bytes { OnOk result (out.new.items ≡ out.old.items ++ symbol_bytes (option_map (λ s. (s.0, s.1.now)) symbol.entry)) }
     ensures fits { OnOk result (HasFittingId (option_map (λ s. (s.0, s.1.now)) symbol.entry)) }
 {
     if let Some((id, bytes)) = symbol {
-        put_u16(out, id.sbn)?;
-        put_u16(out, id.esi)?;
+        out.extend_from_slice(&payload_id(id))?;
         out.extend_from_slice(bytes)?;
     }
     Ok(())
@@ -95,15 +107,13 @@ pub fn bytes_of(alloc: Global, outgoing: &Outgoing<'_>, words: u8) -> Result<Vec
     ensures fits { OnOk result (IsEncodable (said outgoing.now)) }
 {
     let payload_len = match outgoing.symbol {
-        Some((_, bytes)) => 4 + bytes.len(),
+        Some((_, bytes)) => PAYLOAD_ID_LEN + bytes.len(),
         None => 0,
     };
+    let tsi = outgoing.key.session.tsi() as u32;
+    let toi = outgoing.key.object.toi() as u32;
     let mut out = Vec::with_capacity(alloc, 4 * usize::from(words) + payload_len)?;
-    out.extend_from_slice(&FIRST_BYTES)?;
-    out.extend_from_slice(&[words, 0])?;
-    put_u32(&mut out, 0)?;
-    put_u32(&mut out, outgoing.key.session.tsi() as u32)?;
-    put_u32(&mut out, outgoing.key.object.toi() as u32)?;
+    out.extend_from_slice(&fixed_fields(words, tsi, toi))?;
     put_fdt(&mut out, &outgoing.key)?;
     put_fti(&mut out, outgoing.info)?;
     put_symbol(&mut out, outgoing.symbol)?;

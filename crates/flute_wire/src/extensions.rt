@@ -8,10 +8,10 @@ ghost use Rattle.flute_wire.specs.Walk.{extension_of, Finds, Occurs, RefusesArea
 use crate::refusal::Refusal;
 
 /// The type of the extension with transmission information (RFC 5775, section 4.2).
-const EXT_FTI: u8 = 64;
+pub const EXT_FTI: u8 = 64;
 
 /// The type of the extension with the FDT Instance ID (RFC 6726, section 3.4.1).
-const EXT_FDT: u8 = 192;
+pub const EXT_FDT: u8 = 192;
 
 /// The type of the extension with the content encoding of an FDT Instance (RFC 6726, section 3.4.3).
 const EXT_CENC: u8 = 193;

@@ -7,7 +7,7 @@ ghost use Rattle.flute_wire.specs.Writing.{IsWritten, told, words_to_write, writ
 ghost use Rattle.flute_wire.specs.declared.writing.WriteFault.TheVariants as faults;
 
 use crate::datagram::{Datagram, MAX_LEN};
-use crate::encoding::bytes_of;
+use crate::encoding::{PAYLOAD_ID_LEN, bytes_of};
 use flute_parts::{Info, Key, SymbolId};
 use std::alloc::{AllocError, Global};
 use thiserror::Error;
@@ -16,8 +16,11 @@ use thiserror::Error;
 /// bytes if there is one.
 #[derive(Clone, Copy, Debug)]
 pub struct Outgoing<'a> {
+    /// The session and the object in it.
     pub key: Key,
+    /// What EXT_FTI is to tell.
     pub info: Option<Info>,
+    /// The source block number and the encoding symbol ID, and the bytes of the symbol, at least one.
     pub symbol: Option<(SymbolId, &'a [u8])>,
 }
 
@@ -65,7 +68,7 @@ pub fn header_words(outgoing: &Outgoing<'_>) -> Result<u8, WriteFault>
         if bytes.is_empty() {
             return Err(WriteFault::EmptySymbol);
         }
-        if bytes.len() > MAX_LEN - 4 - 4 * usize::from(words) {
+        if bytes.len() > MAX_LEN - 4 * usize::from(words) - PAYLOAD_ID_LEN {
             return Err(WriteFault::TooLong);
         }
     }
