@@ -91,18 +91,20 @@ fn faults(rt: HostRuntime) -> Result<(), Fail> {
 /// The longest symbol that a datagram of an FDT Instance has room for.
 #[test]
 fn longest(rt: HostRuntime) -> Result<(), Fail> {
-    let content = vec![in rt.alloc(); 7; 65_500]?;
     let too_long = Some(CarouselFault::Write(WriteFault::TooLong));
+    let content = vec![in rt.alloc(); 7; 65_500]?;
     let info = Info::new(65_500, 65_500, 1)?;
     let sent = carousel(rt.alloc(), &file(&rt, 7, 1), &info, &content);
     assert_eq!(rt; sent.err(), too_long);
+    let content = vec![in rt.alloc(); 7; 65_495]?;
     let info = Info::new(65_495, 65_495, 1)?;
-    let sent = carousel(rt.alloc(), &fdt(&rt, 3), &info, &content[..65_495])?;
+    let sent = carousel(rt.alloc(), &fdt(&rt, 7, 3), &info, &content)?;
     assert_eq!(rt; sent.len(), 1);
     let datagram = sent.get(0).expect(&rt, "a datagram");
     assert_eq!(rt; datagram.as_slice().len(), 65_535);
+    let content = vec![in rt.alloc(); 7; 65_496]?;
     let info = Info::new(65_496, 65_496, 1)?;
-    let sent = carousel(rt.alloc(), &fdt(&rt, 3), &info, &content[..65_496]);
+    let sent = carousel(rt.alloc(), &fdt(&rt, 7, 3), &info, &content);
     assert_eq!(rt; sent.err(), too_long);
     Ok(())
 }
