@@ -14,3 +14,4 @@ mod Blobs
 mod Given
 mod Running
 mod Driving
+mod Refused

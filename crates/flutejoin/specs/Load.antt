@@ -13,3 +13,9 @@ LoadFails input (Input number fault) = (number ≡ 1) × HasFault max_entries in
 LoadFails input Full = IfSome input (BeginsOver 64 4096 1048576 max_entries)
 LoadFails input OutOfMemory = ⊤
 LoadFails input _ = ⊥
+
+-- a store has no room, or there is no memory
+abbrev pub IsRefusal : CommandFault → Type 0
+IsRefusal Full = ⊤
+IsRefusal OutOfMemory = ⊤
+IsRefusal _ = ⊥

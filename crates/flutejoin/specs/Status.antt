@@ -1,7 +1,7 @@
 -- The program's status after a fault.
 use Rattle.std.specs.Prelude.{ℕ, ⊤}
 use Rattle.flutejoin.specs.declared.command_fault.CommandFault.{CommandFault}
-use Rattle.flutejoin.specs.declared.command_fault.CommandFault.TheVariants.{CommandLine, NotText, BadNumber, BadKey, BadHex, Refused, CannotOpen, Input, Full, NoObject, NoInformation, ConflictingInformation, NotWhole, OutOfMemory, CannotCreate, CannotWrite}
+use Rattle.flutejoin.specs.declared.command_fault.CommandFault.TheVariants.{CommandLine, NotText, BadNumber, BadKey, BadInformation, BadHex, Refused, CannotOpen, Input, Full, NoObject, NoInformation, ConflictingInformation, NotWhole, OutOfMemory, CannotCreate, CannotWrite}
 use Rattle.flute_journal.specs.declared.fault.ReadFault.{ReadFault}
 use Rattle.flute_journal.specs.declared.fault.ReadFault.TheVariants as faults
 
@@ -17,6 +17,7 @@ status_of (CommandLine text) = 2
 status_of NotText = 2
 status_of (BadNumber option) = 2
 status_of BadKey = 2
+status_of (BadInformation fault) = 1
 status_of BadHex = 1
 status_of (Refused refusal) = 1
 status_of (CannotOpen number) = 3

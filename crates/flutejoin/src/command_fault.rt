@@ -2,6 +2,7 @@
 ghost use Rattle.std.specs.Prelude.{◌≡◌, Ok, Err, MatchResult};
 
 use flute_journal::ReadFault;
+use flute_parts::InfoFault;
 use flute_wire::Refusal;
 use thiserror::Error;
 
@@ -21,6 +22,9 @@ pub enum CommandFault {
     /// The TOI is 0 and no FDT Instance is named, or it is another and one is.
     #[error("bad key")]
     BadKey,
+    /// Numbers are no transmission information.
+    #[error("bad information: {0}")]
+    BadInformation(InfoFault),
     /// The text is not an even number of hexadecimal digits.
     #[error("bad hex")]
     BadHex,
@@ -70,6 +74,7 @@ impl CommandFault {
     {
         match self {
             CommandFault::BadHex | CommandFault::Refused(_) | CommandFault::Full => 1,
+            CommandFault::BadInformation(_) => 1,
             CommandFault::NoObject | CommandFault::NoInformation => 1,
             CommandFault::ConflictingInformation | CommandFault::NotWhole { .. } => 1,
             CommandFault::CommandLine(_) | CommandFault::NotText => 2,

@@ -3,7 +3,7 @@ ghost use Rattle.std.specs.Prelude.{IfErr};
 ghost use Rattle.flutejoin.specs.Status.{IsLineFault};
 
 use crate::command_fault::CommandFault;
-use crate::numbers::key_of;
+use crate::numbers::{key_numbers, number_below};
 use crate::parser::command;
 use clap::ArgMatches;
 use clap::error::ErrorKind;
@@ -14,13 +14,32 @@ use std::alloc::Global;
 #[derive(Debug, Drop, PartialEq, Eq)]
 pub enum Line<'a> {
     /// Print what the datagram `hex` says.
-    Packet { hex: &'a str },
+    Packet {
+        hex: &'a str,
+    },
     /// Print the entries of the journal `j`.
-    Show { j: &'a str },
+    Show {
+        j: &'a str,
+    },
     /// Print how much of each object the journal `j` has, and what is missing.
-    Gaps { j: &'a str },
+    Gaps {
+        j: &'a str,
+    },
     /// Write the object `key` of the journal `j` to the file `out`.
-    Extract { out: &'a str, key: Key, j: &'a str },
+    Extract {
+        out: &'a str,
+        key: Key,
+        j: &'a str,
+    },
+    /// Write the journal `j` with this information of the object `key` added to the file `out`.
+    Info {
+        out: &'a str,
+        key: Key,
+        length: u64,
+        symbol: u16,
+        block: u32,
+        j: &'a str,
+    },
 }
 
 /// Reads the words after the program's name.
@@ -28,7 +47,7 @@ pub enum Line<'a> {
 /// # Errors
 ///
 /// `CommandLine` with the parser's text where that refuses the words, or where they ask for help or the version;
-/// `BadNumber` with the first option, in the order `--tsi`, `--toi`, `--fdt`, that is not a number of its range; `BadKey`
+/// `BadNumber` with the first option, in the order `--tsi`, `--toi`, `--fdt`, `--length`, `--symbol`, `--block`, that is not a number of its range; `BadKey`
 /// where `--fdt` does not go with `--toi`; and `OutOfMemory`.
 pub fn line_of(alloc: Global, words: &[String]) -> Result<Line<'_>, CommandFault>
     ensures { IfErr result IsLineFault }
@@ -46,6 +65,7 @@ pub fn line_of(alloc: Global, words: &[String]) -> Result<Line<'_>, CommandFault
             j: text(matches, "J"),
         }),
         Some(("extract", matches)) => extract_of(matches),
+        Some(("info", matches)) => info_of(matches),
         // The parser takes no line without a command, and no other command.
         _ => Err(CommandFault::OutOfMemory),
     }
@@ -56,7 +76,24 @@ fn extract_of<'a>(matches: &ArgMatches<'a>) -> Result<Line<'a>, CommandFault>
 {
     Ok(Line::Extract {
         out: text(matches, "OUT"),
-        key: key_of(matches)?,
+        key: key_numbers(matches)?.key()?,
+        j: text(matches, "J"),
+    })
+}
+
+fn info_of<'a>(matches: &ArgMatches<'a>) -> Result<Line<'a>, CommandFault>
+    ensures { IfErr result IsLineFault }
+{
+    let numbers = key_numbers(matches)?;
+    let length = number_below(matches, "length", 1 << 64)? as u64;
+    let symbol = number_below(matches, "symbol", 1 << 16)? as u16;
+    let block = number_below(matches, "block", 1 << 32)? as u32;
+    Ok(Line::Info {
+        out: text(matches, "OUT"),
+        key: numbers.key()?,
+        length,
+        symbol,
+        block,
         j: text(matches, "J"),
     })
 }

@@ -6,34 +6,68 @@ use crate::command_fault::CommandFault;
 use clap::ArgMatches;
 use flute_parts::{Key, ObjectKey, SessionKey};
 
-/// The object that `--tsi`, `--toi` and `--fdt` name.
+/// The numbers that name an object, each within its range.
+#[derive(Clone, Copy, Drop)]
+pub struct KeyNumbers {
+    session: SessionKey,
+    toi: u128,
+    instance: Option<u32>,
+}
+
+impl KeyNumbers {
+    /// The object that they name.
+    ///
+    /// # Errors
+    ///
+    /// `BadKey` where the TOI is 0 and no FDT Instance is named, or is another and one is.
+    pub fn key(&self) -> Result<Key, CommandFault>
+        ensures { IfErr result IsLineFault }
+    {
+        let object = match self.instance {
+            Some(instance) if self.toi == 0 => ObjectKey::fdt(instance),
+            Some(_) => None,
+            None => ObjectKey::file(self.toi),
+        };
+        match object {
+            Some(object) => Ok(Key {
+                session: self.session,
+                object,
+            }),
+            None => Err(CommandFault::BadKey),
+        }
+    }
+}
+
+/// The numbers of `--tsi`, `--toi` and `--fdt`.
 ///
 /// # Errors
 ///
-/// `BadNumber` with the first of them, in this order, that is not a number of its range; and then `BadKey` where the
-/// TOI is 0 and no FDT Instance is named, or is another and one is.
-pub fn key_of(matches: &ArgMatches<'_>) -> Result<Key, CommandFault>
+/// `BadNumber` with the first of them, in this order, that is not a number of its range.
+pub fn key_numbers(matches: &ArgMatches<'_>) -> Result<KeyNumbers, CommandFault>
     ensures { IfErr result IsLineFault }
 {
     let tsi = number_below(matches, "tsi", 1 << 48)? as u64;
+    let Some(session) = SessionKey::new(tsi) else {
+        return Err(CommandFault::BadNumber("tsi"));
+    };
     let toi = number_below(matches, "toi", 1 << 112)?;
     let instance = match matches.get_str("fdt") {
         Some(_) => Some(number_below(matches, "fdt", 1 << 20)? as u32),
         None => None,
     };
-    let object = match instance {
-        Some(instance) if toi == 0 => ObjectKey::fdt(instance),
-        Some(_) => None,
-        None => ObjectKey::file(toi),
-    };
-    match (SessionKey::new(tsi), object) {
-        (Some(session), Some(object)) => Ok(Key { session, object }),
-        _ => Err(CommandFault::BadKey),
-    }
+    Ok(KeyNumbers {
+        session,
+        toi,
+        instance,
+    })
 }
 
-// The number of the option with this name, which has to be below the limit.
-fn number_below(
+/// The number of the option with this name.
+///
+/// # Errors
+///
+/// `BadNumber` where it is not 1 to 39 decimal digits, or not below the limit.
+pub fn number_below(
     matches: &ArgMatches<'_>,
     name: &'static str,
     limit: u128,

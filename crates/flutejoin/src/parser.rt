@@ -21,7 +21,8 @@ pub fn command<'a>(alloc: Global) -> Result<Command<'a>, clap::Error> {
         .subcommand(packet_command(alloc)?)?
         .subcommand(show_command(alloc)?)?
         .subcommand(gaps_command(alloc)?)?
-        .subcommand(extract_command(alloc)?)?;
+        .subcommand(extract_command(alloc)?)?
+        .subcommand(info_command(alloc)?)?;
     Ok(command)
 }
 
@@ -57,6 +58,35 @@ fn extract_command<'a>(alloc: Global) -> Result<Command<'a>, clap::Error> {
         .arg(instance(alloc))?
         .arg(journal(alloc))?;
     Ok(command)
+}
+
+fn info_command<'a>(alloc: Global) -> Result<Command<'a>, clap::Error> {
+    let length = number(alloc, "length")
+        .required(true)
+        .help("The transfer length: how many bytes the object has");
+    let command = Command::new(alloc, "info")
+        .about("Writes a journal with an object's transmission information added")
+        .arg(output(alloc))?
+        .arg(session(alloc))?
+        .arg(object(alloc))?
+        .arg(instance(alloc))?
+        .arg(length)?
+        .arg(symbol(alloc))?
+        .arg(block(alloc))?
+        .arg(journal(alloc))?;
+    Ok(command)
+}
+
+fn symbol<'a>(alloc: Global) -> Arg<'a> {
+    number(alloc, "symbol")
+        .required(true)
+        .help("The encoding symbol length, in bytes")
+}
+
+fn block<'a>(alloc: Global) -> Arg<'a> {
+    number(alloc, "block")
+        .required(true)
+        .help("The maximum source block length, in symbols")
 }
 
 fn journal<'a>(alloc: Global) -> Arg<'a> {

@@ -3,10 +3,10 @@
 
 ghost use Rattle.std.specs.Prelude.{◌≤◌, length};
 
-use flute_parts::{Key, StdSink, StdSource};
+use flute_parts::{Info, Key, StdSink, StdSource};
 use flute_store::Shelf;
 use flutejoin::{
-    CommandFault, Line, check_whole, count_to, extract_to, gaps_to, line_of, load, packet_to,
+    CommandFault, Line, add_info, check_whole, count_to, extract_to, gaps_to, line_of, load, packet_to,
     show_to,
 };
 use std::env;
@@ -41,6 +41,17 @@ fn run(rt: &HostRuntime) -> Result<(), CommandFault> {
         Line::Show { j } => show(rt, j),
         Line::Gaps { j } => gaps(rt, j),
         Line::Extract { out, key, j } => extract(rt, out, &key, j),
+        Line::Info {
+            out,
+            key,
+            length,
+            symbol,
+            block,
+            j,
+        } => {
+            let info = Info::new(length, symbol, block).map_err(CommandFault::BadInformation)?;
+            add_information(rt, out, key, info, j)
+        }
     }
 }
 
@@ -93,6 +104,21 @@ fn extract(rt: &HostRuntime, out: &str, key: &Key, j: &str) -> Result<(), Comman
     let bytes = extract_to(&shelf, key, &mut file)?;
     file.flush().map_err(|_| CommandFault::CannotWrite)?;
     tell_count(rt, "bytes", bytes)
+}
+
+fn add_information(
+    rt: &HostRuntime,
+    out: &str,
+    key: Key,
+    info: Info,
+    j: &str,
+) -> Result<(), CommandFault> {
+    let mut shelf = loaded(rt, j)?;
+    add_info(rt.alloc(), &mut shelf, key, info)?;
+    let mut file = output_file(rt, out)?;
+    let entries = save_to(&shelf, &mut file)?;
+    file.flush().map_err(|_| CommandFault::CannotWrite)?;
+    tell_count(rt, "entries", entries)
 }
 
 /// Prints the one line of a word and a number.
