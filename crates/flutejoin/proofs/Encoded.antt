@@ -1,6 +1,5 @@
 -- The digits of bytes, some after others.
-use Rattle.std.proofs.Common.{◌≡◌, ℕ, ◌*◌, ◌≤◌, length, arith, List, [], ◌∷◌, ◌++◌, Option, Result, Ok, Err, refl, sym, ap, subst, ◌∙◌, take, drop, append_assoc, slice_index, ◌/◌, ◌%◌}
-use Rattle.std.specs.Prelude.{OnOk}
+use Rattle.std.proofs.Common.{◌≡◌, ℕ, zero, suc, ◌+◌, ◌*◌, ◌<◌, ◌≤◌, length, arith, List, [], ◌∷◌, ◌++◌, Option, refl, sym, ap, subst, ◌∙◌, take, drop, append_assoc, slice_index, ◌/◌, ◌%◌}
 use Rattle.std.specs.Io.KnownBytes.{Appends}
 use Rattle.std.proofs.KnownBytes.{Appends-trans}
 use Rattle.std.proofs.lemmas.List.{take-append-drop, append-nil, length-append, length-drop}
@@ -49,12 +48,22 @@ digits_all bytes front rest old new is none done =
     let same : front ≡ bytes = sym (is ∙ ap (λ (x : List ℕ). front ++ x) none ∙ append-nil front) in
     subst (λ (x : List ℕ). Appends old new (encode_lower x)) same done
 
-pub written_ok : {E : Type 0} (r : Result Unit E) (P : Type 0) (u : Unit) → r ≡ Ok u → OnOk r P → P
-written_ok (Ok x) P u e h = h
-written_ok (Err x) P u e h = absurd cc
-
 -- the buffer for digits keeps its length
 pub room_kept : (piece digits room : List ℕ) → digits ≡ encode_lower piece → 2 * length piece ≤ length room → length (digits ++ drop (2 * length piece) room) ≡ length room
 room_kept piece digits room is fits =
     let len : length digits ≡ 2 * length piece = ap length is ∙ length-encode_with lower_digits piece in
     omega (arith, length-append digits (drop (2 * length piece) room), length-drop (2 * length piece) room, len)
+
+-- where the digits of one byte stand
+pub encode_at : (t xs : List ℕ) (k : ℕ) → k < length xs
+    → (slice_index (encode_with t xs) (2 * k) ≡ slice_index t (slice_index xs k / 16)) × (slice_index (encode_with t xs) (2 * k + 1) ≡ slice_index t (slice_index xs k % 16))
+unfolding encode_with
+encode_at t [] k h = absurd (omega arith)
+encode_at t (x ∷ xs) zero h = (refl, refl)
+encode_at t (x ∷ xs) (suc k) h =
+    let ih = encode_at t xs k (omega arith) in
+    let two : 2 * suc k ≡ suc (suc (2 * k)) = omega arith in
+    let three : 2 * suc k + 1 ≡ suc (suc (2 * k + 1)) = omega arith in (
+      ap (λ n. slice_index (slice_index t (x / 16) ∷ slice_index t (x % 16) ∷ encode_with t xs) n) two ∙ ih.0,
+      ap (λ n. slice_index (slice_index t (x / 16) ∷ slice_index t (x % 16) ∷ encode_with t xs) n) three ∙ ih.1,
+    )

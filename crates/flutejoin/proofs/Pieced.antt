@@ -52,8 +52,3 @@ packet_written c old new words bytes r w b done = pieces_written old new (packet
 pub fact_written : {T E : Type 0} (f : Fact) (old new : Option (List ℕ)) (words bytes : List ℕ) (r : Result T E) → words ≡ fact_head f → bytes ≡ fact_bytes f
     → Writes old new (words ++ (encode_lower bytes ++ codes "\n")) r → Writes old new (fact_line f) r
 fact_written f old new words bytes r w b done = pieces_written old new (fact_line f) (fact_head f) (fact_bytes f) words bytes r (fact_pieces f) w b done
-
--- a line of words alone
-pub words_written : {T E : Type 0} (words : List ℕ) (old new : Option (List ℕ)) (words' bytes : List ℕ) (r : Result T E) → words' ≡ words → bytes ≡ []
-    → Writes old new (words' ++ (encode_lower bytes ++ codes "\n")) r → Writes old new (line words) r
-words_written words old new words' bytes r w b done = pieces_written old new (line words) words [] words' bytes r (words_alone words) w b done

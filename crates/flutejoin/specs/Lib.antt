@@ -16,3 +16,4 @@ pub mod Runs
 pub mod Laws
 pub mod Outputs
 pub mod Blob
+pub mod Digits

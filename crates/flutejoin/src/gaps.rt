@@ -11,7 +11,7 @@ ghost use Rattle.flutejoin.specs.Packet.{write_failures};
 use crate::command_fault::CommandFault;
 use crate::lines::push_key;
 use crate::text::Text;
-use crate::writing::write_line;
+use crate::writing::write_words;
 use flute_parts::{DeviceFault, Key, Sink};
 use flute_store::{Gap, Gaps, Reason, Shelf, Status};
 
@@ -56,12 +56,13 @@ fn write_status<W: Sink>(sink: &mut W, key: &Key, status: Status) -> Result<(), 
     push_key(&mut text, key);
     text.push(" ");
     push_status(&mut text, status);
-    write_line(sink, &text, &[])
+    write_words(sink, text)
 }
 
 fn push_status(text: &mut Text, status: Status)
     requires { length text.old + 200 ≤ 512 }
-    ensures { text.new ≡ text.old ++ status_words status }
+    ensures text { text.new ≡ text.old ++ status_words status }
+    ensures len { length text.new ≤ length text.old + 200 }
 {
     match status {
         Status::NoInformation => text.push("no information"),
@@ -114,7 +115,7 @@ fn write_gap<W: Sink>(sink: &mut W, gap: &Gap) -> Result<(), DeviceFault>
     text.push("-");
     text.push_number(gap.last);
     text.push(reason_words(gap.reason));
-    write_line(sink, &text, &[])
+    write_words(sink, text)
 }
 
 fn reason_words(reason: Reason) -> &'static str

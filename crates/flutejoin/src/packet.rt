@@ -7,6 +7,7 @@ ghost use Rattle.flutejoin.specs.Pieces.{packet_head, symbol_bytes};
 ghost use Rattle.flutejoin.specs.Packet.{IsHexOf, IsHexFault, HasLines, FailsWith, write_failures};
 
 use crate::command_fault::CommandFault;
+use crate::hex_digits::HexDigits;
 use crate::lines::{push_info, push_object, push_symbol_head};
 use crate::text::Text;
 use crate::writing::write_line;
@@ -56,7 +57,7 @@ fn write_packet<W: Sink>(sink: &mut W, packet: &Packet<'_>) -> Result<(), Device
     ensures failures { W.failures sink.new ≡ W.failures sink.old + (if is_ok result then 0 else 1) }
 {
     let head = head_of(packet);
-    write_line(sink, &head, symbol_bytes(packet))
+    write_line(sink, &HexDigits::new(), &head, symbol_bytes(packet))
 }
 
 // All that is written before the symbol's bytes.

@@ -7,6 +7,7 @@ ghost use Rattle.flutejoin.specs.Show.{ShowsAll, ShowFails, read_failures};
 ghost use Rattle.flutejoin.specs.Packet.{write_failures};
 
 use crate::command_fault::{CommandFault, at_input};
+use crate::hex_digits::HexDigits;
 use crate::limits::MAX_ENTRIES;
 use crate::lines::{push_information, push_key, push_symbol, push_symbol_id};
 use crate::text::Text;
@@ -33,10 +34,11 @@ pub fn show_to<R: Source, W: Sink>(
     ensures read_failures { R.failures source.new ≡ R.failures source.old + read_failures result }
     ensures failures { W.failures sink.new ≡ W.failures sink.old + write_failures result }
 {
+    let digits = HexDigits::new();
     let mut reader = JournalReader::new(source, MAX_ENTRIES);
     let mut count = 0;
     while let Some(fact) = at_input(1, reader.next(alloc))? {
-        if write_fact(sink, &fact).is_err() {
+        if write_fact(sink, &digits, &fact).is_err() {
             return Err(CommandFault::CannotWrite);
         }
         count += 1;
@@ -47,12 +49,12 @@ pub fn show_to<R: Source, W: Sink>(
     }
 }
 
-fn write_fact<W: Sink>(sink: &mut W, fact: &Fact) -> Result<(), DeviceFault>
+fn write_fact<W: Sink>(sink: &mut W, digits: &HexDigits, fact: &Fact) -> Result<(), DeviceFault>
     ensures line { Writes (W.written sink.old) (W.written sink.new) (fact_line fact.now) result }
     ensures failures { W.failures sink.new ≡ W.failures sink.old + (if is_ok result then 0 else 1) }
 {
     let head = head_of(fact);
-    write_line(sink, &head, bytes_of(fact))
+    write_line(sink, digits, &head, bytes_of(fact))
 }
 
 // All of the line before a symbol's bytes.

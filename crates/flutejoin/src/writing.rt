@@ -3,26 +3,45 @@ ghost use Rattle.std.specs.Prelude.{◌≡◌, ◌+◌, ◌≤◌, ◌++◌, len
 ghost use Rattle.std.specs.Io.KnownBytes.{Appends};
 ghost use Rattle.hex.specs.Hex.{encode_lower};
 ghost use Rattle.flute_parts.specs.Devices.{Writes, AppendsPart};
-ghost use Rattle.flutejoin.specs.Lines.{count_line};
+ghost use Rattle.flutejoin.specs.Lines.{line, count_line};
 ghost use Rattle.flutejoin.specs.Objects.{FailsToWrite};
 ghost use Rattle.flutejoin.specs.Packet.{write_failures};
 
 use crate::command_fault::CommandFault;
-use crate::hex_digits::write_hex;
+use crate::hex_digits::HexDigits;
 use crate::text::Text;
 use flute_parts::{DeviceFault, Sink};
+
+/// Writes a line of some words.
+///
+/// # Errors
+///
+/// `DeviceFault` where the sink failed: it then took a first part of the line, and not all.
+pub fn write_words<W: Sink>(sink: &mut W, mut words: Text) -> Result<(), DeviceFault>
+    requires { length words + 1 ≤ 512 }
+    ensures line { Writes (W.written sink.old) (W.written sink.new) (line words) result }
+    ensures failures { W.failures sink.new ≡ W.failures sink.old + (if is_ok result then 0 else 1) }
+{
+    words.push("\n");
+    sink.write_all(words.as_slice())
+}
 
 /// Writes a line of some words, and then of bytes in hexadecimal.
 ///
 /// # Errors
 ///
 /// `DeviceFault` where the sink failed: it then took a first part of the line, and not all.
-pub fn write_line<W: Sink>(sink: &mut W, words: &Text, bytes: &[u8]) -> Result<(), DeviceFault>
+pub fn write_line<W: Sink>(
+    sink: &mut W,
+    digits: &HexDigits,
+    words: &Text,
+    bytes: &[u8],
+) -> Result<(), DeviceFault>
     ensures line { Writes (W.written sink.old) (W.written sink.new) (words.now ++ (encode_lower bytes.now ++ codes "\n")) result }
     ensures failures { W.failures sink.new ≡ W.failures sink.old + (if is_ok result then 0 else 1) }
 {
     sink.write_all(words.as_slice())?;
-    write_hex(sink, bytes)?;
+    digits.write(sink, bytes)?;
     sink.write_all(b"\n")
 }
 
@@ -40,7 +59,7 @@ pub fn write_count<W: Sink>(sink: &mut W, word: &str, count: u64) -> Result<(), 
     text.push(word);
     text.push(" ");
     text.push_number(count);
-    write_line(sink, &text, &[])
+    write_words(sink, text)
 }
 
 /// Writes a line of a word of at most 100 bytes and a number: what a command answers of its work.

@@ -6,8 +6,8 @@ ghost use Rattle.std.specs.Prelude.{◌≤◌, length};
 use flute_parts::{Info, Key, StdSink, StdSource};
 use flute_store::Shelf;
 use flutejoin::{
-    CommandFault, Line, add_info, check_whole, count_to, extract_to, gaps_to, line_of, load, packet_to,
-    show_to,
+    CommandFault, Line, add_info, check_whole, count_to, extract_to, gaps_to, line_of, load,
+    packet_to, save_to, show_to,
 };
 use std::env;
 use std::fs::{self, File};

@@ -1,8 +1,8 @@
 use Rattle.std.proofs.Common.{append_assoc, refl}
 use Rattle.flutejoin.proofs.gaps.push_status.Goals as goal
 
-pub returns-in-Partial : goal.returns-in-Partial
-returns-in-Partial c =
+pub returns-in-Partial-clause-text : goal.returns-in-Partial-clause-text
+returns-in-Partial-clause-text c =
     rw (
       c.in-Partial.is,
       c.push_number-in-Partial-3.ensures.text,

@@ -2,7 +2,7 @@
 use Rattle.std.proofs.Common.{◌≡◌, length, List, ℕ, ◌++◌}
 use Rattle.std.specs.Io.KnownBytes.{Appends}
 use Rattle.hex.specs.Hex.{encode_lower}
-use Rattle.flutejoin.proofs.hex_digits.write_hex.Given as goal
+use Rattle.flutejoin.proofs.hex_digits.HexDigits.write.Given as goal
 
 abbrev pub invariant-loop-rest : goal.invariant-loop-rest
 invariant-loop-rest g l = (length l.digits ≡ 1024)
