@@ -1,8 +1,12 @@
+mod driven;
 mod objects;
+mod outputs;
+mod run_vectors;
+mod runs;
 mod show;
+mod shuffled;
 mod vectors;
 mod words;
-
 use crate::{CommandFault, packet_to};
 use flute_parts::{MemorySink, StdSink};
 use std::alloc::{AllocError, Global};
