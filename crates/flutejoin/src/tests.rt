@@ -7,6 +7,7 @@ mod show;
 mod shuffled;
 mod vectors;
 mod words;
+
 use crate::{CommandFault, packet_to};
 use flute_parts::{MemorySink, StdSink};
 use std::alloc::{AllocError, Global};
