@@ -17,3 +17,4 @@ pub mod Laws
 pub mod Outputs
 pub mod Blob
 pub mod Digits
+pub mod Examples
