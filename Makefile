@@ -1,5 +1,6 @@
 # make            proves what changed, builds the program and leaves it at bin/flutejoin
 # make test       the whole gate: every proof from nothing, the must-fail edits, the tests and the program
+# make example    runs a small session: a file sent, received at three stations, joined and written
 # make install    copies the program to $(PREFIX)/bin
 
 PREFIX ?= /usr/local
@@ -13,6 +14,9 @@ test:
 	rt ci
 	tests/program.sh crates/flutejoin_cli/out/flutejoin_cli
 
+example: bin/flutejoin
+	@examples/session.sh bin/flutejoin
+
 install: bin/flutejoin
 	install -d "$(DESTDIR)$(PREFIX)/bin"
 	install -m 755 bin/flutejoin "$(DESTDIR)$(PREFIX)/bin/flutejoin"
@@ -20,4 +24,4 @@ install: bin/flutejoin
 clean:
 	rm -rf bin crates/*/out
 
-.PHONY: test install clean
+.PHONY: test example install clean
