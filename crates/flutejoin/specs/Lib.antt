@@ -18,3 +18,5 @@ pub mod Outputs
 pub mod Blob
 pub mod Digits
 pub mod Examples
+pub mod Merge
+pub mod Carousel

@@ -1,9 +1,11 @@
 -- The program's status after a fault.
 use Rattle.std.specs.Prelude.{ℕ, ⊤}
 use Rattle.flutejoin.specs.declared.command_fault.CommandFault.{CommandFault}
-use Rattle.flutejoin.specs.declared.command_fault.CommandFault.TheVariants.{CommandLine, NotText, BadNumber, BadKey, BadInformation, BadHex, Refused, CannotOpen, Input, Full, NoObject, NoInformation, ConflictingInformation, NotWhole, OutOfMemory, CannotCreate, CannotWrite}
+use Rattle.flutejoin.specs.declared.command_fault.CommandFault.TheVariants.{CommandLine, NotText, BadNumber, BadKey, OutputIsInput, BadInformation, BadHex, Refused, CannotSend, TooLarge, CannotOpen, Input, Full, NoObject, NoInformation, ConflictingInformation, NotWhole, OutOfMemory, CannotCreate, CannotWrite}
 use Rattle.flute_journal.specs.declared.fault.ReadFault.{ReadFault}
 use Rattle.flute_journal.specs.declared.fault.ReadFault.TheVariants as faults
+use Rattle.flutejoin.specs.declared.blob.BlobFault.{BlobFault}
+use Rattle.flutejoin.specs.declared.blob.BlobFault.TheVariants as blobs
 
 -- a journal at fault is wrong, and a failed device or want of memory is not its fault
 abbrev pub read_status : ReadFault → ℕ
@@ -17,7 +19,10 @@ status_of (CommandLine text) = 2
 status_of NotText = 2
 status_of (BadNumber option) = 2
 status_of BadKey = 2
+status_of OutputIsInput = 2
 status_of (BadInformation fault) = 1
+status_of (CannotSend fault) = 1
+status_of (TooLarge number) = 1
 status_of BadHex = 1
 status_of (Refused refusal) = 1
 status_of (CannotOpen number) = 3
@@ -36,5 +41,12 @@ abbrev pub IsLineFault : CommandFault → Type 0
 IsLineFault (CommandLine text) = ⊤
 IsLineFault (BadNumber option) = ⊤
 IsLineFault BadKey = ⊤
+IsLineFault OutputIsInput = ⊤
 IsLineFault OutOfMemory = ⊤
 IsLineFault _ = ⊥
+
+-- why an input was not kept
+abbrev pub of_blob : ℕ → BlobFault → CommandFault
+of_blob number blobs.Read = Input number faults.Read
+of_blob number blobs.TooLarge = TooLarge number
+of_blob number blobs.OutOfMemory = OutOfMemory

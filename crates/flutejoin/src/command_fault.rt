@@ -1,9 +1,11 @@
 //! What a command answers when it fails.
 ghost use Rattle.std.specs.Prelude.{◌≡◌, Ok, Err, MatchResult};
+ghost use Rattle.flutejoin.specs.Status.{of_blob};
 
+use crate::blob::BlobFault;
 use flute_journal::ReadFault;
 use flute_parts::InfoFault;
-use flute_wire::Refusal;
+use flute_wire::{Refusal, WriteFault};
 use thiserror::Error;
 
 /// Why a command failed. Shown, it is the line that the program writes to standard error.
@@ -22,6 +24,9 @@ pub enum CommandFault {
     /// The TOI is 0 and no FDT Instance is named, or it is another and one is.
     #[error("bad key")]
     BadKey,
+    /// The output has the same name as an input.
+    #[error("output is an input")]
+    OutputIsInput,
     /// Numbers are no transmission information.
     #[error("bad information: {0}")]
     BadInformation(InfoFault),
@@ -31,6 +36,12 @@ pub enum CommandFault {
     /// The datagram is refused.
     #[error("refused: {0}")]
     Refused(Refusal),
+    /// The datagrams of an object cannot be written.
+    #[error("cannot send: {0}")]
+    CannotSend(WriteFault),
+    /// The input with this number, from 1, has more than 4,294,967,295 bytes.
+    #[error("input {0}: TooLarge")]
+    TooLarge(usize),
     /// The input with this number, from 1, could not be opened.
     #[error("cannot open input {0}")]
     CannotOpen(usize),
@@ -74,16 +85,29 @@ impl CommandFault {
     {
         match self {
             CommandFault::BadHex | CommandFault::Refused(_) | CommandFault::Full => 1,
-            CommandFault::BadInformation(_) => 1,
+            CommandFault::BadInformation(_) | CommandFault::CannotSend(_) => 1,
+            CommandFault::TooLarge(_) => 1,
             CommandFault::NoObject | CommandFault::NoInformation => 1,
             CommandFault::ConflictingInformation | CommandFault::NotWhole { .. } => 1,
             CommandFault::CommandLine(_) | CommandFault::NotText => 2,
             CommandFault::BadNumber(_) | CommandFault::BadKey => 2,
+            CommandFault::OutputIsInput => 2,
             CommandFault::Input(_, ReadFault::Read | ReadFault::OutOfMemory) => 3,
             CommandFault::Input(..) => 1,
             CommandFault::CannotOpen(_) | CommandFault::CannotCreate => 3,
             CommandFault::OutOfMemory | CommandFault::CannotWrite => 3,
         }
+    }
+}
+
+/// Why the input with this number, from 1, was not kept.
+pub fn blob_fault(number: usize, fault: BlobFault) -> CommandFault
+    ensures { result ≡ of_blob number fault }
+{
+    match fault {
+        BlobFault::Read => CommandFault::Input(number, ReadFault::Read),
+        BlobFault::TooLarge => CommandFault::TooLarge(number),
+        BlobFault::OutOfMemory => CommandFault::OutOfMemory,
     }
 }
 

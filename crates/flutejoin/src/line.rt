@@ -40,6 +40,20 @@ pub enum Line<'a> {
         block: u32,
         j: &'a str,
     },
+    /// Merge the journals `a` and `b` into the journal `out`.
+    Merge {
+        out: &'a str,
+        a: &'a str,
+        b: &'a str,
+    },
+    /// Write the datagrams of the object `key`, whose content is `file`, to the datagram file `out`.
+    Carousel {
+        out: &'a str,
+        key: Key,
+        symbol: u16,
+        block: u32,
+        file: &'a str,
+    },
 }
 
 /// Reads the words after the program's name.
@@ -48,7 +62,7 @@ pub enum Line<'a> {
 ///
 /// `CommandLine` with the parser's text where that refuses the words, or where they ask for help or the version;
 /// `BadNumber` with the first option, in the order `--tsi`, `--toi`, `--fdt`, `--length`, `--symbol`, `--block`, that is not a number of its range; `BadKey`
-/// where `--fdt` does not go with `--toi`; and `OutOfMemory`.
+/// where `--fdt` does not go with `--toi`; `OutputIsInput` where `merge` is to write one of its inputs; and `OutOfMemory`.
 pub fn line_of(alloc: Global, words: &[String]) -> Result<Line<'_>, CommandFault>
     ensures { IfErr result IsLineFault }
 {
@@ -66,6 +80,8 @@ pub fn line_of(alloc: Global, words: &[String]) -> Result<Line<'_>, CommandFault
         }),
         Some(("extract", matches)) => extract_of(matches),
         Some(("info", matches)) => info_of(matches),
+        Some(("merge", matches)) => merge_of(matches),
+        Some(("carousel", matches)) => carousel_of(matches),
         // The parser takes no line without a command, and no other command.
         _ => Err(CommandFault::OutOfMemory),
     }
@@ -95,6 +111,33 @@ fn info_of<'a>(matches: &ArgMatches<'a>) -> Result<Line<'a>, CommandFault>
         symbol,
         block,
         j: text(matches, "J"),
+    })
+}
+
+fn merge_of<'a>(matches: &ArgMatches<'a>) -> Result<Line<'a>, CommandFault>
+    ensures { IfErr result IsLineFault }
+{
+    let out = text(matches, "OUT");
+    let a = text(matches, "A");
+    let b = text(matches, "B");
+    if out == a || out == b {
+        return Err(CommandFault::OutputIsInput);
+    }
+    Ok(Line::Merge { out, a, b })
+}
+
+fn carousel_of<'a>(matches: &ArgMatches<'a>) -> Result<Line<'a>, CommandFault>
+    ensures { IfErr result IsLineFault }
+{
+    let numbers = key_numbers(matches)?;
+    let symbol = number_below(matches, "symbol", 1 << 16)? as u16;
+    let block = number_below(matches, "block", 1 << 32)? as u32;
+    Ok(Line::Carousel {
+        out: text(matches, "OUT"),
+        key: numbers.key()?,
+        symbol,
+        block,
+        file: text(matches, "FILE"),
     })
 }
 

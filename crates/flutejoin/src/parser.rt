@@ -22,7 +22,9 @@ pub fn command<'a>(alloc: Global) -> Result<Command<'a>, clap::Error> {
         .subcommand(show_command(alloc)?)?
         .subcommand(gaps_command(alloc)?)?
         .subcommand(extract_command(alloc)?)?
-        .subcommand(info_command(alloc)?)?;
+        .subcommand(info_command(alloc)?)?
+        .subcommand(merge_command(alloc)?)?
+        .subcommand(carousel_command(alloc)?)?;
     Ok(command)
 }
 
@@ -74,6 +76,28 @@ fn info_command<'a>(alloc: Global) -> Result<Command<'a>, clap::Error> {
         .arg(symbol(alloc))?
         .arg(block(alloc))?
         .arg(journal(alloc))?;
+    Ok(command)
+}
+
+fn merge_command<'a>(alloc: Global) -> Result<Command<'a>, clap::Error> {
+    let command = Command::new(alloc, "merge")
+        .about("Merges two journals into one, entry by entry")
+        .arg(output(alloc))?
+        .arg(input(alloc, "A").help("A journal"))?
+        .arg(input(alloc, "B").help("Another journal"))?;
+    Ok(command)
+}
+
+fn carousel_command<'a>(alloc: Global) -> Result<Command<'a>, clap::Error> {
+    let command = Command::new(alloc, "carousel")
+        .about("Writes the datagrams that send an object to a datagram file")
+        .arg(output(alloc))?
+        .arg(session(alloc))?
+        .arg(object(alloc))?
+        .arg(instance(alloc))?
+        .arg(symbol(alloc))?
+        .arg(block(alloc))?
+        .arg(input(alloc, "FILE").help("The content of the object"))?;
     Ok(command)
 }
 

@@ -5,9 +5,9 @@ ghost use Rattle.std.specs.Prelude.{◌≤◌, length};
 
 use flute_parts::{Info, Key, StdSink, StdSource};
 use flute_store::Shelf;
+use flute_wire::Datagrams;
 use flutejoin::{
-    CommandFault, Line, add_info, check_whole, count_to, extract_to, gaps_to, line_of, load,
-    packet_to, save_to, show_to,
+    Blob, CommandFault, Line, add_info, blob_fault, check_whole, count_to, datagrams_of, extract_to, gaps_to, line_of, load, merge_to, packet_to, save_to, send_to, show_to,
 };
 use std::env;
 use std::fs::{self, File};
@@ -51,6 +51,18 @@ fn run(rt: &HostRuntime) -> Result<(), CommandFault> {
         } => {
             let info = Info::new(length, symbol, block).map_err(CommandFault::BadInformation)?;
             add_information(rt, out, key, info, j)
+        }
+        Line::Merge { out, a, b } => merge(rt, out, a, b),
+        Line::Carousel {
+            out,
+            key,
+            symbol,
+            block,
+            file,
+        } => {
+            let content = whole_input(rt, file)?;
+            let datagrams = datagrams_of(rt.alloc(), &key, symbol, block, content.as_slice())?;
+            send(rt, out, &datagrams)
         }
     }
 }
@@ -119,6 +131,30 @@ fn add_information(
     let entries = save_to(&shelf, &mut file)?;
     file.flush().map_err(|_| CommandFault::CannotWrite)?;
     tell_count(rt, "entries", entries)
+}
+
+/// Creates the file once both inputs are open. What was merged before a fault stays in it.
+fn merge(rt: &HostRuntime, out: &str, a: &str, b: &str) -> Result<(), CommandFault> {
+    let mut first = input(rt, 1, a)?;
+    let mut second = input(rt, 2, b)?;
+    let mut file = output_file(rt, out)?;
+    let merged = merge_to(rt.alloc(), &mut first, &mut second, &mut file);
+    let flushed = file.flush().map_err(|_| CommandFault::CannotWrite);
+    let entries = merged?;
+    flushed?;
+    tell_count(rt, "entries", entries)
+}
+
+fn whole_input(rt: &HostRuntime, path: &str) -> Result<Blob, CommandFault> {
+    let mut input = input(rt, 1, path)?;
+    Blob::read(rt.alloc(), &mut input).map_err(|fault| blob_fault(1, fault))
+}
+
+fn send(rt: &HostRuntime, out: &str, datagrams: &Datagrams) -> Result<(), CommandFault> {
+    let mut file = output_file(rt, out)?;
+    let count = send_to(datagrams, &mut file)?;
+    file.flush().map_err(|_| CommandFault::CannotWrite)?;
+    tell_count(rt, "datagrams", count)
 }
 
 /// Prints the one line of a word and a number.
