@@ -1,4 +1,5 @@
 mod driven;
+mod files;
 mod objects;
 mod outputs;
 mod run_vectors;

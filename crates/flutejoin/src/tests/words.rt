@@ -33,6 +33,105 @@ fn commands_are_read(rt: HostRuntime) -> Result<(), Fail> {
         return Err(Fail::from("another line"));
     };
     assert!(rt; Some(key) == file(7, 1));
+    let words = words_of(rt.alloc(), "merge -o OUT A B")?;
+    let line = line_of(rt.alloc(), words.as_slice())?;
+    assert!(rt;
+        matches!(
+            &line,
+            Line::Merge {
+                out: "OUT",
+                a: "A",
+                b: "B"
+            }
+        )
+    );
+    Ok(())
+}
+
+#[test]
+fn commands_with_numbers_are_read(rt: HostRuntime) -> Result<(), Fail> {
+    let words = words_of(
+        rt.alloc(),
+        "info -o OUT --tsi 7 --toi 1 --length 5 --symbol 4 --block 2 J",
+    )?;
+    let line = line_of(rt.alloc(), words.as_slice())?;
+    let Line::Info {
+        out: "OUT",
+        key,
+        length: 5,
+        symbol: 4,
+        block: 2,
+        j: "J",
+    } = line
+    else {
+        return Err(Fail::from("another line"));
+    };
+    assert!(rt; Some(key) == file(7, 1));
+    let words = words_of(
+        rt.alloc(),
+        "carousel -o OUT --tsi 7 --toi 1 --symbol 4 --block 2 FILE",
+    )?;
+    let line = line_of(rt.alloc(), words.as_slice())?;
+    let Line::Carousel {
+        out: "OUT",
+        key,
+        symbol: 4,
+        block: 2,
+        file: "FILE",
+    } = line
+    else {
+        return Err(Fail::from("another line"));
+    };
+    assert!(rt; Some(key) == file(7, 1));
+    Ok(())
+}
+
+// The numbers of information come behind those of the key, and the key behind them all.
+#[test]
+fn other_bad_numbers_are_told(rt: HostRuntime) -> Result<(), Fail> {
+    let rows = [
+        (
+            "info --tsi 7 --toi 0 --length x --symbol y --block z",
+            "bad number: --length",
+        ),
+        (
+            "info --tsi 7 --toi 0 --length 18446744073709551616 --symbol 4 --block 2",
+            "bad number: --length",
+        ),
+        (
+            "info --tsi 7 --toi 0 --length 5 --symbol 65536 --block z",
+            "bad number: --symbol",
+        ),
+        (
+            "info --tsi 7 --toi 0 --length 5 --symbol 65535 --block 4294967296",
+            "bad number: --block",
+        ),
+        (
+            "info --tsi 7 --toi 0 --length 5 --symbol 4 --block 2",
+            "bad key",
+        ),
+        (
+            "carousel --tsi 7 --toi 0 --symbol y --block 2",
+            "bad number: --symbol",
+        ),
+        ("carousel --tsi 7 --toi 0 --symbol 4 --block 2", "bad key"),
+        ("merge A", "output is an input"),
+    ];
+    for (options, text) in rows {
+        let mut words = words_of(rt.alloc(), options)?;
+        for word in words_of(rt.alloc(), "-o J J")? {
+            words.push(word)?;
+        }
+        let fault = line_of(rt.alloc(), words.as_slice())
+            .err()
+            .ok_or("a fault")?;
+        assert_eq!(rt;
+            fault.to_string(rt.alloc())?.as_str(),
+            text,
+            "for {options}"
+        );
+        assert_eq!(rt; fault.status(), 2);
+    }
     Ok(())
 }
 
@@ -83,6 +182,9 @@ fn other_words_are_left_to_the_parser(rt: HostRuntime) -> Result<(), Fail> {
         "show",
         "show J J",
         "gaps",
+        "merge -o OUT A",
+        "info -o OUT --tsi 7 --toi 1 --length 5 --symbol 4 J",
+        "carousel -o OUT --tsi 7 --toi 1 --symbol 4 FILE",
         "extract -o OUT --tsi 7 J",
         "extract --tsi 7 --toi 1 J",
         "extract -o OUT --tsi 7 --toi 1",
