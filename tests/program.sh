@@ -205,6 +205,81 @@ check 'extract from a file that is not there' 3 '' 'cannot open input 1'
 run_to /dev/full extract -o got2 --tsi 7 --toi 1 whole
 check 'extract to a full standard output' 3 '' 'cannot write'
 
+file others "$header $first 03 $key 0000 0001 0004 6F000000 03 $key 0000 0002 0001 78 FF 0000000000000003"
+file joined "$header $info $first 04 $key 0000 0001 03 $key 0000 0002 0001 78 FF 0000000000000004"
+file symbols "$header $first $last FF 0000000000000002"
+file sent "464C44470001
+    0028 10A00800 00000000 00000007 00000001 40040000 00000005 00000004 00000002 00000000 68656C6C
+    0025 10A00800 00000000 00000007 00000001 40040000 00000005 00000004 00000002 00000001 6F"
+
+# same NAME FILE FILE: two files are the same
+same() {
+    cmp -s "$2" "$3" || check "$1" x - -
+}
+
+run info -o got --tsi 7 --toi 1 --length 5 --symbol 4 --block 2 symbols
+check 'info' 0 'entries 3' ''
+same 'the journal with information added' got whole
+run info -o got --tsi 7 --toi 1 --length 5 --symbol 4 --block 3 whole
+check 'info in conflict' 0 'entries 3' ''
+run show got
+check 'the information in conflict' 0 "session 7 object 1 info conflict
+$first_line
+$last_line
+entries 3" ''
+run info -o got3 --tsi 7 --toi 1 --length 5 --symbol 0 --block 2 missing
+check 'information before the input' 1 '' 'bad information: SymbolLength'
+run info -o got3 --tsi 7 --toi 0 --length x --symbol 0 --block 2 missing
+check 'numbers before the key' 2 '' 'bad number: --length'
+run info -o got3 --tsi 7 --toi 1 --length 5 --symbol 4 --block 2 bad
+check 'info of a bad journal' 1 '' 'input 1: Trailing'
+[ ! -e got3 ] || check 'no file after a fault of info' x - -
+
+run merge -o got whole others
+check 'merge' 0 'entries 4' ''
+same 'the merged journal' got joined
+run merge -o got empty whole
+check 'merge with an empty journal' 0 'entries 3' ''
+same 'a journal merged with nothing' got whole
+run merge -o got whole whole
+check 'merge of one journal with itself' 0 'entries 3' ''
+same 'a journal merged with itself' got whole
+run merge -o whole whole others
+check 'merge into an input' 2 '' 'output is an input'
+run merge -o got3 missing missing
+check 'the first input that is not there' 3 '' 'cannot open input 1'
+run merge -o got3 whole missing
+check 'the second input that is not there' 3 '' 'cannot open input 2'
+[ ! -e got3 ] || check 'no file before both inputs are open' x - -
+run merge -o no/got bad bad
+check 'the output of a merge before the inputs are read' 3 '' 'cannot create output'
+run merge -o got3 whole bad
+check 'merge with a bad journal' 1 '' 'input 2: Trailing'
+run show got3
+check 'what a failed merge leaves' 1 - 'input 1: Cut'
+run merge -o /dev/full whole others
+check 'merge to a full output' 3 '' 'cannot write'
+run_to /dev/full merge -o got whole others
+check 'merge to a full standard output' 3 '' 'cannot write'
+
+printf hello > content
+run carousel -o got --tsi 7 --toi 1 --symbol 4 --block 2 content
+check 'carousel' 0 'datagrams 2' ''
+same 'the datagram file' got sent
+run carousel -o got --tsi 7 --toi 1 --symbol 0 --block 0 nothing
+check 'carousel of no content' 0 'datagrams 1' ''
+run carousel -o got4 --tsi 7 --toi 1 --symbol 0 --block 2 content
+check 'carousel with bad information' 1 '' 'bad information: SymbolLength'
+run carousel -o got4 --tsi 4294967296 --toi 1 --symbol 4 --block 2 content
+check 'carousel of a session of many bits' 1 '' 'cannot send: Tsi'
+run carousel -o got4 --tsi 7 --toi 4294967296 --symbol 4 --block 2 content
+check 'carousel of an object of many bits' 1 '' 'cannot send: Toi'
+run carousel -o got4 --tsi 7 --toi 1 --symbol 4 --block 2 missing
+check 'carousel of a file that is not there' 3 '' 'cannot open input 1'
+run carousel -o got4 --tsi 7 --toi 1 --symbol 4 --block 2 /proc/self/mem
+check 'carousel of a file that cannot be read' 3 '' 'input 1: Read'
+[ ! -e got4 ] || check 'no file after a fault of carousel' x - -
+
 run frob
 check 'a command that does not exist' 2 '' -
 run
