@@ -8,6 +8,7 @@ use Rattle.flute_parts.specs.Devices.{AppendsPart}
 use Rattle.flute_store.specs.Extract.{WritesWhole, TellsExtractFault}
 use Rattle.flute_journal.specs.Journal.{Journal}
 use Rattle.flutejoin.specs.declared.steps.Step.{Step}
+use Rattle.flute_store.specs.declared.extract.ExtractFault.TheVariants as extract
 use Rattle.flutejoin.specs.declared.outputs.OutputFault.{OutputFault}
 use Rattle.flutejoin.specs.declared.outputs.OutputFault.TheVariants.{Save, Extract}
 use Rattle.flutejoin.specs.Known.{Fits, known_by}
@@ -32,3 +33,9 @@ WritesAsOthers count steps r old new =
     (m : ℕ) (others : List Step) (q : ℕ) (origins further : ℕ → List Fact) → Fits steps origins → Fits others further
     → SameMembers (known_by count steps origins r) (known_by m others further q)
     → (bytes : List ℕ) → Journal bytes (known_by m others further q) → Appends old new bytes
+
+-- how often the sink failed in a call that gave this: once, where it says so
+abbrev pub output_failed : {T : Type 0} → Result T OutputFault → ℕ
+output_failed (Err (Save f)) = 1
+output_failed (Err (Extract extract.Write)) = 1
+output_failed _ = 0

@@ -1,8 +1,8 @@
 //! What is written of a replica after a run.
-ghost use Rattle.std.specs.Prelude.{◌+◌, ◌*◌, ◌<◌, ◌^◌, ℕ, List, OnOk};
+ghost use Rattle.std.specs.Prelude.{◌≡◌, ◌+◌, ◌*◌, ◌<◌, ◌^◌, ℕ, List, OnOk};
 ghost use Rattle.flute_parts.specs.declared.fact.Fact.{Fact as Known};
 ghost use Rattle.flutejoin.specs.Known.{Fits, known_by};
-ghost use Rattle.flutejoin.specs.Outputs.{TellsJournal, TellsObject, WritesAsOthers};
+ghost use Rattle.flutejoin.specs.Outputs.{TellsJournal, TellsObject, WritesAsOthers, output_failed};
 
 use crate::runs::{RunFault, run};
 use crate::steps::Step;
@@ -49,6 +49,7 @@ pub fn journal_after<const SESSIONS: u32, const OBJECTS: u32, const SYMBOLS: u32
     ensures journal { (origins : ℕ → List Known) → Fits steps.now origins
         → TellsJournal W.written (known_by count steps.now origins replica) sink.old sink.new result }
     ensures one { OnOk result (WritesAsOthers count steps.now replica (W.written sink.old) (W.written sink.new)) }
+    ensures failures { W.failures sink.new ≡ W.failures sink.old + output_failed result }
 {
     let replicas = match run::<SESSIONS, OBJECTS, SYMBOLS>(alloc, count, steps) {
         Ok(replicas) => replicas,
@@ -79,8 +80,9 @@ pub fn object_after<const SESSIONS: u32, const OBJECTS: u32, const SYMBOLS: u32,
     sink: &mut W,
 ) -> Result<u64, OutputFault>
     requires { SESSIONS * OBJECTS * (SYMBOLS + 1) < 2 ^ 64 }
-    ensures { (origins : ℕ → List Known) → Fits steps.now origins
+    ensures object { (origins : ℕ → List Known) → Fits steps.now origins
         → TellsObject W.written (known_by count steps.now origins replica) sink.old sink.new key.now result }
+    ensures failures { W.failures sink.new ≡ W.failures sink.old + output_failed result }
 {
     let replicas = match run::<SESSIONS, OBJECTS, SYMBOLS>(alloc, count, steps) {
         Ok(replicas) => replicas,
