@@ -30,6 +30,9 @@ too_large u v w bytes part read more large = go u w (bytes ++ part) (Consumes-tr
 pub piece_kept : (u v w : Option (List ℕ)) (bytes more part : List ℕ) → more ≡ bytes ++ part → Consumes u v bytes → Consumes v w part → Consumes u w more
 piece_kept u v w bytes more part e read given = rw e (Consumes-trans u v w bytes part read given)
 
+pub piece_of : (bytes more buffer read : List ℕ) (count : ℕ) → more ≡ bytes ++ take count buffer → buffer ≡ read → more ≡ bytes ++ take count read
+piece_of bytes more buffer read count e same = e ∙ ap (λ xs. bytes ++ take count xs) same
+
 pub piece_fits : (bytes more buffer : List ℕ) (count : ℕ) → more ≡ bytes ++ take count buffer → count ≤ 4294967295 - length bytes → length bytes ≤ 4294967295 → length more ≤ 4294967295
 piece_fits bytes more buffer count e room small =
     let n : length more ≡ length bytes + length (take count buffer) = ap length e ∙ length-append bytes (take count buffer) in

@@ -1,7 +1,7 @@
 -- An input is kept as it is read.
-use Rattle.std.proofs.Common.{◌≡◌, ◌++◌, ◌∙◌, refl, ap, take, arith}
+use Rattle.std.proofs.Common.{◌≡◌, ◌∙◌, refl, ap, take, arith}
 use Rattle.std.proofs.lemmas.List.{with_items_is}
-use Rattle.flutejoin.proofs.Blobs.{nothing_kept, end_kept, too_large, piece_kept, piece_fits, piece_length}
+use Rattle.flutejoin.proofs.Blobs.{nothing_kept, end_kept, too_large, piece_kept, piece_of, piece_fits, piece_length}
 use Rattle.flutejoin.proofs.blob.Blob.read.Goals as goal
 
 pub loop-bytes-init : goal.loop-bytes-init
@@ -23,8 +23,8 @@ returns-then-count-len-clause-fault g c =
 pub loop-bytes-preserved : goal.loop-bytes-preserved
 loop-bytes-preserved g c =
     let piece : c.deref.result.now ≡ c.read.new.buffer = c.deref.ensures.value ∙ with_items_is c.loop-bytes.piece c.read.new.buffer (omega (arith, c.read.auto.buffer, c.deref_mut.ensures.len)) in
-    let more : c.extend_from_slice.new.self.items ≡ c.loop-bytes.bytes.items ++ take c.in_ok-count.count c.read.new.buffer =
-    c.in_ok-extend_from_slice.ensures.items ∙ ap (λ xs. c.loop-bytes.bytes.items ++ take c.in_ok-count.count xs) piece in (
+    let more =
+    piece_of c.loop-bytes.bytes.items c.extend_from_slice.new.self.items c.deref.result.now c.read.new.buffer c.in_ok-count.count c.in_ok-extend_from_slice.ensures.items piece in (
       c.loop-bytes.invariant.0,
       piece_fits c.loop-bytes.bytes.items c.extend_from_slice.new.self.items c.read.new.buffer c.in_ok-count.count more
           (omega (arith, c.if-count-len.false, c.len.ensures, c.loop-bytes.bytes.ok.0)) c.loop-bytes.invariant.1,
