@@ -27,7 +27,7 @@ use Rattle.flute_store.specs.News.{told_symbols, news_facts, IsHeldSession}
 use Rattle.flute_store.specs.Held.{HoldsObject, HasCell}
 use Rattle.std.specs.List.{AllByRecursion}
 use Rattle.flute_store.specs.declared.news.Told.{Told}
-use Rattle.flute_store.specs.declared.news.Told.TheVariants.{One as OneTold, Conflict as ConflictTold}
+use Rattle.flute_store.specs.declared.news.Told.TheVariants.{Borrowed as BorrowedTold, Owned as OwnedTold, Conflict as ConflictTold}
 use Rattle.flute_store.proofs.At.{at-nothing, at-one_here}
 use Rattle.flute_store.proofs.StoreJoin.{ordered-session, ordered-store, object-info}
 use Rattle.flute_store.proofs.Counting.{some-of, at-content, at-session, at-object}
@@ -103,7 +103,8 @@ module _ {n : ℕ} (s o : ℕ) (m : List (Session × List (ObjectName × Object 
   held_info key h info = let r = of_part key h.0 h.1 in (r.0, r.2, (r.1, r.3, tt))
 
   of_told : (key : Key) (id : SymbolId) (told : Told) (F : List Fact) → AllByRecursion (HasCell (content m)) (F ++ symbols_facts key (told_symbols (Some (id, told)))) → fact_at (content m) (symbol_address key id) ≢ None
-  of_told key id (OneTold bytes) [] h = h.0
+  of_told key id (BorrowedTold bytes) [] h = h.0
+  of_told key id (OwnedTold bytes) [] h = h.0
   of_told key id ConflictTold [] h = h.0
   of_told key id told (f ∷ F) h = of_told key id told F h.1
 

@@ -20,7 +20,7 @@ use Rattle.flute_join.specs.declared.cell.Cell.{Cell}
 use Rattle.flute_join.specs.declared.cell.Cell.TheVariants.{Absent, One, Conflict}
 use Rattle.flute_parts.specs.declared.symbol_id.SymbolId.{SymbolId}
 use Rattle.flute_store.specs.declared.news.Told.{Told}
-use Rattle.flute_store.specs.declared.news.Told.TheVariants.{One as OneTold, Conflict as ConflictTold}
+use Rattle.flute_store.specs.declared.news.Told.TheVariants.{Borrowed as BorrowedTold, Owned as OwnedTold, Conflict as ConflictTold}
 use Rattle.flute_store.specs.News.{told_cell, told_symbols}
 use Rattle.flute_store.specs.Beyond.{AnyValue}
 
@@ -120,5 +120,6 @@ known-join eq (One x) Conflict h = λ e. cc
 known-join eq Conflict d h = h
 
 pub known-told : (t : Told) → IsKnown (told_cell t)
-known-told (OneTold bytes) = λ e. cc
+known-told (BorrowedTold bytes) = λ e. cc
+known-told (OwnedTold bytes) = λ e. cc
 known-told ConflictTold = λ e. cc

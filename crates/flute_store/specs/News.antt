@@ -13,12 +13,13 @@ use Rattle.flute_parts.specs.declared.fact.Fact.{Fact}
 use Rattle.flute_store.specs.ObjectJoin.{symbols_join, session_join, store_join}
 use Rattle.flute_store.specs.Content.{info_facts, symbols_facts}
 use Rattle.flute_store.specs.declared.news.Told.{Told}
-use Rattle.flute_store.specs.declared.news.Told.TheVariants.{One as OneTold, Conflict as ConflictTold}
+use Rattle.flute_store.specs.declared.news.Told.TheVariants.{Borrowed as BorrowedTold, Owned as OwnedTold, Conflict as ConflictTold}
 use Rattle.flute_store.specs.declared.news.News.{News}
 use Rattle.flute_store.specs.declared.object.Object.{Object}
 
 abbrev pub told_cell : Told → Cell (List ℕ)
-told_cell (OneTold bytes) = One bytes.now
+told_cell (BorrowedTold bytes) = One bytes.now
+told_cell (OwnedTold bytes) = One bytes
 told_cell ConflictTold = Conflict
 
 abbrev pub told_symbols : Option (SymbolId × Told) → List (SymbolId × Cell (List ℕ))
@@ -31,7 +32,8 @@ news_object news = record { info = news.info; symbols = told_symbols news.symbol
 
 -- the bytes that are told are a symbol's
 abbrev pub HasSize : Told → Type 0
-HasSize (OneTold bytes) = HasSymbolSize bytes.now
+HasSize (BorrowedTold bytes) = HasSymbolSize bytes.now
+HasSize (OwnedTold bytes) = HasSymbolSize bytes
 HasSize ConflictTold = Unit {0}
 
 abbrev pub HasSizes : Option (SymbolId × Told) → Type 0

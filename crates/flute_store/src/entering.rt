@@ -32,16 +32,16 @@ pub fn enter_object<const OBJECTS: u32, const SYMBOLS: u32>(
     objects: &mut Objects<OBJECTS, SYMBOLS>,
     alloc: Global,
     key: ObjectKey,
-    news: &News<'_>,
+    news: News<'_>,
 ) -> Result<(), JoinRefusal>
     requires each { EachValue IsObject objects.old }
-    requires news { IsNews news.now }
-    ensures ok { OnOk result (objects.new ≡ with_object objects.old key news.now) }
+    requires news { IsNews news }
+    ensures ok { OnOk result (objects.new ≡ with_object objects.old key news.entry) }
     ensures err { OnErr result (objects.new ≡ objects.old) }
-    ensures full { result ≡ Err JoinRefusal.Full → SessionBeyond OBJECTS (with_object objects.old key news.now) }
-    ensures held { IsHeldObject objects.old key news.now → IsOk result }
+    ensures full { result ≡ Err JoinRefusal.Full → SessionBeyond OBJECTS (with_object objects.old key news.entry) }
+    ensures held { IsHeldObject objects.old key news.entry → IsOk result }
     ensures room { (result ≡ Err JoinRefusal.Full → ⊥)
-        → IsSession OBJECTS (with_object objects.old key news.now) }
+        → IsSession OBJECTS (with_object objects.old key news.entry) }
 {
     if let Some(held) = objects.get_mut(&key) {
         return held.enter(alloc, news);
@@ -60,17 +60,17 @@ pub fn enter_session<const SESSIONS: u32, const OBJECTS: u32, const SYMBOLS: u32
     sessions: &mut Sessions<SESSIONS, OBJECTS, SYMBOLS>,
     alloc: Global,
     key: &Key,
-    news: &News<'_>,
+    news: News<'_>,
 ) -> Result<(), JoinRefusal>
     requires each { EachValue (IsSession OBJECTS) sessions.old }
-    requires news { IsNews news.now }
-    ensures ok { OnOk result (sessions.new ≡ with_session sessions.old key.now news.now) }
+    requires news { IsNews news }
+    ensures ok { OnOk result (sessions.new ≡ with_session sessions.old key.now news.entry) }
     ensures err { OnErr result (sessions.new ≡ sessions.old) }
     ensures full { result ≡ Err JoinRefusal.Full
-        → StoreBeyond SESSIONS OBJECTS (with_session sessions.old key.now news.now) }
-    ensures held { IsHeldSession sessions.old key.now news.now → IsOk result }
+        → StoreBeyond SESSIONS OBJECTS (with_session sessions.old key.now news.entry) }
+    ensures held { IsHeldSession sessions.old key.now news.entry → IsOk result }
     ensures room { (result ≡ Err JoinRefusal.Full → ⊥)
-        → IsSound session_cmp SESSIONS (IsSession OBJECTS) (with_session sessions.old key.now news.now) }
+        → IsSound session_cmp SESSIONS (IsSession OBJECTS) (with_session sessions.old key.now news.entry) }
 {
     if let Some(held) = sessions.get_mut(&key.session) {
         return enter_object(held, alloc, key.object, news);

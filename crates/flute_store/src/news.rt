@@ -1,5 +1,5 @@
 //! What is told of an object at once.
-ghost use Rattle.std.specs.Prelude.{◌≡◌, [], ◌∷◌, length, IfSome, IfNone, IfOk, IfErr, IsOk, bytes_eq};
+ghost use Rattle.std.specs.Prelude.{◌≡◌, [], ◌∷◌, length, List, ℕ, IfSome, IfNone, IfOk, IfErr, IsOk, bytes_eq};
 ghost use Rattle.flute_join.specs.Cell.{cell_join, IsKnown};
 ghost use Rattle.flute_parts.specs.Addresses.{address};
 ghost use Rattle.flute_parts.specs.Facts.{same_information};
@@ -14,9 +14,10 @@ use flute_wire::Packet;
 use std::alloc::Global;
 
 /// What is told of a symbol: its bytes, or that there were two values.
-#[derive(Clone, Copy)]
+#[derive(Drop)]
 pub enum Told<'a> {
-    One(&'a [u8]),
+    Borrowed(&'a [u8]),
+    Owned(Bytes),
     Conflict,
 }
 
@@ -44,11 +45,36 @@ impl<'a> News<'a> {
             },
             Fact::Symbol { id, bytes, .. } => News {
                 info: Cell::Absent,
-                symbol: Some((*id, Told::One(bytes.as_slice()))),
+                symbol: Some((*id, Told::Borrowed(bytes.as_slice()))),
             },
             Fact::SymbolConflict { id, .. } => News {
                 info: Cell::Absent,
                 symbol: Some((*id, Told::Conflict)),
+            },
+        }
+    }
+
+    /// What a fact tells, which is handed over: none of its bytes is copied.
+    pub fn of_owned(fact: Fact) -> Self
+        ensures news { IsNews result }
+        ensures facts { news_facts (address fact).key result ≡ fact ∷ [] }
+    {
+        match fact {
+            Fact::Info { info, .. } => News {
+                info: Cell::One(info),
+                symbol: None,
+            },
+            Fact::InfoConflict { .. } => News {
+                info: Cell::Conflict,
+                symbol: None,
+            },
+            Fact::Symbol { id, bytes, .. } => News {
+                info: Cell::Absent,
+                symbol: Some((id, Told::Owned(bytes))),
+            },
+            Fact::SymbolConflict { id, .. } => News {
+                info: Cell::Absent,
+                symbol: Some((id, Told::Conflict)),
             },
         }
     }
@@ -67,7 +93,7 @@ impl<'a> News<'a> {
         match packet.symbol() {
             Some((id, bytes)) => Some(News {
                 info,
-                symbol: Some((id, Told::One(bytes))),
+                symbol: Some((id, Told::Borrowed(bytes))),
             }),
             None if matches!(info, Cell::Absent) => None,
             None => Some(News { info, symbol: None }),
@@ -90,19 +116,21 @@ impl<'a> News<'a> {
 }
 
 impl Told<'_> {
-    /// A cell of its own. Its bytes are as many as a symbol's, so the one refusal is `OutOfMemory`. A conflict takes
-    /// no memory.
-    pub fn to_cell(&self, alloc: Global) -> Result<Cell<Bytes>, JoinRefusal>
-        requires { HasSize self.now }
-        ensures ok { IfOk result (λ c. c ≡ told_cell self.now) }
+    /// A cell of it. Borrowed bytes are copied; they are as many as a symbol's, so the one refusal is `OutOfMemory`.
+    /// Owned bytes are moved, and like a conflict they take no memory.
+    pub fn into_cell(self, alloc: Global) -> Result<Cell<Bytes>, JoinRefusal>
+        requires { HasSize self }
+        ensures ok { IfOk result (λ c. c ≡ told_cell self.entry) }
         ensures err { IfErr result (λ e. e ≡ JoinRefusal.OutOfMemory) }
-        ensures conflict { self.now ≡ Told.Conflict → IsOk result }
+        ensures owned { (bytes : List ℕ) → self.entry ≡ Told.Owned bytes → IsOk result }
+        ensures conflict { self.entry ≡ Told.Conflict → IsOk result }
     {
         match self {
-            Told::One(bytes) => match Bytes::new(alloc, bytes) {
+            Told::Borrowed(bytes) => match Bytes::new(alloc, bytes) {
                 Ok(bytes) => Ok(Cell::One(bytes)),
                 Err(_) => Err(JoinRefusal::OutOfMemory),
             },
+            Told::Owned(bytes) => Ok(Cell::One(bytes)),
             Told::Conflict => Ok(Cell::Conflict),
         }
     }
@@ -113,7 +141,8 @@ impl Told<'_> {
         ensures { held.new ≡ cell_join bytes_eq held.old (told_cell self.now) }
     {
         let differs = match (self, &*held) {
-            (Told::One(bytes), Cell::One(value)) => value.as_slice() != *bytes,
+            (Told::Borrowed(bytes), Cell::One(value)) => value.as_slice() != *bytes,
+            (Told::Owned(bytes), Cell::One(value)) => *value != *bytes,
             _ => true,
         };
         if differs {

@@ -56,17 +56,17 @@ fn enter_symbol<const SYMBOLS: u32>(
     symbols: &mut JoinMap<SymbolId, Cell<Bytes>, SYMBOLS>,
     alloc: Global,
     id: SymbolId,
-    told: &Told<'_>,
+    told: Told<'_>,
 ) -> Result<(), JoinRefusal>
     requires each { EachValue IsKnown symbols.old }
-    requires size { HasSize told.now }
-    ensures ok { OnOk result (symbols.new ≡ with_symbol symbols.old id told.now) }
+    requires size { HasSize told }
+    ensures ok { OnOk result (symbols.new ≡ with_symbol symbols.old id told.entry) }
     ensures err { OnErr result (symbols.new ≡ symbols.old) }
     ensures full { result ≡ Err JoinRefusal.Full
-        → SYMBOLS < length (with_symbol symbols.old id told.now) }
+        → SYMBOLS < length (with_symbol symbols.old id told.entry) }
     ensures held { IsSome (value_at symbol_id_cmp symbols.old id) → IsOk result }
     ensures room { (result ≡ Err JoinRefusal.Full → ⊥)
-        → IsSound symbol_id_cmp SYMBOLS IsKnown (with_symbol symbols.old id told.now) }
+        → IsSound symbol_id_cmp SYMBOLS IsKnown (with_symbol symbols.old id told.entry) }
 {
     if let Some(held) = symbols.get_mut(&id) {
         told.meet(held);
@@ -75,7 +75,7 @@ fn enter_symbol<const SYMBOLS: u32>(
     if symbols.len() == SYMBOLS {
         return Err(JoinRefusal::Full);
     }
-    let cell = told.to_cell(alloc)?;
+    let cell = told.into_cell(alloc)?;
     symbols.add_new(id, cell)
 }
 
@@ -83,20 +83,20 @@ fn enter_symbol<const SYMBOLS: u32>(
 fn enter_symbols<const SYMBOLS: u32>(
     symbols: &mut JoinMap<SymbolId, Cell<Bytes>, SYMBOLS>,
     alloc: Global,
-    told: &Option<(SymbolId, Told<'_>)>,
+    told: Option<(SymbolId, Told<'_>)>,
 ) -> Result<(), JoinRefusal>
     requires symbols { AreSymbols SYMBOLS symbols.old }
-    requires sizes { HasSizes told.now }
-    ensures ok { OnOk result (symbols.new ≡ symbols_join symbols.old (told_symbols told.now)) }
+    requires sizes { HasSizes told }
+    ensures ok { OnOk result (symbols.new ≡ symbols_join symbols.old (told_symbols told.entry)) }
     ensures err { OnErr result (symbols.new ≡ symbols.old) }
     ensures full { result ≡ Err JoinRefusal.Full
-        → SYMBOLS < length (symbols_join symbols.old (told_symbols told.now)) }
-    ensures held { IsHeldSymbol symbols.old told.now → IsOk result }
+        → SYMBOLS < length (symbols_join symbols.old (told_symbols told.entry)) }
+    ensures held { IsHeldSymbol symbols.old told.entry → IsOk result }
     ensures room { (result ≡ Err JoinRefusal.Full → ⊥)
-        → AreSymbols SYMBOLS (symbols_join symbols.old (told_symbols told.now)) }
+        → AreSymbols SYMBOLS (symbols_join symbols.old (told_symbols told.entry)) }
 {
     match told {
-        Some((id, told)) => enter_symbol(symbols, alloc, *id, told),
+        Some((id, told)) => enter_symbol(symbols, alloc, id, told),
         None => Ok(()),
     }
 }
@@ -117,19 +117,20 @@ impl<const SYMBOLS: u32> Object<SYMBOLS> {
     }
 
     /// Joins what is told of the object. After a refusal it is unchanged.
-    pub fn enter(&mut self, alloc: Global, news: &News<'_>) -> Result<(), JoinRefusal>
+    pub fn enter(&mut self, alloc: Global, news: News<'_>) -> Result<(), JoinRefusal>
         requires symbols { AreSymbols SYMBOLS self.old.symbols }
-        requires news { IsNews news.now }
-        ensures ok { OnOk result (self.new ≡ object_join self.old (news_object news.now)) }
+        requires news { IsNews news }
+        ensures ok { OnOk result (self.new ≡ object_join self.old (news_object news.entry)) }
         ensures err { OnErr result (self.new ≡ self.old) }
         ensures full { result ≡ Err JoinRefusal.Full
-            → SYMBOLS < length (object_join self.old (news_object news.now)).symbols }
-        ensures held { IsHeldSymbol self.old.symbols news.now.symbol → IsOk result }
+            → SYMBOLS < length (object_join self.old (news_object news.entry)).symbols }
+        ensures held { IsHeldSymbol self.old.symbols news.entry.symbol → IsOk result }
         ensures room { (result ≡ Err JoinRefusal.Full → ⊥)
-            → IsObject (object_join self.old (news_object news.now)) }
+            → IsObject (object_join self.old (news_object news.entry)) }
     {
-        enter_symbols(&mut self.symbols, alloc, &news.symbol)?;
-        meet_info(&mut self.info, &news.info);
+        let News { info, symbol } = news;
+        enter_symbols(&mut self.symbols, alloc, symbol)?;
+        meet_info(&mut self.info, &info);
         Ok(())
     }
 }

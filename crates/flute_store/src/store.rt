@@ -110,13 +110,13 @@ impl<const SESSIONS: u32, const OBJECTS: u32, const SYMBOLS: u32> Store<
     }
 
     // Joins what is told of an object. After a refusal the store is unchanged.
-    fn enter(&mut self, alloc: Global, key: &Key, news: &News<'_>) -> Result<(), JoinRefusal>
-        requires { IsNews news.now }
-        ensures ok { OnOk result (Same self.new (self.old ++ news_facts key.now news.now)) }
+    fn enter(&mut self, alloc: Global, key: &Key, news: News<'_>) -> Result<(), JoinRefusal>
+        requires { IsNews news }
+        ensures ok { OnOk result (Same self.new (self.old ++ news_facts key.now news.entry)) }
         ensures err { OnErr result (self.new ≡ self.old) }
         ensures full { (result ≡ Err JoinRefusal.Full)
-            ↔ Over (self.old ++ news_facts key.now news.now) SESSIONS OBJECTS SYMBOLS }
-        ensures held { AllByRecursion (HasCell self.old) (news_facts key.now news.now) → IsOk result }
+            ↔ Over (self.old ++ news_facts key.now news.entry) SESSIONS OBJECTS SYMBOLS }
+        ensures held { AllByRecursion (HasCell self.old) (news_facts key.now news.entry) → IsOk result }
     {
         enter_session(&mut self.sessions, alloc, key, news)
     }
@@ -135,7 +135,24 @@ impl<const SESSIONS: u32, const OBJECTS: u32, const SYMBOLS: u32> Store<
             ↔ Over (self.old ++ fact.now ∷ []) SESSIONS OBJECTS SYMBOLS }
         ensures held { HasCell self.old fact.now → IsOk result }
     {
-        self.enter(alloc, &fact.address().key, &News::of_fact(fact))
+        self.enter(alloc, &fact.address().key, News::of_fact(fact))
+    }
+
+    /// As [`add`](Store::add), but the fact is handed over: none of its bytes is copied. Where it isn't kept, it is
+    /// dropped.
+    ///
+    /// # Errors
+    ///
+    /// `Full` exactly where the fact needs a new session, object or symbol beyond the limits, before any memory is
+    /// asked for, and else `OutOfMemory`. Neither comes at a held address. After each the store is unchanged.
+    pub fn put(&mut self, alloc: Global, fact: Fact) -> Result<(), JoinRefusal>
+        ensures ok { OnOk result (Same self.new (self.old ++ fact ∷ [])) }
+        ensures err { OnErr result (self.new ≡ self.old) }
+        ensures full { (result ≡ Err JoinRefusal.Full) ↔ Over (self.old ++ fact ∷ []) SESSIONS OBJECTS SYMBOLS }
+        ensures held { HasCell self.old fact → IsOk result }
+    {
+        let key = fact.address().key;
+        self.enter(alloc, &key, News::of_owned(fact))
     }
 
     // Adds the facts of a packet. After a refusal the store is unchanged.
@@ -153,10 +170,9 @@ impl<const SESSIONS: u32, const OBJECTS: u32, const SYMBOLS: u32> Store<
         let Some(news) = News::of_packet(packet) else {
             return Ok(Taken { facts: 0 });
         };
-        self.enter(alloc, &packet.key(), &news)?;
-        Ok(Taken {
-            facts: news.count(),
-        })
+        let facts = news.count();
+        self.enter(alloc, &packet.key(), news)?;
+        Ok(Taken { facts })
     }
 
     /// Adds the facts of a datagram: the transmission information of its object and its encoding symbol, as far as it

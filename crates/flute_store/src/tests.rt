@@ -272,6 +272,56 @@ fn conflicts_are_added(rt: HostRuntime) -> Result<(), Fail> {
     Ok(())
 }
 
+/// A symbol that is handed over: new, again, with another value, and beyond the limit.
+#[test]
+fn facts_are_put(rt: HostRuntime) -> Result<(), Fail> {
+    let key = file(&rt, 7, 1);
+    let told = |id, octets: &[u8]| -> Result<Fact, Fail> {
+        let bytes = Bytes::new(rt.alloc(), octets)?;
+        Ok(Fact::Symbol { key, id, bytes })
+    };
+    let mut store: Smallest = Store::new(rt.alloc());
+    for _ in 0..2 {
+        store.put(rt.alloc(), told(FIRST, b"hell")?)?;
+        assert_holds(&rt, &store, &[symbol(&key, FIRST, b"hell")]);
+    }
+    let full = store.put(rt.alloc(), told(LAST, b"o")?);
+    assert!(rt; full == Err(JoinRefusal::Full));
+    assert_holds(&rt, &store, &[symbol(&key, FIRST, b"hell")]);
+    store.put(rt.alloc(), told(FIRST, b"help")?)?;
+    assert_holds(&rt, &store, &[symbol_conflict(&key, FIRST)]);
+    store.put(rt.alloc(), told(FIRST, b"hell")?)?;
+    assert_holds(&rt, &store, &[symbol_conflict(&key, FIRST)]);
+    Ok(())
+}
+
+/// What else can be handed over: information, and conflicts.
+#[test]
+fn information_and_conflicts_are_put(rt: HostRuntime) -> Result<(), Fail> {
+    let key = file(&rt, 7, 1);
+    let mut store = taken(rt.alloc(), &[vectors::FIRST_SYMBOL, vectors::LAST_SYMBOL])?;
+    let fact = Fact::Info {
+        key,
+        info: Info::new(5, 4, 2)?,
+    };
+    store.put(rt.alloc(), fact)?;
+    let hello = [
+        info(&rt, &key),
+        symbol(&key, FIRST, b"hell"),
+        symbol(&key, LAST, b"o"),
+    ];
+    assert_holds(&rt, &store, &hello);
+    store.put(rt.alloc(), Fact::InfoConflict { key })?;
+    store.put(rt.alloc(), Fact::SymbolConflict { key, id: LAST })?;
+    let conflicts = [
+        info_conflict(&key),
+        symbol(&key, FIRST, b"hell"),
+        symbol_conflict(&key, LAST),
+    ];
+    assert_holds(&rt, &store, &conflicts);
+    Ok(())
+}
+
 /// Joining again changes nothing, and two values are a conflict.
 #[test]
 fn stores_are_joined(rt: HostRuntime) -> Result<(), Fail> {

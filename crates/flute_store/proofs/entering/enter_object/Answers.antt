@@ -33,34 +33,34 @@ pub returns-in-Some-clause-ok : goal.returns-in-Some-clause-ok
 returns-in-Some-clause-ok g c =
     let es = c.args.objects.now in
     on_ok_weaker c.enter.result
-    (λ p. ap (set_value (is_at (object_cmp c.args.key)) es) p ∙ sym (single_held object_total (object_join_laws g.row.SYMBOLS) es c.args.key c.in-Some.held.now (news_object c.args.news.now) c.in-Some.ensures.ordered (sym c.in-Some.ensures.value)))
+    (λ p. ap (set_value (is_at (object_cmp c.args.key)) es) p ∙ sym (single_held object_total (object_join_laws g.row.SYMBOLS) es c.args.key c.in-Some.held.now (news_object c.args.news) c.in-Some.ensures.ordered (sym c.in-Some.ensures.value)))
     c.enter.ensures.ok
 
 pub returns-in-Some-clause-full : goal.returns-in-Some-clause-full
 returns-in-Some-clause-full g c =
-    λ e. inr (held-beyond object_total object_place (object_join_laws g.row.SYMBOLS) c.args.objects.now c.args.key (news_object c.args.news.now) c.in-Some.ensures.ordered ObjectBeyond c.in-Some.held.now (sym c.in-Some.ensures.value) (c.enter.ensures.full e))
+    λ e. inr (held-beyond object_total object_place (object_join_laws g.row.SYMBOLS) c.args.objects.now c.args.key (news_object c.args.news) c.in-Some.ensures.ordered ObjectBeyond c.in-Some.held.now (sym c.in-Some.ensures.value) (c.enter.ensures.full e))
 
 pub returns-in-Some-clause-room : goal.returns-in-Some-clause-room
 returns-in-Some-clause-room g c =
-    λ n. held-sound object_total object_place (object_join_laws g.row.SYMBOLS) c.args.objects.now c.args.key (news_object c.args.news.now) c.in-Some.ensures.ordered g.row.OBJECTS IsObject c.in-Some.held.now (sym c.in-Some.ensures.value) c.in-Some.ensures.within c.requires.each (c.enter.ensures.room n)
+    λ n. held-sound object_total object_place (object_join_laws g.row.SYMBOLS) c.args.objects.now c.args.key (news_object c.args.news) c.in-Some.ensures.ordered g.row.OBJECTS IsObject c.in-Some.held.now (sym c.in-Some.ensures.value) c.in-Some.ensures.within c.requires.each (c.enter.ensures.room n)
 
 pub returns-then-len-clause-full : goal.returns-then-len-clause-full
 returns-then-len-clause-full g c =
-    λ _. inl (full-beyond object_total object_place (object_join_laws g.row.SYMBOLS) c.args.objects.now c.args.key (news_object c.args.news.now) g.row.OBJECTS (sym c.in_default.ensures.value) (sym c.len.ensures.value ∙ c.if-len.true))
+    λ _. inl (full-beyond object_total object_place (object_join_laws g.row.SYMBOLS) c.args.objects.now c.args.key (news_object c.args.news) g.row.OBJECTS (sym c.in_default.ensures.value) (sym c.len.ensures.value ∙ c.if-len.true))
 
 made : (n : ℕ) (x : Object n) (w : Object n) → x.info ≡ Absent → x.symbols ≡ [] → object_join x w ≡ w
 made n x w p q = (λ i. record { info = cell_join same_information (p i) w.info; symbols = symbols_join (q i) w.symbols }) ∙ (λ i. record { info = w.info; symbols = nothing_join symbol_id_cmp (cell_join bytes_eq) w.symbols i })
 
 pub returns-in_err-enter-clause-full : goal.returns-in_err-enter-clause-full
 returns-in_err-enter-clause-full g c =
-    let w = news_object {n = g.row.SYMBOLS} c.args.news.now in
+    let w = news_object {n = g.row.SYMBOLS} c.args.news in
     let refused = err_from_is_err_and c.from_residual.result c.from_residual.ensures.1 in
     let is = made g.row.SYMBOLS c.new-object.result w c.new-object.ensures.info c.new-object.ensures.symbols in
     rw (refused.1, refused.2) (λ e. inr (new-beyond object_total object_place (object_join_laws g.row.SYMBOLS) c.args.objects.now c.args.key w ObjectBeyond (sym c.in_default.ensures.value) (subst ObjectBeyond is (c.in_err-enter.ensures.full e))))
 
 pub returns-in_err-enter-clause-room : goal.returns-in_err-enter-clause-room
 returns-in_err-enter-clause-room g c =
-    let w = news_object {n = g.row.SYMBOLS} c.args.news.now in
+    let w = news_object {n = g.row.SYMBOLS} c.args.news in
     let refused = err_from_is_err_and c.from_residual.result c.from_residual.ensures.1 in
     let is = made g.row.SYMBOLS c.new-object.result w c.new-object.ensures.info c.new-object.ensures.symbols in
     let room : length c.args.objects.now < g.row.OBJECTS = omega (arith, c.len.ensures.value, c.len.ensures.within, c.if-len.false) in
@@ -68,14 +68,14 @@ returns-in_err-enter-clause-room g c =
 
 pub returns-clause-ok : goal.returns-clause-ok
 returns-clause-ok g c =
-    let w = news_object {n = g.row.SYMBOLS} c.args.news.now in
+    let w = news_object {n = g.row.SYMBOLS} c.args.news in
     let is = made g.row.SYMBOLS c.new-object.result w c.new-object.ensures.info c.new-object.ensures.symbols in
     let added = rw (c.in_ok-enter.ensures.ok ∙ is) at c.add_new.ensures.ok in
     added_joins object_total (object_join_laws g.row.SYMBOLS) c.args.objects.now c.add_new.new.self c.args.key w (sym c.in_default.ensures.value) c.add_new.result added
 
 pub returns-clause-room : goal.returns-clause-room
 returns-clause-room g c =
-    let w = news_object {n = g.row.SYMBOLS} c.args.news.now in
+    let w = news_object {n = g.row.SYMBOLS} c.args.news in
     let is = made g.row.SYMBOLS c.new-object.result w c.new-object.ensures.info c.new-object.ensures.symbols in
     let room : length c.args.objects.now < g.row.OBJECTS = omega (arith, c.len.ensures.value, c.len.ensures.within, c.if-len.false) in
     λ n. new-sound object_total object_place (object_join_laws g.row.SYMBOLS) c.args.objects.now c.args.key w c.in_default.ensures.ordered g.row.OBJECTS IsObject (sym c.in_default.ensures.value) room c.requires.each (subst IsObject is (c.in_ok-enter.ensures.room (λ e. cc)))

@@ -31,34 +31,34 @@ pub returns-in-Some-clause-ok : goal.returns-in-Some-clause-ok
 returns-in-Some-clause-ok g c =
     let es = c.args.sessions.now in
     on_ok_weaker c.enter_object.result
-    (λ p. ap (set_value (is_at (session_cmp c.args.key.now.session)) es) p ∙ sym (single_held session_total (session_laws g.row.SYMBOLS) es c.args.key.now.session c.in-Some.held.now ((c.args.key.now.object, news_object {n = g.row.SYMBOLS} c.args.news.now) ∷ []) c.in-Some.ensures.ordered (sym c.in-Some.ensures.value)))
+    (λ p. ap (set_value (is_at (session_cmp c.args.key.now.session)) es) p ∙ sym (single_held session_total (session_laws g.row.SYMBOLS) es c.args.key.now.session c.in-Some.held.now ((c.args.key.now.object, news_object {n = g.row.SYMBOLS} c.args.news) ∷ []) c.in-Some.ensures.ordered (sym c.in-Some.ensures.value)))
     c.enter_object.ensures.ok
 
 pub returns-in-Some-clause-full : goal.returns-in-Some-clause-full
 returns-in-Some-clause-full g c =
-    λ e. inr (held-beyond session_total session_place (session_laws g.row.SYMBOLS) c.args.sessions.now c.args.key.now.session ((c.args.key.now.object, news_object {n = g.row.SYMBOLS} c.args.news.now) ∷ []) c.in-Some.ensures.ordered (SessionBeyond g.row.OBJECTS) c.in-Some.held.now (sym c.in-Some.ensures.value) (c.enter_object.ensures.full e))
+    λ e. inr (held-beyond session_total session_place (session_laws g.row.SYMBOLS) c.args.sessions.now c.args.key.now.session ((c.args.key.now.object, news_object {n = g.row.SYMBOLS} c.args.news) ∷ []) c.in-Some.ensures.ordered (SessionBeyond g.row.OBJECTS) c.in-Some.held.now (sym c.in-Some.ensures.value) (c.enter_object.ensures.full e))
 
 pub returns-in-Some-clause-room : goal.returns-in-Some-clause-room
 returns-in-Some-clause-room g c =
-    λ n. held-sound session_total session_place (session_laws g.row.SYMBOLS) c.args.sessions.now c.args.key.now.session ((c.args.key.now.object, news_object {n = g.row.SYMBOLS} c.args.news.now) ∷ []) c.in-Some.ensures.ordered g.row.SESSIONS (IsSession g.row.OBJECTS) c.in-Some.held.now (sym c.in-Some.ensures.value) c.in-Some.ensures.within c.requires.each (c.enter_object.ensures.room n)
+    λ n. held-sound session_total session_place (session_laws g.row.SYMBOLS) c.args.sessions.now c.args.key.now.session ((c.args.key.now.object, news_object {n = g.row.SYMBOLS} c.args.news) ∷ []) c.in-Some.ensures.ordered g.row.SESSIONS (IsSession g.row.OBJECTS) c.in-Some.held.now (sym c.in-Some.ensures.value) c.in-Some.ensures.within c.requires.each (c.enter_object.ensures.room n)
 
 pub returns-then-len-clause-full : goal.returns-then-len-clause-full
 returns-then-len-clause-full g c =
-    λ _. inl (full-beyond session_total session_place (session_laws g.row.SYMBOLS) c.args.sessions.now c.args.key.now.session ((c.args.key.now.object, news_object {n = g.row.SYMBOLS} c.args.news.now) ∷ []) g.row.SESSIONS (sym c.in_default.ensures.value) (sym c.len.ensures.value ∙ c.if-len.true))
+    λ _. inl (full-beyond session_total session_place (session_laws g.row.SYMBOLS) c.args.sessions.now c.args.key.now.session ((c.args.key.now.object, news_object {n = g.row.SYMBOLS} c.args.news) ∷ []) g.row.SESSIONS (sym c.in_default.ensures.value) (sym c.len.ensures.value ∙ c.if-len.true))
 
 made : (n : ℕ) (m w : List (ObjectName × Object n)) → m ≡ [] → session_join m w ≡ w
 made n m w p = ap (λ x. session_join x w) p ∙ nothing_join object_cmp object_join w
 
 pub returns-in_err-enter_object-clause-full : goal.returns-in_err-enter_object-clause-full
 returns-in_err-enter_object-clause-full g c =
-    let w : List (ObjectName × Object g.row.SYMBOLS) = (c.args.key.now.object, news_object {n = g.row.SYMBOLS} c.args.news.now) ∷ [] in
+    let w : List (ObjectName × Object g.row.SYMBOLS) = (c.args.key.now.object, news_object {n = g.row.SYMBOLS} c.args.news) ∷ [] in
     let refused = err_from_is_err_and c.from_residual.result c.from_residual.ensures.1 in
     let is = made g.row.SYMBOLS c.new-objects.result w c.new-objects.ensures in
     rw (refused.1, refused.2) (λ e. inr (new-beyond session_total session_place (session_laws g.row.SYMBOLS) c.args.sessions.now c.args.key.now.session w (SessionBeyond g.row.OBJECTS) (sym c.in_default.ensures.value) (subst (SessionBeyond g.row.OBJECTS) is (c.in_err-enter_object.ensures.full e))))
 
 pub returns-in_err-enter_object-clause-room : goal.returns-in_err-enter_object-clause-room
 returns-in_err-enter_object-clause-room g c =
-    let w : List (ObjectName × Object g.row.SYMBOLS) = (c.args.key.now.object, news_object {n = g.row.SYMBOLS} c.args.news.now) ∷ [] in
+    let w : List (ObjectName × Object g.row.SYMBOLS) = (c.args.key.now.object, news_object {n = g.row.SYMBOLS} c.args.news) ∷ [] in
     let refused = err_from_is_err_and c.from_residual.result c.from_residual.ensures.1 in
     let is = made g.row.SYMBOLS c.new-objects.result w c.new-objects.ensures in
     let room : length c.args.sessions.now < g.row.SESSIONS = omega (arith, c.len.ensures.value, c.len.ensures.within, c.if-len.false) in
@@ -66,14 +66,14 @@ returns-in_err-enter_object-clause-room g c =
 
 pub returns-clause-ok : goal.returns-clause-ok
 returns-clause-ok g c =
-    let w : List (ObjectName × Object g.row.SYMBOLS) = (c.args.key.now.object, news_object {n = g.row.SYMBOLS} c.args.news.now) ∷ [] in
+    let w : List (ObjectName × Object g.row.SYMBOLS) = (c.args.key.now.object, news_object {n = g.row.SYMBOLS} c.args.news) ∷ [] in
     let is = made g.row.SYMBOLS c.new-objects.result w c.new-objects.ensures in
     let added = rw (c.in_ok-enter_object.ensures.ok ∙ is) at c.add_new.ensures.ok in
     added_joins session_total (session_laws g.row.SYMBOLS) c.args.sessions.now c.add_new.new.self c.args.key.now.session w (sym c.in_default.ensures.value) c.add_new.result added
 
 pub returns-clause-room : goal.returns-clause-room
 returns-clause-room g c =
-    let w : List (ObjectName × Object g.row.SYMBOLS) = (c.args.key.now.object, news_object {n = g.row.SYMBOLS} c.args.news.now) ∷ [] in
+    let w : List (ObjectName × Object g.row.SYMBOLS) = (c.args.key.now.object, news_object {n = g.row.SYMBOLS} c.args.news) ∷ [] in
     let is = made g.row.SYMBOLS c.new-objects.result w c.new-objects.ensures in
     let room : length c.args.sessions.now < g.row.SESSIONS = omega (arith, c.len.ensures.value, c.len.ensures.within, c.if-len.false) in
     λ n. new-sound session_total session_place (session_laws g.row.SYMBOLS) c.args.sessions.now c.args.key.now.session w c.in_default.ensures.ordered g.row.SESSIONS (IsSession g.row.OBJECTS) (sym c.in_default.ensures.value) room c.requires.each (subst (IsSession g.row.OBJECTS) is (c.in_ok-enter_object.ensures.room (λ e. cc)))

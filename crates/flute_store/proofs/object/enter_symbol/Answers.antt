@@ -19,31 +19,31 @@ pub returns-in-Some-clause-ok : goal.returns-in-Some-clause-ok
 returns-in-Some-clause-ok g c =
     let es = c.args.symbols.now in
     ap (set_value (is_at (symbol_id_cmp c.args.id)) es) c.meet.ensures
-    ∙ sym (single_held symbol_id_total cells es c.args.id c.in-Some.held.now (told_cell c.args.told.now) c.in-Some.ensures.ordered (sym c.in-Some.ensures.value))
+    ∙ sym (single_held symbol_id_total cells es c.args.id c.in-Some.held.now (told_cell c.args.told) c.in-Some.ensures.ordered (sym c.in-Some.ensures.value))
 
 pub returns-in-Some-clause-room : goal.returns-in-Some-clause-room
 returns-in-Some-clause-room g c =
     let es = c.args.symbols.now in
     let found = sym c.in-Some.ensures.value in
     let known = each-value_at symbol_id_cmp IsKnown es c.args.id c.in-Some.held.now c.requires.each found in
-    λ _. held-sound symbol_id_total symbol_id_place cells es c.args.id (told_cell c.args.told.now) c.in-Some.ensures.ordered g.row.SYMBOLS IsKnown c.in-Some.held.now found c.in-Some.ensures.within c.requires.each
-    (known-join bytes_eq c.in-Some.held.now (told_cell c.args.told.now) known)
+    λ _. held-sound symbol_id_total symbol_id_place cells es c.args.id (told_cell c.args.told) c.in-Some.ensures.ordered g.row.SYMBOLS IsKnown c.in-Some.held.now found c.in-Some.ensures.within c.requires.each
+    (known-join bytes_eq c.in-Some.held.now (told_cell c.args.told) known)
 
 pub returns-then-len-clause-full : goal.returns-then-len-clause-full
 returns-then-len-clause-full g c =
-    λ _. full-beyond symbol_id_total symbol_id_place cells c.args.symbols.now c.args.id (told_cell c.args.told.now) g.row.SYMBOLS (sym c.in_default.ensures.value) (sym c.len.ensures.value ∙ c.if-len.true)
+    λ _. full-beyond symbol_id_total symbol_id_place cells c.args.symbols.now c.args.id (told_cell c.args.told) g.row.SYMBOLS (sym c.in_default.ensures.value) (sym c.len.ensures.value ∙ c.if-len.true)
 
 pub returns-in_err-cell-clause-room : goal.returns-in_err-cell-clause-room
 returns-in_err-cell-clause-room g c =
     let room : length c.args.symbols.now < g.row.SYMBOLS = omega (arith, c.len.ensures.value, c.len.ensures.within, c.if-len.false) in
-    λ _. new-sound symbol_id_total symbol_id_place cells c.args.symbols.now c.args.id (told_cell c.args.told.now) c.in_default.ensures.ordered g.row.SYMBOLS IsKnown (sym c.in_default.ensures.value) room c.requires.each (known-told c.args.told.now)
+    λ _. new-sound symbol_id_total symbol_id_place cells c.args.symbols.now c.args.id (told_cell c.args.told) c.in_default.ensures.ordered g.row.SYMBOLS IsKnown (sym c.in_default.ensures.value) room c.requires.each (known-told c.args.told)
 
 pub returns-clause-ok : goal.returns-clause-ok
 returns-clause-ok g c =
     let added = rw c.in_ok-cell.ensures.ok at c.add_new.ensures.ok in
-    added_joins symbol_id_total cells c.args.symbols.now c.add_new.new.self c.args.id (told_cell c.args.told.now) (sym c.in_default.ensures.value) c.add_new.result added
+    added_joins symbol_id_total cells c.args.symbols.now c.add_new.new.self c.args.id (told_cell c.args.told) (sym c.in_default.ensures.value) c.add_new.result added
 
 pub returns-clause-room : goal.returns-clause-room
 returns-clause-room g c =
     let room : length c.args.symbols.now < g.row.SYMBOLS = omega (arith, c.len.ensures.value, c.len.ensures.within, c.if-len.false) in
-    λ _. new-sound symbol_id_total symbol_id_place cells c.args.symbols.now c.args.id (told_cell c.args.told.now) c.in_default.ensures.ordered g.row.SYMBOLS IsKnown (sym c.in_default.ensures.value) room c.requires.each (known-told c.args.told.now)
+    λ _. new-sound symbol_id_total symbol_id_place cells c.args.symbols.now c.args.id (told_cell c.args.told) c.in_default.ensures.ordered g.row.SYMBOLS IsKnown (sym c.in_default.ensures.value) room c.requires.each (known-told c.args.told)

@@ -21,7 +21,7 @@ sound n x news some are = record {
 pub returns-in_err-enter_symbols-clause-room : goal.returns-in_err-enter_symbols-clause-room
 returns-in_err-enter_symbols-clause-room g c =
     let refused = err_from_is_err_and c.from_residual.result c.from_residual.ensures.1 in
-    rw (refused.1, refused.2) (λ n. sound g.row.SYMBOLS c.args.self.now c.args.news.now c.requires.news.some (c.in_err-enter_symbols.ensures.room n))
+    rw (refused.1, refused.2) (λ n. sound g.row.SYMBOLS c.args.self.now c.args.news c.requires.news.some (c.in_err-enter_symbols.ensures.room n))
 
 pub returns-clause-room : goal.returns-clause-room
-returns-clause-room g c = λ n. sound g.row.SYMBOLS c.args.self.now c.args.news.now c.requires.news.some (c.in_ok-enter_symbols.ensures.room (λ e. cc))
+returns-clause-room g c = λ n. sound g.row.SYMBOLS c.args.self.now c.args.news c.requires.news.some (c.in_ok-enter_symbols.ensures.room (λ e. cc))

@@ -21,11 +21,11 @@ use Rattle.flute_store.proofs.store.Store.enter.Goals as goal
 pub returns-clause-ok : goal.returns-clause-ok
 returns-clause-ok g c =
     let old = c.self.inside.sessions in
-    let one = one_object g.row.SYMBOLS c.args.key.now c.args.news.now in
-    let whole = content-join old one (ordered-store _ _ old c.self.invariant) (one-ordered g.row.SYMBOLS c.args.key.now c.args.news.now) in
+    let one = one_object g.row.SYMBOLS c.args.key.now c.args.news in
+    let whole = content-join old one (ordered-store _ _ old c.self.invariant) (one-ordered g.row.SYMBOLS c.args.key.now c.args.news) in
     rw (← c.self.view_is)
     (on_ok_weaker c.enter_session.result
-    (λ p. subst (λ m. Same (content m) (content old ++ news_facts c.args.key.now c.args.news.now)) (sym p) (subst (λ F. Same (content (store_join old one)) (content old ++ F)) (one-content g.row.SYMBOLS c.args.key.now c.args.news.now) whole))
+    (λ p. subst (λ m. Same (content m) (content old ++ news_facts c.args.key.now c.args.news)) (sym p) (subst (λ F. Same (content (store_join old one)) (content old ++ F)) (one-content g.row.SYMBOLS c.args.key.now c.args.news) whole))
     c.enter_session.ensures.ok)
 
 is_full : (r : Result (Unit {0}) JoinRefusal) → ((r ≡ Err Full → ⊥) → ⊥) → r ≡ Err Full
@@ -37,12 +37,12 @@ pub returns-clause-full : goal.returns-clause-full
 returns-clause-full g c =
     let n = g.row.SYMBOLS in
     let old = c.self.inside.sessions in
-    let news = news_facts c.args.key.now c.args.news.now in
-    let one = one_object n c.args.key.now c.args.news.now in
-    let whole : Same (content (store_join old one)) (content old ++ news) = subst (λ F. Same (content (store_join old one)) (content old ++ F)) (one-content n c.args.key.now c.args.news.now) (content-join old one (ordered-store _ _ old c.self.invariant) (one-ordered n c.args.key.now c.args.news.now)) in
+    let news = news_facts c.args.key.now c.args.news in
+    let one = one_object n c.args.key.now c.args.news in
+    let whole : Same (content (store_join old one)) (content old ++ news) = subst (λ F. Same (content (store_join old one)) (content old ++ F)) (one-content n c.args.key.now c.args.news) (content-join old one (ordered-store _ _ old c.self.invariant) (one-ordered n c.args.key.now c.args.news)) in
     rw (← c.self.view_is) (
       λ e. Over-below (content (store_join old one)) (content old ++ news) g.row.SESSIONS g.row.OBJECTS n (Below-from_Same (content (store_join old one)) (content old ++ news) whole)
-          (beyond-over g.row.SESSIONS g.row.OBJECTS (store_join old one) (solid-join old one (solid-store g.row.SESSIONS g.row.OBJECTS old c.self.invariant) (solid-one n c.args.key.now c.args.news.now c.requires)) (c.enter_session.ensures.full e)),
+          (beyond-over g.row.SESSIONS g.row.OBJECTS (store_join old one) (solid-join old one (solid-store g.row.SESSIONS g.row.OBJECTS old c.self.invariant) (solid-one n c.args.key.now c.args.news c.requires)) (c.enter_session.ensures.full e)),
       λ over. is_full c.enter_session.result (λ h.
           let room = c.enter_session.ensures.room h in
           not_over g.row.SESSIONS g.row.OBJECTS (store_join old one) (record { ordered = room.ordered; within = room.within; each = room.each })
@@ -51,5 +51,5 @@ returns-clause-full g c =
 
 pub returns-clause-held : goal.returns-clause-held
 returns-clause-held g c =
-    let news = c.args.news.now in
+    let news = c.args.news in
     rw (← c.self.view_is) (λ h. c.enter_session.ensures.held (news_held g.row.SESSIONS g.row.OBJECTS c.self.inside.sessions c.self.invariant c.args.key.now news.info news.symbol c.requires.some h))
