@@ -12,7 +12,8 @@ use std::alloc::Global;
 
 /// Reads the journal that the source holds, which may have at most `max_entries` entries, into a new store.
 ///
-/// It reads entry by entry, and holds one of them beside the store. The whole source is read where it succeeds.
+/// It reads entry by entry, and hands each to the store without a copy of its bytes. The whole source is read where it
+/// succeeds.
 ///
 /// # Errors
 ///
@@ -38,7 +39,7 @@ pub fn read_store<const SESSIONS: u32, const OBJECTS: u32, const SYMBOLS: u32, R
     let mut store = Store::new(alloc);
     let mut reader = JournalReader::new(source, max_entries);
     while let Some(fact) = reader.next(alloc)? {
-        store.add(alloc, &fact)?;
+        store.put(alloc, fact)?;
     }
     Ok(store)
 }

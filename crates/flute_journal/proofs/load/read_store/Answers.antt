@@ -36,34 +36,25 @@ returns-in_err-fact-clause-reads g c =
     λ x same. subst (λ (z : g.row.R.Denot). ReadsPart c.args.max_entries (g.R.Source.unread c.args.source.now) (g.R.Source.unread z)) same read in
     rw e.1 (reads _ (search rules))
 
-pub returns-in_err-add-clause-reads : goal.returns-in_err-add-clause-reads
-returns-in_err-add-clause-reads g c =
-    let e = err_from_is_err_and c.from_residual-in_err-add.result c.from_residual-in_err-add.ensures.1 in
+pub returns-in_err-put-clause-reads : goal.returns-in_err-put-clause-reads
+returns-in_err-put-clause-reads g c =
+    let e = err_from_is_err_and c.from_residual-in_err-put.result c.from_residual-in_err-put.ensures.1 in
     let read = refused-part _ _ _ _ _ _ _ _ _ _ _ _ _ c.loop-store.invariant.0 c.loop-store.invariant.1 c.in-Some.is c.in_ok-fact.ensures.gives in
     let reads : (x : g.row.R.Denot) → c.next.new.self.source.now ≡ x → ReadsPart c.args.max_entries (g.R.Source.unread c.args.source.now) (g.R.Source.unread x) =
     λ x same. subst (λ (z : g.row.R.Denot). ReadsPart c.args.max_entries (g.R.Source.unread c.args.source.now) (g.R.Source.unread z)) same read in
     rw e.1 (reads _ (search rules))
 
-pub returns-in_err-add-clause-fault : goal.returns-in_err-add-clause-fault
-returns-in_err-add-clause-fault g c =
-    let e = err_from_is_err_and c.from_residual-in_err-add.result c.from_residual-in_err-add.ensures.1 in
+pub returns-in_err-put-clause-fault : goal.returns-in_err-put-clause-fault
+returns-in_err-put-clause-fault g c =
+    let e = err_from_is_err_and c.from_residual-in_err-put.result c.from_residual-in_err-put.ensures.1 in
     rw (e.1 ∙ ap Err e.2)
     (loaded-full _ _ _ _ _ _ _ _ _ _ _ _ _ _ c.loop-store.invariant.0 c.loop-store.invariant.1 c.in-Some.is c.in_ok-fact.ensures.gives
-    (λ full. c.in_err-add.ensures.full.0 (ap Err full)))
-
-pub loop-store-preserved-in_ok-add : goal.loop-store-preserved-in_ok-add
-loop-store-preserved-in_ok-add g c = (
-  loaded-given _ _ _ _ _ _ _ _ _ _ _ _ _ _ _ c.loop-store.invariant.0 c.loop-store.invariant.1 c.in-Some.is c.in_ok-fact.ensures.gives c.in_ok-add.ensures.ok
-      c.in_ok-add.ensures.full.1,
-  c.next.ensures.limit ∙ c.loop-store.invariant.1,
-  c.next.ensures.source ∙ c.loop-store.invariant.2,
-  loaded-read (is_open c.loop-store.reader.stage) _ _ _ c.loop-store.invariant.3 c.in_ok-fact.ensures.failures,
-)
+    (λ full. c.in_err-put.ensures.full.0 (ap Err full)))
 
 pub loop-store-preserved : goal.loop-store-preserved
 loop-store-preserved g c = (
-  loaded-given _ _ _ _ _ _ _ _ _ _ _ _ _ _ _ c.loop-store.invariant.0 c.loop-store.invariant.1 c.in-Some.is c.in_ok-fact.ensures.gives c.in_ok-add.ensures.ok
-      c.in_ok-add.ensures.full.1,
+  loaded-given _ _ _ _ _ _ _ _ _ _ _ _ _ _ _ c.loop-store.invariant.0 c.loop-store.invariant.1 c.in-Some.is c.in_ok-fact.ensures.gives c.in_ok-put.ensures.ok
+      c.in_ok-put.ensures.full.1,
   c.next.ensures.limit ∙ c.loop-store.invariant.1,
   c.next.ensures.source ∙ c.loop-store.invariant.2,
   loaded-read (is_open c.loop-store.reader.stage) _ _ _ c.loop-store.invariant.3 c.in_ok-fact.ensures.failures,
