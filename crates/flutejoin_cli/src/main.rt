@@ -7,7 +7,8 @@ use flute_parts::{Info, Key, StdSink, StdSource};
 use flute_store::Shelf;
 use flute_wire::Datagrams;
 use flutejoin::{
-    Blob, CommandFault, Line, add_info, blob_fault, check_whole, count_to, datagrams_of, extract_to, gaps_to, line_of, load, merge_to, packet_to, save_to, send_to, show_to,
+    Blob, CommandFault, Line, add_info, blob_fault, check_whole, count_to, datagrams_of,
+    extract_to, gaps_to, line_of, load, merge_to, packet_to, save_to, send_to, show_to,
 };
 use std::env;
 use std::fs::{self, File};
