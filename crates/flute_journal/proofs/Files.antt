@@ -17,7 +17,7 @@ use Rattle.flute_journal.proofs.Existence.{opening_is, octets-behind}
 use Rattle.flute_journal.proofs.Records.{datagrams_more, record_comes}
 
 -- what a record spells is read in one way, whatever follows it
-record-injective : (d e x y : List ℕ) → IsDatagram d → IsDatagram e → record_of d ++ x ≡ record_of e ++ y → (d ≡ e) × (x ≡ y)
+pub record-injective : (d e x y : List ℕ) → IsDatagram d → IsDatagram e → record_of d ++ x ≡ record_of e ++ y → (d ≡ e) × (x ≡ y)
 record-injective d e x y v w h =
     let parts = in_bytes-injective 2 (length d) (length e) (d ++ x) (e ++ y) (omega (arith, v.short)) (omega (arith, w.short))
     (sym (append_assoc (in_bytes 2 (length d)) d x) ∙ h ∙ append_assoc (in_bytes 2 (length e)) e y) in
@@ -25,7 +25,7 @@ record-injective d e x y v w h =
     let back : x ≡ y = sym (drop_at d x (length d) refl) ∙ ap (drop (length d)) parts.1 ∙ drop_at e y (length d) (sym parts.0) in
     (front, back)
 
-not_nothing : (d x : List ℕ) → record_of d ++ x ≡ [] → ⊥
+pub not_nothing : (d x : List ℕ) → record_of d ++ x ≡ [] → ⊥
 not_nothing d x e = cc
 
 records-injective : (ds es : List (List ℕ)) → AllByRecursion IsDatagram ds → AllByRecursion IsDatagram es → flat_map record_of ds ≡ flat_map record_of es → ds ≡ es
@@ -42,7 +42,7 @@ one_reading bytes ds es f g =
     (sym (drop_at file_header (flat_map record_of ds) 6 refl) ∙ ap (drop 6) (sym f.bytes_are ∙ g.bytes_are) ∙ drop_at file_header (flat_map record_of es) 6 refl)
 
 -- a whole record within the bound is not at fault
-record_passes : (limit count : ℕ) (d more : List ℕ) → IsDatagram d → count < limit → record_fault limit count (record_of d ++ more) ≡ None
+pub record_passes : (limit count : ℕ) (d more : List ℕ) → IsDatagram d → count < limit → record_fault limit count (record_of d ++ more) ≡ None
 record_passes limit count d more v few =
     let size : length d ≡ big_endian (in_bytes 2 (length d)) = sym (number-in_bytes 2 (length d) (omega (arith, v.short))) in
     ap (record_fault limit count) (append_assoc (in_bytes 2 (length d)) d more)
@@ -61,7 +61,7 @@ records_pass limit count (d ∷ ds) (c ∷ es) rest f v w e few h =
     let n : suc count + length es ≡ count + length (c ∷ es) = omega arith in
     records_pass limit (suc count) ds es rest f v.1 w.1 p.1 (omega (arith, few)) (ap (λ k. record_fault limit k rest) n ∙ h)
 
-opening_passes : (r : List ℕ) → opening_fault file_header (file_header ++ r) ≡ None
+pub opening_passes : (r : List ℕ) → opening_fault file_header (file_header ++ r) ≡ None
 opening_passes r = opening_comes file_header (take 4 file_header) (drop 4 file_header) r refl refl refl
 
 pub no_fault : (bytes : List ℕ) (limit : ℕ) (ds es : List (List ℕ)) (f : ReadFault) → IsFileWithin limit bytes ds → FileStops bytes limit es f → ⊥

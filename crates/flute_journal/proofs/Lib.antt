@@ -25,3 +25,4 @@ pub mod MergeTurns
 pub mod MergeAhead
 pub mod MergeStops
 pub mod MergeStates
+pub mod FileEnds

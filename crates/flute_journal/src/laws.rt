@@ -82,3 +82,14 @@ pub fn bytes_are_a_file_or_stop()
     ensures { (bs : List ℕ) (limit : ℕ) → AllByRecursion IsByte bs
         → ((ds : List (List ℕ)) × IsFileWithin limit bs ds) ⊎ ((ds : List (List ℕ)) × ((f : Fault) × FileStops bs limit ds f)) }
 {}
+
+/// Bytes have one first fault, behind one list of datagrams.
+pub fn a_file_stops_once()
+    ensures { (bs : List ℕ) (limit : ℕ) (ds es : List (List ℕ)) (f g : Fault) → FileStops bs limit ds f → FileStops bs limit es g → (ds ≡ es) × (f ≡ g) }
+{}
+
+/// A datagram file stops nowhere but behind more records than the bound.
+pub fn a_file_stops_at_the_bound()
+    ensures { (bs : List ℕ) (limit : ℕ) (ds es : List (List ℕ)) (f : Fault) → IsFileOf bs ds → FileStops bs limit es f
+        → (f ≡ faults.TooMany) × (limit < length ds) }
+{}

@@ -269,4 +269,6 @@ fn laws_can_be_called() {
     laws::a_file_has_one_reading();
     laws::a_file_has_no_fault();
     laws::bytes_are_a_file_or_stop();
+    laws::a_file_stops_once();
+    laws::a_file_stops_at_the_bound();
 }
