@@ -15,3 +15,4 @@ mod Given
 mod Running
 mod Driving
 mod Refused
+mod Inputs

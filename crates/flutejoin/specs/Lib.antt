@@ -20,3 +20,4 @@ pub mod Digits
 pub mod Examples
 pub mod Merge
 pub mod Carousel
+pub mod Joined

@@ -1,7 +1,7 @@
 -- The program's status after a fault.
 use Rattle.std.specs.Prelude.{ℕ, ⊤}
 use Rattle.flutejoin.specs.declared.command_fault.CommandFault.{CommandFault}
-use Rattle.flutejoin.specs.declared.command_fault.CommandFault.TheVariants.{CommandLine, NotText, BadNumber, BadKey, OutputIsInput, BadInformation, BadHex, Refused, CannotSend, TooLarge, CannotOpen, Input, Full, NoObject, NoInformation, ConflictingInformation, NotWhole, OutOfMemory, CannotCreate, CannotWrite}
+use Rattle.flutejoin.specs.declared.command_fault.CommandFault.TheVariants.{CommandLine, NotText, BadNumber, BadKey, OutputIsInput, BadInformation, BadHex, Refused, CannotSend, TooLarge, CannotOpen, Input, UnknownKind, Full, NoObject, NoInformation, ConflictingInformation, NotWhole, OutOfMemory, CannotCreate, CannotWrite}
 use Rattle.flute_journal.specs.declared.fault.ReadFault.{ReadFault}
 use Rattle.flute_journal.specs.declared.fault.ReadFault.TheVariants as faults
 use Rattle.flutejoin.specs.declared.blob.BlobFault.{BlobFault}
@@ -27,6 +27,7 @@ status_of BadHex = 1
 status_of (Refused refusal) = 1
 status_of (CannotOpen number) = 3
 status_of (Input number fault) = read_status fault
+status_of (UnknownKind number) = 1
 status_of Full = 1
 status_of NoObject = 1
 status_of NoInformation = 1

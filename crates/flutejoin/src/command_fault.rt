@@ -45,10 +45,13 @@ pub enum CommandFault {
     /// The input with this number, from 1, could not be opened.
     #[error("cannot open input {0}")]
     CannotOpen(usize),
-    /// The input with this number, from 1, is no journal, or could not be read.
+    /// The input with this number, from 1, is no journal or datagram file, or could not be read.
     #[error("input {0}: {1}")]
     Input(usize, ReadFault),
-    /// A journal has more sessions, objects or symbols than a store holds.
+    /// The input with this number, from 1, begins as neither a journal nor a datagram file.
+    #[error("input {0}: unknown kind")]
+    UnknownKind(usize),
+    /// A journal, or all inputs together, have more sessions, objects or symbols than a store holds.
     #[error("full")]
     Full,
     /// Nothing of the object is held.
@@ -93,7 +96,7 @@ impl CommandFault {
             CommandFault::BadNumber(_) | CommandFault::BadKey => 2,
             CommandFault::OutputIsInput => 2,
             CommandFault::Input(_, ReadFault::Read | ReadFault::OutOfMemory) => 3,
-            CommandFault::Input(..) => 1,
+            CommandFault::Input(..) | CommandFault::UnknownKind(_) => 1,
             CommandFault::CannotOpen(_) | CommandFault::CannotCreate => 3,
             CommandFault::OutOfMemory | CommandFault::CannotWrite => 3,
         }

@@ -1,5 +1,6 @@
 mod driven;
 mod files;
+mod joining;
 mod objects;
 mod outputs;
 mod run_vectors;
@@ -161,6 +162,7 @@ fn the_other_faults_have_their_texts(rt: HostRuntime) -> Result<(), Fail> {
     let rows = [
         (CommandFault::NotText, "an argument is not text", 2),
         (CommandFault::CannotOpen(2), "cannot open input 2", 3),
+        (CommandFault::UnknownKind(2), "input 2: unknown kind", 1),
         (CommandFault::CannotCreate, "cannot create output", 3),
         (CommandFault::OutOfMemory, "out of memory", 3),
         (CommandFault::CannotWrite, "cannot write", 3),

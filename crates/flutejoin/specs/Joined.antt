@@ -1,0 +1,166 @@
+-- What the inputs of several stations come to.
+use Rattle.std.specs.Prelude.{◌≡◌, ◌≢◌, ℕ, ◌+◌, List, [], ◌∷◌, ◌++◌, length, take, Some, Bool, true, false, if◌then◌else◌, ⊤, ◌⊎◌}
+use Rattle.std.specs.List.{flat_map, count_by, AllByRecursion}
+use Rattle.flute_parts.specs.Facts.{Same}
+use Rattle.flute_parts.specs.Limits.{Over}
+use Rattle.flute_parts.specs.declared.fact.Fact.{Fact}
+use Rattle.flute_wire.specs.Reading.{facts}
+use Rattle.flute_journal.specs.Journal.{IsJournalWithin}
+use Rattle.flute_journal.specs.Records.{IsFileWithin, HasFileFault}
+use Rattle.flute_journal.specs.Stores.{BeginsOver}
+use Rattle.flute_journal.specs.Whole.{HasFault}
+use Rattle.flute_journal.specs.declared.fault.ReadFault.{ReadFault}
+use Rattle.flute_journal.specs.declared.fault.ReadFault.TheVariants.{Read}
+use Rattle.flutejoin.specs.Refused.{is_refused}
+use Rattle.flutejoin.specs.declared.limits.TheConstants.{MAX_ENTRIES}
+use Rattle.flutejoin.specs.declared.joining.Joined.{Joined}
+use Rattle.flutejoin.specs.declared.joining.Kind.{Kind}
+use Rattle.flutejoin.specs.declared.joining.Kind.TheVariants.{Journal, Datagrams}
+use Rattle.flutejoin.specs.declared.command_fault.CommandFault.{CommandFault}
+use Rattle.flutejoin.specs.declared.command_fault.CommandFault.TheVariants.{UnknownKind, Input, Full, OutOfMemory}
+
+-- `FLJN`, and `FLDG`
+abbrev pub journal_magic : List ℕ
+journal_magic = 0x46 ∷ 0x4C ∷ 0x4A ∷ 0x4E ∷ []
+
+abbrev pub file_magic : List ℕ
+file_magic = 0x46 ∷ 0x4C ∷ 0x44 ∷ 0x47 ∷ []
+
+-- what an input is, by its first four bytes
+abbrev pub HasKind : Kind → List ℕ → Type 0
+HasKind Journal bytes = take 4 bytes ≡ journal_magic
+HasKind Datagrams bytes = take 4 bytes ≡ file_magic
+
+abbrev pub IsNeither : List ℕ → Type 0
+IsNeither bytes = (kind : Kind) → ¬ HasKind kind bytes
+
+-- what an input tells: the facts of a journal, or the datagrams of a file
+pub data Told : Type 0 where
+  of_journal : (entries : List Fact) → Told
+  of_file : (datagrams : List (List ℕ)) → Told
+
+abbrev pub told_facts : Told → List Fact
+told_facts (of_journal entries) = entries
+told_facts (of_file datagrams) = flat_map facts datagrams
+
+abbrev pub told_datagrams : Told → List (List ℕ)
+told_datagrams (of_journal entries) = []
+told_datagrams (of_file datagrams) = datagrams
+
+-- the input is the journal of these facts, or the file of these datagrams
+abbrev pub Tells : List ℕ → Told → Type 0
+Tells bytes (of_journal entries) = IsJournalWithin MAX_ENTRIES bytes entries
+Tells bytes (of_file datagrams) = IsFileWithin MAX_ENTRIES bytes datagrams
+
+-- each input tells what stands at its place
+unfoldable pub TellAll : List (List ℕ) → List Told → Type 0
+TellAll [] [] = Unit {0}
+TellAll (bytes ∷ inputs) (one ∷ told) = Tells bytes one × TellAll inputs told
+TellAll _ _ = ⊥
+
+-- what the inputs come to: the facts of all, and how many datagrams they have, and refused ones
+pub record Joins (inputs : List (List ℕ)) (joined : Joined) : Type 0 where
+  pub told : List Told
+  pub tell : TellAll inputs told
+  pub content : Same joined.store (flat_map told_facts told)
+  pub datagrams : joined.datagrams ≡ length (flat_map told_datagrams told)
+  pub refused : joined.refused ≡ count_by is_refused (flat_map told_datagrams told)
+
+-- the first of the inputs that has no Q: it has P. It has this number, from 1
+pub record FirstInput (Q P : List ℕ → Type 0) (number : ℕ) (inputs : List (List ℕ)) : Type 0 where
+  pub before : List (List ℕ)
+  pub bytes : List ℕ
+  pub after : List (List ℕ)
+  pub split : inputs ≡ before ++ bytes ∷ after
+  pub number_is : number ≡ length before + 1
+  pub earlier : AllByRecursion Q before
+  pub here : P bytes
+
+-- a journal by its first bytes, or a datagram file
+abbrev pub IsKnown : List ℕ → Type 0
+IsKnown bytes = HasKind Journal bytes ⊎ ((datagrams : List (List ℕ)) × IsFileWithin MAX_ENTRIES bytes datagrams)
+
+-- an input that tells facts within the limits of a store
+abbrev pub TellsWithin : List ℕ → Type 0
+TellsWithin bytes = (told : Told) × Tells bytes told × ¬ Over (told_facts told) 64 4096 1048576
+
+-- an input that is over these limits alone
+abbrev pub IsOverAlone : List ℕ → Type 0
+IsOverAlone bytes =
+    (HasKind Journal bytes × BeginsOver 64 4096 1048576 MAX_ENTRIES bytes)
+    ⊎ ((datagrams : List (List ℕ)) × IsFileWithin MAX_ENTRIES bytes datagrams × Over (flat_map facts datagrams) 64 4096 1048576)
+
+-- inputs that are over them together
+abbrev pub TellOver : List (List ℕ) → Type 0
+TellOver inputs = (told : List Told) × TellAll inputs told × Over (flat_map told_facts told) 64 4096 1048576
+
+-- a journal, or a datagram file, with this fault; memory may run out at any entry or record
+abbrev pub IsJournalAt : ReadFault → List ℕ → Type 0
+IsJournalAt fault bytes = HasKind Journal bytes × HasFault MAX_ENTRIES (Some bytes) fault × (fault ≢ Read)
+
+abbrev pub IsFileAt : ReadFault → List ℕ → Type 0
+IsFileAt fault bytes = HasKind Datagrams bytes × HasFileFault MAX_ENTRIES (Some bytes) fault × (fault ≢ Read)
+
+-- why inputs were not joined: the first that is of no known kind, or a datagram file at fault; else the first that is a journal at fault, or
+-- over the limits alone; else all are over them together
+abbrev pub JoinFails : List (List ℕ) → CommandFault → Type 0
+JoinFails inputs (UnknownKind number) = FirstInput IsKnown IsNeither number inputs
+JoinFails inputs (Input number fault) = FirstInput IsKnown (IsFileAt fault) number inputs ⊎ (AllByRecursion IsKnown inputs × FirstInput TellsWithin (IsJournalAt fault) number inputs)
+JoinFails inputs Full = AllByRecursion IsKnown inputs × (((number : ℕ) × FirstInput TellsWithin IsOverAlone number inputs) ⊎ (AllByRecursion TellsWithin inputs × TellOver inputs))
+JoinFails inputs OutOfMemory = ⊤
+JoinFails inputs _ = ⊥
+
+-- What the parts of a join answer.
+
+-- the kind or the records of an input, or of the first such input, are at fault
+abbrev pub CheckFails : ℕ → List ℕ → CommandFault → Type 0
+CheckFails number bytes (UnknownKind n) = (n ≡ number) × IsNeither bytes
+CheckFails number bytes (Input n fault) = (n ≡ number) × IsFileAt fault bytes
+CheckFails number bytes _ = ⊥
+
+abbrev pub SomeCheckFails : List (List ℕ) → CommandFault → Type 0
+SomeCheckFails inputs (UnknownKind number) = FirstInput IsKnown IsNeither number inputs
+SomeCheckFails inputs (Input number fault) = FirstInput IsKnown (IsFileAt fault) number inputs
+SomeCheckFails inputs _ = ⊥
+
+-- an input alone is at fault
+abbrev pub InputFails : ℕ → List ℕ → CommandFault → Type 0
+InputFails number bytes (UnknownKind n) = (n ≡ number) × IsNeither bytes
+InputFails number bytes (Input n fault) = (n ≡ number) × (IsFileAt fault bytes ⊎ IsJournalAt fault bytes)
+InputFails number bytes Full = IsOverAlone bytes
+InputFails number bytes OutOfMemory = ⊤
+InputFails number bytes _ = ⊥
+
+-- one more datagram, and whether it is refused, are counted, and its facts are held
+pub record TakesDatagram (before : Joined) (datagram : List ℕ) (now : Joined) : Type 0 where
+  pub content : Same now.store (before.store ++ facts datagram)
+  pub datagrams : now.datagrams ≡ before.datagrams + 1
+  pub refused : now.refused ≡ (if is_refused datagram then before.refused + 1 else before.refused)
+
+-- what datagrams come to
+pub record TakesDatagrams (datagrams : List (List ℕ)) (joined : Joined) : Type 0 where
+  pub content : Same joined.store (flat_map facts datagrams)
+  pub count : joined.datagrams ≡ length datagrams
+  pub refused : joined.refused ≡ count_by is_refused datagrams
+
+-- a datagram, or datagrams, are over the limits, or there is no memory for them
+abbrev pub DatagramFails : List Fact → List ℕ → CommandFault → Type 0
+DatagramFails held datagram Full = Over (held ++ facts datagram) 64 4096 1048576
+DatagramFails held datagram OutOfMemory = ⊤
+DatagramFails held datagram _ = ⊥
+
+abbrev pub DatagramsFail : List (List ℕ) → CommandFault → Type 0
+DatagramsFail datagrams Full = Over (flat_map facts datagrams) 64 4096 1048576
+DatagramsFail datagrams OutOfMemory = ⊤
+DatagramsFail datagrams _ = ⊥
+
+-- the facts and the numbers of both
+pub record JoinsBoth (before own now : Joined) : Type 0 where
+  pub content : Same now.store (before.store ++ own.store)
+  pub datagrams : now.datagrams ≡ before.datagrams + own.datagrams
+  pub refused : now.refused ≡ before.refused + own.refused
+
+-- whether both are within the limits together
+abbrev pub JoinAnswers : Joined → Joined → Joined → Bool → Type 0
+JoinAnswers before own now true = JoinsBoth before own now
+JoinAnswers before own now false = Over (before.store ++ own.store) 64 4096 1048576
