@@ -21,7 +21,7 @@ use Rattle.flutejoin.specs.Refused.{is_refused}
 use Rattle.flutejoin.specs.declared.limits.TheConstants.{MAX_ENTRIES}
 use Rattle.flutejoin.specs.declared.joining.Joined.{Joined}
 use Rattle.flutejoin.specs.declared.command_fault.CommandFault.{CommandFault}
-use Rattle.flutejoin.specs.declared.command_fault.CommandFault.TheVariants.{CommandLine, NotText, BadNumber, BadKey, BadHex, Refused, CannotOpen, Input, UnknownKind, Full, NoObject, NoInformation, ConflictingInformation, NotWhole, OutOfMemory, CannotCreate, CannotWrite}
+use Rattle.flutejoin.specs.declared.command_fault.CommandFault.TheVariants.{CommandLine, NotText, BadNumber, BadKey, OutputIsInput, BadInformation, CannotSend, TooLarge, BadHex, Refused, CannotOpen, Input, UnknownKind, Full, NoObject, NoInformation, ConflictingInformation, NotWhole, OutOfMemory, CannotCreate, CannotWrite}
 use Rattle.flutejoin.specs.Joined.{Told, of_journal, of_file, told_facts, told_datagrams, TellAll, Joins, FirstInput, TellsWithin, TellOver, TakesDatagram, TakesDatagrams, JoinsBoth, JoinAnswers, IsNeither, IsKnown, IsOverAlone, IsJournalAt, IsFileAt, JoinFails, SomeCheckFails, CheckFails, InputFails, DatagramFails, DatagramsFail}
 use Rattle.flutejoin.proofs.Receptions.{Below-left}
 
@@ -251,6 +251,10 @@ checks_fail inputs k bytes (CommandLine text) e all h = absurd h
 checks_fail inputs k bytes NotText e all h = absurd h
 checks_fail inputs k bytes (BadNumber option) e all h = absurd h
 checks_fail inputs k bytes BadKey e all h = absurd h
+checks_fail inputs k bytes OutputIsInput e all h = absurd h
+checks_fail inputs k bytes (BadInformation why) e all h = absurd h
+checks_fail inputs k bytes (CannotSend why) e all h = absurd h
+checks_fail inputs k bytes (TooLarge number) e all h = absurd h
 checks_fail inputs k bytes BadHex e all h = absurd h
 checks_fail inputs k bytes (Refused refusal) e all h = absurd h
 checks_fail inputs k bytes (CannotOpen n) e all h = absurd h
@@ -271,6 +275,10 @@ join_unchecked inputs (CommandLine text) h = absurd h
 join_unchecked inputs NotText h = absurd h
 join_unchecked inputs (BadNumber option) h = absurd h
 join_unchecked inputs BadKey h = absurd h
+join_unchecked inputs OutputIsInput h = absurd h
+join_unchecked inputs (BadInformation why) h = absurd h
+join_unchecked inputs (CannotSend why) h = absurd h
+join_unchecked inputs (TooLarge number) h = absurd h
 join_unchecked inputs BadHex h = absurd h
 join_unchecked inputs (Refused refusal) h = absurd h
 join_unchecked inputs (CannotOpen n) h = absurd h
@@ -301,6 +309,10 @@ input_fails inputs k bytes (CommandLine text) e known all h = absurd h
 input_fails inputs k bytes NotText e known all h = absurd h
 input_fails inputs k bytes (BadNumber option) e known all h = absurd h
 input_fails inputs k bytes BadKey e known all h = absurd h
+input_fails inputs k bytes OutputIsInput e known all h = absurd h
+input_fails inputs k bytes (BadInformation why) e known all h = absurd h
+input_fails inputs k bytes (CannotSend why) e known all h = absurd h
+input_fails inputs k bytes (TooLarge number) e known all h = absurd h
 input_fails inputs k bytes BadHex e known all h = absurd h
 input_fails inputs k bytes (Refused refusal) e known all h = absurd h
 input_fails inputs k bytes (CannotOpen n) e known all h = absurd h
@@ -321,6 +333,10 @@ file_fails number bytes ds (CommandLine text) file h = absurd h
 file_fails number bytes ds NotText file h = absurd h
 file_fails number bytes ds (BadNumber option) file h = absurd h
 file_fails number bytes ds BadKey file h = absurd h
+file_fails number bytes ds OutputIsInput file h = absurd h
+file_fails number bytes ds (BadInformation why) file h = absurd h
+file_fails number bytes ds (CannotSend why) file h = absurd h
+file_fails number bytes ds (TooLarge n) file h = absurd h
 file_fails number bytes ds BadHex file h = absurd h
 file_fails number bytes ds (Refused refusal) file h = absurd h
 file_fails number bytes ds (CannotOpen n) file h = absurd h
@@ -340,6 +356,10 @@ takes_fail ds k d joined (CommandLine text) e all h = absurd h
 takes_fail ds k d joined NotText e all h = absurd h
 takes_fail ds k d joined (BadNumber option) e all h = absurd h
 takes_fail ds k d joined BadKey e all h = absurd h
+takes_fail ds k d joined OutputIsInput e all h = absurd h
+takes_fail ds k d joined (BadInformation why) e all h = absurd h
+takes_fail ds k d joined (CannotSend why) e all h = absurd h
+takes_fail ds k d joined (TooLarge number) e all h = absurd h
 takes_fail ds k d joined BadHex e all h = absurd h
 takes_fail ds k d joined (Refused refusal) e all h = absurd h
 takes_fail ds k d joined (CannotOpen n) e all h = absurd h
