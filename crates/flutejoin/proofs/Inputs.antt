@@ -21,7 +21,7 @@ use Rattle.flutejoin.specs.Refused.{is_refused}
 use Rattle.flutejoin.specs.declared.limits.TheConstants.{MAX_ENTRIES}
 use Rattle.flutejoin.specs.declared.joining.Joined.{Joined}
 use Rattle.flutejoin.specs.declared.command_fault.CommandFault.{CommandFault}
-use Rattle.flutejoin.specs.declared.command_fault.CommandFault.TheVariants.{CommandLine, NotText, BadNumber, BadKey, OutputIsInput, BadInformation, CannotSend, TooLarge, BadHex, Refused, CannotOpen, Input, UnknownKind, Full, NoObject, NoInformation, ConflictingInformation, NotWhole, OutOfMemory, CannotCreate, CannotWrite}
+use Rattle.flutejoin.specs.declared.command_fault.CommandFault.TheVariants.{CommandLine, NotText, BadNumber, BadKey, TooManyInputs, OutputIsInput, BadInformation, CannotSend, TooLarge, BadHex, Refused, CannotOpen, Input, UnknownKind, Full, NoObject, NoInformation, ConflictingInformation, NotWhole, OutOfMemory, CannotCreate, CannotWrite}
 use Rattle.flutejoin.specs.Joined.{Told, of_journal, of_file, told_facts, told_datagrams, TellAll, Joins, FirstInput, TellsWithin, TellOver, TakesDatagram, TakesDatagrams, JoinsBoth, JoinAnswers, IsNeither, IsKnown, IsOverAlone, IsJournalAt, IsFileAt, JoinFails, SomeCheckFails, CheckFails, InputFails, DatagramFails, DatagramsFail}
 use Rattle.flutejoin.proofs.Receptions.{Below-left}
 
@@ -251,6 +251,7 @@ checks_fail inputs k bytes (CommandLine text) e all h = absurd h
 checks_fail inputs k bytes NotText e all h = absurd h
 checks_fail inputs k bytes (BadNumber option) e all h = absurd h
 checks_fail inputs k bytes BadKey e all h = absurd h
+checks_fail inputs k bytes TooManyInputs e all h = absurd h
 checks_fail inputs k bytes OutputIsInput e all h = absurd h
 checks_fail inputs k bytes (BadInformation why) e all h = absurd h
 checks_fail inputs k bytes (CannotSend why) e all h = absurd h
@@ -275,6 +276,7 @@ join_unchecked inputs (CommandLine text) h = absurd h
 join_unchecked inputs NotText h = absurd h
 join_unchecked inputs (BadNumber option) h = absurd h
 join_unchecked inputs BadKey h = absurd h
+join_unchecked inputs TooManyInputs h = absurd h
 join_unchecked inputs OutputIsInput h = absurd h
 join_unchecked inputs (BadInformation why) h = absurd h
 join_unchecked inputs (CannotSend why) h = absurd h
@@ -309,6 +311,7 @@ input_fails inputs k bytes (CommandLine text) e known all h = absurd h
 input_fails inputs k bytes NotText e known all h = absurd h
 input_fails inputs k bytes (BadNumber option) e known all h = absurd h
 input_fails inputs k bytes BadKey e known all h = absurd h
+input_fails inputs k bytes TooManyInputs e known all h = absurd h
 input_fails inputs k bytes OutputIsInput e known all h = absurd h
 input_fails inputs k bytes (BadInformation why) e known all h = absurd h
 input_fails inputs k bytes (CannotSend why) e known all h = absurd h
@@ -333,6 +336,7 @@ file_fails number bytes ds (CommandLine text) file h = absurd h
 file_fails number bytes ds NotText file h = absurd h
 file_fails number bytes ds (BadNumber option) file h = absurd h
 file_fails number bytes ds BadKey file h = absurd h
+file_fails number bytes ds TooManyInputs file h = absurd h
 file_fails number bytes ds OutputIsInput file h = absurd h
 file_fails number bytes ds (BadInformation why) file h = absurd h
 file_fails number bytes ds (CannotSend why) file h = absurd h
@@ -356,6 +360,7 @@ takes_fail ds k d joined (CommandLine text) e all h = absurd h
 takes_fail ds k d joined NotText e all h = absurd h
 takes_fail ds k d joined (BadNumber option) e all h = absurd h
 takes_fail ds k d joined BadKey e all h = absurd h
+takes_fail ds k d joined TooManyInputs e all h = absurd h
 takes_fail ds k d joined OutputIsInput e all h = absurd h
 takes_fail ds k d joined (BadInformation why) e all h = absurd h
 takes_fail ds k d joined (CannotSend why) e all h = absurd h

@@ -1,7 +1,9 @@
 -- The program's status after a fault.
-use Rattle.std.specs.Prelude.{ℕ, ⊤}
+use Rattle.std.specs.Prelude.{ℕ, ⊤, ◌≤◌, length}
 use Rattle.flutejoin.specs.declared.command_fault.CommandFault.{CommandFault}
-use Rattle.flutejoin.specs.declared.command_fault.CommandFault.TheVariants.{CommandLine, NotText, BadNumber, BadKey, OutputIsInput, BadInformation, BadHex, Refused, CannotSend, TooLarge, CannotOpen, Input, UnknownKind, Full, NoObject, NoInformation, ConflictingInformation, NotWhole, OutOfMemory, CannotCreate, CannotWrite}
+use Rattle.flutejoin.specs.declared.command_fault.CommandFault.TheVariants.{CommandLine, NotText, BadNumber, BadKey, TooManyInputs, OutputIsInput, BadInformation, BadHex, Refused, CannotSend, TooLarge, CannotOpen, Input, UnknownKind, Full, NoObject, NoInformation, ConflictingInformation, NotWhole, OutOfMemory, CannotCreate, CannotWrite}
+use Rattle.flutejoin.specs.declared.line.Line.{Line}
+use Rattle.flutejoin.specs.declared.line.Line.TheVariants.{Join}
 use Rattle.flute_journal.specs.declared.fault.ReadFault.{ReadFault}
 use Rattle.flute_journal.specs.declared.fault.ReadFault.TheVariants as faults
 use Rattle.flutejoin.specs.declared.blob.BlobFault.{BlobFault}
@@ -19,6 +21,7 @@ status_of (CommandLine text) = 2
 status_of NotText = 2
 status_of (BadNumber option) = 2
 status_of BadKey = 2
+status_of TooManyInputs = 2
 status_of OutputIsInput = 2
 status_of (BadInformation fault) = 1
 status_of (CannotSend fault) = 1
@@ -42,6 +45,7 @@ abbrev pub IsLineFault : CommandFault → Type 0
 IsLineFault (CommandLine text) = ⊤
 IsLineFault (BadNumber option) = ⊤
 IsLineFault BadKey = ⊤
+IsLineFault TooManyInputs = ⊤
 IsLineFault OutputIsInput = ⊤
 IsLineFault OutOfMemory = ⊤
 IsLineFault _ = ⊥
@@ -51,3 +55,8 @@ abbrev pub of_blob : ℕ → BlobFault → CommandFault
 of_blob number blobs.Read = Input number faults.Read
 of_blob number blobs.TooLarge = TooLarge number
 of_blob number blobs.OutOfMemory = OutOfMemory
+
+-- no more inputs than are joined
+abbrev pub HasFewInputs : Line → Type 0
+HasFewInputs (Join out inputs) = length inputs.items ≤ 64
+HasFewInputs _ = ⊤

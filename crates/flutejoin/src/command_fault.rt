@@ -24,6 +24,9 @@ pub enum CommandFault {
     /// The TOI is 0 and no FDT Instance is named, or it is another and one is.
     #[error("bad key")]
     BadKey,
+    /// `join` was given more than 64 inputs.
+    #[error("too many inputs")]
+    TooManyInputs,
     /// The output has the same name as an input.
     #[error("output is an input")]
     OutputIsInput,
@@ -94,7 +97,7 @@ impl CommandFault {
             CommandFault::ConflictingInformation | CommandFault::NotWhole { .. } => 1,
             CommandFault::CommandLine(_) | CommandFault::NotText => 2,
             CommandFault::BadNumber(_) | CommandFault::BadKey => 2,
-            CommandFault::OutputIsInput => 2,
+            CommandFault::TooManyInputs | CommandFault::OutputIsInput => 2,
             CommandFault::Input(_, ReadFault::Read | ReadFault::OutOfMemory) => 3,
             CommandFault::Input(..) | CommandFault::UnknownKind(_) => 1,
             CommandFault::CannotOpen(_) | CommandFault::CannotCreate => 3,

@@ -34,7 +34,7 @@ pub use extract::{check_whole, extract_to};
 pub use gaps::gaps_to;
 pub use info::add_info;
 pub use joining::{Joined, join_inputs};
-pub use limits::MAX_ENTRIES;
+pub use limits::{MAX_ENTRIES, MAX_INPUTS};
 pub use line::{Line, line_of};
 pub use loading::load;
 pub use merging::merge_to;

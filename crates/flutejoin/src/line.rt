@@ -1,8 +1,9 @@
 //! The command line.
-ghost use Rattle.std.specs.Prelude.{IfErr};
-ghost use Rattle.flutejoin.specs.Status.{IsLineFault};
+ghost use Rattle.std.specs.Prelude.{IfOk, IfErr};
+ghost use Rattle.flutejoin.specs.Status.{HasFewInputs, IsLineFault};
 
 use crate::command_fault::CommandFault;
+use crate::limits::MAX_INPUTS;
 use crate::numbers::{key_numbers, number_below};
 use crate::parser::command;
 use clap::ArgMatches;
@@ -40,6 +41,11 @@ pub enum Line<'a> {
         block: u32,
         j: &'a str,
     },
+    /// Join the journals and datagram files `inputs`, 1 to 64 of them, into the journal `out`.
+    Join {
+        out: &'a str,
+        inputs: Vec<&'a str>,
+    },
     /// Merge the journals `a` and `b` into the journal `out`.
     Merge {
         out: &'a str,
@@ -62,9 +68,10 @@ pub enum Line<'a> {
 ///
 /// `CommandLine` with the parser's text where that refuses the words, or where they ask for help or the version;
 /// `BadNumber` with the first option, in the order `--tsi`, `--toi`, `--fdt`, `--length`, `--symbol`, `--block`, that is not a number of its range; `BadKey`
-/// where `--fdt` does not go with `--toi`; `OutputIsInput` where `merge` is to write one of its inputs; and `OutOfMemory`.
+/// where `--fdt` does not go with `--toi`; `TooManyInputs` where `join` has more than 64 inputs; `OutputIsInput` where `merge` is to write one of its inputs; and `OutOfMemory`.
 pub fn line_of(alloc: Global, words: &[String]) -> Result<Line<'_>, CommandFault>
-    ensures { IfErr result IsLineFault }
+    ensures few { IfOk result HasFewInputs }
+    ensures fault { IfErr result IsLineFault }
 {
     let command = command(alloc).map_err(parser_fault)?;
     let matches = command.try_get_matches_from(words).map_err(parser_fault)?;
@@ -80,6 +87,7 @@ pub fn line_of(alloc: Global, words: &[String]) -> Result<Line<'_>, CommandFault
         }),
         Some(("extract", matches)) => extract_of(matches),
         Some(("info", matches)) => info_of(matches),
+        Some(("join", matches)) => join_of(alloc, matches),
         Some(("merge", matches)) => merge_of(matches),
         Some(("carousel", matches)) => carousel_of(matches),
         // The parser takes no line without a command, and no other command.
@@ -88,7 +96,8 @@ pub fn line_of(alloc: Global, words: &[String]) -> Result<Line<'_>, CommandFault
 }
 
 fn extract_of<'a>(matches: &ArgMatches<'a>) -> Result<Line<'a>, CommandFault>
-    ensures { IfErr result IsLineFault }
+    ensures few { IfOk result HasFewInputs }
+    ensures fault { IfErr result IsLineFault }
 {
     Ok(Line::Extract {
         out: text(matches, "OUT"),
@@ -98,7 +107,8 @@ fn extract_of<'a>(matches: &ArgMatches<'a>) -> Result<Line<'a>, CommandFault>
 }
 
 fn info_of<'a>(matches: &ArgMatches<'a>) -> Result<Line<'a>, CommandFault>
-    ensures { IfErr result IsLineFault }
+    ensures few { IfOk result HasFewInputs }
+    ensures fault { IfErr result IsLineFault }
 {
     let numbers = key_numbers(matches)?;
     let length = number_below(matches, "length", 1 << 64)? as u64;
@@ -114,8 +124,26 @@ fn info_of<'a>(matches: &ArgMatches<'a>) -> Result<Line<'a>, CommandFault>
     })
 }
 
+fn join_of<'a>(alloc: Global, matches: &ArgMatches<'a>) -> Result<Line<'a>, CommandFault>
+    ensures few { IfOk result HasFewInputs }
+    ensures fault { IfErr result IsLineFault }
+{
+    let inputs = matches.get_strs("INPUT").unwrap_or(&[]);
+    if inputs.len() > MAX_INPUTS {
+        return Err(CommandFault::TooManyInputs);
+    }
+    match inputs.to_vec(alloc) {
+        Ok(inputs) => Ok(Line::Join {
+            out: text(matches, "OUT"),
+            inputs,
+        }),
+        Err(_) => Err(CommandFault::OutOfMemory),
+    }
+}
+
 fn merge_of<'a>(matches: &ArgMatches<'a>) -> Result<Line<'a>, CommandFault>
-    ensures { IfErr result IsLineFault }
+    ensures few { IfOk result HasFewInputs }
+    ensures fault { IfErr result IsLineFault }
 {
     let out = text(matches, "OUT");
     let a = text(matches, "A");
@@ -127,7 +155,8 @@ fn merge_of<'a>(matches: &ArgMatches<'a>) -> Result<Line<'a>, CommandFault>
 }
 
 fn carousel_of<'a>(matches: &ArgMatches<'a>) -> Result<Line<'a>, CommandFault>
-    ensures { IfErr result IsLineFault }
+    ensures few { IfOk result HasFewInputs }
+    ensures fault { IfErr result IsLineFault }
 {
     let numbers = key_numbers(matches)?;
     let symbol = number_below(matches, "symbol", 1 << 16)? as u16;

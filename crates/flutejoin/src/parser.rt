@@ -23,6 +23,7 @@ pub fn command<'a>(alloc: Global) -> Result<Command<'a>, clap::Error> {
         .subcommand(gaps_command(alloc)?)?
         .subcommand(extract_command(alloc)?)?
         .subcommand(info_command(alloc)?)?
+        .subcommand(join_command(alloc)?)?
         .subcommand(merge_command(alloc)?)?
         .subcommand(carousel_command(alloc)?)?;
     Ok(command)
@@ -76,6 +77,19 @@ fn info_command<'a>(alloc: Global) -> Result<Command<'a>, clap::Error> {
         .arg(symbol(alloc))?
         .arg(block(alloc))?
         .arg(journal(alloc))?;
+    Ok(command)
+}
+
+fn join_command<'a>(alloc: Global) -> Result<Command<'a>, clap::Error> {
+    let inputs = Arg::new(alloc, "INPUT")
+        .required(true)
+        .action(ArgAction::Append)
+        .num_args(1..)
+        .help("Journals and datagram files, at most 64");
+    let command = Command::new(alloc, "join")
+        .about("Joins what several journals and datagram files have into one journal")
+        .arg(output(alloc))?
+        .arg(inputs)?;
     Ok(command)
 }
 

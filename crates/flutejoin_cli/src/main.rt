@@ -7,8 +7,9 @@ use flute_parts::{Info, Key, StdSink, StdSource};
 use flute_store::Shelf;
 use flute_wire::Datagrams;
 use flutejoin::{
-    Blob, CommandFault, Line, add_info, blob_fault, check_whole, count_to, datagrams_of,
-    extract_to, gaps_to, line_of, load, merge_to, packet_to, save_to, send_to, show_to,
+    Blob, CommandFault, Joined, Line, add_info, blob_fault, check_whole, count_to, datagrams_of,
+    extract_to, gaps_to, join_inputs, line_of, load, merge_to, packet_to, save_to, send_to,
+    show_to,
 };
 use std::env;
 use std::fs::{self, File};
@@ -53,6 +54,7 @@ fn run(rt: &HostRuntime) -> Result<(), CommandFault> {
             let info = Info::new(length, symbol, block).map_err(CommandFault::BadInformation)?;
             add_information(rt, out, key, info, j)
         }
+        Line::Join { out, inputs } => join(rt, out, inputs.as_slice()),
         Line::Merge { out, a, b } => merge(rt, out, a, b),
         Line::Carousel {
             out,
@@ -61,7 +63,7 @@ fn run(rt: &HostRuntime) -> Result<(), CommandFault> {
             block,
             file,
         } => {
-            let content = whole_input(rt, file)?;
+            let content = whole_input(rt, 1, file)?;
             let datagrams = datagrams_of(rt.alloc(), &key, symbol, block, content.as_slice())?;
             send(rt, out, &datagrams)
         }
@@ -134,6 +136,33 @@ fn add_information(
     tell_count(rt, "entries", entries)
 }
 
+/// Creates the file once all inputs were read and joined.
+fn join(rt: &HostRuntime, out: &str, paths: &[&str]) -> Result<(), CommandFault>
+    requires { length paths.now ≤ 64 }
+{
+    let joined = joined(rt, paths)?;
+    let mut file = output_file(rt, out)?;
+    let entries = save_to(&joined.store, &mut file)?;
+    file.flush().map_err(|_| CommandFault::CannotWrite)?;
+    let mut output = standard_output(rt)?;
+    count_to("datagrams", joined.datagrams, &mut output)?;
+    count_to("refused", joined.refused, &mut output)?;
+    count_to("entries", entries, &mut output)?;
+    output.flush().map_err(|_| CommandFault::CannotWrite)
+}
+
+/// What the inputs come to. Each is read whole, one after the other, before any is looked at.
+fn joined(rt: &HostRuntime, paths: &[&str]) -> Result<Joined, CommandFault>
+    requires { length paths.now ≤ 64 }
+{
+    let mut inputs = Vec::new(rt.alloc());
+    for (k, path) in paths.iter().enumerate() {
+        let input = whole_input(rt, k + 1, path)?;
+        inputs.push(input).map_err(|_| CommandFault::OutOfMemory)?;
+    }
+    join_inputs(rt.alloc(), inputs.as_slice())
+}
+
 /// Creates the file once both inputs are open. What was merged before a fault stays in it.
 fn merge(rt: &HostRuntime, out: &str, a: &str, b: &str) -> Result<(), CommandFault> {
     let mut first = input(rt, 1, a)?;
@@ -146,9 +175,9 @@ fn merge(rt: &HostRuntime, out: &str, a: &str, b: &str) -> Result<(), CommandFau
     tell_count(rt, "entries", entries)
 }
 
-fn whole_input(rt: &HostRuntime, path: &str) -> Result<Blob, CommandFault> {
-    let mut input = input(rt, 1, path)?;
-    Blob::read(rt.alloc(), &mut input).map_err(|fault| blob_fault(1, fault))
+fn whole_input(rt: &HostRuntime, number: usize, path: &str) -> Result<Blob, CommandFault> {
+    let mut input = input(rt, number, path)?;
+    Blob::read(rt.alloc(), &mut input).map_err(|fault| blob_fault(number, fault))
 }
 
 fn send(rt: &HostRuntime, out: &str, datagrams: &Datagrams) -> Result<(), CommandFault> {

@@ -77,15 +77,18 @@ fn with_every_reason(alloc: Global) -> Option<Shelf> {
     let mut shelf = Shelf::new(alloc);
     let info = Info::new(10, 1, 4).ok()?;
     shelf.add(alloc, &Fact::Info { key, info }).ok()?;
-    let symbols: [(u16, u16, &[u8]); 3] = [(0, 0, b"a"), (2, 2, b"a"), (0, 2, b"ab")];
-    for (sbn, esi, value) in symbols {
-        let id = SymbolId { sbn, esi };
-        let bytes = Bytes::new(alloc, value).ok()?;
-        shelf.add(alloc, &Fact::Symbol { key, id, bytes }).ok()?;
-    }
+    shelf.put(alloc, symbol(alloc, key, 0, 0, b"a")?).ok()?;
+    shelf.put(alloc, symbol(alloc, key, 2, 2, b"a")?).ok()?;
+    shelf.put(alloc, symbol(alloc, key, 0, 2, b"ab")?).ok()?;
     let id = SymbolId { sbn: 0, esi: 1 };
     shelf.add(alloc, &Fact::SymbolConflict { key, id }).ok()?;
     Some(shelf)
+}
+
+fn symbol(alloc: Global, key: Key, sbn: u16, esi: u16, value: &[u8]) -> Option<Fact> {
+    let id = SymbolId { sbn, esi };
+    let bytes = Bytes::new(alloc, value).ok()?;
+    Some(Fact::Symbol { key, id, bytes })
 }
 
 #[test]

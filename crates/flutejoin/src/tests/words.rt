@@ -49,6 +49,32 @@ fn commands_are_read(rt: HostRuntime) -> Result<(), Fail> {
 }
 
 #[test]
+fn inputs_are_read(rt: HostRuntime) -> Result<(), Fail> {
+    let words = words_of(rt.alloc(), "join -o OUT A B")?;
+    let line = line_of(rt.alloc(), words.as_slice())?;
+    let Line::Join { out: "OUT", inputs } = line else {
+        return Err(Fail::from("another line"));
+    };
+    assert!(rt; inputs.as_slice() == ["A", "B"].as_slice());
+    let mut words = words_of(rt.alloc(), "join -o OUT")?;
+    for _ in 0..64 {
+        for word in words_of(rt.alloc(), "J")? {
+            words.push(word)?;
+        }
+    }
+    assert!(rt; line_of(rt.alloc(), words.as_slice()).is_ok());
+    for word in words_of(rt.alloc(), "J")? {
+        words.push(word)?;
+    }
+    let fault = line_of(rt.alloc(), words.as_slice())
+        .err()
+        .ok_or("a fault")?;
+    assert_eq!(rt; fault.to_string(rt.alloc())?.as_str(), "too many inputs");
+    assert_eq!(rt; fault.status(), 2);
+    Ok(())
+}
+
+#[test]
 fn commands_with_numbers_are_read(rt: HostRuntime) -> Result<(), Fail> {
     let words = words_of(
         rt.alloc(),
