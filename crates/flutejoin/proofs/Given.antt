@@ -11,8 +11,10 @@ use Rattle.flute_store.specs.declared.extract.ExtractFault.TheVariants.{NoObject
 use Rattle.flute_store.proofs.WholeObjects.{Whole-same, object-same, gaps-same}
 use Rattle.flute_journal.specs.Format.{spelling}
 use Rattle.flute_journal.specs.Journal.{Journal}
+use Rattle.flute_parts.proofs.Rising.{rising_unique}
+use Rattle.flutejoin.specs.Outputs.{WritesJournal}
 use Rattle.flutejoin.proofs.Receptions.{Journal-of_same, Journal-only}
-use Rattle.flute_parts.specs.Facts.{Same, SameMembers}
+use Rattle.flute_parts.specs.Facts.{Same, SameMembers, IsRising}
 use Rattle.flute_parts.proofs.Facts.{Same-sym, Same-trans, Same-members}
 use Rattle.flutejoin.specs.declared.steps.Step.{Step}
 use Rattle.flutejoin.specs.Held.{Held}
@@ -54,8 +56,10 @@ store_same count steps origins r now F done fits is =
     subst P (sym is) (run_leaves count steps origins r now done fits).same
 
 -- its journal is that of what the replica was given, and of what any other was given with the same members
-pub written_as_given : (old new : Option (List ℕ)) (F K : List Fact) → Same F K → Appends old new (spelling F) → Journal (spelling F) F → (bytes : List ℕ) × Journal bytes K × Appends old new bytes
-written_as_given old new F K same written journal = (spelling F, Journal-of_same (spelling F) F K same journal, written)
+pub written_as_given : (old new : Option (List ℕ)) (F K : List Fact) (count : ℕ) → Same F K → Appends old new (spelling F) → Journal (spelling F) F → IsRising F → count ≡ length F → WritesJournal old new K count
+written_as_given old new F K count same written journal rising counted =
+    let one = rising_unique F journal.0 rising journal.1.rising journal.1.same in
+    record { bytes = spelling F; journal = (journal.0, record { valid = journal.1.valid; rising = journal.1.rising; same = Same-trans K F journal.0 (Same-sym F K same) journal.1.same }, journal.2, journal.3); entries = counted ∙ ap length one; appended = written }
 
 pub written_as_others : (old new : Option (List ℕ)) (F K L : List Fact) (bytes : List ℕ) → Same F K → SameMembers K L → Appends old new (spelling F) → Journal (spelling F) F → Journal bytes L → Appends old new bytes
 written_as_others old new F K L bytes same members written journal other =

@@ -1,5 +1,5 @@
 -- What is written of a replica after a run.
-use Rattle.std.specs.Prelude.{◌≡◌, ℕ, List, Option, Result, Ok, Err}
+use Rattle.std.specs.Prelude.{◌≡◌, ◌≤◌, ℕ, List, length, Option, ⊤, Result, Ok, Err}
 use Rattle.std.specs.Io.KnownBytes.{Appends}
 use Rattle.flute_parts.specs.declared.key.Key.{Key}
 use Rattle.flute_parts.specs.declared.fact.Fact.{Fact}
@@ -10,21 +10,38 @@ use Rattle.flute_journal.specs.Journal.{Journal}
 use Rattle.flutejoin.specs.declared.steps.Step.{Step}
 use Rattle.flute_store.specs.declared.extract.ExtractFault.TheVariants as extract
 use Rattle.flutejoin.specs.declared.outputs.OutputFault.{OutputFault}
-use Rattle.flutejoin.specs.declared.outputs.OutputFault.TheVariants.{Save, Extract}
+use Rattle.flutejoin.specs.declared.outputs.OutputFault.TheVariants.{Run, NoReplica, Save, Extract}
+use Rattle.flutejoin.specs.Held.{Capacity}
 use Rattle.flutejoin.specs.Known.{Fits, known_by}
+use Rattle.flutejoin.specs.Runs.{IsRunRefused}
+
+-- the journal of these facts was written, of so many entries
+pub record WritesJournal (old new : Option (List ℕ)) (F : List Fact) (count : ℕ) : Type 0 where
+  pub bytes : List ℕ
+  pub journal : Journal bytes F
+  pub entries : count ≡ length journal.0
+  pub appended : Appends old new bytes
 
 module _ {W : Type 0} (written : W → Option (List ℕ)) (F : List Fact) (old new : W) where
   -- the journal of these facts was written, or after a failed write a first part of it, or nothing
   abbrev pub TellsJournal : Result ℕ OutputFault → Type 0
-  TellsJournal (Ok entries) = (bytes : List ℕ) × Journal bytes F × Appends (written old) (written new) bytes
+  TellsJournal (Ok count) = WritesJournal (written old) (written new) F count
   TellsJournal (Err (Save f)) = (bytes : List ℕ) → Journal bytes F → AppendsPart (written old) (written new) bytes
+  TellsJournal (Err (Extract f)) = ⊥
   TellsJournal (Err _) = new ≡ old
 
   -- the object that these facts make was written, or why not, or nothing
   abbrev pub TellsObject : Key → Result ℕ OutputFault → Type 0
   TellsObject key (Ok length) = WritesWhole written F key old new length
   TellsObject key (Err (Extract f)) = TellsExtractFault written F key old new f
+  TellsObject key (Err (Save f)) = ⊥
   TellsObject key (Err _) = new ≡ old
+
+-- the run stopped, with a fault that it has, or there is no such replica
+abbrev pub IsOutputFault : Capacity → ℕ → List Step → ℕ → OutputFault → Type 0
+IsOutputFault capacity count steps replica (Run f) = IsRunRefused capacity count steps f
+IsOutputFault capacity count steps replica NoReplica = count ≤ replica
+IsOutputFault capacity count steps replica _ = ⊤
 
 -- Whatever other steps give a replica q the same facts, in whatever order, however often, by whatever merges and
 -- journals: its journal is what was written of replica r.

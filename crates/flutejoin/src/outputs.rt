@@ -1,8 +1,9 @@
 //! What is written of a replica after a run.
-ghost use Rattle.std.specs.Prelude.{◌≡◌, ◌+◌, ◌*◌, ◌<◌, ◌^◌, ℕ, List, OnOk};
+ghost use Rattle.std.specs.Prelude.{◌≡◌, ◌+◌, ◌*◌, ◌<◌, ◌^◌, ℕ, List, OnOk, IfErr};
 ghost use Rattle.flute_parts.specs.declared.fact.Fact.{Fact as Known};
+ghost use Rattle.flutejoin.specs.Held.{capacity};
 ghost use Rattle.flutejoin.specs.Known.{Fits, known_by};
-ghost use Rattle.flutejoin.specs.Outputs.{TellsJournal, TellsObject, WritesAsOthers, output_failed};
+ghost use Rattle.flutejoin.specs.Outputs.{TellsJournal, TellsObject, WritesAsOthers, IsOutputFault, output_failed};
 
 use crate::runs::{RunFault, run};
 use crate::steps::Step;
@@ -49,6 +50,7 @@ pub fn journal_after<const SESSIONS: u32, const OBJECTS: u32, const SYMBOLS: u32
     ensures journal { (origins : ℕ → List Known) → Fits steps.now origins
         → TellsJournal W.written (known_by count steps.now origins replica) sink.old sink.new result }
     ensures one { OnOk result (WritesAsOthers count steps.now replica (W.written sink.old) (W.written sink.new)) }
+    ensures fault { IfErr result (IsOutputFault (capacity SESSIONS OBJECTS SYMBOLS) count steps.now replica) }
     ensures failures { W.failures sink.new ≡ W.failures sink.old + output_failed result }
 {
     let replicas = match run::<SESSIONS, OBJECTS, SYMBOLS>(alloc, count, steps) {
@@ -58,6 +60,8 @@ pub fn journal_after<const SESSIONS: u32, const OBJECTS: u32, const SYMBOLS: u32
     let Some(store) = replicas.store(replica) else {
         return Err(OutputFault::NoReplica);
     };
+    // By this the proof knows that the facts of the store are in their order.
+    let _ = store.walk();
     match write_store(store, sink) {
         Ok(entries) => Ok(entries),
         Err(fault) => Err(OutputFault::Save(fault)),
@@ -82,6 +86,7 @@ pub fn object_after<const SESSIONS: u32, const OBJECTS: u32, const SYMBOLS: u32,
     requires { SESSIONS * OBJECTS * (SYMBOLS + 1) < 2 ^ 64 }
     ensures object { (origins : ℕ → List Known) → Fits steps.now origins
         → TellsObject W.written (known_by count steps.now origins replica) sink.old sink.new key.now result }
+    ensures fault { IfErr result (IsOutputFault (capacity SESSIONS OBJECTS SYMBOLS) count steps.now replica) }
     ensures failures { W.failures sink.new ≡ W.failures sink.old + output_failed result }
 {
     let replicas = match run::<SESSIONS, OBJECTS, SYMBOLS>(alloc, count, steps) {
