@@ -280,6 +280,49 @@ run carousel -o got4 --tsi 7 --toi 1 --symbol 4 --block 2 /proc/self/mem
 check 'carousel of a file that cannot be read' 3 '' 'input 1: Read'
 [ ! -e got4 ] || check 'no file after a fault of carousel' x - -
 
+run carousel -o sent --tsi 7 --toi 1 --symbol 4 --block 2 content
+run join -o got sent
+check 'join of a datagram file' 0 'datagrams 2
+refused 0
+entries 3' ''
+same 'the journal of a datagram file' got whole
+run join -o got sent whole sent
+check 'join of files and journals' 0 'datagrams 4
+refused 0
+entries 3' ''
+same 'the journal of them all' got whole
+run join -o got whole others
+check 'join of journals' 0 'datagrams 0
+refused 0
+entries 4' ''
+same 'the joined journal' got joined
+file refused 464C44470001 0003 10A000
+run join -o got refused
+check 'join of a refused datagram' 0 'datagrams 1
+refused 1
+entries 0' ''
+same 'the journal of nothing' got empty
+run join -o got5 missing missing
+check 'join of inputs that are not there' 3 '' 'cannot open input 1'
+run join -o got5 whole missing
+check 'join with an input that is not there' 3 '' 'cannot open input 2'
+run join -o got5 bad content
+check 'join with an input of no known kind' 1 '' 'input 2: unknown kind'
+run join -o got5 whole bad
+check 'join with a bad journal' 1 '' 'input 2: Trailing'
+head -c 20 sent > cut
+run join -o got5 cut
+check 'join of a datagram file that is cut' 1 '' 'input 1: Cut'
+[ ! -e got5 ] || check 'no file after a fault of join' x - -
+run join -o no/got whole
+check 'join to a folder that is not there' 3 '' 'cannot create output'
+run join -o /dev/full whole
+check 'join to a full output' 3 '' 'cannot write'
+run join -o got
+check 'join of nothing' 2 '' -
+run join -o got $(yes whole | head -n 65)
+check 'join of too many inputs' 2 '' 'too many inputs'
+
 run frob
 check 'a command that does not exist' 2 '' -
 run
