@@ -1,9 +1,9 @@
 //! What inputs come to together, and the order of their faults.
 
 use super::vectors::{self, bytes};
-use crate::{Blob, CommandFault, Joined, join_inputs};
-use flute_journal::{write_datagrams, write_store};
-use flute_parts::{Info, Key, MemorySink, MemorySource, ObjectKey, SessionKey};
+use crate::{Blob, CommandFault, Joined, MAX_ENTRIES, join_inputs};
+use flute_journal::{merge_streams, write_datagrams, write_store};
+use flute_parts::{Info, Key, MemorySink, MemorySource, ObjectKey, SessionKey, ShortSource};
 use flute_wire::carousel;
 use std::alloc::Global;
 use std::ops::Range;
@@ -94,6 +94,35 @@ fn journals_and_datagrams_are_joined(rt: HostRuntime) -> Result<(), Fail> {
         let sink = journal_of(rt.alloc(), &joined)?;
         let journal = bytes(rt.alloc(), journal)?;
         assert_eq!(rt; sink.as_slice(), journal.as_slice());
+    }
+    Ok(())
+}
+
+// Two journals, read in pieces and merged as streams, give what they give joined in memory.
+#[test]
+fn merged_and_joined_journals_are_equal(rt: HostRuntime) -> Result<(), Fail> {
+    let journals = [
+        vectors::NOTHING,
+        vectors::WHOLE,
+        vectors::CONFLICT,
+        vectors::OTHERS,
+        vectors::JOINED,
+    ];
+    for first in journals {
+        for second in journals {
+            let inputs = blobs(rt.alloc(), &[first, second])?;
+            let joined = join(rt.alloc(), &inputs)?;
+            let journal = journal_of(rt.alloc(), &joined)?;
+            let first = bytes(rt.alloc(), first)?;
+            let second = bytes(rt.alloc(), second)?;
+            for piece in [1, 2, 7] {
+                let mut first = ShortSource::new(&first, piece, usize::MAX);
+                let mut second = ShortSource::new(&second, piece, usize::MAX);
+                let mut sink = MemorySink::new(rt.alloc());
+                merge_streams(rt.alloc(), &mut first, &mut second, &mut sink, MAX_ENTRIES)?;
+                assert_eq!(rt; sink.as_slice(), journal.as_slice());
+            }
+        }
     }
     Ok(())
 }
