@@ -1,6 +1,6 @@
 -- Inputs, joined one after the other.
-use Rattle.std.proofs.Common.{◌≡◌, ℕ, zero, suc, ◌+◌, ◌*◌, ◌^◌, ◌≤◌, ◌<◌, Bool, true, false, cond, List, [], ◌∷◌, ◌++◌, length, take, drop, map, count_by, Option, Some, Result, Ok, Err, get_or, refl, sym, ap, subst, ◌∙◌, arith, add-one, append-nil, append_assoc, inl, inr}
-use Rattle.std.specs.Prelude.{slice_get, IfSome, IfOk, IfErr, OnOk}
+use Rattle.std.proofs.Common.{◌≡◌, ◌≢◌, ℕ, zero, suc, ◌+◌, ◌*◌, ◌^◌, ◌≤◌, ◌<◌, Bool, true, false, cond, List, [], ◌∷◌, ◌++◌, length, take, drop, map, count_by, Option, Some, Result, Ok, Err, get_or, refl, sym, ap, subst, ◌∙◌, arith, add-one, append-nil, append_assoc, inl, inr}
+use Rattle.std.specs.Prelude.{slice_get, IfSome, IfOk, IfErr, OnOk, MatchResult}
 use Rattle.std.specs.Option.{option_map}
 use Rattle.std.specs.List.{flat_map, AllByRecursion}
 use Rattle.std.proofs.lemmas.List.{length-append, take_all}
@@ -13,7 +13,11 @@ use Rattle.flute_parts.specs.Limits.{Over}
 use Rattle.flute_parts.proofs.Facts.{Same-itself, Same-sym, Same-trans, Same-append, Below-from_Same}
 use Rattle.flute_parts.proofs.Named.{Over-below}
 use Rattle.flute_wire.specs.Reading.{facts}
-use Rattle.flute_journal.specs.Records.{IsFileWithin}
+use Rattle.flute_journal.specs.Records.{IsFileWithin, HasFileFault}
+use Rattle.flute_journal.specs.declared.fault.ReadFault.{ReadFault}
+use Rattle.flute_journal.specs.declared.fault.ReadFault.TheVariants.{Read}
+use Rattle.flutejoin.specs.declared.joining.Kind.TheVariants.{Datagrams}
+use Rattle.flutejoin.proofs.Mapped.{read_failed}
 use Rattle.flute_journal.specs.Stores.{IsJournalOf, BeginsOver, IsLoadFault}
 use Rattle.flute_journal.specs.declared.fault.LoadFault.{LoadFault}
 use Rattle.flute_journal.specs.declared.fault.LoadFault.TheVariants as load
@@ -21,8 +25,8 @@ use Rattle.flutejoin.specs.Refused.{is_refused}
 use Rattle.flutejoin.specs.declared.limits.TheConstants.{MAX_ENTRIES}
 use Rattle.flutejoin.specs.declared.joining.Joined.{Joined}
 use Rattle.flutejoin.specs.declared.command_fault.CommandFault.{CommandFault}
-use Rattle.flutejoin.specs.declared.command_fault.CommandFault.TheVariants.{CommandLine, NotText, BadNumber, BadKey, TooManyInputs, OutputIsInput, BadInformation, CannotSend, TooLarge, BadHex, Refused, CannotOpen, Input, UnknownKind, Full, NoObject, NoInformation, ConflictingInformation, NotWhole, OutOfMemory, CannotCreate, CannotWrite}
-use Rattle.flutejoin.specs.Joined.{Told, of_journal, of_file, told_facts, told_datagrams, TellAll, Joins, FirstInput, TellsWithin, TellOver, TakesDatagram, TakesDatagrams, JoinsBoth, JoinAnswers, IsNeither, IsKnown, IsOverAlone, IsJournalAt, IsFileAt, JoinFails, SomeCheckFails, CheckFails, InputFails, DatagramFails, DatagramsFail}
+use Rattle.flutejoin.specs.declared.command_fault.CommandFault.TheVariants.{Full, Input}
+use Rattle.flutejoin.specs.Joined.{Told, of_journal, of_file, told_facts, told_datagrams, TellAll, Joins, FirstInput, HasKind, TellsWithin, TellOver, TakesDatagram, TakesDatagrams, JoinsBoth, JoinAnswers, IsNeither, IsKnown, IsOverAlone, IsJournalAt, IsFileAt, JoinFails, SomeCheckFails, CheckFails, of_kind, of_records, InputFails, unchecked, of_entries, alone_over, no_memory, StoreFails}
 use Rattle.flutejoin.proofs.Receptions.{Below-left}
 
 -- lists
@@ -241,139 +245,63 @@ begins_over old bytes f known h full =
     let Q : Option (List ℕ) → Type 0 = λ o. IfSome o (BeginsOver 64 4096 1048576 MAX_ENTRIES) in
     subst Q known (subst P full h)
 
-at_number : (Q P : List ℕ → Type 0) (inputs : List (List ℕ)) (k n : ℕ) (bytes : List ℕ) → slice_get inputs k ≡ Some bytes → AllByRecursion Q (take k inputs) → n ≡ k + 1 → P bytes → FirstInput Q P n inputs
-at_number Q P inputs k n bytes e all is one = rw is (first_at Q P inputs k bytes e all one)
-
-pub checks_fail : (inputs : List (List ℕ)) (k : ℕ) (bytes : List ℕ) (f : CommandFault) → slice_get inputs k ≡ Some bytes → AllByRecursion IsKnown (take k inputs) → CheckFails (k + 1) bytes f → SomeCheckFails inputs f
-checks_fail inputs k bytes (UnknownKind n) e all h = at_number IsKnown IsNeither inputs k n bytes e all h.0 h.1
-checks_fail inputs k bytes (Input n fault) e all h = at_number IsKnown (IsFileAt fault) inputs k n bytes e all h.0 h.1
-checks_fail inputs k bytes (CommandLine text) e all h = absurd h
-checks_fail inputs k bytes NotText e all h = absurd h
-checks_fail inputs k bytes (BadNumber option) e all h = absurd h
-checks_fail inputs k bytes BadKey e all h = absurd h
-checks_fail inputs k bytes TooManyInputs e all h = absurd h
-checks_fail inputs k bytes OutputIsInput e all h = absurd h
-checks_fail inputs k bytes (BadInformation why) e all h = absurd h
-checks_fail inputs k bytes (CannotSend why) e all h = absurd h
-checks_fail inputs k bytes (TooLarge number) e all h = absurd h
-checks_fail inputs k bytes BadHex e all h = absurd h
-checks_fail inputs k bytes (Refused refusal) e all h = absurd h
-checks_fail inputs k bytes (CannotOpen n) e all h = absurd h
-checks_fail inputs k bytes Full e all h = absurd h
-checks_fail inputs k bytes NoObject e all h = absurd h
-checks_fail inputs k bytes NoInformation e all h = absurd h
-checks_fail inputs k bytes ConflictingInformation e all h = absurd h
-checks_fail inputs k bytes (NotWhole sbn esi) e all h = absurd h
-checks_fail inputs k bytes OutOfMemory e all h = absurd h
-checks_fail inputs k bytes CannotCreate e all h = absurd h
-checks_fail inputs k bytes CannotWrite e all h = absurd h
+-- the first input with a fault, that fault's cause in its place
+first_with : (Q P R : List ℕ → Type 0) (number : ℕ) (inputs : List (List ℕ)) → (first : FirstInput Q P number inputs) → R first.bytes → FirstInput Q R number inputs
+first_with Q P R number inputs first here = record {
+  before = first.before;
+  bytes = first.bytes;
+  after = first.after;
+  split = first.split;
+  number_is = first.number_is;
+  earlier = first.earlier;
+  here = here;
+}
 
 -- a check that failed is a join that failed
-pub join_unchecked : (inputs : List (List ℕ)) (f : CommandFault) → SomeCheckFails inputs f → JoinFails inputs f
-join_unchecked inputs (UnknownKind n) h = h
-join_unchecked inputs (Input n fault) h = inl h
-join_unchecked inputs (CommandLine text) h = absurd h
-join_unchecked inputs NotText h = absurd h
-join_unchecked inputs (BadNumber option) h = absurd h
-join_unchecked inputs BadKey h = absurd h
-join_unchecked inputs TooManyInputs h = absurd h
-join_unchecked inputs OutputIsInput h = absurd h
-join_unchecked inputs (BadInformation why) h = absurd h
-join_unchecked inputs (CannotSend why) h = absurd h
-join_unchecked inputs (TooLarge number) h = absurd h
-join_unchecked inputs BadHex h = absurd h
-join_unchecked inputs (Refused refusal) h = absurd h
-join_unchecked inputs (CannotOpen n) h = absurd h
-join_unchecked inputs Full h = absurd h
-join_unchecked inputs NoObject h = absurd h
-join_unchecked inputs NoInformation h = absurd h
-join_unchecked inputs ConflictingInformation h = absurd h
-join_unchecked inputs (NotWhole sbn esi) h = absurd h
-join_unchecked inputs OutOfMemory h = tt
-join_unchecked inputs CannotCreate h = absurd h
-join_unchecked inputs CannotWrite h = absurd h
+pub join_unchecked : (inputs : List (List ℕ)) (fault : CommandFault) → SomeCheckFails inputs fault → JoinFails inputs fault
+join_unchecked inputs fault h = go h.1.here
+  where
+    P : CommandFault → Type 0
+    P f = JoinFails inputs f
+
+    go : CheckFails h.0 h.1.bytes fault → JoinFails inputs fault
+    go (of_kind is neither) = subst P (sym is) (first_with IsKnown (λ bytes. CheckFails h.0 bytes fault) IsNeither h.0 inputs h.1 neither)
+    go (of_records why is file) = subst P (sym is) (inl (first_with IsKnown (λ bytes. CheckFails h.0 bytes fault) (IsFileAt why) h.0 inputs h.1 file))
 
 all_known : (k : ℕ) (inputs : List (List ℕ)) → AllByRecursion IsKnown inputs → AllByRecursion IsKnown (take k inputs)
 all_known zero inputs all = tt
 all_known (suc k) [] all = tt
 all_known (suc k) (bytes ∷ inputs) all = (all.0, all_known k inputs all.1)
 
-pub input_fails : (inputs : List (List ℕ)) (k : ℕ) (bytes : List ℕ) (f : CommandFault) → slice_get inputs k ≡ Some bytes → AllByRecursion IsKnown inputs → AllByRecursion TellsWithin (take k inputs) → InputFails (k + 1) bytes f → JoinFails inputs f
-input_fails inputs k bytes (UnknownKind n) e known all h = at_number IsKnown IsNeither inputs k n bytes e (all_known k inputs known) h.0 h.1
-input_fails inputs k bytes (Input n fault) e known all h =
-    elim h.1 [
-      | inl file ↦ inl (at_number IsKnown (IsFileAt fault) inputs k n bytes e (all_known k inputs known) h.0 file)
-      | inr journal ↦ inr (known, at_number TellsWithin (IsJournalAt fault) inputs k n bytes e all h.0 journal)
-    ]
-input_fails inputs k bytes Full e known all h = (known, inl (k + 1, first_at TellsWithin IsOverAlone inputs k bytes e all h))
-input_fails inputs k bytes OutOfMemory e known all h = tt
-input_fails inputs k bytes (CommandLine text) e known all h = absurd h
-input_fails inputs k bytes NotText e known all h = absurd h
-input_fails inputs k bytes (BadNumber option) e known all h = absurd h
-input_fails inputs k bytes BadKey e known all h = absurd h
-input_fails inputs k bytes TooManyInputs e known all h = absurd h
-input_fails inputs k bytes OutputIsInput e known all h = absurd h
-input_fails inputs k bytes (BadInformation why) e known all h = absurd h
-input_fails inputs k bytes (CannotSend why) e known all h = absurd h
-input_fails inputs k bytes (TooLarge number) e known all h = absurd h
-input_fails inputs k bytes BadHex e known all h = absurd h
-input_fails inputs k bytes (Refused refusal) e known all h = absurd h
-input_fails inputs k bytes (CannotOpen n) e known all h = absurd h
-input_fails inputs k bytes NoObject e known all h = absurd h
-input_fails inputs k bytes NoInformation e known all h = absurd h
-input_fails inputs k bytes ConflictingInformation e known all h = absurd h
-input_fails inputs k bytes (NotWhole sbn esi) e known all h = absurd h
-input_fails inputs k bytes CannotCreate e known all h = absurd h
-input_fails inputs k bytes CannotWrite e known all h = absurd h
+pub input_fails : (inputs : List (List ℕ)) (k : ℕ) (bytes : List ℕ) (fault : CommandFault) → slice_get inputs k ≡ Some bytes → AllByRecursion IsKnown inputs → AllByRecursion TellsWithin (take k inputs) → InputFails (k + 1) bytes fault → JoinFails inputs fault
+input_fails inputs k bytes fault e known all (unchecked h) =
+    join_unchecked inputs fault (k + 1, first_at IsKnown (λ bs. CheckFails (k + 1) bs fault) inputs k bytes e (all_known k inputs known) h)
+input_fails inputs k bytes fault e known all (of_entries why is journal) =
+    let P : CommandFault → Type 0 = λ f. JoinFails inputs f in
+    subst P (sym is) (inr (known, first_at TellsWithin (IsJournalAt why) inputs k bytes e all journal))
+input_fails inputs k bytes fault e known all (alone_over is alone) =
+    let P : CommandFault → Type 0 = λ f. JoinFails inputs f in
+    subst P (sym is) (known, inl (k + 1, first_at TellsWithin IsOverAlone inputs k bytes e all alone))
+input_fails inputs k bytes fault e known all (no_memory is) =
+    let P : CommandFault → Type 0 = λ f. JoinFails inputs f in
+    subst P (sym is) tt
 
--- datagrams that were refused by the store are an input that is over the limits alone
-pub file_fails : (number : ℕ) (bytes : List ℕ) (ds : List (List ℕ)) (f : CommandFault) → IsFileWithin MAX_ENTRIES bytes ds → DatagramsFail ds f → InputFails number bytes f
-file_fails number bytes ds Full file over = inr (ds, file, over)
-file_fails number bytes ds OutOfMemory file h = tt
-file_fails number bytes ds (UnknownKind n) file h = absurd h
-file_fails number bytes ds (Input n fault) file h = absurd h
-file_fails number bytes ds (CommandLine text) file h = absurd h
-file_fails number bytes ds NotText file h = absurd h
-file_fails number bytes ds (BadNumber option) file h = absurd h
-file_fails number bytes ds BadKey file h = absurd h
-file_fails number bytes ds TooManyInputs file h = absurd h
-file_fails number bytes ds OutputIsInput file h = absurd h
-file_fails number bytes ds (BadInformation why) file h = absurd h
-file_fails number bytes ds (CannotSend why) file h = absurd h
-file_fails number bytes ds (TooLarge n) file h = absurd h
-file_fails number bytes ds BadHex file h = absurd h
-file_fails number bytes ds (Refused refusal) file h = absurd h
-file_fails number bytes ds (CannotOpen n) file h = absurd h
-file_fails number bytes ds NoObject file h = absurd h
-file_fails number bytes ds NoInformation file h = absurd h
-file_fails number bytes ds ConflictingInformation file h = absurd h
-file_fails number bytes ds (NotWhole sbn esi) file h = absurd h
-file_fails number bytes ds CannotCreate file h = absurd h
-file_fails number bytes ds CannotWrite file h = absurd h
+-- datagrams that a store refused are an input that is over the limits alone
+pub file_fails : (number : ℕ) (bytes : List ℕ) (ds : List (List ℕ)) (fault : CommandFault) → IsFileWithin MAX_ENTRIES bytes ds → StoreFails (flat_map facts ds) fault → InputFails number bytes fault
+file_fails number bytes ds fault file (inl full) = alone_over full.0 (inr (ds, file, full.1))
+file_fails number bytes ds fault file (inr is) = no_memory is
 
-pub takes_fail : (ds : List (List ℕ)) (k : ℕ) (d : List ℕ) (joined : Joined) (f : CommandFault) → slice_get ds k ≡ Some d → TakesDatagrams (take k ds) joined → DatagramFails joined.store d f → DatagramsFail ds f
-takes_fail ds k d joined Full e all over = over_part ds k d joined e all over
-takes_fail ds k d joined OutOfMemory e all h = tt
-takes_fail ds k d joined (UnknownKind n) e all h = absurd h
-takes_fail ds k d joined (Input n fault) e all h = absurd h
-takes_fail ds k d joined (CommandLine text) e all h = absurd h
-takes_fail ds k d joined NotText e all h = absurd h
-takes_fail ds k d joined (BadNumber option) e all h = absurd h
-takes_fail ds k d joined BadKey e all h = absurd h
-takes_fail ds k d joined TooManyInputs e all h = absurd h
-takes_fail ds k d joined OutputIsInput e all h = absurd h
-takes_fail ds k d joined (BadInformation why) e all h = absurd h
-takes_fail ds k d joined (CannotSend why) e all h = absurd h
-takes_fail ds k d joined (TooLarge number) e all h = absurd h
-takes_fail ds k d joined BadHex e all h = absurd h
-takes_fail ds k d joined (Refused refusal) e all h = absurd h
-takes_fail ds k d joined (CannotOpen n) e all h = absurd h
-takes_fail ds k d joined NoObject e all h = absurd h
-takes_fail ds k d joined NoInformation e all h = absurd h
-takes_fail ds k d joined ConflictingInformation e all h = absurd h
-takes_fail ds k d joined (NotWhole sbn esi) e all h = absurd h
-takes_fail ds k d joined CannotCreate e all h = absurd h
-takes_fail ds k d joined CannotWrite e all h = absurd h
+-- a datagram file that was not read
+pub file_not_read : {A : Type 0} (r : Result A ReadFault) (m : Result A CommandFault) (number : ℕ) (bytes : List ℕ) (fault : CommandFault) → HasKind Datagrams bytes → IfErr r (HasFileFault MAX_ENTRIES (Some bytes)) → IfErr r (λ f. f ≢ Read)
+    → MatchResult r (λ x. m ≡ Ok x) (λ f. m ≡ Err (Input number f)) → m ≡ Err fault → CheckFails number bytes fault
+file_not_read {A = A} r m number bytes fault kind has no_device mapped is =
+    let failed = read_failed r m number fault mapped is in
+    let P : (ReadFault → Type 0) → Result A ReadFault → Type 0 = λ Q s. IfErr s Q in
+    of_records failed.0 failed.2 (kind, subst (P (HasFileFault MAX_ENTRIES (Some bytes))) failed.1 has, subst (P (λ f. f ≢ Read)) failed.1 no_device)
+
+pub datagrams_fail : (ds : List (List ℕ)) (k : ℕ) (d : List ℕ) (joined : Joined) (fault : CommandFault) → slice_get ds k ≡ Some d → TakesDatagrams (take k ds) joined → StoreFails (joined.store ++ facts d) fault → StoreFails (flat_map facts ds) fault
+datagrams_fail ds k d joined fault e all (inl full) = inl (full.0, over_part ds k d joined e all full.1)
+datagrams_fail ds k d joined fault e all (inr is) = inr is
 
 pub place_of : {A B : Type 0} (v : A → B) (xs : List A) (k : ℕ) (d : A) → k < length xs → slice_get (map v xs) k ≡ Some (v (get_or xs k d))
 place_of v xs k d within = slice_get-map v xs k ∙ ap (option_map v) (slice_get-get_or xs k d within)
@@ -399,7 +327,7 @@ pub file_within : (bytes : List ℕ) (ds : List (List ℕ)) (r : Result Joined C
 file_within bytes ds (Ok joined) file gives within = within_file bytes ds joined file gives within
 file_within bytes ds (Err f) file gives within = tt
 
-pub file_failed : (number : ℕ) (bytes : List ℕ) (ds : List (List ℕ)) (r : Result Joined CommandFault) → IsFileWithin MAX_ENTRIES bytes ds → IfErr r (DatagramsFail ds) → IfErr r (InputFails number bytes)
+pub file_failed : (number : ℕ) (bytes : List ℕ) (ds : List (List ℕ)) (r : Result Joined CommandFault) → IsFileWithin MAX_ENTRIES bytes ds → IfErr r (StoreFails (flat_map facts ds)) → IfErr r (InputFails number bytes)
 file_failed number bytes ds (Ok joined) file h = tt
 file_failed number bytes ds (Err f) file h = file_fails number bytes ds f file h
 

@@ -66,7 +66,7 @@ pub record Joins (inputs : List (List ℕ)) (joined : Joined) : Type 0 where
   pub datagrams : joined.datagrams ≡ length (flat_map told_datagrams told)
   pub refused : joined.refused ≡ count_by is_refused (flat_map told_datagrams told)
 
--- the first of the inputs that has no Q: it has P. It has this number, from 1
+-- the input with this number, from 1, has P, and all before it have Q
 pub record FirstInput (Q P : List ℕ → Type 0) (number : ℕ) (inputs : List (List ℕ)) : Type 0 where
   pub before : List (List ℕ)
   pub bytes : List ℕ
@@ -112,24 +112,25 @@ JoinFails inputs _ = ⊥
 
 -- What the parts of a join answer.
 
--- the kind or the records of an input, or of the first such input, are at fault
-abbrev pub CheckFails : ℕ → List ℕ → CommandFault → Type 0
-CheckFails number bytes (UnknownKind n) = (n ≡ number) × IsNeither bytes
-CheckFails number bytes (Input n fault) = (n ≡ number) × IsFileAt fault bytes
-CheckFails number bytes _ = ⊥
+-- the kind of an input is not known, or its records are at fault
+pub data CheckFails (number : ℕ) (bytes : List ℕ) (fault : CommandFault) : Type 0 where
+  of_kind : fault ≡ UnknownKind number → IsNeither bytes → CheckFails number bytes fault
+  of_records : (why : ReadFault) → fault ≡ Input number why → IsFileAt why bytes → CheckFails number bytes fault
 
+-- so it is with an input, and those before it are known
 abbrev pub SomeCheckFails : List (List ℕ) → CommandFault → Type 0
-SomeCheckFails inputs (UnknownKind number) = FirstInput IsKnown IsNeither number inputs
-SomeCheckFails inputs (Input number fault) = FirstInput IsKnown (IsFileAt fault) number inputs
-SomeCheckFails inputs _ = ⊥
+SomeCheckFails inputs fault = (number : ℕ) × FirstInput IsKnown (λ bytes. CheckFails number bytes fault) number inputs
 
--- an input alone is at fault
-abbrev pub InputFails : ℕ → List ℕ → CommandFault → Type 0
-InputFails number bytes (UnknownKind n) = (n ≡ number) × IsNeither bytes
-InputFails number bytes (Input n fault) = (n ≡ number) × (IsFileAt fault bytes ⊎ IsJournalAt fault bytes)
-InputFails number bytes Full = IsOverAlone bytes
-InputFails number bytes OutOfMemory = ⊤
-InputFails number bytes _ = ⊥
+-- an input alone is not read, or is over the limits of a store
+pub data InputFails (number : ℕ) (bytes : List ℕ) (fault : CommandFault) : Type 0 where
+  unchecked : CheckFails number bytes fault → InputFails number bytes fault
+  of_entries : (why : ReadFault) → fault ≡ Input number why → IsJournalAt why bytes → InputFails number bytes fault
+  alone_over : fault ≡ Full → IsOverAlone bytes → InputFails number bytes fault
+  no_memory : fault ≡ OutOfMemory → InputFails number bytes fault
+
+-- facts are over the limits, or there is no memory for them
+abbrev pub StoreFails : List Fact → CommandFault → Type 0
+StoreFails told fault = ((fault ≡ Full) × Over told 64 4096 1048576) ⊎ (fault ≡ OutOfMemory)
 
 -- one more datagram, and whether it is refused, are counted, and its facts are held
 pub record TakesDatagram (before : Joined) (datagram : List ℕ) (now : Joined) : Type 0 where
@@ -142,17 +143,6 @@ pub record TakesDatagrams (datagrams : List (List ℕ)) (joined : Joined) : Type
   pub content : Same joined.store (flat_map facts datagrams)
   pub count : joined.datagrams ≡ length datagrams
   pub refused : joined.refused ≡ count_by is_refused datagrams
-
--- a datagram, or datagrams, are over the limits, or there is no memory for them
-abbrev pub DatagramFails : List Fact → List ℕ → CommandFault → Type 0
-DatagramFails held datagram Full = Over (held ++ facts datagram) 64 4096 1048576
-DatagramFails held datagram OutOfMemory = ⊤
-DatagramFails held datagram _ = ⊥
-
-abbrev pub DatagramsFail : List (List ℕ) → CommandFault → Type 0
-DatagramsFail datagrams Full = Over (flat_map facts datagrams) 64 4096 1048576
-DatagramsFail datagrams OutOfMemory = ⊤
-DatagramsFail datagrams _ = ⊥
 
 -- the facts and the numbers of both
 pub record JoinsBoth (before own now : Joined) : Type 0 where

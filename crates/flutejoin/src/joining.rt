@@ -1,10 +1,11 @@
 //! The inputs of several stations, joined.
 ghost use Rattle.std.specs.Prelude.{◌≡◌, ◌≢◌, ◌≤◌, ◌<◌, ◌+◌, ◌^◌, [], ◌∷◌, ◌++◌, length, map, Some, IfOk, IfErr, OnOk, MatchOption};
-ghost use Rattle.std.specs.List.{AllByRecursion};
+ghost use Rattle.std.specs.List.{AllByRecursion, flat_map};
 ghost use Rattle.flute_parts.specs.Limits.{Over};
+ghost use Rattle.flute_wire.specs.Reading.{facts};
 ghost use Rattle.flutejoin.specs.declared.command_fault.CommandFault.TheVariants as faults;
 ghost use Rattle.flutejoin.specs.declared.limits.TheConstants.{MAX_ENTRIES};
-ghost use Rattle.flutejoin.specs.Joined.{HasKind, IsNeither, IsKnown, TellsWithin, TakesDatagrams, TakesDatagram, DatagramFails, DatagramsFail, Joins, JoinAnswers, SomeCheckFails, CheckFails, InputFails, JoinFails};
+ghost use Rattle.flutejoin.specs.Joined.{HasKind, IsNeither, IsKnown, TellsWithin, TakesDatagrams, TakesDatagram, StoreFails, Joins, JoinAnswers, SomeCheckFails, CheckFails, InputFails, JoinFails};
 
 use crate::blob::Blob;
 use crate::command_fault::{CommandFault, at_input};
@@ -44,7 +45,7 @@ impl Joined {
         requires datagrams { self.now.datagrams + 1 < 2 ^ 64 }
         requires refused { self.now.refused ≤ self.now.datagrams }
         ensures taken { OnOk result (TakesDatagram self.old datagram.now self.new) }
-        ensures failed { IfErr result (DatagramFails self.old.store datagram.now) }
+        ensures failed { IfErr result (StoreFails (self.old.store ++ facts datagram.now)) }
     {
         // By this the proof knows that a datagram is a packet or refused.
         one_reading();
@@ -99,22 +100,22 @@ fn kind_of(bytes: &[u8]) -> Option<Kind>
 }
 
 /// What all the inputs come to together, each a journal or a datagram file, as its first four bytes say. There may be up to
-/// 64. A datagram that is refused tells nothing, and is counted.
+/// 64, and none comes to the empty store. A datagram that is refused tells nothing, and is counted.
 ///
-/// It holds the store of one input beside what those before it came to. Of an input's bytes it copies only those of symbols
-/// that its store keeps, and no input's store is copied into an empty one.
+/// It holds the store of one input beside what those before it came to. Of an input's bytes it copies only those of
+/// symbols, into that store, and once more where they are new to what came before.
 ///
 /// # Errors
 ///
-/// Inputs are numbered from 1. The first that is met, in three passes over the inputs in their order:
+/// Inputs are numbered from 1. The first that is met:
 ///
-/// - `UnknownKind` with the first input that is neither, and `Input` with the first fault of a datagram file of more than
-///   whole records, or of more than 16,777,216, whichever input comes first;
-/// - then `Input` with the first fault of a journal, which may have up to 16,777,216 entries, and `Full` where one input
-///   alone has more sessions, objects or symbols than a store holds;
-/// - `Full` where all of them together do.
+/// - first, input by input: `UnknownKind` where it is neither, and `Input` with the fault of a datagram file that does not
+///   hold whole records alone, at most 16,777,216;
+/// - then, input by input: `Input` with the fault of a journal, which may have at most 16,777,216 entries, and `Full` where
+///   the input alone has more sessions, objects or symbols than a store holds;
+/// - last, `Full` where all of them together do.
 ///
-/// `OutOfMemory`, and `Input` with `OutOfMemory`, where a request for memory was refused. Nothing is handed out then.
+/// `OutOfMemory`, or `Input` with it, where a request for memory was refused. Nothing is handed out after any of these.
 pub fn join_inputs(alloc: Global, inputs: &[Blob]) -> Result<Joined, CommandFault>
     requires { length inputs.now ≤ 64 }
     ensures joined { IfOk result (Joins inputs.now) }
@@ -150,7 +151,8 @@ fn check_input(alloc: Global, number: usize, bytes: &[u8]) -> Result<(), Command
     }
 }
 
-// Joins inputs whose kinds and records were looked at.
+// Joins inputs whose kinds and records were looked at. That they are over the limits together is told only once each of
+// them was read.
 fn join_all(alloc: Global, inputs: &[Blob]) -> Result<Joined, CommandFault>
     requires few { length inputs.now ≤ 64 }
     requires known { AllByRecursion IsKnown inputs.now }
@@ -211,7 +213,7 @@ fn taken(alloc: Global, datagrams: &[&[u8]]) -> Result<Joined, CommandFault>
     requires { length datagrams.now ≤ MAX_ENTRIES }
     ensures taken { IfOk result (TakesDatagrams (map (λ d. d.now) datagrams.now)) }
     ensures within { IfOk result (λ joined. ¬ Over joined.store 64 4096 1048576) }
-    ensures failed { IfErr result (DatagramsFail (map (λ d. d.now) datagrams.now)) }
+    ensures failed { IfErr result (StoreFails (flat_map facts (map (λ d. d.now) datagrams.now))) }
 {
     let mut taken = Joined::new(alloc);
     for datagram in datagrams {

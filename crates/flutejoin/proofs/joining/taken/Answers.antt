@@ -3,7 +3,7 @@ use Rattle.std.proofs.Common.{map, take, List, ℕ, arith, subst}
 use Rattle.std.proofs.lemmas.List.{take_all, length-map}
 use Rattle.std.proofs.lemmas.Result.{err_from_is_err_and}
 use Rattle.flutejoin.specs.Joined.{TakesDatagrams}
-use Rattle.flutejoin.proofs.Inputs.{take_more, place_of, gives_none, gives_few, gives_no_more, gives_more, takes_fail}
+use Rattle.flutejoin.proofs.Inputs.{take_more, place_of, gives_none, gives_few, gives_no_more, gives_more, datagrams_fail}
 use Rattle.flutejoin.proofs.joining.taken.Goals as goal
 
 pub loop-datagram-init : goal.loop-datagram-init
@@ -23,7 +23,7 @@ returns-in_err-take-clause-failed c =
     let ds : List (List ℕ) = map (λ d. d.now) c.args.datagrams.now in
     let at = place_of (λ d. d.now) c.args.datagrams.now c.loop-datagram.datagram-index _ c.loop-datagram-test.true in
     rw (e.1, e.2)
-    (takes_fail ds c.loop-datagram.datagram-index _ c.loop-datagram.taken c.in_err-take.field-0.0 at c.loop-datagram.invariant c.in_err-take.ensures.failed)
+    (datagrams_fail ds c.loop-datagram.datagram-index _ c.loop-datagram.taken c.in_err-take.field-0.0 at c.loop-datagram.invariant c.in_err-take.ensures.failed)
 
 pub loop-datagram-preserved : goal.loop-datagram-preserved
 loop-datagram-preserved c =

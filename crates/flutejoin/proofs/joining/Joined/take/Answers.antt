@@ -1,11 +1,11 @@
 -- What becomes of a datagram.
-use Rattle.std.proofs.Common.{refl, ap, ◌∙◌, Err}
+use Rattle.std.proofs.Common.{refl, inl, ap, ◌∙◌, Err}
 use Rattle.flutejoin.proofs.Taking.{HasOneReading, is_refused-no, is_refused-yes, ok_is_packet, refused_same}
 use Rattle.flutejoin.proofs.joining.Joined.take.Goals.{in-Ok, in-Err-Datagram}
 use Rattle.flutejoin.proofs.joining.Joined.take.Goals as goal
 
 pub returns-in-Err-Full-clause-failed : goal.returns-in-Err-Full-clause-failed
-returns-in-Err-Full-clause-failed c = c.take.ensures.full.0 (c.in-Err-Full.is ∙ ap Err c.in-Err-Full.field-0-is)
+returns-in-Err-Full-clause-failed c = inl (refl, c.take.ensures.full.0 (c.in-Err-Full.is ∙ ap Err c.in-Err-Full.field-0-is))
 
 pub returns-clause-taken : goal.returns-clause-taken
 returns-clause-taken c =
