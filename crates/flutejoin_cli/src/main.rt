@@ -19,6 +19,9 @@ use std::process::ExitCode;
 /// How many bytes are read, or written, at once.
 const BUFFER: usize = 65_536;
 
+/// How many where journals are merged, which does little but copy: larger pieces are quicker there.
+const MERGE_BUFFER: usize = 131_072;
+
 type Input = StdSource<BufReader<File>>;
 
 type OutputFile = StdSink<BufWriter<File>>;
@@ -97,7 +100,7 @@ fn packet(rt: &HostRuntime, hex: &str) -> Result<(), CommandFault> {
 }
 
 fn show(rt: &HostRuntime, j: &str) -> Result<(), CommandFault> {
-    let mut input = input(rt, 1, j)?;
+    let mut input = input(rt, 1, j, BUFFER)?;
     let mut output = standard_output(rt)?;
     let shown = show_to(rt.alloc(), &mut input, &mut output);
     let flushed = output.flush().map_err(|_| CommandFault::CannotWrite);
@@ -115,7 +118,7 @@ fn gaps(rt: &HostRuntime, j: &str) -> Result<(), CommandFault> {
 fn extract(rt: &HostRuntime, out: &str, key: &Key, j: &str) -> Result<(), CommandFault> {
     let shelf = loaded(rt, j)?;
     check_whole(&shelf, key)?;
-    let mut file = output_file(rt, out)?;
+    let mut file = output_file(rt, out, BUFFER)?;
     let bytes = extract_to(&shelf, key, &mut file)?;
     file.flush().map_err(|_| CommandFault::CannotWrite)?;
     tell_count(rt, "bytes", bytes)
@@ -130,7 +133,7 @@ fn add_information(
 ) -> Result<(), CommandFault> {
     let mut shelf = loaded(rt, j)?;
     add_info(rt.alloc(), &mut shelf, key, info)?;
-    let mut file = output_file(rt, out)?;
+    let mut file = output_file(rt, out, BUFFER)?;
     let entries = save_to(&shelf, &mut file)?;
     file.flush().map_err(|_| CommandFault::CannotWrite)?;
     tell_count(rt, "entries", entries)
@@ -141,7 +144,7 @@ fn join(rt: &HostRuntime, out: &str, paths: &[&str]) -> Result<(), CommandFault>
     requires { length paths.now ≤ 64 }
 {
     let joined = joined(rt, paths)?;
-    let mut file = output_file(rt, out)?;
+    let mut file = output_file(rt, out, BUFFER)?;
     let entries = save_to(&joined.store, &mut file)?;
     file.flush().map_err(|_| CommandFault::CannotWrite)?;
     let mut output = standard_output(rt)?;
@@ -165,9 +168,9 @@ fn joined(rt: &HostRuntime, paths: &[&str]) -> Result<Joined, CommandFault>
 
 /// Creates the file once both inputs are open. What was merged before a fault stays in it.
 fn merge(rt: &HostRuntime, out: &str, a: &str, b: &str) -> Result<(), CommandFault> {
-    let mut first = input(rt, 1, a)?;
-    let mut second = input(rt, 2, b)?;
-    let mut file = output_file(rt, out)?;
+    let mut first = input(rt, 1, a, MERGE_BUFFER)?;
+    let mut second = input(rt, 2, b, MERGE_BUFFER)?;
+    let mut file = output_file(rt, out, MERGE_BUFFER)?;
     let merged = merge_to(rt.alloc(), &mut first, &mut second, &mut file);
     let flushed = file.flush().map_err(|_| CommandFault::CannotWrite);
     let entries = merged?;
@@ -176,12 +179,12 @@ fn merge(rt: &HostRuntime, out: &str, a: &str, b: &str) -> Result<(), CommandFau
 }
 
 fn whole_input(rt: &HostRuntime, number: usize, path: &str) -> Result<Blob, CommandFault> {
-    let mut input = input(rt, number, path)?;
+    let mut input = input(rt, number, path, BUFFER)?;
     Blob::read(rt.alloc(), &mut input).map_err(|fault| blob_fault(number, fault))
 }
 
 fn send(rt: &HostRuntime, out: &str, datagrams: &Datagrams) -> Result<(), CommandFault> {
-    let mut file = output_file(rt, out)?;
+    let mut file = output_file(rt, out, BUFFER)?;
     let count = send_to(datagrams, &mut file)?;
     file.flush().map_err(|_| CommandFault::CannotWrite)?;
     tell_count(rt, "datagrams", count)
@@ -198,14 +201,19 @@ fn tell_count(rt: &HostRuntime, word: &str, count: u64) -> Result<(), CommandFau
 
 /// The store that a journal makes.
 fn loaded(rt: &HostRuntime, path: &str) -> Result<Shelf, CommandFault> {
-    let mut input = input(rt, 1, path)?;
+    let mut input = input(rt, 1, path, BUFFER)?;
     load(rt.alloc(), &mut input)
 }
 
 /// Opens the input with this number, from 1. A folder is none.
-fn input(rt: &HostRuntime, number: usize, path: &str) -> Result<Input, CommandFault> {
+fn input(
+    rt: &HostRuntime,
+    number: usize,
+    path: &str,
+    buffer: usize,
+) -> Result<Input, CommandFault> {
     let file = file_at(rt, path).map_err(|_| CommandFault::CannotOpen(number))?;
-    let reader = BufReader::with_capacity(rt.alloc(), BUFFER, file).map_err(
+    let reader = BufReader::with_capacity(rt.alloc(), buffer, file).map_err(
         |_| CommandFault::OutOfMemory,
     )?;
     Ok(StdSource::new(reader))
@@ -219,9 +227,9 @@ fn file_at(rt: &HostRuntime, path: &str) -> io::Result<File> {
     Ok(file)
 }
 
-fn output_file(rt: &HostRuntime, path: &str) -> Result<OutputFile, CommandFault> {
+fn output_file(rt: &HostRuntime, path: &str, buffer: usize) -> Result<OutputFile, CommandFault> {
     let file = fs::create(rt, path).map_err(|_| CommandFault::CannotCreate)?;
-    let writer = BufWriter::with_capacity(rt.alloc(), BUFFER, file).map_err(
+    let writer = BufWriter::with_capacity(rt.alloc(), buffer, file).map_err(
         |_| CommandFault::OutOfMemory,
     )?;
     Ok(StdSink::new(writer))
