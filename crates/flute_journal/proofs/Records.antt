@@ -16,7 +16,8 @@ use Rattle.flute_journal.specs.Faults.{Check, first_fault, cut, opening_fault}
 use Rattle.flute_journal.specs.Input.{IsFaultOf}
 use Rattle.flute_journal.specs.Journal.{IsByte}
 use Rattle.flute_journal.specs.Parsing.{StopsFront, cut_fault}
-use Rattle.flute_journal.specs.Records.{file_header, record_of, IsCut, IsDatagram, AreDatagrams, IsFileWithin, FileStops, in_header, behind, HasFileFault, record_checks, record_fault, given, opening, or_else, file_fault_from, GivesRecord, GivesNone, GivesFileFault}
+use Rattle.flute_journal.specs.Reading.{or_else}
+use Rattle.flute_journal.specs.Records.{file_header, record_of, IsCut, IsDatagram, AreDatagrams, IsFileWithin, FileStops, in_header, behind, HasFileFault, record_checks, record_fault, given, opening, file_fault_from, GivesRecord, GivesNone, GivesFileFault}
 use Rattle.flute_journal.proofs.Numbers.{octets-drop}
 use Rattle.flute_journal.proofs.Decoded.{joined, front_octets}
 use Rattle.flute_journal.proofs.Checks.{first-pass, first-stop, cut-passes}

@@ -11,6 +11,7 @@ use Rattle.flute_journal.specs.Numbers.{in_bytes}
 use Rattle.flute_journal.specs.Faults.{Check, first_fault, cut, opening_fault}
 use Rattle.flute_journal.specs.Input.{IsFaultOf}
 use Rattle.flute_journal.specs.Journal.{IsByte}
+use Rattle.flute_journal.specs.Reading.{or_else}
 
 -- `FLDG`, and the version
 abbrev pub file_header : List ℕ
@@ -98,10 +99,6 @@ given _ = 0
 abbrev pub opening : FileStage → List ℕ
 opening Header = file_header
 opening _ = []
-
-abbrev pub or_else : Option ReadFault → Option ReadFault → Option ReadFault
-or_else None second = second
-or_else (Some f) second = Some f
 
 -- the fault of the bytes that are left, up to the next record
 abbrev pub file_fault_from : FileStage → ℕ → List ℕ → Option ReadFault

@@ -3,9 +3,10 @@ ghost use Rattle.std.specs.Prelude.{◌≡◌, ◌≢◌, ◌++◌, ◌<◌, ◌
 ghost use Rattle.flute_journal.specs.Records.{IsDatagram, IsFileWithin, HasFileFault, record_of, IsCut};
 ghost use Rattle.flute_journal.specs.declared.fault.ReadFault.TheVariants.{Cut, Read};
 
-use crate::datagram_reader::{FILE_HEADER, length_in};
+use crate::datagram_reader::FILE_HEADER;
 use crate::fault::ReadFault;
 use crate::format::check_opening;
+use crate::format::number::length_in;
 use std::alloc::Global;
 
 /// The datagrams of a file that lies in memory, in its order. None is copied: the only memory taken is that of the list.

@@ -12,8 +12,8 @@ ghost use Rattle.flute_journal.specs.DatagramReaders.{datagrams_source_of, recor
 
 use crate::fault::ReadFault;
 use crate::format::check_opening;
-use crate::format::number::number;
-use crate::input::{fill, front};
+use crate::format::number::length_in;
+use crate::input::{front, octets};
 use flute_parts::Source;
 use flute_wire::Datagram;
 use std::alloc::Global;
@@ -141,15 +141,6 @@ fn read_record<R: Source>(
     Ok(Some(datagram))
 }
 
-/// The number of the bytes of a datagram.
-pub fn length_in(field: &[u8]) -> u16
-    requires { length_of field.now ≡ 2 }
-    ensures value { result ≡ big_endian field.now }
-    ensures spelled { in_bytes 2 result ≡ field.now }
-{
-    number(field) as u16
-}
-
 // Reads so many bytes of a datagram.
 fn read_datagram<R: Source>(
     alloc: Global,
@@ -159,13 +150,7 @@ fn read_datagram<R: Source>(
     ensures reads { Reads (λ bytes. bytes) (λ bytes. (length_of bytes ≡ length) × AllByRecursion IsByte bytes) (cut_fault length) (R.unread source.old) (R.unread source.new) result }
     ensures failures { R.failures source.new ≡ R.failures source.old + failed result }
 {
-    let Ok(mut octets) = vec![in alloc; 0; usize::from(length)] else {
-        return Err(ReadFault::OutOfMemory);
-    };
-    if fill(source, &mut octets)? < usize::from(length) {
-        return Err(ReadFault::Cut);
-    }
-    match Datagram::from_vec(octets) {
+    match Datagram::from_vec(octets(alloc, source, length)?) {
         Ok(datagram) => Ok(datagram),
         Err(_) => Err(ReadFault::OutOfMemory),
     }

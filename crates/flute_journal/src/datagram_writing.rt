@@ -8,6 +8,7 @@ ghost use Rattle.flute_journal.specs.Records.{file_header, record_of, IsDatagram
 
 use crate::datagram_reader::FILE_HEADER;
 use crate::fault::SaveFault;
+use crate::format::number::length_field;
 use flute_parts::{DeviceFault, Sink};
 use flute_wire::{Datagram, Datagrams};
 
@@ -41,13 +42,4 @@ fn write_record<W: Sink>(sink: &mut W, datagram: &Datagram) -> Result<(), Device
     let bytes = datagram.as_slice();
     sink.write_all(&length_field(bytes))?;
     sink.write_all(bytes)
-}
-
-// The number of the bytes of a datagram.
-fn length_field(bytes: &[u8]) -> [u8; 2]
-    requires { length bytes.now ≤ 65535 }
-    ensures field { result ≡ in_bytes 2 (length bytes.now) }
-    ensures octets { AllByRecursion IsByte bytes.now }
-{
-    (bytes.len() as u16).to_be_bytes()
 }

@@ -12,7 +12,7 @@ ghost use Rattle.flute_journal.specs.Reading.{ReadsNext, ReadsEnd};
 
 use crate::fault::ReadFault;
 use crate::format::{END, Fixed, HEADER, Kind, LONGEST, check_end, check_opening, parse};
-use crate::input::{fill, front};
+use crate::input::{front, octets};
 use flute_parts::{Address, Bytes, Fact, Source};
 use std::alloc::Global;
 
@@ -111,13 +111,7 @@ fn read_bytes<R: Source>(alloc: Global, source: &mut R, length: u16) -> Result<B
     ensures advances { Advances (R.unread source.old) (R.unread source.new) length }
     ensures failures { R.failures source.new ≡ R.failures source.old + failed result }
 {
-    let Ok(mut octets) = vec![in alloc; 0; usize::from(length)] else {
-        return Err(ReadFault::OutOfMemory);
-    };
-    if fill(source, &mut octets)? < usize::from(length) {
-        return Err(ReadFault::Cut);
-    }
-    match Bytes::from_vec(octets) {
+    match Bytes::from_vec(octets(alloc, source, length)?) {
         Ok(bytes) => Ok(bytes),
         Err(_) => Err(ReadFault::OutOfMemory),
     }

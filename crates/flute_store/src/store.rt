@@ -221,6 +221,14 @@ impl<const SESSIONS: u32, const OBJECTS: u32, const SYMBOLS: u32> Store<
         Walk::new(sessions)
     }
 
+    /// Every store has its facts in the rising order of their addresses, and within its limits. A law: it does nothing.
+    pub fn keeps_order_and_limits(&self)
+        ensures rising { IsRising self.now }
+        ensures within { ¬ Over self.now SESSIONS OBJECTS SYMBOLS }
+    {
+        let _ = &self.sessions;
+    }
+
     /// The keys of the objects of which something is held, in rising order. It takes no memory, and goes once over the
     /// sessions and objects.
     pub fn objects(&self) -> Keys<'_, Objects<OBJECTS, SYMBOLS>>

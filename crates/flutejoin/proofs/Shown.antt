@@ -19,27 +19,28 @@ use Rattle.flute_journal.specs.Reading.{position, opening, GivesEntry, GivesEnd,
 use Rattle.flute_journal.proofs.Existence.{header_is}
 use Rattle.flute_journal.proofs.Whole.{Sofar, sofar-none, sofar-next, stage_at, read_of}
 use Rattle.flutejoin.specs.Lines.{fact_line, entries_line}
-use Rattle.flutejoin.specs.Show.{max_entries, entry_lines, BeginsWith, ShowsAll, HasFaultBehind, ShowsUntil, ShowsPart, of_entries, of_journal}
+use Rattle.flutejoin.specs.Show.{entry_lines, BeginsWith, ShowsAll, HasFaultBehind, ShowsUntil, ShowsPart, of_entries, of_journal}
+use Rattle.flutejoin.specs.declared.limits.TheConstants.{MAX_ENTRIES}
 
 -- these entries were read, and their lines written, and nothing else
 pub record Shown (first now : Option (List ℕ)) (stage : Stage) (old new : Option (List ℕ)) (count : ℕ) : Type 0 where
   pub entries : List Fact
-  pub sofar : Sofar max_entries first now stage entries
+  pub sofar : Sofar MAX_ENTRIES first now stage entries
   pub counted : count ≡ length entries
   pub written : Appends old new (entry_lines entries)
 
 pub shown-none : (u s : Option (List ℕ)) → Shown u u Header s s 0
-shown-none u s = record { entries = []; sofar = sofar-none max_entries u; counted = refl; written = Appends-nil s }
+shown-none u s = record { entries = []; sofar = sofar-none MAX_ENTRIES u; counted = refl; written = Appends-nil s }
 
 -- one line more
 line_more : (es : List Fact) (f : Fact) → entry_lines es ++ fact_line f ≡ entry_lines (es ++ f ∷ [])
 line_more es f = flat_map_more fact_line [] es f
 
 pub shown-next : (u v w : Option (List ℕ)) (from to : Stage) (s t t' : Option (List ℕ)) (count : ℕ) (f : Fact) → Shown u v from s t count
-    → GivesEntry max_entries from to v w f → Appends t t' (fact_line f) → Shown u w to s t' (count + 1)
+    → GivesEntry MAX_ENTRIES from to v w f → Appends t t' (fact_line f) → Shown u w to s t' (count + 1)
 shown-next u v w from to s t t' count f h g line = record {
   entries = h.entries ++ f ∷ [];
-  sofar = sofar-next max_entries u v w from to h.entries f h.sofar g;
+  sofar = sofar-next MAX_ENTRIES u v w from to h.entries f h.sofar g;
   counted = omega (arith, h.counted, length-append h.entries (f ∷ []));
   written = subst (λ (x : List ℕ). Appends s t' x) (line_more h.entries f) (Appends-trans s t t' (entry_lines h.entries) (fact_line f) h.written line);
 }
@@ -55,9 +56,9 @@ begins es (Some x) (Some y) e = begins_at es x y e
 
 -- a line was written in part
 pub shown-part : (u v w : Option (List ℕ)) (from to : Stage) (s t t' : Option (List ℕ)) (count : ℕ) (f : Fact) → Shown u v from s t count
-    → GivesEntry max_entries from to v w f → AppendsPart t t' (fact_line f) → ShowsPart u s t'
+    → GivesEntry MAX_ENTRIES from to v w f → AppendsPart t t' (fact_line f) → ShowsPart u s t'
 shown-part u v w from to s t t' count f h g part =
-    let all = sofar-next max_entries u v w from to h.entries f h.sofar g in
+    let all = sofar-next MAX_ENTRIES u v w from to h.entries f h.sofar g in
     of_entries (h.entries ++ f ∷ []) all.are_entries (begins (h.entries ++ f ∷ []) u w all.read)
     (subst (λ (x : List ℕ). AppendsPart s t' x) (line_more h.entries f) (AppendsPart-second s t t' (entry_lines h.entries) (fact_line f) h.written part))
 
@@ -78,24 +79,24 @@ known_stops limit None v es f a took h = tt
 known_stops limit (Some x) None es f a took h = absurd took
 known_stops limit (Some x) (Some y) es f a took h = stops_at limit x y es f a took h
 
-fault_behind : (u v : Option (List ℕ)) (es : List Fact) (f : ReadFault) → AreEntries max_entries es → Consumes u v (read_of es)
-    → IsFaultOf (fault_from (stage_at es) max_entries) v f → HasFaultBehind es u f
+fault_behind : (u v : Option (List ℕ)) (es : List Fact) (f : ReadFault) → AreEntries MAX_ENTRIES es → Consumes u v (read_of es)
+    → IsFaultOf (fault_from (stage_at es) MAX_ENTRIES) v f → HasFaultBehind es u f
 fault_behind u v es faults.Read a took h = begins es u v took
 fault_behind u v es faults.OutOfMemory a took h = begins es u v took
-fault_behind u v es f a took h = known_stops max_entries u v es f a took h
+fault_behind u v es f a took h = known_stops MAX_ENTRIES u v es f a took h
 
 not_failed : (es : List Fact) (f : ReadFault) → stage_at es ≡ Failed f → ⊥
 not_failed [] f e = cc
 not_failed (x ∷ es) f e = cc
 
 pub shown-fault : (u v w : Option (List ℕ)) (from to : Stage) (s t : Option (List ℕ)) (count : ℕ) (f : ReadFault) → Shown u v from s t count
-    → GivesFault max_entries from to v w f → ShowsUntil u s t f
+    → GivesFault MAX_ENTRIES from to v w f → ShowsUntil u s t f
 shown-fault u v w from to s t count f h g = record {
   entries = h.entries;
   are_entries = h.sofar.are_entries;
   stops = elim g.found [
     | inl p ↦ absurd (not_failed h.entries f (sym h.sofar.stage_is ∙ p.0))
-    | inr p ↦ fault_behind u v h.entries f h.sofar.are_entries h.sofar.read (subst (λ (x : Stage). IsFaultOf (fault_from x max_entries) v f) h.sofar.stage_is p.1)
+    | inr p ↦ fault_behind u v h.entries f h.sofar.are_entries h.sofar.read (subst (λ (x : Stage). IsFaultOf (fault_from x MAX_ENTRIES) v f) h.sofar.stage_is p.1)
   ];
   written = h.written;
 }
@@ -110,12 +111,12 @@ not_ended : (es : List Fact) → stage_at es ≡ Ended → ⊥
 not_ended [] e = cc
 not_ended (x ∷ es) e = cc
 
-journal_at : (u w : Option (List ℕ)) (es : List Fact) → AreEntries max_entries es → Consumes u w (spelling es) → IsAtEnd w → IfSome u (λ x. IsJournalWithin max_entries x es)
+journal_at : (u w : Option (List ℕ)) (es : List Fact) → AreEntries MAX_ENTRIES es → Consumes u w (spelling es) → IsAtEnd w → IfSome u (λ x. IsJournalWithin MAX_ENTRIES x es)
 journal_at None w es a took ended = tt
 journal_at (Some x) None es a took ended = absurd took
 journal_at (Some x) (Some y) es a took ended = record { are_entries = a; bytes_are = took ∙ ap (λ (z : List ℕ). spelling es ++ z) ended ∙ append-nil (spelling es) }
 
-whole : (u v w : Option (List ℕ)) (from to : Stage) (es : List Fact) → Sofar max_entries u v from es → GivesEnd from to v w → IfSome u (λ x. IsJournalWithin max_entries x es)
+whole : (u v w : Option (List ℕ)) (from to : Stage) (es : List Fact) → Sofar MAX_ENTRIES u v from es → GivesEnd from to v w → IfSome u (λ x. IsJournalWithin MAX_ENTRIES x es)
 whole u v w from to es h g = elim g.bytes [
   | inl p ↦ absurd (not_ended es (sym h.stage_is ∙ p.0))
   | inr p ↦ (
@@ -139,13 +140,13 @@ shown-cut u v w from to s t t' count h g part =
 
 -- What a call of the reader gave, and a write did.
 
-pub entry_given : (limit : ℕ) (from to : Stage) (v w : Option (List ℕ)) (r : Result (Option Fact) ReadFault) (f : Fact) → Gives limit from to v w r → limit ≡ max_entries → r ≡ Ok (Some f) → GivesEntry max_entries from to v w f
+pub entry_given : (limit : ℕ) (from to : Stage) (v w : Option (List ℕ)) (r : Result (Option Fact) ReadFault) (f : Fact) → Gives limit from to v w r → limit ≡ MAX_ENTRIES → r ≡ Ok (Some f) → GivesEntry MAX_ENTRIES from to v w f
 entry_given limit from to v w r f h l e = subst (λ n. Gives n from to v w (Ok (Some f))) l (subst (λ (x : Result (Option Fact) ReadFault). Gives limit from to v w x) e h)
 
 pub end_given : (limit : ℕ) (from to : Stage) (v w : Option (List ℕ)) (r : Result (Option Fact) ReadFault) → Gives limit from to v w r → r ≡ Ok None → GivesEnd from to v w
 end_given limit from to v w r h e = subst (λ (x : Result (Option Fact) ReadFault). Gives limit from to v w x) e h
 
-pub fault_given : (limit : ℕ) (from to : Stage) (v w : Option (List ℕ)) (r : Result (Option Fact) ReadFault) (f : ReadFault) → Gives limit from to v w r → limit ≡ max_entries → r ≡ Err f → GivesFault max_entries from to v w f
+pub fault_given : (limit : ℕ) (from to : Stage) (v w : Option (List ℕ)) (r : Result (Option Fact) ReadFault) (f : ReadFault) → Gives limit from to v w r → limit ≡ MAX_ENTRIES → r ≡ Err f → GivesFault MAX_ENTRIES from to v w f
 fault_given limit from to v w r f h l e = subst (λ n. Gives n from to v w (Err f)) l (subst (λ (x : Result (Option Fact) ReadFault). Gives limit from to v w x) e h)
 
 pub no_read_failure : (r : Result (Option Fact) ReadFault) (o : Option Fact) (b : Bool) (n m k : ℕ) → r ≡ Ok o → n ≡ m + (if b then failed r else 0) → m ≡ k → n ≡ k

@@ -2,15 +2,15 @@
 use Rattle.std.specs.Prelude.{◌≡◌, ℕ, List, Option, ⊤, IfSome}
 use Rattle.flute_journal.specs.Stores.{BeginsOver}
 use Rattle.flute_journal.specs.Whole.{HasFault}
-use Rattle.flutejoin.specs.Show.{max_entries}
+use Rattle.flutejoin.specs.declared.limits.TheConstants.{MAX_ENTRIES}
 use Rattle.flutejoin.specs.declared.command_fault.CommandFault.{CommandFault}
 use Rattle.flutejoin.specs.declared.command_fault.CommandFault.TheVariants.{Input, Full, OutOfMemory}
 
 -- the input stops at this fault, or begins with entries beyond 64 sessions, 4,096 objects of one or 1,048,576 symbols of one; memory may
 -- run out at any entry
 abbrev pub LoadFails : Option (List ℕ) → CommandFault → Type 0
-LoadFails input (Input number fault) = (number ≡ 1) × HasFault max_entries input fault
-LoadFails input Full = IfSome input (BeginsOver 64 4096 1048576 max_entries)
+LoadFails input (Input number fault) = (number ≡ 1) × HasFault MAX_ENTRIES input fault
+LoadFails input Full = IfSome input (BeginsOver 64 4096 1048576 MAX_ENTRIES)
 LoadFails input OutOfMemory = ⊤
 LoadFails input _ = ⊥
 

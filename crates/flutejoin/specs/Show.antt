@@ -8,13 +8,10 @@ use Rattle.flute_journal.specs.declared.fault.ReadFault.{ReadFault}
 use Rattle.flute_journal.specs.declared.fault.ReadFault.TheVariants as faults
 use Rattle.flute_journal.specs.Format.{header, entry}
 use Rattle.flute_journal.specs.Journal.{AreEntries, IsJournalWithin, Stops}
+use Rattle.flutejoin.specs.declared.limits.TheConstants.{MAX_ENTRIES}
 use Rattle.flutejoin.specs.Lines.{fact_line, entries_line}
 use Rattle.flutejoin.specs.declared.command_fault.CommandFault.{CommandFault}
 use Rattle.flutejoin.specs.declared.command_fault.CommandFault.TheVariants.{Input, CannotWrite}
-
--- how many entries a journal may have that is read
-abbrev pub max_entries : ℕ
-max_entries = 16777216
 
 -- a line for each entry
 abbrev pub entry_lines : List Fact → List ℕ
@@ -32,26 +29,26 @@ BeginsWith (f ∷ fs) bytes = (rest : List ℕ) × (bytes ≡ header ++ flat_map
 -- a journal of these entries was read, and all its lines were written
 pub record ShowsAll (input old new : Option (List ℕ)) : Type 0 where
   pub entries : List Fact
-  pub journal : IfSome input (λ bytes. IsJournalWithin max_entries bytes entries)
+  pub journal : IfSome input (λ bytes. IsJournalWithin MAX_ENTRIES bytes entries)
   pub written : Appends old new (shown entries)
 
 -- the input has this fault behind these entries; a device may fail, and memory run out, behind any
 abbrev pub HasFaultBehind : List Fact → Option (List ℕ) → ReadFault → Type 0
 HasFaultBehind entries input faults.Read = IfSome input (BeginsWith entries)
 HasFaultBehind entries input faults.OutOfMemory = IfSome input (BeginsWith entries)
-HasFaultBehind entries input fault = IfSome input (λ bytes. Stops bytes max_entries entries fault)
+HasFaultBehind entries input fault = IfSome input (λ bytes. Stops bytes MAX_ENTRIES entries fault)
 
 -- the lines of the entries before a fault were written, and no more
 pub record ShowsUntil (input old new : Option (List ℕ)) (fault : ReadFault) : Type 0 where
   pub entries : List Fact
-  pub are_entries : AreEntries max_entries entries
+  pub are_entries : AreEntries MAX_ENTRIES entries
   pub stops : HasFaultBehind entries input fault
   pub written : Appends old new (entry_lines entries)
 
 -- a first part of the lines was written, and not all: of entries that the input begins with, or of a whole journal
 pub data ShowsPart (input old new : Option (List ℕ)) : Type 0 where
-  of_entries : (entries : List Fact) → AreEntries max_entries entries → IfSome input (BeginsWith entries) → AppendsPart old new (entry_lines entries) → ShowsPart input old new
-  of_journal : (entries : List Fact) → IfSome input (λ bytes. IsJournalWithin max_entries bytes entries) → AppendsPart old new (shown entries) → ShowsPart input old new
+  of_entries : (entries : List Fact) → AreEntries MAX_ENTRIES entries → IfSome input (BeginsWith entries) → AppendsPart old new (entry_lines entries) → ShowsPart input old new
+  of_journal : (entries : List Fact) → IfSome input (λ bytes. IsJournalWithin MAX_ENTRIES bytes entries) → AppendsPart old new (shown entries) → ShowsPart input old new
 
 -- why it failed, and what was written
 abbrev pub ShowFails : Option (List ℕ) → Option (List ℕ) → Option (List ℕ) → CommandFault → Type 0

@@ -40,7 +40,7 @@ impl Joined {
         }
     }
 
-    // TakesDatagram a datagram, and counts it.
+    // Takes a datagram, and counts it.
     fn take(&mut self, alloc: Global, datagram: &[u8]) -> Result<(), CommandFault>
         requires datagrams { self.now.datagrams + 1 < 2 ^ 64 }
         requires refused { self.now.refused ≤ self.now.datagrams }
@@ -219,7 +219,6 @@ fn taken(alloc: Global, datagrams: &[&[u8]]) -> Result<Joined, CommandFault>
     for datagram in datagrams {
         taken.take(alloc, datagram)?;
     }
-    // By this the proof knows that the store is within its limits.
-    let _ = taken.store.walk();
+    taken.store.keeps_order_and_limits();
     Ok(taken)
 }

@@ -2,7 +2,8 @@
 ghost use Rattle.std.specs.Prelude.{◌≡◌, ◌+◌, IfOk, IfErr, IfSome};
 ghost use Rattle.std.specs.Io.KnownBytes.{IsAtEnd};
 ghost use Rattle.flute_journal.specs.Stores.{IsJournalOf};
-ghost use Rattle.flutejoin.specs.Show.{max_entries, read_failures};
+ghost use Rattle.flutejoin.specs.Show.{read_failures};
+ghost use Rattle.flutejoin.specs.declared.limits.TheConstants.{MAX_ENTRIES};
 ghost use Rattle.flutejoin.specs.Load.{LoadFails};
 
 use crate::command_fault::CommandFault;
@@ -20,7 +21,7 @@ use std::alloc::Global;
 /// symbol; `Full` where an entry needs a new session, object or symbol beyond the limits of the store; `OutOfMemory` where
 /// the store found none for an entry.
 pub fn load<R: Source>(alloc: Global, source: &mut R) -> Result<Shelf, CommandFault>
-    ensures journal { IfOk result (λ shelf. IfSome (R.unread source.old) (λ bytes. IsJournalOf max_entries bytes shelf)) }
+    ensures journal { IfOk result (λ shelf. IfSome (R.unread source.old) (λ bytes. IsJournalOf MAX_ENTRIES bytes shelf)) }
     ensures end { IfOk result (λ _. IsAtEnd (R.unread source.new)) }
     ensures failed { IfErr result (LoadFails (R.unread source.old)) }
     ensures failures { R.failures source.new ≡ R.failures source.old + read_failures result }

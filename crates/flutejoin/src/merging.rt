@@ -2,7 +2,7 @@
 ghost use Rattle.std.specs.Prelude.{◌≡◌, ◌+◌, IfOk, IfErr, OnErr};
 ghost use Rattle.flute_journal.specs.Merges.{Merged, StopsShort};
 ghost use Rattle.flutejoin.specs.Merge.{MergeFails};
-ghost use Rattle.flutejoin.specs.Show.{max_entries};
+ghost use Rattle.flutejoin.specs.declared.limits.TheConstants.{MAX_ENTRIES};
 ghost use Rattle.flutejoin.specs.Packet.{write_failures};
 
 use crate::command_fault::CommandFault;
@@ -24,7 +24,7 @@ pub fn merge_to<A: Source, B: Source, W: Sink>(
     second: &mut B,
     sink: &mut W,
 ) -> Result<u64, CommandFault>
-    ensures merged { IfOk result (λ n. Merged max_entries n (A.unread first.old) (B.unread second.old) (W.written sink.old) (W.written sink.new)) }
+    ensures merged { IfOk result (λ n. Merged MAX_ENTRIES n (A.unread first.old) (B.unread second.old) (W.written sink.old) (W.written sink.new)) }
     ensures short { OnErr result (StopsShort (A.unread first.old) (B.unread second.old) (W.written sink.old) (W.written sink.new)) }
     ensures failed { IfErr result (MergeFails (A.unread first.old) (B.unread second.old)) }
     ensures failures { W.failures sink.new ≡ W.failures sink.old + write_failures result }

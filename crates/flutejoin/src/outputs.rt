@@ -60,8 +60,7 @@ pub fn journal_after<const SESSIONS: u32, const OBJECTS: u32, const SYMBOLS: u32
     let Some(store) = replicas.store(replica) else {
         return Err(OutputFault::NoReplica);
     };
-    // By this the proof knows that the facts of the store are in their order.
-    let _ = store.walk();
+    store.keeps_order_and_limits();
     match write_store(store, sink) {
         Ok(entries) => Ok(entries),
         Err(fault) => Err(OutputFault::Save(fault)),

@@ -182,15 +182,13 @@ impl<const SESSIONS: u32, const OBJECTS: u32, const SYMBOLS: u32> Replicas<
         let into = self.place(into)?;
         let from = self.place(from)?;
         if into == from {
-            // By this the proof knows that the store is within its limits.
-            let _ = self.replicas[into].store.walk();
+            self.replicas[into].store.keeps_order_and_limits();
             return Ok(());
         }
         let empty = Store::new(alloc);
         let mut target = mem::replace(&mut self.replicas[into].store, empty);
         let joined = target.absorb(alloc, &self.replicas[from].store);
-        // By this the proof knows that the store is within its limits.
-        let _ = target.walk();
+        target.keeps_order_and_limits();
         self.replicas[into].store = target;
         Ok(joined?)
     }
@@ -204,8 +202,7 @@ impl<const SESSIONS: u32, const OBJECTS: u32, const SYMBOLS: u32> Replicas<
         let store = read_store(alloc, &mut source, MAX_ENTRIES)?;
         let target = &mut self.replicas[place];
         let joined = target.store.absorb(alloc, &store);
-        // By this the proof knows that the store is within its limits.
-        let _ = target.store.walk();
+        target.store.keeps_order_and_limits();
         Ok(joined?)
     }
 

@@ -10,6 +10,7 @@ ghost use Rattle.flute_journal.specs.Journal.{IsByte, IsKey, IsId, IsInfo, IsFac
 ghost use Rattle.flute_journal.specs.Writing.{symbol_of};
 
 use super::END;
+use super::number::length_field;
 use arrayvec::ArrayVec;
 use flute_parts::{FactRef, Info, Key, SymbolId};
 
@@ -121,5 +122,5 @@ fn put_length(head: &mut Head, bytes: &[u8])
     ensures len { array_vec_len head.new ≡ array_vec_len head.old + 2 }
     ensures octets { AllByRecursion IsByte bytes.now }
 {
-    put(head, &(bytes.len() as u16).to_be_bytes());
+    put(head, &length_field(bytes));
 }

@@ -1,6 +1,9 @@
 //! Numbers in network byte order.
 ghost use Rattle.std.specs.Prelude.{◌≡◌, ◌<◌, ◌≤◌, ◌^◌, length};
+ghost use Rattle.std.specs.List.{AllByRecursion};
 ghost use Rattle.flute_parts.specs.BigEndian.{big_endian};
+ghost use Rattle.flute_journal.specs.Numbers.{in_bytes};
+ghost use Rattle.flute_journal.specs.Journal.{IsByte};
 
 /// The number that the bytes spell.
 pub fn number(bytes: &[u8]) -> u128
@@ -13,4 +16,22 @@ pub fn number(bytes: &[u8]) -> u128
         number = 256 * number + u128::from(*byte);
     }
     number
+}
+
+/// The number that two bytes spell: how many bytes follow.
+pub fn length_in(field: &[u8]) -> u16
+    requires { length field.now ≡ 2 }
+    ensures value { result ≡ big_endian field.now }
+    ensures spelled { in_bytes 2 result ≡ field.now }
+{
+    number(field) as u16
+}
+
+/// The two bytes that spell how many bytes these are.
+pub fn length_field(bytes: &[u8]) -> [u8; 2]
+    requires { length bytes.now < 2 ^ 16 }
+    ensures field { result ≡ in_bytes 2 (length bytes.now) }
+    ensures octets { AllByRecursion IsByte bytes.now }
+{
+    (bytes.len() as u16).to_be_bytes()
 }

@@ -5,7 +5,7 @@ use Rattle.flutejoin.proofs.outputs.journal_after.Goals as goal
 pub returns-in-Ok-write_store-clause-journal : goal.returns-in-Ok-write_store-clause-journal
 returns-in-Ok-write_store-clause-journal g c = λ origins fits.
     written_as_given _ _ c.in-Some.store.now _ c.in-Ok-write_store.entries (store_same c.args.count c.args.steps.now origins c.args.replica c.in-Ok.replicas c.in-Some.store.now c.in-Ok.ensures.done fits c.in-Some.ensures.1)
-    c.in-Ok-write_store.ensures.bytes c.in-Ok-write_store.ensures.journal c.walk.ensures.rising c.in-Ok-write_store.ensures.count
+    c.in-Ok-write_store.ensures.bytes c.in-Ok-write_store.ensures.journal c.keeps_order_and_limits.ensures.rising c.in-Ok-write_store.ensures.count
 
 pub returns-in-Ok-write_store-clause-one : goal.returns-in-Ok-write_store-clause-one
 returns-in-Ok-write_store-clause-one g c = λ m others q origins further fits fits_too members bytes journal.

@@ -36,4 +36,4 @@ returns-clause-done g c =
     rw (← c.in_ok-place.ensures.ok.0, ← c.self.view_is)
     (loaded_done (capacity g.row.SESSIONS g.row.OBJECTS g.row.SYMBOLS) _ _ _ _ _ c.in_ok-store.store _ read.0
     (changed _ _ c.self.inside.replicas.items c.in_ok-place.place c.index_mut-target.result.now _ (within_items _ _ _ _ _ c.self.view_is c.in_ok-place.ensures.ok.1) c.index_mut-target.ensures.value refl)
-    read.1 read.2 c.in_ok-joined.ensures.ok c.walk.ensures.within)
+    read.1 read.2 c.in_ok-joined.ensures.ok c.keeps_order_and_limits.ensures.within)

@@ -20,7 +20,7 @@ pub returns-then-into-from-clause-done : goal.returns-then-into-from-clause-done
 returns-then-into-from-clause-done g c =
     rw (← c.in_ok-into.ensures.ok.0, ← c.in_ok-from.ensures.ok.0, ← c.if-into-from.true)
     (merged_into_itself (capacity g.row.SESSIONS g.row.OBJECTS g.row.SYMBOLS) _ c.in_ok-into.into c.in_ok-into.ensures.ok.1
-    (inside_at _ _ _ _ _ c.index.result.now (capacity g.row.SESSIONS g.row.OBJECTS g.row.SYMBOLS) c.self.view_is c.in_ok-into.ensures.ok.1 c.index.ensures c.walk.ensures.within))
+    (inside_at _ _ _ _ _ c.index.result.now (capacity g.row.SESSIONS g.row.OBJECTS g.row.SYMBOLS) c.self.view_is c.in_ok-into.ensures.ok.1 c.index.ensures c.keeps_order_and_limits.ensures.within))
 
 pub returns-in_err-joined-clause-refused : goal.returns-in_err-joined-clause-refused
 returns-in_err-joined-clause-refused g c =
@@ -39,4 +39,4 @@ returns-clause-done g c =
     (merged_done _ _ c.self.inside.replicas.items c.in_ok-into.into c.in_ok-from.from c.index_mut.result.now _ c.index-2.result.now _ (capacity g.row.SESSIONS g.row.OBJECTS g.row.SYMBOLS)
     (within_items _ _ _ _ _ c.self.view_is c.in_ok-into.ensures.ok.1) (within_items _ _ _ _ _ c.self.view_is c.in_ok-from.ensures.ok.1) c.if-into-from.false
     c.index_mut.ensures.value refl (ap (λ x. x.refused) (c.index_mut-2.ensures.value ∙ get_or-set_same c.self.inside.replicas.items c.in_ok-into.into _ _ (within_items _ _ _ _ _ c.self.view_is c.in_ok-into.ensures.ok.1))) c.index-2.ensures
-    (rw (← c.replace-target.ensures.value) c.in_ok-joined.ensures.ok) c.walk-2.ensures.within)
+    (rw (← c.replace-target.ensures.value) c.in_ok-joined.ensures.ok) c.keeps_order_and_limits-2.ensures.within)
