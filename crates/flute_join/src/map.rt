@@ -1,5 +1,6 @@
 //! A map whose values are joined at shared keys.
-ghost use Rattle.std.specs.Prelude.{◌≡◌, ◌<◌, ◌≤◌, [], ◌∷◌, length, is_some, List, IsNone, IfErr, OnOk, OnErr, ◌↔◌};
+ghost use Rattle.std.specs.Prelude.{◌≡◌, ◌≢◌, ℕ, Some, slice_get, ◌<◌, ◌≤◌, [], ◌∷◌, length, is_some, List, IsNone, IfErr, OnOk, OnErr, ◌↔◌};
+ghost use Rattle.std.specs.declared.cmp.Ordering.TheVariants.{Less};
 ghost use Rattle.std.specs.Bool.{OnTrue, OnFalse};
 ghost use Rattle.std.specs.Option.{option_copied, option_copied_mut, ForSome};
 ghost use Rattle.std.specs.BTreeMap.{insert_entry};
@@ -14,6 +15,7 @@ use crate::join::Join;
 use crate::place::Place;
 use crate::refusal::JoinRefusal;
 use std::alloc::Global;
+use std::cmp::Ordering;
 use std::collections::{BTreeMap, btree_map};
 use std::marker::Model;
 
@@ -98,6 +100,20 @@ impl<K: Place, V: Join, const LIMIT: u32> JoinMap<K, V, LIMIT> {
         self.entries.get_mut(key)
     }
 
+    /// As [`get_mut`](JoinMap::get_mut), but quicker where the key stands above all that are held, and a little slower
+    /// elsewhere: for keys that mostly come in rising order.
+    pub fn seek_mut(&mut self, key: &K) -> Option<&mut V>
+        ensures* writes_back { sem 𝓛 (lends_value K.row V.row LIMIT.row K.Place V.Join self.entry (K.cmp key.now) result) }
+        ensures value { option_copied_mut result ≡ value_at K.cmp self.old key.now }
+        ensures ordered { IsOrdered K.cmp self.old }
+        ensures within { length self.old ≤ LIMIT }
+    {
+        if self.is_above_all(key) {
+            return None;
+        }
+        self.get_mut(key)
+    }
+
     /// Adds an entry at a key that is not held; `contains` is the test. `Full` comes exactly where the map has `LIMIT`
     /// keys, before any memory is asked for. A refusal leaves the map unchanged, and drops the value.
     pub fn add_new(&mut self, key: K, value: V) -> Result<(), JoinRefusal>
@@ -156,6 +172,20 @@ impl<K: Place, V: Join, const LIMIT: u32> JoinMap<K, V, LIMIT> {
             return Err(JoinRefusal::Full);
         }
         self.insert(key, value.copy(alloc)?)
+    }
+
+    // Whether a key stands above all that are held, and so is new.
+    fn is_above_all(&self, key: &K) -> bool
+        ensures new { OnTrue result (IsNone (value_at K.cmp self.now key.now)) }
+        ensures not_above { OnFalse result ((i : ℕ) × (e : K × V) × (slice_get self.now i ≡ Some e)
+            × (K.cmp e.0 key.now ≢ Less)) }
+        ensures ordered { IsOrdered K.cmp self.now }
+        ensures within { length self.now ≤ LIMIT }
+    {
+        match self.entries.last_key_value() {
+            Some((last, _)) => matches!(last.cmp(key), Ordering::Less),
+            None => true,
+        }
     }
 
     // Whether there is no room for a new key.

@@ -68,7 +68,7 @@ fn enter_symbol<const SYMBOLS: u32>(
     ensures room { (result ≡ Err JoinRefusal.Full → ⊥)
         → IsSound symbol_id_cmp SYMBOLS IsKnown (with_symbol symbols.old id told.entry) }
 {
-    if let Some(held) = symbols.get_mut(&id) {
+    if let Some(held) = symbols.seek_mut(&id) {
         told.meet(held);
         return Ok(());
     }
