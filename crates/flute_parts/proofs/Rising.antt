@@ -46,7 +46,7 @@ fact_at-after a (f ∷ F) s = fact_at-elsewhere f F a (before_is_other a (addres
 fact_at-first : (f : Fact) (F : List Fact) → StandAfter (address f) F → fact_at (f ∷ F) (address f) ≡ Some f
 fact_at-first f F s = fact_at-here f F (fact_at-after (address f) F s)
 
-member-after : (a : Address) (f : Fact) (F : List Fact) → StandAfter a F → Member f F → address_cmp a (address f) ≡ Less
+pub member-after : (a : Address) (f : Fact) (F : List Fact) → StandAfter a F → Member f F → address_cmp a (address f) ≡ Less
 unfolding Member
 member-after a f [] s m = absurd m
 member-after a f (g ∷ F) s (inl e) = ap (λ x. address_cmp a (address x)) e ∙ s.0

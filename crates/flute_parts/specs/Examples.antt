@@ -14,6 +14,7 @@ use Rattle.flute_parts.specs.Addresses.{info_address, symbol_address}
 use Rattle.flute_parts.specs.Partition.{symbol_id, ids, place, fits}
 use Rattle.flute_parts.specs.Facts.{fact_at, IsRising}
 use Rattle.flute_parts.specs.Limits.{sessions, objects, symbols}
+use Rattle.flute_parts.specs.Tally.{last_key}
 
 -- ten symbols of one byte, in blocks of at most four
 abbrev ten : Information
@@ -105,6 +106,10 @@ limits : (length (sessions known) ≡ 1) × (objects (known ++ InfoConflict (key
     × (symbols (known ++ padded ∷ []) key ≡ symbol_id 0 0 ∷ symbol_id 0 1 ∷ [])
 unfolding sessions objects symbols
 limits = (refl, refl, refl)
+
+-- a tally goes on from the object of the last fact
+last_objects : (last_key [] ≡ None) × (last_key (InfoConflict (key_of (Instance 3)) ∷ known) ≡ Some key)
+last_objects = (refl, refl)
 
 -- an FDT Instance stands before every file, and information before symbols
 ordered : (address_cmp (symbol_address (key_of (Instance 9)) (symbol_id 5 5)) (info_address key) ≡ Less)

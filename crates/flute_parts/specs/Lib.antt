@@ -10,6 +10,7 @@ pub mod Equality
 pub mod Partition
 pub mod Split
 pub mod Limits
+pub mod Tally
 pub mod Totality
 pub mod Laws
 pub mod Examples

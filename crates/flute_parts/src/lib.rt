@@ -21,6 +21,7 @@ mod source;
 mod std_sink;
 mod std_source;
 mod symbol_id;
+mod tally;
 
 pub use address::{Address, Part};
 pub use bytes::{Bytes, BytesFault};
@@ -39,6 +40,7 @@ pub use source::Source;
 pub use std_sink::StdSink;
 pub use std_source::StdSource;
 pub use symbol_id::SymbolId;
+pub use tally::Tally;
 
 #[cfg(test)]
 mod tests;

@@ -5,6 +5,7 @@ mod listing;
 mod partitions;
 mod sinks;
 mod sources;
+mod tallies;
 
 use crate::{
     Address, Bytes, BytesFault, DeviceFault, Fact, FactRef, Info, InfoFault, Key, ObjectKey, Part,
