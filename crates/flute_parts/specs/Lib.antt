@@ -15,3 +15,4 @@ pub mod Totality
 pub mod Laws
 pub mod Examples
 pub mod Devices
+pub mod Chained
