@@ -14,6 +14,7 @@ pub mod Existence
 pub mod Whole
 pub mod Saving
 pub mod Loading
+pub mod Joining
 pub mod Records
 pub mod Files
 pub mod Sending

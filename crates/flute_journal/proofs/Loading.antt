@@ -151,7 +151,7 @@ loaded-read false n m k e h = omega (arith, e, h)
 
 -- What a reader gave, and what became of it in the store.
 
-given-entry : (limit bound : ℕ) (v w : Option (List ℕ)) (old new : Stage) (given : Option Fact) (f : Fact) → bound ≡ limit → given ≡ Some f → Gives bound old new v w (Ok given)
+pub given-entry : (limit bound : ℕ) (v w : Option (List ℕ)) (old new : Stage) (given : Option Fact) (f : Fact) → bound ≡ limit → given ≡ Some f → Gives bound old new v w (Ok given)
     → GivesEntry limit old new v w f
 given-entry limit bound v w old new given f b e h =
     subst (λ (n : ℕ). GivesEntry n old new v w f) b (subst (λ (o : Option Fact). Gives bound old new v w (Ok o)) e h)

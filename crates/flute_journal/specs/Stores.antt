@@ -1,5 +1,5 @@
 -- What stores are written as, and what they are read from.
-use Rattle.std.specs.Prelude.{◌≡◌, ℕ, ◌≤◌, List, ◌++◌, length, Option, ⊤, Result, Err, IfSome}
+use Rattle.std.specs.Prelude.{◌≡◌, ℕ, ◌≤◌, Bool, true, false, List, ◌++◌, length, Option, ⊤, Result, Err, IfSome}
 use Rattle.std.specs.List.{flat_map}
 use Rattle.std.specs.Io.KnownBytes.{Consumes}
 use Rattle.flute_join.specs.declared.refusal.JoinRefusal.{JoinRefusal}
@@ -34,6 +34,18 @@ abbrev pub IsLoadFault : ℕ → ℕ → ℕ → ℕ → Option (List ℕ) → L
 IsLoadFault sessions objects symbols limit old (Read f) = HasFault limit old f
 IsLoadFault sessions objects symbols limit old Full = IfSome old (BeginsOver sessions objects symbols limit)
 IsLoadFault sessions objects symbols limit old OutOfMemory = ⊤
+
+-- the store has these facts too, or both are over its limits together
+abbrev pub HoldsBoth : ℕ → ℕ → ℕ → List Fact → List Fact → List Fact → Bool → Type 0
+HoldsBoth sessions objects symbols before facts now true = Same now (before ++ facts)
+HoldsBoth sessions objects symbols before facts now false = Over (before ++ facts) sessions objects symbols
+
+-- the bytes are a journal of at most so many entries, within the limits of a store, and were joined to what one held
+pub record JoinsJournal (sessions objects symbols limit : ℕ) (bytes : List ℕ) (before now : List Fact) (fits : Bool) : Type 0 where
+  pub entries : List Fact
+  pub journal : IsJournalWithin limit bytes entries
+  pub within : ¬ Over entries sessions objects symbols
+  pub held : HoldsBoth sessions objects symbols before entries now fits
 
 -- what was read where no store was: no more bytes than the header has, or the header, entries, at most so many, and nothing past one more
 pub data ReadsPart (limit : ℕ) (old new : Option (List ℕ)) : Type 0 where

@@ -1,12 +1,14 @@
 //! A journal as a store.
-ghost use Rattle.std.specs.Prelude.{◌≡◌, ◌+◌, IfOk, IfErr, IfSome};
+ghost use Rattle.std.specs.Prelude.{◌≡◌, ◌+◌, [], ◌∷◌, IfOk, IfErr, IfSome};
 ghost use Rattle.std.specs.Io.KnownBytes.{IsAtEnd};
+ghost use Rattle.flute_parts.specs.Facts.{Below};
 ghost use Rattle.flute_parts.specs.Limits.{Over};
-ghost use Rattle.flute_journal.specs.Stores.{IsJournalOf, IsLoadFault, ReadsPart, load_failed};
+ghost use Rattle.flute_journal.specs.Stores.{IsJournalOf, IsLoadFault, JoinsJournal, HoldsBoth, ReadsPart, load_failed};
 
 use crate::fault::LoadFault;
 use crate::reader::JournalReader;
-use flute_parts::Source;
+use flute_join::JoinRefusal;
+use flute_parts::{Fact, Source, Tally};
 use flute_store::Store;
 use std::alloc::Global;
 
@@ -42,4 +44,63 @@ pub fn read_store<const SESSIONS: u32, const OBJECTS: u32, const SYMBOLS: u32, R
         store.put(alloc, fact)?;
     }
     Ok(store)
+}
+
+/// Reads the journal that the source holds, which may have at most `max_entries` entries, and joins it into the store, entry
+/// by entry as it is read and without a copy of its bytes. The whole source is read where it succeeds.
+///
+/// True if the store holds both then. False if both together are over its limits, though the journal alone is within
+/// them: the store holds some of the journal then, and the rest was only looked at.
+///
+/// # Errors
+///
+/// The first that is met:
+///
+/// - `Read` with the fault that [`JournalReader::next`] answers;
+/// - `Full` where the entries of the journal alone are over the limits;
+/// - `OutOfMemory` where there is no memory for an entry in the store.
+///
+/// The store keeps what it held, perhaps with some of the journal. Nothing past the entry at which it ended was read.
+pub fn join_journal<const SESSIONS: u32, const OBJECTS: u32, const SYMBOLS: u32, R: Source>(
+    alloc: Global,
+    store: &mut Store<SESSIONS, OBJECTS, SYMBOLS>,
+    source: &mut R,
+    max_entries: u64,
+) -> Result<bool, LoadFault>
+    ensures joined { IfOk result (λ fits. IfSome (R.unread source.old) (λ bytes. JoinsJournal SESSIONS OBJECTS SYMBOLS max_entries bytes store.old store.new fits)) }
+    ensures end { IfOk result (λ _. IsAtEnd (R.unread source.new)) }
+    ensures kept { Below store.old store.new }
+    ensures fault { IfErr result (IsLoadFault SESSIONS OBJECTS SYMBOLS max_entries (R.unread source.old)) }
+    ensures reads { IfErr result (λ _. ReadsPart max_entries (R.unread source.old) (R.unread source.new)) }
+    ensures failures { R.failures source.new ≡ R.failures source.old + load_failed result }
+{
+    let mut entries = JournalReader::new(source, max_entries);
+    let mut tally = Tally::<SESSIONS, OBJECTS, SYMBOLS>::new();
+    let mut fits = true;
+    while let Some(fact) = entries.next(alloc)? {
+        if !tally.count(&fact.address()) {
+            return Err(LoadFault::Full);
+        }
+        if fits {
+            fits = put_where_room(alloc, store, fact)?;
+        }
+    }
+    Ok(fits)
+}
+
+// Adds a fact, and answers whether there was room.
+fn put_where_room<const SESSIONS: u32, const OBJECTS: u32, const SYMBOLS: u32>(
+    alloc: Global,
+    store: &mut Store<SESSIONS, OBJECTS, SYMBOLS>,
+    fact: Fact,
+) -> Result<bool, LoadFault>
+    ensures held { IfOk result (HoldsBoth SESSIONS OBJECTS SYMBOLS store.old (fact ∷ []) store.new) }
+    ensures kept { Below store.old store.new }
+    ensures memory { IfErr result (λ fault. fault ≡ LoadFault.OutOfMemory) }
+{
+    match store.put(alloc, fact) {
+        Ok(()) => Ok(true),
+        Err(JoinRefusal::Full) => Ok(false),
+        Err(JoinRefusal::OutOfMemory) => Err(LoadFault::OutOfMemory),
+    }
 }

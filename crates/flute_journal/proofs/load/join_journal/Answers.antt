@@ -1,0 +1,99 @@
+-- The entries, joined to what the store held.
+use Rattle.std.proofs.Common.{◌≡◌, ap, sym, ◌∙◌, subst, Bool, Err, rules}
+use Rattle.std.proofs.lemmas.Result.{err_from_is_err_and}
+use Rattle.flute_parts.proofs.Facts.{Below-trans}
+use Rattle.flute_journal.specs.Stores.{ReadsPart}
+use Rattle.flute_journal.proofs.Loading.{loaded-fault, fault-part, refused-part, loaded-read}
+use Rattle.flute_journal.specs.Reading.{is_open}
+use Rattle.flute_journal.proofs.Joining.{JoinedSofar, alone, joined-none, rising-next, joined-put, joined-counted, alone-over, joined-all}
+use Rattle.flute_journal.proofs.load.join_journal.Goals as goal
+
+pub loop-fact-init : goal.loop-fact-init
+loop-fact-init g c = (
+  joined-none _ _ _ _ _ _ _ _ _ (ap g.R.Source.unread c.new-entries.ensures.unread) c.new-entries.ensures.stage c.new-tally.ensures,
+  c.new-entries.ensures.limit,
+  cc,
+  ap g.R.Source.failures c.new-entries.ensures.unread,
+)
+
+pub returns-in_err-fact-clause-fault : goal.returns-in_err-fact-clause-fault
+returns-in_err-fact-clause-fault g c =
+    let e = err_from_is_err_and c.from_residual.result c.from_residual.ensures.1 in
+    rw (e.1 ∙ ap Err e.2)
+    (loaded-fault _ _ _ _ _ _ _ _ _ _ _ _ (alone _ _ _ _ _ _ _ _ _ _ _ c.loop-fact.invariant.0) c.loop-fact.invariant.1 c.in_err-fact.ensures.gives)
+
+pub returns-in_err-fact-clause-reads : goal.returns-in_err-fact-clause-reads
+returns-in_err-fact-clause-reads g c =
+    let e = err_from_is_err_and c.from_residual.result c.from_residual.ensures.1 in
+    let read = fault-part _ _ _ _ _ _ _ _ _ _ _ _ (alone _ _ _ _ _ _ _ _ _ _ _ c.loop-fact.invariant.0) c.loop-fact.invariant.1 c.in_err-fact.ensures.gives in
+    let reads : (x : g.row.R.Denot) → c.next.new.self.source.now ≡ x → ReadsPart c.args.max_entries (g.R.Source.unread c.args.source.now) (g.R.Source.unread x) =
+    λ x same. subst (λ (z : g.row.R.Denot). ReadsPart c.args.max_entries (g.R.Source.unread c.args.source.now) (g.R.Source.unread z)) same read in
+    rw e.1 (reads _ (search rules))
+
+pub returns-then-not-count-clause-fault : goal.returns-then-not-count-clause-fault
+returns-then-not-count-clause-fault g c =
+    let j = c.loop-fact.invariant.0 in
+    let rising = rising-next _ _ _ _ _ _ _ _ _ _ _ _ _ _ _ c.loop-fact.invariant.1 c.in-Some.is c.in_ok-fact.ensures.gives _ j in
+    let over = c.count.ensures.over j.entries c.in-Some.fact (sym c.address.ensures) rising j.counts (search rules) in
+    alone-over _ _ _ _ _ _ _ _ _ _ _ _ _ _ _ c.loop-fact.invariant.1 c.in-Some.is c.in_ok-fact.ensures.gives _ j over
+
+pub returns-then-not-count-clause-reads : goal.returns-then-not-count-clause-reads
+returns-then-not-count-clause-reads g c =
+    let j = c.loop-fact.invariant.0 in
+    let read = refused-part _ _ _ _ _ _ _ _ _ _ _ _ _ (alone _ _ _ _ _ _ _ _ _ _ _ j) c.loop-fact.invariant.1 c.in-Some.is c.in_ok-fact.ensures.gives in
+    let reads : (x : g.row.R.Denot) → c.next.new.self.source.now ≡ x → ReadsPart c.args.max_entries (g.R.Source.unread c.args.source.now) (g.R.Source.unread x) =
+    λ x same. subst (λ (z : g.row.R.Denot). ReadsPart c.args.max_entries (g.R.Source.unread c.args.source.now) (g.R.Source.unread z)) same read in
+    reads _ (search rules)
+
+pub returns-in_err-fits-clause-kept : goal.returns-in_err-fits-clause-kept
+returns-in_err-fits-clause-kept g c = Below-trans c.args.store.now c.loop-fact.store c.put_where_room.new.store c.loop-fact.invariant.0.kept c.put_where_room.ensures.kept
+
+pub returns-in_err-fits-clause-reads : goal.returns-in_err-fits-clause-reads
+returns-in_err-fits-clause-reads g c =
+    let e = err_from_is_err_and c.from_residual-in_err-fits.result c.from_residual-in_err-fits.ensures.1 in
+    let j = c.loop-fact.invariant.0 in
+    let read = refused-part _ _ _ _ _ _ _ _ _ _ _ _ _ (alone _ _ _ _ _ _ _ _ _ _ _ j) c.loop-fact.invariant.1 c.in-Some.is c.in_ok-fact.ensures.gives in
+    let reads : (x : g.row.R.Denot) → c.next.new.self.source.now ≡ x → ReadsPart c.args.max_entries (g.R.Source.unread c.args.source.now) (g.R.Source.unread x) =
+    λ x same. subst (λ (z : g.row.R.Denot). ReadsPart c.args.max_entries (g.R.Source.unread c.args.source.now) (g.R.Source.unread z)) same read in
+    rw e.1 (reads _ (search rules))
+
+pub loop-fact-preserved-then-fits : goal.loop-fact-preserved-then-fits
+loop-fact-preserved-then-fits g c =
+    let P : Bool → Type 0 = λ b. JoinedSofar g.row.SESSIONS g.row.OBJECTS g.row.SYMBOLS c.args.max_entries (g.R.Source.unread c.args.source.now) (g.R.Source.unread c.loop-fact.entries.source.now) c.loop-fact.entries.stage c.args.store.now c.loop-fact.store b c.loop-fact.tally in
+    let j = subst P c.if-fits.true c.loop-fact.invariant.0 in
+    let rising = rising-next _ _ _ _ _ _ _ _ _ _ _ _ _ _ _ c.loop-fact.invariant.1 c.in-Some.is c.in_ok-fact.ensures.gives _ j in
+    let counts = c.count.ensures.within j.entries c.in-Some.fact (sym c.address.ensures) rising j.counts (search rules) in (
+      joined-put _ _ _ _ _ _ _ _ _ _ _ _ _ _ _ c.loop-fact.invariant.1 c.in-Some.is c.in_ok-fact.ensures.gives _ _ _ j counts c.in_ok-fits.ensures.held c.put_where_room.ensures.kept,
+      c.next.ensures.limit ∙ c.loop-fact.invariant.1,
+      c.next.ensures.source ∙ c.loop-fact.invariant.2,
+      loaded-read (is_open c.loop-fact.entries.stage) _ _ _ c.loop-fact.invariant.3 c.in_ok-fact.ensures.failures,
+    )
+
+pub loop-fact-preserved-else-fits : goal.loop-fact-preserved-else-fits
+loop-fact-preserved-else-fits g c =
+    let P : Bool → Type 0 = λ b. JoinedSofar g.row.SESSIONS g.row.OBJECTS g.row.SYMBOLS c.args.max_entries (g.R.Source.unread c.args.source.now) (g.R.Source.unread c.loop-fact.entries.source.now) c.loop-fact.entries.stage c.args.store.now c.loop-fact.store b c.loop-fact.tally in
+    let j = subst P c.if-fits.false c.loop-fact.invariant.0 in
+    let rising = rising-next _ _ _ _ _ _ _ _ _ _ _ _ _ _ _ c.loop-fact.invariant.1 c.in-Some.is c.in_ok-fact.ensures.gives _ j in
+    let counts = c.count.ensures.within j.entries c.in-Some.fact (sym c.address.ensures) rising j.counts (search rules) in
+    rw c.if-fits.false (
+      joined-counted _ _ _ _ _ _ _ _ _ _ _ _ _ _ _ c.loop-fact.invariant.1 c.in-Some.is c.in_ok-fact.ensures.gives _ j counts,
+      c.next.ensures.limit ∙ c.loop-fact.invariant.1,
+      c.next.ensures.source ∙ c.loop-fact.invariant.2,
+      loaded-read (is_open c.loop-fact.entries.stage) _ _ _ c.loop-fact.invariant.3 c.in_ok-fact.ensures.failures,
+    )
+
+pub loop-fact-preserved : goal.loop-fact-preserved
+loop-fact-preserved g c =
+    let P : Bool → Type 0 = λ b. JoinedSofar g.row.SESSIONS g.row.OBJECTS g.row.SYMBOLS c.args.max_entries (g.R.Source.unread c.args.source.now) (g.R.Source.unread c.loop-fact.entries.source.now) c.loop-fact.entries.stage c.args.store.now c.loop-fact.store b c.loop-fact.tally in
+    let j = subst P c.if-fits.false c.loop-fact.invariant.0 in
+    let rising = rising-next _ _ _ _ _ _ _ _ _ _ _ _ _ _ _ c.loop-fact.invariant.1 c.in-Some.is c.in_ok-fact.ensures.gives _ j in
+    let counts = c.count.ensures.within j.entries c.in-Some.fact (sym c.address.ensures) rising j.counts (search rules) in
+    rw c.if-fits.false (
+      joined-counted _ _ _ _ _ _ _ _ _ _ _ _ _ _ _ c.loop-fact.invariant.1 c.in-Some.is c.in_ok-fact.ensures.gives _ j counts,
+      c.next.ensures.limit ∙ c.loop-fact.invariant.1,
+      c.next.ensures.source ∙ c.loop-fact.invariant.2,
+      loaded-read (is_open c.loop-fact.entries.stage) _ _ _ c.loop-fact.invariant.3 c.in_ok-fact.ensures.failures,
+    )
+
+pub returns-clause-joined : goal.returns-clause-joined
+returns-clause-joined g c = (joined-all _ _ _ _ _ _ _ _ _ _ _ _ _ _ _ c.loop-fact.invariant.0 c.loop-fact.invariant.1 c.in_default.is c.in_ok-fact.ensures.gives).journal
