@@ -1,6 +1,6 @@
 -- Inputs, joined one after the other.
-use Rattle.std.proofs.Common.{◌≡◌, ◌≢◌, ℕ, zero, suc, ◌+◌, ◌*◌, ◌^◌, ◌≤◌, ◌<◌, Bool, true, false, cond, List, [], ◌∷◌, ◌++◌, length, take, drop, map, count_by, Option, Some, Result, Ok, Err, get_or, refl, sym, ap, subst, ◌∙◌, arith, add-one, append-nil, append_assoc, inl, inr}
-use Rattle.std.specs.Prelude.{slice_get, IfSome, IfOk, IfErr, OnOk, MatchResult}
+use Rattle.std.proofs.Common.{◌≡◌, ◌≢◌, ℕ, zero, suc, ◌+◌, ◌*◌, ◌^◌, ◌≤◌, ◌<◌, Bool, true, false, cond, List, [], ◌∷◌, ◌++◌, length, take, drop, map, count_by, Option, Some, None, Result, Ok, Err, get_or, refl, sym, ap, subst, ◌∙◌, arith, add-one, append-nil, append_assoc, inl, inr}
+use Rattle.std.specs.Prelude.{slice_get, IfSome, IfOk, IfErr, MatchResult}
 use Rattle.std.specs.Option.{option_map}
 use Rattle.std.specs.List.{flat_map, AllByRecursion}
 use Rattle.std.proofs.lemmas.List.{length-append, take_all}
@@ -10,24 +10,25 @@ use Rattle.std.proofs.lemmas.Option.{slice_get_within, slice_get-map, slice_get-
 use Rattle.flute_parts.specs.declared.fact.Fact.{Fact}
 use Rattle.flute_parts.specs.Facts.{Same}
 use Rattle.flute_parts.specs.Limits.{Over}
-use Rattle.flute_parts.proofs.Facts.{Same-itself, Same-sym, Same-trans, Same-append, Below-from_Same}
+use Rattle.flute_parts.proofs.Facts.{Below-trans, Same-itself, Same-sym, Same-trans, Same-append, Below-from_Same}
 use Rattle.flute_parts.proofs.Named.{Over-below}
 use Rattle.flute_wire.specs.Reading.{facts}
 use Rattle.flute_journal.specs.Records.{IsFileWithin, HasFileFault}
 use Rattle.flute_journal.specs.declared.fault.ReadFault.{ReadFault}
 use Rattle.flute_journal.specs.declared.fault.ReadFault.TheVariants.{Read}
-use Rattle.flutejoin.specs.declared.joining.Kind.TheVariants.{Datagrams}
+use Rattle.flutejoin.specs.declared.joining.Kind.TheVariants.{Journal, Datagrams}
 use Rattle.flutejoin.proofs.Mapped.{read_failed}
-use Rattle.flute_journal.specs.Stores.{IsJournalOf, BeginsOver, IsLoadFault}
-use Rattle.flute_journal.specs.declared.fault.LoadFault.{LoadFault}
-use Rattle.flute_journal.specs.declared.fault.LoadFault.TheVariants as load
+use Rattle.flute_journal.specs.Stores.{IsJournalOf, BeginsOver, HoldsBoth, JoinsJournal}
+use Rattle.flute_journal.specs.Whole.{HasFault}
+use Rattle.flutejoin.specs.Load.{LoadFails}
+use Rattle.flutejoin.specs.Show.{read_failures}
 use Rattle.flutejoin.specs.Refused.{is_refused}
 use Rattle.flutejoin.specs.declared.limits.TheConstants.{MAX_ENTRIES}
 use Rattle.flutejoin.specs.declared.joining.Joined.{Joined}
 use Rattle.flutejoin.specs.declared.command_fault.CommandFault.{CommandFault}
-use Rattle.flutejoin.specs.declared.command_fault.CommandFault.TheVariants.{Full, Input}
-use Rattle.flutejoin.specs.Joined.{Told, of_journal, of_file, told_facts, told_datagrams, TellAll, Joins, FirstInput, HasKind, TellsWithin, TellOver, TakesDatagram, TakesDatagrams, JoinsBoth, JoinAnswers, IsNeither, IsKnown, IsOverAlone, IsJournalAt, IsFileAt, JoinFails, SomeCheckFails, CheckFails, of_kind, of_records, InputFails, unchecked, of_entries, alone_over, no_memory, StoreFails}
-use Rattle.flutejoin.proofs.Receptions.{Below-left}
+use Rattle.flutejoin.specs.declared.command_fault.CommandFault.TheVariants.{Full, Input, OutOfMemory}
+use Rattle.flutejoin.specs.Joined.{Adds, Told, of_journal, of_file, told_facts, told_datagrams, TellAll, Joins, FirstInput, HasKind, TellsWithin, TellOver, TakesDatagram, TakesDatagrams, JoinsBoth, JoinAnswers, IsNeither, IsKnown, IsOverAlone, IsJournalAt, IsFileAt, JoinFails, SomeCheckFails, CheckFails, of_kind, of_records, InputFails, unchecked, of_entries, alone_over, no_memory, StoreFails}
+use Rattle.flutejoin.proofs.Receptions.{Below-left, Below-right}
 
 -- lists
 
@@ -70,41 +71,68 @@ first_at Q P inputs k bytes e all one = record {
 
 -- datagrams, one after the other
 
-pub gives_none : (joined : Joined) → Joins [] joined → TakesDatagrams [] joined
-unfolding TellAll
-gives_none joined h = go h.told h.tell h.content h.datagrams h.refused
-  where
-    go : (ts : List Told) → TellAll [] ts → Same joined.store (flat_map told_facts ts) → joined.datagrams ≡ length (flat_map told_datagrams ts) → joined.refused ≡ count_by is_refused (flat_map told_datagrams ts) → TakesDatagrams [] joined
-    go [] tell content datagrams refused = record { content = content; count = datagrams; refused = refused }
-    go (t ∷ ts) tell content datagrams refused = absurd tell
+pub takes_none : (before : Joined) → TakesDatagrams before [] before
+takes_none before = record { content = rw (append-nil before.store) (Same-itself before.store); count = omega arith; refused = omega arith }
 
-pub gives_few : (ds : List (List ℕ)) (joined : Joined) → TakesDatagrams ds joined → joined.refused ≤ joined.datagrams
-gives_few ds joined h = rw (h.count, h.refused) (count_by-le-length is_refused ds)
+pub takes_few : (before now : Joined) (ds : List (List ℕ)) → TakesDatagrams before ds now → before.refused ≤ before.datagrams → now.refused ≤ now.datagrams
+takes_few before now ds h few = let all = count_by-le-length is_refused ds in omega (arith, few, all, h.count, h.refused)
 
-pub gives_more : (ds : List (List ℕ)) (d : List ℕ) (before now : Joined) → TakesDatagrams ds before → TakesDatagram before d now → TakesDatagrams (ds ++ d ∷ []) now
-gives_more ds d before now all one =
+pub takes_more : (before now after : Joined) (ds : List (List ℕ)) (d : List ℕ) → TakesDatagrams before ds now → TakesDatagram now d after → TakesDatagrams before (ds ++ d ∷ []) after
+takes_more before now after ds d all one =
     let whole : flat_map facts (ds ++ d ∷ []) ≡ flat_map facts ds ++ facts d = flat_map-append facts ds (d ∷ []) ∙ ap (λ F. flat_map facts ds ++ F) (append-nil (facts d)) in
+    let length_is = length-append ds (d ∷ []) in
     record {
-      content = rw whole (Same-trans now.store (before.store ++ facts d) (flat_map facts ds ++ facts d) one.content (Same-append before.store (flat_map facts ds) (facts d) (facts d) all.content (Same-itself (facts d))));
-      count = one.datagrams ∙ ap (λ n. n + 1) all.count ∙ sym (length-append ds (d ∷ []));
-      refused = rw (sum_by_push (λ x. cond (is_refused x) 1 0) ds d, ← all.refused, one.refused) (counted before.refused (is_refused d));
+      content = rw whole
+          (subst (λ F. Same after.store F) (append_assoc before.store (flat_map facts ds) (facts d))
+          (Same-trans after.store (now.store ++ facts d) ((before.store ++ flat_map facts ds) ++ facts d) one.content
+          (Same-append now.store (before.store ++ flat_map facts ds) (facts d) (facts d) all.content (Same-itself (facts d)))));
+      count = omega (arith, one.datagrams, all.count, length_is);
+      refused = rw (sum_by_push (λ x. cond (is_refused x) 1 0) ds d, one.refused) (counted before.refused now.refused (count_by is_refused ds) (is_refused d) all.refused);
     }
   where
-    counted : (n : ℕ) (b : Bool) → cond b (n + 1) n ≡ n + cond b 1 0
-    counted n true = refl
-    counted n false = omega arith
+    counted : (m n k : ℕ) (b : Bool) → n ≡ m + k → cond b (n + 1) n ≡ m + (k + cond b 1 0)
+    counted m n k true e = omega (arith, e)
+    counted m n k false e = omega (arith, e)
 
 -- what a first part of them is over, all are
-pub over_part : (ds : List (List ℕ)) (k : ℕ) (d : List ℕ) (joined : Joined) → slice_get ds k ≡ Some d → TakesDatagrams (take k ds) joined → Over (joined.store ++ facts d) 64 4096 1048576 → Over (flat_map facts ds) 64 4096 1048576
-over_part ds k d joined e all over =
+over_part : (before now : Joined) (ds : List (List ℕ)) (k : ℕ) (d : List ℕ) → slice_get ds k ≡ Some d → TakesDatagrams before (take k ds) now → Over (now.store ++ facts d) 64 4096 1048576
+    → Over (before.store ++ flat_map facts ds) 64 4096 1048576
+over_part before now ds k d e all over =
     let F = flat_map facts (take k ds) in
+    let G = before.store ++ F in
     let rest = flat_map facts (drop (suc k) ds) in
-    let whole : flat_map facts ds ≡ (F ++ facts d) ++ rest =
-    ap (flat_map facts) (split_at ds k d e) ∙ flat_map-append facts (take k ds) (d ∷ drop (suc k) ds) ∙ sym (append_assoc F (facts d) rest) in
+    let told : flat_map facts ds ≡ F ++ (facts d ++ rest) = ap (flat_map facts) (split_at ds k d e) ∙ flat_map-append facts (take k ds) (d ∷ drop (suc k) ds) in
+    let whole : before.store ++ flat_map facts ds ≡ (G ++ facts d) ++ rest =
+    ap (λ H. before.store ++ H) told ∙ sym (append_assoc before.store F (facts d ++ rest)) ∙ sym (append_assoc G (facts d) rest) in
     rw whole
-    (Over-below (F ++ facts d) ((F ++ facts d) ++ rest) 64 4096 1048576 (Below-left (F ++ facts d) rest)
-    (Over-below (joined.store ++ facts d) (F ++ facts d) 64 4096 1048576
-    (Below-from_Same (joined.store ++ facts d) (F ++ facts d) (Same-append joined.store F (facts d) (facts d) all.content (Same-itself (facts d)))) over))
+    (Over-below (G ++ facts d) ((G ++ facts d) ++ rest) 64 4096 1048576 (Below-left (G ++ facts d) rest)
+    (Over-below (now.store ++ facts d) (G ++ facts d) 64 4096 1048576
+    (Below-from_Same (now.store ++ facts d) (G ++ facts d) (Same-append now.store G (facts d) (facts d) all.content (Same-itself (facts d)))) over))
+
+pub datagrams_fail : (before now : Joined) (ds : List (List ℕ)) (k : ℕ) (d : List ℕ) (fault : CommandFault) → slice_get ds k ≡ Some d → TakesDatagrams before (take k ds) now → StoreFails (now.store ++ facts d) fault
+    → StoreFails (before.store ++ flat_map facts ds) fault
+datagrams_fail before now ds k d fault e all (inl full) = inl (full.0, over_part before now ds k d e all full.1)
+datagrams_fail before now ds k d fault e all (inr is) = inr is
+
+pub store_over : (F : List Fact) (fault : CommandFault) → StoreFails F fault → fault ≡ Full → Over F 64 4096 1048576
+store_over F fault (inl full) is = full.1
+store_over F fault (inr memory) is = let e = sym memory ∙ is in absurd cc
+
+-- datagrams that a store refused are an input that is over the limits alone
+pub file_fails : (number : ℕ) (bytes : List ℕ) (ds : List (List ℕ)) (none : Joined) (fault : CommandFault) → IsFileWithin MAX_ENTRIES bytes ds → none.store ≡ [] → StoreFails (none.store ++ flat_map facts ds) fault → InputFails number bytes fault
+file_fails number bytes ds none fault file empty (inl full) = alone_over full.0 (inr (ds, file, subst (λ F. Over (F ++ flat_map facts ds) 64 4096 1048576) empty full.1))
+file_fails number bytes ds none fault file empty (inr is) = no_memory is
+
+pub place_of : {A B : Type 0} (v : A → B) (xs : List A) (k : ℕ) (d : A) → k < length xs → slice_get (map v xs) k ≡ Some (v (get_or xs k d))
+place_of v xs k d within = slice_get-map v xs k ∙ ap (option_map v) (slice_get-get_or xs k d within)
+
+no_longer : {X : Type 0} (k : ℕ) (xs : List X) → length (take k xs) ≤ k
+no_longer zero xs = omega arith
+no_longer (suc k) [] = omega arith
+no_longer (suc k) (x ∷ xs) = let few = no_longer k xs in omega (arith, few)
+
+pub takes_no_more : (before now : Joined) (ds : List (List ℕ)) (k : ℕ) → TakesDatagrams before (take k ds) now → now.datagrams ≤ before.datagrams + k
+takes_no_more before now ds k h = let few = no_longer k ds in omega (arith, few, h.count)
 
 -- one input
 
@@ -121,7 +149,7 @@ joins_none joined content datagrams refused = record {
   refused = refused;
 }
 
-pub joins_journal : (bytes : List ℕ) (F : List Fact) → IsJournalOf MAX_ENTRIES bytes F → Joins (bytes ∷ []) (record { store = F; datagrams = 0; refused = 0 })
+joins_journal : (bytes : List ℕ) (F : List Fact) → IsJournalOf MAX_ENTRIES bytes F → Joins (bytes ∷ []) (record { store = F; datagrams = 0; refused = 0 })
 unfolding TellAll
 joins_journal bytes F journal = record {
   told = of_journal journal.0 ∷ [];
@@ -131,29 +159,107 @@ joins_journal bytes F journal = record {
   refused = refl;
 }
 
-pub within_journal : (bytes : List ℕ) (F : List Fact) → IsJournalOf MAX_ENTRIES bytes F → ¬ Over F 64 4096 1048576 → TellsWithin bytes
+within_journal : (bytes : List ℕ) (F : List Fact) → IsJournalOf MAX_ENTRIES bytes F → ¬ Over F 64 4096 1048576 → TellsWithin bytes
 within_journal bytes F journal within = (
   of_journal journal.0,
   journal.1,
   λ over. within (Over-below journal.0 F 64 4096 1048576 (Below-from_Same journal.0 F (Same-sym F journal.0 journal.2)) over),
 )
 
-pub joins_file : (bytes : List ℕ) (ds : List (List ℕ)) (joined : Joined) → IsFileWithin MAX_ENTRIES bytes ds → TakesDatagrams ds joined → Joins (bytes ∷ []) joined
+-- what a datagram file comes to
+abbrev own_file : List (List ℕ) → Joined
+own_file ds = record { store = flat_map facts ds; datagrams = length ds; refused = count_by is_refused ds }
+
+joins_file : (bytes : List ℕ) (ds : List (List ℕ)) → IsFileWithin MAX_ENTRIES bytes ds → Joins (bytes ∷ []) (own_file ds)
 unfolding TellAll
-joins_file bytes ds joined file gives = record {
+joins_file bytes ds file = record {
   told = of_file ds ∷ [];
   tell = (file, tt);
-  content = rw (one_told (of_file ds)) gives.content;
-  datagrams = gives.count ∙ ap length (sym (append-nil ds));
-  refused = gives.refused ∙ ap (count_by is_refused) (sym (append-nil ds));
+  content = rw (one_told (of_file ds)) (Same-itself (flat_map facts ds));
+  datagrams = ap length (sym (append-nil ds));
+  refused = ap (count_by is_refused) (sym (append-nil ds));
 }
 
-pub within_file : (bytes : List ℕ) (ds : List (List ℕ)) (joined : Joined) → IsFileWithin MAX_ENTRIES bytes ds → TakesDatagrams ds joined → ¬ Over joined.store 64 4096 1048576 → TellsWithin bytes
-within_file bytes ds joined file gives within = (
-  of_file ds,
-  file,
-  λ over. within (Over-below (flat_map facts ds) joined.store 64 4096 1048576 (Below-from_Same (flat_map facts ds) joined.store (Same-sym joined.store (flat_map facts ds) gives.content)) over),
-)
+takes_both : (before now : Joined) (ds : List (List ℕ)) → TakesDatagrams before ds now → JoinsBoth before (own_file ds) now
+takes_both before now ds h = record { content = h.content; datagrams = h.count; refused = h.refused }
+
+-- a file whose datagrams were taken, within the limits
+pub file_added : (bytes : List ℕ) (ds : List (List ℕ)) (before now : Joined) → IsFileWithin MAX_ENTRIES bytes ds → TakesDatagrams before ds now → ¬ Over now.store 64 4096 1048576 → Adds bytes before now true
+file_added bytes ds before now file takes within =
+    let F = flat_map facts ds in record {
+      own = own_file ds;
+      joins = joins_file bytes ds file;
+      within = (
+        of_file ds,
+        file,
+        λ over.
+            within (Over-below F now.store 64 4096 1048576
+            (Below-trans F (before.store ++ F) now.store (Below-right before.store F) (Below-from_Same (before.store ++ F) now.store (Same-sym now.store (before.store ++ F) takes.content))) over),
+      );
+      answers = takes_both before now ds takes;
+    }
+
+-- one that is over them with what came before, and within them alone
+pub file_beyond : (bytes : List ℕ) (ds : List (List ℕ)) (before now none alone : Joined) → IsFileWithin MAX_ENTRIES bytes ds → Over (before.store ++ flat_map facts ds) 64 4096 1048576 → none.store ≡ [] → TakesDatagrams none ds alone
+    → ¬ Over alone.store 64 4096 1048576 → Adds bytes before now false
+file_beyond bytes ds before now none alone file over empty takes within =
+    let F = flat_map facts ds in
+    let same : Same alone.store F = subst (λ G. Same alone.store (G ++ F)) empty takes.content in
+    record {
+      own = own_file ds;
+      joins = joins_file bytes ds file;
+      within = (of_file ds, file, λ beyond. within (Over-below F alone.store 64 4096 1048576 (Below-from_Same F alone.store (Same-sym alone.store F same)) beyond));
+      answers = over;
+    }
+
+-- a journal that was joined
+journal_added : (bytes : List ℕ) (before now : Joined) (store : List Fact) (fits : Bool) → JoinsJournal 64 4096 1048576 MAX_ENTRIES bytes before.store store fits → now.store ≡ store → now.datagrams ≡ before.datagrams
+    → now.refused ≡ before.refused → Adds bytes before now fits
+journal_added bytes before now store fits h content datagrams refused =
+    let F = h.entries in
+    let journal : IsJournalOf MAX_ENTRIES bytes F = (F, h.journal, Same-itself F) in
+    record {
+      own = record { store = F; datagrams = 0; refused = 0 };
+      joins = joins_journal bytes F journal;
+      within = within_journal bytes F journal h.within;
+      answers = answered fits h.held;
+    }
+  where
+    answered : (b : Bool) → HoldsBoth 64 4096 1048576 before.store h.entries store b → JoinAnswers before (record { store = h.entries; datagrams = 0; refused = 0 }) now b
+    answered true held = record {
+      content = rw content held;
+      datagrams = omega (arith, datagrams);
+      refused = omega (arith, refused);
+    }
+    answered false over = over
+
+pub known_added : (input : Option (List ℕ)) (before now : Joined) (store : List Fact) (fits : Bool) → IfSome input (λ bytes. JoinsJournal 64 4096 1048576 MAX_ENTRIES bytes before.store store fits) → now.store ≡ store
+    → now.datagrams ≡ before.datagrams → now.refused ≡ before.refused → IfSome input (λ bytes. Adds bytes before now fits)
+known_added None before now store fits h content datagrams refused = tt
+known_added (Some bytes) before now store fits h content datagrams refused = journal_added bytes before now store fits h content datagrams refused
+
+pub added_known : (input : Option (List ℕ)) (bytes : List ℕ) (before now : Joined) (fits : Bool) → input ≡ Some bytes → IfSome input (λ bs. Adds bs before now fits) → Adds bytes before now fits
+added_known input bytes before now fits known h = let P : Option (List ℕ) → Type 0 = λ o. IfSome o (λ bs. Adds bs before now fits) in subst P known h
+
+-- why it was not
+journal_fails : (number : ℕ) (input : Option (List ℕ)) (bytes : List ℕ) (fault : CommandFault) → input ≡ Some bytes → HasKind Journal bytes → LoadFails number input fault → (read_failures {T = Bool} (Err fault) ≡ 0) → InputFails number bytes fault
+journal_fails number input bytes (Input told f) known kind h none =
+    let P : Option (List ℕ) → Type 0 = λ o. HasFault MAX_ENTRIES o f in
+    of_entries f (ap (λ n. Input n f) h.0) (kind, subst P known h.1, λ is. absurd (failed_once told f is none))
+  where
+    failed_once : (told : ℕ) (f : ReadFault) → f ≡ Read → read_failures {T = Bool} (Err (Input told f)) ≡ 0 → ⊥
+    failed_once told f is none =
+        let e : read_failures {T = Bool} (Err (Input told Read)) ≡ 0 = subst (λ g. read_failures {T = Bool} (Err (Input told g)) ≡ 0) is none in
+        absurd cc
+journal_fails number input bytes Full known kind h none =
+    let P : Option (List ℕ) → Type 0 = λ o. IfSome o (BeginsOver 64 4096 1048576 MAX_ENTRIES) in
+    alone_over refl (inl (kind, subst P known h))
+journal_fails number input bytes OutOfMemory known kind h none = no_memory refl
+journal_fails number input bytes fault known kind h none = absurd h
+
+pub journal_failed : (number : ℕ) (input : Option (List ℕ)) (bytes : List ℕ) (r : Result Bool CommandFault) → input ≡ Some bytes → HasKind Journal bytes → IfErr r (LoadFails number input) → read_failures r ≡ 0 → IfErr r (InputFails number bytes)
+journal_failed number input bytes (Ok fits) known kind h none = tt
+journal_failed number input bytes (Err fault) known kind h none = journal_fails number input bytes fault known kind h none
 
 -- inputs, one after the other
 
@@ -229,21 +335,16 @@ answered : (inputs : List (List ℕ)) (bytes : List ℕ) (fits : Bool) (before o
 answered inputs bytes true before own now a b joined = joins_append inputs (bytes ∷ []) before own now a b joined
 answered inputs bytes false before own now a b over = over_both inputs (bytes ∷ []) before own a b over
 
-pub so_far_joined : (inputs : List (List ℕ)) (bytes : List ℕ) (fits : Bool) (before own now : Joined) → SoFar inputs true before → Joins (bytes ∷ []) own → TellsWithin bytes → JoinAnswers before own now fits → SoFar (inputs ++ bytes ∷ []) fits now
-so_far_joined inputs bytes fits before own now all one within joined =
-    record { within = all_more TellsWithin inputs bytes all.within within; state = answered inputs bytes fits before own now all.state one joined }
+pub so_far_joined : (inputs : List (List ℕ)) (bytes : List ℕ) (fits : Bool) (before now : Joined) → SoFar inputs true before → Adds bytes before now fits → SoFar (inputs ++ bytes ∷ []) fits now
+so_far_joined inputs bytes fits before now all one =
+    record { within = all_more TellsWithin inputs bytes all.within one.within; state = answered inputs bytes fits before one.own now all.state one.joins one.answers }
 
-pub so_far_over : (inputs : List (List ℕ)) (bytes : List ℕ) (before own now : Joined) → SoFar inputs false before → Joins (bytes ∷ []) own → TellsWithin bytes → SoFar (inputs ++ bytes ∷ []) false now
-so_far_over inputs bytes before own now all one within =
-    record { within = all_more TellsWithin inputs bytes all.within within; state = over_more inputs (bytes ∷ []) own all.state one }
+-- once they are over the limits together they stay so, with an input that was joined to anything
+pub so_far_over : (inputs : List (List ℕ)) (bytes : List ℕ) (fits : Bool) (joined before now : Joined) → SoFar inputs false joined → Adds bytes before now fits → SoFar (inputs ++ bytes ∷ []) false joined
+so_far_over inputs bytes fits joined before now all one =
+    record { within = all_more TellsWithin inputs bytes all.within one.within; state = over_more inputs (bytes ∷ []) one.own all.state one.joins }
 
 -- what a check or an input alone answers, told of all the inputs
-
-pub begins_over : (old : Option (List ℕ)) (bytes : List ℕ) (f : LoadFault) → old ≡ Some bytes → IsLoadFault 64 4096 1048576 MAX_ENTRIES old f → f ≡ load.Full → BeginsOver 64 4096 1048576 MAX_ENTRIES bytes
-begins_over old bytes f known h full =
-    let P : LoadFault → Type 0 = λ g. IsLoadFault 64 4096 1048576 MAX_ENTRIES old g in
-    let Q : Option (List ℕ) → Type 0 = λ o. IfSome o (BeginsOver 64 4096 1048576 MAX_ENTRIES) in
-    subst Q known (subst P full h)
 
 -- the first input with a fault, that fault's cause in its place
 first_with : (Q P R : List ℕ → Type 0) (number : ℕ) (inputs : List (List ℕ)) → (first : FirstInput Q P number inputs) → R first.bytes → FirstInput Q R number inputs
@@ -286,11 +387,6 @@ input_fails inputs k bytes fault e known all (no_memory is) =
     let P : CommandFault → Type 0 = λ f. JoinFails inputs f in
     subst P (sym is) tt
 
--- datagrams that a store refused are an input that is over the limits alone
-pub file_fails : (number : ℕ) (bytes : List ℕ) (ds : List (List ℕ)) (fault : CommandFault) → IsFileWithin MAX_ENTRIES bytes ds → StoreFails (flat_map facts ds) fault → InputFails number bytes fault
-file_fails number bytes ds fault file (inl full) = alone_over full.0 (inr (ds, file, full.1))
-file_fails number bytes ds fault file (inr is) = no_memory is
-
 -- a datagram file that was not read
 pub file_not_read : {A : Type 0} (r : Result A ReadFault) (m : Result A CommandFault) (number : ℕ) (bytes : List ℕ) (fault : CommandFault) → HasKind Datagrams bytes → IfErr r (HasFileFault MAX_ENTRIES (Some bytes)) → IfErr r (λ f. f ≢ Read)
     → MatchResult r (λ x. m ≡ Ok x) (λ f. m ≡ Err (Input number f)) → m ≡ Err fault → CheckFails number bytes fault
@@ -299,37 +395,8 @@ file_not_read {A = A} r m number bytes fault kind has no_device mapped is =
     let P : (ReadFault → Type 0) → Result A ReadFault → Type 0 = λ Q s. IfErr s Q in
     of_records failed.0 failed.2 (kind, subst (P (HasFileFault MAX_ENTRIES (Some bytes))) failed.1 has, subst (P (λ f. f ≢ Read)) failed.1 no_device)
 
-pub datagrams_fail : (ds : List (List ℕ)) (k : ℕ) (d : List ℕ) (joined : Joined) (fault : CommandFault) → slice_get ds k ≡ Some d → TakesDatagrams (take k ds) joined → StoreFails (joined.store ++ facts d) fault → StoreFails (flat_map facts ds) fault
-datagrams_fail ds k d joined fault e all (inl full) = inl (full.0, over_part ds k d joined e all full.1)
-datagrams_fail ds k d joined fault e all (inr is) = inr is
-
-pub place_of : {A B : Type 0} (v : A → B) (xs : List A) (k : ℕ) (d : A) → k < length xs → slice_get (map v xs) k ≡ Some (v (get_or xs k d))
-place_of v xs k d within = slice_get-map v xs k ∙ ap (option_map v) (slice_get-get_or xs k d within)
-
-no_longer : {X : Type 0} (k : ℕ) (xs : List X) → length (take k xs) ≤ k
-no_longer zero xs = omega arith
-no_longer (suc k) [] = omega arith
-no_longer (suc k) (x ∷ xs) = let few = no_longer k xs in omega (arith, few)
-
-pub gives_no_more : (ds : List (List ℕ)) (k : ℕ) (joined : Joined) → TakesDatagrams (take k ds) joined → joined.datagrams ≤ k
-gives_no_more ds k joined h = rw h.count (no_longer k ds)
-
 pub ok_of : {A E : Type 0} (r : Result A E) (x : A) (P : A → Type 0) → r ≡ Ok x → IfOk r P → P x
 ok_of {A = A} {E = E} r x P is h = let Q : Result A E → Type 0 = λ s. IfOk s P in subst Q is h
-
--- what a datagram file came to, by what its datagrams did
-
-pub file_joined : (bytes : List ℕ) (ds : List (List ℕ)) (r : Result Joined CommandFault) → IsFileWithin MAX_ENTRIES bytes ds → IfOk r (TakesDatagrams ds) → IfOk r (Joins (bytes ∷ []))
-file_joined bytes ds (Ok joined) file gives = joins_file bytes ds joined file gives
-file_joined bytes ds (Err f) file gives = tt
-
-pub file_within : (bytes : List ℕ) (ds : List (List ℕ)) (r : Result Joined CommandFault) → IsFileWithin MAX_ENTRIES bytes ds → IfOk r (TakesDatagrams ds) → IfOk r (λ joined. ¬ Over joined.store 64 4096 1048576) → OnOk r (TellsWithin bytes)
-file_within bytes ds (Ok joined) file gives within = within_file bytes ds joined file gives within
-file_within bytes ds (Err f) file gives within = tt
-
-pub file_failed : (number : ℕ) (bytes : List ℕ) (ds : List (List ℕ)) (r : Result Joined CommandFault) → IsFileWithin MAX_ENTRIES bytes ds → IfErr r (StoreFails (flat_map facts ds)) → IfErr r (InputFails number bytes)
-file_failed number bytes ds (Ok joined) file h = tt
-file_failed number bytes ds (Err f) file h = file_fails number bytes ds f file h
 
 -- all inputs, at the end
 pub so_far_full : (inputs : List (List ℕ)) (k : ℕ) (joined : Joined) → AllByRecursion IsKnown inputs → SoFar (take k inputs) false joined → length inputs ≤ k → JoinFails inputs Full
@@ -338,11 +405,9 @@ so_far_full inputs k joined known h past =
     let all = subst P (take_all k inputs past) h in
     (known, inr (all.within, all.state))
 
-pub so_far_few : (inputs : List (List ℕ)) (k : ℕ) (bytes : List ℕ) (before own : Joined) → k < 64 → SoFar (take k inputs) true before → Joins (bytes ∷ []) own → (before.datagrams + own.datagrams < 2 ^ 64) × (before.refused + own.refused < 2 ^ 64)
-so_far_few inputs k bytes before own within h one =
-    let some = few_datagrams (take k inputs) before h.state in
-    let more = few_datagrams (bytes ∷ []) own one in
-    let first = few_refused (take k inputs) before h.state in
-    let second = few_refused (bytes ∷ []) own one in
+-- there is room for the datagrams of one more
+pub so_far_few : (inputs : List (List ℕ)) (k : ℕ) (joined : Joined) → k < 64 → SoFar (take k inputs) true joined → (joined.datagrams + 16777216 < 2 ^ 64) × (joined.refused ≤ joined.datagrams)
+so_far_few inputs k joined within h =
+    let some = few_datagrams (take k inputs) joined h.state in
     let few = no_longer k inputs in
-    (omega (arith, some, more, few, within), omega (arith, some, more, few, within, first, second))
+    (omega (arith, some, few, within), few_refused (take k inputs) joined h.state)

@@ -138,11 +138,11 @@ pub record TakesDatagram (before : Joined) (datagram : List ℕ) (now : Joined) 
   pub datagrams : now.datagrams ≡ before.datagrams + 1
   pub refused : now.refused ≡ (if is_refused datagram then before.refused + 1 else before.refused)
 
--- what datagrams come to
-pub record TakesDatagrams (datagrams : List (List ℕ)) (joined : Joined) : Type 0 where
-  pub content : Same joined.store (flat_map facts datagrams)
-  pub count : joined.datagrams ≡ length datagrams
-  pub refused : joined.refused ≡ count_by is_refused datagrams
+-- datagrams are counted, and their facts held
+pub record TakesDatagrams (before : Joined) (datagrams : List (List ℕ)) (now : Joined) : Type 0 where
+  pub content : Same now.store (before.store ++ flat_map facts datagrams)
+  pub count : now.datagrams ≡ before.datagrams + length datagrams
+  pub refused : now.refused ≡ before.refused + count_by is_refused datagrams
 
 -- the facts and the numbers of both
 pub record JoinsBoth (before own now : Joined) : Type 0 where
@@ -154,3 +154,10 @@ pub record JoinsBoth (before own now : Joined) : Type 0 where
 abbrev pub JoinAnswers : Joined → Joined → Joined → Bool → Type 0
 JoinAnswers before own now true = JoinsBoth before own now
 JoinAnswers before own now false = Over (before.store ++ own.store) 64 4096 1048576
+
+-- an input that is within the limits alone was joined to what came before, or is over them together with it
+pub record Adds (bytes : List ℕ) (before now : Joined) (fits : Bool) : Type 0 where
+  pub own : Joined
+  pub joins : Joins (bytes ∷ []) own
+  pub within : TellsWithin bytes
+  pub answers : JoinAnswers before own now fits

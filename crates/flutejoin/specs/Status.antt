@@ -6,6 +6,8 @@ use Rattle.flutejoin.specs.declared.line.Line.{Line}
 use Rattle.flutejoin.specs.declared.line.Line.TheVariants.{Join}
 use Rattle.flute_journal.specs.declared.fault.ReadFault.{ReadFault}
 use Rattle.flute_journal.specs.declared.fault.ReadFault.TheVariants as faults
+use Rattle.flute_journal.specs.declared.fault.LoadFault.{LoadFault}
+use Rattle.flute_journal.specs.declared.fault.LoadFault.TheVariants as loads
 use Rattle.flutejoin.specs.declared.blob.BlobFault.{BlobFault}
 use Rattle.flutejoin.specs.declared.blob.BlobFault.TheVariants as blobs
 
@@ -60,3 +62,9 @@ of_blob number blobs.OutOfMemory = OutOfMemory
 abbrev pub HasFewInputs : Line → Type 0
 HasFewInputs (Join out inputs) = length inputs.items ≤ 64
 HasFewInputs _ = ⊤
+
+-- what the fault of a journal with this number, read into a store, is
+abbrev pub of_load : ℕ → LoadFault → CommandFault
+of_load number (loads.Read fault) = Input number fault
+of_load number loads.Full = Full
+of_load number loads.OutOfMemory = OutOfMemory

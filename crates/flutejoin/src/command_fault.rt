@@ -1,9 +1,9 @@
 //! What a command answers when it fails.
 ghost use Rattle.std.specs.Prelude.{◌≡◌, Ok, Err, MatchResult};
-ghost use Rattle.flutejoin.specs.Status.{of_blob};
+ghost use Rattle.flutejoin.specs.Status.{of_blob, of_load};
 
 use crate::blob::BlobFault;
-use flute_journal::ReadFault;
+use flute_journal::{LoadFault, ReadFault};
 use flute_parts::InfoFault;
 use flute_wire::{Refusal, WriteFault};
 use thiserror::Error;
@@ -114,6 +114,17 @@ pub fn blob_fault(number: usize, fault: BlobFault) -> CommandFault
         BlobFault::Read => CommandFault::Input(number, ReadFault::Read),
         BlobFault::TooLarge => CommandFault::TooLarge(number),
         BlobFault::OutOfMemory => CommandFault::OutOfMemory,
+    }
+}
+
+/// Why the journal that is the input with this number, from 1, was not read into a store.
+pub fn load_fault(number: usize, fault: LoadFault) -> CommandFault
+    ensures { result ≡ of_load number fault }
+{
+    match fault {
+        LoadFault::Read(fault) => CommandFault::Input(number, fault),
+        LoadFault::Full => CommandFault::Full,
+        LoadFault::OutOfMemory => CommandFault::OutOfMemory,
     }
 }
 

@@ -1,18 +1,18 @@
 //! The inputs of several stations, joined.
-ghost use Rattle.std.specs.Prelude.{◌≡◌, ◌≢◌, ◌≤◌, ◌<◌, ◌+◌, ◌^◌, [], ◌∷◌, ◌++◌, length, map, Some, IfOk, IfErr, OnOk, MatchOption};
+ghost use Rattle.std.specs.Prelude.{◌≡◌, ◌≢◌, ◌≤◌, ◌<◌, ◌+◌, ◌^◌, [], ◌∷◌, ◌++◌, length, map, Some, IfSome, IfOk, IfErr, OnOk, MatchOption};
 ghost use Rattle.std.specs.List.{AllByRecursion, flat_map};
 ghost use Rattle.flute_parts.specs.Limits.{Over};
 ghost use Rattle.flute_wire.specs.Reading.{facts};
-ghost use Rattle.flutejoin.specs.declared.command_fault.CommandFault.TheVariants as faults;
 ghost use Rattle.flutejoin.specs.declared.limits.TheConstants.{MAX_ENTRIES};
-ghost use Rattle.flutejoin.specs.Joined.{HasKind, IsNeither, IsKnown, TellsWithin, TakesDatagrams, TakesDatagram, StoreFails, Joins, JoinAnswers, SomeCheckFails, CheckFails, InputFails, JoinFails};
+ghost use Rattle.flutejoin.specs.Load.{LoadFails};
+ghost use Rattle.flutejoin.specs.Show.{read_failures};
+ghost use Rattle.flutejoin.specs.Joined.{HasKind, IsNeither, IsKnown, TakesDatagrams, TakesDatagram, StoreFails, Adds, Joins, SomeCheckFails, CheckFails, InputFails, JoinFails};
 
 use crate::blob::Blob;
-use crate::command_fault::{CommandFault, at_input};
+use crate::command_fault::{CommandFault, at_input, load_fault};
 use crate::limits::MAX_ENTRIES;
-use flute_join::JoinRefusal;
-use flute_journal::{LoadFault, datagrams_in, read_store};
-use flute_parts::MemorySource;
+use flute_journal::{datagrams_in, join_journal};
+use flute_parts::{MemorySource, Source};
 use flute_store::{Shelf, Store, TakeFault};
 use flute_wire::one_reading;
 use std::alloc::Global;
@@ -31,7 +31,9 @@ pub struct Joined {
 impl Joined {
     // What no input comes to.
     fn new(alloc: Global) -> Joined
-        ensures { Joins [] result }
+        ensures store { result.store ≡ [] }
+        ensures datagrams { result.datagrams ≡ 0 }
+        ensures refused { result.refused ≡ 0 }
     {
         Joined {
             store: Store::new(alloc),
@@ -59,23 +61,69 @@ impl Joined {
         Ok(())
     }
 
-    // Joins what another input gave, and answers whether both together are within the limits.
-    fn join(&mut self, alloc: Global, own: Joined) -> Result<bool, CommandFault>
-        requires datagrams { self.now.datagrams + own.datagrams < 2 ^ 64 }
-        requires refused { self.now.refused + own.refused < 2 ^ 64 }
-        ensures joined { IfOk result (JoinAnswers self.old own self.new) }
-        ensures memory { IfErr result (λ f. f ≡ faults.OutOfMemory) }
+    // Takes datagrams, and counts them.
+    fn take_all(&mut self, alloc: Global, datagrams: &[&[u8]]) -> Result<(), CommandFault>
+        requires few { length datagrams.now ≤ MAX_ENTRIES }
+        requires room { self.now.datagrams + MAX_ENTRIES < 2 ^ 64 }
+        requires refused { self.now.refused ≤ self.now.datagrams }
+        ensures taken { OnOk result (TakesDatagrams self.old (map (λ d. d.now) datagrams.now) self.new) }
+        ensures within { OnOk result (¬ Over self.new.store 64 4096 1048576) }
+        ensures failed { IfErr result (StoreFails (self.old.store ++ flat_map facts (map (λ d. d.now) datagrams.now))) }
     {
-        self.datagrams += own.datagrams;
-        self.refused += own.refused;
-        if self.store.walk().next().is_none() {
-            self.store = own.store;
-            return Ok(true);
+        for datagram in datagrams {
+            self.take(alloc, datagram)?;
         }
-        match self.store.absorb(alloc, &own.store) {
+        self.store.keeps_order_and_limits();
+        Ok(())
+    }
+
+    // Takes the datagrams of a file, and answers whether the store holds all. If not, the file is within the limits alone.
+    fn add_file(&mut self, alloc: Global, number: usize, bytes: &[u8]) -> Result<bool, CommandFault>
+        requires kind { HasKind Kind.Datagrams bytes.now }
+        requires room { self.now.datagrams + MAX_ENTRIES < 2 ^ 64 }
+        requires refused { self.now.refused ≤ self.now.datagrams }
+        ensures added { IfOk result (Adds bytes.now self.old self.new) }
+        ensures failed { IfErr result (InputFails number bytes.now) }
+    {
+        let datagrams = at_input(number, datagrams_in(alloc, bytes, MAX_ENTRIES))?;
+        match self.take_all(alloc, &datagrams) {
             Ok(()) => Ok(true),
-            Err(JoinRefusal::Full) => Ok(false),
-            Err(JoinRefusal::OutOfMemory) => Err(CommandFault::OutOfMemory),
+            Err(CommandFault::Full) => {
+                Joined::new(alloc).take_all(alloc, &datagrams)?;
+                Ok(false)
+            }
+            Err(fault) => Err(fault),
+        }
+    }
+
+    // Joins a journal as it is read, and answers whether the store holds all. If not, the journal is within the limits alone.
+    fn add_journal<R: Source>(
+        &mut self,
+        alloc: Global,
+        number: usize,
+        source: &mut R,
+    ) -> Result<bool, CommandFault>
+        ensures added { IfOk result (λ fits. IfSome (R.unread source.old) (λ bytes. Adds bytes self.old self.new fits)) }
+        ensures failed { IfErr result (LoadFails number (R.unread source.old)) }
+        ensures failures { R.failures source.new ≡ R.failures source.old + read_failures result }
+    {
+        match join_journal(alloc, &mut self.store, source, MAX_ENTRIES) {
+            Ok(fits) => Ok(fits),
+            Err(fault) => Err(load_fault(number, fault)),
+        }
+    }
+
+    // Joins what an input tells, as its kind is, and answers whether the store holds all.
+    fn add(&mut self, alloc: Global, number: usize, bytes: &[u8]) -> Result<bool, CommandFault>
+        requires room { self.now.datagrams + MAX_ENTRIES < 2 ^ 64 }
+        requires refused { self.now.refused ≤ self.now.datagrams }
+        ensures added { IfOk result (Adds bytes.now self.old self.new) }
+        ensures failed { IfErr result (InputFails number bytes.now) }
+    {
+        match kind_of(bytes) {
+            Some(Kind::Journal) => self.add_journal(alloc, number, &mut MemorySource::new(bytes)),
+            Some(Kind::Datagrams) => self.add_file(alloc, number, bytes),
+            None => Err(CommandFault::UnknownKind(number)),
         }
     }
 }
@@ -102,8 +150,8 @@ fn kind_of(bytes: &[u8]) -> Option<Kind>
 /// What all the inputs come to together, each a journal or a datagram file, as its first four bytes say. There may be up to
 /// 64, and none comes to the empty store. A datagram that is refused tells nothing, and is counted.
 ///
-/// It holds the store of one input beside what those before it came to. Of an input's bytes it copies only those of
-/// symbols, into that store, and once more where they are new to what came before.
+/// A journal is joined entry by entry as it is read, and a datagram where it lies: of an input's bytes it copies only those
+/// of symbols, once.
 ///
 /// # Errors
 ///
@@ -152,7 +200,7 @@ fn check_input(alloc: Global, number: usize, bytes: &[u8]) -> Result<(), Command
 }
 
 // Joins inputs whose kinds and records were looked at. That they are over the limits together is told only once each of
-// them was read.
+// them was read: then those that follow are each looked at alone.
 fn join_all(alloc: Global, inputs: &[Blob]) -> Result<Joined, CommandFault>
     requires few { length inputs.now ≤ 64 }
     requires known { AllByRecursion IsKnown inputs.now }
@@ -162,63 +210,15 @@ fn join_all(alloc: Global, inputs: &[Blob]) -> Result<Joined, CommandFault>
     let mut joined = Joined::new(alloc);
     let mut fits = true;
     for (k, input) in inputs.iter().enumerate() {
-        let own = received(alloc, k + 1, input.as_slice())?;
-        fits = fits && joined.join(alloc, own)?;
+        if fits {
+            fits = joined.add(alloc, k + 1, input.as_slice())?;
+        } else {
+            Joined::new(alloc).add(alloc, k + 1, input.as_slice())?;
+        }
     }
     if fits {
         Ok(joined)
     } else {
         Err(CommandFault::Full)
     }
-}
-
-// What one input comes to.
-fn received(alloc: Global, number: usize, bytes: &[u8]) -> Result<Joined, CommandFault>
-    ensures joined { IfOk result (Joins (bytes.now ∷ [])) }
-    ensures within { OnOk result (TellsWithin bytes.now) }
-    ensures failed { IfErr result (InputFails number bytes.now) }
-{
-    match kind_of(bytes) {
-        Some(Kind::Journal) => loaded(alloc, number, bytes),
-        Some(Kind::Datagrams) => {
-            let datagrams = at_input(number, datagrams_in(alloc, bytes, MAX_ENTRIES))?;
-            taken(alloc, &datagrams)
-        }
-        None => Err(CommandFault::UnknownKind(number)),
-    }
-}
-
-// What a journal comes to.
-fn loaded(alloc: Global, number: usize, bytes: &[u8]) -> Result<Joined, CommandFault>
-    requires { HasKind Kind.Journal bytes.now }
-    ensures joined { IfOk result (Joins (bytes.now ∷ [])) }
-    ensures within { OnOk result (TellsWithin bytes.now) }
-    ensures failed { IfErr result (InputFails number bytes.now) }
-{
-    let mut source = MemorySource::new(bytes);
-    match read_store(alloc, &mut source, MAX_ENTRIES) {
-        Ok(store) => Ok(Joined {
-            store,
-            datagrams: 0,
-            refused: 0,
-        }),
-        Err(LoadFault::Read(fault)) => Err(CommandFault::Input(number, fault)),
-        Err(LoadFault::Full) => Err(CommandFault::Full),
-        Err(LoadFault::OutOfMemory) => Err(CommandFault::OutOfMemory),
-    }
-}
-
-// What datagrams come to.
-fn taken(alloc: Global, datagrams: &[&[u8]]) -> Result<Joined, CommandFault>
-    requires { length datagrams.now ≤ MAX_ENTRIES }
-    ensures taken { IfOk result (TakesDatagrams (map (λ d. d.now) datagrams.now)) }
-    ensures within { IfOk result (λ joined. ¬ Over joined.store 64 4096 1048576) }
-    ensures failed { IfErr result (StoreFails (flat_map facts (map (λ d. d.now) datagrams.now))) }
-{
-    let mut taken = Joined::new(alloc);
-    for datagram in datagrams {
-        taken.take(alloc, datagram)?;
-    }
-    taken.store.keeps_order_and_limits();
-    Ok(taken)
 }

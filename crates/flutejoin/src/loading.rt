@@ -6,9 +6,9 @@ ghost use Rattle.flutejoin.specs.Show.{read_failures};
 ghost use Rattle.flutejoin.specs.declared.limits.TheConstants.{MAX_ENTRIES};
 ghost use Rattle.flutejoin.specs.Load.{LoadFails};
 
-use crate::command_fault::CommandFault;
+use crate::command_fault::{CommandFault, load_fault};
 use crate::limits::MAX_ENTRIES;
-use flute_journal::{LoadFault, read_store};
+use flute_journal::read_store;
 use flute_parts::Source;
 use flute_store::Shelf;
 use std::alloc::Global;
@@ -23,13 +23,11 @@ use std::alloc::Global;
 pub fn load<R: Source>(alloc: Global, source: &mut R) -> Result<Shelf, CommandFault>
     ensures journal { IfOk result (λ shelf. IfSome (R.unread source.old) (λ bytes. IsJournalOf MAX_ENTRIES bytes shelf)) }
     ensures end { IfOk result (λ _. IsAtEnd (R.unread source.new)) }
-    ensures failed { IfErr result (LoadFails (R.unread source.old)) }
+    ensures failed { IfErr result (LoadFails 1 (R.unread source.old)) }
     ensures failures { R.failures source.new ≡ R.failures source.old + read_failures result }
 {
     match read_store(alloc, source, MAX_ENTRIES) {
         Ok(shelf) => Ok(shelf),
-        Err(LoadFault::Read(fault)) => Err(CommandFault::Input(1, fault)),
-        Err(LoadFault::Full) => Err(CommandFault::Full),
-        Err(LoadFault::OutOfMemory) => Err(CommandFault::OutOfMemory),
+        Err(fault) => Err(load_fault(1, fault)),
     }
 }
