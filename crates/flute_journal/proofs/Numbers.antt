@@ -1,38 +1,13 @@
 -- Big-endian numbers and their bytes.
-use Rattle.std.proofs.Common.{◌≡◌, ℕ, zero, suc, ◌+◌, ◌*◌, ◌/◌, ◌%◌, ◌^◌, ◌<◌, ◌≤◌, List, [], ◌∷◌, ◌++◌, length, take, drop, get_or, refl, sym, ap, ◌∙◌, subst, arith, lit<, add-one}
-use Rattle.std.specs.Prelude.{fold}
+use Rattle.std.proofs.Common.{◌≡◌, ℕ, zero, suc, ◌+◌, ◌*◌, ◌/◌, ◌%◌, ◌^◌, ◌<◌, ◌≤◌, List, [], ◌∷◌, ◌++◌, length, take, drop, get_or, refl, sym, ap, ◌∙◌, subst, arith, lit<}
 use Rattle.std.specs.Int.{byte_at}
 use Rattle.std.specs.List.{AllByRecursion}
-use Rattle.std.proofs.Math.Nat.{pow-le-pow_right, pow-succ', mul-add-div_right, mul-add-mod_self_right, add-mul, mul_assoc, mul_comm, div-eq_of_lt, mod-eq_of_lt, one-le-pow, div-one, mul-le-mul_right}
+use Rattle.std.proofs.Math.Nat.{pow-succ', mul-add-div_right, mul-add-mod_self_right, add-mul, mul_assoc, div-eq_of_lt, mod-eq_of_lt, one-le-pow, div-one, mul-le-mul_right}
 use Rattle.std.proofs.lemmas.Nat.{div-add-mod', mod_below, div_below}
 use Rattle.std.proofs.lemmas.List.{take_at, drop_at, length-take, length-drop, take-append-drop}
 use Rattle.flute_parts.specs.BigEndian.{big_endian}
 use Rattle.flute_journal.specs.Numbers.{in_bytes}
 use Rattle.flute_journal.specs.Journal.{IsByte}
-
-pub room : (n i : ℕ) → n < 256 ^ i → i < 16 → 256 * n + 255 < 2 ^ 128
-room n i lt small =
-    let most : 256 ^ (i + 1) ≤ 256 ^ 16 = pow-le-pow_right {n = 256} (lit< tt) {i = i + 1} {j = 16} (omega arith) in
-    let step : 256 ^ (i + 1) ≡ 256 * 256 ^ i = rw add-one (pow-succ' 256 i) in
-    omega (arith, most, step, lt)
-
-abbrev pub add_byte : ℕ → ℕ → ℕ
-add_byte n b = 256 * n + b
-
--- a number that goes on from another
-pub number-from : (n : ℕ) (bs : List ℕ) → fold add_byte n bs ≡ n * 256 ^ length bs + big_endian bs
-number-from n [] = omega arith
-number-from n (b ∷ bs) =
-    let P : ℕ = 256 ^ length bs in
-    let here = number-from (add_byte n b) bs in
-    let power : 256 ^ suc (length bs) ≡ 256 * P = pow-succ' 256 (length bs) in
-    let left : add_byte n b * P ≡ 256 * n * P + b * P = add-mul (256 * n) b P in
-    let turned : n * 256 ^ suc (length bs) ≡ 256 * n * P =
-    ap (λ k. n * k) power ∙ sym (mul_assoc n 256 P) ∙ ap (λ k. k * P) (mul_comm n 256) in
-    omega (arith, here, left, turned)
-
-pub number-folded : (bs : List ℕ) → fold add_byte 0 bs ≡ big_endian bs
-number-folded bs = number-from 0 bs ∙ (let e : 0 * 256 ^ length bs + big_endian bs ≡ big_endian bs = omega arith in e)
 
 pub byte_at-is : (j n : ℕ) → byte_at j n ≡ n / 256 ^ j % 256
 byte_at-is zero n = ap (λ k. k % 256) (sym (div-one n))

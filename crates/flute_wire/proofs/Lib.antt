@@ -1,4 +1,4 @@
-mod BigEndian
+pub mod BigEndian
 mod Walking
 mod FirstRefusal
 mod Spelling

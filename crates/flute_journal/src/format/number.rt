@@ -5,17 +5,16 @@ ghost use Rattle.flute_parts.specs.BigEndian.{big_endian};
 ghost use Rattle.flute_journal.specs.Numbers.{in_bytes};
 ghost use Rattle.flute_journal.specs.Journal.{IsByte};
 
+use byteorder::{BigEndian, ByteOrder};
+
 /// The number that the bytes spell.
 pub fn number(bytes: &[u8]) -> u128
-    requires { length bytes.now ≤ 16 }
+    requires some { 1 ≤ length bytes.now }
+    requires few { length bytes.now ≤ 16 }
     ensures value { result ≡ big_endian bytes.now }
     ensures fits { result < 256 ^ length bytes.now }
 {
-    let mut number = 0;
-    for byte in bytes {
-        number = 256 * number + u128::from(*byte);
-    }
-    number
+    BigEndian::read_uint128(bytes, bytes.len())
 }
 
 /// The number that two bytes spell: how many bytes follow.
