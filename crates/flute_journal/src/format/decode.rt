@@ -10,7 +10,7 @@ ghost use Rattle.flute_journal.specs.Parsing.{FixedIs, Parses, StopsFront, fixed
 ghost use Rattle.flute_journal.specs.declared.format.Kind.TheVariants as kinds;
 ghost use Rattle.flute_journal.specs.declared.fault.ReadFault.TheVariants.{Order, Cut};
 
-use super::number::number;
+use super::number::{number, number_of_14};
 use super::{Fixed, Kind};
 use crate::fault::ReadFault;
 use flute_parts::{Address, Fact, Info, InfoFault, Key, ObjectKey, Part, SessionKey, SymbolId};
@@ -78,7 +78,7 @@ fn key_in(bytes: &[u8]) -> Option<Key>
         (λ key. (is_key bytes.now ≡ true) × (key ≡ key_of_bytes bytes.now) × IsKey key) }
 {
     let session = SessionKey::new(number(&bytes[..6]) as u64)?;
-    let number = number(&bytes[7..]);
+    let number = number_of_14(&bytes[7..]);
     let object = match bytes[6] {
         0 => ObjectKey::fdt(u32::try_from(number).ok()?)?,
         1 => ObjectKey::file(number)?,

@@ -17,6 +17,17 @@ pub fn number(bytes: &[u8]) -> u128
     BigEndian::read_uint128(bytes, bytes.len())
 }
 
+/// The number that fourteen bytes spell, read in two halves: to gather them first would take longer.
+pub fn number_of_14(field: &[u8]) -> u128
+    requires { length field.now ≡ 14 }
+    ensures value { result ≡ big_endian field.now }
+    ensures fits { result < 256 ^ 14 }
+{
+    let (high, low) = field.split_at(6);
+    18_446_744_073_709_551_616 * u128::from(BigEndian::read_u48(high))
+        + u128::from(BigEndian::read_u64(low))
+}
+
 /// The number that two bytes spell: how many bytes follow.
 pub fn length_in(field: &[u8]) -> u16
     requires { length field.now ≡ 2 }
