@@ -13,6 +13,7 @@ ghost use Rattle.flute_journal.specs.declared.fault.ReadFault.TheVariants.{Order
 use super::number::{number, number_of_14};
 use super::{Fixed, Kind};
 use crate::fault::ReadFault;
+use byteorder::{BigEndian, ByteOrder};
 use flute_parts::{Address, Fact, Info, InfoFault, Key, ObjectKey, Part, SessionKey, SymbolId};
 
 /// Looks at the first six bytes of a file: its magic number and its version.
@@ -200,7 +201,7 @@ fn length_at(bytes: &[u8]) -> Result<u16, ReadFault>
     if bytes.len() < 2 {
         return Err(ReadFault::Cut);
     }
-    let length = number(bytes) as u16;
+    let length = BigEndian::read_u16(bytes);
     if length == 0 {
         return Err(ReadFault::EmptySymbol);
     }

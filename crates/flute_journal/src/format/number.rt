@@ -34,7 +34,7 @@ pub fn length_in(field: &[u8]) -> u16
     ensures value { result ≡ big_endian field.now }
     ensures spelled { in_bytes 2 result ≡ field.now }
 {
-    number(field) as u16
+    BigEndian::read_u16(field)
 }
 
 /// The two bytes that spell how many bytes these are.

@@ -1,7 +1,12 @@
-use Rattle.std.proofs.Common.{ap, ◌∙◌}
+use Rattle.std.proofs.Common.{ap, sym, ◌∙◌}
+use Rattle.flute_wire.proofs.BigEndian.{big_from-whole}
 use Rattle.flute_journal.specs.Numbers.{in_bytes}
 use Rattle.flute_journal.proofs.Numbers.{octets, spelled}
 use Rattle.flute_journal.proofs.format.number.length_in.Goals as goal
 
+pub returns-clause-value : goal.returns-clause-value
+returns-clause-value c = c.read_u16.ensures ∙ big_from-whole 2 c.args.field.now (sym c.requires)
+
 pub returns-clause-spelled : goal.returns-clause-spelled
-returns-clause-spelled c = ap (in_bytes 2) c.number.ensures.value ∙ spelled 2 c.args.field.now c.requires (octets c.args.field.now (λ i. (c.type_inv.field i).fits))
+returns-clause-spelled c =
+    ap (in_bytes 2) (c.read_u16.ensures ∙ big_from-whole 2 c.args.field.now (sym c.requires)) ∙ spelled 2 c.args.field.now c.requires (octets c.args.field.now (λ i. (c.type_inv.field i).fits))
