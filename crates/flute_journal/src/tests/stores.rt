@@ -5,7 +5,7 @@ use super::vectors::{
     INFO_AND_PADDED_SYMBOL, LAST_SYMBOL, OTHER_INFO, bytes,
 };
 use super::*;
-use flute_parts::{MemorySink, MemorySource, ShortSink};
+use flute_parts::{MemorySink, MemorySource, ShortSink, ShortSource};
 use flute_store::Shelf;
 use std::alloc::Global;
 
@@ -105,6 +105,94 @@ fn a_store_that_is_too_small(rt: HostRuntime) -> Result<(), Fail> {
     assert!(rt; store.err() == Some(LoadFault::Full));
     let store: Store<1, 1, 2> = read_store(rt.alloc(), &mut MemorySource::new(&input), MANY)?;
     assert_eq!(rt; store.walk().count(), 3);
+    Ok(())
+}
+
+/// A journal joined as it is read is the same as a store of it absorbed, for each two journals.
+#[test]
+fn journals_are_joined(rt: HostRuntime) -> Result<(), Fail> {
+    let alloc = rt.alloc();
+    for (i, (first, _)) in JOURNALS.iter().enumerate() {
+        for (j, (second, _)) in JOURNALS.iter().enumerate() {
+            let first = bytes(alloc, first)?;
+            let second = bytes(alloc, second)?;
+            let mut wanted: Small = read_store(alloc, &mut MemorySource::new(&first), MANY)?;
+            let other: Small = read_store(alloc, &mut MemorySource::new(&second), MANY)?;
+            wanted.absorb(alloc, &other)?;
+            for piece in [1, 2, 7] {
+                let mut store: Small = read_store(alloc, &mut MemorySource::new(&first), MANY)?;
+                let mut source = ShortSource::new(&second, piece, usize::MAX);
+                let fits = join_journal(alloc, &mut store, &mut source, MANY)?;
+                assert!(rt; fits, "{i} and {j}");
+                assert!(rt; store.walk().eq(wanted.walk()), "{i} and {j} by {piece}");
+            }
+        }
+    }
+    Ok(())
+}
+
+// What joining a journal to the whole file answers, in a store of two symbols. None if that does not hold the file then.
+fn joined_to_whole(
+    alloc: Global,
+    journal: &[&str],
+) -> Result<Option<Result<bool, LoadFault>>, Fail> {
+    let whole = bytes(alloc, vectors::WHOLE)?;
+    let mut store: Store<1, 1, 2> = read_store(alloc, &mut MemorySource::new(&whole), MANY)?;
+    let journal = bytes(alloc, journal)?;
+    let joined = join_journal(alloc, &mut store, &mut MemorySource::new(&journal), MANY);
+    if store.walk().count() != 3 {
+        return Ok(None);
+    }
+    Ok(Some(joined))
+}
+
+/// Journals that are over the limits with what a store holds, and alone. Faults that stand behind are told.
+#[test]
+fn a_store_that_is_too_small_for_both(rt: HostRuntime) -> Result<(), Fail> {
+    let alloc = rt.alloc();
+    let third = "0000 0002 0001 78";
+    let fourth = "0000 0003 0001 79";
+    let fifth = "0000 0004 0001 7A";
+    let (key, header) = (vectors::KEY, vectors::HEADER);
+    let held = joined_to_whole(alloc, vectors::WHOLE)?;
+    assert!(rt; held == Some(Ok(true)));
+    let beyond = joined_to_whole(alloc, &[header, "03", key, third, vectors::END_1])?;
+    assert!(rt; beyond == Some(Ok(false)));
+    let two: &[&str] = &[header, "03", key, third, "03", key, fourth, vectors::END_2];
+    assert!(rt; joined_to_whole(alloc, two)? == Some(Ok(false)));
+    let three: &[&str] = &[
+        header,
+        "03",
+        key,
+        third,
+        "03",
+        key,
+        fourth,
+        "03",
+        key,
+        fifth,
+        vectors::END_3,
+    ];
+    assert!(rt; joined_to_whole(alloc, three)? == Some(Err(LoadFault::Full)));
+    let cut: &[&str] = &[header, "03", key, third];
+    assert!(rt; joined_to_whole(alloc, cut)? == Some(Err(LoadFault::Read(ReadFault::Cut))));
+    assert!(rt; joined_to_whole(alloc, vectors::OTHERS)? == Some(Err(LoadFault::Full)));
+    Ok(())
+}
+
+/// A source that fails after each byte: what was held is kept.
+#[test]
+fn joins_that_stop(rt: HostRuntime) -> Result<(), Fail> {
+    let alloc = rt.alloc();
+    let journal = bytes(alloc, vectors::OTHERS)?;
+    for good in 0..journal.len() {
+        let mut store = taken(alloc, &[INFO_AND_FIRST_SYMBOL])?;
+        let mut source = ShortSource::new(&journal, 7, good);
+        let joined = join_journal(alloc, &mut store, &mut source, MANY);
+        let failed = Err(LoadFault::Read(ReadFault::Read));
+        assert!(rt; joined == failed, "{good}");
+        assert!(rt; store.walk().count() >= 2, "{good}");
+    }
     Ok(())
 }
 
