@@ -15,4 +15,3 @@ pub mod Totality
 pub mod Laws
 pub mod Examples
 pub mod Devices
-pub mod Chained

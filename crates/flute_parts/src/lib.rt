@@ -4,7 +4,6 @@
 
 mod address;
 mod bytes;
-mod chained_source;
 mod device;
 mod fact;
 mod failures;
@@ -26,7 +25,6 @@ mod tally;
 
 pub use address::{Address, Part};
 pub use bytes::{Bytes, BytesFault};
-pub use chained_source::ChainedSource;
 pub use device::{DeviceFault, Sink};
 pub use fact::{Fact, FactRef};
 pub use info::{Info, InfoFault};

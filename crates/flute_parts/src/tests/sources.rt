@@ -1,9 +1,6 @@
 //! Sources, and devices that fail.
 
-use crate::{
-    ChainedSource, DeviceFault, MemorySource, ShortSink, ShortSource, Sink, Source, StdSource,
-};
-use std::alloc::Global;
+use crate::{DeviceFault, MemorySource, ShortSink, ShortSource, Sink, Source, StdSource};
 use std::io::{self, ErrorKind, Read};
 use std::test::Fail;
 
@@ -37,17 +34,6 @@ impl Read for Broken {
     }
 }
 
-/// What eight reads of at most so many bytes give.
-fn gathered<R: Source>(alloc: Global, source: &mut R, piece: usize) -> Result<Vec<u8>, Fail> {
-    let mut buffer = vec![in alloc; 0; piece]?;
-    let mut bytes = Vec::new(alloc);
-    for _ in 0..8 {
-        let count = source.read(&mut buffer)?;
-        bytes.extend_from_slice(&buffer[..count])?;
-    }
-    Ok(bytes)
-}
-
 #[test]
 fn a_source_in_memory_gives_its_bytes(rt: HostRuntime) -> Result<(), Fail> {
     let mut source = MemorySource::new(b"hello");
@@ -78,37 +64,6 @@ fn a_short_source_fails_for_good(rt: HostRuntime) {
     for told in [Ok(4), Ok(1), Ok(0), Ok(0)] {
         assert!(rt; source.read(&mut buffer) == told);
     }
-}
-
-#[test]
-fn a_chained_source_gives_its_front_first(rt: HostRuntime) -> Result<(), Fail> {
-    for (front, behind) in [("hello", ""), ("he", "llo"), ("", "hello")] {
-        for piece in [1, 2, 7] {
-            let mut rest = MemorySource::new(behind.as_bytes());
-            let mut source = ChainedSource::new(front.as_bytes(), &mut rest);
-            assert_eq!(rt; source.read(&mut [])?, 0);
-            let given = gathered(rt.alloc(), &mut source, piece)?;
-            assert_eq!(rt; given.as_slice(), b"hello".as_slice());
-        }
-    }
-    Ok(())
-}
-
-#[test]
-fn a_chained_source_fails_behind_its_front(rt: HostRuntime) {
-    let mut rest = ShortSource::new(b"llo", 2, 2);
-    let mut source = ChainedSource::new(b"he", &mut rest);
-    let mut buffer = [0; 4];
-    for (told, front) in [
-        (Ok(2), b"he\0\0"),
-        (Ok(2), b"ll\0\0"),
-        (Err(DeviceFault), b"ll\0\0"),
-        (Err(DeviceFault), b"ll\0\0"),
-    ] {
-        assert!(rt; source.read(&mut buffer) == told);
-        assert_eq!(rt; &buffer, front);
-    }
-    assert!(rt; rest.read(&mut buffer) == Err(DeviceFault));
 }
 
 #[test]
