@@ -242,7 +242,7 @@ pub added_known : (input : Option (List ℕ)) (bytes : List ℕ) (before now : J
 added_known input bytes before now fits known h = let P : Option (List ℕ) → Type 0 = λ o. IfSome o (λ bs. Adds bs before now fits) in subst P known h
 
 -- why it was not
-journal_fails : (number : ℕ) (input : Option (List ℕ)) (bytes : List ℕ) (fault : CommandFault) → input ≡ Some bytes → HasKind Journal bytes → LoadFails number input fault → (read_failures {T = Bool} (Err fault) ≡ 0) → InputFails number bytes fault
+pub journal_fails : (number : ℕ) (input : Option (List ℕ)) (bytes : List ℕ) (fault : CommandFault) → input ≡ Some bytes → HasKind Journal bytes → LoadFails number input fault → (read_failures {T = Bool} (Err fault) ≡ 0) → InputFails number bytes fault
 journal_fails number input bytes (Input told f) known kind h none =
     let P : Option (List ℕ) → Type 0 = λ o. HasFault MAX_ENTRIES o f in
     of_entries f (ap (λ n. Input n f) h.0) (kind, subst P known h.1, λ is. absurd (failed_once told f is none))
@@ -347,7 +347,7 @@ so_far_over inputs bytes fits joined before now all one =
 -- what a check or an input alone answers, told of all the inputs
 
 -- the first input with a fault, that fault's cause in its place
-first_with : (Q P R : List ℕ → Type 0) (number : ℕ) (inputs : List (List ℕ)) → (first : FirstInput Q P number inputs) → R first.bytes → FirstInput Q R number inputs
+pub first_with : (Q P R : List ℕ → Type 0) (number : ℕ) (inputs : List (List ℕ)) → (first : FirstInput Q P number inputs) → R first.bytes → FirstInput Q R number inputs
 first_with Q P R number inputs first here = record {
   before = first.before;
   bytes = first.bytes;
@@ -369,7 +369,7 @@ join_unchecked inputs fault h = go h.1.here
     go (of_kind is neither) = subst P (sym is) (first_with IsKnown (λ bytes. CheckFails h.0 bytes fault) IsNeither h.0 inputs h.1 neither)
     go (of_records why is file) = subst P (sym is) (inl (first_with IsKnown (λ bytes. CheckFails h.0 bytes fault) (IsFileAt why) h.0 inputs h.1 file))
 
-all_known : (k : ℕ) (inputs : List (List ℕ)) → AllByRecursion IsKnown inputs → AllByRecursion IsKnown (take k inputs)
+pub all_known : (k : ℕ) (inputs : List (List ℕ)) → AllByRecursion IsKnown inputs → AllByRecursion IsKnown (take k inputs)
 all_known zero inputs all = tt
 all_known (suc k) [] all = tt
 all_known (suc k) (bytes ∷ inputs) all = (all.0, all_known k inputs all.1)

@@ -16,3 +16,4 @@ mod Running
 mod Driving
 mod Refused
 mod Inputs
+mod Openings

@@ -21,3 +21,4 @@ pub mod Examples
 pub mod Merge
 pub mod Carousel
 pub mod Joined
+pub mod Opened

@@ -30,7 +30,7 @@ pub struct Joined {
 
 impl Joined {
     // What no input comes to.
-    fn new(alloc: Global) -> Joined
+    pub(crate) fn new(alloc: Global) -> Joined
         ensures store { result.store ≡ [] }
         ensures datagrams { result.datagrams ≡ 0 }
         ensures refused { result.refused ≡ 0 }
@@ -97,7 +97,7 @@ impl Joined {
     }
 
     // Joins a journal as it is read, and answers whether the store holds all. If not, the journal is within the limits alone.
-    fn add_journal<R: Source>(
+    pub(crate) fn add_journal<R: Source>(
         &mut self,
         alloc: Global,
         number: usize,
@@ -105,6 +105,8 @@ impl Joined {
     ) -> Result<bool, CommandFault>
         ensures added { IfOk result (λ fits. IfSome (R.unread source.old) (λ bytes. Adds bytes self.old self.new fits)) }
         ensures failed { IfErr result (LoadFails number (R.unread source.old)) }
+        ensures datagrams { self.new.datagrams ≡ self.old.datagrams }
+        ensures refused { self.new.refused ≡ self.old.refused }
         ensures failures { R.failures source.new ≡ R.failures source.old + read_failures result }
     {
         match join_journal(alloc, &mut self.store, source, MAX_ENTRIES) {
@@ -114,7 +116,12 @@ impl Joined {
     }
 
     // Joins what an input tells, as its kind is, and answers whether the store holds all.
-    fn add(&mut self, alloc: Global, number: usize, bytes: &[u8]) -> Result<bool, CommandFault>
+    pub(crate) fn add(
+        &mut self,
+        alloc: Global,
+        number: usize,
+        bytes: &[u8],
+    ) -> Result<bool, CommandFault>
         requires room { self.now.datagrams + MAX_ENTRIES < 2 ^ 64 }
         requires refused { self.now.refused ≤ self.now.datagrams }
         ensures added { IfOk result (Adds bytes.now self.old self.new) }
@@ -129,13 +136,14 @@ impl Joined {
 }
 
 /// What an input is.
-enum Kind {
+#[derive(Clone, Copy)]
+pub(crate) enum Kind {
     Journal,
     Datagrams,
 }
 
 // What an input is by its first four bytes, if it is either.
-fn kind_of(bytes: &[u8]) -> Option<Kind>
+pub(crate) fn kind_of(bytes: &[u8]) -> Option<Kind>
     ensures { MatchOption result (IsNeither bytes.now) (λ kind. HasKind kind bytes.now) }
 {
     if bytes.starts_with(b"FLJN") {
@@ -185,7 +193,8 @@ fn check_inputs(alloc: Global, inputs: &[Blob]) -> Result<(), CommandFault>
     Ok(())
 }
 
-fn check_input(alloc: Global, number: usize, bytes: &[u8]) -> Result<(), CommandFault>
+// Looks at the kind of an input and, if it is a datagram file, at its records.
+pub(crate) fn check_input(alloc: Global, number: usize, bytes: &[u8]) -> Result<(), CommandFault>
     ensures known { OnOk result (IsKnown bytes.now) }
     ensures failed { IfErr result (CheckFails number bytes.now) }
 {

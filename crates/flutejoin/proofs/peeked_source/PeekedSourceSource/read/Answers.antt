@@ -1,0 +1,34 @@
+-- Bytes that were read ahead are given again.
+use Rattle.std.proofs.Common.{rules, ◌≡◌, ℕ, ◌+◌, ◌-◌, ◌≤◌, ◌++◌, ◌==◌, false, zero, suc, List, length, take, drop, min, Option, Some, None, sym, ◌∙◌, ap, arith, append_assoc, length-drop, length-append, length-take-le, take-append-drop}
+use Rattle.std.specs.Io.KnownBytes.{Consumes, prepend_known}
+use Rattle.std.proofs.lemmas.List.{take_all, take-append-le, drop-drop}
+use Rattle.flutejoin.proofs.peeked_source.PeekedSourceSource.read.Goals as goal
+
+given_again : (u : Option (List ℕ)) (front copy rest : List ℕ) (given n : ℕ) → copy ≡ take n (drop given front) → n ≤ length (drop given front)
+    → Consumes (prepend_known (drop given front) u) (prepend_known (drop (given + n) front) u) (take n (copy ++ rest))
+given_again None front copy rest given n e within = tt
+given_again (Some more) front copy rest given n e within =
+    let D = drop given front in
+    let size : length copy ≡ n = ap length e ∙ length-take-le n D within in
+    let first : take n (copy ++ rest) ≡ take n D = take-append-le n copy rest (omega (arith, size)) ∙ take_all n copy (omega (arith, size)) ∙ e in
+    let whole : D ≡ take n D ++ drop (given + n) front = sym (take-append-drop n D) ∙ ap (λ xs. take n D ++ xs) (drop-drop n given front) in
+    rw first (ap (λ xs. xs ++ more) whole ∙ append_assoc (take n D) (drop (given + n) front) more)
+
+some_left : (n : ℕ) → false ≡ (n == 0) → n ≡ 0 → ⊥
+some_left zero e none = absurd cc
+some_left (suc n) e none = omega (arith, none)
+
+pub returns-clause-bytes : goal.returns-clause-bytes
+returns-clause-bytes g c =
+    let front = c.args.self.now.front in
+    let given = c.args.self.now.given in
+    let size : length front ≡ 4 = search rules in
+    let within : given ≤ 4 = search rules in
+    let left : take (4 - given) (drop given front) ≡ drop given front = take_all (4 - given) (drop given front) (omega (arith, length-drop given front, size, within)) in
+    let count : c.min-count.result ≡ min (length (drop given front)) (length c.args.buffer.now) = c.min-count.ensures ∙ ap (λ xs. min (length xs) (length c.args.buffer.now)) left in
+    let copy = c.copy_from_slice.ensures.after ∙ ap (take c.min-count.result) left in (
+      given_again (g.R.Source.unread c.args.self.now.source) front c.copy_from_slice.new.self _ given c.min-count.result copy (omega (arith, count)),
+      λ none some.
+          absurd (some_left (length (drop given front)) (c.if-is_empty.ensures ∙ ap (λ xs. length xs == 0) left)
+          (omega (arith, count, none, some, length-append c.copy_from_slice.new.self (drop c.min-count.result c.args.buffer.now), length-drop c.min-count.result c.args.buffer.now, c.copy_from_slice.ensures.len, length-take-le c.min-count.result c.args.buffer.now (omega (arith, count))))),
+    )
