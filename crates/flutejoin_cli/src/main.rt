@@ -17,7 +17,7 @@ use std::io::{self, BufReader, BufWriter, ErrorKind, Printer};
 use std::process::ExitCode;
 
 /// How many bytes are read, or written, at once.
-const BUFFER: usize = 65_536;
+const BUFFER: usize = 131_072;
 
 /// How many where journals are merged, which does little but copy: larger pieces are quicker there.
 const MERGE_BUFFER: usize = 131_072;
