@@ -31,7 +31,7 @@ mod text;
 mod writing;
 
 pub use blob::{Blob, BlobFault};
-pub use command_fault::{CommandFault, blob_fault};
+pub use command_fault::{CommandFault, at_input, blob_fault};
 pub use extract::{check_whole, extract_to};
 pub use gaps::gaps_to;
 pub use info::add_info;

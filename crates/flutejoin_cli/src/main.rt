@@ -7,9 +7,9 @@ use flute_parts::{Info, Key, StdSink, StdSource};
 use flute_store::Shelf;
 use flute_wire::Datagrams;
 use flutejoin::{
-    Blob, CommandFault, Joined, Line, add_info, blob_fault, check_whole, count_to, datagrams_of,
-    extract_to, gaps_to, join_inputs, line_of, load, merge_to, packet_to, save_to, send_to,
-    show_to,
+    Blob, CommandFault, Joined, Line, Opened, add_info, at_input, blob_fault, check_whole,
+    count_to, datagrams_of, extract_to, gaps_to, join_opened, line_of, load, merge_to, packet_to,
+    save_to, send_to, show_to,
 };
 use std::env;
 use std::fs::{self, File};
@@ -18,9 +18,6 @@ use std::process::ExitCode;
 
 /// How many bytes are read, or written, at once.
 const BUFFER: usize = 131_072;
-
-/// How many where journals are merged, which does little but copy: larger pieces are quicker there.
-const MERGE_BUFFER: usize = 131_072;
 
 type Input = StdSource<BufReader<File>>;
 
@@ -100,7 +97,7 @@ fn packet(rt: &HostRuntime, hex: &str) -> Result<(), CommandFault> {
 }
 
 fn show(rt: &HostRuntime, j: &str) -> Result<(), CommandFault> {
-    let mut input = input(rt, 1, j, BUFFER)?;
+    let mut input = input(rt, 1, j)?;
     let mut output = standard_output(rt)?;
     let shown = show_to(rt.alloc(), &mut input, &mut output);
     let flushed = output.flush().map_err(|_| CommandFault::CannotWrite);
@@ -118,7 +115,7 @@ fn gaps(rt: &HostRuntime, j: &str) -> Result<(), CommandFault> {
 fn extract(rt: &HostRuntime, out: &str, key: &Key, j: &str) -> Result<(), CommandFault> {
     let shelf = loaded(rt, j)?;
     check_whole(&shelf, key)?;
-    let mut file = output_file(rt, out, BUFFER)?;
+    let mut file = output_file(rt, out)?;
     let bytes = extract_to(&shelf, key, &mut file)?;
     file.flush().map_err(|_| CommandFault::CannotWrite)?;
     tell_count(rt, "bytes", bytes)
@@ -133,7 +130,7 @@ fn add_information(
 ) -> Result<(), CommandFault> {
     let mut shelf = loaded(rt, j)?;
     add_info(rt.alloc(), &mut shelf, key, info)?;
-    let mut file = output_file(rt, out, BUFFER)?;
+    let mut file = output_file(rt, out)?;
     let entries = save_to(&shelf, &mut file)?;
     file.flush().map_err(|_| CommandFault::CannotWrite)?;
     tell_count(rt, "entries", entries)
@@ -144,7 +141,7 @@ fn join(rt: &HostRuntime, out: &str, paths: &[&str]) -> Result<(), CommandFault>
     requires { length paths.now ≤ 64 }
 {
     let joined = joined(rt, paths)?;
-    let mut file = output_file(rt, out, BUFFER)?;
+    let mut file = output_file(rt, out)?;
     let entries = save_to(&joined.store, &mut file)?;
     file.flush().map_err(|_| CommandFault::CannotWrite)?;
     let mut output = standard_output(rt)?;
@@ -154,23 +151,24 @@ fn join(rt: &HostRuntime, out: &str, paths: &[&str]) -> Result<(), CommandFault>
     output.flush().map_err(|_| CommandFault::CannotWrite)
 }
 
-/// What the inputs come to. Each is read whole, one after the other, before any is looked at.
+/// What the inputs come to. Each is opened and its first bytes are read, one after the other, before any is looked at.
 fn joined(rt: &HostRuntime, paths: &[&str]) -> Result<Joined, CommandFault>
     requires { length paths.now ≤ 64 }
 {
     let mut inputs = Vec::new(rt.alloc());
     for (k, path) in paths.iter().enumerate() {
-        let input = whole_input(rt, k + 1, path)?;
-        inputs.push(input).map_err(|_| CommandFault::OutOfMemory)?;
+        let source = input(rt, k + 1, path)?;
+        let opened = at_input(k + 1, Opened::read(source))?;
+        inputs.push(opened).map_err(|_| CommandFault::OutOfMemory)?;
     }
-    join_inputs(rt.alloc(), inputs.as_slice())
+    join_opened(rt.alloc(), &mut inputs)
 }
 
 /// Creates the file once both inputs are open. What was merged before a fault stays in it.
 fn merge(rt: &HostRuntime, out: &str, a: &str, b: &str) -> Result<(), CommandFault> {
-    let mut first = input(rt, 1, a, MERGE_BUFFER)?;
-    let mut second = input(rt, 2, b, MERGE_BUFFER)?;
-    let mut file = output_file(rt, out, MERGE_BUFFER)?;
+    let mut first = input(rt, 1, a)?;
+    let mut second = input(rt, 2, b)?;
+    let mut file = output_file(rt, out)?;
     let merged = merge_to(rt.alloc(), &mut first, &mut second, &mut file);
     let flushed = file.flush().map_err(|_| CommandFault::CannotWrite);
     let entries = merged?;
@@ -179,12 +177,12 @@ fn merge(rt: &HostRuntime, out: &str, a: &str, b: &str) -> Result<(), CommandFau
 }
 
 fn whole_input(rt: &HostRuntime, number: usize, path: &str) -> Result<Blob, CommandFault> {
-    let mut input = input(rt, number, path, BUFFER)?;
+    let mut input = input(rt, number, path)?;
     Blob::read(rt.alloc(), &mut input).map_err(|fault| blob_fault(number, fault))
 }
 
 fn send(rt: &HostRuntime, out: &str, datagrams: &Datagrams) -> Result<(), CommandFault> {
-    let mut file = output_file(rt, out, BUFFER)?;
+    let mut file = output_file(rt, out)?;
     let count = send_to(datagrams, &mut file)?;
     file.flush().map_err(|_| CommandFault::CannotWrite)?;
     tell_count(rt, "datagrams", count)
@@ -201,19 +199,14 @@ fn tell_count(rt: &HostRuntime, word: &str, count: u64) -> Result<(), CommandFau
 
 /// The store that a journal makes.
 fn loaded(rt: &HostRuntime, path: &str) -> Result<Shelf, CommandFault> {
-    let mut input = input(rt, 1, path, BUFFER)?;
+    let mut input = input(rt, 1, path)?;
     load(rt.alloc(), &mut input)
 }
 
 /// Opens the input with this number, from 1. A folder is none.
-fn input(
-    rt: &HostRuntime,
-    number: usize,
-    path: &str,
-    buffer: usize,
-) -> Result<Input, CommandFault> {
+fn input(rt: &HostRuntime, number: usize, path: &str) -> Result<Input, CommandFault> {
     let file = file_at(rt, path).map_err(|_| CommandFault::CannotOpen(number))?;
-    let reader = BufReader::with_capacity(rt.alloc(), buffer, file).map_err(
+    let reader = BufReader::with_capacity(rt.alloc(), BUFFER, file).map_err(
         |_| CommandFault::OutOfMemory,
     )?;
     Ok(StdSource::new(reader))
@@ -227,9 +220,9 @@ fn file_at(rt: &HostRuntime, path: &str) -> io::Result<File> {
     Ok(file)
 }
 
-fn output_file(rt: &HostRuntime, path: &str, buffer: usize) -> Result<OutputFile, CommandFault> {
+fn output_file(rt: &HostRuntime, path: &str) -> Result<OutputFile, CommandFault> {
     let file = fs::create(rt, path).map_err(|_| CommandFault::CannotCreate)?;
-    let writer = BufWriter::with_capacity(rt.alloc(), buffer, file).map_err(
+    let writer = BufWriter::with_capacity(rt.alloc(), BUFFER, file).map_err(
         |_| CommandFault::OutOfMemory,
     )?;
     Ok(StdSink::new(writer))
