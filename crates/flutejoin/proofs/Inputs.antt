@@ -9,7 +9,6 @@ use Rattle.std.proofs.lemmas.Grind.{flat_map-append}
 use Rattle.std.proofs.lemmas.Option.{slice_get_within, slice_get-map, slice_get-get_or}
 use Rattle.flute_parts.specs.declared.fact.Fact.{Fact}
 use Rattle.flute_parts.specs.Facts.{Same}
-use Rattle.flute_parts.specs.Limits.{Over}
 use Rattle.flute_parts.proofs.Facts.{Below-trans, Same-itself, Same-sym, Same-trans, Same-append, Below-from_Same}
 use Rattle.flute_parts.proofs.Named.{Over-below}
 use Rattle.flute_wire.specs.Reading.{facts}
@@ -18,10 +17,11 @@ use Rattle.flute_journal.specs.declared.fault.ReadFault.{ReadFault}
 use Rattle.flute_journal.specs.declared.fault.ReadFault.TheVariants.{Read}
 use Rattle.flutejoin.specs.declared.joining.Kind.TheVariants.{Journal, Datagrams}
 use Rattle.flutejoin.proofs.Mapped.{read_failed}
-use Rattle.flute_journal.specs.Stores.{IsJournalOf, BeginsOver, HoldsBoth, JoinsJournal}
+use Rattle.flute_journal.specs.Stores.{IsJournalOf, HoldsBoth, JoinsJournal}
 use Rattle.flute_journal.specs.Whole.{HasFault}
 use Rattle.flutejoin.specs.Load.{LoadFails}
 use Rattle.flutejoin.specs.Show.{read_failures}
+use Rattle.flutejoin.specs.Shelves.{IsOverShelf, BeginsOverShelf}
 use Rattle.flutejoin.specs.Refused.{is_refused}
 use Rattle.flutejoin.specs.declared.limits.TheConstants.{MAX_ENTRIES}
 use Rattle.flutejoin.specs.declared.joining.Joined.{Joined}
@@ -95,8 +95,8 @@ takes_more before now after ds d all one =
     counted m n k false e = omega (arith, e)
 
 -- what a first part of them is over, all are
-over_part : (before now : Joined) (ds : List (List ℕ)) (k : ℕ) (d : List ℕ) → slice_get ds k ≡ Some d → TakesDatagrams before (take k ds) now → Over (now.store ++ facts d) 64 4096 1048576
-    → Over (before.store ++ flat_map facts ds) 64 4096 1048576
+over_part : (before now : Joined) (ds : List (List ℕ)) (k : ℕ) (d : List ℕ) → slice_get ds k ≡ Some d → TakesDatagrams before (take k ds) now → IsOverShelf (now.store ++ facts d)
+    → IsOverShelf (before.store ++ flat_map facts ds)
 over_part before now ds k d e all over =
     let F = flat_map facts (take k ds) in
     let G = before.store ++ F in
@@ -114,13 +114,13 @@ pub datagrams_fail : (before now : Joined) (ds : List (List ℕ)) (k : ℕ) (d :
 datagrams_fail before now ds k d fault e all (inl full) = inl (full.0, over_part before now ds k d e all full.1)
 datagrams_fail before now ds k d fault e all (inr is) = inr is
 
-pub store_over : (F : List Fact) (fault : CommandFault) → StoreFails F fault → fault ≡ Full → Over F 64 4096 1048576
+pub store_over : (F : List Fact) (fault : CommandFault) → StoreFails F fault → fault ≡ Full → IsOverShelf F
 store_over F fault (inl full) is = full.1
 store_over F fault (inr memory) is = let e = sym memory ∙ is in absurd cc
 
 -- datagrams that a store refused are an input that is over the limits alone
 pub file_fails : (number : ℕ) (bytes : List ℕ) (ds : List (List ℕ)) (none : Joined) (fault : CommandFault) → IsFileWithin MAX_ENTRIES bytes ds → none.store ≡ [] → StoreFails (none.store ++ flat_map facts ds) fault → InputFails number bytes fault
-file_fails number bytes ds none fault file empty (inl full) = alone_over full.0 (inr (ds, file, subst (λ F. Over (F ++ flat_map facts ds) 64 4096 1048576) empty full.1))
+file_fails number bytes ds none fault file empty (inl full) = alone_over full.0 (inr (ds, file, subst (λ F. IsOverShelf (F ++ flat_map facts ds)) empty full.1))
 file_fails number bytes ds none fault file empty (inr is) = no_memory is
 
 pub place_of : {A B : Type 0} (v : A → B) (xs : List A) (k : ℕ) (d : A) → k < length xs → slice_get (map v xs) k ≡ Some (v (get_or xs k d))
@@ -159,7 +159,7 @@ joins_journal bytes F journal = record {
   refused = refl;
 }
 
-within_journal : (bytes : List ℕ) (F : List Fact) → IsJournalOf MAX_ENTRIES bytes F → ¬ Over F 64 4096 1048576 → TellsWithin bytes
+within_journal : (bytes : List ℕ) (F : List Fact) → IsJournalOf MAX_ENTRIES bytes F → ¬ IsOverShelf F → TellsWithin bytes
 within_journal bytes F journal within = (
   of_journal journal.0,
   journal.1,
@@ -184,7 +184,7 @@ takes_both : (before now : Joined) (ds : List (List ℕ)) → TakesDatagrams bef
 takes_both before now ds h = record { content = h.content; datagrams = h.count; refused = h.refused }
 
 -- a file whose datagrams were taken, within the limits
-pub file_added : (bytes : List ℕ) (ds : List (List ℕ)) (before now : Joined) → IsFileWithin MAX_ENTRIES bytes ds → TakesDatagrams before ds now → ¬ Over now.store 64 4096 1048576 → Adds bytes before now true
+pub file_added : (bytes : List ℕ) (ds : List (List ℕ)) (before now : Joined) → IsFileWithin MAX_ENTRIES bytes ds → TakesDatagrams before ds now → ¬ IsOverShelf now.store → Adds bytes before now true
 file_added bytes ds before now file takes within =
     let F = flat_map facts ds in record {
       own = own_file ds;
@@ -200,8 +200,8 @@ file_added bytes ds before now file takes within =
     }
 
 -- one that is over them with what came before, and within them alone
-pub file_beyond : (bytes : List ℕ) (ds : List (List ℕ)) (before now none alone : Joined) → IsFileWithin MAX_ENTRIES bytes ds → Over (before.store ++ flat_map facts ds) 64 4096 1048576 → none.store ≡ [] → TakesDatagrams none ds alone
-    → ¬ Over alone.store 64 4096 1048576 → Adds bytes before now false
+pub file_beyond : (bytes : List ℕ) (ds : List (List ℕ)) (before now none alone : Joined) → IsFileWithin MAX_ENTRIES bytes ds → IsOverShelf (before.store ++ flat_map facts ds) → none.store ≡ [] → TakesDatagrams none ds alone
+    → ¬ IsOverShelf alone.store → Adds bytes before now false
 file_beyond bytes ds before now none alone file over empty takes within =
     let F = flat_map facts ds in
     let same : Same alone.store F = subst (λ G. Same alone.store (G ++ F)) empty takes.content in
@@ -252,7 +252,7 @@ journal_fails number input bytes (Input told f) known kind h none =
         let e : read_failures {T = Bool} (Err (Input told Read)) ≡ 0 = subst (λ g. read_failures {T = Bool} (Err (Input told g)) ≡ 0) is none in
         absurd cc
 journal_fails number input bytes Full known kind h none =
-    let P : Option (List ℕ) → Type 0 = λ o. IfSome o (BeginsOver 64 4096 1048576 MAX_ENTRIES) in
+    let P : Option (List ℕ) → Type 0 = λ o. IfSome o BeginsOverShelf in
     alone_over refl (inl (kind, subst P known h))
 journal_fails number input bytes OutOfMemory known kind h none = no_memory refl
 journal_fails number input bytes fault known kind h none = absurd h
@@ -284,7 +284,7 @@ joins_append A B before own now a b both =
       refused = rw (all, count_by-append is_refused (flat_map told_datagrams a.told) (flat_map told_datagrams b.told), ← a.refused, ← b.refused) both.refused;
     }
 
-over_both : (A B : List (List ℕ)) (before own : Joined) → Joins A before → Joins B own → Over (before.store ++ own.store) 64 4096 1048576 → TellOver (A ++ B)
+over_both : (A B : List (List ℕ)) (before own : Joined) → Joins A before → Joins B own → IsOverShelf (before.store ++ own.store) → TellOver (A ++ B)
 over_both A B before own a b over =
     let F = flat_map told_facts a.told in
     let G = flat_map told_facts b.told in (

@@ -2,15 +2,14 @@
 use Rattle.std.specs.Prelude.{◌≡◌, ◌≢◌, ℕ, ◌+◌, List, [], ◌∷◌, ◌++◌, length, take, Some, Bool, true, false, if◌then◌else◌, ⊤, ◌⊎◌}
 use Rattle.std.specs.List.{flat_map, count_by, AllByRecursion}
 use Rattle.flute_parts.specs.Facts.{Same}
-use Rattle.flute_parts.specs.Limits.{Over}
 use Rattle.flute_parts.specs.declared.fact.Fact.{Fact}
 use Rattle.flute_wire.specs.Reading.{facts}
 use Rattle.flute_journal.specs.Journal.{IsJournalWithin}
 use Rattle.flute_journal.specs.Records.{IsFileWithin, HasFileFault}
-use Rattle.flute_journal.specs.Stores.{BeginsOver}
 use Rattle.flute_journal.specs.Whole.{HasFault}
 use Rattle.flute_journal.specs.declared.fault.ReadFault.{ReadFault}
 use Rattle.flute_journal.specs.declared.fault.ReadFault.TheVariants.{Read}
+use Rattle.flutejoin.specs.Shelves.{IsOverShelf, BeginsOverShelf}
 use Rattle.flutejoin.specs.Refused.{is_refused}
 use Rattle.flutejoin.specs.declared.limits.TheConstants.{MAX_ENTRIES}
 use Rattle.flutejoin.specs.declared.joining.Joined.{Joined}
@@ -82,17 +81,17 @@ IsKnown bytes = HasKind Journal bytes ⊎ ((datagrams : List (List ℕ)) × IsFi
 
 -- an input that tells facts within the limits of a store
 abbrev pub TellsWithin : List ℕ → Type 0
-TellsWithin bytes = (told : Told) × Tells bytes told × ¬ Over (told_facts told) 64 4096 1048576
+TellsWithin bytes = (told : Told) × Tells bytes told × ¬ IsOverShelf (told_facts told)
 
 -- an input that is over these limits alone
 abbrev pub IsOverAlone : List ℕ → Type 0
 IsOverAlone bytes =
-    (HasKind Journal bytes × BeginsOver 64 4096 1048576 MAX_ENTRIES bytes)
-    ⊎ ((datagrams : List (List ℕ)) × IsFileWithin MAX_ENTRIES bytes datagrams × Over (flat_map facts datagrams) 64 4096 1048576)
+    (HasKind Journal bytes × BeginsOverShelf bytes)
+    ⊎ ((datagrams : List (List ℕ)) × IsFileWithin MAX_ENTRIES bytes datagrams × IsOverShelf (flat_map facts datagrams))
 
 -- inputs that are over them together
 abbrev pub TellOver : List (List ℕ) → Type 0
-TellOver inputs = (told : List Told) × TellAll inputs told × Over (flat_map told_facts told) 64 4096 1048576
+TellOver inputs = (told : List Told) × TellAll inputs told × IsOverShelf (flat_map told_facts told)
 
 -- a journal, or a datagram file, with this fault; memory may run out at any entry or record
 abbrev pub IsJournalAt : ReadFault → List ℕ → Type 0
@@ -130,7 +129,7 @@ pub data InputFails (number : ℕ) (bytes : List ℕ) (fault : CommandFault) : T
 
 -- facts are over the limits, or there is no memory for them
 abbrev pub StoreFails : List Fact → CommandFault → Type 0
-StoreFails told fault = ((fault ≡ Full) × Over told 64 4096 1048576) ⊎ (fault ≡ OutOfMemory)
+StoreFails told fault = ((fault ≡ Full) × IsOverShelf told) ⊎ (fault ≡ OutOfMemory)
 
 -- one more datagram, and whether it is refused, are counted, and its facts are held
 pub record TakesDatagram (before : Joined) (datagram : List ℕ) (now : Joined) : Type 0 where
@@ -153,7 +152,7 @@ pub record JoinsBoth (before own now : Joined) : Type 0 where
 -- whether both are within the limits together
 abbrev pub JoinAnswers : Joined → Joined → Joined → Bool → Type 0
 JoinAnswers before own now true = JoinsBoth before own now
-JoinAnswers before own now false = Over (before.store ++ own.store) 64 4096 1048576
+JoinAnswers before own now false = IsOverShelf (before.store ++ own.store)
 
 -- an input that is within the limits alone was joined to what came before, or is over them together with it
 pub record Adds (bytes : List ℕ) (before now : Joined) (fits : Bool) : Type 0 where

@@ -4,6 +4,7 @@ pub mod Status
 pub mod Packet
 pub mod Show
 pub mod Objects
+pub mod Shelves
 pub mod Load
 pub mod Extract
 pub mod Held

@@ -1,7 +1,7 @@
 -- Why a journal is not read into a store.
 use Rattle.std.specs.Prelude.{◌≡◌, ℕ, List, Option, ⊤, IfSome}
-use Rattle.flute_journal.specs.Stores.{BeginsOver}
 use Rattle.flute_journal.specs.Whole.{HasFault}
+use Rattle.flutejoin.specs.Shelves.{BeginsOverShelf}
 use Rattle.flutejoin.specs.declared.limits.TheConstants.{MAX_ENTRIES}
 use Rattle.flutejoin.specs.declared.command_fault.CommandFault.{CommandFault}
 use Rattle.flutejoin.specs.declared.command_fault.CommandFault.TheVariants.{Input, Full, OutOfMemory}
@@ -10,7 +10,7 @@ use Rattle.flutejoin.specs.declared.command_fault.CommandFault.TheVariants.{Inpu
 -- run out at any entry
 abbrev pub LoadFails : ℕ → Option (List ℕ) → CommandFault → Type 0
 LoadFails number input (Input told fault) = (told ≡ number) × HasFault MAX_ENTRIES input fault
-LoadFails number input Full = IfSome input (BeginsOver 64 4096 1048576 MAX_ENTRIES)
+LoadFails number input Full = IfSome input BeginsOverShelf
 LoadFails number input OutOfMemory = ⊤
 LoadFails number input _ = ⊥
 

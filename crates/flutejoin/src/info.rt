@@ -1,7 +1,7 @@
 //! The command `info`: information that is entered by hand.
 ghost use Rattle.std.specs.Prelude.{◌≡◌, ◌↔◌, [], ◌∷◌, ◌++◌, OnOk, OnErr, IfErr};
 ghost use Rattle.flute_parts.specs.Facts.{Same};
-ghost use Rattle.flute_parts.specs.Limits.{Over};
+ghost use Rattle.flutejoin.specs.Shelves.{IsOverShelf};
 ghost use Rattle.flute_parts.specs.declared.fact.Fact.TheVariants.{Info as InfoFact};
 ghost use Rattle.flutejoin.specs.Load.{IsRefusal};
 
@@ -22,7 +22,7 @@ pub fn add_info(alloc: Global, shelf: &mut Shelf, key: Key, info: Info) -> Resul
     ensures added { OnOk result (Same shelf.new (shelf.old ++ InfoFact key info ∷ [])) }
     ensures unchanged { OnErr result (shelf.new ≡ shelf.old) }
     ensures fault { IfErr result IsRefusal }
-    ensures full { (result ≡ Err CommandFault.Full) ↔ Over (shelf.old ++ InfoFact key info ∷ []) 64 4096 1048576 }
+    ensures full { (result ≡ Err CommandFault.Full) ↔ IsOverShelf (shelf.old ++ InfoFact key info ∷ []) }
 {
     match shelf.add(alloc, &Fact::Info { key, info }) {
         Ok(()) => Ok(()),

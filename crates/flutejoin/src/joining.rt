@@ -1,7 +1,7 @@
 //! The inputs of several stations, joined.
 ghost use Rattle.std.specs.Prelude.{◌≡◌, ◌≢◌, ◌≤◌, ◌<◌, ◌+◌, ◌^◌, [], ◌∷◌, ◌++◌, length, map, Some, IfSome, IfOk, IfErr, OnOk, MatchOption};
 ghost use Rattle.std.specs.List.{AllByRecursion, flat_map};
-ghost use Rattle.flute_parts.specs.Limits.{Over};
+ghost use Rattle.flutejoin.specs.Shelves.{IsOverShelf};
 ghost use Rattle.flute_wire.specs.Reading.{facts};
 ghost use Rattle.flutejoin.specs.declared.limits.TheConstants.{MAX_ENTRIES};
 ghost use Rattle.flutejoin.specs.Load.{LoadFails};
@@ -67,7 +67,7 @@ impl Joined {
         requires room { self.now.datagrams + MAX_ENTRIES < 2 ^ 64 }
         requires refused { self.now.refused ≤ self.now.datagrams }
         ensures taken { OnOk result (TakesDatagrams self.old (map (λ d. d.now) datagrams.now) self.new) }
-        ensures within { OnOk result (¬ Over self.new.store 64 4096 1048576) }
+        ensures within { OnOk result (¬ IsOverShelf self.new.store) }
         ensures failed { IfErr result (StoreFails (self.old.store ++ flat_map facts (map (λ d. d.now) datagrams.now))) }
     {
         for datagram in datagrams {
