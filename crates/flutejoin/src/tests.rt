@@ -2,6 +2,7 @@ mod driven;
 mod files;
 mod joining;
 mod objects;
+mod opened;
 mod outputs;
 mod run_vectors;
 mod runs;

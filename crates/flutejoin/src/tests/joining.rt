@@ -11,26 +11,26 @@ use std::test::Fail;
 
 // A file of two datagrams: the first symbol of a file and its last, each with the information. Then the same with a datagram
 // between them that is refused, and the first alone, cut.
-const TWO: &str = "464C44470001
+pub const TWO: &str = "464C44470001
     0028 10A00800 00000000 00000007 00000001 40040000 00000005 00000004 00000002 00000000 68656C6C
     0025 10A00800 00000000 00000007 00000001 40040000 00000005 00000004 00000002 00000001 6F";
 
-const REFUSED_BETWEEN: &str = "464C44470001
+pub const REFUSED_BETWEEN: &str = "464C44470001
     0028 10A00800 00000000 00000007 00000001 40040000 00000005 00000004 00000002 00000000 68656C6C
     0003 10A000
     0025 10A00800 00000000 00000007 00000001 40040000 00000005 00000004 00000002 00000001 6F";
 
-const CUT: &str = "464C44470001
+pub const CUT: &str = "464C44470001
     0028 10A00800 00000000 00000007 00000001 40040000 00000005 00000004 00000002 00000000 68656C";
 
 // Neither a journal nor a datagram file, though it begins as both do.
-const NEITHER: &str = "46";
+pub const NEITHER: &str = "46";
 
-fn blob(alloc: Global, bytes: &[u8]) -> Result<Blob, Fail> {
+pub fn blob(alloc: Global, bytes: &[u8]) -> Result<Blob, Fail> {
     Ok(Blob::read(alloc, &mut MemorySource::new(bytes))?)
 }
 
-fn blobs(alloc: Global, texts: &[&str]) -> Result<Vec<Blob>, Fail> {
+pub fn blobs(alloc: Global, texts: &[&str]) -> Result<Vec<Blob>, Fail> {
     let mut blobs = Vec::new(alloc);
     for text in texts {
         let bytes = bytes(alloc, text)?;
@@ -40,7 +40,7 @@ fn blobs(alloc: Global, texts: &[&str]) -> Result<Vec<Blob>, Fail> {
 }
 
 // A journal of conflicting information of file 1 of each of these sessions.
-fn conflicts(alloc: Global, sessions: Range<u8>) -> Result<Blob, Fail> {
+pub fn conflicts(alloc: Global, sessions: Range<u8>) -> Result<Blob, Fail> {
     let mut journal = bytes(alloc, "464C4A4E0001")?;
     let mut count = 0_u8;
     for tsi in sessions {
@@ -53,14 +53,14 @@ fn conflicts(alloc: Global, sessions: Range<u8>) -> Result<Blob, Fail> {
     blob(alloc, &journal)
 }
 
-fn join(alloc: Global, inputs: &[Blob]) -> Result<Joined, CommandFault> {
+pub fn join(alloc: Global, inputs: &[Blob]) -> Result<Joined, CommandFault> {
     if inputs.len() > 64 {
         return Err(CommandFault::NotText);
     }
     join_inputs(alloc, inputs)
 }
 
-fn journal_of(alloc: Global, joined: &Joined) -> Result<MemorySink, Fail> {
+pub fn journal_of(alloc: Global, joined: &Joined) -> Result<MemorySink, Fail> {
     let mut sink = MemorySink::new(alloc);
     write_store(&joined.store, &mut sink)?;
     Ok(sink)
