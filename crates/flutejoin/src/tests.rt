@@ -1,10 +1,10 @@
+mod datagrams;
 mod driven;
 mod files;
 mod joining;
 mod objects;
 mod opened;
 mod outputs;
-mod run_vectors;
 mod runs;
 mod show;
 mod shuffled;

@@ -1,6 +1,6 @@
 //! Worked examples of steps of which some are refused.
-use super::run_vectors as vectors;
 use super::runs::{add_first, assert_writes, file, load, ring, take};
+use super::{datagrams, vectors};
 use crate::{Replicas, Step};
 use flute_parts::{Address, FactRef, Info, MemorySink, Part, SymbolId};
 use flute_store::Store;
@@ -37,10 +37,10 @@ fn told(store: &Store<1, 1, 2>, address: Option<Address>) -> Option<FactRef<'_>>
 fn a_step_without_room_is_passed(rt: HostRuntime) -> Result<(), Fail> {
     let mut replicas = Replicas::<1, 1, 1>::new(rt.alloc(), 1)?;
     let steps = [
-        take(rt.alloc(), 0, vectors::FIRST)?,
-        take(rt.alloc(), 0, vectors::LAST)?,
-        take(rt.alloc(), 0, vectors::REFUSED)?,
-        take(rt.alloc(), 0, vectors::FIRST)?,
+        take(rt.alloc(), 0, datagrams::FIRST)?,
+        take(rt.alloc(), 0, datagrams::LAST)?,
+        take(rt.alloc(), 0, datagrams::REFUSED)?,
+        take(rt.alloc(), 0, datagrams::FIRST)?,
     ];
     let mut done = [false; 4];
     replicas.drive(rt.alloc(), &steps, &mut done);
@@ -52,10 +52,10 @@ fn a_step_without_room_is_passed(rt: HostRuntime) -> Result<(), Fail> {
 /// Two replicas that together pass the limits.
 fn overfull(alloc: Global) -> Result<Vec<Step>, Fail> {
     let mut steps = Vec::new(alloc);
-    steps.push(take(alloc, 0, vectors::FIRST)?)?;
-    steps.push(take(alloc, 0, vectors::LAST)?)?;
-    steps.push(take(alloc, 1, vectors::INFO_ALONE)?)?;
-    steps.push(take(alloc, 1, vectors::STRAY)?)?;
+    steps.push(take(alloc, 0, datagrams::FIRST)?)?;
+    steps.push(take(alloc, 0, datagrams::LAST)?)?;
+    steps.push(take(alloc, 1, datagrams::INFO_ALONE)?)?;
+    steps.push(take(alloc, 1, datagrams::STRAY)?)?;
     steps.push(Step::Merge { into: 0, from: 1 })?;
     Ok(steps)
 }
@@ -99,10 +99,10 @@ fn a_refused_merge_loses_nothing(rt: HostRuntime) -> Result<(), Fail> {
 fn the_steps_after_a_refusal_are_done(rt: HostRuntime) -> Result<(), Fail> {
     let mut replicas = Replicas::<64, 4096, 1_048_576>::new(rt.alloc(), 1)?;
     let steps = [
-        take(rt.alloc(), 0, vectors::INFO_AND_FIRST)?,
+        take(rt.alloc(), 0, datagrams::INFO_AND_FIRST)?,
         Step::Merge { into: 0, from: 1 },
         load(rt.alloc(), 0, vectors::SWAPPED)?,
-        take(rt.alloc(), 0, vectors::INFO_AND_LAST)?,
+        take(rt.alloc(), 0, datagrams::INFO_AND_LAST)?,
     ];
     let mut done = [false; 4];
     replicas.drive(rt.alloc(), &steps, &mut done);

@@ -9,12 +9,7 @@ use std::alloc::Global;
 use std::ops::Range;
 use std::test::Fail;
 
-// A file of two datagrams: the first symbol of a file and its last, each with the information. Then the same with a datagram
-// between them that is refused, and the first alone, cut.
-pub const TWO: &str = "464C44470001
-    0028 10A00800 00000000 00000007 00000001 40040000 00000005 00000004 00000002 00000000 68656C6C
-    0025 10A00800 00000000 00000007 00000001 40040000 00000005 00000004 00000002 00000001 6F";
-
+// The file of two datagrams with one between them that is refused, and its first alone, cut.
 pub const REFUSED_BETWEEN: &str = "464C44470001
     0028 10A00800 00000000 00000007 00000001 40040000 00000005 00000004 00000002 00000000 68656C6C
     0003 10A000
@@ -69,10 +64,10 @@ pub fn journal_of(alloc: Global, joined: &Joined) -> Result<MemorySink, Fail> {
 #[test]
 fn journals_and_datagrams_are_joined(rt: HostRuntime) -> Result<(), Fail> {
     let rows: [(&[&str], u64, u64, &str); 6] = [
-        (&[TWO, vectors::WHOLE], 2, 0, vectors::WHOLE),
+        (&[vectors::DATAGRAMS, vectors::WHOLE], 2, 0, vectors::WHOLE),
         (&[REFUSED_BETWEEN], 3, 1, vectors::WHOLE),
         (
-            &[vectors::WHOLE, TWO, REFUSED_BETWEEN],
+            &[vectors::WHOLE, vectors::DATAGRAMS, REFUSED_BETWEEN],
             5,
             1,
             vectors::WHOLE,
@@ -135,7 +130,7 @@ fn the_first_fault_is_told(rt: HostRuntime) -> Result<(), Fail> {
         (&[vectors::WHOLE, vectors::SWAPPED], "input 2: Order"),
         // the kinds and the datagram files come before the journals
         (&[vectors::SWAPPED, NEITHER], "input 2: unknown kind"),
-        (&[vectors::SWAPPED, TWO, CUT], "input 3: Cut"),
+        (&[vectors::SWAPPED, vectors::DATAGRAMS, CUT], "input 3: Cut"),
         (&[CUT, NEITHER], "input 1: Cut"),
         (&[vectors::SWAPPED, "464C4A4E0001"], "input 1: Order"),
     ];

@@ -1,9 +1,7 @@
 //! Inputs that are joined as they are read come to what they come to in memory, or have the same fault.
 ghost use Rattle.std.specs.Prelude.{◌<◌};
 
-use super::joining::{
-    CUT, NEITHER, REFUSED_BETWEEN, TWO, blob, blobs, conflicts, join, journal_of,
-};
+use super::joining::{CUT, NEITHER, REFUSED_BETWEEN, blob, blobs, conflicts, join, journal_of};
 use super::vectors::{self, bytes};
 use crate::{Blob, CommandFault, Joined, Opened, at_input, join_opened};
 use flute_parts::{MemorySource, ShortSource, Source};
@@ -71,11 +69,11 @@ fn opened_inputs_come_to_what_they_are(rt: HostRuntime) -> Result<(), Fail> {
         &[],
         &[vectors::NOTHING],
         &[vectors::WHOLE],
-        &[TWO],
+        &[vectors::DATAGRAMS],
         &["464C44470001"],
-        &[TWO, vectors::WHOLE],
+        &[vectors::DATAGRAMS, vectors::WHOLE],
         &[REFUSED_BETWEEN],
-        &[vectors::WHOLE, TWO, REFUSED_BETWEEN],
+        &[vectors::WHOLE, vectors::DATAGRAMS, REFUSED_BETWEEN],
         &[vectors::NOTHING, vectors::CONFLICT],
         &[vectors::OTHERS, vectors::JOINED, vectors::DATAGRAMS],
         // neither, and too short to be either
@@ -90,7 +88,7 @@ fn opened_inputs_come_to_what_they_are(rt: HostRuntime) -> Result<(), Fail> {
         &[CUT],
         &[vectors::WHOLE, vectors::SWAPPED],
         &[vectors::SWAPPED, NEITHER],
-        &[vectors::SWAPPED, TWO, CUT],
+        &[vectors::SWAPPED, vectors::DATAGRAMS, CUT],
         &[vectors::SWAPPED, "464C4A4E0001"],
     ];
     for texts in rows {
@@ -155,8 +153,8 @@ fn opened_inputs_over_the_limits_are_told(rt: HostRuntime) -> Result<(), Fail> {
 
 #[test]
 fn a_failed_source_is_told_at_its_place(rt: HostRuntime) -> Result<(), Fail> {
-    for short in [vectors::WHOLE, TWO] {
-        let inputs = blobs(rt.alloc(), &[TWO, short, vectors::OTHERS])?;
+    for short in [vectors::WHOLE, vectors::DATAGRAMS] {
+        let inputs = blobs(rt.alloc(), &[vectors::DATAGRAMS, short, vectors::OTHERS])?;
         let count = bytes(rt.alloc(), short)?.len();
         for good in 0..=count {
             let fault = join_pieces(rt.alloc(), &inputs, 1, 2, good)
@@ -172,12 +170,12 @@ fn a_failed_source_is_told_at_its_place(rt: HostRuntime) -> Result<(), Fail> {
     }
     // the first bytes, then the datagram files, and the journals last
     let rows: [(&[&str], usize, &str); 6] = [
-        (&[NEITHER, TWO], 3, "input 2: Read"),
-        (&[NEITHER, TWO], 4, "input 1: unknown kind"),
-        (&[vectors::SWAPPED, TWO], 4, "input 2: Read"),
+        (&[NEITHER, vectors::DATAGRAMS], 3, "input 2: Read"),
+        (&[NEITHER, vectors::DATAGRAMS], 4, "input 1: unknown kind"),
+        (&[vectors::SWAPPED, vectors::DATAGRAMS], 4, "input 2: Read"),
         (&[vectors::SWAPPED, vectors::WHOLE], 4, "input 1: Order"),
         (&[vectors::SWAPPED, vectors::WHOLE], 3, "input 2: Read"),
-        (&[CUT, TWO], 4, "input 1: Cut"),
+        (&[CUT, vectors::DATAGRAMS], 4, "input 1: Cut"),
     ];
     for (texts, good, line) in rows {
         let inputs = blobs(rt.alloc(), texts)?;

@@ -1,6 +1,7 @@
 //! Worked examples of what is written after runs, and of whole inputs.
-use super::run_vectors as vectors;
+use super::datagrams;
 use super::runs::{file, take};
+use super::vectors::{self, bytes};
 use crate::{Blob, BlobFault, OutputFault, RunFault, StepFault, journal_after, laws, object_after};
 use flute_journal::SaveFault;
 use flute_parts::{MemorySink, MemorySource, ShortSink, ShortSource};
@@ -10,16 +11,13 @@ use std::test::Fail;
 #[test]
 fn a_journal_is_written_after_a_run(rt: HostRuntime) -> Result<(), Fail> {
     let steps = [
-        take(rt.alloc(), 0, vectors::INFO_AND_FIRST)?,
-        take(rt.alloc(), 0, vectors::INFO_AND_LAST)?,
+        take(rt.alloc(), 0, datagrams::INFO_AND_FIRST)?,
+        take(rt.alloc(), 0, datagrams::INFO_AND_LAST)?,
     ];
     let mut sink = MemorySink::new(rt.alloc());
     let written = journal_after::<64, 4096, 1_048_576, _>(rt.alloc(), 1, &steps, 0, &mut sink);
     assert_eq!(rt; written, Ok(3));
-    let mut wanted = Vec::new(rt.alloc());
-    for part in vectors::WHOLE {
-        wanted.extend_from_slice(&hex::decode(rt.alloc(), part)?)?;
-    }
+    let wanted = bytes(rt.alloc(), vectors::WHOLE)?;
     assert_eq!(rt; sink.as_slice(), wanted.as_slice());
     let mut short = ShortSink::new(rt.alloc(), 109);
     let written = journal_after::<64, 4096, 1_048_576, _>(rt.alloc(), 1, &steps, 0, &mut short);
@@ -40,8 +38,8 @@ fn a_journal_is_written_after_a_run(rt: HostRuntime) -> Result<(), Fail> {
 fn an_object_is_written_after_a_run(rt: HostRuntime) -> Result<(), Fail> {
     let key = file().ok_or("a key")?;
     let steps = [
-        take(rt.alloc(), 0, vectors::FIRST)?,
-        take(rt.alloc(), 1, vectors::INFO_AND_LAST)?,
+        take(rt.alloc(), 0, datagrams::FIRST)?,
+        take(rt.alloc(), 1, datagrams::INFO_AND_LAST)?,
         crate::Step::Merge { into: 0, from: 1 },
     ];
     let mut sink = MemorySink::new(rt.alloc());

@@ -1,7 +1,8 @@
 //! Worked examples of runs of replicas.
 ghost use Rattle.std.specs.Prelude.{◌+◌, ◌*◌, ◌<◌, ◌^◌};
 
-use super::run_vectors as vectors;
+use super::datagrams;
+use super::vectors::{self, bytes};
 use crate::{
     Blob, BlobFault, OutputFault, Replicas, RunFault, Step, StepFault, journal_after, object_after,
     run,
@@ -25,18 +26,10 @@ pub fn take(alloc: Global, replica: u32, hex: &str) -> Result<Step, Fail> {
     Ok(Step::Take { replica, datagram })
 }
 
-pub fn load(alloc: Global, replica: u32, journal: &[&str]) -> Result<Step, Fail> {
-    let bytes = hex::decode(alloc, joined(alloc, journal)?.as_str())?;
-    let journal = Blob::read(alloc, &mut MemorySource::new(&bytes))?;
+pub fn load(alloc: Global, replica: u32, journal: &str) -> Result<Step, Fail> {
+    let journal = bytes(alloc, journal)?;
+    let journal = Blob::read(alloc, &mut MemorySource::new(&journal))?;
     Ok(Step::Load { replica, journal })
-}
-
-fn joined(alloc: Global, parts: &[&str]) -> Result<String, Fail> {
-    let mut text = String::new(alloc);
-    for part in parts {
-        text.push_str(part)?;
-    }
-    Ok(text)
 }
 
 /// File 1 of session 7.
@@ -61,11 +54,11 @@ pub fn assert_writes<const SESSIONS: u32, const OBJECTS: u32, const SYMBOLS: u32
     rt: &impl Abort,
     alloc: Global,
     store: &Store<SESSIONS, OBJECTS, SYMBOLS>,
-    journal: &[&str],
+    journal: &str,
 ) -> Result<(), Fail>
     requires { SESSIONS * OBJECTS * (SYMBOLS + 1) < 2 ^ 64 }
 {
-    let wanted = hex::decode(alloc, joined(alloc, journal)?.as_str())?;
+    let wanted = bytes(alloc, journal)?;
     let mut sink = MemorySink::new(alloc);
     write_store(store, &mut sink)?;
     assert_eq!(rt; sink.as_slice(), wanted.as_slice());
@@ -75,9 +68,9 @@ pub fn assert_writes<const SESSIONS: u32, const OBJECTS: u32, const SYMBOLS: u32
 /// Three replicas, each given a part of the file, merged in a ring, with what needs nothing at the end.
 pub fn ring(alloc: Global) -> Result<Vec<Step>, Fail> {
     let mut steps = Vec::new(alloc);
-    steps.push(take(alloc, 0, vectors::INFO_AND_FIRST)?)?;
-    steps.push(take(alloc, 1, vectors::INFO_AND_LAST)?)?;
-    steps.push(take(alloc, 2, vectors::FIRST_NARROW)?)?;
+    steps.push(take(alloc, 0, datagrams::INFO_AND_FIRST)?)?;
+    steps.push(take(alloc, 1, datagrams::INFO_AND_LAST)?)?;
+    steps.push(take(alloc, 2, datagrams::FIRST_NARROW)?)?;
     for (into, from) in [(0, 1), (1, 2), (2, 0), (0, 2), (0, 0)] {
         steps.push(Step::Merge { into, from })?;
     }
@@ -88,7 +81,7 @@ pub fn ring(alloc: Global) -> Result<Vec<Step>, Fail> {
 #[test]
 fn a_step_on_one_new_replica(rt: HostRuntime) -> Result<(), Fail> {
     let mut replicas = Shelves::new(rt.alloc(), 1)?;
-    let step = take(rt.alloc(), 0, vectors::FIRST)?;
+    let step = take(rt.alloc(), 0, datagrams::FIRST)?;
     assert_eq!(rt; replicas.step(rt.alloc(), &step), Ok(()));
     assert_eq!(rt; replicas.count(), 1);
     let store = replicas.store(0).ok_or("a replica")?;
@@ -110,7 +103,7 @@ fn replicas_merged_in_a_ring(rt: HostRuntime) -> Result<(), Fail> {
 #[test]
 fn a_journal_is_loaded(rt: HostRuntime) -> Result<(), Fail> {
     let steps = [
-        take(rt.alloc(), 0, vectors::INFO_AND_FIRST)?,
+        take(rt.alloc(), 0, datagrams::INFO_AND_FIRST)?,
         load(rt.alloc(), 0, vectors::OTHERS)?,
     ];
     let replicas = run::<64, 4096, 1_048_576>(rt.alloc(), 1, &steps)?;
@@ -142,8 +135,8 @@ fn no_replicas(rt: HostRuntime) -> Result<(), Fail> {
 #[test]
 fn refused_datagrams_are_counted(rt: HostRuntime) -> Result<(), Fail> {
     let steps = [
-        take(rt.alloc(), 0, vectors::FIRST)?,
-        take(rt.alloc(), 0, vectors::REFUSED)?,
+        take(rt.alloc(), 0, datagrams::FIRST)?,
+        take(rt.alloc(), 0, datagrams::REFUSED)?,
         Step::Merge { into: 1, from: 0 },
     ];
     let replicas = run::<64, 4096, 1_048_576>(rt.alloc(), 2, &steps)?;
@@ -179,8 +172,8 @@ fn runs_stop_at_the_first_fault(rt: HostRuntime) -> Result<(), Fail> {
     let steps = [load(rt.alloc(), 0, vectors::SWAPPED)?];
     assert_stops::<64, 4096, 1_048_576>(&rt, rt.alloc(), &steps, 0, order);
     let steps = [
-        take(rt.alloc(), 0, vectors::FIRST)?,
-        take(rt.alloc(), 0, vectors::LAST)?,
+        take(rt.alloc(), 0, datagrams::FIRST)?,
+        take(rt.alloc(), 0, datagrams::LAST)?,
     ];
     assert_stops::<1, 1, 1>(&rt, rt.alloc(), &steps, 1, StepFault::Full);
     // The entries pass the limits before the byte behind the end is met.

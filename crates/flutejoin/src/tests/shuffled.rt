@@ -1,8 +1,8 @@
 //! Random lists of steps, in other orders and groupings: the journals are equal byte for byte.
 ghost use Rattle.std.specs.Prelude.{◌<◌};
 
-use super::run_vectors as vectors;
 use super::runs::{add_first, load, take};
+use super::{datagrams, vectors};
 use crate::{Blob, Replicas, Step, run};
 use flute_journal::write_store;
 use flute_parts::{MemorySink, MemorySource};
@@ -14,25 +14,25 @@ const REPLICAS: u32 = 3;
 
 /// What a replica may be given: each datagram, each journal, and a fact.
 const DATAGRAMS: &[&str] = &[
-    vectors::INFO_AND_FIRST,
-    vectors::INFO_AND_LAST,
-    vectors::INFO_AND_PADDED,
-    vectors::FIRST_NARROW,
-    vectors::INFO_ALONE,
-    vectors::OTHER_INFO,
-    vectors::LAST,
-    vectors::FIRST,
-    vectors::GREAT_TOI,
-    vectors::FDT_INSTANCE,
-    vectors::EMPTY_FILE,
-    vectors::TOO_LONG,
-    vectors::OTHER_SESSION,
-    vectors::OTHER_FILE,
-    vectors::STRAY,
-    vectors::REFUSED,
+    datagrams::INFO_AND_FIRST,
+    datagrams::INFO_AND_LAST,
+    datagrams::INFO_AND_PADDED,
+    datagrams::FIRST_NARROW,
+    datagrams::INFO_ALONE,
+    datagrams::OTHER_INFO,
+    datagrams::LAST,
+    datagrams::FIRST,
+    datagrams::GREAT_TOI,
+    datagrams::FDT_INSTANCE,
+    datagrams::EMPTY_FILE,
+    datagrams::TOO_LONG,
+    datagrams::OTHER_SESSION,
+    datagrams::OTHER_FILE,
+    datagrams::STRAY,
+    datagrams::REFUSED,
 ];
 
-const JOURNALS: &[&[&str]] = &[
+const JOURNALS: &[&str] = &[
     vectors::NOTHING,
     vectors::WHOLE,
     vectors::CONFLICT,

@@ -1,4 +1,4 @@
-//! Datagrams and journals in hexadecimal, by name.
+//! Datagrams in hexadecimal, by name.
 //!
 //! Those of session 7 and file 1 belong to a file `hello` of 5 bytes, in symbols of 4 bytes and blocks of at most 2
 //! symbols, so one block of two symbols.
@@ -53,59 +53,3 @@ pub const STRAY: &str = "10A004000000000000000007000000010000000278";
 
 /// Three bytes, which are too few.
 pub const REFUSED: &str = "10A000";
-
-/// The magic and the version.
-const HEADER: &str = "464C4A4E0001";
-
-/// The information of the file.
-const INFO: &str = "01000000000007010000000000000000000000000001000000000005000400000002";
-
-/// Two values of its information.
-const INFO_CONFLICT: &str = "02000000000007010000000000000000000000000001";
-
-/// Its first symbol.
-const HELL: &str = "0300000000000701000000000000000000000000000100000000000468656C6C";
-
-/// Its last symbol, short.
-const LETTER_O: &str = "030000000000070100000000000000000000000000010000000100016F";
-
-/// Its last symbol, padded.
-const PADDED_O: &str = "030000000000070100000000000000000000000000010000000100046F000000";
-
-/// Two values of its last symbol.
-const CONFLICT_AT_O: &str = "0400000000000701000000000000000000000000000100000001";
-
-/// A symbol that it does not have.
-const LETTER_X: &str = "0300000000000701000000000000000000000000000100000002000178";
-
-const END_0: &str = "FF0000000000000000";
-
-const END_1: &str = "FF0000000000000001";
-
-const END_3: &str = "FF0000000000000003";
-
-const END_4: &str = "FF0000000000000004";
-
-/// No fact: 15 bytes.
-pub const NOTHING: &[&str] = &[HEADER, END_0];
-
-/// The whole file: 110 bytes.
-pub const WHOLE: &[&str] = &[HEADER, INFO, HELL, LETTER_O, END_3];
-
-/// Its information in conflict: 37 bytes.
-pub const CONFLICT: &[&str] = &[HEADER, INFO_CONFLICT, END_1];
-
-/// Other symbols of it: 108 bytes.
-pub const OTHERS: &[&str] = &[HEADER, HELL, PADDED_O, LETTER_X, END_3];
-
-/// The whole file and the other symbols, joined: 136 bytes.
-pub const JOINED: &[&str] = &[HEADER, INFO, HELL, CONFLICT_AT_O, LETTER_X, END_4];
-
-/// The whole file with its symbols in the wrong order.
-pub const SWAPPED: &[&str] = &[HEADER, INFO, LETTER_O, HELL, END_3];
-
-/// The whole file, and a byte behind the end.
-pub const TRAILING: &[&str] = &[HEADER, INFO, HELL, LETTER_O, END_3, "00"];
-
-/// What the first datagram and the other symbols come to: 142 bytes.
-pub const FIRST_AND_OTHERS: &[&str] = &[HEADER, INFO, HELL, PADDED_O, LETTER_X, END_4];
