@@ -82,6 +82,15 @@ impl Bytes {
     {
         &self.octets
     }
+
+    /// The bytes, handed over. It takes no memory.
+    pub fn into_vec(self) -> Vec<u8>
+        ensures items { result.items ≡ self }
+        ensures size { HasSymbolSize self }
+    {
+        let Bytes { octets } = self;
+        octets
+    }
 }
 
 // Why the bytes are refused for their number, if they are.

@@ -103,6 +103,7 @@ fn bytes_of_symbols(rt: HostRuntime) -> Result<(), Fail> {
         }
     }
     assert!(rt; Bytes::new(rt.alloc(), b"lo")? == Bytes::from_vec(b"lo".to_vec(rt.alloc())?)?);
+    assert!(rt; Bytes::new(rt.alloc(), b"lo")?.into_vec().as_slice() == b"lo".as_slice());
     Ok(())
 }
 

@@ -1,3 +1,4 @@
+pub mod HeldSymbol
 pub mod ObjectJoin
 pub mod Content
 pub mod WellFormed

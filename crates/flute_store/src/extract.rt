@@ -13,9 +13,10 @@ ghost use Rattle.flute_store.specs.Extract.{Extracts, failed};
 
 use crate::gap_walk::{GapWalk, Look};
 use crate::gaps::Gaps;
+use crate::held_symbol::HeldSymbol;
 use crate::store::Store;
 use flute_join::Cell;
-use flute_parts::{Bytes, DeviceFault, Info, Key, Sink, SymbolId};
+use flute_parts::{DeviceFault, Info, Key, Sink, SymbolId};
 use std::collections::btree_map;
 use thiserror::Error;
 
@@ -42,13 +43,13 @@ pub enum ExtractFault {
     Write,
 }
 
-// The one value of a cell, or no bytes.
-fn bytes_in<'a>(cell: &'a Cell<Bytes>) -> &'a [u8]
-    ensures { result.now ≡ cell_bytes cell.now }
+// The one value of a symbol, or no bytes.
+fn bytes_in<'a>(held: &'a HeldSymbol) -> &'a [u8]
+    ensures { result.now ≡ cell_bytes held.now }
 {
-    match cell {
-        Cell::One(bytes) => bytes.as_slice(),
-        _ => &[],
+    match held.value() {
+        Some(bytes) => bytes,
+        None => &[],
     }
 }
 
@@ -118,7 +119,7 @@ impl<'a> GapWalk<'a> {
 // Writes the object of this information and these symbols, of which none is wanted.
 fn write_object<W: Sink>(
     info: &Info,
-    symbols: btree_map::Iter<'_, SymbolId, Cell<Bytes>>,
+    symbols: btree_map::Iter<'_, SymbolId, HeldSymbol>,
     sink: &mut W,
 ) -> Result<(), DeviceFault>
     requires ordered { IsOrdered symbol_id_cmp symbols }

@@ -12,8 +12,8 @@ ghost use Rattle.flute_store.specs.GapWalk.{at_start, after_pass, after_begin, a
 
 use crate::gap::{Gap, Reason};
 use crate::held_left::HeldLeft;
-use flute_join::Cell;
-use flute_parts::{Bytes, Info, Partition, SymbolId};
+use crate::held_symbol::HeldSymbol;
+use flute_parts::{Info, Partition, SymbolId};
 use std::cmp::Ordering;
 use std::collections::btree_map;
 
@@ -52,25 +52,19 @@ pub struct GapWalk<'a> {
 }
 
 // Why a held symbol is wanted, if it is.
-fn want(partition: &Partition, id: SymbolId, cell: &Cell<Bytes>) -> Option<Reason>
-    ensures { result ≡ want_cell partition.now id (Some cell.now) }
+fn want(partition: &Partition, id: SymbolId, held: &HeldSymbol) -> Option<Reason>
+    ensures { result ≡ want_cell partition.now id (Some held.now) }
 {
-    match cell {
-        Cell::Absent => Some(Reason::Missing),
-        Cell::One(bytes) => {
-            if partition.fits(id, bytes.as_slice().len()) {
-                None
-            } else {
-                Some(Reason::Misfit)
-            }
-        }
-        Cell::Conflict => Some(Reason::Conflicting),
+    match held.value() {
+        Some(bytes) if partition.fits(id, bytes.len()) => None,
+        Some(_) => Some(Reason::Misfit),
+        None => Some(Reason::Conflicting),
     }
 }
 
 impl<'a> GapWalk<'a> {
     /// A walk over an object with this information and these symbols.
-    pub fn new(info: &Info, symbols: btree_map::Iter<'a, SymbolId, Cell<Bytes>>) -> GapWalk<'a>
+    pub fn new(info: &Info, symbols: btree_map::Iter<'a, SymbolId, HeldSymbol>) -> GapWalk<'a>
         requires ordered { IsOrdered symbol_id_cmp symbols }
         requires known { EachValue IsKnown symbols }
         requires few { length symbols < 2 ^ 32 }

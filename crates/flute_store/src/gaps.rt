@@ -12,9 +12,10 @@ ghost use Rattle.flute_store.specs.GapAnswers.{GivesGaps, TellsGapFault};
 
 use crate::gap::Gap;
 use crate::gap_walk::GapWalk;
+use crate::held_symbol::HeldSymbol;
 use crate::store::Store;
 use flute_join::Cell;
-use flute_parts::{Bytes, Info, Key, SymbolId};
+use flute_parts::{Info, Key, SymbolId};
 use std::collections::btree_map;
 use std::marker::Model;
 use thiserror::Error;
@@ -56,7 +57,7 @@ impl<'a> Model for Gaps<'a> {
 
 impl<'a> Gaps<'a> {
     // The gaps of an object with this information and these symbols.
-    pub(crate) fn new(info: &Info, symbols: btree_map::Iter<'a, SymbolId, Cell<Bytes>>) -> Gaps<'a>
+    pub(crate) fn new(info: &Info, symbols: btree_map::Iter<'a, SymbolId, HeldSymbol>) -> Gaps<'a>
         requires ordered { IsOrdered symbol_id_cmp symbols }
         requires known { EachValue IsKnown symbols }
         requires few { length symbols < 2 ^ 32 }

@@ -2,16 +2,16 @@
 ghost use Rattle.std.specs.Prelude.{◌≡◌, drop};
 ghost use Rattle.flute_store.specs.HeldLeft.{ShowsFirst};
 
-use flute_join::Cell;
-use flute_parts::{Bytes, SymbolId};
+use crate::held_symbol::HeldSymbol;
+use flute_parts::SymbolId;
 use std::collections::btree_map;
 use std::marker::Model;
 
 /// The held symbols that are left, the first of which can be looked at.
 #[derive(Drop)]
 pub struct HeldLeft<'a> {
-    first: Option<(&'a SymbolId, &'a Cell<Bytes>)>,
-    rest: btree_map::Iter<'a, SymbolId, Cell<Bytes>>,
+    first: Option<(&'a SymbolId, &'a HeldSymbol)>,
+    rest: btree_map::Iter<'a, SymbolId, HeldSymbol>,
 }
 
 impl<'a> Model for HeldLeft<'a> {
@@ -30,7 +30,7 @@ impl<'a> Model for HeldLeft<'a> {
 
 impl<'a> HeldLeft<'a> {
     /// All of these.
-    pub fn new(symbols: btree_map::Iter<'a, SymbolId, Cell<Bytes>>) -> HeldLeft<'a>
+    pub fn new(symbols: btree_map::Iter<'a, SymbolId, HeldSymbol>) -> HeldLeft<'a>
         ensures { result ≡ symbols.entry }
     {
         let mut rest = symbols;
@@ -39,7 +39,7 @@ impl<'a> HeldLeft<'a> {
     }
 
     /// The first one that is left.
-    pub fn first(&self) -> Option<(SymbolId, &'a Cell<Bytes>)>
+    pub fn first(&self) -> Option<(SymbolId, &'a HeldSymbol)>
         ensures { ShowsFirst self.now result }
     {
         match self.first {

@@ -11,6 +11,7 @@ mod gap;
 mod gap_walk;
 mod gaps;
 mod held_left;
+mod held_symbol;
 mod keys;
 pub mod laws;
 mod lookup;

@@ -8,6 +8,7 @@ ghost use Rattle.flute_parts.specs.declared.key.Key.{Key as Name};
 ghost use Rattle.flute_wire.specs.Facts.{key_of, facts_of};
 ghost use Rattle.flute_store.specs.News.{told_cell, news_facts, IsNews, HasSize};
 
+use crate::held_symbol::HeldSymbol;
 use flute_join::{Cell, JoinRefusal};
 use flute_parts::{Bytes, Fact, Info, SymbolId};
 use flute_wire::Packet;
@@ -116,9 +117,9 @@ impl<'a> News<'a> {
 }
 
 impl Told<'_> {
-    /// A cell of it. Borrowed bytes are copied; they are as many as a symbol's, so the one refusal is `OutOfMemory`.
-    /// Owned bytes are moved, and like a conflict they take no memory.
-    pub fn into_cell(self, alloc: Global) -> Result<Cell<Bytes>, JoinRefusal>
+    /// What is held of the symbol then. Borrowed bytes are copied; they are as many as a symbol's, so the one refusal
+    /// is `OutOfMemory`. Owned bytes are moved, and like a conflict they take no memory.
+    pub fn into_cell(self, alloc: Global) -> Result<HeldSymbol, JoinRefusal>
         requires { HasSize self }
         ensures ok { IfOk result (λ c. c ≡ told_cell self.entry) }
         ensures err { IfErr result (λ e. e ≡ JoinRefusal.OutOfMemory) }
@@ -127,26 +128,26 @@ impl Told<'_> {
     {
         match self {
             Told::Borrowed(bytes) => match Bytes::new(alloc, bytes) {
-                Ok(bytes) => Ok(Cell::One(bytes)),
+                Ok(bytes) => Ok(HeldSymbol::of_bytes(bytes)),
                 Err(_) => Err(JoinRefusal::OutOfMemory),
             },
-            Told::Owned(bytes) => Ok(Cell::One(bytes)),
-            Told::Conflict => Ok(Cell::Conflict),
+            Told::Owned(bytes) => Ok(HeldSymbol::of_bytes(bytes)),
+            Told::Conflict => Ok(HeldSymbol::conflict(alloc)),
         }
     }
 
-    /// Joins it into a cell where something is known already. It takes no memory.
-    pub fn meet(&self, held: &mut Cell<Bytes>)
+    /// Joins it into what is held already. It takes no memory.
+    pub fn meet(&self, held: &mut HeldSymbol)
         requires { IsKnown held.old }
         ensures { held.new ≡ cell_join bytes_eq held.old (told_cell self.now) }
     {
-        let differs = match (self, &*held) {
-            (Told::Borrowed(bytes), Cell::One(value)) => value.as_slice() != *bytes,
-            (Told::Owned(bytes), Cell::One(value)) => *value != *bytes,
+        let differs = match (self, held.value()) {
+            (Told::Borrowed(bytes), Some(value)) => value != *bytes,
+            (Told::Owned(bytes), Some(value)) => value != bytes.as_slice(),
             _ => true,
         };
         if differs {
-            *held = Cell::Conflict;
+            held.set_conflict();
         }
     }
 }

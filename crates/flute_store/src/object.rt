@@ -13,16 +13,17 @@ ghost use Rattle.flute_store.specs.ObjectJoin.{
   symbols_join,
 };
 
+use crate::held_symbol::HeldSymbol;
 use crate::news::{News, Told, meet_info};
 use flute_join::{Cell, Join, JoinMap, JoinRefusal};
-use flute_parts::{Bytes, Info, SymbolId};
+use flute_parts::{Info, SymbolId};
 use std::alloc::Global;
 
 /// An object: its information and its symbols.
 #[derive(Drop)]
 pub struct Object<const SYMBOLS: u32> {
     pub info: Cell<Info>,
-    pub symbols: JoinMap<SymbolId, Cell<Bytes>, SYMBOLS>,
+    pub symbols: JoinMap<SymbolId, HeldSymbol, SYMBOLS>,
 }
 
 impl<const SYMBOLS: u32> Join for Object<SYMBOLS> {
@@ -53,7 +54,7 @@ impl<const SYMBOLS: u32> Join for Object<SYMBOLS> {
 
 // Joins what is told of a symbol. After a refusal the symbols are unchanged.
 fn enter_symbol<const SYMBOLS: u32>(
-    symbols: &mut JoinMap<SymbolId, Cell<Bytes>, SYMBOLS>,
+    symbols: &mut JoinMap<SymbolId, HeldSymbol, SYMBOLS>,
     alloc: Global,
     id: SymbolId,
     told: Told<'_>,
@@ -81,7 +82,7 @@ fn enter_symbol<const SYMBOLS: u32>(
 
 // Joins what is told of a symbol, if anything is. After a refusal the symbols are unchanged.
 fn enter_symbols<const SYMBOLS: u32>(
-    symbols: &mut JoinMap<SymbolId, Cell<Bytes>, SYMBOLS>,
+    symbols: &mut JoinMap<SymbolId, HeldSymbol, SYMBOLS>,
     alloc: Global,
     told: Option<(SymbolId, Told<'_>)>,
 ) -> Result<(), JoinRefusal>

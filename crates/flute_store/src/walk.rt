@@ -11,10 +11,11 @@ ghost use Rattle.flute_store.specs.Content.{info_facts, object_facts};
 ghost use Rattle.flute_store.specs.Walk.{option_facts, option_rest, facts_in, IsSized, YieldsFact};
 
 use crate::entering::Objects;
+use crate::held_symbol::HeldSymbol;
 use crate::keys::SessionKeys;
 use crate::object::Object;
 use flute_join::{Cell, Entries};
-use flute_parts::{Bytes, FactRef, Info, Key, ObjectKey, SessionKey, SymbolId};
+use flute_parts::{FactRef, Info, Key, ObjectKey, SessionKey, SymbolId};
 use std::marker::Model;
 
 /// The facts of an object that are left.
@@ -22,7 +23,7 @@ use std::marker::Model;
 pub struct ObjectWalk<'a> {
     key: Key,
     info: Option<FactRef<'a>>,
-    symbols: Entries<'a, SymbolId, Cell<Bytes>>,
+    symbols: Entries<'a, SymbolId, HeldSymbol>,
 }
 
 impl<'a> Model for ObjectWalk<'a> {
@@ -69,15 +70,14 @@ impl<'a> Iterator for ObjectWalk<'a> {
         if let Some(fact) = self.info.take() {
             return Some(fact);
         }
-        let (id, cell) = self.symbols.next()?;
-        match cell {
-            Cell::Absent => None,
-            Cell::One(bytes) => Some(FactRef::Symbol {
+        let (id, held) = self.symbols.next()?;
+        match held.value() {
+            Some(bytes) => Some(FactRef::Symbol {
                 key: self.key,
                 id: *id,
-                bytes: bytes.as_slice(),
+                bytes,
             }),
-            Cell::Conflict => Some(FactRef::SymbolConflict {
+            None => Some(FactRef::SymbolConflict {
                 key: self.key,
                 id: *id,
             }),
