@@ -22,6 +22,10 @@ pub fn front<'b, R: Source>(source: &mut R, buffer: &'b mut [u8]) -> Result<&'b 
 }
 
 /// Reads until the buffer is full, or up to the end of the input, and answers how many bytes were read.
+///
+/// # Errors
+///
+/// `Read` where the source fails, and nothing else. The buffer may hold anything then.
 pub fn fill<R: Source>(source: &mut R, buffer: &mut [u8]) -> Result<usize, ReadFault>
     ensures filled { IfOk result (λ count. (count ≤ length buffer.new) × Fills (R.unread source.old) (R.unread source.new) (length buffer.new) (take count buffer.new)) }
     ensures octets { (i : ℕ) → slice_index buffer.new i < 256 }

@@ -128,7 +128,7 @@ pub fn load_fault(number: usize, fault: LoadFault) -> CommandFault
     }
 }
 
-/// What was read of the input with this number, from 1.
+/// What was read of the input with this number, from 1; or `Input` with that number and the fault.
 pub fn at_input<T: Drop>(number: usize, read: Result<T, ReadFault>) -> Result<T, CommandFault>
     ensures { MatchResult read (λ x. result ≡ Ok x) (λ f. result ≡ Err (CommandFault.Input number f)) }
 {

@@ -180,11 +180,14 @@ fn a_store_that_is_too_small_for_both(rt: HostRuntime) -> Result<(), Fail> {
     Ok(())
 }
 
-/// A source that fails after each byte: what was held is kept.
+/// A source that fails after each byte: what was held is kept, and nothing comes to it that the journal does not tell.
 #[test]
 fn joins_that_stop(rt: HostRuntime) -> Result<(), Fail> {
     let alloc = rt.alloc();
     let journal = bytes(alloc, vectors::OTHERS)?;
+    let other: Small = read_store(alloc, &mut MemorySource::new(&journal), MANY)?;
+    let mut both = taken(alloc, &[INFO_AND_FIRST_SYMBOL])?;
+    both.absorb(alloc, &other)?;
     for good in 0..journal.len() {
         let mut store = taken(alloc, &[INFO_AND_FIRST_SYMBOL])?;
         let mut source = ShortSource::new(&journal, 7, good);
@@ -192,6 +195,8 @@ fn joins_that_stop(rt: HostRuntime) -> Result<(), Fail> {
         let failed = Err(LoadFault::Read(ReadFault::Read));
         assert!(rt; joined == failed, "{good}");
         assert!(rt; store.walk().count() >= 2, "{good}");
+        store.absorb(alloc, &other)?;
+        assert!(rt; store.walk().eq(both.walk()), "{good}");
     }
     Ok(())
 }
