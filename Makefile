@@ -1,5 +1,6 @@
 # make            proves what changed, builds the program and leaves it at bin/flutejoin
-# make test       the whole gate: every proof from nothing, the must-fail edits, the tests and the program
+# make test       the whole gate: every proof from nothing, the must-fail edits, the tests, the program, and
+#                 memory refused in turn
 # make example    runs a small session: a file sent, received at three stations, joined and written
 # make install    copies the program to $(PREFIX)/bin
 
@@ -13,6 +14,9 @@ bin/flutejoin: $(SOURCES)
 test:
 	rt ci
 	tests/program.sh crates/flutejoin_cli/out/flutejoin_cli
+	tests/outputs.sh crates/flutejoin_cli/out/flutejoin_cli
+	tests/refused_memory.sh crates/refused_memory/out/refused_memory crates/refused_memory/out/refused_memory.by-rattle
+	tests/refused_program.sh crates/flutejoin_cli/out/flutejoin_cli crates/flutejoin_cli/out/flutejoin_cli.by-rattle
 
 example: bin/flutejoin
 	@examples/session.sh bin/flutejoin

@@ -220,6 +220,8 @@ same() {
 run info -o got --tsi 7 --toi 1 --length 5 --symbol 4 --block 2 symbols
 check 'info' 0 'entries 3' ''
 same 'the journal with information added' got whole
+run info -o /dev/full --tsi 7 --toi 1 --length 5 --symbol 4 --block 2 symbols
+check 'info to a full output' 3 '' 'cannot write'
 run info -o got --tsi 7 --toi 1 --length 5 --symbol 4 --block 3 whole
 check 'info in conflict' 0 'entries 3' ''
 run show got
@@ -234,6 +236,19 @@ check 'numbers before the key' 2 '' 'bad number: --length'
 run info -o got3 --tsi 7 --toi 1 --length 5 --symbol 4 --block 2 bad
 check 'info of a bad journal' 1 '' 'input 1: Trailing'
 [ ! -e got3 ] || check 'no file after a fault of info' x - -
+# As many sessions as a store holds, and one more.
+sessions=
+for session in $(seq 0 63); do
+    sessions="$sessions 02 $(printf %012x "$session") 01 0000000000000000000000000001"
+done
+file many "$header $sessions FF 0000000000000040"
+printf before > kept
+run info -o kept --tsi 64 --toi 1 --length 5 --symbol 4 --block 2 many
+check 'info of one session too many' 1 '' 'full'
+[ "$(cat kept)" = before ] || check 'the output that was there before a full store' x - -
+run info -o kept --tsi 63 --toi 1 --length 5 --symbol 4 --block 2 many
+check 'info of the last session' 0 'entries 64' ''
+same 'information where it is in conflict' kept many
 
 run merge -o got whole others
 check 'merge' 0 'entries 4' ''
@@ -255,8 +270,7 @@ run merge -o no/got bad bad
 check 'the output of a merge before the inputs are read' 3 '' 'cannot create output'
 run merge -o got3 whole bad
 check 'merge with a bad journal' 1 '' 'input 2: Trailing'
-run show got3
-check 'what a failed merge leaves' 1 - 'input 1: Cut'
+[ ! -e got3 ] || check 'no file after a fault of merge' x - -
 run merge -o /dev/full whole others
 check 'merge to a full output' 3 '' 'cannot write'
 run_to /dev/full merge -o got whole others
@@ -266,6 +280,8 @@ printf hello > content
 run carousel -o got --tsi 7 --toi 1 --symbol 4 --block 2 content
 check 'carousel' 0 'datagrams 2' ''
 same 'the datagram file' got sent
+run carousel -o /dev/full --tsi 7 --toi 1 --symbol 4 --block 2 content
+check 'carousel to a full output' 3 '' 'cannot write'
 run carousel -o got --tsi 7 --toi 1 --symbol 0 --block 0 nothing
 check 'carousel of no content' 0 'datagrams 1' ''
 run carousel -o got4 --tsi 7 --toi 1 --symbol 0 --block 2 content
@@ -313,11 +329,15 @@ check 'join with a bad journal' 1 '' 'input 2: Trailing'
 head -c 20 sent > cut
 run join -o got5 cut
 check 'join of a datagram file that is cut' 1 '' 'input 1: Cut'
+run join -o got5 whole /proc/self/mem
+check 'join with an input that cannot be read' 3 '' 'input 2: Read'
 [ ! -e got5 ] || check 'no file after a fault of join' x - -
 run join -o no/got whole
 check 'join to a folder that is not there' 3 '' 'cannot create output'
 run join -o /dev/full whole
 check 'join to a full output' 3 '' 'cannot write'
+run_to /dev/full join -o got whole
+check 'join to a full standard output' 3 '' 'cannot write'
 run join -o got
 check 'join of nothing' 2 '' -
 run join -o got $(yes whole | head -n 65)

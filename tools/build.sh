@@ -7,7 +7,7 @@ if ! command -v rt > /dev/null; then
     exit 1
 fi
 mkdir -p bin
-echo "flutejoin: proving and building the program; the first time this takes about 8 minutes (log: bin/build.log)" >&2
+echo "flutejoin: proving and building the program; the first time this takes up to 25 minutes (log: bin/build.log)" >&2
 if ! (cd crates/flutejoin_cli && rt run -- --version) > bin/build.log 2>&1; then
     tail -n 20 bin/build.log >&2
     echo "flutejoin: the build failed; bin/build.log has all of it" >&2

@@ -35,7 +35,7 @@ front_octets bs a b n s h = subst (AllByRecursion IsByte) (sym s.1) (octets-take
 pub opening_version : (o bs a b : List ℕ) → length bs ≤ 6 → IsSplitAt bs 4 a b → bytes_eq a (take 4 o) ≡ true → 2 ≤ length b → bytes_eq b (take 2 (drop 4 o)) ≡ false
     → StopsFront 6 (opening_fault o) bs faults.Version
 opening_version o bs a b most s e some wrong =
-    stops_here 6 (opening_fault o) bs faults.Version (λ h. cc) (λ h. cc)
+    stops_here 6 (opening_fault o) bs faults.Version (λ h. cc) tt
     (λ r. ap (λ (x : List ℕ). opening_fault o (x ++ r)) (joined bs a b 4 s) ∙ version_wrong o a b r s.3 (omega (arith, most, some, s.4)) e wrong)
 
 pub opening_read : (o bs a b : List ℕ) → length o ≡ 6 → length bs ≤ 6 → IsSplitAt bs 4 a b → bytes_eq a (take 4 o) ≡ true → 2 ≤ length b → bytes_eq b (take 2 (drop 4 o)) ≡ true → bs ≡ o
@@ -63,7 +63,7 @@ id_read bs a b m n s h first second =
     ∙ ap (λ k. (in_bytes 2 m ++ in_bytes 2 k) ++ b) (ap big_endian (sym whole) ∙ sym second)
 
 pub length_empty : (bs : List ℕ) (n : ℕ) → length bs ≡ 2 → n ≡ big_endian bs → n ≡ 0 → StopsFront 2 bytes_fault bs faults.EmptySymbol
-length_empty bs n len is none = stops_here 2 bytes_fault bs faults.EmptySymbol (λ h. cc) (λ h. cc) (λ r. length_none bs r len (sym is ∙ none))
+length_empty bs n len is none = stops_here 2 bytes_fault bs faults.EmptySymbol (λ h. cc) tt (λ r. length_none bs r len (sym is ∙ none))
 
 pub length_read : (bs : List ℕ) (n : ℕ) → length bs ≡ 2 → AllByRecursion IsByte bs → n ≡ big_endian bs → in_bytes 2 n ≡ bs
 length_read bs n len h is = ap (in_bytes 2) is ∙ spelled 2 bs len h
@@ -78,7 +78,7 @@ key_wrong k last bs a b s wrong =
     first-pass (cut 21 (a ++ r)) ((not (is_key (take 21 (a ++ r))), faults.Key) ∷ rest_checks (at_place 0 last) (byte_of k) (key_in (take 21 (a ++ r))) (drop 21 (a ++ r))) (cut-passes 21 a r (omega (arith, s.3)))
     ∙ first-stop (not (is_key (take 21 (a ++ r))), faults.Key) (rest_checks (at_place 0 last) (byte_of k) (key_in (take 21 (a ++ r))) (drop 21 (a ++ r)))
     (ap (λ (x : List ℕ). not (is_key x)) (take_at a r 21 s.3) ∙ ap not wrong) in
-    stops_here (fixed_size k) (body_fault last k) bs faults.Key (λ h. cc) (λ h. cc)
+    stops_here (fixed_size k) (body_fault last k) bs faults.Key (λ h. cc) tt
     (λ r. ap (λ (x : List ℕ). body_fault last k (x ++ r)) (joined bs a b 21 s) ∙ ap (body_fault last k) (append_assoc a b r) ∙ stop (b ++ r))
 
 -- what stands behind a key, and the key with it

@@ -1,50 +1,61 @@
 -- Faults of bytes of which a front was read.
-use Rattle.std.proofs.Common.{◌≡◌, ℕ, ◌+◌, ◌<◌, ◌≤◌, List, ◌++◌, length, Option, Some, None, Result, Ok, Err, refl, sym, ap, ◌∙◌, subst, append_assoc, arith}
+use Rattle.std.proofs.Common.{◌≡◌, ℕ, ◌+◌, ◌<◌, ◌≤◌, Bool, true, false, List, [], ◌++◌, length, Option, Some, None, Result, Ok, Err, inl, inr, refl, sym, ap, ◌∙◌, subst, append_assoc, arith}
 use Rattle.std.proofs.lemmas.List.{length-append, append-nil}
-use Rattle.std.specs.Prelude.{IfSome}
+use Rattle.std.specs.Prelude.{IfSome, IfErr}
 use Rattle.std.specs.Io.KnownBytes.{Consumes}
+use Rattle.std.proofs.KnownBytes.{Consumes-trans}
 use Rattle.flute_journal.specs.declared.fault.ReadFault.{ReadFault}
 use Rattle.flute_journal.specs.declared.fault.ReadFault.TheVariants as faults
-use Rattle.flute_journal.specs.Input.{Fills, IsFaultOf, Reads, failed}
-use Rattle.flute_journal.specs.Parsing.{StopsFront, Parses}
+use Rattle.flute_journal.specs.Input.{Fails, Fronts, IsFaultOf, IsFaultUpTo, Reads, failure, left_by, told}
+use Rattle.flute_journal.specs.Parsing.{IsOfBytes, StopsFront, Parses}
 
-pub known-behind : (u v : Option (List ℕ)) (front : List ℕ) (whole part : List ℕ → Option ReadFault) (o : Option ReadFault)
-    → Consumes u v front → ((r : List ℕ) → part r ≡ o → whole (front ++ r) ≡ o) → IfSome v (λ r. part r ≡ o) → IfSome u (λ bs. whole bs ≡ o)
+known-behind : (u v : Option (List ℕ)) (front : List ℕ) (whole part : List ℕ → Option ReadFault) (o : Option ReadFault)
+    → Consumes u v front → ((r : List ℕ) → whole (front ++ r) ≡ part r) → IfSome v (λ r. part r ≡ o) → IfSome u (λ bs. whole bs ≡ o)
 known-behind None v front whole part o took e h = tt
 known-behind (Some x) None front whole part o took e h = absurd took
-known-behind (Some x) (Some y) front whole part o took e h = ap whole took ∙ e y h
+known-behind (Some x) (Some y) front whole part o took e h = ap whole took ∙ e y ∙ h
 
 -- what stands behind what was read has the fault of the whole
-pub fault-behind : (u v : Option (List ℕ)) (front : List ℕ) (whole part : List ℕ → Option ReadFault) (f : ReadFault)
-    → Consumes u v front → ((r : List ℕ) → part r ≡ Some f → whole (front ++ r) ≡ Some f) → IsFaultOf part v f → IsFaultOf whole u f
-fault-behind u v front whole part faults.Read took e h = tt
-fault-behind u v front whole part faults.OutOfMemory took e h = tt
-fault-behind u v front whole part f took e h = known-behind u v front whole part (Some f) took e h
+pub fault-behind : (u v w : Option (List ℕ)) (front : List ℕ) (whole part : List ℕ → Option ReadFault) (f : ReadFault)
+    → Consumes u v front → ((r : List ℕ) → whole (front ++ r) ≡ part r) → IsFaultOf part v w f → IsFaultOf whole u w f
+fault-behind u v w front whole part faults.Read took e h = (front ++ h.0, Consumes-trans u v w front h.0 took h.1, e h.0 ∙ h.2)
+fault-behind u v w front whole part faults.OutOfMemory took e h =
+    let P : Option ReadFault → Type 0 = λ o. IfSome o (λ f. f ≡ faults.Cut) in
+    (front ++ h.0, Consumes-trans u v w front h.0 took h.1, subst P (sym (e h.0)) h.2)
+fault-behind u v w front whole part f took e h = known-behind u v front whole part (Some f) took e h
 
-known-here : (u v : Option (List ℕ)) (front : List ℕ) (whole : List ℕ → Option ReadFault) (o : Option ReadFault)
-    → Consumes u v front → ((r : List ℕ) → whole (front ++ r) ≡ o) → IfSome u (λ bs. whole bs ≡ o)
-known-here None v front whole o took e = tt
-known-here (Some x) None front whole o took e = absurd took
-known-here (Some x) (Some y) front whole o took e = ap whole took ∙ e y
+-- the same where the source may fail behind the last bytes
+pub fault_up_to-behind : (u v w : Option (List ℕ)) (front last : List ℕ) (whole part : List ℕ → Option ReadFault) (f : ReadFault)
+    → Consumes u v front → ((r : List ℕ) → whole (front ++ r) ≡ part r) → IsFaultUpTo last part v w f → IsFaultUpTo (front ++ last) whole u w f
+fault_up_to-behind u v w front last whole part faults.Read took e h = elim h [
+  | inl cut ↦ inl (fault-behind u v w front whole part faults.Read took e cut)
+  | inr all ↦ inr (Consumes-trans u v w front last took all)
+]
+fault_up_to-behind u v w front last whole part f took e h = fault-behind u v w front whole part f took e h
+
+-- a fault of bytes is one of bytes that may end
+pub fault_up_to : (last : List ℕ) (fault : List ℕ → Option ReadFault) (u v : Option (List ℕ)) (f : ReadFault) → IsFaultOf fault u v f → IsFaultUpTo last fault u v f
+fault_up_to last fault u v faults.Read h = inl h
+fault_up_to last fault u v f h = h
 
 -- what was read is at fault already
-pub fault-here : (u v : Option (List ℕ)) (front : List ℕ) (whole : List ℕ → Option ReadFault) (f : ReadFault)
-    → Consumes u v front → ((r : List ℕ) → whole (front ++ r) ≡ Some f) → IsFaultOf whole u f
-fault-here u v front whole faults.Read took e = tt
-fault-here u v front whole faults.OutOfMemory took e = tt
-fault-here u v front whole f took e = known-here u v front whole (Some f) took e
+pub fault-here : (u v : Option (List ℕ)) (front : List ℕ) (whole : List ℕ → Option ReadFault) (o : Option ReadFault)
+    → Consumes u v front → ((r : List ℕ) → whole (front ++ r) ≡ o) → IfSome u (λ bs. whole bs ≡ o)
+fault-here None v front whole o took e = tt
+fault-here (Some x) None front whole o took e = absurd took
+fault-here (Some x) (Some y) front whole o took e = ap whole took ∙ e y
 
 -- Fronts alone.
 
 -- they have a fault that isn't the end of the input
-pub stops_here : (n : ℕ) (whole : List ℕ → Option ReadFault) (front : List ℕ) (f : ReadFault) → (f ≡ faults.Cut → ⊥) → (f ≡ faults.Read → ⊥)
+pub stops_here : (n : ℕ) (whole : List ℕ → Option ReadFault) (front : List ℕ) (f : ReadFault) → (f ≡ faults.Cut → ⊥) → IsOfBytes f
     → ((r : List ℕ) → whole (front ++ r) ≡ Some f) → StopsFront n whole front f
-stops_here n whole front f other device h = record { no_device = device; short = λ e. absurd (other e); whole = λ r e. h r }
+stops_here n whole front f other bytes h = record { of_bytes = bytes; short = λ e. absurd (other e); whole = λ r e. h r }
 
 -- they are all that there is, and end too early
 pub stops_cut : (n : ℕ) (whole : List ℕ → Option ReadFault) (front : List ℕ) → length front < n → whole front ≡ Some faults.Cut → StopsFront n whole front faults.Cut
 stops_cut n whole front few h = record {
-  no_device = λ e. cc;
+  of_bytes = tt;
   short = λ e. few;
   whole = λ r e. ap (λ (x : List ℕ). whole (front ++ x)) (e refl) ∙ ap whole (append-nil front) ∙ h;
 }
@@ -53,36 +64,81 @@ stops_cut n whole front few h = record {
 pub stops_behind : (n m : ℕ) (whole part : List ℕ → Option ReadFault) (front a b : List ℕ) (f : ReadFault) → front ≡ a ++ b → length a + m ≤ n
     → ((r : List ℕ) → part r ≡ Some f → whole (a ++ r) ≡ Some f) → StopsFront m part b f → StopsFront n whole front f
 stops_behind n m whole part front a b f is fits h s = record {
-  no_device = s.no_device;
+  of_bytes = s.of_bytes;
   short = λ e. omega (arith, s.short e, fits, ap length is, length-append a b);
   whole = λ r e. ap (λ (x : List ℕ). whole (x ++ r)) is ∙ ap whole (append_assoc a b r) ∙ h (b ++ r) (s.whole r e);
 }
 
-at_front : (fault : List ℕ → Option ReadFault) (u v : Option (List ℕ)) (n : ℕ) (front : List ℕ) (f : ReadFault) → Fills u v n front → StopsFront n fault front f
-    → IfSome u (λ bytes. fault bytes ≡ Some f)
-at_front fault None v n front f a s = tt
-at_front fault (Some x) None n front f a s = absurd a.read
-at_front fault (Some x) (Some y) n front f a s = ap fault a.read ∙ s.whole y (λ e. a.fewer (s.short e))
+at_front : (fault : List ℕ → Option ReadFault) (u v : Option (List ℕ)) (n : ℕ) (failed : Bool) (front : List ℕ) (f : ReadFault) → Fronts u v n failed front → StopsFront n fault front f
+    → (f ≡ faults.Cut → failed ≡ false) → IfSome u (λ bytes. fault bytes ≡ Some f)
+at_front fault None v n failed front f a s whole = tt
+at_front fault (Some x) None n failed front f a s whole = absurd a.read
+at_front fault (Some x) (Some y) n failed front f a s whole = ap fault a.read ∙ s.whole y (λ e. a.fewer (s.short e) (whole e))
 
--- the fault of what was read is that of the bytes that were left
-pub fault_found : (fault : List ℕ → Option ReadFault) (u v : Option (List ℕ)) (n : ℕ) (front : List ℕ) (f : ReadFault) → Fills u v n front → StopsFront n fault front f
-    → IsFaultOf fault u f
-fault_found fault u v n front faults.Read a s = tt
-fault_found fault u v n front faults.OutOfMemory a s = tt
-fault_found fault u v n front f a s = at_front fault u v n front f a s
+cut_there : (fault : List ℕ → Option ReadFault) (n : ℕ) (front : List ℕ) → StopsFront n fault front faults.Cut → fault front ≡ Some faults.Cut
+cut_there fault n front s = ap fault (sym (append-nil front)) ∙ s.whole [] (λ e. refl)
 
--- what was read of a source, as it is parsed
-pub parsed_reads : {T : Type 0} (spelling : T → List ℕ) (IsIt : T → Type 0) (fault : List ℕ → Option ReadFault) (u v : Option (List ℕ)) (n : ℕ) (front : List ℕ) (r : Result T ReadFault)
-    → Fills u v n front → Parses n (λ x. IsIt x × (spelling x ≡ front)) fault front r → Reads spelling IsIt fault u v r
-parsed_reads spelling IsIt fault u v n front (Ok x) a p = (p.0, subst (Consumes u v) (sym p.1) a.read)
-parsed_reads spelling IsIt fault u v n front (Err f) a p = fault_found fault u v n front f a p
+-- the fault of what was read is that of the bytes that were left, unless the source failed where they are cut
+pub fault_found : (T : Type 0) (fault : List ℕ → Option ReadFault) (u v : Option (List ℕ)) (n : ℕ) (failed : Bool) (front : List ℕ) (f : ReadFault) → Fronts u v n failed front
+    → StopsFront n fault front f → IfErr (told {T = T} failed (Err f)) (IsFaultOf fault u v)
+fault_found T fault u v n failed front faults.Read a s = absurd s.of_bytes
+fault_found T fault u v n failed front faults.OutOfMemory a s = absurd s.of_bytes
+fault_found T fault u v n true front faults.Cut a s = (front, a.read, cut_there fault n front s)
+fault_found T fault u v n true front (faults.Information i) a s = at_front fault u v n true front (faults.Information i) a s (λ e. absurd cc)
+fault_found T fault u v n true front faults.Magic a s = at_front fault u v n true front faults.Magic a s (λ e. absurd cc)
+fault_found T fault u v n true front faults.Version a s = at_front fault u v n true front faults.Version a s (λ e. absurd cc)
+fault_found T fault u v n true front faults.Kind a s = at_front fault u v n true front faults.Kind a s (λ e. absurd cc)
+fault_found T fault u v n true front faults.Key a s = at_front fault u v n true front faults.Key a s (λ e. absurd cc)
+fault_found T fault u v n true front faults.EmptySymbol a s = at_front fault u v n true front faults.EmptySymbol a s (λ e. absurd cc)
+fault_found T fault u v n true front faults.Order a s = at_front fault u v n true front faults.Order a s (λ e. absurd cc)
+fault_found T fault u v n true front faults.Count a s = at_front fault u v n true front faults.Count a s (λ e. absurd cc)
+fault_found T fault u v n true front faults.TooMany a s = at_front fault u v n true front faults.TooMany a s (λ e. absurd cc)
+fault_found T fault u v n true front faults.Trailing a s = at_front fault u v n true front faults.Trailing a s (λ e. absurd cc)
+fault_found T fault u v n false front f a s = at_front fault u v n false front f a s (λ e. refl)
 
-no_failure : (T : Type 0) (f : ReadFault) → (f ≡ faults.Read → ⊥) → failed {T = T} (Err f) ≡ 0
-no_failure T faults.Read h = absurd (h refl)
-no_failure T f h = refl
+-- what was read of a source, as it is parsed: a value takes all of the bytes
+pub parsed_reads : {T : Type 0} (spelling : T → List ℕ) (IsIt : T → Type 0) (fault : List ℕ → Option ReadFault) (u v : Option (List ℕ)) (n : ℕ) (failed : Bool) (front : List ℕ)
+    (r : Result T ReadFault) → Fronts u v n failed front → ((x : T) → IsIt x → n ≤ length (spelling x)) → Parses n (λ x. IsIt x × (spelling x ≡ front)) fault front r
+    → Reads spelling IsIt fault u v (told failed r)
+parsed_reads spelling IsIt fault u v n true front (Ok x) a least p = absurd (omega (arith, a.short refl, least x p.0, ap length p.1))
+parsed_reads spelling IsIt fault u v n false front (Ok x) a least p = (p.0, subst (Consumes u v) (sym p.1) a.read)
+parsed_reads {T} spelling IsIt fault u v n true front (Err f) a least p = fault_found T fault u v n true front f a p
+parsed_reads {T} spelling IsIt fault u v n false front (Err f) a least p = fault_found T fault u v n false front f a p
 
--- no device fails while bytes are parsed
-pub parsed_fails : {T : Type 0} (IsIt : T → Type 0) (fault : List ℕ → Option ReadFault) (n : ℕ) (front : List ℕ) (r : Result T ReadFault) (old new : ℕ)
-    → new ≡ old + 0 → Parses n IsIt fault front r → new ≡ old + failed r
-parsed_fails IsIt fault n front (Ok x) old new e p = e
-parsed_fails {T} IsIt fault n front (Err f) old new e p = e ∙ ap (λ k. old + k) (sym (no_failure T f p.no_device))
+fails_once : (T : Type 0) (f : ReadFault) (old new : ℕ) → IsOfBytes f → new ≡ old + 1 → Fails {T = T} old new (Err (left_by f))
+fails_once T faults.Read old new b e = absurd b
+fails_once T faults.OutOfMemory old new b e = absurd b
+fails_once T faults.Cut old new b e = e
+fails_once T f old new b e = inr e
+
+fails_never : (T : Type 0) (f : ReadFault) (old new : ℕ) → IsOfBytes f → new ≡ old → Fails {T = T} old new (Err f)
+fails_never T faults.Read old new b e = absurd b
+fails_never T faults.OutOfMemory old new b e = absurd b
+fails_never T faults.Cut old new b e = e
+fails_never T f old new b e = inl e
+
+-- how often the source failed where bytes of it were parsed
+pub parsed_fails : {T : Type 0} (IsIt : T → Type 0) (fault : List ℕ → Option ReadFault) (n : ℕ) (failed : Bool) (front : List ℕ) (r : Result T ReadFault) (old new : ℕ)
+    → new ≡ old + failure failed → Parses n IsIt fault front r → Fails old new (told failed r)
+parsed_fails IsIt fault n true front (Ok x) old new e p = e
+parsed_fails IsIt fault n false front (Ok x) old new e p = omega (arith, e)
+parsed_fails {T} IsIt fault n true front (Err f) old new e p = fails_once T f old new p.of_bytes e
+parsed_fails {T} IsIt fault n false front (Err f) old new e p = fails_never T f old new p.of_bytes (omega (arith, e))
+
+no_memory_told : (f : ReadFault) → IsOfBytes f → left_by f ≡ faults.OutOfMemory → ⊥
+no_memory_told faults.Read b e = absurd b
+no_memory_told faults.OutOfMemory b e = absurd b
+no_memory_told faults.Cut b e = cc
+no_memory_told f b e = cc
+
+no_memory_of : (f : ReadFault) → IsOfBytes f → f ≡ faults.OutOfMemory → ⊥
+no_memory_of faults.OutOfMemory b e = absurd b
+no_memory_of f b e = cc
+
+-- parsing takes no memory
+pub parsed_memory : {T : Type 0} (IsIt : T → Type 0) (fault : List ℕ → Option ReadFault) (n : ℕ) (failed : Bool) (front : List ℕ) (r : Result T ReadFault)
+    → Parses n IsIt fault front r → IfErr (told failed r) (λ f. f ≡ faults.OutOfMemory → ⊥)
+parsed_memory IsIt fault n true front (Ok x) p = λ e. cc
+parsed_memory IsIt fault n false front (Ok x) p = tt
+parsed_memory IsIt fault n true front (Err f) p = no_memory_told f p.of_bytes
+parsed_memory IsIt fault n false front (Err f) p = no_memory_of f p.of_bytes

@@ -1,19 +1,23 @@
 -- A journal that is joined entry by entry to what a store held.
-use Rattle.std.proofs.Common.{◌≡◌, ℕ, List, [], ◌∷◌, ◌++◌, Bool, true, false, Option, Some, None, Ok, sym, subst, append-nil, append_assoc}
+use Rattle.std.proofs.Common.{◌≡◌, ℕ, List, [], ◌∷◌, ◌++◌, Bool, true, false, Option, Some, None, Ok, inl, inr, sym, ◌∙◌, subst, append-nil, append_assoc}
 use Rattle.std.specs.Prelude.{IfSome}
-use Rattle.std.specs.Io.KnownBytes.{IsAtEnd}
+use Rattle.std.specs.Io.KnownBytes.{Consumes, IsAtEnd}
+use Rattle.std.specs.List.{flat_map}
 use Rattle.flute_parts.specs.declared.fact.Fact.{Fact}
 use Rattle.flute_parts.specs.declared.tally.Tally.{Tally}
 use Rattle.flute_parts.specs.Facts.{Same, Below, IsRising}
 use Rattle.flute_parts.specs.Limits.{Over}
 use Rattle.flute_parts.specs.Tally.{Counts}
-use Rattle.flute_parts.proofs.Facts.{Same-itself, Same-sym, Same-trans, Same-append, Below-itself, Below-trans, Below-from_Same}
+use Rattle.flute_parts.proofs.Facts.{Same-itself, Same-sym, Same-trans, Same-append, Below-itself, Below-trans, Below-append, Below-from_Same}
 use Rattle.flute_parts.proofs.Named.{Over-below}
 use Rattle.flute_journal.specs.declared.reader.Stage.{Stage}
 use Rattle.flute_journal.specs.declared.reader.Stage.TheVariants.{Header}
 use Rattle.flute_journal.specs.Reading.{Gives}
-use Rattle.flute_journal.specs.Stores.{BeginsOver, HoldsBoth, IsJournalOf, JoinsJournal}
-use Rattle.flute_journal.proofs.Whole.{Sofar, sofar-none, sofar-next}
+use Rattle.flute_journal.specs.Stores.{AddsOnly, BeginsOver, HoldsBoth, IsJournalOf, JoinsJournal}
+use Rattle.flute_journal.specs.Format.{header, entry}
+use Rattle.flute_journal.specs.Journal.{AreEntries}
+use Rattle.flute_journal.specs.SoFar.{Sofar, read_of}
+use Rattle.flute_journal.proofs.Whole.{sofar-none, sofar-next}
 use Rattle.flute_journal.proofs.Loading.{Loaded, loaded-over, given-entry, loaded-all}
 
 -- these entries were read and are counted, and were joined to what the store held, or are over its limits with that
@@ -23,25 +27,26 @@ pub record JoinedSofar (s o y limit : ℕ) (first now : Option (List ℕ)) (stag
   pub counts : Counts s o y entries tally
   pub held : HoldsBoth s o y before entries content fits
   pub kept : Below before content
+  pub only : Below content (before ++ entries)
 
 -- the entries alone
 pub alone : (s o y limit : ℕ) (u v : Option (List ℕ)) (stage : Stage) (before content : List Fact) (fits : Bool) (tally : Tally s o y)
     → (j : JoinedSofar s o y limit u v stage before content fits tally) → Loaded s o y limit u v stage j.entries
 alone s o y limit u v stage before content fits tally j = record { entries = j.entries; sofar = j.sofar; same = Same-itself j.entries; fits = j.counts.within }
 
+pub Below-more : (F G : List Fact) → Below F (F ++ G)
+Below-more F G =
+    let P : List Fact → Type 0 = λ H. Same H (F ++ G) in
+    subst P (append_assoc F F G) (Same-append (F ++ F) F G G (Below-itself F) (Same-itself G))
+
 pub joined-none : (s o y limit : ℕ) (u v : Option (List ℕ)) (stage : Stage) (before : List Fact) (tally : Tally s o y) → v ≡ u → stage ≡ Header → Counts s o y [] tally
     → JoinedSofar s o y limit u v stage before before true tally
 joined-none s o y limit u v stage before tally e is c =
     subst (λ (x : Option (List ℕ)). JoinedSofar s o y limit u x stage before before true tally) (sym e)
     (subst (λ (x : Stage). JoinedSofar s o y limit u u x before before true tally) (sym is)
-    (record { entries = []; sofar = sofar-none limit u; counts = c; held = rw (append-nil before) (Same-itself before); kept = Below-itself before }))
+    (record { entries = []; sofar = sofar-none limit u; counts = c; held = rw (append-nil before) (Same-itself before); kept = Below-itself before; only = Below-more before [] }))
 
 -- what became of one more
-
-pub Below-more : (F G : List Fact) → Below F (F ++ G)
-Below-more F G =
-    let P : List Fact → Type 0 = λ H. Same H (F ++ G) in
-    subst P (append_assoc F F G) (Same-append (F ++ F) F G G (Below-itself F) (Same-itself G))
 
 -- a store that holds one more keeps what it held, and so does one that is as it was
 pub kept-more : (F G : List Fact) (f : Fact) → Same G (F ++ f ∷ []) → Below F G
@@ -49,6 +54,21 @@ kept-more F G f same = Below-trans F (F ++ f ∷ []) G (Below-more F (f ∷ []))
 
 pub kept-same : (F G : List Fact) → G ≡ F → Below F G
 kept-same F G e = subst (Below F) (sym e) (Below-itself F)
+
+-- and a store that holds one more holds nothing else
+pub only-more : (F G : List Fact) (f : Fact) → Same G (F ++ f ∷ []) → Below G (F ++ f ∷ [])
+only-more F G f same = Below-from_Same G (F ++ f ∷ []) same
+
+pub only-same : (F G : List Fact) (f : Fact) → G ≡ F → Below G (F ++ f ∷ [])
+only-same F G f e = subst (λ H. Below H (F ++ f ∷ [])) (sym e) (Below-more F (f ∷ []))
+
+before-more : (before es : List Fact) (f : Fact) → Below (before ++ es) (before ++ (es ++ f ∷ []))
+before-more before es f = subst (Below (before ++ es)) (append_assoc before es (f ∷ [])) (Below-more (before ++ es) (f ∷ []))
+
+only-next : (before es content now : List Fact) (f : Fact) → Below content (before ++ es) → Below now (content ++ f ∷ []) → Below now (before ++ (es ++ f ∷ []))
+only-next before es content now f only h =
+    Below-trans now (content ++ f ∷ []) (before ++ (es ++ f ∷ [])) h
+    (subst (Below (content ++ f ∷ [])) (append_assoc before es (f ∷ [])) (Below-append content (before ++ es) (f ∷ []) (f ∷ []) only (Below-itself (f ∷ []))))
 
 over-more : (s o y : ℕ) (before es : List Fact) (f : Fact) → Over (before ++ es) s o y → Over (before ++ (es ++ f ∷ [])) s o y
 over-more s o y before es f over =
@@ -68,13 +88,14 @@ module _ (s o y limit bound : ℕ) (u v w : Option (List ℕ)) (old new : Stage)
     (b : bound ≡ limit) (e : given ≡ Some f) (h : Gives bound old new v w (Ok given)) where
   -- it was put where there was room
   pub joined-put : (now : List Fact) (after : Tally s o y) (fits : Bool) → (j : JoinedSofar s o y limit u v old before content true tally) → Counts s o y (j.entries ++ f ∷ []) after → HoldsBoth s o y content (f ∷ []) now fits
-      → Below content now → JoinedSofar s o y limit u w new before now fits after
-  joined-put now after fits j counts held kept = record {
+      → Below content now → Below now (content ++ f ∷ []) → JoinedSofar s o y limit u w new before now fits after
+  joined-put now after fits j counts held kept only = record {
     entries = j.entries ++ f ∷ [];
     sofar = sofar-next limit u v w old new j.entries f j.sofar (given-entry limit bound v w old new given f b e h);
     counts = counts;
     held = held-more s o y before j.entries content now f fits j.held held;
     kept = Below-trans before content now j.kept kept;
+    only = only-next before j.entries content now f j.only only;
   }
 
   -- or only counted
@@ -85,6 +106,7 @@ module _ (s o y limit bound : ℕ) (u v w : Option (List ℕ)) (old new : Stage)
     counts = counts;
     held = over-more s o y before j.entries f j.held;
     kept = j.kept;
+    only = Below-trans content (before ++ j.entries) (before ++ (j.entries ++ f ∷ [])) j.only (before-more before j.entries f);
   }
 
   -- the entries rise with it
@@ -95,6 +117,27 @@ module _ (s o y limit bound : ℕ) (u v w : Option (List ℕ)) (old new : Stage)
   pub alone-over : (fits : Bool) → (j : JoinedSofar s o y limit u v old before content fits tally) → Over (j.entries ++ f ∷ []) s o y → IfSome u (BeginsOver s o y limit)
   alone-over fits j over =
       loaded-over s o y limit u v w old new j.entries f (alone s o y limit u v old before content fits tally j) (given-entry limit bound v w old new given f b e h) over
+
+-- nothing came to the store but what was read
+
+only-begun : (limit : ℕ) (u v : Option (List ℕ)) (before content es : List Fact) → AreEntries limit es → Consumes u v (read_of es) → Below content (before ++ es)
+    → IfSome u (λ bytes. AddsOnly limit bytes before content)
+only-begun limit None v before content es a took only = tt
+only-begun limit (Some x) None before content es a took only = absurd took
+only-begun limit (Some x) (Some y) before content [] a took only = inl (subst (Below content) (append-nil before) only)
+only-begun limit (Some x) (Some y) before content (e ∷ es) a took only =
+    inr (e ∷ es, record { are_entries = a; rest = y; whole = took ∙ append_assoc header (flat_map entry (e ∷ es)) y }, only)
+
+pub adds-only : (s o y limit : ℕ) (u v : Option (List ℕ)) (stage : Stage) (before content : List Fact) (fits : Bool) (tally : Tally s o y)
+    → JoinedSofar s o y limit u v stage before content fits tally → IfSome u (λ bytes. AddsOnly limit bytes before content)
+adds-only s o y limit u v stage before content fits tally j = only-begun limit u v before content j.entries j.sofar.are_entries j.sofar.read j.only
+
+pub adds-one : (s o y limit bound : ℕ) (u v w : Option (List ℕ)) (old new : Stage) (before content now : List Fact) (fits : Bool) (tally : Tally s o y) (given : Option Fact) (f : Fact)
+    → JoinedSofar s o y limit u v old before content fits tally → bound ≡ limit → given ≡ Some f → Gives bound old new v w (Ok given) → Below now (content ++ f ∷ [])
+    → IfSome u (λ bytes. AddsOnly limit bytes before now)
+adds-one s o y limit bound u v w old new before content now fits tally given f j b e h only =
+    let next = sofar-next limit u v w old new j.entries f j.sofar (given-entry limit bound v w old new given f b e h) in
+    only-begun limit u w before now (j.entries ++ f ∷ []) next.are_entries next.read (only-next before j.entries content now f j.only only)
 
 -- the end
 held-same : (s o y : ℕ) (before es fs content : List Fact) (fits : Bool) → Same es fs → HoldsBoth s o y before es content fits → HoldsBoth s o y before fs content fits

@@ -1,6 +1,6 @@
 -- A store that is read entry by entry.
-use Rattle.std.proofs.Common.{◌≡◌, ◌≤◌, ℕ, ◌+◌, List, [], ◌∷◌, ◌++◌, length, Bool, true, false, if◌then◌else◌, Option, Some, None, Ok, Err, inl, inr, refl, sym, ap, ◌∙◌, subst, append_assoc, append-nil, arith}
-use Rattle.std.specs.Prelude.{IfSome}
+use Rattle.std.proofs.Common.{◌≡◌, ℕ, List, [], ◌∷◌, ◌++◌, Bool, true, false, Option, Some, None, Ok, Err, inl, inr, refl, sym, ap, ◌∙◌, subst, append-nil, arith}
+use Rattle.std.specs.Prelude.{IfSome, MatchBool}
 use Rattle.std.specs.List.{flat_map}
 use Rattle.std.specs.Io.KnownBytes.{Consumes, IsAtEnd}
 use Rattle.std.proofs.KnownBytes.{Consumes-trans}
@@ -14,16 +14,17 @@ use Rattle.flute_parts.proofs.Named.{Over-below}
 use Rattle.flute_journal.specs.declared.fault.ReadFault.{ReadFault}
 use Rattle.flute_journal.specs.declared.fault.ReadFault.TheVariants as faults
 use Rattle.flute_journal.specs.declared.fault.LoadFault.TheVariants.{Read}
-use Rattle.flute_journal.specs.Input.{failed}
+use Rattle.flute_journal.specs.Input.{Fails, FailsIf}
 use Rattle.flute_journal.specs.declared.reader.Stage.{Stage}
 use Rattle.flute_journal.specs.declared.reader.Stage.TheVariants.{Header, Ended}
 use Rattle.flute_journal.specs.Format.{header, entry, end, spelling}
 use Rattle.flute_journal.specs.Journal.{AreEntries}
-use Rattle.flute_journal.specs.Reading.{is_open, position, opening, GivesEntry, GivesEnd, GivesFault, Gives, IsPart, in_opening, in_entry}
-use Rattle.flute_journal.specs.Whole.{HasFault}
-use Rattle.flute_journal.specs.Stores.{IsJournalOf, BeginsWith, BeginsOver, IsLoadFault, ReadsPart, in_header, behind, refused, load_failed}
+use Rattle.flute_journal.specs.Reading.{is_open, position, opening, GivesEntry, GivesEnd, GivesFault, Gives}
+use Rattle.flute_journal.specs.Whole.{ReadsPart, behind}
+use Rattle.flute_journal.specs.Stores.{IsJournalOf, BeginsWith, BeginsOver, FailsToLoad, IsLoadFault, refused}
 use Rattle.flute_journal.proofs.Parts.{entry_within-short}
-use Rattle.flute_journal.proofs.Whole.{stage_at, read_of, not_failed, Sofar, sofar-none, sofar-next, sofar-fault}
+use Rattle.flute_journal.specs.SoFar.{stage_at, read_of, Sofar}
+use Rattle.flute_journal.proofs.Whole.{all_read, sofar-none, sofar-next, sofar-stops}
 
 -- these entries were read, and what they come to is held within the limits
 pub record Loaded (s o y limit : ℕ) (first now : Option (List ℕ)) (stage : Stage) (content : List Fact) : Type 0 where
@@ -76,7 +77,7 @@ begins-over s o y limit None w es f a h over = tt
 begins-over s o y limit (Some x) None es f a h over = absurd h
 begins-over s o y limit (Some x) (Some z) es f a h over = (es ++ f ∷ [], begins limit x z (es ++ f ∷ []) a h, over)
 
-read_some : (es : List Fact) (f : Fact) → read_of (es ++ f ∷ []) ≡ header ++ flat_map entry (es ++ f ∷ [])
+pub read_some : (es : List Fact) (f : Fact) → read_of (es ++ f ∷ []) ≡ header ++ flat_map entry (es ++ f ∷ [])
 read_some [] f = refl
 read_some (e ∷ es) f = refl
 
@@ -91,10 +92,6 @@ loaded-over s o y limit u v w old new F f l h over =
 not_ended : (es : List Fact) → stage_at es ≡ Ended → ⊥
 not_ended [] e = cc
 not_ended (x ∷ es) e = cc
-
-all_read : (es : List Fact) → read_of es ++ (opening (stage_at es) ++ end (position (stage_at es)).count) ≡ spelling es
-all_read [] = refl
-all_read (e ∷ es) = append_assoc header (flat_map entry (e ∷ es)) (end (length (e ∷ es)))
 
 journal-of : (limit : ℕ) (u w : Option (List ℕ)) (content es : List Fact) → AreEntries limit es → Same content es → Consumes u w (spelling es) → IsAtEnd w
     → IfSome u (λ bytes. IsJournalOf limit bytes content)
@@ -128,24 +125,29 @@ entries_at stage = (position stage).count
 
 -- and how often the source failed
 
-open_at : (es : List Fact) → is_open (stage_at es) ≡ true
+pub open_at : (es : List Fact) → is_open (stage_at es) ≡ true
 open_at [] = refl
 open_at (e ∷ es) = refl
 
-failed_same : (T X : Type 0) (f : ReadFault) → failed {T = T} (Err f) ≡ load_failed {T = X} (Err (Read f))
-failed_same T X faults.Read = refl
-failed_same T X f = refl
+pub fails_same : (T X : Type 0) (f : ReadFault) (n m : ℕ) → Fails {T = T} n m (Err f) → Fails {T = X} n m (Err f)
+fails_same T X faults.Read n m h = h
+fails_same T X faults.Cut n m h = h
+fails_same T X faults.OutOfMemory n m h = h
+fails_same T X f n m h = h
+
+load_fails : (T X : Type 0) (f : ReadFault) (n m k : ℕ) → m ≡ n → Fails {T = T} m k (Err f) → FailsToLoad {T = X} n k (Err (Read f))
+load_fails T X f n m k e h =
+    let P : ℕ → Type 0 = λ i. Fails {T = X} i k (Err f) in
+    subst P e (fails_same T X f m k h)
 
 pub loaded-failed : (T X : Type 0) (s o y limit : ℕ) (u v : Option (List ℕ)) (stage : Stage) (F : List Fact) (f : ReadFault) (n m k : ℕ) → Loaded s o y limit u v stage F
-    → m ≡ n → k ≡ m + (if is_open stage then failed {T = T} (Err f) else 0) → k ≡ n + load_failed {T = X} (Err (Read f))
+    → m ≡ n → FailsIf {T = T} (is_open stage) m k (Err f) → FailsToLoad {T = X} n k (Err (Read f))
 loaded-failed T X s o y limit u v stage F f n m k l e h =
-    h
-    ∙ ap (λ b. m + (if b then failed {T = T} (Err f) else 0)) (ap is_open l.sofar.stage_is ∙ open_at l.entries)
-    ∙ ap (λ a. a + failed {T = T} (Err f)) e
-    ∙ ap (λ a. n + a) (failed_same T X f)
+    let P : Bool → Type 0 = λ b. FailsIf {T = T} b m k (Err f) in
+    load_fails T X f n m k e (subst P (ap is_open l.sofar.stage_is ∙ open_at l.entries) h)
 
 -- no failure is counted where something was given
-pub loaded-read : (b : Bool) (n m k : ℕ) → m ≡ n → k ≡ m + (if b then 0 else 0) → k ≡ n
+pub loaded-read : (b : Bool) (n m k : ℕ) → m ≡ n → MatchBool b (k ≡ m) (k ≡ m) → k ≡ n
 loaded-read true n m k e h = omega (arith, e, h)
 loaded-read false n m k e h = omega (arith, e, h)
 
@@ -162,57 +164,36 @@ pub loaded-given : {X : Type 0} (s o y limit bound : ℕ) (u v w : Option (List 
 loaded-given s o y limit bound u v w old new F G given f x l b e h same full =
     loaded-next s o y limit u v w old new F G f l (given-entry limit bound v w old new given f b e h) same (λ over. let is = full over in absurd cc)
 
-pub loaded-full : (s o y limit bound : ℕ) (u v w : Option (List ℕ)) (old new : Stage) (F : List Fact) (given : Option Fact) (f : Fact) (why : JoinRefusal)
+pub loaded-full : (s o y limit bound : ℕ) (u v w z : Option (List ℕ)) (old new : Stage) (F : List Fact) (given : Option Fact) (f : Fact) (why : JoinRefusal)
     → Loaded s o y limit u v old F → bound ≡ limit → given ≡ Some f → Gives bound old new v w (Ok given)
-    → (why ≡ join.Full → Over (F ++ f ∷ []) s o y) → IsLoadFault s o y limit u (refused why)
-loaded-full s o y limit bound u v w old new F given f join.Full l b e h full =
+    → (why ≡ join.Full → Over (F ++ f ∷ []) s o y) → IsLoadFault s o y limit u z (refused why)
+loaded-full s o y limit bound u v w z old new F given f join.Full l b e h full =
     loaded-over s o y limit u v w old new F f l (given-entry limit bound v w old new given f b e h) (full refl)
-loaded-full s o y limit bound u v w old new F given f join.OutOfMemory l b e h full = tt
+loaded-full s o y limit bound u v w z old new F given f join.OutOfMemory l b e h full = tt
 
 pub loaded-all : (s o y limit bound : ℕ) (u v w : Option (List ℕ)) (old new : Stage) (F : List Fact) (given : Option Fact) → Loaded s o y limit u v old F
     → bound ≡ limit → given ≡ None → Gives bound old new v w (Ok given) → IsLoaded limit u w F
 loaded-all s o y limit bound u v w old new F None l b e h = loaded-end s o y limit u v w old new F l h
 loaded-all s o y limit bound u v w old new F (Some f) l b e h = absurd cc
 
-pub loaded-fault : (s o y limit bound : ℕ) (u v w : Option (List ℕ)) (old new : Stage) (F : List Fact) (f : ReadFault) → Loaded s o y limit u v old F
-    → bound ≡ limit → GivesFault bound old new v w f → HasFault limit u f
-loaded-fault s o y limit bound u v w old new F f l b h =
-    sofar-fault limit u v w old new l.entries f l.sofar (subst (λ (n : ℕ). GivesFault n old new v w f) b h)
+pub loaded-stops : (s o y limit bound : ℕ) (u v w : Option (List ℕ)) (old new : Stage) (F : List Fact) (f : ReadFault) → Loaded s o y limit u v old F
+    → bound ≡ limit → GivesFault bound old new v w f → IsLoadFault s o y limit u w (Read f)
+loaded-stops s o y limit bound u v w old new F f l b h =
+    (l.entries, l.fits, (sofar-stops limit u v w old new l.entries f l.sofar (subst (λ (n : ℕ). GivesFault n old new v w f) b h)).0)
 
 -- What was read where no store was.
 
-no_bytes : (part : List ℕ) → length part ≤ 0 → part ≡ []
-no_bytes [] h = refl
-no_bytes (x ∷ part) h = absurd (omega (arith, h))
-
-part-at : (limit : ℕ) (u v w : Option (List ℕ)) (es : List Fact) (part : List ℕ) → AreEntries limit es → Consumes u v (read_of es) → Consumes v w part → IsPart (stage_at es) part
-    → ReadsPart limit u w
-part-at limit u v w [] part a took more (in_opening few) = in_header part (Consumes-trans u v w [] part took more) few
-part-at limit u v w [] part a took more (in_entry front e within) = behind [] front a (subst (Consumes u w) e (Consumes-trans u v w [] part took more)) within
-part-at limit u v w (e ∷ es) part a took more (in_opening few) =
-    let read = Consumes-trans u v w (header ++ flat_map entry (e ∷ es)) part took more in
-    behind (e ∷ es) [] a (subst (λ (x : List ℕ). Consumes u w (header ++ flat_map entry (e ∷ es) ++ x)) (no_bytes part few) read) (entry_within-short [] (omega arith))
-part-at limit u v w (e ∷ es) part a took more (in_entry front is within) =
-    let read = Consumes-trans u v w (header ++ flat_map entry (e ∷ es)) part took more in
-    behind (e ∷ es) front a (subst (λ (x : List ℕ). Consumes u w (header ++ flat_map entry (e ∷ es) ++ x)) is read) within
-
-part-found : (limit : ℕ) (u v w : Option (List ℕ)) (new : Stage) (es : List Fact) (f : ReadFault) → AreEntries limit es → Consumes u v (read_of es)
-    → GivesFault limit (stage_at es) new v w f → ReadsPart limit u w
-part-found limit u v w new es f a took h = elim h.found [
-  | inl p ↦ absurd (not_failed es f p.0)
-  | inr p ↦ part-at limit u v w es p.2.0 a took p.2.1 p.2.2
-]
-
 pub fault-part : (s o y limit bound : ℕ) (u v w : Option (List ℕ)) (old new : Stage) (F : List Fact) (f : ReadFault) → Loaded s o y limit u v old F
-    → bound ≡ limit → GivesFault bound old new v w f → ReadsPart limit u w
+    → bound ≡ limit → GivesFault bound old new v w f → (entries : List Fact) × ReadsPart limit u w entries
 fault-part s o y limit bound u v w old new F f l b h =
-    part-found limit u v w new l.entries f l.sofar.are_entries l.sofar.read
-    (subst (λ (x : Stage). GivesFault limit x new v w f) l.sofar.stage_is (subst (λ (n : ℕ). GivesFault n old new v w f) b h))
+    (l.entries, (sofar-stops limit u v w old new l.entries f l.sofar (subst (λ (n : ℕ). GivesFault n old new v w f) b h)).1)
 
 pub refused-part : (s o y limit bound : ℕ) (u v w : Option (List ℕ)) (old new : Stage) (F : List Fact) (given : Option Fact) (f : Fact) → Loaded s o y limit u v old F
-    → bound ≡ limit → given ≡ Some f → Gives bound old new v w (Ok given) → ReadsPart limit u w
+    → bound ≡ limit → given ≡ Some f → Gives bound old new v w (Ok given) → (entries : List Fact) × ReadsPart limit u w entries
 refused-part s o y limit bound u v w old new F given f l b e h =
     let es = l.entries ++ f ∷ [] in
-    let next = sofar-next limit u v w old new l.entries f l.sofar (given-entry limit bound v w old new given f b e h) in
-    behind es [] next.are_entries (subst (Consumes u w) (read_some l.entries f ∙ sym (append-nil (header ++ flat_map entry es))) next.read)
-    (entry_within-short [] (omega arith))
+    let next = sofar-next limit u v w old new l.entries f l.sofar (given-entry limit bound v w old new given f b e h) in (
+      es,
+      behind next.are_entries [] (subst (Consumes u w) (read_some l.entries f ∙ sym (append-nil (header ++ flat_map entry es))) next.read)
+          (entry_within-short [] (omega arith)),
+    )

@@ -13,7 +13,8 @@ use Rattle.flute_journal.specs.Journal.{IsFact, AreEntries}
 use Rattle.flute_journal.specs.Reading.{is_open, position, opening, IsPart, in_opening, in_entry, GivesEnd, GivesFault, Gives}
 use Rattle.flute_journal.specs.Merges.{front, EndsBehind, in_header, behind, ReadsBehind}
 use Rattle.flute_journal.proofs.Parts.{entry_within-short}
-use Rattle.flute_journal.proofs.Whole.{Sofar, stage_at, read_of, sofar-next}
+use Rattle.flute_journal.specs.SoFar.{Sofar, stage_at, read_of}
+use Rattle.flute_journal.proofs.Whole.{sofar-next}
 use Rattle.flute_journal.proofs.MergeBytes.{front-snoc, within_entry, within_end, within_nil}
 
 -- an input that was read to the end of its journal

@@ -1,5 +1,5 @@
 -- The records of a datagram file.
-use Rattle.std.proofs.Common.{◌≡◌, ℕ, ◌+◌, ◌^◌, ◌<◌, ◌≤◌, true, false, leb, ◌⊎◌, List, [], ◌∷◌, ◌++◌, length, take, drop, Option, Some, None, inl, inr, refl, sym, ap, ◌∙◌, subst, append_assoc, arith}
+use Rattle.std.proofs.Common.{◌≡◌, ℕ, ◌+◌, ◌^◌, ◌<◌, ◌≤◌, Bool, true, false, leb, ◌⊎◌, List, [], ◌∷◌, ◌++◌, length, take, drop, Option, Some, None, Result, Ok, Err, inl, inr, refl, sym, ap, ◌∙◌, subst, append_assoc, arith}
 use Rattle.std.proofs.lemmas.Bool.{le-leb, lt-leb, lt-ltb}
 use Rattle.std.proofs.lemmas.List.{take_at, drop_at, length-append, append-nil, flat_map_more}
 use Rattle.std.specs.List.{flat_map, AllByRecursion, IsSplitAt}
@@ -13,15 +13,16 @@ use Rattle.flute_journal.specs.declared.datagram_reader.FileStage.{FileStage}
 use Rattle.flute_journal.specs.declared.datagram_reader.FileStage.TheVariants.{Header, Records, Ended, Failed}
 use Rattle.flute_journal.specs.Numbers.{in_bytes}
 use Rattle.flute_journal.specs.Faults.{Check, first_fault, cut, opening_fault}
-use Rattle.flute_journal.specs.Input.{IsFaultOf}
+use Rattle.flute_journal.specs.Input.{Advances, Fronts, IsFaultOf, IsFaultUpTo, IsWithin, StaysWithin, shortage, told}
 use Rattle.flute_journal.specs.Journal.{IsByte}
 use Rattle.flute_journal.specs.Parsing.{StopsFront, cut_fault}
 use Rattle.flute_journal.specs.Reading.{or_else}
-use Rattle.flute_journal.specs.Records.{file_header, record_of, IsCut, IsDatagram, AreDatagrams, IsFileWithin, FileStops, in_header, behind, HasFileFault, record_checks, record_fault, given, opening, file_fault_from, GivesRecord, GivesNone, GivesFileFault}
-use Rattle.flute_journal.proofs.Numbers.{octets-drop}
+use Rattle.flute_journal.specs.Records.{file_header, record_of, IsCut, IsDatagram, AreDatagrams, IsFileWithin, FileStops, in_header, behind, HasFileFault, ReadsRecord, record_checks, record_fault, given, opening, file_fault_from, GivesRecord, GivesNone, GivesFileFault}
+use Rattle.flute_journal.proofs.Numbers.{octets-drop, in_bytes-injective, length-in_bytes}
 use Rattle.flute_journal.proofs.Decoded.{joined, front_octets}
-use Rattle.flute_journal.proofs.Checks.{first-pass, first-stop, cut-passes}
-use Rattle.flute_journal.proofs.Fronts.{fault-behind}
+use Rattle.flute_journal.proofs.Checks.{first-pass, first-stop, cut-passes, nothing_left}
+use Rattle.flute_journal.proofs.Parts.{within-short}
+use Rattle.flute_journal.proofs.Fronts.{fault-behind, fault_up_to}
 use Rattle.flute_journal.proofs.Existence.{opening_is}
 
 -- a byte follows as many records as there may be
@@ -44,10 +45,32 @@ record_comes limit count n [] r few len is = absurd (omega (arith, len))
 record_comes limit count n (b ∷ bs) r few len is = record_checked limit count (b ∷ bs) r few len ∙ ap (λ k. cut_fault k r) (sym is)
 
 -- the bytes of a record could not be read
-pub record_stops : (limit count n : ℕ) (u v : Option (List ℕ)) (front : List ℕ) (f : ReadFault) → count < limit → length front ≡ 2 → n ≡ big_endian front
-    → Consumes u v front → IsFaultOf (cut_fault n) v f → IsFaultOf (record_fault limit count) u f
-record_stops limit count n u v front f few len is took h =
-    fault-behind u v front (record_fault limit count) (cut_fault n) f took (λ r e. record_comes limit count n front r few len is ∙ e) h
+pub record_stops : (limit count n : ℕ) (u v w : Option (List ℕ)) (front : List ℕ) (f : ReadFault) → count < limit → length front ≡ 2 → n ≡ big_endian front
+    → Consumes u v front → IsFaultOf (cut_fault n) v w f → IsFaultUpTo [] (record_fault limit count) u w f
+record_stops limit count n u v w front f few len is took h =
+    fault_up_to [] (record_fault limit count) u w f
+    (fault-behind u v w front (record_fault limit count) (cut_fault n) f took (λ r. record_comes limit count n front r few len is) h)
+
+-- What holds nothing behind a whole record.
+
+record_within-short : (part : List ℕ) → length part ≤ 2 → IsWithin record_of IsDatagram part
+record_within-short part few = within-short record_of IsDatagram 2 part (λ d v. omega (arith, length-append (in_bytes 2 (length d)) d, length-in_bytes 2 (length d))) few
+
+-- no more bytes than the length of a record says
+record_within : (n : ℕ) (front part : List ℕ) → in_bytes 2 n ≡ front → n < 2 ^ 16 → length part ≤ n → IsWithin record_of IsDatagram (front ++ part)
+record_within n front part is small few d more v e =
+    let whole : in_bytes 2 n ++ part ≡ in_bytes 2 (length d) ++ (d ++ more) = ap (λ (x : List ℕ). x ++ part) is ∙ e ∙ append_assoc (in_bytes 2 (length d)) d more in
+    let s = in_bytes-injective 2 n (length d) part (d ++ more) (omega (arith, small)) (omega (arith, v.short)) whole in
+    nothing_left d more (omega (arith, few, s.0, ap length s.1))
+
+pub length_ends : {T : Type 0} (u v : Option (List ℕ)) (front : List ℕ) (r : Result T ReadFault) → Consumes u v front → length front ≤ 2 → StaysWithin record_of IsDatagram u v r
+length_ends u v front (Ok x) took few = tt
+length_ends u v front (Err f) took few = (front, took, record_within-short front few)
+
+pub record_ends : {T : Type 0} (n : ℕ) (u v w : Option (List ℕ)) (front : List ℕ) (r : Result T ReadFault) → in_bytes 2 n ≡ front → n < 2 ^ 16 → Consumes u v front → Advances v w n
+    → StaysWithin record_of IsDatagram u w r
+record_ends n u v w front (Ok x) is small took a = tt
+record_ends n u v w front (Err f) is small took a = (front ++ a.0, Consumes-trans u v w front a.0 took a.1, record_within n front a.0 is small a.2)
 
 -- a record was read whole
 pub record_read : (limit count n : ℕ) (u v w : Option (List ℕ)) (front d : List ℕ) → count < limit → in_bytes 2 n ≡ front → n < 2 ^ 16
@@ -186,17 +209,17 @@ known_stops limit None v ds f a took h = tt
 known_stops limit (Some x) None ds f a took h = absurd took
 known_stops limit (Some x) (Some y) ds f a took h = stops_at limit x y ds f a took h
 
-fault_at : (limit : ℕ) (u v : Option (List ℕ)) (ds : List (List ℕ)) (f : ReadFault) → AreDatagrams limit ds → Consumes u v (file_read_of ds)
-    → IsFaultOf (file_fault_from (file_stage_at ds) limit) v f → HasFileFault limit u f
-fault_at limit u v ds faults.Read a took h = tt
-fault_at limit u v ds faults.OutOfMemory a took h = tt
-fault_at limit u v ds f a took h = known_stops limit u v ds f a took h
+fault_at : (limit : ℕ) (u v w : Option (List ℕ)) (last : List ℕ) (ds : List (List ℕ)) (f : ReadFault) → AreDatagrams limit ds → Consumes u v (file_read_of ds)
+    → IsFaultUpTo last (file_fault_from (file_stage_at ds) limit) v w f → HasFileFault limit u f
+fault_at limit u v w last ds faults.Read a took h = tt
+fault_at limit u v w last ds faults.OutOfMemory a took h = tt
+fault_at limit u v w last ds f a took h = known_stops limit u v ds f a took h
 
 pub file_sofar-fault : (limit : ℕ) (u v w : Option (List ℕ)) (old new : FileStage) (ds : List (List ℕ)) (f : ReadFault) → FileSofar limit u v old ds
     → GivesFileFault limit old new v w f → HasFileFault limit u f
 file_sofar-fault limit u v w old new ds f s h = elim h.found [
   | inl p ↦ absurd (not_failed ds f (sym s.stage_is ∙ p.0))
-  | inr p ↦ fault_at limit u v ds f s.are_datagrams s.read (subst (λ (x : FileStage). IsFaultOf (file_fault_from x limit) v f) s.stage_is p.1)
+  | inr p ↦ fault_at limit u v w (opening old) ds f s.are_datagrams s.read (subst (λ (x : FileStage). IsFaultUpTo (opening old) (file_fault_from x limit) v w f) s.stage_is p.1)
 ]
 
 first_of : (c d : Check) → c.1 ≡ faults.Cut → d.0 ≡ true → d.1 ≡ faults.Cut → first_fault (c ∷ d ∷ []) ≡ Some faults.Cut
@@ -266,3 +289,26 @@ pub opening_stops : (limit : ℕ) (file opening rest : List ℕ) (n : ℕ) (f : 
 opening_stops limit file opening rest n f s whole stops =
     let bytes : file ≡ opening ++ rest = joined file opening rest n s in
     opening_fault_found limit file f (ap (opening_fault file_header) bytes ∙ stops.whole rest (λ e. nothing_behind opening rest n s.3 whole (stops.short e)))
+
+known_cut : (u v : Option (List ℕ)) (front : List ℕ) (fault : List ℕ → Option ReadFault) → Consumes u v front → IsAtEnd v → fault front ≡ Some faults.Cut
+    → IfSome u (λ bytes. fault bytes ≡ Some faults.Cut)
+known_cut None v front fault took ended e = tt
+known_cut (Some x) None front fault took ended e = absurd took
+known_cut (Some x) (Some y) front fault took ended e = ap fault (took ∙ ap (λ (z : List ℕ). front ++ z) ended ∙ append-nil front) ∙ e
+
+nothing : (bytes : List ℕ) → length bytes ≡ 0 → bytes ≡ []
+nothing [] e = refl
+nothing (b ∷ bs) e = absurd (omega (arith, e))
+
+-- the length of a record is cut, as far as the source told
+pub length_stops : (limit count : ℕ) (failed : Bool) (u v : Option (List ℕ)) (front : List ℕ) → Fronts u v 2 failed front → 0 < length front → length front < 2 → count < limit
+    → IsFaultUpTo [] (record_fault limit count) u v (shortage failed)
+length_stops limit count true u v front a some short few = inl (front, a.read, cut_at limit count front some few (inl short))
+length_stops limit count false u v front a some short few =
+    known_cut u v front (record_fault limit count) a.read (a.fewer short refl) (cut_at limit count front some few (inl short))
+
+-- no record: the end of the input, or a source that failed
+pub no_record : (limit count : ℕ) (failed : Bool) (u v : Option (List ℕ)) (front : List ℕ) → Fronts u v 2 failed front → length front ≡ 0
+    → ReadsRecord limit count u v (told failed (Ok None))
+no_record limit count true u v front a none = inr (subst (Consumes u v) (nothing front none) a.read)
+no_record limit count false u v front a none = (subst (Consumes u v) (nothing front none) a.read, a.fewer (omega (arith, none)) refl)

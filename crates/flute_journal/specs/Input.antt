@@ -1,5 +1,5 @@
 -- What is read of a source that tells its bytes.
-use Rattle.std.specs.Prelude.{◌≡◌, ℕ, ◌<◌, ◌≤◌, List, [], ◌++◌, length, Option, Some, ⊤, Result, Err, IfSome, OnErr, MatchResult}
+use Rattle.std.specs.Prelude.{◌≡◌, ℕ, ◌+◌, ◌<◌, ◌≤◌, ◌⊎◌, Bool, true, false, MatchBool, List, [], ◌++◌, length, Option, Some, Result, Ok, Err, IfSome, OnErr, MatchResult}
 use Rattle.std.specs.Io.KnownBytes.{Consumes, IsAtEnd}
 use Rattle.flute_journal.specs.declared.fault.ReadFault.{ReadFault}
 use Rattle.flute_journal.specs.declared.fault.ReadFault.TheVariants as faults
@@ -14,21 +14,63 @@ pub record Fills (old new : Option (List ℕ)) (n : ℕ) (bytes : List ℕ) : Ty
   pub most : length bytes ≤ n
   pub fewer : length bytes < n → IsAtEnd new
 
--- how often a device failed in a call that gave this: once, where it answers `Read`
-abbrev pub failed : {T : Type 0} → Result T ReadFault → ℕ
-failed (Err faults.Read) = 1
-failed _ = 0
+-- how often a source failed that has failed, or has not
+abbrev pub failure : Bool → ℕ
+failure true = 1
+failure false = 0
 
--- it is the first fault of the bytes that were left; a device may fail, and memory run out, at any field
-abbrev pub IsFaultOf : (List ℕ → Option ReadFault) → Option (List ℕ) → ReadFault → Type 0
-IsFaultOf fault old faults.Read = ⊤
-IsFaultOf fault old faults.OutOfMemory = ⊤
-IsFaultOf fault old f = IfSome old (λ bytes. fault bytes ≡ Some f)
+-- these bytes were read: n of them, or fewer at the end of the input, or where the source failed
+pub record Fronts (old new : Option (List ℕ)) (n : ℕ) (failed : Bool) (bytes : List ℕ) : Type 0 where
+  pub read : Consumes old new bytes
+  pub most : length bytes ≤ n
+  pub fewer : length bytes < n → failed ≡ false → IsAtEnd new
+  pub short : failed ≡ true → length bytes < n
+
+-- the fault of too few bytes
+abbrev pub shortage : Bool → ReadFault
+shortage true = faults.Read
+shortage false = faults.Cut
+
+-- a fault that a failing source leaves: the bytes before it may have one, but are not cut there
+abbrev pub left_by : ReadFault → ReadFault
+left_by faults.Cut = faults.Read
+left_by f = f
+
+-- what is told of bytes behind which the source may have failed
+abbrev pub told : {T : Type 0} → Bool → Result T ReadFault → Result T ReadFault
+told false result = result
+told true (Ok x) = Err faults.Read
+told true (Err f) = Err (left_by f)
+
+-- How often the source failed in a call that gave this: once at `Read`; never where a value was given, the input ended or
+-- memory ran out; and at most once where the bytes before it have another fault.
+abbrev pub Fails : {T : Type 0} → ℕ → ℕ → Result T ReadFault → Type 0
+Fails old new (Ok x) = new ≡ old
+Fails old new (Err faults.Read) = new ≡ old + 1
+Fails old new (Err faults.Cut) = new ≡ old
+Fails old new (Err faults.OutOfMemory) = new ≡ old
+Fails old new (Err f) = (new ≡ old) ⊎ (new ≡ old + 1)
+
+-- and in one that reads only then
+abbrev pub FailsIf : {T : Type 0} → Bool → ℕ → ℕ → Result T ReadFault → Type 0
+FailsIf reads old new result = MatchBool reads (Fails old new result) (new ≡ old)
+
+-- It is the first fault of the bytes that were left. A source may fail, and memory run out, at any field: the bytes
+-- that were read until then have no fault but that they end too early.
+abbrev pub IsFaultOf : (List ℕ → Option ReadFault) → Option (List ℕ) → Option (List ℕ) → ReadFault → Type 0
+IsFaultOf fault old new faults.Read = (part : List ℕ) × Consumes old new part × (fault part ≡ Some faults.Cut)
+IsFaultOf fault old new faults.OutOfMemory = (part : List ℕ) × Consumes old new part × IfSome (fault part) (λ f. f ≡ faults.Cut)
+IsFaultOf fault old new f = IfSome old (λ bytes. fault bytes ≡ Some f)
+
+-- the same where the source may also fail behind these bytes, which nothing may follow
+abbrev pub IsFaultUpTo : List ℕ → (List ℕ → Option ReadFault) → Option (List ℕ) → Option (List ℕ) → ReadFault → Type 0
+IsFaultUpTo whole fault old new faults.Read = IsFaultOf fault old new faults.Read ⊎ Consumes old new whole
+IsFaultUpTo whole fault old new f = IsFaultOf fault old new f
 
 -- a value was read, as it is spelled and no byte more; or the bytes have a fault
 abbrev pub Reads : {T : Type 0} → (T → List ℕ) → (T → Type 0) → (List ℕ → Option ReadFault) → Option (List ℕ) → Option (List ℕ) → Result T ReadFault → Type 0
 Reads spelling IsValid fault old new result =
-    MatchResult result (λ x. IsValid x × Consumes old new (spelling x)) (IsFaultOf fault old)
+    MatchResult result (λ x. IsValid x × Consumes old new (spelling x)) (IsFaultOf fault old new)
 
 -- the bytes hold nothing behind a whole value
 abbrev pub IsWithin : {T : Type 0} → (T → List ℕ) → (T → Type 0) → List ℕ → Type 0

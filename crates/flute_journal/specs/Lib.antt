@@ -2,6 +2,7 @@ pub mod Numbers
 pub mod Format
 pub mod Faults
 pub mod Journal
+pub mod Lent
 pub mod Input
 pub mod Parsing
 pub mod Reading
@@ -11,7 +12,17 @@ pub mod DatagramReaders
 pub mod Examples
 pub mod Readers
 pub mod Whole
+pub mod SoFar
 pub mod Stores
-pub mod MergeTurns
 pub mod Merges
 pub mod RecordExamples
+pub mod Streams
+pub mod Eithers
+pub mod JournalStreams
+pub mod Advances
+pub mod Lowest
+pub mod Changes
+pub mod StreamMerges
+pub mod Pairs
+pub mod Listed
+pub mod FactStreams

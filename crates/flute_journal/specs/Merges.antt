@@ -6,7 +6,7 @@ use Rattle.flute_parts.specs.declared.fact.Fact.{Fact}
 use Rattle.flute_journal.specs.declared.merge.MergeFault.{MergeFault}
 use Rattle.flute_journal.specs.declared.merge.MergeFault.TheVariants.{First, Second, Write}
 use Rattle.flute_journal.specs.Format.{header, entry, spelling}
-use Rattle.flute_journal.specs.Input.{IsWithin, failed}
+use Rattle.flute_journal.specs.Input.{Fails, IsWithin}
 use Rattle.flute_journal.specs.Journal.{IsFact, Collects, Journal, IsJournalWithin}
 use Rattle.flute_journal.specs.Whole.{HasFault}
 
@@ -79,14 +79,14 @@ NamesFault limit first second (First f) = HasFault limit first f
 NamesFault limit first second (Second f) = HasFault limit second f
 NamesFault limit first second Write = ⊤
 
--- how often each device failed in a merge that gave this
-abbrev pub first_failed : Result ℕ MergeFault → ℕ
-first_failed (Err (First f)) = failed {T = Option Fact} (Err f)
-first_failed _ = 0
+-- how often each device failed in a merge that gave this: a source only where its input is at fault
+abbrev pub FirstFails : ℕ → ℕ → Result ℕ MergeFault → Type 0
+FirstFails old new (Err (First f)) = Fails {T = Option Fact} old new (Err f)
+FirstFails old new _ = new ≡ old
 
-abbrev pub second_failed : Result ℕ MergeFault → ℕ
-second_failed (Err (Second f)) = failed {T = Option Fact} (Err f)
-second_failed _ = 0
+abbrev pub SecondFails : ℕ → ℕ → Result ℕ MergeFault → Type 0
+SecondFails old new (Err (Second f)) = Fails {T = Option Fact} old new (Err f)
+SecondFails old new _ = new ≡ old
 
 abbrev pub sink_failed : Result ℕ MergeFault → ℕ
 sink_failed (Err Write) = 1

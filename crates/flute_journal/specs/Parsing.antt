@@ -1,5 +1,5 @@
 -- What the bytes of an entry up to those of its symbol say.
-use Rattle.std.specs.Prelude.{◌≡◌, ℕ, ◌<◌, ◌^◌, IsTrue, List, [], ◌∷◌, ◌++◌, length, Option, Some, Result, MatchResult}
+use Rattle.std.specs.Prelude.{◌≡◌, ℕ, ◌<◌, ◌^◌, IsTrue, List, [], ◌∷◌, ◌++◌, length, Option, Some, ⊤, Result, MatchResult}
 use Rattle.flute_parts.specs.Addresses.{address, symbol_address}
 use Rattle.flute_parts.specs.declared.key.Key.{Key}
 use Rattle.flute_parts.specs.declared.symbol_id.SymbolId.{SymbolId}
@@ -83,9 +83,15 @@ rest_fault last k key rest = first_fault (rest_checks (at_place 0 last) (byte_of
 abbrev pub body_fault : Option Address → Kind → List ℕ → Option ReadFault
 body_fault last k rest = first_fault (body_checks (at_place 0 last) (byte_of k) rest)
 
+-- a fault of bytes, and no failed source or want of memory
+abbrev pub IsOfBytes : ReadFault → Type 0
+IsOfBytes faults.Read = ⊥
+IsOfBytes faults.OutOfMemory = ⊥
+IsOfBytes f = ⊤
+
 -- bytes that begin so have the fault, whatever follows; they are cut only where nothing follows and there are fewer than n
 pub record StopsFront (n : ℕ) (fault : List ℕ → Option ReadFault) (front : List ℕ) (f : ReadFault) : Type 0 where
-  pub no_device : f ≡ faults.Read → ⊥
+  pub of_bytes : IsOfBytes f
   pub short : f ≡ faults.Cut → length front < n
   pub whole : (rest : List ℕ) → (f ≡ faults.Cut → rest ≡ []) → fault (front ++ rest) ≡ Some f
 

@@ -8,7 +8,7 @@ use Rattle.flute_journal.specs.declared.reader.Stage.{Stage}
 use Rattle.flute_journal.specs.declared.reader.Stage.TheVariants.{Header, Entries, Ended, Failed}
 use Rattle.flute_journal.specs.Format.{header, entry, end}
 use Rattle.flute_journal.specs.Faults.{Before, is_after, header_fault, next_fault}
-use Rattle.flute_journal.specs.Input.{IsFaultOf, IsWithin}
+use Rattle.flute_journal.specs.Input.{IsFaultUpTo, IsWithin}
 use Rattle.flute_journal.specs.Numbers.{in_bytes}
 use Rattle.flute_journal.specs.Parsing.{end_fault}
 use Rattle.flute_journal.specs.Journal.{IsFact}
@@ -17,12 +17,12 @@ use Rattle.flute_journal.specs.Journal.{IsFact}
 abbrev pub ReadsNext : ℕ → Before → Option (List ℕ) → Option (List ℕ) → Result (Option Fact) ReadFault → Type 0
 ReadsNext limit before old new (Ok (Some f)) = IsFact f × IsTrue (is_after before.last (address f)) × (before.count < limit) × Consumes old new (entry f)
 ReadsNext limit before old new (Ok None) = Consumes old new (end before.count) × IsAtEnd new
-ReadsNext limit before old new (Err f) = IsFaultOf (next_fault before limit) old f
+ReadsNext limit before old new (Err f) = IsFaultUpTo (end before.count) (next_fault before limit) old new f
 
 -- the number of entries was read and nothing stands behind it; or the bytes are at fault
 abbrev pub ReadsEnd : {T : Type 0} → ℕ → Option (List ℕ) → Option (List ℕ) → Result T ReadFault → Type 0
 ReadsEnd count old new (Ok x) = Consumes old new (in_bytes 8 count) × IsAtEnd new
-ReadsEnd count old new (Err f) = IsFaultOf (end_fault count) old f
+ReadsEnd count old new (Err f) = IsFaultUpTo (in_bytes 8 count) (end_fault count) old new f
 
 -- more may be read
 abbrev pub is_open : Stage → Bool
@@ -72,14 +72,14 @@ pub data IsPart (old : Stage) (part : List ℕ) : Type 0 where
 -- a fault was found, now or before
 pub record GivesFault (limit : ℕ) (old new : Stage) (left after : Option (List ℕ)) (f : ReadFault) : Type 0 where
   pub stays : new ≡ Failed f
-  pub found : ((old ≡ Failed f) × Keeps left after) ⊎ (IsTrue (is_open old) × IsFaultOf (fault_from old limit) left f × ((part : List ℕ) × Consumes left after part × IsPart old part))
+  pub found : ((old ≡ Failed f) × Keeps left after) ⊎ (IsTrue (is_open old) × IsFaultUpTo (opening old ++ end (position old).count) (fault_from old limit) left after f × ((part : List ℕ) × Consumes left after part × IsPart old part))
 
 -- reading on from an open stage: the next entry, the end, or a fault
 abbrev pub ReadsFrom : ℕ → Stage → Option (List ℕ) → Option (List ℕ) → Result (Option Fact) ReadFault → Type 0
 ReadsFrom limit old left after (Ok (Some f)) =
     IsFact f × IsTrue (is_after (position old).last (address f)) × ((position old).count < limit) × Consumes left after (opening old ++ entry f)
 ReadsFrom limit old left after (Ok None) = Consumes left after (opening old ++ end (position old).count) × IsAtEnd after
-ReadsFrom limit old left after (Err f) = IsFaultOf (fault_from old limit) left f × ((part : List ℕ) × Consumes left after part × IsPart old part)
+ReadsFrom limit old left after (Err f) = IsFaultUpTo (opening old ++ end (position old).count) (fault_from old limit) left after f × ((part : List ℕ) × Consumes left after part × IsPart old part)
 
 -- where a reader stands behind what it gave, if so many entries stood before
 abbrev pub stage_behind : ℕ → Result (Option Fact) ReadFault → Stage

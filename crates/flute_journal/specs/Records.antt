@@ -9,7 +9,7 @@ use Rattle.flute_journal.specs.declared.datagram_reader.FileStage.{FileStage}
 use Rattle.flute_journal.specs.declared.datagram_reader.FileStage.TheVariants.{Header, Records, Ended, Failed}
 use Rattle.flute_journal.specs.Numbers.{in_bytes}
 use Rattle.flute_journal.specs.Faults.{Check, first_fault, cut, opening_fault}
-use Rattle.flute_journal.specs.Input.{IsFaultOf}
+use Rattle.flute_journal.specs.Input.{IsFaultUpTo, IsWithin}
 use Rattle.flute_journal.specs.Journal.{IsByte}
 use Rattle.flute_journal.specs.Reading.{or_else}
 
@@ -81,7 +81,7 @@ HasFileFault limit old f = IfSome old (λ bytes. (datagrams : List (List ℕ)) �
 abbrev pub ReadsRecord : ℕ → ℕ → Option (List ℕ) → Option (List ℕ) → Result (Option (List ℕ)) ReadFault → Type 0
 ReadsRecord limit count old new (Ok (Some d)) = IsDatagram d × (count < limit) × Consumes old new (record_of d)
 ReadsRecord limit count old new (Ok None) = Consumes old new [] × IsAtEnd new
-ReadsRecord limit count old new (Err f) = IsFaultOf (record_fault limit count) old f
+ReadsRecord limit count old new (Err f) = IsFaultUpTo [] (record_fault limit count) old new f
 
 -- more may be read
 abbrev pub is_open : FileStage → Bool
@@ -118,16 +118,32 @@ pub record GivesNone (old new : FileStage) (left after : Option (List ℕ)) : Ty
   pub ended : new ≡ Ended
   pub bytes : ((old ≡ Ended) × Keeps left after) ⊎ (IsTrue (is_open old) × Consumes left after (opening old) × IsAtEnd after)
 
+-- What a failed call has read: no more bytes than stand before the next record, or all these and nothing behind a whole record.
+pub data IsFilePart (old : FileStage) (part : List ℕ) : Type 0 where
+  in_opening : length part ≤ length (opening old) → IsFilePart old part
+  in_record : (more : List ℕ) → part ≡ opening old ++ more → IsWithin record_of IsDatagram more → IsFilePart old part
+
+-- why a file is not read, whatever its source tells
+abbrev pub IsFileFault : ReadFault → Type 0
+IsFileFault faults.Read = ⊤
+IsFileFault faults.Magic = ⊤
+IsFileFault faults.Version = ⊤
+IsFileFault faults.Cut = ⊤
+IsFileFault faults.TooMany = ⊤
+IsFileFault faults.OutOfMemory = ⊤
+IsFileFault _ = ⊥
+
 -- a fault was found, now or before
 pub record GivesFileFault (limit : ℕ) (old new : FileStage) (left after : Option (List ℕ)) (f : ReadFault) : Type 0 where
   pub stays : new ≡ Failed f
-  pub found : ((old ≡ Failed f) × Keeps left after) ⊎ (IsTrue (is_open old) × IsFaultOf (file_fault_from old limit) left f)
+  pub found : ((old ≡ Failed f) × Keeps left after) ⊎ (IsTrue (is_open old) × IsFaultUpTo (opening old) (file_fault_from old limit) left after f × IsFileFault f × ((part : List ℕ) × Consumes left after part × IsFilePart old part))
 
 -- reading on from an open stage: the next record, the end, or a fault
 abbrev pub ReadsFileFrom : ℕ → FileStage → Option (List ℕ) → Option (List ℕ) → Result (Option (List ℕ)) ReadFault → Type 0
 ReadsFileFrom limit old left after (Ok (Some d)) = IsDatagram d × (given old < limit) × Consumes left after (opening old ++ record_of d)
 ReadsFileFrom limit old left after (Ok None) = Consumes left after (opening old) × IsAtEnd after
-ReadsFileFrom limit old left after (Err f) = IsFaultOf (file_fault_from old limit) left f
+ReadsFileFrom limit old left after (Err f) =
+    IsFaultUpTo (opening old) (file_fault_from old limit) left after f × IsFileFault f × ((part : List ℕ) × Consumes left after part × IsFilePart old part)
 
 -- where a reader stands behind what it gave, if so many records stood before
 abbrev pub file_stage_behind : ℕ → Result (Option (List ℕ)) ReadFault → FileStage

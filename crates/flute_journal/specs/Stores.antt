@@ -1,19 +1,17 @@
 -- What stores are written as, and what they are read from.
-use Rattle.std.specs.Prelude.{◌≡◌, ℕ, ◌≤◌, Bool, true, false, List, ◌++◌, length, Option, ⊤, Result, Err, IfSome}
+use Rattle.std.specs.Prelude.{◌≡◌, ℕ, ◌⊎◌, Bool, true, false, List, ◌++◌, Option, ⊤, Result, Err, IfSome}
 use Rattle.std.specs.List.{flat_map}
-use Rattle.std.specs.Io.KnownBytes.{Consumes}
 use Rattle.flute_join.specs.declared.refusal.JoinRefusal.{JoinRefusal}
 use Rattle.flute_join.specs.declared.refusal.JoinRefusal.TheVariants as join
-use Rattle.flute_parts.specs.Facts.{Same}
+use Rattle.flute_parts.specs.Facts.{Same, Below}
 use Rattle.flute_parts.specs.Limits.{Over}
 use Rattle.flute_parts.specs.declared.fact.Fact.{Fact}
-use Rattle.flute_journal.specs.declared.fault.ReadFault.TheVariants as faults
 use Rattle.flute_journal.specs.declared.fault.LoadFault.{LoadFault}
 use Rattle.flute_journal.specs.declared.fault.LoadFault.TheVariants.{Read, Full, OutOfMemory}
 use Rattle.flute_journal.specs.Format.{header, entry}
-use Rattle.flute_journal.specs.Input.{IsWithin}
-use Rattle.flute_journal.specs.Journal.{IsFact, AreEntries, IsJournalWithin}
-use Rattle.flute_journal.specs.Whole.{HasFault}
+use Rattle.flute_journal.specs.Input.{Fails}
+use Rattle.flute_journal.specs.Journal.{AreEntries, IsJournalWithin}
+use Rattle.flute_journal.specs.Whole.{StopsAfter}
 
 -- the bytes are the journal of what these facts come to, with at most so many entries
 abbrev pub IsJournalOf : ℕ → List ℕ → List Fact → Type 0
@@ -29,11 +27,11 @@ pub record BeginsWith (limit : ℕ) (bytes : List ℕ) (entries : List Fact) : T
 abbrev pub BeginsOver : ℕ → ℕ → ℕ → ℕ → List ℕ → Type 0
 BeginsOver sessions objects symbols limit bytes = (entries : List Fact) × BeginsWith limit bytes entries × Over entries sessions objects symbols
 
--- why the bytes that were left are not read into a store; memory may run out at any entry
-abbrev pub IsLoadFault : ℕ → ℕ → ℕ → ℕ → Option (List ℕ) → LoadFault → Type 0
-IsLoadFault sessions objects symbols limit old (Read f) = HasFault limit old f
-IsLoadFault sessions objects symbols limit old Full = IfSome old (BeginsOver sessions objects symbols limit)
-IsLoadFault sessions objects symbols limit old OutOfMemory = ⊤
+-- why the bytes that were left are not read into a store: a fault behind entries within its limits, or entries that pass them; memory may run out at any entry
+abbrev pub IsLoadFault : ℕ → ℕ → ℕ → ℕ → Option (List ℕ) → Option (List ℕ) → LoadFault → Type 0
+IsLoadFault sessions objects symbols limit old new (Read f) = (entries : List Fact) × (¬ Over entries sessions objects symbols) × StopsAfter limit entries old new f
+IsLoadFault sessions objects symbols limit old new Full = IfSome old (BeginsOver sessions objects symbols limit)
+IsLoadFault sessions objects symbols limit old new OutOfMemory = ⊤
 
 -- the store has these facts too, or both are over its limits together
 abbrev pub HoldsBoth : ℕ → ℕ → ℕ → List Fact → List Fact → List Fact → Bool → Type 0
@@ -47,17 +45,16 @@ pub record JoinsJournal (sessions objects symbols limit : ℕ) (bytes : List ℕ
   pub within : ¬ Over entries sessions objects symbols
   pub held : HoldsBoth sessions objects symbols before entries now fits
 
--- what was read where no store was: no more bytes than the header has, or the header, entries, at most so many, and nothing past one more
-pub data ReadsPart (limit : ℕ) (old new : Option (List ℕ)) : Type 0 where
-  in_header : (part : List ℕ) → Consumes old new part → length part ≤ length header → ReadsPart limit old new
-  behind : (entries : List Fact) (more : List ℕ) → AreEntries limit entries → Consumes old new (header ++ flat_map entry entries ++ more) → IsWithin entry IsFact more → ReadsPart limit old new
+-- nothing came to a store, or nothing but entries that the bytes begin with, at most so many
+abbrev pub AddsOnly : ℕ → List ℕ → List Fact → List Fact → Type 0
+AddsOnly limit bytes before now = Below now before ⊎ ((entries : List Fact) × BeginsWith limit bytes entries × Below now (before ++ entries))
 
 -- the fault that a store's refusal is
 abbrev pub refused : JoinRefusal → LoadFault
 refused join.Full = Full
 refused join.OutOfMemory = OutOfMemory
 
--- how often the source failed in a call that gave this: once, where it answers `Read(Read)`
-abbrev pub load_failed : {T : Type 0} → Result T LoadFault → ℕ
-load_failed (Err (Read faults.Read)) = 1
-load_failed _ = 0
+-- how often the source failed in a call that gave this: only where it could not be read
+abbrev pub FailsToLoad : {T : Type 0} → ℕ → ℕ → Result T LoadFault → Type 0
+FailsToLoad {T} old new (Err (Read f)) = Fails {T = T} old new (Err f)
+FailsToLoad old new _ = new ≡ old

@@ -1,19 +1,20 @@
 //! Reading a datagram file, record by record.
-ghost use Rattle.std.specs.Prelude.{◌≡◌, ℕ, ◌+◌, ◌<◌, ◌≤◌, ◌^◌, IfOk, IfSome, if◌then◌else◌, length as length_of};
+ghost use Rattle.std.specs.Prelude.{◌≡◌, ◌≢◌, ◌+◌, ◌<◌, ◌^◌, IfOk, IfErr, IfSome, length as length_of};
 ghost use Rattle.std.specs.List.{AllByRecursion};
 ghost use Rattle.flute_parts.specs.BigEndian.{big_endian};
 ghost use Rattle.flute_journal.specs.Numbers.{in_bytes};
-ghost use Rattle.flute_journal.specs.Input.{Advances, Reads, failed};
+ghost use Rattle.flute_journal.specs.Input.{Advances, Fails, FailsIf, Reads, StaysWithin};
 ghost use Rattle.flute_journal.specs.Journal.{IsByte};
 ghost use Rattle.flute_journal.specs.Faults.{opening_fault};
 ghost use Rattle.flute_journal.specs.Parsing.{cut_fault};
-ghost use Rattle.flute_journal.specs.Records.{file_header, is_open, GivesOfFile, IsDatagram, ReadsFileFrom, ReadsRecord, file_stage_behind};
+ghost use Rattle.flute_journal.specs.Records.{file_header, record_of, is_open, GivesOfFile, IsDatagram, IsFileFault, ReadsFileFrom, ReadsRecord, file_stage_behind};
 ghost use Rattle.flute_journal.specs.DatagramReaders.{datagrams_source_of, records_limit_of, file_stage_of};
+ghost use Rattle.flute_journal.specs.declared.fault.ReadFault.TheVariants.{OutOfMemory};
 
 use crate::fault::ReadFault;
 use crate::format::check_opening;
 use crate::format::number::length_in;
-use crate::input::{front, octets};
+use crate::input::{octets, read_front};
 use flute_parts::Source;
 use flute_wire::Datagram;
 use std::alloc::Global;
@@ -70,14 +71,17 @@ impl<'a, R: Source> DatagramReader<'a, R> {
     /// - `Cut` where the input ends within the header or a record;
     /// - `Read` where the source fails in this call, and `OutOfMemory` where there is no memory for a datagram.
     ///
+    /// What came whole before the source failed is looked at first: `Read` stands where the fault would be `Cut` if the
+    /// input ended there, or where it would end between two records. Nothing behind the header and one record was read.
+    ///
     /// Each later call answers the same fault, and reads nothing.
     pub fn next(&mut self, alloc: Global) -> Result<Option<Datagram>, ReadFault>
         ensures source { (datagrams_source_of self.new).ghost_name ≡ (datagrams_source_of self.old).ghost_name }
         ensures limit { records_limit_of self.new ≡ records_limit_of self.old }
         ensures gives { GivesOfFile (records_limit_of self.old) (file_stage_of self.old) (file_stage_of self.new)
             (R.unread (datagrams_source_of self.old).now) (R.unread (datagrams_source_of self.new).now) result }
-        ensures failures { R.failures (datagrams_source_of self.new).now
-            ≡ R.failures (datagrams_source_of self.old).now + (if is_open (file_stage_of self.old) then failed result else 0) }
+        ensures failures { FailsIf (is_open (file_stage_of self.old))
+            (R.failures (datagrams_source_of self.old).now) (R.failures (datagrams_source_of self.new).now) result }
     {
         let (count, given) = match self.stage {
             FileStage::Ended => return Ok(None),
@@ -100,7 +104,8 @@ fn read_first<R: Source>(
     max_records: u64,
 ) -> Result<Option<Datagram>, ReadFault>
     ensures reads { ReadsFileFrom max_records FileStage.Header (R.unread source.old) (R.unread source.new) result }
-    ensures failures { R.failures source.new ≡ R.failures source.old + failed result }
+    ensures faults { IfErr result IsFileFault }
+    ensures failures { Fails (R.failures source.old) (R.failures source.new) result }
 {
     read_header(source)?;
     read_record(alloc, source, max_records, 0)
@@ -109,11 +114,14 @@ fn read_first<R: Source>(
 // Reads the magic number and the version.
 fn read_header<R: Source>(source: &mut R) -> Result<(), ReadFault>
     ensures reads { Reads (λ _. file_header) (λ _. Unit {0}) (opening_fault file_header) (R.unread source.old) (R.unread source.new) result }
-    ensures failures { R.failures source.new ≡ R.failures source.old + failed result }
+    ensures advances { Advances (R.unread source.old) (R.unread source.new) 6 }
+    ensures memory { IfErr result (λ f. f ≢ OutOfMemory) }
+    ensures faults { IfErr result IsFileFault }
+    ensures failures { Fails (R.failures source.old) (R.failures source.new) result }
 {
     let mut buffer = [0; 6];
-    let front = front(source, &mut buffer)?;
-    check_opening(&FILE_HEADER, front)
+    let front = read_front(source, &mut buffer);
+    front.told(check_opening(&FILE_HEADER, front.bytes))
 }
 
 // Reads the next record behind so many, if a byte follows. A file may have `max_records`.
@@ -124,20 +132,22 @@ fn read_record<R: Source>(
     count: u64,
 ) -> Result<Option<Datagram>, ReadFault>
     ensures reads { ReadsRecord max_records count (R.unread source.old) (R.unread source.new) result }
-    ensures failures { R.failures source.new ≡ R.failures source.old + failed result }
+    ensures within { StaysWithin record_of IsDatagram (R.unread source.old) (R.unread source.new) result }
+    ensures faults { IfErr result IsFileFault }
+    ensures failures { Fails (R.failures source.old) (R.failures source.new) result }
 {
     let mut buffer = [0; 2];
-    let front = front(source, &mut buffer)?;
-    if front.is_empty() {
-        return Ok(None);
+    let front = read_front(source, &mut buffer);
+    if front.bytes.is_empty() {
+        return front.told(Ok(None));
     }
     if count >= max_records {
         return Err(ReadFault::TooMany);
     }
-    if front.len() < 2 {
-        return Err(ReadFault::Cut);
+    if front.bytes.len() < 2 {
+        return Err(front.shortage());
     }
-    let datagram = read_datagram(alloc, source, length_in(front))?;
+    let datagram = read_datagram(alloc, source, length_in(front.bytes))?;
     Ok(Some(datagram))
 }
 
@@ -148,7 +158,9 @@ fn read_datagram<R: Source>(
     length: u16,
 ) -> Result<Datagram, ReadFault>
     ensures reads { Reads (λ bytes. bytes) (λ bytes. (length_of bytes ≡ length) × AllByRecursion IsByte bytes) (cut_fault length) (R.unread source.old) (R.unread source.new) result }
-    ensures failures { R.failures source.new ≡ R.failures source.old + failed result }
+    ensures advances { Advances (R.unread source.old) (R.unread source.new) length }
+    ensures faults { IfErr result IsFileFault }
+    ensures failures { Fails (R.failures source.old) (R.failures source.new) result }
 {
     match Datagram::from_vec(octets(alloc, source, length)?) {
         Ok(datagram) => Ok(datagram),

@@ -1,8 +1,9 @@
 //! Bytes out of a source that hands them out in any pieces.
 ghost use Rattle.std.specs.Prelude.{◌≡◌, ℕ, ◌+◌, ◌<◌, ◌≤◌, IfOk, IfErr, length, length as length_of, take, slice_index};
 ghost use Rattle.std.specs.List.{AllByRecursion};
-ghost use Rattle.flute_journal.specs.Input.{Advances, Fills, Reads, failed};
+ghost use Rattle.flute_journal.specs.Input.{Advances, Fails, Fills, Fronts, Reads, failure, shortage, told};
 ghost use Rattle.flute_journal.specs.Journal.{IsByte};
+ghost use Rattle.flute_journal.specs.Records.{IsFileFault};
 ghost use Rattle.flute_journal.specs.Parsing.{cut_fault};
 ghost use Rattle.flute_journal.specs.declared.fault.ReadFault.TheVariants.{Read};
 
@@ -10,15 +11,61 @@ use crate::fault::ReadFault;
 use flute_parts::Source;
 use std::alloc::Global;
 
-/// Reads until the buffer is full, or up to the end of the input, and answers what was read.
-pub fn front<'b, R: Source>(source: &mut R, buffer: &'b mut [u8]) -> Result<&'b [u8], ReadFault>
-    ensures filled { IfOk result (λ front. Fills (R.unread source.old) (R.unread source.new) (length buffer.old) front.now) }
-    ensures only { IfErr result (λ f. f ≡ Read) }
-    ensures advances { Advances (R.unread source.old) (R.unread source.new) (length buffer.old) }
-    ensures failures { R.failures source.new ≡ R.failures source.old + failed result }
+/// What was read of a source up to some number of bytes: so many, or fewer at the end of the input or where the source
+/// failed.
+#[derive(Clone, Copy)]
+pub struct Front<'b> {
+    /// The bytes.
+    pub bytes: &'b [u8],
+    /// Whether the source failed behind them.
+    pub failed: bool,
+}
+
+impl Front<'_> {
+    /// The fault where these bytes are too few.
+    pub fn shortage(self) -> ReadFault
+        ensures { result ≡ shortage self.entry.failed }
+    {
+        shortage(self.failed)
+    }
+
+    /// What was found in the bytes, where the source may have failed behind them: a fault that they have is told as it
+    /// is, and else `Read`.
+    pub fn told<T: Drop>(self, found: Result<T, ReadFault>) -> Result<T, ReadFault>
+        ensures { result ≡ told self.entry.failed found }
+    {
+        if !self.failed {
+            return found;
+        }
+        match found {
+            Ok(_) | Err(ReadFault::Cut) => Err(ReadFault::Read),
+            Err(fault) => Err(fault),
+        }
+    }
+}
+
+// The fault where bytes are too few.
+fn shortage(failed: bool) -> ReadFault
+    ensures { result ≡ shortage failed }
 {
-    let count = fill(source, buffer)?;
-    Ok(&buffer[..count])
+    if failed {
+        ReadFault::Read
+    } else {
+        ReadFault::Cut
+    }
+}
+
+/// Reads until the buffer is full, up to the end of the input, or until the source fails.
+pub fn read_front<'b, R: Source>(source: &mut R, buffer: &'b mut [u8]) -> Front<'b>
+    ensures filled { Fronts (R.unread source.old) (R.unread source.new) (length buffer.old) result.failed result.bytes.now }
+    ensures advances { Advances (R.unread source.old) (R.unread source.new) (length buffer.old) }
+    ensures failures { R.failures source.new ≡ R.failures source.old + failure result.failed }
+{
+    let (count, failed) = fill_front(source, buffer);
+    Front {
+        bytes: &buffer[..count],
+        failed,
+    }
 }
 
 /// Reads until the buffer is full, or up to the end of the input, and answers how many bytes were read.
@@ -31,30 +78,47 @@ pub fn fill<R: Source>(source: &mut R, buffer: &mut [u8]) -> Result<usize, ReadF
     ensures octets { (i : ℕ) → slice_index buffer.new i < 256 }
     ensures only { IfErr result (λ f. f ≡ Read) }
     ensures advances { Advances (R.unread source.old) (R.unread source.new) (length buffer.new) }
-    ensures failures { R.failures source.new ≡ R.failures source.old + failed result }
+    ensures failures { Fails (R.failures source.old) (R.failures source.new) result }
+{
+    match fill_front(source, buffer) {
+        (count, false) => Ok(count),
+        (_, true) => Err(ReadFault::Read),
+    }
+}
+
+// Reads until the buffer is full, up to the end of the input, or until the source fails. Answers how many bytes were
+// read, and whether the source failed.
+fn fill_front<R: Source>(source: &mut R, buffer: &mut [u8]) -> (usize, bool)
+    ensures filled { Fronts (R.unread source.old) (R.unread source.new) (length buffer.new) result.1 (take result.0 buffer.new) }
+    ensures within { result.0 ≤ length buffer.new }
+    ensures size { length buffer.new ≡ length buffer.old }
+    ensures octets { (i : ℕ) → slice_index buffer.new i < 256 }
+    ensures failures { R.failures source.new ≡ R.failures source.old + failure result.1 }
 {
     let mut filled = 0;
     while filled < buffer.len() {
         match source.read(&mut buffer[filled..]) {
             Ok(0) => break,
             Ok(count) => filled += count,
-            Err(_) => return Err(ReadFault::Read),
+            Err(_) => return (filled, true),
         }
     }
-    Ok(filled)
+    (filled, false)
 }
 
 /// Reads so many bytes, into memory of their own.
 pub fn octets<R: Source>(alloc: Global, source: &mut R, length: u16) -> Result<Vec<u8>, ReadFault>
     ensures reads { Reads (λ v. v.items) (λ v. (length_of v.items ≡ length) × AllByRecursion IsByte v.items) (cut_fault length) (R.unread source.old) (R.unread source.new) result }
     ensures advances { Advances (R.unread source.old) (R.unread source.new) length }
-    ensures failures { R.failures source.new ≡ R.failures source.old + failed result }
+    ensures faults { IfErr result IsFileFault }
+    ensures failures { Fails (R.failures source.old) (R.failures source.new) result }
 {
     let Ok(mut octets) = vec![in alloc; 0; usize::from(length)] else {
         return Err(ReadFault::OutOfMemory);
     };
-    if fill(source, &mut octets)? < usize::from(length) {
-        return Err(ReadFault::Cut);
+    let (count, failed) = fill_front(source, &mut octets);
+    if count < usize::from(length) {
+        return Err(shortage(failed));
     }
     Ok(octets)
 }

@@ -5,7 +5,8 @@ ghost use Rattle.flute_parts.specs.Facts.{Same, Below, IsRising};
 ghost use Rattle.flute_parts.specs.declared.fact.Fact.{Fact};
 ghost use Rattle.flute_journal.specs.declared.fault.ReadFault.{ReadFault as Fault};
 ghost use Rattle.flute_journal.specs.Format.{header, entry, spelling};
-ghost use Rattle.flute_journal.specs.Journal.{IsByte, IsFact, Journal, Stops, IsJournalWithin};
+ghost use Rattle.flute_journal.specs.Journal.{IsByte, IsFact, Collects, Journal, Stops, IsJournalWithin};
+ghost use Rattle.flute_journal.specs.StreamMerges.{Each, all_of};
 ghost use Rattle.flute_journal.specs.Stores.{IsJournalOf};
 ghost use Rattle.flute_journal.specs.declared.fault.ReadFault.TheVariants as faults;
 ghost use Rattle.flute_journal.specs.Records.{IsFileOf, IsFileWithin, FileStops};
@@ -18,6 +19,13 @@ pub fn entry_has_one_reading()
 /// Journals are equal exactly where their facts come to the same at each address.
 pub fn one_journal_for_one_content()
     ensures { (bs cs : List ℕ) (F G : List Fact) → Journal bs F → Journal cs G → (bs ≡ cs) ↔ Same F G }
+{}
+
+/// Merging what merges wrote is merging all at once: where the facts of each group were joined into entries, the journal
+/// of all these entries is the journal of the facts of all groups.
+pub fn merging_merged_is_merging_all()
+    ensures { (groups joined : List (List Fact)) → Each Collects groups joined
+        → (bytes : List ℕ) → Journal bytes (all_of joined) ↔ Journal bytes (all_of groups) }
 {}
 
 /// No journal is a proper prefix of another.

@@ -1,9 +1,11 @@
 //! A journal as a store.
-ghost use Rattle.std.specs.Prelude.{◌≡◌, ◌+◌, [], ◌∷◌, IfOk, IfErr, IfSome};
+ghost use Rattle.std.specs.Prelude.{◌≡◌, List, [], ◌∷◌, ◌++◌, IfOk, IfErr, IfSome};
 ghost use Rattle.std.specs.Io.KnownBytes.{IsAtEnd};
 ghost use Rattle.flute_parts.specs.Facts.{Below};
 ghost use Rattle.flute_parts.specs.Limits.{Over};
-ghost use Rattle.flute_journal.specs.Stores.{IsJournalOf, IsLoadFault, JoinsJournal, HoldsBoth, ReadsPart, load_failed};
+ghost use Rattle.flute_journal.specs.Stores.{AddsOnly, FailsToLoad, HoldsBoth, IsJournalOf, IsLoadFault, JoinsJournal};
+ghost use Rattle.flute_journal.specs.Whole.{ReadsPart};
+ghost use Rattle.flute_parts.specs.declared.fact.Fact.{Fact};
 
 use crate::fault::LoadFault;
 use crate::reader::JournalReader;
@@ -21,7 +23,7 @@ use std::alloc::Global;
 ///
 /// The first that is met:
 ///
-/// - `Read` with the fault that [`JournalReader::next`] answers;
+/// - `Read` with the fault that [`JournalReader::next`] answers: the entries before it are within the limits;
 /// - `Full` where an entry needs a new session, object or symbol beyond the limits;
 /// - `OutOfMemory` where there is no memory for an entry in the store.
 ///
@@ -34,9 +36,9 @@ pub fn read_store<const SESSIONS: u32, const OBJECTS: u32, const SYMBOLS: u32, R
     ensures journal { IfOk result (λ store. IfSome (R.unread source.old) (λ bytes. IsJournalOf max_entries bytes store)) }
     ensures end { IfOk result (λ _. IsAtEnd (R.unread source.new)) }
     ensures within { IfOk result (λ store. ¬ Over store SESSIONS OBJECTS SYMBOLS) }
-    ensures fault { IfErr result (IsLoadFault SESSIONS OBJECTS SYMBOLS max_entries (R.unread source.old)) }
-    ensures reads { IfErr result (λ _. ReadsPart max_entries (R.unread source.old) (R.unread source.new)) }
-    ensures failures { R.failures source.new ≡ R.failures source.old + load_failed result }
+    ensures fault { IfErr result (IsLoadFault SESSIONS OBJECTS SYMBOLS max_entries (R.unread source.old) (R.unread source.new)) }
+    ensures reads { IfErr result (λ _. (entries : List Fact) × ReadsPart max_entries (R.unread source.old) (R.unread source.new) entries) }
+    ensures failures { FailsToLoad (R.failures source.old) (R.failures source.new) result }
 {
     let mut store = Store::new(alloc);
     let mut reader = JournalReader::new(source, max_entries);
@@ -56,11 +58,12 @@ pub fn read_store<const SESSIONS: u32, const OBJECTS: u32, const SYMBOLS: u32, R
 ///
 /// The first that is met:
 ///
-/// - `Read` with the fault that [`JournalReader::next`] answers;
+/// - `Read` with the fault that [`JournalReader::next`] answers: the entries before it are within the limits;
 /// - `Full` where the entries of the journal alone are over the limits;
 /// - `OutOfMemory` where there is no memory for an entry in the store.
 ///
-/// The store keeps what it held, perhaps with some of the journal. Nothing past the entry at which it ended was read.
+/// The store keeps what it held, perhaps with some entries of the journal, and nothing else. Nothing past the entry at
+/// which it ended was read.
 pub fn join_journal<const SESSIONS: u32, const OBJECTS: u32, const SYMBOLS: u32, R: Source>(
     alloc: Global,
     store: &mut Store<SESSIONS, OBJECTS, SYMBOLS>,
@@ -70,9 +73,10 @@ pub fn join_journal<const SESSIONS: u32, const OBJECTS: u32, const SYMBOLS: u32,
     ensures joined { IfOk result (λ fits. IfSome (R.unread source.old) (λ bytes. JoinsJournal SESSIONS OBJECTS SYMBOLS max_entries bytes store.old store.new fits)) }
     ensures end { IfOk result (λ _. IsAtEnd (R.unread source.new)) }
     ensures kept { Below store.old store.new }
-    ensures fault { IfErr result (IsLoadFault SESSIONS OBJECTS SYMBOLS max_entries (R.unread source.old)) }
-    ensures reads { IfErr result (λ _. ReadsPart max_entries (R.unread source.old) (R.unread source.new)) }
-    ensures failures { R.failures source.new ≡ R.failures source.old + load_failed result }
+    ensures only { IfSome (R.unread source.old) (λ bytes. AddsOnly max_entries bytes store.old store.new) }
+    ensures fault { IfErr result (IsLoadFault SESSIONS OBJECTS SYMBOLS max_entries (R.unread source.old) (R.unread source.new)) }
+    ensures reads { IfErr result (λ _. (entries : List Fact) × ReadsPart max_entries (R.unread source.old) (R.unread source.new) entries) }
+    ensures failures { FailsToLoad (R.failures source.old) (R.failures source.new) result }
 {
     let mut entries = JournalReader::new(source, max_entries);
     let mut tally = Tally::<SESSIONS, OBJECTS, SYMBOLS>::new();
@@ -96,6 +100,7 @@ fn put_where_room<const SESSIONS: u32, const OBJECTS: u32, const SYMBOLS: u32>(
 ) -> Result<bool, LoadFault>
     ensures held { IfOk result (HoldsBoth SESSIONS OBJECTS SYMBOLS store.old (fact ∷ []) store.new) }
     ensures kept { Below store.old store.new }
+    ensures only { Below store.new (store.old ++ fact ∷ []) }
     ensures memory { IfErr result (λ fault. fault ≡ LoadFault.OutOfMemory) }
 {
     match store.put(alloc, fact) {

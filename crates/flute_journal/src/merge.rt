@@ -1,18 +1,26 @@
 //! Two journals, merged as streams: nothing is kept of them but the next entry of each.
-ghost use Rattle.std.specs.Prelude.{◌≡◌, ℕ, ◌+◌, ◌<◌, ◌^◌, IfOk, IfErr};
+ghost use Rattle.std.specs.Prelude.{◌≡◌, ℕ, ◌+◌, ◌<◌, ◌^◌, [], ◌∷◌, IfOk, IfErr};
 ghost use Rattle.flute_journal.specs.Readers.{source_of, limit_of, stage_of};
-ghost use Rattle.flute_journal.specs.Merges.{Merged, StopsShort, KeepsUp, NamesFault, MergeGives, first_failed, second_failed, sink_failed};
+ghost use Rattle.flute_journal.specs.Merges.{Merged, StopsShort, KeepsUp, NamesFault, MergeGives, FirstFails, SecondFails, sink_failed};
+ghost use Rattle.flute_journal.specs.Streams.{IsNew, most_of};
+ghost use Rattle.flute_journal.specs.Advances.{AreNew};
+ghost use Rattle.flute_journal.specs.Eithers.{either_behaviour};
+ghost use Rattle.flute_journal.specs.JournalStreams.{lent_behaviour, SameLoans};
+ghost use Rattle.flute_journal.specs.StreamMerges.{MergedAll, AppendsPartOf, ReadsAhead, NamesInput, FailAs, streams_sink_failed};
+ghost use Rattle.flute_journal.specs.Pairs.{fault_of_two};
 ghost use Rattle.flute_journal.specs.declared.reader.Stage.TheVariants as Stage;
-
-mod turn;
+ghost use Rattle.flute_journal.specs.declared.either.Either.TheVariants.{First as Left, Second as Right};
 
 use crate::fault::ReadFault;
+use crate::journal_stream::LentStream;
+use crate::merging::{Joined, merge_all};
 use crate::reader::JournalReader;
-use crate::writing::{write_end, write_entry, write_header};
+use crate::stream::Stream;
+use crate::streams::Pair;
+use crate::streams_fault::{InputFault, StreamsFault};
 use flute_parts::{Sink, Source};
 use std::alloc::Global;
 use thiserror::Error;
-use turn::{lower, refill};
 
 /// Why two journals could not be merged.
 #[derive(Clone, Copy, Debug, PartialEq, Eq, Error)]
@@ -57,60 +65,119 @@ pub fn merge_streams<A: Source, B: Source, W: Sink>(
     ensures keeps_up { IfErr result (KeepsUp (A.unread first.old) (A.unread first.new) (B.unread second.old) (B.unread second.new)
         (W.written sink.old) (W.written sink.new)) }
     ensures fault { IfErr result (NamesFault max_entries (A.unread first.old) (B.unread second.old)) }
-    ensures first_failures { A.failures first.new ≡ A.failures first.old + first_failed result }
-    ensures second_failures { B.failures second.new ≡ B.failures second.old + second_failed result }
+    ensures first_failures { FirstFails (A.failures first.old) (A.failures first.new) result }
+    ensures second_failures { SecondFails (B.failures second.old) (B.failures second.new) result }
     ensures sink_failures { W.failures sink.new ≡ W.failures sink.old + sink_failed result }
 {
     let mut first = JournalReader::new(first, max_entries);
     let mut second = JournalReader::new(second, max_entries);
-    merge_entries(alloc, &mut first, &mut second, sink)
+    merge_readers(alloc, &mut first, &mut second, sink)
 }
 
 // Merges what two new readers give.
-fn merge_entries<A: Source, B: Source, W: Sink>(
+fn merge_readers<A: Source, B: Source, W: Sink>(
     alloc: Global,
     first: &mut JournalReader<'_, A>,
     second: &mut JournalReader<'_, B>,
     sink: &mut W,
 ) -> Result<u64, MergeFault>
-    requires first_fresh { stage_of first.old ≡ Stage.Header }
-    requires second_fresh { stage_of second.old ≡ Stage.Header }
+    requires first_new { stage_of first.old ≡ Stage.Header }
+    requires second_new { stage_of second.old ≡ Stage.Header }
     requires bound { limit_of first.old < 2 ^ 63 }
     requires same_bound { limit_of second.old ≡ limit_of first.old }
     ensures first_source { (source_of first.new).ghost_name ≡ (source_of first.old).ghost_name }
     ensures second_source { (source_of second.new).ghost_name ≡ (source_of second.old).ghost_name }
     ensures gives { MergeGives (limit_of first.old) (A.unread (source_of first.old).now) (A.unread (source_of first.new).now)
         (B.unread (source_of second.old).now) (B.unread (source_of second.new).now) (W.written sink.old) (W.written sink.new) result }
-    ensures first_failures { A.failures (source_of first.new).now ≡ A.failures (source_of first.old).now + first_failed result }
-    ensures second_failures { B.failures (source_of second.new).now ≡ B.failures (source_of second.old).now + second_failed result }
+    ensures first_failures { FirstFails (A.failures (source_of first.old).now) (A.failures (source_of first.new).now) result }
+    ensures second_failures { SecondFails (B.failures (source_of second.old).now) (B.failures (source_of second.new).now) result }
     ensures sink_failures { W.failures sink.new ≡ W.failures sink.old + sink_failed result }
 {
-    let mut left = match first.next(alloc) {
-        Ok(entry) => entry,
-        Err(fault) => return Err(MergeFault::First(fault)),
+    let mut first_held = None;
+    let mut second_held = None;
+    let mut left = LentStream {
+        reader: &mut *first,
+        held: &mut first_held,
     };
-    let mut right = match second.next(alloc) {
-        Ok(entry) => entry,
-        Err(fault) => return Err(MergeFault::Second(fault)),
+    let mut right = LentStream {
+        reader: &mut *second,
+        held: &mut second_held,
     };
-    if write_header(sink).is_err() {
-        return Err(MergeFault::Write);
+    merge_new(alloc, &mut left, &mut right, sink)
+}
+
+// Merges two new streams of journals.
+fn merge_new<A: Source, B: Source, W: Sink>(
+    alloc: Global,
+    first: &mut LentStream<'_, '_, A>,
+    second: &mut LentStream<'_, '_, B>,
+    sink: &mut W,
+) -> Result<u64, MergeFault>
+    requires first_new { IsNew (lent_behaviour A.unread A.failures) first.old }
+    requires second_new { IsNew (lent_behaviour B.unread B.failures) second.old }
+    requires first_bound { (lent_behaviour A.unread A.failures).most first.old < 2 ^ 63 }
+    requires second_bound { (lent_behaviour B.unread B.failures).most second.old < 2 ^ 63 }
+    requires same_bound { limit_of second.old.reader.now ≡ limit_of first.old.reader.now }
+    ensures first_loans { SameLoans first.old first.new }
+    ensures second_loans { SameLoans second.old second.new }
+    ensures first_source { (source_of first.new.reader.now).ghost_name ≡ (source_of first.old.reader.now).ghost_name }
+    ensures second_source { (source_of second.new.reader.now).ghost_name ≡ (source_of second.old.reader.now).ghost_name }
+    ensures gives { MergeGives (limit_of first.old.reader.now)
+        (A.unread (source_of first.old.reader.now).now) (A.unread (source_of first.new.reader.now).now)
+        (B.unread (source_of second.old.reader.now).now) (B.unread (source_of second.new.reader.now).now)
+        (W.written sink.old) (W.written sink.new) result }
+    ensures first_failures { FirstFails (A.failures (source_of first.old.reader.now).now)
+        (A.failures (source_of first.new.reader.now).now) result }
+    ensures second_failures { SecondFails (B.failures (source_of second.old.reader.now).now)
+        (B.failures (source_of second.new.reader.now).now) result }
+    ensures sink_failures { W.failures sink.new ≡ W.failures sink.old + sink_failed result }
+{
+    // no limits are told, so none are counted
+    match merge_two::<0, 0, 0, _, _, _>(alloc, first, second, sink) {
+        Ok(joined) => Ok(joined.entries),
+        Err(fault) => Err(fault_of_two(fault)),
     }
-    let mut count = 0;
-    while let Some((order, fact)) = lower(&left, &right) {
-        if write_entry(sink, &fact).is_err() {
-            return Err(MergeFault::Write);
-        }
-        count += 1;
-        if let Err(fault) = refill(alloc, first, &mut left, order.is_le()) {
-            return Err(MergeFault::First(fault));
-        }
-        if let Err(fault) = refill(alloc, second, &mut right, order.is_ge()) {
-            return Err(MergeFault::Second(fault));
-        }
+}
+
+/// Merges two streams of whatever kinds, as `merge_all` does.
+///
+/// # Errors
+///
+/// Those of `merge_all`, and what it says of them: the first stream has number 0, and the second 1.
+pub fn merge_two<
+    const SESSIONS: u32,
+    const OBJECTS: u32,
+    const SYMBOLS: u32,
+    S: Stream,
+    T: Stream,
+    W: Sink,
+>(alloc: Global, first: &mut S, second: &mut T, sink: &mut W) -> Result<Joined, StreamsFault>
+    requires new { AreNew (either_behaviour S.behaviour T.behaviour) (Left first.old ∷ Right second.old ∷ []) }
+    requires few { most_of (either_behaviour S.behaviour T.behaviour) (Left first.old ∷ Right second.old ∷ []) < 2 ^ 64 }
+    ensures merged { IfOk result (λ joined. MergedAll (either_behaviour S.behaviour T.behaviour) (Left first.old ∷ Right second.old ∷ [])
+        SESSIONS OBJECTS SYMBOLS joined (W.written sink.old) (W.written sink.new)) }
+    ensures short { IfErr result (λ _. AppendsPartOf (either_behaviour S.behaviour T.behaviour) (Left first.old ∷ Right second.old ∷ [])
+        (W.written sink.old) (W.written sink.new)) }
+    ensures reads_ahead { IfErr result (ReadsAhead (either_behaviour S.behaviour T.behaviour) (Left first.old ∷ Right second.old ∷ [])
+        (Left first.new ∷ Right second.new ∷ []) (W.written sink.old) (W.written sink.new)) }
+    ensures fault { IfErr result (NamesInput (either_behaviour S.behaviour T.behaviour) (Left first.old ∷ Right second.old ∷ [])) }
+    ensures failures { FailAs (either_behaviour S.behaviour T.behaviour) result (Left first.old ∷ Right second.old ∷ []) (Left first.new ∷ Right second.new ∷ []) }
+    ensures sink_failures { W.failures sink.new ≡ W.failures sink.old + streams_sink_failed result }
+{
+    let mut pair = Pair {
+        first: &mut *first,
+        second: &mut *second,
+    };
+    merge_all::<SESSIONS, OBJECTS, SYMBOLS, _, _>(alloc, &mut pair, sink)
+}
+
+// The fault of a merge of two.
+fn fault_of_two(fault: StreamsFault) -> MergeFault
+    ensures { result ≡ fault_of_two fault }
+{
+    match fault {
+        StreamsFault::Input(InputFault { number: 0, fault }) => MergeFault::First(fault),
+        StreamsFault::Input(InputFault { fault, .. }) => MergeFault::Second(fault),
+        StreamsFault::Write => MergeFault::Write,
     }
-    if write_end(sink, count).is_err() {
-        return Err(MergeFault::Write);
-    }
-    Ok(count)
 }

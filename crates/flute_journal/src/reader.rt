@@ -1,6 +1,6 @@
 //! Reading a journal, entry by entry.
-ghost use Rattle.std.specs.Prelude.{◌≡◌, ℕ, ◌+◌, ◌<◌, ◌^◌, IfOk, IfSome, Some, None, if◌then◌else◌};
-ghost use Rattle.flute_journal.specs.Input.{failed};
+ghost use Rattle.std.specs.Prelude.{◌≡◌, ℕ, ◌+◌, ◌<◌, ◌^◌, IfOk, IfSome, Some, None};
+ghost use Rattle.flute_journal.specs.Input.{Fails, FailsIf};
 ghost use Rattle.flute_journal.specs.Readers.{source_of, limit_of, stage_of};
 ghost use Rattle.flute_journal.specs.Reading.{Gives, ReadsFrom, is_open, stage_behind};
 
@@ -53,7 +53,8 @@ impl<'a, R: Source> JournalReader<'a, R> {
 
     /// The next entry. None once the end was read and nothing follows it, and from then on.
     ///
-    /// An entry is read field by field, and no byte past it. The bytes of a symbol are the only memory that is taken.
+    /// An entry that lies whole in the source's buffer is looked at there, and another is read field by field. No byte past
+    /// it is taken. The bytes of a symbol are the only memory that is asked for.
     ///
     /// # Errors
     ///
@@ -68,22 +69,39 @@ impl<'a, R: Source> JournalReader<'a, R> {
     /// - `Cut` where the input ends within a field;
     /// - `Read` where the source fails in this call, and `OutOfMemory` where there is no memory for a symbol.
     ///
+    /// The fields that came whole before the source failed are looked at first: `Read` stands where the fault would be
+    /// `Cut` if the input ended there, or where the end was read and the source fails behind it.
+    ///
     /// Each later call answers the same fault, and reads nothing.
     pub fn next(&mut self, alloc: Global) -> Result<Option<Fact>, ReadFault>
         ensures source { (source_of self.new).ghost_name ≡ (source_of self.old).ghost_name }
         ensures limit { limit_of self.new ≡ limit_of self.old }
         ensures gives { Gives (limit_of self.old) (stage_of self.old) (stage_of self.new)
             (R.unread (source_of self.old).now) (R.unread (source_of self.new).now) result }
-        ensures failures { R.failures (source_of self.new).now
-            ≡ R.failures (source_of self.old).now + (if is_open (stage_of self.old) then failed result else 0) }
+        ensures failures { FailsIf (is_open (stage_of self.old))
+            (R.failures (source_of self.old).now) (R.failures (source_of self.new).now) result }
+    {
+        self.next_with(alloc, Vec::new(alloc))
+    }
+
+    /// The same, but the bytes of a symbol are put into the memory of `spare`, where that serves: a caller that lets go
+    /// of each entry before it reads the next hands its vector on, and no memory is taken but where a symbol is longer
+    /// than all before it.
+    pub fn next_with(&mut self, alloc: Global, spare: Vec<u8>) -> Result<Option<Fact>, ReadFault>
+        ensures source { (source_of self.new).ghost_name ≡ (source_of self.old).ghost_name }
+        ensures limit { limit_of self.new ≡ limit_of self.old }
+        ensures gives { Gives (limit_of self.old) (stage_of self.old) (stage_of self.new)
+            (R.unread (source_of self.old).now) (R.unread (source_of self.new).now) result }
+        ensures failures { FailsIf (is_open (stage_of self.old))
+            (R.failures (source_of self.old).now) (R.failures (source_of self.new).now) result }
     {
         let (count, given) = match self.stage {
             Stage::Ended => return Ok(None),
             Stage::Failed(fault) => return Err(fault),
-            Stage::Header => (0, read_first(alloc, self.source, self.max_entries)),
+            Stage::Header => (0, read_first(alloc, self.source, self.max_entries, spare)),
             Stage::Entries { count, last } => (
                 count,
-                read_entry(alloc, self.source, self.max_entries, count, last),
+                read_entry(alloc, self.source, self.max_entries, count, last, spare),
             ),
         };
         self.stage = stage_behind(count, &given);
@@ -92,16 +110,18 @@ impl<'a, R: Source> JournalReader<'a, R> {
 }
 
 // Reads the header, and then the first entry or the end.
+#[inline(never)]
 fn read_first<R: Source>(
     alloc: Global,
     source: &mut R,
     max_entries: u64,
+    spare: Vec<u8>,
 ) -> Result<Option<Fact>, ReadFault>
     ensures reads { ReadsFrom max_entries Stage.Header (R.unread source.old) (R.unread source.new) result }
-    ensures failures { R.failures source.new ≡ R.failures source.old + failed result }
+    ensures failures { Fails (R.failures source.old) (R.failures source.new) result }
 {
     read_header(source)?;
-    read_entry(alloc, source, max_entries, 0, None)
+    read_entry(alloc, source, max_entries, 0, None, spare)
 }
 
 // Where a reader stands behind what it gave, if so many entries stood before.

@@ -1,18 +1,20 @@
 //! The header, the entries and the end of a journal, out of a source.
-ghost use Rattle.std.specs.Prelude.{◌≡◌, ℕ, ◌+◌, ◌<◌, length as length_of};
+ghost use Rattle.std.specs.Prelude.{◌≡◌, ◌≢◌, ◌<◌, IfErr, length as length_of};
 ghost use Rattle.std.specs.Io.KnownBytes.{Consumes, IsAtEnd};
 ghost use Rattle.std.specs.List.{AllByRecursion};
-ghost use Rattle.flute_journal.specs.Input.{Advances, Reads, IsFaultOf, StaysWithin, failed};
+ghost use Rattle.flute_journal.specs.Input.{Advances, Fails, Reads, StaysWithin};
 ghost use Rattle.flute_journal.specs.Numbers.{in_bytes};
 ghost use Rattle.flute_journal.specs.Format.{header, body, entry};
 ghost use Rattle.flute_journal.specs.Faults.{header_fault};
 ghost use Rattle.flute_journal.specs.Journal.{IsByte, IsFact};
 ghost use Rattle.flute_journal.specs.Parsing.{at_place, fixed_size, fixed_bytes, FixedIs, BodyIs, IsBody, body_fault, cut_fault, end_fault};
 ghost use Rattle.flute_journal.specs.Reading.{ReadsNext, ReadsEnd};
+ghost use Rattle.flute_journal.specs.declared.fault.ReadFault.TheVariants.{OutOfMemory};
 
 use crate::fault::ReadFault;
 use crate::format::{END, Fixed, HEADER, Kind, LONGEST, check_end, check_opening, parse};
-use crate::input::{front, octets};
+use crate::input::{octets, read_front};
+use crate::lent::take_entry;
 use flute_parts::{Address, Bytes, Fact, Source};
 use std::alloc::Global;
 
@@ -20,16 +22,41 @@ use std::alloc::Global;
 pub fn read_header<R: Source>(source: &mut R) -> Result<(), ReadFault>
     ensures reads { Reads (λ _. header) (λ _. Unit {0}) header_fault (R.unread source.old) (R.unread source.new) result }
     ensures advances { Advances (R.unread source.old) (R.unread source.new) 6 }
-    ensures failures { R.failures source.new ≡ R.failures source.old + failed result }
+    ensures memory { IfErr result (λ f. f ≢ OutOfMemory) }
+    ensures failures { Fails (R.failures source.old) (R.failures source.new) result }
 {
     let mut buffer = [0; 6];
-    let front = front(source, &mut buffer)?;
-    check_opening(&HEADER, front)
+    let front = read_front(source, &mut buffer);
+    front.told(check_opening(&HEADER, front.bytes))
 }
 
 /// Reads the next entry, or the end, behind so many entries, of which the last is at `last`. A journal may have
-/// `max_entries`.
+/// `max_entries`. The bytes of a symbol are put into the memory of `spare`, where that serves.
+#[inline(always)]
 pub fn read_entry<R: Source>(
+    alloc: Global,
+    source: &mut R,
+    max_entries: u64,
+    count: u64,
+    last: Option<Address>,
+    spare: Vec<u8>,
+) -> Result<Option<Fact>, ReadFault>
+    ensures reads { ReadsNext max_entries (at_place count last) (R.unread source.old) (R.unread source.new) result }
+    ensures within { StaysWithin entry IsFact (R.unread source.old) (R.unread source.new) result }
+    ensures failures { Fails (R.failures source.old) (R.failures source.new) result }
+{
+    if count >= max_entries {
+        return read_fields(alloc, source, max_entries, count, last);
+    }
+    match take_entry(source, &last, spare) {
+        Ok(None) => read_fields(alloc, source, max_entries, count, last),
+        taken => taken,
+    }
+}
+
+// The same, field by field.
+#[inline(never)]
+fn read_fields<R: Source>(
     alloc: Global,
     source: &mut R,
     max_entries: u64,
@@ -38,11 +65,12 @@ pub fn read_entry<R: Source>(
 ) -> Result<Option<Fact>, ReadFault>
     ensures reads { ReadsNext max_entries (at_place count last) (R.unread source.old) (R.unread source.new) result }
     ensures within { StaysWithin entry IsFact (R.unread source.old) (R.unread source.new) result }
-    ensures failures { R.failures source.new ≡ R.failures source.old + failed result }
+    ensures failures { Fails (R.failures source.old) (R.failures source.new) result }
 {
     let mut buffer = [0; 1];
-    let Some(&byte) = front(source, &mut buffer)?.first() else {
-        return Err(ReadFault::Cut);
+    let front = read_front(source, &mut buffer);
+    let Some(&byte) = front.bytes.first() else {
+        return Err(front.shortage());
     };
     if byte == END {
         read_end(source, count)?;
@@ -62,11 +90,11 @@ pub fn read_entry<R: Source>(
 fn read_end<R: Source>(source: &mut R, count: u64) -> Result<(), ReadFault>
     ensures reads { ReadsEnd count (R.unread source.old) (R.unread source.new) result }
     ensures advances { Advances (R.unread source.old) (R.unread source.new) 9 }
-    ensures failures { R.failures source.new ≡ R.failures source.old + failed result }
+    ensures failures { Fails (R.failures source.old) (R.failures source.new) result }
 {
     let mut buffer = [0; 9];
-    let front = front(source, &mut buffer)?;
-    check_end(count, front)
+    let front = read_front(source, &mut buffer);
+    front.told(check_end(count, front.bytes))
 }
 
 // Reads what stands behind the kind of an entry.
@@ -78,7 +106,7 @@ fn read_body<R: Source>(
 ) -> Result<Fact, ReadFault>
     ensures reads { Reads body (BodyIs last kind) (body_fault last kind) (R.unread source.old) (R.unread source.new) result }
     ensures within { StaysWithin body (IsBody kind) (R.unread source.old) (R.unread source.new) result }
-    ensures failures { R.failures source.new ≡ R.failures source.old + failed result }
+    ensures failures { Fails (R.failures source.old) (R.failures source.new) result }
 {
     match read_fixed(source, kind, last)? {
         Fixed::Whole(fact) => Ok(fact),
@@ -97,11 +125,11 @@ fn read_fixed<R: Source>(
 ) -> Result<Fixed, ReadFault>
     ensures reads { Reads fixed_bytes (FixedIs last kind) (body_fault last kind) (R.unread source.old) (R.unread source.new) result }
     ensures advances { Advances (R.unread source.old) (R.unread source.new) (fixed_size kind) }
-    ensures failures { R.failures source.new ≡ R.failures source.old + failed result }
+    ensures failures { Fails (R.failures source.old) (R.failures source.new) result }
 {
     let mut buffer = [0; LONGEST];
-    let front = front(source, &mut buffer[..kind.fixed_size()])?;
-    parse(kind, last, front)
+    let front = read_front(source, &mut buffer[..kind.fixed_size()]);
+    front.told(parse(kind, last, front.bytes))
 }
 
 // Reads so many bytes of a symbol.
@@ -109,7 +137,7 @@ fn read_bytes<R: Source>(alloc: Global, source: &mut R, length: u16) -> Result<B
     requires { 0 < length }
     ensures reads { Reads (λ bytes. bytes) (λ bytes. (length_of bytes ≡ length) × AllByRecursion IsByte bytes) (cut_fault length) (R.unread source.old) (R.unread source.new) result }
     ensures advances { Advances (R.unread source.old) (R.unread source.new) length }
-    ensures failures { R.failures source.new ≡ R.failures source.old + failed result }
+    ensures failures { Fails (R.failures source.old) (R.failures source.new) result }
 {
     match Bytes::from_vec(octets(alloc, source, length)?) {
         Ok(bytes) => Ok(bytes),

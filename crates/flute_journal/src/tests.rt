@@ -5,6 +5,7 @@ mod faults;
 mod journals;
 mod merges;
 mod stores;
+mod streams;
 mod vectors;
 
 use super::*;
@@ -90,7 +91,7 @@ fn read<R: Source>(
 ) -> Result<(Vec<Fact>, Option<ReadFault>), Fail> {
     let mut reader = JournalReader::new(source, max_entries);
     let mut facts = Vec::new(rt.alloc());
-    for _ in 0..10 {
+    for _ in 0..2_000 {
         match reader.next(rt.alloc()) {
             Ok(Some(fact)) => facts.push(fact)?,
             Ok(None) => {

@@ -1,4 +1,5 @@
 -- Where facts stand.
+use Rattle.std.specs.Prelude.{ℕ, List, []}
 use Rattle.flute_parts.specs.declared.key.Key.{Key}
 use Rattle.flute_parts.specs.declared.symbol_id.SymbolId.{SymbolId}
 use Rattle.flute_parts.specs.declared.address.Part.TheVariants.{Info as InfoPart, Symbol as SymbolPart}
@@ -28,3 +29,8 @@ fact_of (InfoRef key info) = Info key info
 fact_of (InfoConflictRef key) = InfoConflict key
 fact_of (SymbolRef key id bytes) = Symbol key id bytes.now
 fact_of (SymbolConflictRef key id) = SymbolConflict key id
+
+-- the bytes of a symbol, and none of another fact
+abbrev pub bytes_of : Fact → List ℕ
+bytes_of (Symbol key id bytes) = bytes
+bytes_of _ = []

@@ -1,12 +1,13 @@
 //! What is known of objects.
 ghost use Rattle.std.specs.Prelude.{◌≡◌};
-ghost use Rattle.flute_parts.specs.Addresses.{address, fact_of};
+ghost use Rattle.flute_parts.specs.Addresses.{address, bytes_of, fact_of};
 
 use crate::address::{Address, Part};
 use crate::bytes::Bytes;
 use crate::info::Info;
 use crate::key::Key;
 use crate::symbol_id::SymbolId;
+use std::alloc::Global;
 
 /// What is known of a part of an object: its one value, or that two different values were told.
 #[derive(Debug, Drop, PartialEq, Eq)]
@@ -71,6 +72,16 @@ impl Fact {
             ),
         };
         Address { key, part }
+    }
+
+    /// The vector of a symbol's bytes, handed over so that its memory can be used again, or a new one. It takes no memory.
+    pub fn into_vec(self, alloc: Global) -> Vec<u8>
+        ensures { result.items ≡ bytes_of self }
+    {
+        match self {
+            Fact::Symbol { bytes, .. } => bytes.into_vec(),
+            _ => Vec::new(alloc),
+        }
     }
 
     /// The same fact, with its bytes borrowed. It takes no memory.

@@ -1,5 +1,5 @@
 //! Transmission information.
-ghost use Rattle.std.specs.Prelude.{◌≡◌, Some, None, MatchResult};
+ghost use Rattle.std.specs.Prelude.{◌≡◌, Some, None, Ok, IfOk, IfErr, MatchResult};
 ghost use Rattle.flute_parts.specs.Information.{information, info_fault};
 
 use flute_join::{JoinRefusal, Value};
@@ -137,7 +137,11 @@ impl Value for Info {
     ghost same_where_equal = { information_same };
 
     /// The same information. It takes no memory, and is never refused.
-    fn copy(&self, _alloc: Global) -> Result<Info, JoinRefusal> {
+    fn copy(&self, _alloc: Global) -> Result<Info, JoinRefusal>
+        ensures copied { result ≡ Ok self.now }
+        ensures equal { IfOk result (λ copy. copy ≡ self.now) }
+        ensures refused { IfErr result (λ why. why ≡ JoinRefusal.OutOfMemory) }
+    {
         Ok(*self)
     }
 }

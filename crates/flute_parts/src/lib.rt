@@ -3,6 +3,7 @@
 #![tactic(auto)]
 
 mod address;
+mod buffered_source;
 mod bytes;
 mod device;
 mod fact;
@@ -24,9 +25,11 @@ mod symbol_id;
 mod tally;
 
 pub use address::{Address, Part};
+pub use buffered_source::BufferedSource;
 pub use bytes::{Bytes, BytesFault};
 pub use device::{DeviceFault, Sink};
 pub use fact::{Fact, FactRef};
+pub use failures::Failures;
 pub use info::{Info, InfoFault};
 pub use key::Key;
 pub use memory_sink::MemorySink;

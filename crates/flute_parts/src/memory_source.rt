@@ -36,9 +36,19 @@ impl Source for MemorySource<'_> {
 
     ghost unread = { λ s. Some s.unread.now };
 
+    ghost buffered = { λ s. s.unread.now };
+
     fn read(&mut self, buffer: &mut [u8]) -> Result<usize, DeviceFault> {
         let (count, rest) = hand_out(self.unread, usize::MAX, buffer);
         self.unread = rest;
         Ok(count)
+    }
+
+    fn buffer(&self) -> &[u8] {
+        self.unread
+    }
+
+    fn consume(&mut self, count: usize) {
+        self.unread = &self.unread[count..];
     }
 }

@@ -48,4 +48,10 @@ impl Source for ShortSource<'_> {
         self.good -= count;
         Ok(count)
     }
+
+    fn buffer(&self) -> &[u8] {
+        &[]
+    }
+
+    fn consume(&mut self, _count: usize) {}
 }

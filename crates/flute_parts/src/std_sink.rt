@@ -1,5 +1,6 @@
 //! A sink over a writer of the standard library.
-ghost use Rattle.std.specs.Prelude.{◌≡◌, ◌+◌, None, if◌then◌else◌, is_ok};
+ghost use Rattle.std.specs.Prelude.{◌≡◌, ◌+◌, if◌then◌else◌, is_ok};
+ghost use Rattle.std.specs.Io.KnownBytes.{Keeps};
 
 use crate::device::{DeviceFault, Sink};
 use crate::failures::Failures;
@@ -8,10 +9,11 @@ use std::io::{ErrorKind, Write};
 /// How often an interrupted call is made again.
 const REPEATS: u32 = 64;
 
-/// A sink over a writer, as a file or standard output. It tells contracts nothing of its bytes.
+/// A sink over a writer, as a file or standard output. It tells contracts the bytes that the writer tells them: those
+/// of a writer over memory, and none of a file.
 ///
-/// An interrupted call is made again at most 64 times, and then it is a failure. A writer that takes none of some
-/// bytes has failed.
+/// An interrupted call is made again at most 64 times, and then it is a failure. No clause has that bound. A writer
+/// that takes none of some bytes has failed.
 #[derive(Debug, Drop)]
 pub struct StdSink<W> {
     writer: W,
@@ -21,7 +23,8 @@ pub struct StdSink<W> {
 impl<W: Write> StdSink<W> {
     /// A sink over this writer.
     pub fn new(writer: W) -> StdSink<W>
-        ensures { ⟦<StdSink<W> as Sink>⟧.failures result ≡ 0 }
+        ensures failures { ⟦<StdSink<W> as Sink>⟧.failures result ≡ 0 }
+        ensures bytes { ⟦<StdSink<W> as Sink>⟧.written result ≡ W.contents writer }
     {
         StdSink {
             writer,
@@ -35,7 +38,8 @@ impl<W: Write> StdSink<W> {
     ///
     /// `DeviceFault` where the writer failed. What it still holds is then not known.
     pub fn flush(&mut self) -> Result<(), DeviceFault>
-        ensures { ⟦<StdSink<W> as Sink>⟧.failures self.new
+        ensures bytes { Keeps (⟦<StdSink<W> as Sink>⟧.written self.old) (⟦<StdSink<W> as Sink>⟧.written self.new) }
+        ensures failures { ⟦<StdSink<W> as Sink>⟧.failures self.new
             ≡ ⟦<StdSink<W> as Sink>⟧.failures self.old + (if is_ok result then 0 else 1) }
     {
         match self.writer.flush() {
@@ -51,7 +55,7 @@ impl<W: Write> StdSink<W> {
 impl<W: Write> Sink for StdSink<W> {
     ghost failures = { λ s. s.failures.count };
 
-    ghost written = { λ _. None };
+    ghost written = { λ s. W.contents s.writer };
 
     fn write(&mut self, bytes: &[u8]) -> Result<usize, DeviceFault> {
         for _ in 0..=REPEATS {

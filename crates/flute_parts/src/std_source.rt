@@ -1,5 +1,5 @@
 //! A source over a reader of the standard library.
-ghost use Rattle.std.specs.Prelude.{◌≡◌, None};
+ghost use Rattle.std.specs.Prelude.{◌≡◌};
 
 use crate::device::DeviceFault;
 use crate::failures::Failures;
@@ -9,19 +9,21 @@ use std::io::{ErrorKind, Read};
 /// How often an interrupted call is made again.
 const REPEATS: u32 = 64;
 
-/// A source over a reader, as a file or standard input. It tells contracts nothing of its bytes.
+/// A source over a reader, as a file or standard input. It tells contracts the bytes that the reader tells them: those
+/// of a reader over memory, and none of a file.
 ///
-/// An interrupted call is made again at most 64 times, and then it is a failure.
+/// An interrupted call is made again at most 64 times, and then it is a failure. No clause has that bound.
 #[derive(Debug, Drop)]
 pub struct StdSource<R> {
-    reader: R,
-    failures: Failures,
+    pub(crate) reader: R,
+    pub(crate) failures: Failures,
 }
 
 impl<R: Read> StdSource<R> {
     /// A source over this reader.
     pub fn new(reader: R) -> StdSource<R>
-        ensures { ⟦<StdSource<R> as Source>⟧.failures result ≡ 0 }
+        ensures failures { ⟦<StdSource<R> as Source>⟧.failures result ≡ 0 }
+        ensures bytes { ⟦<StdSource<R> as Source>⟧.unread result ≡ R.remaining reader }
     {
         StdSource {
             reader,
@@ -33,7 +35,7 @@ impl<R: Read> StdSource<R> {
 impl<R: Read> Source for StdSource<R> {
     ghost failures = { λ s. s.failures.count };
 
-    ghost unread = { λ _. None };
+    ghost unread = { λ s. R.remaining s.reader };
 
     fn read(&mut self, buffer: &mut [u8]) -> Result<usize, DeviceFault> {
         for _ in 0..=REPEATS {
@@ -46,4 +48,10 @@ impl<R: Read> Source for StdSource<R> {
         self.failures = self.failures.and_one();
         Err(DeviceFault)
     }
+
+    fn buffer(&self) -> &[u8] {
+        &[]
+    }
+
+    fn consume(&mut self, _count: usize) {}
 }

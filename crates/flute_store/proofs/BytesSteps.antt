@@ -35,7 +35,7 @@ use Rattle.flute_store.proofs.WholeObjects.{gapless-whole}
 use Rattle.flute_store.proofs.ToldObjects.{wants-told}
 use Rattle.flute_store.proofs.ObjectLength.{object-length}
 use Rattle.flute_store.specs.Extract.{IsNotWhole, WritesWhole, WritesPart}
-use Rattle.flute_store.proofs.Looks.{here, AtHere, AtPassed, Tells, told, others_left, symbols-first, symbols-end, others-above, inside-less, block-left, step-pass, step-begin, step-take, take-left}
+use Rattle.flute_store.proofs.Looks.{here, AtHere, AtPassed, Tells, told, others_left, symbols-first, symbols-end, others-above, inside-less, block-left, keeps-trans, step-pass, step-begin, step-take, take-left}
 use Rattle.flute_store.proofs.GapSteps.{gap-missing}
 
 bytes-past : (e : Entry) (es : List Entry) (xs : List SymbolId) → Above e.0 xs → held_bytes (e ∷ es) xs ≡ held_bytes es xs
@@ -118,9 +118,9 @@ gives-first v w e es k h f d l =
       ticked = omega (arith, l);
     }
 
-keeps-on : (v w x : GapWalk) → KeepsBytes v w → KeepsBytes w x → KeepsBytes v x
+pub keeps-on : (v w x : GapWalk) → KeepsBytes v w → KeepsBytes w x → KeepsBytes v x
 keeps-on v w x k l = record {
-  keeps = record { walk = l.keeps.walk; left_is = l.keeps.left_is ∙ k.keeps.left_is; bound_is = l.keeps.bound_is ∙ k.keeps.bound_is };
+  keeps = keeps-trans v w x k.keeps l.keeps;
   bytes = l.bytes ∙ k.bytes;
 }
 

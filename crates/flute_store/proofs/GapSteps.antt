@@ -3,7 +3,6 @@ use Rattle.std.proofs.Common.{◌≡◌, ◌≢◌, ℕ, zero, suc, ◌+◌, ◌
 use Rattle.std.specs.Prelude.{◌==◌, nat_lt}
 use Rattle.std.specs.List.{range_with_len}
 use Rattle.std.specs.Map.{keys_of}
-use Rattle.std.specs.List.Sorted.{IsStrictlySortedBy}
 use Rattle.std.specs.declared.cmp.Ordering.{Ordering}
 use Rattle.std.specs.declared.cmp.Ordering.TheVariants.{Less, Equal, Greater}
 use Rattle.std.specs.Ordering.{nat_cmp, ordering_then, ordering_reverse}
@@ -26,11 +25,11 @@ use Rattle.flute_store.specs.declared.gap_walk.Look.TheVariants.{End, BlockEnd, 
 use Rattle.flute_store.specs.declared.gap_walk.GapWalk.{GapWalk}
 use Rattle.flute_store.specs.Objects.{runs}
 use Rattle.flute_store.specs.Wanted.{want_cell, wanted, block_from, blocks_from}
-use Rattle.flute_store.specs.GapWalk.{left, gaps_left, bound, IsWalk, after_pass, after_take, look_of, until_held, until_of, GivesGap, GoesOn, EndsRun, IsRun, RunsOn}
+use Rattle.flute_store.specs.GapWalk.{left, gaps_left, bound, IsBehind, IsWalk, after_pass, after_take, look_of, until_held, until_of, GivesGap, GoesOn, EndsRun, IsRun, RunsOn}
 use Rattle.flute_store.proofs.SortedSymbols.{Above, sbn-less, esi-less, above-before, above-later, above-block, blocks_from-end}
 use Rattle.flute_store.proofs.Lookups.{Entry, Elsewhere, value-before, value-here, wanted-missing, elsewhere-above, elsewhere-here}
 use Rattle.flute_store.proofs.Runs.{runs-first}
-use Rattle.flute_store.proofs.Looks.{here, AtHere, AtPassed, FirstAfter, Tells, told, others_left, symbols-first, symbols-end, blocks-later, others-above, inside-less, step-pass, take-bound, take-walk, take-left}
+use Rattle.flute_store.proofs.Looks.{here, AtHere, AtPassed, FirstAfter, Tells, told, others_left, symbols-first, symbols-end, blocks-later, others-above, inside-less, sorted-first, ahead-none, ahead-trans, step-pass, take-bound, take-walk, take-ahead, take-left}
 
 -- ---- the end
 
@@ -60,6 +59,9 @@ run-pass r v w s t =
     record {
       walk = k.walk;
       block = s.block;
+      begun_is = s.begun_is;
+      ended_is = s.ended_is;
+      ahead = ahead-trans v w (after_pass w) s.ahead k.ahead;
       from = s.from;
       passed = s.passed ∙ ap (λ ws. map (entry v.sbn r) (range_with_len v.esi (w.esi - v.esi)) ++ ws) (sym k.left_is);
       bound_is = k.bound_is ∙ s.bound_is;
@@ -73,6 +75,9 @@ run-take r v w s t =
     record {
       walk = take-walk w (Some r) s.walk t;
       block = s.block;
+      begun_is = s.begun_is;
+      ended_is = s.ended_is;
+      ahead = ahead-trans v w (after_take w) s.ahead (take-ahead w (Some r) t);
       from = omega (arith, f);
       passed =
           s.passed
@@ -101,11 +106,7 @@ run-smaller r v w x s g =
 pub run-none : (r : Reason) (v : GapWalk) → IsWalk v → IsRun r v v
 run-none r v p =
     let z : zero ≡ v.esi - v.esi = omega arith in
-    record { walk = p; block = refl; from = omega arith; passed = ap (λ k. map (entry v.sbn r) (range_with_len v.esi k) ++ left v) z; bound_is = refl }
-
-sorted-first : (e : Entry) (es : List Entry) → IsOrdered symbol_id_cmp (e ∷ es) → Above e.0 (keys_of es)
-unfolding IsStrictlySortedBy
-sorted-first e es s = s.0
+    record { walk = p; block = refl; begun_is = refl; ended_is = refl; ahead = ahead-none v v refl refl refl; from = omega arith; passed = ap (λ k. map (entry v.sbn r) (range_with_len v.esi k) ++ left v) z; bound_is = refl }
 
 first-above : (p : SymbolId) (held : List Entry) → IsOrdered symbol_id_cmp held → FirstAfter p held → Above p (keys_of held)
 first-above p [] s f = tt
@@ -176,6 +177,12 @@ gap-run r v w p e s =
           ∙ ap (λ k. map (entry v.sbn r) (range_with_len v.esi k) ++ left w) k)
           ∙ runs-first v.sbn v.esi w.esi r (left w) l (subst (λ x. Elsewhere x r (left w)) b (stop-elsewhere w r s.run.walk (omega (arith, l)) (here-known v r p t) (look_of w) refl s.ends));
       bound_is = s.run.bound_is ∙ take-bound v (Some r) t;
+      ahead = ahead-trans v (after_take v) w (take-ahead v (Some r) t) s.run.ahead;
+      passes = record {
+        ended_is = s.run.ended_is;
+        begun = s.run.begun_is ∙ sym (p.in_block (let i = inside-less v p t.inside in omega (arith, i)));
+        behind = subst (λ n. IsBehind n (w.esi - 1) w.held) s.run.block (s.run.walk.behind (omega (arith, l)));
+      };
     }
 
 -- ---- symbols that are not held
@@ -272,8 +279,34 @@ missing-less w p e = (until-walk w p e).less
 pub missing-within : (w : GapWalk) → IsWalk w → look_of w ≡ NotHeld → until_of w ≤ w.size
 missing-within w p e = (until-walk w p e).within
 
-missing-walk : (w : GapWalk) → IsWalk w → until_of w ≤ w.size → IsWalk (after_missing w)
-missing-walk w p l = record { ordered = p.ordered; known = p.known; begun = p.begun; within = l; longest = p.longest; in_block = p.in_block; few = p.few }
+-- the held symbols stand behind those that are not held
+behind-until : (n a size : ℕ) (held : List Entry) → a < size → IsOrdered symbol_id_cmp held → FirstAfter (symbol_id n a) held → IsBehind n (until_held n size held - 1) held
+behind-until n a size [] l s f = tt
+behind-until n a size (e ∷ es) l s f = elim (cases_Bool ((e.0.sbn == n) && nat_lt e.0.esi size)) [
+  | inl t ↦
+      let b = both (e.0.sbn == n) (nat_lt e.0.esi size) t in
+      let m = same_number e.0.sbn n b.0 in
+      subst (λ b. IsBehind n (cond b e.0.esi size - 1) (e ∷ es)) (sym t)
+      (all (e.0.esi - 1) (elim (greater-cases e.0 (symbol_id n a) f) [
+        | inl g ↦ absurd (omega (arith, g, m))
+        | inr g ↦ let k = g.1 in less_in n (e.0.esi - 1) e.0 m (omega (arith, k))
+      ]))
+  | inr t ↦
+      subst (λ b. IsBehind n (cond b e.0.esi size - 1) (e ∷ es)) (sym t)
+      (all (size - 1) (elim (greater-cases e.0 (symbol_id n a) f) [
+        | inl g ↦ sbn-less (symbol_id n (size - 1)) e.0 g
+        | inr g ↦ let k = beyond e.0.sbn n e.0.esi size t g.0 in less_in n (size - 1) e.0 g.0 (omega (arith, k, l))
+      ]))
+]
+  where
+    all : (i : ℕ) → symbol_id_cmp (symbol_id n i) e.0 ≡ Less → IsBehind n i (e ∷ es)
+    all i h = (h, above-before (symbol_id n i) e.0 (keys_of es) h (sorted-first e es s))
+
+behind-missing : (w : GapWalk) → IsWalk w → look_of w ≡ NotHeld → IsBehind w.sbn (until_of w - 1) w.held
+behind-missing w p e = let t = told w NotHeld e in behind-until w.sbn w.esi w.size w.held (inside-less w p t.0) p.ordered t.1
+
+missing-walk : (w : GapWalk) → IsWalk w → until_of w ≤ w.size → IsBehind w.sbn (until_of w - 1) w.held → IsWalk (after_missing w)
+missing-walk w p l b = record { ordered = p.ordered; known = p.known; begun = p.begun; within = l; longest = p.longest; in_block = p.in_block; behind = λ z. b; few = p.few }
 
 missing-elsewhere : (w : GapWalk) → IsWalk w → 0 < w.size → ((until_of w ≡ w.size) ⊎ ((until_of w < w.size) × (e : Entry) × (es : List Entry) × (w.held ≡ e ∷ es) × (e.0 ≡ symbol_id w.sbn (until_of w)))) → Elsewhere (symbol_id w.sbn (until_of w)) Missing (left (after_missing w))
 unfolding left
@@ -305,7 +338,9 @@ gap-missing w p e =
     let l = u.less in
     let m = u.within in
     record {
-      walk = missing-walk w p m;
+      walk = missing-walk w p m (behind-missing w p e);
+      ahead = ahead-none w (after_missing w) refl refl refl;
+      passes = record { ended_is = refl; begun = sym (p.in_block (omega (arith, l, m))); behind = behind-missing w p e };
       first =
           ap runs (missing-left w u)
           ∙ runs-first w.sbn w.esi (until_of w) Missing (left (after_missing w)) l (missing-elsewhere w p (omega (arith, l, m)) u.next);

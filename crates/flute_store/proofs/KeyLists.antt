@@ -41,14 +41,14 @@ unfolding IsStrictlySortedBy
 rise-append [] ys p q b = q
 rise-append (x ∷ xs) ys p q b = (before-append x xs ys p.0 b.0, rise-append xs ys p.1 q b.1)
 
-one_is : (y x : Key) → Contains (y ∷ []) x → y ≡ x
+pub one_is : {X : Type 0} (y x : X) → Contains (y ∷ []) x → y ≡ x
 one_is y x (zero, l, e) = e
 one_is y x (suc k, l, e) = absurd (omega (arith, l))
 
-first_is : (x : Key) (xs : List Key) → Contains (x ∷ xs) x
+pub first_is : {X : Type 0} (x : X) (xs : List X) → Contains (x ∷ xs) x
 first_is x xs = (0, omega arith, refl)
 
-none_in : (x : Key) → Contains [] x → ⊥
+pub none_in : {X : Type 0} (x : X) → Contains [] x → ⊥
 none_in x c = omega (arith, c.1)
 
 module _ {X : Type 0} where

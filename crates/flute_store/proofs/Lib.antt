@@ -5,6 +5,7 @@ pub mod OneObject
 pub mod Counting
 pub mod Exceeding
 pub mod Held
+mod HeldIds
 pub mod Rises
 pub mod Spelled
 pub mod Refused

@@ -1,10 +1,11 @@
 -- What comes next on a walk, and what is left then.
-use Rattle.std.proofs.Common.{◌≡◌, ◌≢◌, ℕ, ◌+◌, ◌<◌, ◌≤◌, Bool, true, false, cond, List, [], ◌∷◌, ◌++◌, length, drop, Option, Some, None, refl, sym, ap, ◌∙◌, subst, inl, inr, arith}
+use Rattle.std.proofs.Common.{◌≡◌, ◌≢◌, ℕ, ◌+◌, ◌<◌, ◌≤◌, Bool, true, false, cond, List, [], ◌∷◌, ◌++◌, length, drop, Option, Some, None, refl, sym, ap, ◌∙◌, subst, inl, inr, arith, append_assoc, ◌-◌}
 use Rattle.std.specs.Prelude.{◌==◌, option_map}
 use Rattle.std.specs.List.{cons_option}
 use Rattle.std.specs.Map.{keys_of}
 use Rattle.std.specs.declared.cmp.Ordering.{Ordering}
 use Rattle.std.specs.declared.cmp.Ordering.TheVariants.{Less, Equal, Greater}
+use Rattle.std.specs.List.Sorted.{IsStrictlySortedBy}
 use Rattle.std.specs.Ordering.{match_ordering}
 use Rattle.std.proofs.lemmas.Bool.{cases_Bool}
 use Rattle.std.proofs.lemmas.Bool.Decides.{nat_tests}
@@ -21,7 +22,7 @@ use Rattle.flute_store.specs.declared.gap_walk.Look.{Look}
 use Rattle.flute_store.specs.declared.gap_walk.Look.TheVariants.{End, BlockEnd, Passed, Fitting, Wanted, NotHeld}
 use Rattle.flute_store.specs.declared.gap_walk.GapWalk.{GapWalk}
 use Rattle.flute_store.specs.Wanted.{want_cell, with_reason, wanted, block_from, blocks_from}
-use Rattle.flute_store.specs.GapWalk.{symbols_left, left, bound, IsWalk, Keeps, after_pass, after_take, after_begin, look_wanted, look_held, look_of}
+use Rattle.flute_store.specs.GapWalk.{symbols_left, left, bound, IsBehind, IsWalk, IsAhead, Keeps, after_pass, after_take, after_begin, look_wanted, look_held, look_of}
 use Rattle.flute_store.proofs.SortedSymbols.{Above, Later, above-before, above-block, later-blocks, block_from-first, block_from-end, blocks_from-next}
 use Rattle.flute_store.proofs.Lookups.{Entry, wanted-past, wanted-here}
 
@@ -105,7 +106,7 @@ pub symbols-first : (w : GapWalk) → w.esi < w.size → symbols_left w ≡ here
 symbols-first w l = ap (λ xs. xs ++ blocks_from w.partition w.begun) (block_from-first w.sbn w.esi w.size l)
 
 pub blocks-later : (w : GapWalk) → IsWalk w → 0 < w.size → Later w.sbn (blocks_from w.partition w.begun)
-blocks-later w p l = later-blocks w.partition w.sbn w.begun (p.in_block l)
+blocks-later w p l = let e = p.in_block l in later-blocks w.partition w.sbn w.begun (omega (arith, e))
 
 pub others-above : (w : GapWalk) → IsWalk w → w.esi < w.size → Above (here w) (others_left w)
 others-above w p l = above-block w.sbn w.esi w.size (blocks_from w.partition w.begun) (blocks-later w p (omega (arith, l)))
@@ -127,6 +128,46 @@ held-known held e es h s =
     let k : EachValue IsKnown (e ∷ es) = subst (EachValue IsKnown) h s in
     subst (λ (x : List Entry). EachValue IsKnown (drop 1 x)) (sym h) k.1
 
+behind-rest : (n i : ℕ) (held : List Entry) (e : Entry) (es : List Entry) → held ≡ e ∷ es → IsBehind n i held → IsBehind n i (drop 1 held)
+behind-rest n i held e es h b =
+    let a : IsBehind n i (e ∷ es) = subst (IsBehind n i) h b in
+    subst (λ (x : List Entry). IsBehind n i (drop 1 x)) (sym h) a.1
+
+-- the other held symbols stand behind the first
+pub sorted-first : (e : Entry) (es : List Entry) → IsOrdered symbol_id_cmp (e ∷ es) → Above e.0 (keys_of es)
+unfolding IsStrictlySortedBy
+sorted-first e es s = s.0
+
+behind-first : (w : GapWalk) (e : Entry) (es : List Entry) → w.held ≡ e ∷ es → e.0 ≡ here w → IsOrdered symbol_id_cmp w.held → IsBehind w.sbn (w.esi + 1 - 1) (drop 1 w.held)
+behind-first w e es h p s =
+    let a : Above e.0 (keys_of es) = sorted-first e es (subst (IsOrdered symbol_id_cmp) h s) in
+    let k : w.esi ≡ w.esi + 1 - 1 = omega arith in
+    subst (λ i. IsBehind w.sbn i (drop 1 w.held)) k
+    (subst (λ (x : List Entry). IsBehind w.sbn w.esi (drop 1 x)) (sym h) (subst (λ id. Above id (keys_of es)) p a))
+
+-- ---- how far a walk is
+
+-- a walk on which the first held symbol was passed
+passed-first : (w : GapWalk) (e : Entry) (es : List Entry) → w.held ≡ e ∷ es → w.held ≡ (e ∷ []) ++ drop 1 w.held
+passed-first w e es h = h ∙ ap (λ (x : List Entry). e ∷ drop 1 x) (sym h)
+
+pub ahead-none : (v w : GapWalk) → w.held ≡ v.held → w.begun ≡ v.begun → w.partition ≡ v.partition → IsAhead v w
+ahead-none v w h b p = record { passed = []; held_is = sym h; onward = omega (arith, b); partition_is = p }
+
+pub ahead-trans : (u v w : GapWalk) → IsAhead u v → IsAhead v w → IsAhead u w
+ahead-trans u v w a b =
+    let m = a.onward in
+    let n = b.onward in
+    record {
+      passed = a.passed ++ b.passed;
+      held_is = a.held_is ∙ ap (λ x. a.passed ++ x) b.held_is ∙ sym (append_assoc a.passed b.passed w.held);
+      onward = omega (arith, m, n);
+      partition_is = b.partition_is ∙ a.partition_is;
+    }
+
+pub keeps-trans : (u v w : GapWalk) → Keeps u v → Keeps v w → Keeps u w
+keeps-trans u v w k l = record { walk = l.walk; left_is = l.left_is ∙ k.left_is; bound_is = l.bound_is ∙ k.bound_is; ended_is = l.ended_is ∙ k.ended_is; ahead = ahead-trans u v w k.ahead l.ahead }
+
 pub step-pass : (w : GapWalk) → IsWalk w → AtPassed w → Keeps w (after_pass w)
 unfolding left
 step-pass w p t =
@@ -142,8 +183,11 @@ step-pass w p t =
         within = p.within;
         longest = p.longest;
         in_block = p.in_block;
+        behind = λ z. behind-rest w.sbn (w.esi - 1) w.held t.first t.others t.held (p.behind z);
         few = omega (arith, b, f);
       };
+      ended_is = refl;
+      ahead = record { passed = t.first ∷ []; held_is = passed-first w t.first t.others t.held; onward = omega arith; partition_is = refl };
       left_is =
           ap (λ (x : List Entry). wanted w.partition (drop 1 x) (symbols_left w)) t.held
           ∙ ap (wanted w.partition t.others) (symbols-first w l)
@@ -169,8 +213,12 @@ take-walk w why p t =
       within = omega (arith, l);
       longest = p.longest;
       in_block = p.in_block;
+      behind = λ z. behind-first w t.first t.others t.held t.at_here p.ordered;
       few = omega (arith, b, f);
     }
+
+pub take-ahead : (w : GapWalk) (why : Option Reason) → AtHere w why → IsAhead w (after_take w)
+take-ahead w why t = record { passed = t.first ∷ []; held_is = passed-first w t.first t.others t.held; onward = omega arith; partition_is = refl }
 
 pub take-left : (w : GapWalk) (why : Option Reason) → IsWalk w → AtHere w why → left w ≡ cons_option (option_map (with_reason (here w)) why) (left (after_take w))
 unfolding left
@@ -183,7 +231,7 @@ take-left w why p t =
     ∙ ap (λ (x : List Entry). cons_option (option_map (with_reason (here w)) why) (wanted w.partition (drop 1 x) (others_left w))) (sym t.held)
 
 pub step-take : (w : GapWalk) → IsWalk w → AtHere w None → Keeps w (after_take w)
-step-take w p t = record { walk = take-walk w None p t; left_is = sym (take-left w None p t); bound_is = take-bound w None t }
+step-take w p t = record { walk = take-walk w None p t; left_is = sym (take-left w None p t); bound_is = take-bound w None t; ended_is = refl; ahead = take-ahead w None t }
 
 -- where the block has no symbol left, those of the other blocks are
 pub symbols-end : (w : GapWalk) → w.esi ≡ w.size → symbols_left w ≡ blocks_from w.partition w.begun
@@ -204,9 +252,12 @@ step-begin w p t s =
         begun = omega (arith, l);
         within = omega arith;
         longest = s;
-        in_block = λ z. omega arith;
+        in_block = λ z. refl;
+        behind = λ z. absurd (omega (arith, z));
         few = omega (arith, b, f);
       };
+      ended_is = refl;
+      ahead = record { passed = []; held_is = refl; onward = omega arith; partition_is = refl };
       left_is = ap (wanted w.partition w.held) (sym (blocks_from-next w.partition w.begun l) ∙ sym (symbols-end w t.0));
       bound_is = b;
     }

@@ -1,6 +1,8 @@
 -- A walk over the held symbols and the blocks of an object.
 use Rattle.std.specs.Prelude.{◌≡◌, ℕ, Bool, true, false, cond, ◌&&◌, ◌⊎◌, ◌+◌, ◌-◌, ◌<◌, ◌≤◌, ◌^◌, ◌==◌, nat_lt, List, [], ◌∷◌, ◌++◌, length, map, drop, slice_index, Option, Some, None}
-use Rattle.std.specs.List.{range_with_len}
+use Rattle.std.specs.List.{range_with_len, AllByRecursion}
+use Rattle.std.specs.Map.{keys_of}
+use Rattle.std.specs.declared.cmp.Ordering.TheVariants.{Less}
 use Rattle.std.specs.Ordering.{match_ordering}
 use Rattle.flute_join.specs.Cell.{IsKnown}
 use Rattle.flute_join.specs.JoinMap.{IsOrdered, EachValue}
@@ -37,13 +39,18 @@ last_tick false = 1
 abbrev pub bound : GapWalk → ℕ
 bound w = w.ticks + (length (sizes w.partition) - w.begun) + length w.held + last_tick w.ended
 
+-- these stand behind the symbol
+abbrev pub IsBehind : ℕ → ℕ → List (SymbolId × Cell (List ℕ)) → Type 0
+IsBehind sbn esi held = AllByRecursion (λ id. symbol_id_cmp (symbol_id sbn esi) id ≡ Less) (keys_of held)
+
 pub record IsWalk (w : GapWalk) : Type 0 where
   pub ordered : IsOrdered symbol_id_cmp w.held
   pub known : EachValue IsKnown w.held
   pub begun : w.begun ≤ length (sizes w.partition)
   pub within : w.esi ≤ w.size
   pub longest : w.size ≤ 65536
-  pub in_block : 0 < w.size → w.sbn < w.begun
+  pub in_block : 0 < w.size → w.sbn + 1 ≡ w.begun
+  pub behind : 0 < w.esi → IsBehind w.sbn (w.esi - 1) w.held
   pub few : bound w < 2 ^ 34
 
 abbrev pub at_start : Information → List (SymbolId × Cell (List ℕ)) → GapWalk
@@ -77,11 +84,20 @@ IsStop Passed = ⊥
 IsStop Fitting = ⊥
 IsStop _ = Unit {0}
 
+-- some held symbols were passed, and some blocks begun
+pub record IsAhead (v w : GapWalk) : Type 0 where
+  pub passed : List (SymbolId × Cell (List ℕ))
+  pub held_is : v.held ≡ passed ++ w.held
+  pub onward : v.begun ≤ w.begun
+  pub partition_is : w.partition ≡ v.partition
+
 -- what is left is the same after a step
 pub record Keeps (v w : GapWalk) : Type 0 where
   pub walk : IsWalk w
   pub left_is : left w ≡ left v
   pub bound_is : bound w ≡ bound v
+  pub ended_is : w.ended ≡ v.ended
+  pub ahead : IsAhead v w
 
 -- up to where the symbols of the block are not held, if the next one is not
 abbrev pub until_held : ℕ → ℕ → List (SymbolId × Cell (List ℕ)) → ℕ
@@ -91,11 +107,24 @@ until_held sbn size (e ∷ es) = cond ((e.0.sbn == sbn) && nat_lt e.0.esi size) 
 abbrev pub until_of : GapWalk → ℕ
 until_of w = until_held w.sbn w.size w.held
 
+-- the blocks up to that of the gap are begun, and no held symbol up to its last one is left
+pub record PassesGap (v w : GapWalk) (gap : Gap) : Type 0 where
+  pub ended_is : w.ended ≡ v.ended
+  pub begun : w.begun ≡ gap.sbn + 1
+  pub behind : IsBehind gap.sbn gap.last w.held
+
 -- the first gap was given
 pub record GivesGap (v : GapWalk) (gap : Gap) (w : GapWalk) : Type 0 where
   pub walk : IsWalk w
   pub first : gaps_left v ≡ gap ∷ gaps_left w
   pub bound_is : bound w ≡ bound v
+  pub ahead : IsAhead v w
+  pub passes : PassesGap v w gap
+
+-- all blocks are begun, and it was found that nothing is left
+pub record HasEnded (w : GapWalk) : Type 0 where
+  pub begun : w.begun ≡ length (sizes w.partition)
+  pub ended : w.ended ≡ true
 
 -- a held symbol was passed that stands before the next symbol, or is that and wanted for the reason
 abbrev pub GoesOn : Reason → GapWalk → GapWalk → Type 0
@@ -111,6 +140,9 @@ EndsRun reason _ = Unit {0}
 pub record IsRun (reason : Reason) (v w : GapWalk) : Type 0 where
   pub walk : IsWalk w
   pub block : w.sbn ≡ v.sbn
+  pub begun_is : w.begun ≡ v.begun
+  pub ended_is : w.ended ≡ v.ended
+  pub ahead : IsAhead v w
   pub from : v.esi ≤ w.esi
   pub passed : left v ≡ map (λ i. (symbol_id v.sbn i, reason)) (range_with_len v.esi (w.esi - v.esi)) ++ left w
   pub bound_is : bound w ≡ bound v

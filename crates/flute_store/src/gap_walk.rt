@@ -1,5 +1,5 @@
 //! The walk over the held symbols and the blocks of an object, side by side.
-ghost use Rattle.std.specs.Prelude.{◌≡◌, ◌-◌, ◌<◌, ◌≤◌, ◌^◌, [], length};
+ghost use Rattle.std.specs.Prelude.{◌≡◌, ◌-◌, ◌<◌, ◌≤◌, ◌^◌, [], length, IfSome, IfNone};
 ghost use Rattle.std.specs.Bool.{OnTrue, OnFalse};
 ghost use Rattle.std.specs.Iterator.{YieldsFirst};
 ghost use Rattle.flute_parts.specs.Information.{sizes};
@@ -8,7 +8,7 @@ ghost use Rattle.flute_parts.specs.Order.{symbol_id_cmp};
 ghost use Rattle.flute_join.specs.Cell.{IsKnown};
 ghost use Rattle.flute_join.specs.JoinMap.{IsOrdered, EachValue};
 ghost use Rattle.flute_store.specs.Wanted.{want_cell};
-ghost use Rattle.flute_store.specs.GapWalk.{at_start, after_pass, after_begin, after_take, gaps_left, bound, IsWalk, look_of, IsStop, Keeps, until_of, GivesGap, GoesOn, EndsRun, RunsOn};
+ghost use Rattle.flute_store.specs.GapWalk.{at_start, after_pass, after_begin, after_take, gaps_left, bound, IsWalk, look_of, IsStop, Keeps, until_of, IsAhead, PassesGap, HasEnded, GivesGap, GoesOn, EndsRun, RunsOn};
 
 use crate::gap::{Gap, Reason};
 use crate::held_left::HeldLeft;
@@ -250,6 +250,8 @@ impl<'a> GapWalk<'a> {
         ensures left { gaps_left self.old ≡ [] }
         ensures none { gaps_left self.new ≡ [] }
         ensures bound { bound self.new ≡ bound self.old }
+        ensures ahead { IsAhead self.old self.new }
+        ensures ended { HasEnded self.new }
     {
         if !self.ended {
             self.ended = true;
@@ -263,6 +265,9 @@ impl<'a> GapWalk<'a> {
         ensures walk { IsWalk self.new }
         ensures gives { YieldsFirst gaps_left self.old result self.new }
         ensures bound { bound self.new ≡ bound self.old }
+        ensures ahead { IsAhead self.old self.new }
+        ensures past { IfSome result (PassesGap self.old self.new) }
+        ensures ended { IfNone result (HasEnded self.new) }
     {
         while self.pass_one() {}
         match self.look() {

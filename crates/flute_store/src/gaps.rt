@@ -1,5 +1,6 @@
 //! What is missing of an object, gap after gap.
-ghost use Rattle.std.specs.Prelude.{◌≡◌, ℕ, ◌+◌, ◌<◌, ◌≤◌, ◌^◌, length, MatchResult};
+ghost use Rattle.std.specs.Prelude.{◌≡◌, ℕ, ◌+◌, ◌<◌, ◌≤◌, ◌^◌, false, length, IfSome, IfNone, MatchResult};
+ghost use Rattle.std.specs.Map.{keys_of};
 ghost use Rattle.std.specs.Iterator.{YieldsFirst, MakesProgress, item_count};
 ghost use Rattle.flute_join.specs.Cell.{IsKnown};
 ghost use Rattle.flute_join.specs.JoinMap.{IsOrdered, EachValue};
@@ -8,6 +9,7 @@ ghost use Rattle.flute_parts.specs.Order.{symbol_id_cmp};
 ghost use Rattle.flute_parts.specs.Partition.{ids};
 ghost use Rattle.flute_store.specs.Objects.{runs};
 ghost use Rattle.flute_store.specs.Wanted.{wanted};
+ghost use Rattle.flute_store.specs.GapsLeft.{Ticks, IsPast, IsAtEnd};
 ghost use Rattle.flute_store.specs.GapAnswers.{GivesGaps, TellsGapFault};
 
 use crate::gap::Gap;
@@ -44,13 +46,24 @@ pub struct Gaps<'a> {
 }
 
 impl<'a> Model for Gaps<'a> {
+    ghost use Rattle.std.specs.Prelude.{length};
+    ghost use Rattle.std.specs.Map.{keys_of};
+    ghost use Rattle.flute_parts.specs.Information.{sizes};
     ghost use Rattle.flute_store.specs.GapsLeft.{GapsLeft};
 
     ghost Value = { GapsLeft };
 
     ghost use Rattle.flute_store.specs.GapWalk.{gaps_left, bound, IsWalk};
 
-    ghost view = { λ g. record { gaps = gaps_left g.walk; ticks = g.walk.ticks; bound = bound g.walk } };
+    ghost view = { λ g. record {
+      gaps = gaps_left g.walk;
+      held = keys_of g.walk.held;
+      begun = g.walk.begun;
+      blocks = length (sizes g.walk.partition);
+      ended = g.walk.ended;
+      ticks = g.walk.ticks;
+      bound = bound g.walk;
+    } };
 
     ghost invariant = { λ g. IsWalk g.walk };
 }
@@ -62,6 +75,10 @@ impl<'a> Gaps<'a> {
         requires known { EachValue IsKnown symbols }
         requires few { length symbols < 2 ^ 32 }
         ensures gaps { result.gaps ≡ runs (wanted info.now symbols.entry (ids info.now)) }
+        ensures held { result.held ≡ keys_of symbols.entry }
+        ensures begun { result.begun ≡ 0 }
+        ensures total { result.blocks ≡ length (sizes info.now) }
+        ensures ended { result.ended ≡ false }
         ensures ticks { result.ticks ≡ 0 }
         ensures bound { result.bound ≡ length (sizes info.now) + length symbols.entry + 1 }
         ensures few { length (ids info.now) ≤ 2 ^ 32 }
@@ -89,10 +106,18 @@ impl Iterator for Gaps<'_> {
     ghost remaining = { item_count (λ g. g.gaps) };
 
     /// The next gap, by constant time a tick. None where none is left, and again None after that.
+    ///
+    /// Each block that it begins takes a tick, and each held symbol that it passes, and, once, that it finds nothing
+    /// left. At a gap it has begun the blocks up to the gap's, and passed the held symbols up to the gap's last one.
     fn next(&mut self) -> Option<Gap>
         ensures steps { YieldsFirst (λ g. g.gaps) self.old result self.new }
         ensures goes { MakesProgress (λ _. Unit {0}) (item_count (λ g. g.gaps)) self.old result self.new }
         ensures bound { self.new.bound ≡ self.old.bound }
+        ensures total { self.new.blocks ≡ self.old.blocks }
+        ensures rises { self.old.ticks ≤ self.new.ticks }
+        ensures ticks { Ticks self.old self.new }
+        ensures past { IfSome result (IsPast self.new) }
+        ensures end { IfNone result (IsAtEnd self.new) }
     {
         self.walk.next()
     }

@@ -32,4 +32,4 @@ pub use keys::Keys;
 pub use status::Status;
 pub use store::{Shelf, Store};
 pub use taken::{TakeFault, Taken};
-pub use walk::Walk;
+pub use walk::{HasFacts, HasObjects, Walk};

@@ -14,17 +14,22 @@ ghost use Rattle.std.specs.Prelude.{
   OnOk,
   OnErr,
   IfOk,
+  IfErr,
   IfSome,
   IsOk,
 };
 ghost use Rattle.std.specs.List.{AllByRecursion};
 ghost use Rattle.std.specs.List.Sorted.{IsStrictlySortedBy};
-ghost use Rattle.flute_parts.specs.Order.{key_cmp};
+ghost use Rattle.flute_join.specs.JoinMap.{MapOver, MapNeedsMemory};
+ghost use Rattle.flute_join.specs.Semilattice.{IsBelow};
+ghost use Rattle.flute_parts.specs.Order.{key_cmp, session_cmp, object_cmp};
 ghost use Rattle.flute_parts.specs.declared.key.Key.{Key as Name};
 ghost use Rattle.flute_parts.specs.Facts.{fact_at, Same, Below, IsRising};
 ghost use Rattle.flute_parts.specs.Limits.{Over};
 ghost use Rattle.flute_store.specs.News.{news_facts, IsNews};
 ghost use Rattle.flute_store.specs.Memory.{HasNew};
+ghost use Rattle.flute_store.specs.ObjectJoin.{object_join, session_join, store_join, ObjectOver, ObjectNeedsMemory};
+ghost use Rattle.flute_store.specs.WellFormed.{IsStore};
 ghost use Rattle.flute_store.specs.Held.{HasCell, HoldsObject};
 ghost use Rattle.flute_parts.specs.SymbolBytes.{HasSymbolSize};
 ghost use Rattle.flute_wire.specs.Content.{Content};
@@ -73,6 +78,27 @@ impl<const SESSIONS: u32, const OBJECTS: u32, const SYMBOLS: u32> Model
     ghost invariant = { λ s. IsStore SESSIONS OBJECTS s.sessions };
 }
 
+// Joins the sessions of another store. A refusal leaves sessions between the old ones and the join.
+fn join_sessions<const SESSIONS: u32, const OBJECTS: u32, const SYMBOLS: u32>(
+    sessions: &mut Sessions<SESSIONS, OBJECTS, SYMBOLS>,
+    alloc: Global,
+    other: &Sessions<SESSIONS, OBJECTS, SYMBOLS>,
+) -> Result<(), JoinRefusal>
+    requires store { IsStore SESSIONS OBJECTS sessions.old }
+    requires other { IsStore SESSIONS OBJECTS other.now }
+    ensures ok { OnOk result (sessions.new ≡ store_join sessions.old other.now) }
+    ensures store { IsStore SESSIONS OBJECTS sessions.new }
+    ensures above { IsBelow store_join sessions.old sessions.new }
+    ensures below { IsBelow store_join sessions.new (store_join sessions.old other.now) }
+    ensures full { IfErr result (λ why. why ≡ JoinRefusal.Full
+        → MapOver session_cmp session_join SESSIONS (MapOver object_cmp object_join OBJECTS ObjectOver)
+        sessions.old other.now) }
+    ensures memory { IfErr result (λ why. why ≡ JoinRefusal.OutOfMemory
+        → MapNeedsMemory session_cmp (MapNeedsMemory object_cmp ObjectNeedsMemory) sessions.old other.now) }
+{
+    sessions.join_from(alloc, other)
+}
+
 impl<const SESSIONS: u32, const OBJECTS: u32, const SYMBOLS: u32> Store<
     SESSIONS,
     OBJECTS,
@@ -106,7 +132,7 @@ impl<const SESSIONS: u32, const OBJECTS: u32, const SYMBOLS: u32> Store<
     {
         // By this the proof knows that the other store is one.
         let _ = &other.sessions;
-        self.sessions.join_from(alloc, &other.sessions)
+        join_sessions(&mut self.sessions, alloc, &other.sessions)
     }
 
     // Joins what is told of an object. After a refusal the store is unchanged.

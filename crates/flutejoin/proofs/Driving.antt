@@ -10,7 +10,7 @@ use Rattle.flute_parts.specs.Facts.{Same}
 use Rattle.flute_wire.specs.Content.{Content}
 use Rattle.flute_wire.specs.Reading.{packet, packet_facts, facts}
 use Rattle.flute_parts.proofs.Facts.{Same-itself, Same-trans, Same-append, Same-twice, Below-itself, Same-from_Below}
-use Rattle.flutejoin.proofs.Receptions.{Same-from_journals, Journal-from_within, HasCell-below, HasCells-below}
+use Rattle.flutejoin.proofs.Receptions.{Same-from_journals, Journal-from_within}
 use Rattle.flutejoin.specs.declared.steps.Step.{Step}
 use Rattle.flutejoin.specs.declared.steps.Step.TheVariants.{Take, Load, Add, Merge, Reopen}
 use Rattle.flutejoin.specs.declared.steps.StepFault.{StepFault}
@@ -22,7 +22,7 @@ use Rattle.flutejoin.specs.Refused.{is_refused, is_refused_take, one_more}
 use Rattle.flutejoin.specs.Outcome.{IsDone, IsRefused, NeedsNothing}
 use Rattle.flutejoin.specs.Runs.{IsDriven}
 use Rattle.flutejoin.proofs.Places.{EachSame-itself, EachSame-sym, EachSame-trans, EachBelow-itself, EachBelow-trans, EachBelow-from_same, EachSame-set, given_to-each_below}
-use Rattle.flutejoin.proofs.Running.{held_after-same, some_same, one_more-min, count_by-more}
+use Rattle.flutejoin.proofs.Running.{held_after-same, some_same, one_more-min, count_by-more, NeedsNothing-below}
 use Rattle.flutejoin.proofs.Outcomes.{held_after-above}
 
 -- replicas that hold more hold more after a step
@@ -68,14 +68,6 @@ known_after-marked held steps done origins k step b is within =
     ∙ ap (λ A. held_after_next A (if_done (Some b) (Some step)) (origins k))
     (known_after-agree held (done_among steps (set done k b)) (done_among steps done) origins k
     (λ j below. ap (λ o. if_done o (slice_get steps j)) (slice_get-set_other done k j b (λ e. absurd (omega arith)))))
-
--- a step that needs nothing needs nothing where more is held
-NeedsNothing-below : (A B : List (List Fact)) (step : Step) → EachBelow A B → NeedsNothing A step → NeedsNothing B step
-NeedsNothing-below A B (Take replica datagram) h needs = (omega (arith, needs.0, h.count), HasCells-below (held_by A replica) (held_by B replica) (facts datagram) (h.each replica) needs.1)
-NeedsNothing-below A B (Add replica fact) h needs = (omega (arith, needs.0, h.count), HasCell-below (held_by A replica) (held_by B replica) fact (h.each replica) needs.1)
-NeedsNothing-below A B (Merge into from) h needs = (omega (arith, needs.0, h.count), needs.1)
-NeedsNothing-below A B (Load replica journal) h needs = needs
-NeedsNothing-below A B (Reopen replica) h needs = needs
 
 -- a refused datagram has no facts
 refused_facts : (d : List ℕ) → is_refused d ≡ true → facts d ≡ []

@@ -19,8 +19,9 @@ use Rattle.flutejoin.specs.declared.joining.Kind.TheVariants.{Journal, Datagrams
 use Rattle.flutejoin.proofs.Mapped.{read_failed}
 use Rattle.flute_journal.specs.Stores.{IsJournalOf, HoldsBoth, JoinsJournal}
 use Rattle.flute_journal.specs.Whole.{HasFault}
+use Rattle.flute_journal.proofs.Whole.{stops-fault}
 use Rattle.flutejoin.specs.Load.{LoadFails}
-use Rattle.flutejoin.specs.Show.{read_failures}
+use Rattle.flutejoin.specs.Show.{FailsToRead}
 use Rattle.flutejoin.specs.Shelves.{IsOverShelf, BeginsOverShelf}
 use Rattle.flutejoin.specs.Refused.{is_refused}
 use Rattle.flutejoin.specs.declared.limits.TheConstants.{MAX_ENTRIES}
@@ -242,24 +243,28 @@ pub added_known : (input : Option (List ℕ)) (bytes : List ℕ) (before now : J
 added_known input bytes before now fits known h = let P : Option (List ℕ) → Type 0 = λ o. IfSome o (λ bs. Adds bs before now fits) in subst P known h
 
 -- why it was not
-pub journal_fails : (number : ℕ) (input : Option (List ℕ)) (bytes : List ℕ) (fault : CommandFault) → input ≡ Some bytes → HasKind Journal bytes → LoadFails number input fault → (read_failures {T = Bool} (Err fault) ≡ 0) → InputFails number bytes fault
-journal_fails number input bytes (Input told f) known kind h none =
+pub journal_fails : (number : ℕ) (input left : Option (List ℕ)) (bytes : List ℕ) (fault : CommandFault) → input ≡ Some bytes → HasKind Journal bytes → LoadFails number input left fault
+    → ((told : ℕ) → fault ≡ Input told Read → ⊥) → InputFails number bytes fault
+journal_fails number input left bytes (Input told f) known kind h none =
     let P : Option (List ℕ) → Type 0 = λ o. HasFault MAX_ENTRIES o f in
-    of_entries f (ap (λ n. Input n f) h.0) (kind, subst P known h.1, λ is. absurd (failed_once told f is none))
-  where
-    failed_once : (told : ℕ) (f : ReadFault) → f ≡ Read → read_failures {T = Bool} (Err (Input told f)) ≡ 0 → ⊥
-    failed_once told f is none =
-        let e : read_failures {T = Bool} (Err (Input told Read)) ≡ 0 = subst (λ g. read_failures {T = Bool} (Err (Input told g)) ≡ 0) is none in
-        absurd cc
-journal_fails number input bytes Full known kind h none =
+    let has : HasFault MAX_ENTRIES input f = stops-fault MAX_ENTRIES input left h.1.0 f h.1.2 in
+    of_entries f (ap (λ n. Input n f) h.0) (kind, subst P known has, λ is. none told (ap (Input told) is))
+journal_fails number input left bytes Full known kind h none =
     let P : Option (List ℕ) → Type 0 = λ o. IfSome o BeginsOverShelf in
     alone_over refl (inl (kind, subst P known h))
-journal_fails number input bytes OutOfMemory known kind h none = no_memory refl
-journal_fails number input bytes fault known kind h none = absurd h
+journal_fails number input left bytes OutOfMemory known kind h none = no_memory refl
+journal_fails number input left bytes fault known kind h none = absurd h
 
-pub journal_failed : (number : ℕ) (input : Option (List ℕ)) (bytes : List ℕ) (r : Result Bool CommandFault) → input ≡ Some bytes → HasKind Journal bytes → IfErr r (LoadFails number input) → read_failures r ≡ 0 → IfErr r (InputFails number bytes)
-journal_failed number input bytes (Ok fits) known kind h none = tt
-journal_failed number input bytes (Err fault) known kind h none = journal_fails number input bytes fault known kind h none
+no_failure : (fault : CommandFault) (n : ℕ) → FailsToRead {T = Bool} n n (Err fault) → (told : ℕ) → fault ≡ Input told Read → ⊥
+no_failure fault n e told is =
+    let P : CommandFault → Type 0 = λ f. FailsToRead {T = Bool} n n (Err f) in
+    let one : n ≡ n + 1 = subst P is e in
+    omega (arith, one)
+
+pub journal_failed : (number : ℕ) (input left : Option (List ℕ)) (bytes : List ℕ) (r : Result Bool CommandFault) (n : ℕ) → input ≡ Some bytes → HasKind Journal bytes
+    → IfErr r (LoadFails number input left) → FailsToRead n n r → IfErr r (InputFails number bytes)
+journal_failed number input left bytes (Ok fits) n known kind h none = tt
+journal_failed number input left bytes (Err fault) n known kind h none = journal_fails number input left bytes fault known kind h (no_failure fault n none)
 
 -- inputs, one after the other
 

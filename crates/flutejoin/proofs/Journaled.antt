@@ -12,8 +12,8 @@ use Rattle.flute_journal.specs.declared.fault.ReadFault.TheVariants as read
 use Rattle.flute_journal.specs.declared.fault.LoadFault.{LoadFault}
 use Rattle.flute_journal.specs.declared.fault.LoadFault.TheVariants as load
 use Rattle.flute_journal.specs.Journal.{Journal, IsJournalWithin, Stops}
-use Rattle.flute_journal.specs.Whole.{HasFault}
-use Rattle.flute_journal.specs.Stores.{IsJournalOf, IsLoadFault, load_failed}
+use Rattle.flute_journal.specs.Whole.{StopsAfter}
+use Rattle.flute_journal.specs.Stores.{FailsToLoad, IsJournalOf, IsLoadFault}
 use Rattle.flutejoin.specs.declared.steps.Step.TheVariants.{Load, Reopen}
 use Rattle.flutejoin.specs.declared.steps.StepFault.{StepFault}
 use Rattle.flutejoin.specs.declared.steps.StepFault.TheVariants as step
@@ -67,32 +67,33 @@ loaded_refused limit before now i old content loaded bs F fault h journal same b
     ]
 
 -- what a reader of known bytes that does not fail answers: want of memory, or the fault of the bytes
-abbrev TellsFault : List ℕ → ReadFault → Type 0
-TellsFault bs f = (fault_of_read f ≡ OutOfMemory) ⊎ ((fault_of_read f ≡ step.Journal f) × ((es : List Fact) × Stops bs MAX_ENTRIES es f))
+abbrev TellsFault : Capacity → List ℕ → ReadFault → Type 0
+TellsFault limit bs f = (fault_of_read f ≡ OutOfMemory) ⊎ ((fault_of_read f ≡ step.Journal f) × ((es : List Fact) × Stops bs MAX_ENTRIES es f × ¬ IsOver es limit))
 
-tells_fault : (bs : List ℕ) (f : ReadFault) → HasFault MAX_ENTRIES (Some bs) f → f ≢ read.Read → TellsFault bs f
-tells_fault bs read.Read h other = absurd (other refl)
-tells_fault bs read.OutOfMemory h other = inl refl
-tells_fault bs (read.Information i) h other = inr (refl, h)
-tells_fault bs read.Magic h other = inr (refl, h)
-tells_fault bs read.Version h other = inr (refl, h)
-tells_fault bs read.Kind h other = inr (refl, h)
-tells_fault bs read.Key h other = inr (refl, h)
-tells_fault bs read.EmptySymbol h other = inr (refl, h)
-tells_fault bs read.Order h other = inr (refl, h)
-tells_fault bs read.Count h other = inr (refl, h)
-tells_fault bs read.Cut h other = inr (refl, h)
-tells_fault bs read.TooMany h other = inr (refl, h)
-tells_fault bs read.Trailing h other = inr (refl, h)
+tells_fault : (limit : Capacity) (bs : List ℕ) (left : Option (List ℕ)) (es : List Fact) (f : ReadFault) → ¬ IsOver es limit → StopsAfter MAX_ENTRIES es (Some bs) left f → f ≢ read.Read
+    → TellsFault limit bs f
+tells_fault limit bs left es read.Read inside h other = absurd (other refl)
+tells_fault limit bs left es read.OutOfMemory inside h other = inl refl
+tells_fault limit bs left es (read.Information i) inside h other = inr (refl, (es, h, inside))
+tells_fault limit bs left es read.Magic inside h other = inr (refl, (es, h, inside))
+tells_fault limit bs left es read.Version inside h other = inr (refl, (es, h, inside))
+tells_fault limit bs left es read.Kind inside h other = inr (refl, (es, h, inside))
+tells_fault limit bs left es read.Key inside h other = inr (refl, (es, h, inside))
+tells_fault limit bs left es read.EmptySymbol inside h other = inr (refl, (es, h, inside))
+tells_fault limit bs left es read.Order inside h other = inr (refl, (es, h, inside))
+tells_fault limit bs left es read.Count inside h other = inr (refl, (es, h, inside))
+tells_fault limit bs left es read.Cut inside h other = inr (refl, (es, h, inside))
+tells_fault limit bs left es read.TooMany inside h other = inr (refl, (es, h, inside))
+tells_fault limit bs left es read.Trailing inside h other = inr (refl, (es, h, inside))
 
 -- a `Load` whose journal was not read
-pub not_loaded : (limit : Capacity) (before : Held) (i : ℕ) (bs : List ℕ) (fault : LoadFault) → IsLoadFault limit.sessions limit.objects limit.symbols MAX_ENTRIES (Some bs) fault → fault ≢ load.Read read.Read
-    → IsRefused limit before (Load i bs) before (fault_of_load fault)
-not_loaded limit before i bs load.Full cause other = unchanged_refused limit before (Load i bs) before Full refl (λ origin _. inr cause)
-not_loaded limit before i bs load.OutOfMemory cause other = unchanged_refused limit before (Load i bs) before OutOfMemory refl (λ origin _. tt)
-not_loaded limit before i bs (load.Read f) cause other =
+pub not_loaded : (limit : Capacity) (before : Held) (i : ℕ) (bs : List ℕ) (left : Option (List ℕ)) (fault : LoadFault)
+    → IsLoadFault limit.sessions limit.objects limit.symbols MAX_ENTRIES (Some bs) left fault → fault ≢ load.Read read.Read → IsRefused limit before (Load i bs) before (fault_of_load fault)
+not_loaded limit before i bs left load.Full cause other = unchanged_refused limit before (Load i bs) before Full refl (λ origin _. inr cause)
+not_loaded limit before i bs left load.OutOfMemory cause other = unchanged_refused limit before (Load i bs) before OutOfMemory refl (λ origin _. tt)
+not_loaded limit before i bs left (load.Read f) cause other =
     let P : StepFault → Type 0 = λ g. IsRefused limit before (Load i bs) before g in
-    elim (tells_fault bs f cause (λ e. other (ap load.Read e))) [
+    elim (tells_fault limit bs left cause.0 f cause.1 cause.2 (λ e. other (ap load.Read e))) [
       | inl memory ↦ subst P (sym memory) (unchanged_refused limit before (Load i bs) before OutOfMemory refl (λ origin _. tt))
       | inr at ↦ subst P (sym at.0) (unchanged_refused limit before (Load i bs) before (step.Journal f) refl (λ origin _. at.1))
     ]
@@ -121,14 +122,14 @@ reopened_done limit before now i old content bs h written read inside =
     }
 
 -- a `Reopen` whose journal was not read back
-pub not_reopened : (limit : Capacity) (before : Held) (i : ℕ) (old : List Fact) (bs : List ℕ) (fault : LoadFault) → held_by before.contents i ≡ old → Journal bs old
-    → IsLoadFault limit.sessions limit.objects limit.symbols MAX_ENTRIES (Some bs) fault → fault ≢ load.Read read.Read → IsRefused limit before (Reopen i) before (fault_of_load fault)
-not_reopened limit before i old bs load.Full held written cause other =
+pub not_reopened : (limit : Capacity) (before : Held) (i : ℕ) (old : List Fact) (bs : List ℕ) (left : Option (List ℕ)) (fault : LoadFault) → held_by before.contents i ≡ old → Journal bs old
+    → IsLoadFault limit.sessions limit.objects limit.symbols MAX_ENTRIES (Some bs) left fault → fault ≢ load.Read read.Read → IsRefused limit before (Reopen i) before (fault_of_load fault)
+not_reopened limit before i old bs left load.Full held written cause other =
     unchanged_refused limit before (Reopen i) before Full refl (λ origin _. inl (rw held (IsOver-below cause.0 old limit (begins_below bs old cause.0 written cause.1) cause.2)))
-not_reopened limit before i old bs load.OutOfMemory held written cause other = unchanged_refused limit before (Reopen i) before OutOfMemory refl (λ origin _. tt)
-not_reopened limit before i old bs (load.Read f) held written cause other =
+not_reopened limit before i old bs left load.OutOfMemory held written cause other = unchanged_refused limit before (Reopen i) before OutOfMemory refl (λ origin _. tt)
+not_reopened limit before i old bs left (load.Read f) held written cause other =
     let P : StepFault → Type 0 = λ g. IsRefused limit before (Reopen i) before g in
-    elim (tells_fault bs f cause (λ e. other (ap load.Read e))) [
+    elim (tells_fault limit bs left cause.0 f cause.1 cause.2 (λ e. other (ap load.Read e))) [
       | inl memory ↦ subst P (sym memory) (unchanged_refused limit before (Reopen i) before OutOfMemory refl (λ origin _. tt))
       | inr at ↦ subst P (sym at.0) (unchanged_refused limit before (Reopen i) before (step.Journal f) refl (λ origin _.
           let many = too_many bs old at.1.0 f written at.1.1 in (many.0, rw held many.1)))
@@ -142,16 +143,16 @@ journal_known old bs cs F known is h =
     let Q : Option (List ℕ) → Type 0 = λ o. IfSome o P in
     subst P is (subst Q known h)
 
-pub fault_known : (limit : Capacity) (old : Option (List ℕ)) (bs cs : List ℕ) (f : LoadFault) → old ≡ Some bs → bs ≡ cs
-    → IsLoadFault limit.sessions limit.objects limit.symbols MAX_ENTRIES old f → IsLoadFault limit.sessions limit.objects limit.symbols MAX_ENTRIES (Some cs) f
-fault_known limit old bs cs f known is h =
-    let Q : Option (List ℕ) → Type 0 = λ o. IsLoadFault limit.sessions limit.objects limit.symbols MAX_ENTRIES o f in
+pub fault_known : (limit : Capacity) (old left : Option (List ℕ)) (bs cs : List ℕ) (f : LoadFault) → old ≡ Some bs → bs ≡ cs
+    → IsLoadFault limit.sessions limit.objects limit.symbols MAX_ENTRIES old left f → IsLoadFault limit.sessions limit.objects limit.symbols MAX_ENTRIES (Some cs) left f
+fault_known limit old left bs cs f known is h =
+    let Q : Option (List ℕ) → Type 0 = λ o. IsLoadFault limit.sessions limit.objects limit.symbols MAX_ENTRIES o left f in
     subst Q (known ∙ ap Some is) h
 
 -- a source that counts no failure did not fail
-pub did_not_fail : (T : Type 0) (f : LoadFault) (n : ℕ) → n ≡ n + load_failed {T = T} (Err f) → f ≢ load.Read read.Read
+pub did_not_fail : (T : Type 0) (f : LoadFault) (n : ℕ) → FailsToLoad {T = T} n n (Err f) → f ≢ load.Read read.Read
 did_not_fail T f n e is =
-    let P : LoadFault → Type 0 = λ g. n ≡ n + load_failed {T = T} (Err g) in
+    let P : LoadFault → Type 0 = λ g. FailsToLoad {T = T} n n (Err g) in
     let one : n ≡ n + 1 = subst P is e in
     omega (arith, one)
 

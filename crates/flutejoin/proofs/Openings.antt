@@ -11,7 +11,6 @@ use Rattle.flute_journal.specs.Input.{Fills}
 use Rattle.flute_journal.specs.declared.fault.ReadFault.{ReadFault}
 use Rattle.flute_journal.specs.declared.fault.ReadFault.TheVariants.{Read}
 use Rattle.flutejoin.specs.Load.{LoadFails}
-use Rattle.flutejoin.specs.Show.{read_failures}
 use Rattle.flutejoin.specs.declared.joining.Joined.{Joined}
 use Rattle.flutejoin.specs.declared.joining.Kind.{Kind}
 use Rattle.flutejoin.specs.declared.joining.Kind.TheVariants.{Journal, Datagrams}
@@ -53,14 +52,16 @@ kind_read (Some kind) count front rest input within size fewer e h =
     let all : take count front ≡ front = take_all count front (omega (arith, four, length-take count front, size)) in
     (same_kind kind _ _ (first_four (take count front) rest fewer) h, e ∙ ap (λ xs. Some (xs ++ rest)) (sym all))
 
-pub opened_read : {S : Type 0} (unread : S → Option (List ℕ)) (old rest : Option (List ℕ)) (opened : Opened S) (count : ℕ) (front : List ℕ) → opened.file ≡ None → left unread opened.input ≡ prepend_known front rest → count ≤ length front → length front ≡ 4
+pub opened_read : {S : Type 0} (unread : S → Option (List ℕ)) (old rest : Option (List ℕ)) (opened : Opened S) (count : ℕ) (front : List ℕ) → opened.file ≡ None
+    → IfSome old (λ bytes. opened.too_large ≡ true → 4294967295 < length bytes) → left unread opened.input ≡ prepend_known front rest → count ≤ length front → length front ≡ 4
     → Fills old rest (length front) (take count front) → MatchOption opened.kind (IsNeither (take count front)) (λ kind. HasKind kind (take count front)) → IfSome old (IsOpened unread opened)
-opened_read unread None rest opened count front fresh e within size fills kind = tt
-opened_read unread (Some bytes) None opened count front fresh e within size fills kind = absurd fills.read
-opened_read {S = S} unread (Some bytes) (Some more) opened count front fresh e within size fills kind =
+opened_read unread None rest opened count front fresh large e within size fills kind = tt
+opened_read unread (Some bytes) None opened count front fresh large e within size fills kind = absurd fills.read
+opened_read {S = S} unread (Some bytes) (Some more) opened count front fresh large e within size fills kind =
     let P : List ℕ → Type 0 = λ bs. MatchOption opened.kind (IsNeither bs) (λ kind. HasKind kind bs × (left unread opened.input ≡ Some bs)) in
     record {
       fresh = fresh;
+      large = large;
       kind = subst P (sym fills.read) (kind_read opened.kind count front more (left unread opened.input) within size (λ short. fills.fewer (omega (arith, short, size))) e kind);
     }
 
@@ -88,22 +89,25 @@ pub file_adds_not : (number : ℕ) (file bytes : List ℕ) (r : Result Bool Comm
 file_adds_not number file bytes (Ok fits) e h = tt
 file_adds_not number file bytes (Err fault) e h = let P : List ℕ → Type 0 = λ bs. InputFails number bs fault in inl (subst P e h)
 
-read_or_not : (told : ℕ) (f : ReadFault) → (f ≡ Read) ⊎ (read_failures {T = Bool} (Err (Input told f)) ≡ 0)
-read_or_not told Read = inl refl
-read_or_not told f = inr refl
+read_or_not : (f : ReadFault) → (f ≡ Read) ⊎ (f ≡ Read → ⊥)
+read_or_not Read = inl refl
+read_or_not f = inr (λ e. cc)
 
-journal_adds_no : (number : ℕ) (input : Option (List ℕ)) (bytes : List ℕ) (fault : CommandFault) → input ≡ Some bytes → HasKind Journal bytes → LoadFails number input fault → AddFails number bytes fault
-journal_adds_no number input bytes (Input told f) known kind h = elim (read_or_not told f) [
+other_input : (told : ℕ) (f : ReadFault) → (f ≡ Read → ⊥) → (n : ℕ) → Input told f ≡ Input n Read → ⊥
+other_input told f none n e = none cc
+
+journal_adds_no : (number : ℕ) (input left : Option (List ℕ)) (bytes : List ℕ) (fault : CommandFault) → input ≡ Some bytes → HasKind Journal bytes → LoadFails number input left fault → AddFails number bytes fault
+journal_adds_no number input left bytes (Input told f) known kind h = elim (read_or_not f) [
   | inl is ↦ inr (ap (λ n. Input n f) h.0 ∙ ap (Input number) is)
-  | inr none ↦ inl (journal_fails number input bytes (Input told f) known kind h none)
+  | inr none ↦ inl (journal_fails number input left bytes (Input told f) known kind h (other_input told f none))
 ]
-journal_adds_no number input bytes Full known kind h = inl (journal_fails number input bytes Full known kind h refl)
-journal_adds_no number input bytes OutOfMemory known kind h = inl (journal_fails number input bytes OutOfMemory known kind h refl)
-journal_adds_no number input bytes fault known kind h = absurd h
+journal_adds_no number input left bytes Full known kind h = inl (journal_fails number input left bytes Full known kind h (λ told e. cc))
+journal_adds_no number input left bytes OutOfMemory known kind h = inl (journal_fails number input left bytes OutOfMemory known kind h (λ told e. cc))
+journal_adds_no number input left bytes fault known kind h = absurd h
 
-pub journal_adds_not : (number : ℕ) (input : Option (List ℕ)) (bytes : List ℕ) (r : Result Bool CommandFault) → HasKind Journal bytes × (input ≡ Some bytes) → IfErr r (LoadFails number input) → IfErr r (AddFails number bytes)
-journal_adds_not number input bytes (Ok fits) known h = tt
-journal_adds_not number input bytes (Err fault) known h = journal_adds_no number input bytes fault known.1 known.0 h
+pub journal_adds_not : (number : ℕ) (input left : Option (List ℕ)) (bytes : List ℕ) (r : Result Bool CommandFault) → HasKind Journal bytes × (input ≡ Some bytes) → IfErr r (LoadFails number input left) → IfErr r (AddFails number bytes)
+journal_adds_not number input left bytes (Ok fits) known h = tt
+journal_adds_not number input left bytes (Err fault) known h = journal_adds_no number input left bytes fault known.1 known.0 h
 
 counts_more : (bytes : List ℕ) (before now : Joined) → before.refused ≤ before.datagrams → Adds bytes before now true → CountsMore before now
 counts_more bytes before now refused h =

@@ -1,6 +1,6 @@
 -- A run so far.
 use Rattle.std.proofs.Common.{◌≡◌, ℕ, Bool, true, false, List, [], ◌∷◌, ◌++◌, take, cond, refl, sym, ◌∙◌, ap, subst, arith, ◌<◌, ◌≤◌, ◌+◌, ◌-◌, ◌^◌, length, get_or, inl, inr, zero, suc, Option, Some, add-one, min, count_by}
-use Rattle.std.specs.Prelude.{slice_get, slice_index, replicate}
+use Rattle.std.specs.Prelude.{slice_get, slice_index, replicate, IfSome}
 use Rattle.std.proofs.lemmas.Bool.{cases_lt}
 use Rattle.std.proofs.lemmas.Bool.Decides.{nat_tests}
 use Rattle.std.proofs.lemmas.List.{take_all, length-replicate, get_or-set_same}
@@ -10,19 +10,19 @@ use Rattle.flute_parts.specs.declared.fact.Fact.{Fact}
 use Rattle.flute_parts.specs.Facts.{Same}
 use Rattle.flute_wire.specs.Reading.{facts}
 use Rattle.flute_parts.proofs.Facts.{Same-itself, Below-trans, Below-from_Same}
-use Rattle.flutejoin.proofs.Receptions.{Below-right, IsOver-below, IsLonger-same, Journal-from_within, never_both, begins_below}
+use Rattle.flutejoin.proofs.Receptions.{Below-right, IsOver-below, IsLonger-same, Journal-from_within, never_both, begins_below, HasCell-below, HasCells-below}
 use Rattle.flutejoin.specs.declared.steps.Step.{Step}
 use Rattle.flutejoin.specs.declared.steps.Step.TheVariants.{Take, Load, Add, Merge, Reopen}
 use Rattle.flutejoin.specs.declared.steps.StepFault.{StepFault}
 use Rattle.flutejoin.specs.declared.steps.StepFault.TheVariants.{NoReplica, Journal, Full, OutOfMemory}
 use Rattle.flutejoin.specs.declared.limits.TheConstants.{MAX_ENTRIES}
 use Rattle.flutejoin.specs.Held.{Held, Capacity}
-use Rattle.flutejoin.specs.Steps.{held_by, given_to, held_after, NamesReplicas, target_of, LoadsJournal, FitsStep, EachSame}
+use Rattle.flutejoin.specs.Steps.{held_by, given_to, held_after, NamesReplicas, target_of, LoadsJournal, FitsStep, EachSame, EachBelow}
 use Rattle.flutejoin.specs.Known.{nothing_held, known_after, Fits}
 use Rattle.flutejoin.specs.Refused.{is_refused_take, one_more}
-use Rattle.flutejoin.specs.Outcome.{IsDone, IsRefused, HasCause, LoadsOver}
+use Rattle.flutejoin.specs.Outcome.{IsDone, IsRefused, HasCause, LoadsOver, NeedsNothing}
 use Rattle.flutejoin.specs.Runs.{new_held, IsRunDone, HasNoCause, IsFirstWithCause}
-use Rattle.flutejoin.proofs.Places.{EachSame-itself, EachSame-sym, EachSame-trans, given_to-each_same}
+use Rattle.flutejoin.proofs.Places.{EachSame-itself, EachSame-sym, EachSame-trans, EachBelow-from_same, given_to-each_same}
 
 -- replicas that hold the same hold the same after a step
 pub held_after-same : (A B : List (List Fact)) (step : Step) (origin : List Fact) → EachSame A B → EachSame (held_after A step origin) (held_after B step origin)
@@ -179,6 +179,21 @@ run_refused limit count steps k step before now fault so_far is refused =
           (EachSame-sym _ _ (so_far.content origins fits)) (refused.cause (origins k) (fits k step is)));
       none_before = so_far.clear;
     }
+
+-- a step that needs nothing needs nothing where more is held
+pub NeedsNothing-below : (A B : List (List Fact)) (step : Step) → EachBelow A B → NeedsNothing A step → NeedsNothing B step
+NeedsNothing-below A B (Take replica datagram) h needs = (omega (arith, needs.0, h.count), HasCells-below (held_by A replica) (held_by B replica) (facts datagram) (h.each replica) needs.1)
+NeedsNothing-below A B (Add replica fact) h needs = (omega (arith, needs.0, h.count), HasCell-below (held_by A replica) (held_by B replica) fact (h.each replica) needs.1)
+NeedsNothing-below A B (Merge into from) h needs = (omega (arith, needs.0, h.count), needs.1)
+NeedsNothing-below A B (Load replica journal) h needs = needs
+NeedsNothing-below A B (Reopen replica) h needs = needs
+
+-- the step that a run stops at is not sure of success, by what was given before it either
+pub run_stops_at_need : (limit : Capacity) (count : ℕ) (steps : List Step) (k : ℕ) (step : Step) (before : Held) → RunSoFar limit count steps k before → slice_get steps k ≡ Some step
+    → (NeedsNothing before.contents step → ⊥) → (origins : ℕ → List Fact) → Fits steps origins
+    → IfSome (slice_get steps k) (λ s. ¬ NeedsNothing (known_after (nothing_held count) (slice_get steps) origins k) s)
+run_stops_at_need limit count steps k step before so_far is needy origins fits =
+    rw is (λ needs. needy (NeedsNothing-below _ before.contents step (EachBelow-from_same _ _ (so_far.content origins fits)) needs))
 
 pub run_done : (limit : Capacity) (count : ℕ) (steps : List Step) (k : ℕ) (now : Held) → RunSoFar limit count steps k now → length steps ≤ k → k ≤ length steps → IsRunDone count steps now
 run_done limit count steps k now so_far past within =

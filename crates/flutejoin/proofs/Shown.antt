@@ -1,5 +1,5 @@
 -- A journal whose entries are printed as they are read.
-use Rattle.std.proofs.Common.{◌≡◌, ℕ, ◌+◌, Bool, true, false, if◌then◌else◌, List, [], ◌∷◌, ◌++◌, length, drop, Option, Some, None, Result, Ok, Err, inl, inr, refl, sym, ap, ◌∙◌, subst, arith}
+use Rattle.std.proofs.Common.{◌≡◌, ℕ, ◌+◌, Bool, true, false, List, [], ◌∷◌, ◌++◌, length, Option, Some, None, Result, Ok, Err, inl, inr, refl, sym, ap, ◌∙◌, subst, arith}
 use Rattle.std.specs.Prelude.{IfSome}
 use Rattle.std.specs.Io.KnownBytes.{Appends, Consumes, IsAtEnd}
 use Rattle.std.proofs.KnownBytes.{Appends-trans, Appends-nil, Consumes-trans}
@@ -8,18 +8,18 @@ use Rattle.flute_parts.specs.Devices.{AppendsPart}
 use Rattle.flute_parts.proofs.Appended.{AppendsPart-second}
 use Rattle.flute_parts.specs.declared.fact.Fact.{Fact}
 use Rattle.flute_journal.specs.declared.fault.ReadFault.{ReadFault}
-use Rattle.flute_journal.specs.declared.fault.ReadFault.TheVariants as faults
 use Rattle.flute_journal.specs.declared.reader.Stage.{Stage}
-use Rattle.flute_journal.specs.declared.reader.Stage.TheVariants.{Header, Ended, Failed}
+use Rattle.flute_journal.specs.declared.reader.Stage.TheVariants.{Header, Ended}
 use Rattle.flute_journal.specs.Format.{end, spelling}
-use Rattle.flute_journal.specs.Faults.{header_fault, next_fault}
-use Rattle.flute_journal.specs.Input.{IsFaultOf, failed}
-use Rattle.flute_journal.specs.Journal.{AreEntries, IsJournalWithin, Stops, in_header, behind}
-use Rattle.flute_journal.specs.Reading.{position, opening, GivesEntry, GivesEnd, GivesFault, Gives, or_else, fault_from}
-use Rattle.flute_journal.proofs.Existence.{header_is}
-use Rattle.flute_journal.proofs.Whole.{Sofar, sofar-none, sofar-next, stage_at, read_of}
+use Rattle.flute_journal.specs.Input.{Fails, FailsIf}
+use Rattle.flute_journal.specs.Journal.{AreEntries, IsJournalWithin}
+use Rattle.flute_journal.specs.Reading.{is_open, position, opening, GivesEntry, GivesEnd, GivesFault, Gives}
+use Rattle.flute_journal.specs.SoFar.{Sofar, stage_at, read_of}
+use Rattle.flute_journal.proofs.Whole.{sofar-none, sofar-next, sofar-stops}
+use Rattle.flute_journal.proofs.Loading.{fails_same, open_at, read_some}
 use Rattle.flutejoin.specs.Lines.{fact_line, entries_line}
-use Rattle.flutejoin.specs.Show.{entry_lines, BeginsWith, ShowsAll, HasFaultBehind, ShowsUntil, ShowsPart, of_entries, of_journal}
+use Rattle.flutejoin.specs.Show.{entry_lines, FailsToRead, ShowsAll, ShowsUntil, ShowsPart, of_entries, of_journal}
+use Rattle.flutejoin.specs.declared.command_fault.CommandFault.TheVariants.{Input}
 use Rattle.flutejoin.specs.declared.limits.TheConstants.{MAX_ENTRIES}
 
 -- these entries were read, and their lines written, and nothing else
@@ -45,59 +45,22 @@ shown-next u v w from to s t t' count f h g line = record {
   written = subst (λ (x : List ℕ). Appends s t' x) (line_more h.entries f) (Appends-trans s t t' (entry_lines h.entries) (fact_line f) h.written line);
 }
 
-begins_at : (es : List Fact) (x y : List ℕ) → x ≡ read_of es ++ y → BeginsWith es x
-begins_at [] x y e = tt
-begins_at (f ∷ fs) x y e = (y, e)
-
-begins : (es : List Fact) (u v : Option (List ℕ)) → Consumes u v (read_of es) → IfSome u (BeginsWith es)
-begins es None v e = tt
-begins es (Some x) None e = absurd e
-begins es (Some x) (Some y) e = begins_at es x y e
-
 -- a line was written in part
 pub shown-part : (u v w : Option (List ℕ)) (from to : Stage) (s t t' : Option (List ℕ)) (count : ℕ) (f : Fact) → Shown u v from s t count
-    → GivesEntry MAX_ENTRIES from to v w f → AppendsPart t t' (fact_line f) → ShowsPart u s t'
+    → GivesEntry MAX_ENTRIES from to v w f → AppendsPart t t' (fact_line f) → ShowsPart u w s t'
 shown-part u v w from to s t t' count f h g part =
     let all = sofar-next MAX_ENTRIES u v w from to h.entries f h.sofar g in
-    of_entries (h.entries ++ f ∷ []) all.are_entries (begins (h.entries ++ f ∷ []) u w all.read)
+    of_entries (h.entries ++ f ∷ []) all.are_entries (subst (Consumes u w) (read_some h.entries f) all.read)
     (subst (λ (x : List ℕ). AppendsPart s t' x) (line_more h.entries f) (AppendsPart-second s t t' (entry_lines h.entries) (fact_line f) h.written part))
 
 -- The fault behind the entries.
 
-from_header : (limit : ℕ) (y : List ℕ) (f : ReadFault) (o : Option ReadFault) → header_fault y ≡ o → or_else o (next_fault (position Header) limit (drop 6 y)) ≡ Some f
-    → Stops y limit [] f
-from_header limit y f (Some g) e h = in_header refl (e ∙ h)
-from_header limit y f None e h = behind (record { are_entries = record { valid = tt; rising = tt; few = omega arith }; rest = drop 6 y; whole = header_is y e; first = h })
-
-stops_at : (limit : ℕ) (x y : List ℕ) (es : List Fact) (f : ReadFault) → AreEntries limit es → x ≡ read_of es ++ y → fault_from (stage_at es) limit y ≡ Some f → Stops x limit es f
-stops_at limit x y [] f a took h = subst (λ (z : List ℕ). Stops z limit [] f) (sym took) (from_header limit y f (header_fault y) refl h)
-stops_at limit x y (e ∷ es) f a took h = behind (record { are_entries = a; rest = y; whole = took; first = h })
-
-known_stops : (limit : ℕ) (u v : Option (List ℕ)) (es : List Fact) (f : ReadFault) → AreEntries limit es → Consumes u v (read_of es)
-    → IfSome v (λ y. fault_from (stage_at es) limit y ≡ Some f) → IfSome u (λ x. Stops x limit es f)
-known_stops limit None v es f a took h = tt
-known_stops limit (Some x) None es f a took h = absurd took
-known_stops limit (Some x) (Some y) es f a took h = stops_at limit x y es f a took h
-
-fault_behind : (u v : Option (List ℕ)) (es : List Fact) (f : ReadFault) → AreEntries MAX_ENTRIES es → Consumes u v (read_of es)
-    → IsFaultOf (fault_from (stage_at es) MAX_ENTRIES) v f → HasFaultBehind es u f
-fault_behind u v es faults.Read a took h = begins es u v took
-fault_behind u v es faults.OutOfMemory a took h = begins es u v took
-fault_behind u v es f a took h = known_stops MAX_ENTRIES u v es f a took h
-
-not_failed : (es : List Fact) (f : ReadFault) → stage_at es ≡ Failed f → ⊥
-not_failed [] f e = cc
-not_failed (x ∷ es) f e = cc
-
 pub shown-fault : (u v w : Option (List ℕ)) (from to : Stage) (s t : Option (List ℕ)) (count : ℕ) (f : ReadFault) → Shown u v from s t count
-    → GivesFault MAX_ENTRIES from to v w f → ShowsUntil u s t f
+    → GivesFault MAX_ENTRIES from to v w f → ShowsUntil u w s t f
 shown-fault u v w from to s t count f h g = record {
   entries = h.entries;
   are_entries = h.sofar.are_entries;
-  stops = elim g.found [
-    | inl p ↦ absurd (not_failed h.entries f (sym h.sofar.stage_is ∙ p.0))
-    | inr p ↦ fault_behind u v h.entries f h.sofar.are_entries h.sofar.read (subst (λ (x : Stage). IsFaultOf (fault_from x MAX_ENTRIES) v f) h.sofar.stage_is p.1)
-  ];
+  stops = (sofar-stops MAX_ENTRIES u v w from to h.entries f h.sofar g).0;
   written = h.written;
 }
 
@@ -133,7 +96,7 @@ shown-all u v w from to s t t' count h g line = record {
 }
 
 pub shown-cut : (u v w : Option (List ℕ)) (from to : Stage) (s t t' : Option (List ℕ)) (count : ℕ) → Shown u v from s t count
-    → GivesEnd from to v w → AppendsPart t t' (entries_line count) → ShowsPart u s t'
+    → GivesEnd from to v w → AppendsPart t t' (entries_line count) → ShowsPart u w s t'
 shown-cut u v w from to s t t' count h g part =
     of_journal h.entries (whole u v w from to h.entries h.sofar g)
     (AppendsPart-second s t t' (entry_lines h.entries) (entries_line (length h.entries)) h.written (subst (λ n. AppendsPart t t' (entries_line n)) h.counted part))
@@ -149,7 +112,17 @@ end_given limit from to v w r h e = subst (λ (x : Result (Option Fact) ReadFaul
 pub fault_given : (limit : ℕ) (from to : Stage) (v w : Option (List ℕ)) (r : Result (Option Fact) ReadFault) (f : ReadFault) → Gives limit from to v w r → limit ≡ MAX_ENTRIES → r ≡ Err f → GivesFault MAX_ENTRIES from to v w f
 fault_given limit from to v w r f h l e = subst (λ n. Gives n from to v w (Err f)) l (subst (λ (x : Result (Option Fact) ReadFault). Gives limit from to v w x) e h)
 
-pub no_read_failure : (r : Result (Option Fact) ReadFault) (o : Option Fact) (b : Bool) (n m k : ℕ) → r ≡ Ok o → n ≡ m + (if b then failed r else 0) → m ≡ k → n ≡ k
+pub no_read_failure : (r : Result (Option Fact) ReadFault) (o : Option Fact) (b : Bool) (n m k : ℕ) → r ≡ Ok o → FailsIf b m n r → m ≡ k → n ≡ k
 no_read_failure (Ok x) o true n m k e h i = omega (arith, h, i)
 no_read_failure (Ok x) o false n m k e h i = omega (arith, h, i)
 no_read_failure (Err x) o b n m k e h i = absurd cc
+
+-- a fault that the reader met now
+pub read_failures : (T : Type 0) (u v : Option (List ℕ)) (stage : Stage) (s t : Option (List ℕ)) (count : ℕ) (r : Result (Option Fact) ReadFault) (f : ReadFault) (number n m k : ℕ)
+    → Shown u v stage s t count → r ≡ Err f → FailsIf (is_open stage) m n r → m ≡ k → FailsToRead {T = T} k n (Err (Input number f))
+read_failures T u v stage s t count r f number n m k h is fails e =
+    let P : Bool → Type 0 = λ b. FailsIf b m n r in
+    let now : Fails m n r = subst P (ap is_open h.sofar.stage_is ∙ open_at h.entries) fails in
+    let Q : Result (Option Fact) ReadFault → Type 0 = λ x. Fails m n x in
+    let N : ℕ → Type 0 = λ i. Fails {T = T} i n (Err f) in
+    subst N e (fails_same (Option Fact) T f m n (subst Q is now))

@@ -1,5 +1,5 @@
 -- Inputs that are joined as they are read.
-use Rattle.std.specs.Prelude.{◌≡◌, ℕ, ◌<◌, ◌≤◌, ◌+◌, List, length, drop, slice_get, Option, Some, None, ⊤, ◌⊎◌, IfSome, MatchOption}
+use Rattle.std.specs.Prelude.{◌≡◌, true, ℕ, ◌<◌, ◌≤◌, ◌+◌, List, length, drop, slice_get, Option, Some, None, ⊤, ◌⊎◌, IfSome, MatchOption}
 use Rattle.std.specs.Io.KnownBytes.{prepend_known}
 use Rattle.flute_journal.specs.declared.fault.ReadFault.TheVariants.{Read}
 use Rattle.flutejoin.specs.declared.command_fault.CommandFault.{CommandFault}
@@ -18,6 +18,7 @@ left unread input = prepend_known (drop input.given input.front) (unread input.s
 -- the input is these bytes, of which the first four were read ahead and tell its kind
 pub record IsOpened {S : Type 0} (unread : S → Option (List ℕ)) (opened : Opened S) (bytes : List ℕ) : Type 0 where
   pub fresh : opened.file ≡ None
+  pub large : opened.too_large ≡ true → 4294967295 < length bytes
   pub kind : MatchOption opened.kind (IsNeither bytes) (λ kind. HasKind kind bytes × (left unread opened.input ≡ Some bytes))
 
 -- its kind and its records were looked at: a datagram file is held whole, and a journal is still to be read

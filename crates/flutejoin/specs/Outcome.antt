@@ -50,13 +50,13 @@ pub record IsDone (capacity : Capacity) (before : Held) (step : Step) (now : Hel
   -- the replica changed is within its capacity
   pub within : ¬ IsOver (held_by now.contents (target_of step)) capacity
 
--- a journal's reader gives this fault at a `Load`, or at a `Reopen`
-abbrev pub IsReadFault : List (List Fact) → Step → ReadFault → Type 0
-IsReadFault held (Load replica journal) fault = (entries : List Fact) × Stops journal MAX_ENTRIES entries fault
-IsReadFault held (Reopen replica) fault = (fault ≡ ReadFault.TooMany) × IsLonger (held_by held replica) MAX_ENTRIES
-IsReadFault held (Take replica datagram) fault = ⊥
-IsReadFault held (Add replica fact) fault = ⊥
-IsReadFault held (Merge into from) fault = ⊥
+-- a journal's reader gives this fault at a `Load`, behind entries within the capacity, or at a `Reopen`
+abbrev pub IsReadFault : Capacity → List (List Fact) → Step → ReadFault → Type 0
+IsReadFault capacity held (Load replica journal) fault = (entries : List Fact) × Stops journal MAX_ENTRIES entries fault × ¬ IsOver entries capacity
+IsReadFault capacity held (Reopen replica) fault = (fault ≡ ReadFault.TooMany) × IsLonger (held_by held replica) MAX_ENTRIES
+IsReadFault capacity held (Take replica datagram) fault = ⊥
+IsReadFault capacity held (Add replica fact) fault = ⊥
+IsReadFault capacity held (Merge into from) fault = ⊥
 
 -- a `Load` begins with entries that are over the capacity
 abbrev pub LoadsOver : Capacity → Step → Type 0
@@ -69,7 +69,7 @@ LoadsOver capacity (Reopen replica) = ⊥
 -- a step has a cause for its fault, by what is held before it
 abbrev pub HasCause : Capacity → List (List Fact) → Step → List Fact → StepFault → Type 0
 HasCause capacity held step origin NoReplica = ¬ NamesReplicas (length held) step
-HasCause capacity held step origin (Journal fault) = IsReadFault held step fault
+HasCause capacity held step origin (Journal fault) = IsReadFault capacity held step fault
 HasCause capacity held step origin Full = IsOver (held_by (held_after held step origin) (target_of step)) capacity ⊎ LoadsOver capacity step
 HasCause capacity held step origin OutOfMemory = ⊤
 

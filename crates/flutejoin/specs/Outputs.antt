@@ -1,5 +1,5 @@
 -- What is written of a replica after a run.
-use Rattle.std.specs.Prelude.{◌≡◌, ◌≤◌, ℕ, List, length, Option, ⊤, Result, Ok, Err}
+use Rattle.std.specs.Prelude.{◌≡◌, ◌<◌, ◌≤◌, ℕ, List, length, Option, ⊤, Result, Ok, Err}
 use Rattle.std.specs.Io.KnownBytes.{Appends}
 use Rattle.flute_parts.specs.declared.key.Key.{Key}
 use Rattle.flute_parts.specs.declared.fact.Fact.{Fact}
@@ -13,7 +13,7 @@ use Rattle.flutejoin.specs.declared.outputs.OutputFault.{OutputFault}
 use Rattle.flutejoin.specs.declared.outputs.OutputFault.TheVariants.{Run, NoReplica, Save, Extract}
 use Rattle.flutejoin.specs.Held.{Capacity}
 use Rattle.flutejoin.specs.Known.{Fits, known_by}
-use Rattle.flutejoin.specs.Runs.{IsRunRefused}
+use Rattle.flutejoin.specs.Runs.{IsRunRefused, StopsAtNeed}
 
 -- the journal of these facts was written, of so many entries
 pub record WritesJournal (old new : Option (List ℕ)) (F : List Fact) (count : ℕ) : Type 0 where
@@ -37,11 +37,18 @@ module _ {W : Type 0} (written : W → Option (List ℕ)) (F : List Fact) (old n
   TellsObject key (Err (Save f)) = ⊥
   TellsObject key (Err _) = new ≡ old
 
--- the run stopped, with a fault that it has, or there is no such replica
+-- The run stopped, with a fault that it has. Else there is no such replica; or there is one, and its journal or the object was
+-- not written, or not all of it.
 abbrev pub IsOutputFault : Capacity → ℕ → List Step → ℕ → OutputFault → Type 0
 IsOutputFault capacity count steps replica (Run f) = IsRunRefused capacity count steps f
 IsOutputFault capacity count steps replica NoReplica = count ≤ replica
-IsOutputFault capacity count steps replica _ = ⊤
+IsOutputFault capacity count steps replica (Save f) = replica < count
+IsOutputFault capacity count steps replica (Extract f) = replica < count
+
+-- where it was the run that stopped, it stopped at a step that takes memory
+abbrev pub IsOutputNeed : ℕ → List Step → OutputFault → Type 0
+IsOutputNeed count steps (Run f) = StopsAtNeed count steps f
+IsOutputNeed count steps _ = ⊤
 
 -- Whatever other steps give a replica q the same facts, in whatever order, however often, by whatever merges and
 -- journals: its journal is what was written of replica r.

@@ -47,6 +47,13 @@ abbrev pub IsRunRefused : Capacity → ℕ → List Step → RunFault → Type 0
 IsRunRefused capacity count steps Start = ⊤
 IsRunRefused capacity count steps (At k fault) = (k < length steps) × IsFirstWithCause capacity count steps k fault
 
+-- the step that a run stopped at is none that takes no memory, by what was given before it
+abbrev pub StopsAtNeed : ℕ → List Step → RunFault → Type 0
+StopsAtNeed count steps Start = ⊤
+StopsAtNeed count steps (At k fault) =
+    (origins : ℕ → List Fact) → Fits steps origins
+    → IfSome (slice_get steps k) (λ step. ¬ NeedsNothing (known_after (nothing_held count) (slice_get steps) origins k) step)
+
 -- all the steps in turn, of which some were done
 pub record IsDriven (before : Held) (steps : List Step) (done : List Bool) (now : Held) : Type 0 where
   pub as_many : length now.contents ≡ length before.contents

@@ -1,5 +1,7 @@
 //! Whole inputs.
 
+ghost use Rattle.std.specs.Prelude.{◌<◌, ◌↔◌, IsTrue, IsSomeAnd};
+
 use flute_parts::{DeviceFault, Source};
 use std::alloc::{AllocError, Global};
 use std::marker::Model;
@@ -44,6 +46,16 @@ impl From<AllocError> for BlobFault {
 
     fn from(_why: AllocError) -> BlobFault {
         BlobFault::OutOfMemory
+    }
+}
+
+/// Whether an input of so many bytes, if that is known, has more than 4,294,967,295.
+pub fn is_too_large(size: Option<u64>) -> bool
+    ensures { IsTrue result ↔ IsSomeAnd size (λ n. 4294967295 < n) }
+{
+    match size {
+        Some(size) => size > MAX_LEN as u64,
+        None => false,
     }
 }
 

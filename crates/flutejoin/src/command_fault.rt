@@ -4,7 +4,7 @@ ghost use Rattle.flutejoin.specs.Status.{of_blob, of_load};
 
 use crate::blob::BlobFault;
 use flute_journal::{LoadFault, ReadFault};
-use flute_parts::InfoFault;
+use flute_parts::{DeviceFault, InfoFault};
 use flute_wire::{Refusal, WriteFault};
 use thiserror::Error;
 
@@ -103,6 +103,17 @@ impl CommandFault {
             CommandFault::CannotOpen(_) | CommandFault::CannotCreate => 3,
             CommandFault::OutOfMemory | CommandFault::CannotWrite => 3,
         }
+    }
+}
+
+impl From<DeviceFault> for CommandFault {
+    ghost use Rattle.std.specs.Prelude.{◌≡◌};
+    ghost use Rattle.flutejoin.specs.declared.command_fault.CommandFault.TheVariants.{CannotWrite};
+
+    ghost from_gives = { λ why fault. fault ≡ CannotWrite };
+
+    fn from(_why: DeviceFault) -> CommandFault {
+        CommandFault::CannotWrite
     }
 }
 

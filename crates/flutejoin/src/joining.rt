@@ -5,7 +5,7 @@ ghost use Rattle.flutejoin.specs.Shelves.{IsOverShelf};
 ghost use Rattle.flute_wire.specs.Reading.{facts};
 ghost use Rattle.flutejoin.specs.declared.limits.TheConstants.{MAX_ENTRIES};
 ghost use Rattle.flutejoin.specs.Load.{LoadFails};
-ghost use Rattle.flutejoin.specs.Show.{read_failures};
+ghost use Rattle.flutejoin.specs.Show.{FailsToRead};
 ghost use Rattle.flutejoin.specs.Joined.{HasKind, IsNeither, IsKnown, TakesDatagrams, TakesDatagram, StoreFails, Adds, Joins, SomeCheckFails, CheckFails, InputFails, JoinFails};
 
 use crate::blob::Blob;
@@ -104,10 +104,10 @@ impl Joined {
         source: &mut R,
     ) -> Result<bool, CommandFault>
         ensures added { IfOk result (λ fits. IfSome (R.unread source.old) (λ bytes. Adds bytes self.old self.new fits)) }
-        ensures failed { IfErr result (LoadFails number (R.unread source.old)) }
+        ensures failed { IfErr result (LoadFails number (R.unread source.old) (R.unread source.new)) }
         ensures datagrams { self.new.datagrams ≡ self.old.datagrams }
         ensures refused { self.new.refused ≡ self.old.refused }
-        ensures failures { R.failures source.new ≡ R.failures source.old + read_failures result }
+        ensures failures { FailsToRead (R.failures source.old) (R.failures source.new) result }
     {
         match join_journal(alloc, &mut self.store, source, MAX_ENTRIES) {
             Ok(fits) => Ok(fits),

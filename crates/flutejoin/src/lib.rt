@@ -30,7 +30,7 @@ mod steps;
 mod text;
 mod writing;
 
-pub use blob::{Blob, BlobFault};
+pub use blob::{Blob, BlobFault, is_too_large};
 pub use command_fault::{CommandFault, at_input, blob_fault};
 pub use extract::{check_whole, extract_to};
 pub use gaps::gaps_to;

@@ -11,6 +11,9 @@ use clap::error::ErrorKind;
 use flute_parts::Key;
 use std::alloc::Global;
 
+/// The word for standard output as an output, and for standard input as an input.
+const STANDARD: &str = "-";
+
 /// What the program is to do. Its texts are words of the command line.
 #[derive(Debug, Drop, PartialEq, Eq)]
 pub enum Line<'a> {
@@ -148,7 +151,7 @@ fn merge_of<'a>(matches: &ArgMatches<'a>) -> Result<Line<'a>, CommandFault>
     let out = text(matches, "OUT");
     let a = text(matches, "A");
     let b = text(matches, "B");
-    if out == a || out == b {
+    if out != STANDARD && (out == a || out == b) {
         return Err(CommandFault::OutputIsInput);
     }
     Ok(Line::Merge { out, a, b })

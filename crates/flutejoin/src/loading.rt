@@ -1,8 +1,8 @@
 //! A journal, read into a store of the size that the program uses.
-ghost use Rattle.std.specs.Prelude.{◌≡◌, ◌+◌, IfOk, IfErr, IfSome};
+ghost use Rattle.std.specs.Prelude.{IfOk, IfErr, IfSome};
 ghost use Rattle.std.specs.Io.KnownBytes.{IsAtEnd};
 ghost use Rattle.flute_journal.specs.Stores.{IsJournalOf};
-ghost use Rattle.flutejoin.specs.Show.{read_failures};
+ghost use Rattle.flutejoin.specs.Show.{FailsToRead};
 ghost use Rattle.flutejoin.specs.declared.limits.TheConstants.{MAX_ENTRIES};
 ghost use Rattle.flutejoin.specs.Load.{LoadFails};
 
@@ -18,13 +18,13 @@ use std::alloc::Global;
 /// # Errors
 ///
 /// The first that is met: `Input` with the fault of the journal, or where the source failed or there was no memory for a
-/// symbol; `Full` where an entry needs a new session, object or symbol beyond the limits of the store; `OutOfMemory` where
+/// symbol, and the entries before it are within the limits of the store; `Full` where an entry needs a new session, object or symbol beyond the limits of the store; `OutOfMemory` where
 /// the store found none for an entry.
 pub fn load<R: Source>(alloc: Global, source: &mut R) -> Result<Shelf, CommandFault>
     ensures journal { IfOk result (λ shelf. IfSome (R.unread source.old) (λ bytes. IsJournalOf MAX_ENTRIES bytes shelf)) }
     ensures end { IfOk result (λ _. IsAtEnd (R.unread source.new)) }
-    ensures failed { IfErr result (LoadFails 1 (R.unread source.old)) }
-    ensures failures { R.failures source.new ≡ R.failures source.old + read_failures result }
+    ensures failed { IfErr result (LoadFails 1 (R.unread source.old) (R.unread source.new)) }
+    ensures failures { FailsToRead (R.failures source.old) (R.failures source.new) result }
 {
     match read_store(alloc, source, MAX_ENTRIES) {
         Ok(shelf) => Ok(shelf),

@@ -5,7 +5,7 @@ ghost use Rattle.flutejoin.specs.declared.limits.TheConstants.{MAX_ENTRIES};
 ghost use Rattle.flutejoin.specs.Joined.{Adds, Joins};
 ghost use Rattle.flutejoin.specs.Opened.{IsOpened, IsLooked, AreOpened, AreLooked, CountsMore, WholeFails, LookFails, SomeLookFails, AddFails, OpenedFails};
 
-use crate::blob::Blob;
+use crate::blob::{Blob, is_too_large};
 use crate::command_fault::{CommandFault, blob_fault};
 use crate::joining::{Joined, Kind, check_input, kind_of};
 use crate::peeked_source::PeekedSource;
@@ -22,6 +22,8 @@ pub struct Opened<R> {
     input: PeekedSource<R>,
     /// The whole input, once it was found to be a datagram file.
     file: Option<Blob>,
+    /// It is known to have more bytes than can be held.
+    too_large: bool,
 }
 
 impl<R: Source + Drop> Opened<R> {
@@ -30,7 +32,21 @@ impl<R: Source + Drop> Opened<R> {
     /// # Errors
     ///
     /// `Read` where the source fails, and nothing else.
-    pub fn read(mut source: R) -> Result<Opened<R>, ReadFault>
+    pub fn read(source: R) -> Result<Opened<R>, ReadFault>
+        ensures opened { IfOk result (λ opened. IfSome (R.unread source) (IsOpened R.unread opened)) }
+        ensures only { IfErr result (λ f. f ≡ Read) }
+    {
+        Opened::read_sized(source, None)
+    }
+
+    /// Reads the first four bytes of a source, or as many as it has, where its number of bytes may be known: a datagram file
+    /// that is too large is then refused before it is read.
+    ///
+    /// # Errors
+    ///
+    /// `Read` where the source fails, and nothing else.
+    pub fn read_sized(mut source: R, size: Option<u64>) -> Result<Opened<R>, ReadFault>
+        requires { IfSome size (λ n. IfSome (R.unread source) (λ bytes. n ≡ length bytes)) }
         ensures opened { IfOk result (λ opened. IfSome (R.unread source) (IsOpened R.unread opened)) }
         ensures only { IfErr result (λ f. f ≡ Read) }
     {
@@ -40,6 +56,7 @@ impl<R: Source + Drop> Opened<R> {
             kind: kind_of(&front[..count]),
             input: PeekedSource::new(front, source),
             file: None,
+            too_large: is_too_large(size),
         })
     }
 }
@@ -53,6 +70,9 @@ impl<R: Source> Opened<R> {
         match self.kind {
             Some(Kind::Journal) => Ok(()),
             Some(Kind::Datagrams) => {
+                if self.too_large {
+                    return Err(CommandFault::TooLarge(number));
+                }
                 let file = whole(alloc, number, &mut self.input)?;
                 check_input(alloc, number, file.as_slice())?;
                 self.file = Some(file);

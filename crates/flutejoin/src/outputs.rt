@@ -3,7 +3,7 @@ ghost use Rattle.std.specs.Prelude.{◌≡◌, ◌+◌, ◌*◌, ◌<◌, ◌^�
 ghost use Rattle.flute_parts.specs.declared.fact.Fact.{Fact as Known};
 ghost use Rattle.flutejoin.specs.Held.{capacity};
 ghost use Rattle.flutejoin.specs.Known.{Fits, known_by};
-ghost use Rattle.flutejoin.specs.Outputs.{TellsJournal, TellsObject, WritesAsOthers, IsOutputFault, output_failed};
+ghost use Rattle.flutejoin.specs.Outputs.{TellsJournal, TellsObject, WritesAsOthers, IsOutputFault, IsOutputNeed, output_failed};
 
 use crate::runs::{RunFault, run};
 use crate::steps::Step;
@@ -37,8 +37,8 @@ pub enum OutputFault {
 ///
 /// # Errors
 ///
-/// `Run` with the fault of [`run`] and `NoReplica` where the replica is not there: nothing was written then. `Save` where
-/// the sink failed: it then took a first part of the journal, and not all.
+/// `Run` with the fault of [`run`], and else `NoReplica` exactly where the replica is not there: nothing was written then.
+/// `Save` where the sink failed: it then took a first part of the journal, and not all.
 pub fn journal_after<const SESSIONS: u32, const OBJECTS: u32, const SYMBOLS: u32, W: Sink>(
     alloc: Global,
     count: u32,
@@ -51,6 +51,8 @@ pub fn journal_after<const SESSIONS: u32, const OBJECTS: u32, const SYMBOLS: u32
         → TellsJournal W.written (known_by count steps.now origins replica) sink.old sink.new result }
     ensures one { OnOk result (WritesAsOthers count steps.now replica (W.written sink.old) (W.written sink.new)) }
     ensures fault { IfErr result (IsOutputFault (capacity SESSIONS OBJECTS SYMBOLS) count steps.now replica) }
+    ensures there { OnOk result (replica < count) }
+    ensures sure { IfErr result (IsOutputNeed count steps.now) }
     ensures failures { W.failures sink.new ≡ W.failures sink.old + output_failed result }
 {
     let replicas = match run::<SESSIONS, OBJECTS, SYMBOLS>(alloc, count, steps) {
@@ -72,8 +74,8 @@ pub fn journal_after<const SESSIONS: u32, const OBJECTS: u32, const SYMBOLS: u32
 ///
 /// # Errors
 ///
-/// `Run` with the fault of [`run`] and `NoReplica` where the replica is not there: nothing was written then. `Extract` with
-/// the fault of [`Store::extract`](flute_store::Store::extract), and what that leaves written.
+/// `Run` with the fault of [`run`], and else `NoReplica` exactly where the replica is not there: nothing was written then.
+/// `Extract` with the fault of [`Store::extract`](flute_store::Store::extract), and what that leaves written.
 pub fn object_after<const SESSIONS: u32, const OBJECTS: u32, const SYMBOLS: u32, W: Sink>(
     alloc: Global,
     count: u32,
@@ -86,17 +88,19 @@ pub fn object_after<const SESSIONS: u32, const OBJECTS: u32, const SYMBOLS: u32,
     ensures object { (origins : ℕ → List Known) → Fits steps.now origins
         → TellsObject W.written (known_by count steps.now origins replica) sink.old sink.new key.now result }
     ensures fault { IfErr result (IsOutputFault (capacity SESSIONS OBJECTS SYMBOLS) count steps.now replica) }
+    ensures there { OnOk result (replica < count) }
+    ensures sure { IfErr result (IsOutputNeed count steps.now) }
     ensures failures { W.failures sink.new ≡ W.failures sink.old + output_failed result }
 {
     let replicas = match run::<SESSIONS, OBJECTS, SYMBOLS>(alloc, count, steps) {
         Ok(replicas) => replicas,
         Err(fault) => return Err(OutputFault::Run(fault)),
     };
-    let Some(store) = replicas.store(replica) else {
-        return Err(OutputFault::NoReplica);
-    };
-    match store.extract(key, sink) {
-        Ok(length) => Ok(length),
-        Err(fault) => Err(OutputFault::Extract(fault)),
+    match replicas.store(replica) {
+        Some(store) => match store.extract(key, sink) {
+            Ok(length) => Ok(length),
+            Err(fault) => Err(OutputFault::Extract(fault)),
+        },
+        None => Err(OutputFault::NoReplica),
     }
 }

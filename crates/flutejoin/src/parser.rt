@@ -128,7 +128,7 @@ fn block<'a>(alloc: Global) -> Arg<'a> {
 }
 
 fn journal<'a>(alloc: Global) -> Arg<'a> {
-    input(alloc, "J").help("The journal")
+    input(alloc, "J").help("The journal; - is standard input")
 }
 
 fn input<'a>(alloc: Global, name: &'a str) -> Arg<'a> {
@@ -140,7 +140,7 @@ fn output<'a>(alloc: Global) -> Arg<'a> {
         .short('o')
         .required(true)
         .action(ArgAction::Set)
-        .help("The file that is written")
+        .help("The file that is written; - is standard output")
 }
 
 fn session<'a>(alloc: Global) -> Arg<'a> {

@@ -1,5 +1,5 @@
 //! A source of which the first bytes were read ahead.
-ghost use Rattle.std.specs.Prelude.{◌≡◌, ◌≤◌, drop};
+ghost use Rattle.std.specs.Prelude.{◌≡◌, ◌≤◌, ◌==◌, [], drop, if◌then◌else◌};
 ghost use Rattle.std.specs.Io.KnownBytes.{prepend_known};
 
 use flute_parts::{DeviceFault, Source};
@@ -32,6 +32,8 @@ impl<R: Source> Source for PeekedSource<R> {
 
     ghost unread = { λ s. prepend_known (drop s.given s.front) (R.unread s.source) };
 
+    ghost buffered = { λ s. if s.given == 4 then R.buffered s.source else [] };
+
     fn read(&mut self, buffer: &mut [u8]) -> Result<usize, DeviceFault> {
         let front = &self.front[self.given..];
         if front.is_empty() {
@@ -41,5 +43,19 @@ impl<R: Source> Source for PeekedSource<R> {
         buffer[..count].copy_from_slice(&front[..count]);
         self.given += count;
         Ok(count)
+    }
+
+    fn buffer(&self) -> &[u8] {
+        if self.given == 4 {
+            self.source.buffer()
+        } else {
+            &[]
+        }
+    }
+
+    fn consume(&mut self, count: usize) {
+        if self.given == 4 {
+            self.source.consume(count);
+        }
     }
 }

@@ -230,7 +230,7 @@ impl<const SESSIONS: u32, const OBJECTS: u32, const SYMBOLS: u32> Replicas<
     /// # Errors
     ///
     /// - `NoReplica` where the step names a replica that is not there.
-    /// - `Journal` with the first fault of a journal that a `Load` reads, and with `TooMany` where a `Reopen` is of a
+    /// - `Journal` with the first fault of a journal that a `Load` reads, behind entries within the limits, and with `TooMany` where a `Reopen` is of a
     ///   replica at more than 16,777,216 addresses.
     /// - `Full` where the facts that the step gives pass the limits, or the entries do that a `Load` begins with.
     /// - `OutOfMemory` where a request for memory was refused.

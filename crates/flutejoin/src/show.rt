@@ -3,7 +3,7 @@ ghost use Rattle.std.specs.Prelude.{◌≡◌, ◌+◌, if◌then◌else◌, is_
 ghost use Rattle.flute_parts.specs.Devices.{Writes};
 ghost use Rattle.flutejoin.specs.Lines.{fact_line};
 ghost use Rattle.flutejoin.specs.Pieces.{fact_head, fact_bytes};
-ghost use Rattle.flutejoin.specs.Show.{ShowsAll, ShowFails, read_failures};
+ghost use Rattle.flutejoin.specs.Show.{FailsToRead, ShowsAll, ShowFails};
 ghost use Rattle.flutejoin.specs.Packet.{write_failures};
 
 use crate::command_fault::{CommandFault, at_input};
@@ -22,26 +22,28 @@ use std::alloc::Global;
 /// # Errors
 ///
 /// `Input` with the fault of the journal, or where the source failed or there was no memory for a symbol: the lines of the
-/// entries before it were written, and no more. `CannotWrite` where the sink failed: it took a first part of the lines, and
-/// not all.
+/// entries that were read before it were written, and no more. `CannotWrite` where the sink failed: it took a first part of
+/// the lines of the entries that were read, and not all.
 pub fn show_to<R: Source, W: Sink>(
     alloc: Global,
     source: &mut R,
     sink: &mut W,
 ) -> Result<(), CommandFault>
     ensures printed { OnOk result (ShowsAll (R.unread source.old) (W.written sink.old) (W.written sink.new)) }
-    ensures failed { IfErr result (ShowFails (R.unread source.old) (W.written sink.old) (W.written sink.new)) }
-    ensures read_failures { R.failures source.new ≡ R.failures source.old + read_failures result }
+    ensures failed { IfErr result (ShowFails (R.unread source.old) (R.unread source.new) (W.written sink.old) (W.written sink.new)) }
+    ensures read_failures { FailsToRead (R.failures source.old) (R.failures source.new) result }
     ensures failures { W.failures sink.new ≡ W.failures sink.old + write_failures result }
 {
     let digits = HexDigits::new();
     let mut reader = JournalReader::new(source, MAX_ENTRIES);
     let mut count = 0;
-    while let Some(fact) = at_input(1, reader.next(alloc))? {
+    let mut spare = Vec::new(alloc);
+    while let Some(fact) = at_input(1, reader.next_with(alloc, spare))? {
         if write_fact(sink, &digits, &fact).is_err() {
             return Err(CommandFault::CannotWrite);
         }
         count += 1;
+        spare = fact.into_vec(alloc);
     }
     match write_count(sink, "entries", count) {
         Ok(()) => Ok(()),

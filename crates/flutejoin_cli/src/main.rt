@@ -3,29 +3,26 @@
 
 ghost use Rattle.std.specs.Prelude.{◌≤◌, length};
 
-use flute_parts::{Info, Key, StdSink, StdSource};
+mod inputs;
+mod outputs;
+
+use crate::inputs::{OpenInput, open_input};
+use crate::outputs::{Report, create_output, finish, standard_output};
+use flute_output::{FileId, take_standard_streams};
+use flute_parts::{Info, Key, StdSink};
 use flute_store::Shelf;
 use flute_wire::Datagrams;
 use flutejoin::{
     Blob, CommandFault, Joined, Line, Opened, add_info, at_input, blob_fault, check_whole,
-    count_to, datagrams_of, extract_to, gaps_to, join_opened, line_of, load, merge_to, packet_to,
-    save_to, send_to, show_to,
+    count_to, datagrams_of, extract_to, gaps_to, is_too_large, join_opened, line_of, load,
+    merge_to, packet_to, save_to, send_to, show_to,
 };
 use std::env;
-use std::fs::{self, File};
-use std::io::{self, BufReader, BufWriter, ErrorKind, Printer};
+use std::io::{self, ErrorKind};
 use std::process::ExitCode;
 
-/// How many bytes are read, or written, at once.
-const BUFFER: usize = 131_072;
-
-type Input = StdSource<BufReader<File>>;
-
-type OutputFile = StdSink<BufWriter<File>>;
-
-type Output<'a> = StdSink<BufWriter<Printer<'a, HostRuntime>>>;
-
 fn main(rt: HostRuntime) -> ExitCode {
+    take_standard_streams(&rt);
     match run(&rt) {
         Ok(()) => ExitCode::SUCCESS,
         Err(CommandFault::CommandLine(error)) => tell(&rt, &error),
@@ -63,9 +60,9 @@ fn run(rt: &HostRuntime) -> Result<(), CommandFault> {
             block,
             file,
         } => {
-            let content = whole_input(rt, 1, file)?;
+            let (content, file) = whole_input(rt, 1, file)?;
             let datagrams = datagrams_of(rt.alloc(), &key, symbol, block, content.as_slice())?;
-            send(rt, out, &datagrams)
+            send(rt, out, &file, &datagrams)
         }
     }
 }
@@ -97,28 +94,28 @@ fn packet(rt: &HostRuntime, hex: &str) -> Result<(), CommandFault> {
 }
 
 fn show(rt: &HostRuntime, j: &str) -> Result<(), CommandFault> {
-    let mut input = input(rt, 1, j)?;
+    let mut input = open_input(rt, 1, j)?;
     let mut output = standard_output(rt)?;
-    let shown = show_to(rt.alloc(), &mut input, &mut output);
+    let shown = show_to(rt.alloc(), &mut input.source, &mut output);
     let flushed = output.flush().map_err(|_| CommandFault::CannotWrite);
     shown.and(flushed)
 }
 
 fn gaps(rt: &HostRuntime, j: &str) -> Result<(), CommandFault> {
-    let shelf = loaded(rt, j)?;
+    let (shelf, _) = loaded(rt, j)?;
     let mut output = standard_output(rt)?;
     gaps_to(&shelf, &mut output)?;
     output.flush().map_err(|_| CommandFault::CannotWrite)
 }
 
-/// Creates the file only where the object is whole.
+/// Creates the output only where the object is whole.
 fn extract(rt: &HostRuntime, out: &str, key: &Key, j: &str) -> Result<(), CommandFault> {
-    let shelf = loaded(rt, j)?;
+    let (shelf, file) = loaded(rt, j)?;
     check_whole(&shelf, key)?;
-    let mut file = output_file(rt, out)?;
-    let bytes = extract_to(&shelf, key, &mut file)?;
-    file.flush().map_err(|_| CommandFault::CannotWrite)?;
-    tell_count(rt, "bytes", bytes)
+    let mut output = create_output(rt, out, &file)?;
+    let extracted = extract_to(&shelf, key, &mut output);
+    let (bytes, report) = finish(output, extracted)?;
+    tell_count(rt, report, "bytes", bytes)
 }
 
 fn add_information(
@@ -128,109 +125,118 @@ fn add_information(
     info: Info,
     j: &str,
 ) -> Result<(), CommandFault> {
-    let mut shelf = loaded(rt, j)?;
+    let (mut shelf, file) = loaded(rt, j)?;
     add_info(rt.alloc(), &mut shelf, key, info)?;
-    let mut file = output_file(rt, out)?;
-    let entries = save_to(&shelf, &mut file)?;
-    file.flush().map_err(|_| CommandFault::CannotWrite)?;
-    tell_count(rt, "entries", entries)
+    let mut output = create_output(rt, out, &file)?;
+    let saved = save_to(&shelf, &mut output);
+    let (entries, report) = finish(output, saved)?;
+    tell_count(rt, report, "entries", entries)
 }
 
-/// Creates the file once all inputs were read and joined.
+/// Creates the output once all inputs were read and joined.
 fn join(rt: &HostRuntime, out: &str, paths: &[&str]) -> Result<(), CommandFault>
     requires { length paths.now ≤ 64 }
 {
-    let joined = joined(rt, paths)?;
-    let mut file = output_file(rt, out)?;
-    let entries = save_to(&joined.store, &mut file)?;
-    file.flush().map_err(|_| CommandFault::CannotWrite)?;
-    let mut output = standard_output(rt)?;
-    count_to("datagrams", joined.datagrams, &mut output)?;
-    count_to("refused", joined.refused, &mut output)?;
-    count_to("entries", entries, &mut output)?;
-    output.flush().map_err(|_| CommandFault::CannotWrite)
+    let mut files = Vec::new(rt.alloc());
+    let joined = joined(rt, paths, &mut files)?;
+    let mut output = create_output(rt, out, &files)?;
+    let saved = save_to(&joined.store, &mut output);
+    let (entries, report) = finish(output, saved)?;
+    tell_count(rt, report, "datagrams", joined.datagrams)?;
+    tell_count(rt, report, "refused", joined.refused)?;
+    tell_count(rt, report, "entries", entries)
 }
 
-/// What the inputs come to. Each is opened and its first bytes are read, one after the other, before any is looked at.
-fn joined(rt: &HostRuntime, paths: &[&str]) -> Result<Joined, CommandFault>
+/// What the inputs come to, and which files they are. Each is opened and its first bytes are read, one after the other, before any
+/// is looked at.
+fn joined(rt: &HostRuntime, paths: &[&str], files: &mut Vec<FileId>) -> Result<Joined, CommandFault>
     requires { length paths.now ≤ 64 }
 {
     let mut inputs = Vec::new(rt.alloc());
     for (k, path) in paths.iter().enumerate() {
-        let source = input(rt, k + 1, path)?;
-        let opened = at_input(k + 1, Opened::read(source))?;
+        let input = open_input(rt, k + 1, path)?;
+        if let Some(file) = input.file {
+            files.push(file).map_err(|_| CommandFault::OutOfMemory)?;
+        }
+        let opened = at_input(k + 1, Opened::read_sized(input.source, input.size))?;
         inputs.push(opened).map_err(|_| CommandFault::OutOfMemory)?;
     }
     join_opened(rt.alloc(), &mut inputs)
 }
 
-/// Creates the file once both inputs are open. What was merged before a fault stays in it.
+/// Creates the output once both inputs are open, and before they are read.
 fn merge(rt: &HostRuntime, out: &str, a: &str, b: &str) -> Result<(), CommandFault> {
-    let mut first = input(rt, 1, a)?;
-    let mut second = input(rt, 2, b)?;
-    let mut file = output_file(rt, out)?;
-    let merged = merge_to(rt.alloc(), &mut first, &mut second, &mut file);
-    let flushed = file.flush().map_err(|_| CommandFault::CannotWrite);
-    let entries = merged?;
-    flushed?;
-    tell_count(rt, "entries", entries)
+    let mut first = open_input(rt, 1, a)?;
+    let mut second = open_input(rt, 2, b)?;
+    let mut files = Vec::new(rt.alloc());
+    for file in [first.file, second.file] {
+        if let Some(file) = file {
+            files.push(file).map_err(|_| CommandFault::OutOfMemory)?;
+        }
+    }
+    let mut output = create_output(rt, out, &files)?;
+    let merged = merge_to(
+        rt.alloc(),
+        &mut first.source,
+        &mut second.source,
+        &mut output,
+    );
+    let (entries, report) = finish(output, merged)?;
+    tell_count(rt, report, "entries", entries)
 }
 
-fn whole_input(rt: &HostRuntime, number: usize, path: &str) -> Result<Blob, CommandFault> {
-    let mut input = input(rt, number, path)?;
-    Blob::read(rt.alloc(), &mut input).map_err(|fault| blob_fault(number, fault))
+/// All that an input has, and which file it is. One that is known to be too large is not read.
+fn whole_input(
+    rt: &HostRuntime,
+    number: usize,
+    path: &str,
+) -> Result<(Blob, Vec<FileId>), CommandFault> {
+    let mut input = open_input(rt, number, path)?;
+    let file = files_of(rt, &input)?;
+    if is_too_large(input.size) {
+        return Err(CommandFault::TooLarge(number));
+    }
+    match Blob::read(rt.alloc(), &mut input.source) {
+        Ok(content) => Ok((content, file)),
+        Err(fault) => Err(blob_fault(number, fault)),
+    }
 }
 
-fn send(rt: &HostRuntime, out: &str, datagrams: &Datagrams) -> Result<(), CommandFault> {
-    let mut file = output_file(rt, out)?;
-    let count = send_to(datagrams, &mut file)?;
-    file.flush().map_err(|_| CommandFault::CannotWrite)?;
-    tell_count(rt, "datagrams", count)
+fn send(
+    rt: &HostRuntime,
+    out: &str,
+    file: &[FileId],
+    datagrams: &Datagrams,
+) -> Result<(), CommandFault> {
+    let mut output = create_output(rt, out, file)?;
+    let sent = send_to(datagrams, &mut output);
+    let (count, report) = finish(output, sent)?;
+    tell_count(rt, report, "datagrams", count)
 }
 
-/// Prints the one line of a word and a number.
-fn tell_count(rt: &HostRuntime, word: &str, count: u64) -> Result<(), CommandFault>
+/// Prints a line of a word and a number.
+fn tell_count(rt: &HostRuntime, report: Report, word: &str, count: u64) -> Result<(), CommandFault>
     requires { length word.now ≤ 100 }
 {
-    let mut output = standard_output(rt)?;
-    count_to(word, count, &mut output)?;
-    output.flush().map_err(|_| CommandFault::CannotWrite)
-}
-
-/// The store that a journal makes.
-fn loaded(rt: &HostRuntime, path: &str) -> Result<Shelf, CommandFault> {
-    let mut input = input(rt, 1, path)?;
-    load(rt.alloc(), &mut input)
-}
-
-/// Opens the input with this number, from 1. A folder is none.
-fn input(rt: &HostRuntime, number: usize, path: &str) -> Result<Input, CommandFault> {
-    let file = file_at(rt, path).map_err(|_| CommandFault::CannotOpen(number))?;
-    let reader = BufReader::with_capacity(rt.alloc(), BUFFER, file).map_err(
-        |_| CommandFault::OutOfMemory,
-    )?;
-    Ok(StdSource::new(reader))
-}
-
-fn file_at(rt: &HostRuntime, path: &str) -> io::Result<File> {
-    let file = fs::open(rt, path)?;
-    if file.metadata()?.is_dir() {
-        return Err(ErrorKind::IsADirectory.into());
+    match report {
+        Report::StandardOutput => count_to(word, count, &mut StdSink::new(rt.stdout())),
+        Report::StandardError => count_to(word, count, &mut StdSink::new(rt.stderr())),
     }
-    Ok(file)
 }
 
-fn output_file(rt: &HostRuntime, path: &str) -> Result<OutputFile, CommandFault> {
-    let file = fs::create(rt, path).map_err(|_| CommandFault::CannotCreate)?;
-    let writer = BufWriter::with_capacity(rt.alloc(), BUFFER, file).map_err(
-        |_| CommandFault::OutOfMemory,
-    )?;
-    Ok(StdSink::new(writer))
+/// The store that a journal makes, and which file that is.
+fn loaded(rt: &HostRuntime, path: &str) -> Result<(Shelf, Vec<FileId>), CommandFault> {
+    let mut input = open_input(rt, 1, path)?;
+    let file = files_of(rt, &input)?;
+    let shelf = load(rt.alloc(), &mut input.source)?;
+    Ok((shelf, file))
 }
 
-fn standard_output(rt: &HostRuntime) -> Result<Output<'_>, CommandFault> {
-    let writer = BufWriter::with_capacity(rt.alloc(), BUFFER, io::writer(rt)).map_err(
-        |_| CommandFault::OutOfMemory,
-    )?;
-    Ok(StdSink::new(writer))
+/// Which file the input is, as a list.
+fn files_of(rt: &HostRuntime, input: &OpenInput) -> Result<Vec<FileId>, CommandFault> {
+    let mut files = Vec::new(rt.alloc());
+    if let Some(file) = input.file {
+        files.push(file).map_err(|_| CommandFault::OutOfMemory)?;
+    }
+    Ok(files)
 }

@@ -54,6 +54,7 @@ pub fn check_end(count: u64, bytes: &[u8]) -> Result<(), ReadFault>
 }
 
 /// What stands behind the kind of an entry, up to the bytes of a symbol. The entry before it is at `last`.
+#[inline(always)]
 pub fn parse(kind: Kind, last: Option<Address>, bytes: &[u8]) -> Result<Fixed, ReadFault>
     requires { length bytes.now ≤ fixed_size kind }
     ensures { Parses (fixed_size kind) (λ x. FixedIs last kind x × (fixed_bytes x ≡ bytes.now)) (body_fault last kind) bytes.now result }

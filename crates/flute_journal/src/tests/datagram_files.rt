@@ -177,6 +177,12 @@ impl Source for Zeros {
         self.given = self.given.saturating_add(1);
         Ok(1)
     }
+
+    fn buffer(&self) -> &[u8] {
+        &[]
+    }
+
+    fn consume(&mut self, _count: usize) {}
 }
 
 /// Records without end stop at the bound.
@@ -186,6 +192,32 @@ fn records_without_end(rt: HostRuntime) -> Result<(), Fail> {
     assert_eq!(rt; lengths.len(), 1_000);
     assert!(rt; lengths.iter().all(|length| *length == 0));
     assert!(rt; fault == Some(ReadFault::TooMany));
+    Ok(())
+}
+
+/// A header at fault, and a record too many, are told where they came before the source failed.
+#[test]
+fn records_before_a_failing_source(rt: HostRuntime) -> Result<(), Fail> {
+    let rows: [(&[&str], u64, usize, ReadFault); 4] = [
+        (&["464C44480001", "0001 61"], 9, 4, ReadFault::Magic),
+        (&["464C44470002", "0001 61"], 9, 6, ReadFault::Version),
+        (&["464C44470001", "0001 61"], 0, 7, ReadFault::TooMany),
+        (
+            &["464C44470001", "0001 61 0001 62"],
+            1,
+            10,
+            ReadFault::TooMany,
+        ),
+    ];
+    for (parts, max_records, end, fault) in rows {
+        let file = bytes(rt.alloc(), parts)?;
+        for good in 0..=file.len() {
+            let mut source = ShortSource::new(&file, 5, good);
+            let (_, found) = lengths(&rt, &mut source, max_records)?;
+            let wanted = if good < end { ReadFault::Read } else { fault };
+            assert!(rt; found == Some(wanted), "{end}, behind {good}");
+        }
+    }
     Ok(())
 }
 

@@ -2,7 +2,8 @@
 
 use super::vectors::{self, bytes};
 use super::*;
-use flute_parts::{MemorySource, ShortSource};
+use flute_parts::{BufferedSource, MemorySource, ShortSource};
+use std::io::BufReader;
 
 /// In one piece, and in pieces of 1, 2 and 7 bytes.
 #[test]
@@ -19,6 +20,45 @@ fn journals_are_read(rt: HostRuntime) -> Result<(), Fail> {
                 "{piece} of {}",
                 parts.len()
             );
+        }
+    }
+    Ok(())
+}
+
+/// Through a buffer of each size, so that each entry crosses its end at each byte, or lies whole in it.
+#[test]
+fn journals_are_read_where_they_lie(rt: HostRuntime) -> Result<(), Fail> {
+    for (parts, told) in JOURNALS {
+        let journal = bytes(rt.alloc(), parts)?;
+        for size in 1..=journal.len() {
+            let reader = BufReader::with_capacity(rt.alloc(), size, journal.as_slice())?;
+            let (facts, fault) = read(&rt, &mut BufferedSource::new(reader), MANY)?;
+            assert!(rt;
+                tell(&facts, told) && fault == None,
+                "{size} of {}",
+                parts.len()
+            );
+        }
+    }
+    Ok(())
+}
+
+/// A symbol goes where the one before it stood, and where that is too short or there was none.
+#[test]
+fn the_memory_of_an_entry_is_used_again(rt: HostRuntime) -> Result<(), Fail> {
+    for (parts, told) in JOURNALS {
+        let journal = bytes(rt.alloc(), parts)?;
+        for size in [1, 40, 200] {
+            let reader = BufReader::with_capacity(rt.alloc(), size, journal.as_slice())?;
+            let mut source = BufferedSource::new(reader);
+            let mut entries = JournalReader::new(&mut source, MANY);
+            let mut spare = Vec::new(rt.alloc());
+            for told in *told {
+                let fact = entries.next_with(rt.alloc(), spare)?.ok_or("an entry")?;
+                assert!(rt; Some(fact.as_ref()) == told.fact(), "through {size}");
+                spare = fact.into_vec(rt.alloc());
+            }
+            assert!(rt; matches!(entries.next_with(rt.alloc(), spare), Ok(None)));
         }
     }
     Ok(())

@@ -108,6 +108,28 @@ fn a_store_that_is_too_small(rt: HostRuntime) -> Result<(), Fail> {
     Ok(())
 }
 
+/// What is met first is told: a fault of the journal only where the entries before it are within the limits.
+#[test]
+fn a_store_that_is_too_small_for_a_failing_source(rt: HostRuntime) -> Result<(), Fail> {
+    let alloc = rt.alloc();
+    let journal = bytes(alloc, vectors::WHOLE)?;
+    for good in 0..=journal.len() {
+        let wanted = if good < 101 {
+            LoadFault::Read(ReadFault::Read)
+        } else {
+            LoadFault::Full
+        };
+        let mut source = ShortSource::new(&journal, 7, good);
+        let store: Result<Store<1, 1, 1>, LoadFault> = read_store(alloc, &mut source, MANY);
+        assert!(rt; store.err() == Some(wanted), "read, {good}");
+        let mut store = Store::<1, 1, 1>::new(alloc);
+        let mut source = ShortSource::new(&journal, 7, good);
+        let joined = join_journal(alloc, &mut store, &mut source, MANY);
+        assert!(rt; joined == Err(wanted), "joined, {good}");
+    }
+    Ok(())
+}
+
 /// A journal joined as it is read is the same as a store of it absorbed, for each two journals.
 #[test]
 fn journals_are_joined(rt: HostRuntime) -> Result<(), Fail> {
@@ -131,16 +153,20 @@ fn journals_are_joined(rt: HostRuntime) -> Result<(), Fail> {
     Ok(())
 }
 
-// What joining a journal to the whole file answers, in a store of two symbols. None if that does not hold the file then.
+// What joining a journal to the whole file answers, in a store of two symbols. None if that does not hold the wanted
+// journal then.
 fn joined_to_whole(
     alloc: Global,
     journal: &[&str],
+    wanted: &[&str],
 ) -> Result<Option<Result<bool, LoadFault>>, Fail> {
     let whole = bytes(alloc, vectors::WHOLE)?;
     let mut store: Store<1, 1, 2> = read_store(alloc, &mut MemorySource::new(&whole), MANY)?;
+    let wanted = bytes(alloc, wanted)?;
+    let wanted: Store<1, 1, 2> = read_store(alloc, &mut MemorySource::new(&wanted), MANY)?;
     let journal = bytes(alloc, journal)?;
     let joined = join_journal(alloc, &mut store, &mut MemorySource::new(&journal), MANY);
-    if store.walk().count() != 3 {
+    if !store.walk().eq(wanted.walk()) {
         return Ok(None);
     }
     Ok(Some(joined))
@@ -154,12 +180,13 @@ fn a_store_that_is_too_small_for_both(rt: HostRuntime) -> Result<(), Fail> {
     let fourth = "0000 0003 0001 79";
     let fifth = "0000 0004 0001 7A";
     let (key, header) = (vectors::KEY, vectors::HEADER);
-    let held = joined_to_whole(alloc, vectors::WHOLE)?;
+    let whole = vectors::WHOLE;
+    let held = joined_to_whole(alloc, whole, whole)?;
     assert!(rt; held == Some(Ok(true)));
-    let beyond = joined_to_whole(alloc, &[header, "03", key, third, vectors::END_1])?;
+    let beyond = joined_to_whole(alloc, &[header, "03", key, third, vectors::END_1], whole)?;
     assert!(rt; beyond == Some(Ok(false)));
     let two: &[&str] = &[header, "03", key, third, "03", key, fourth, vectors::END_2];
-    assert!(rt; joined_to_whole(alloc, two)? == Some(Ok(false)));
+    assert!(rt; joined_to_whole(alloc, two, whole)? == Some(Ok(false)));
     let three: &[&str] = &[
         header,
         "03",
@@ -173,10 +200,12 @@ fn a_store_that_is_too_small_for_both(rt: HostRuntime) -> Result<(), Fail> {
         fifth,
         vectors::END_3,
     ];
-    assert!(rt; joined_to_whole(alloc, three)? == Some(Err(LoadFault::Full)));
+    assert!(rt; joined_to_whole(alloc, three, whole)? == Some(Err(LoadFault::Full)));
     let cut: &[&str] = &[header, "03", key, third];
-    assert!(rt; joined_to_whole(alloc, cut)? == Some(Err(LoadFault::Read(ReadFault::Cut))));
-    assert!(rt; joined_to_whole(alloc, vectors::OTHERS)? == Some(Err(LoadFault::Full)));
+    assert!(rt; joined_to_whole(alloc, cut, whole)? == Some(Err(LoadFault::Read(ReadFault::Cut))));
+    // the second value of the last symbol comes before the symbol that is beyond
+    let others = joined_to_whole(alloc, vectors::OTHERS, vectors::LAST_IN_CONFLICT)?;
+    assert!(rt; others == Some(Err(LoadFault::Full)));
     Ok(())
 }
 

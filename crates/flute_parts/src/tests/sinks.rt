@@ -1,5 +1,5 @@
 //! Sinks over memory and over writers.
-use crate::{DeviceFault, MemorySink, Sink, StdSink};
+use crate::{DeviceFault, MemorySink, ShortSink, Sink, StdSink};
 use std::io::{self, ErrorKind, Write};
 use std::test::Fail;
 
@@ -18,6 +18,29 @@ impl Write for &mut Interrupted {
             return Err(io::Error::from(ErrorKind::Interrupted));
         }
         Ok(bytes.len())
+    }
+
+    fn flush(&mut self) -> io::Result<()> {
+        Ok(())
+    }
+}
+
+/// A writer that takes at most two bytes at a time, until it has taken so many, and then fails. It counts its calls.
+#[derive(Drop)]
+struct Failing {
+    left: usize,
+    calls: u32,
+}
+
+impl Write for &mut Failing {
+    fn write(&mut self, bytes: &[u8]) -> io::Result<usize> {
+        self.calls = self.calls.wrapping_add(1);
+        if self.left == 0 {
+            return Err(io::Error::from(ErrorKind::Other));
+        }
+        let count = bytes.len().min(self.left).min(2);
+        self.left -= count;
+        Ok(count)
     }
 
     fn flush(&mut self) -> io::Result<()> {
@@ -50,6 +73,31 @@ fn a_sink_in_memory_keeps_its_bytes(rt: HostRuntime) -> Result<(), Fail> {
 }
 
 #[test]
+fn sinks_in_memory_take_many_bytes(rt: HostRuntime) -> Result<(), Fail> {
+    let bytes = vec![in rt.alloc(); b'x'; 70_000]?;
+    let mut sink = MemorySink::new(rt.alloc());
+    sink.write_all(&bytes)?;
+    assert!(rt; sink.as_slice() == bytes.as_slice());
+    assert_eq!(rt; sink.write(&bytes)?, 70_000);
+    assert_eq!(rt; sink.as_slice().len(), 140_000);
+    let mut sink = ShortSink::new(rt.alloc(), 70_001);
+    sink.write_all(&bytes)?;
+    assert!(rt; sink.as_slice() == bytes.as_slice());
+    Ok(())
+}
+
+#[test]
+fn a_writer_over_memory_gets_the_bytes(rt: HostRuntime) -> Result<(), Fail> {
+    let mut bytes = Vec::new(rt.alloc());
+    let mut sink = StdSink::new(&mut bytes);
+    sink.write_all(b"hel")?;
+    sink.write_all(b"lo")?;
+    sink.flush()?;
+    assert_eq!(rt; bytes.as_slice(), b"hello".as_slice());
+    Ok(())
+}
+
+#[test]
 fn an_interrupted_write_is_made_again(rt: HostRuntime) {
     for (left, answer, calls) in [
         (0, Ok(2), 1),
@@ -65,6 +113,25 @@ fn an_interrupted_write_is_made_again(rt: HostRuntime) {
     let mut writer = Interrupted { left: 3, calls: 0 };
     let mut sink = StdSink::new(&mut writer);
     assert!(rt; sink.write_all(b"lo") == Ok(()) && sink.flush() == Ok(()));
+}
+
+#[test]
+fn a_failing_writer_is_not_asked_again(rt: HostRuntime) {
+    let mut writer = Failing { left: 3, calls: 0 };
+    let mut sink = StdSink::new(&mut writer);
+    assert!(rt; sink.write(b"hello") == Ok(2) && sink.write(b"llo") == Ok(1));
+    assert!(rt; sink.write(b"lo") == Err(DeviceFault) && sink.write(b"") == Err(DeviceFault));
+    assert!(rt; sink.flush() == Ok(()));
+    assert_eq!(rt; writer.calls, 4);
+    for (bytes, answer, calls) in [
+        (b"hel".as_slice(), Ok(()), 2),
+        (b"hello".as_slice(), Err(DeviceFault), 3),
+    ] {
+        let mut writer = Failing { left: 3, calls: 0 };
+        let told = StdSink::new(&mut writer).write_all(bytes);
+        assert!(rt; told == answer);
+        assert_eq!(rt; (writer.left, writer.calls), (0, calls));
+    }
 }
 
 #[test]

@@ -1,7 +1,9 @@
 //! Sources, and devices that fail.
 
-use crate::{DeviceFault, MemorySource, ShortSink, ShortSource, Sink, Source, StdSource};
-use std::io::{self, ErrorKind, Read};
+use crate::{
+    BufferedSource, DeviceFault, MemorySource, ShortSink, ShortSource, Sink, Source, StdSource,
+};
+use std::io::{self, BufReader, ErrorKind, Read};
 use std::test::Fail;
 
 /// A reader that is interrupted some times, and then gives two bytes in each call. It counts its calls.
@@ -43,6 +45,52 @@ fn a_source_in_memory_gives_its_bytes(rt: HostRuntime) -> Result<(), Fail> {
         assert_eq!(rt; &buffer, front);
     }
     assert_eq!(rt; source.read(&mut [])?, 0);
+    Ok(())
+}
+
+#[test]
+fn a_reader_over_memory_gives_its_bytes(rt: HostRuntime) -> Result<(), Fail> {
+    let mut source = StdSource::new(b"hello".as_slice());
+    let mut buffer = [0; 4];
+    for (count, front) in [(4, b"hell"), (1, b"oell"), (0, b"oell")] {
+        assert_eq!(rt; source.read(&mut buffer)?, count);
+        assert_eq!(rt; &buffer, front);
+    }
+    Ok(())
+}
+
+#[test]
+fn sources_lend_what_lies_in_memory(rt: HostRuntime) -> Result<(), Fail> {
+    let mut source = MemorySource::new(b"hello");
+    assert_eq!(rt; source.buffer(), b"hello".as_slice());
+    source.consume(2);
+    assert_eq!(rt; source.buffer(), b"llo".as_slice());
+    let mut source = ShortSource::new(b"hello", 2, 3);
+    assert!(rt; source.buffer().is_empty());
+    source.consume(0);
+    let mut source = StdSource::new(b"hello".as_slice());
+    assert!(rt; source.buffer().is_empty());
+    source.consume(0);
+    Ok(())
+}
+
+/// Nothing lies in the buffer before a first byte is read through it.
+#[test]
+fn a_buffered_source_lends_its_buffer(rt: HostRuntime) -> Result<(), Fail> {
+    let reader = BufReader::with_capacity(rt.alloc(), 4, b"hello".as_slice())?;
+    let mut source = BufferedSource::new(reader);
+    assert!(rt; source.buffer().is_empty());
+    let mut buffer = [0; 1];
+    assert_eq!(rt; source.read(&mut buffer)?, 1);
+    assert_eq!(rt; (&buffer, source.buffer()), (b"h", b"ell".as_slice()));
+    source.consume(2);
+    assert_eq!(rt; source.buffer(), b"l".as_slice());
+    for (count, byte) in [(1, b'l'), (1, b'o'), (0, b'o')] {
+        assert_eq!(rt; (source.read(&mut buffer)?, buffer[0]), (count, byte));
+        assert!(rt; source.buffer().is_empty());
+    }
+    let reader = BufReader::with_capacity(rt.alloc(), 4, Broken)?;
+    assert!(rt; BufferedSource::new(reader).read(&mut buffer) == Err(DeviceFault));
     Ok(())
 }
 

@@ -71,6 +71,26 @@ fn blocks_of_two_lengths(rt: HostRuntime) -> Result<(), Fail> {
     Ok(())
 }
 
+/// 5,000 symbols in fifty blocks, the last symbol short.
+#[test]
+fn many_symbols(rt: HostRuntime) -> Result<(), Fail> {
+    let mut content = Vec::new(rt.alloc());
+    for place in 0..14_999_u32 {
+        content.push((place % 251) as u8)?;
+    }
+    let info = Info::new(14_999, 3, 100)?;
+    let sent = carousel(rt.alloc(), &file(&rt, 7, 1), &info, &content)?;
+    assert_eq!(rt; sent.len(), 5_000);
+    let said = FILE.info(14_999, 3, 100);
+    for (place, bytes) in content.chunks(3).enumerate() {
+        let datagram = sent.get(place).expect(&rt, "a datagram");
+        let sbn = u16::try_from(place / 100)?;
+        let esi = u16::try_from(place % 100)?;
+        assert_says(&rt, datagram.as_slice(), said.symbol(sbn, esi, bytes));
+    }
+    Ok(())
+}
+
 /// A content of another length, and a datagram that cannot be written, where the length is looked at first.
 #[test]
 fn faults(rt: HostRuntime) -> Result<(), Fail> {

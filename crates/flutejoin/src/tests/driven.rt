@@ -5,6 +5,7 @@ use crate::{Replicas, Step};
 use flute_parts::{Address, FactRef, Info, MemorySink, Part, SymbolId};
 use flute_store::Store;
 use std::alloc::Global;
+use std::process::Abort;
 use std::test::Fail;
 
 /// Room for one object of two symbols.
@@ -60,6 +61,33 @@ fn overfull(alloc: Global) -> Result<Vec<Step>, Fail> {
     Ok(steps)
 }
 
+/// The first replica has its own symbols, not that of the second, and no information or that of the second.
+fn assert_between(rt: &impl Abort, first: &Store<1, 1, 2>, info: Info) -> Result<(), Fail> {
+    let key = file().ok_or("a key")?;
+    let hell = told(first, symbol(0));
+    let o = told(first, symbol(1));
+    assert!(rt; matches!(hell, Some(FactRef::Symbol { bytes: b"hell", .. })));
+    assert!(rt; matches!(o, Some(FactRef::Symbol { bytes: b"o", .. })));
+    assert!(rt; !holds(first, symbol(2)));
+    let told_info = told(first, at(Part::Info));
+    assert!(rt; told_info.is_none() || told_info == Some(FactRef::Info { key, info }));
+    Ok(())
+}
+
+#[test]
+fn a_refused_merge_is_told(rt: HostRuntime) -> Result<(), Fail> {
+    let mut replicas = Narrow::new(rt.alloc(), 2)?;
+    let steps = overfull(rt.alloc())?;
+    let mut done = [false; 5];
+    if steps.len() != done.len() {
+        return Err(Fail::from("five steps"));
+    }
+    replicas.drive(rt.alloc(), &steps, &mut done);
+    assert_eq!(rt; done, [true, true, true, true, false]);
+    let info = Info::new(5, 4, 2)?;
+    assert_between(&rt, replicas.store(0).ok_or("a replica")?, info)
+}
+
 #[test]
 fn a_refused_merge_loses_nothing(rt: HostRuntime) -> Result<(), Fail> {
     let mut replicas = Narrow::new(rt.alloc(), 2)?;
@@ -75,12 +103,7 @@ fn a_refused_merge_loses_nothing(rt: HostRuntime) -> Result<(), Fail> {
     let key = file().ok_or("a key")?;
     let hell = told(replicas.store(0).ok_or("a replica")?, symbol(0));
     let o = told(replicas.store(0).ok_or("a replica")?, symbol(1));
-    let first = replicas.store(0).ok_or("a replica")?;
-    assert!(rt; matches!(hell, Some(FactRef::Symbol { bytes: b"hell", .. })));
-    assert!(rt; matches!(o, Some(FactRef::Symbol { bytes: b"o", .. })));
-    assert!(rt; !holds(first, symbol(2)));
-    let told_info = told(first, at(Part::Info));
-    assert!(rt; told_info.is_none() || told_info == Some(FactRef::Info { key, info }));
+    assert_between(&rt, replicas.store(0).ok_or("a replica")?, info)?;
     let second = replicas.store(1).ok_or("a replica")?;
     assert!(rt; told(second, at(Part::Info)) == Some(FactRef::Info { key, info }));
     assert!(rt;

@@ -5,7 +5,7 @@ use crate::{
     BlobFault, CommandFault, add_info, blob_fault, datagrams_of, load, merge_to, save_to, send_to,
 };
 use flute_parts::{
-    Info, InfoFault, Key, MemorySink, MemorySource, ObjectKey, SessionKey, ShortSink,
+    Info, InfoFault, Key, MemorySink, MemorySource, ObjectKey, SessionKey, ShortSink, ShortSource,
 };
 use flute_store::Shelf;
 use flute_wire::WriteFault;
@@ -113,6 +113,28 @@ fn a_merge_tells_which_input_is_at_fault(rt: HostRuntime) -> Result<(), Fail> {
         &mut ShortSink::new(rt.alloc(), 20),
     );
     assert!(rt; matches!(&fault, Err(CommandFault::CannotWrite)));
+    Ok(())
+}
+
+#[test]
+fn a_merge_tells_which_input_failed(rt: HostRuntime) -> Result<(), Fail> {
+    let journal = bytes(rt.alloc(), vectors::WHOLE)?;
+    let rows = [
+        (20, usize::MAX, "input 1: Read"),
+        (usize::MAX, 20, "input 2: Read"),
+        (20, 20, "input 1: Read"),
+    ];
+    for (first, second, text) in rows {
+        let fault = merge_to(
+            rt.alloc(),
+            &mut ShortSource::new(&journal, 7, first),
+            &mut ShortSource::new(&journal, 7, second),
+            &mut MemorySink::new(rt.alloc()),
+        );
+        let fault = fault.err().ok_or("a fault")?;
+        assert_eq!(rt; fault.to_string(rt.alloc())?.as_str(), text);
+        assert_eq!(rt; fault.status(), 3);
+    }
     Ok(())
 }
 

@@ -1,11 +1,11 @@
 //! What is held of objects, the gaps that are left, and objects that are written.
 
 use super::vectors::{self, bytes};
-use crate::{CommandFault, check_whole, count_to, extract_to, gaps_to, load};
+use crate::{CommandFault, check_whole, count_to, extract_to, gaps_to, load, save_to};
 use flute_parts::{
     Bytes, Fact, Info, Key, MemorySink, MemorySource, ObjectKey, SessionKey, ShortSink, SymbolId,
 };
-use flute_store::Shelf;
+use flute_store::{ExtractFault, Shelf, Taken};
 use std::alloc::Global;
 use std::test::Fail;
 
@@ -41,6 +41,31 @@ fn key() -> Option<Key> {
     let session = SessionKey::new(7)?;
     let object = ObjectKey::file(1)?;
     Some(Key { session, object })
+}
+
+// Both datagrams tell the information. The object is written to sinks that fail, too.
+#[test]
+fn a_whole_file_is_taken(rt: HostRuntime) -> Result<(), Fail> {
+    let mut shelf = Shelf::new(rt.alloc());
+    for datagram in [FIRST, LAST] {
+        let datagram = bytes(rt.alloc(), datagram)?;
+        let taken = shelf.take(rt.alloc(), &datagram);
+        assert!(rt; taken == Ok(Taken { facts: 2 }));
+    }
+    let key = key().ok_or("a key")?;
+    let mut object = MemorySink::new(rt.alloc());
+    assert_eq!(rt; shelf.extract(&key, &mut object), Ok(5));
+    assert_eq!(rt; object.as_slice(), b"hello".as_slice());
+    let mut journal = MemorySink::new(rt.alloc());
+    assert_eq!(rt; save_to(&shelf, &mut journal)?, 3);
+    let whole = bytes(rt.alloc(), vectors::WHOLE)?;
+    assert_eq!(rt; journal.as_slice(), whole.as_slice());
+    for good in 0..5 {
+        let mut sink = ShortSink::new(rt.alloc(), good);
+        assert_eq!(rt; shelf.extract(&key, &mut sink), Err(ExtractFault::Write));
+        assert!(rt; Some(sink.as_slice()) == b"hello".get(..good), "at {good}");
+    }
+    Ok(())
 }
 
 #[test]

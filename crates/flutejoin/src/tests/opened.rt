@@ -3,7 +3,7 @@ ghost use Rattle.std.specs.Prelude.{◌<◌};
 
 use super::joining::{CUT, NEITHER, REFUSED_BETWEEN, blob, blobs, conflicts, join, journal_of};
 use super::vectors::{self, bytes};
-use crate::{Blob, CommandFault, Joined, Opened, at_input, join_opened};
+use crate::{Blob, CommandFault, Joined, Opened, at_input, is_too_large, join_opened};
 use flute_parts::{MemorySource, ShortSource, Source};
 use std::alloc::Global;
 use std::test::Fail;
@@ -31,13 +31,21 @@ fn join_at<R: Source>(alloc: Global, inputs: &mut [Opened<R>]) -> Result<Joined,
 fn join_whole(alloc: Global, inputs: &[Blob]) -> Result<Joined, CommandFault> {
     let mut opened = Vec::new(alloc);
     for (k, input) in inputs.iter().enumerate() {
-        let source = MemorySource::new(input.as_slice());
-        let input = at_input(k + 1, Opened::read(source))?;
+        let bytes = input.as_slice();
+        let source = MemorySource::new(bytes);
+        let input = at_input(k + 1, Opened::read_sized(source, Some(bytes.len() as u64)))?;
         if opened.push(input).is_err() {
             return Err(CommandFault::OutOfMemory);
         }
     }
     join_at(alloc, &mut opened)
+}
+
+#[test]
+fn sizes_that_are_known(rt: HostRuntime) {
+    assert!(rt; !is_too_large(None));
+    assert!(rt; !is_too_large(Some(4_294_967_295)));
+    assert!(rt; is_too_large(Some(4_294_967_296)));
 }
 
 // Joins the inputs out of sources that give at most `piece` bytes at a time. That of the input with the number `short`

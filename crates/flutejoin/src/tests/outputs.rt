@@ -85,6 +85,47 @@ fn a_whole_input_is_kept(rt: HostRuntime) -> Result<(), Fail> {
 }
 
 #[test]
+fn a_large_input_is_kept(rt: HostRuntime) -> Result<(), Fail> {
+    let mut bytes = Vec::new(rt.alloc());
+    for k in 0..5_000_000_u32 {
+        bytes.push((k % 251) as u8)?;
+    }
+    let blob = Blob::read(rt.alloc(), &mut MemorySource::new(&bytes))?;
+    assert!(rt; blob.as_slice() == bytes.as_slice());
+    Ok(())
+}
+
+#[test]
+fn faults_of_outputs_have_their_texts(rt: HostRuntime) -> Result<(), Fail> {
+    let stopped = RunFault::At {
+        step: 2,
+        fault: StepFault::NoReplica,
+    };
+    let rows = [
+        (OutputFault::Run(RunFault::Start), "Start"),
+        (OutputFault::Run(stopped), "step 2: NoReplica"),
+        (OutputFault::NoReplica, "NoReplica"),
+        (OutputFault::Save(SaveFault::Write), "Write"),
+        (
+            OutputFault::Extract(ExtractFault::NoInformation),
+            "no information",
+        ),
+    ];
+    for (fault, text) in rows {
+        assert_eq!(rt; fault.to_string(rt.alloc())?.as_str(), text);
+    }
+    let rows = [
+        (BlobFault::Read, "Read"),
+        (BlobFault::TooLarge, "TooLarge"),
+        (BlobFault::OutOfMemory, "OutOfMemory"),
+    ];
+    for (fault, text) in rows {
+        assert_eq!(rt; fault.to_string(rt.alloc())?.as_str(), text);
+    }
+    Ok(())
+}
+
+#[test]
 fn laws_stand(_rt: HostRuntime) -> Result<(), Fail> {
     laws::the_same_facts_make_the_same();
     laws::runs_leave_what_was_given();

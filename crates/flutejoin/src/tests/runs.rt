@@ -179,11 +179,42 @@ fn runs_stop_at_the_first_fault(rt: HostRuntime) -> Result<(), Fail> {
     // The entries pass the limits before the byte behind the end is met.
     let steps = [load(rt.alloc(), 0, vectors::TRAILING)?];
     assert_stops::<1, 1, 1>(&rt, rt.alloc(), &steps, 0, StepFault::Full);
-    assert_eq!(rt; order.to_string(rt.alloc())?.as_str(), "Journal Order");
+    Ok(())
+}
+
+// In room for one symbol: what is held already, a refused datagram, and a merge with itself.
+#[test]
+fn steps_without_memory_do_not_stop_a_run(rt: HostRuntime) -> Result<(), Fail> {
+    let steps = [
+        take(rt.alloc(), 0, datagrams::FIRST)?,
+        take(rt.alloc(), 0, datagrams::FIRST_NARROW)?,
+        add_first(rt.alloc(), 0)?,
+        take(rt.alloc(), 0, datagrams::REFUSED)?,
+        Step::Merge { into: 0, from: 0 },
+    ];
+    let replicas = run::<1, 1, 1>(rt.alloc(), 1, &steps)?;
+    assert_eq!(rt; replicas.refused(0), Some(1));
+    Ok(())
+}
+
+#[test]
+fn faults_of_runs_have_their_texts(rt: HostRuntime) -> Result<(), Fail> {
+    let order = StepFault::Journal(ReadFault::Order);
+    let rows = [
+        (StepFault::NoReplica, "NoReplica"),
+        (order, "Journal Order"),
+        (StepFault::Full, "Full"),
+        (StepFault::OutOfMemory, "OutOfMemory"),
+    ];
+    for (fault, text) in rows {
+        assert_eq!(rt; fault.to_string(rt.alloc())?.as_str(), text);
+    }
     let fault = RunFault::At {
         step: 1,
         fault: StepFault::Full,
     };
     assert_eq!(rt; fault.to_string(rt.alloc())?.as_str(), "step 1: Full");
+    let fault = RunFault::Start;
+    assert_eq!(rt; fault.to_string(rt.alloc())?.as_str(), "Start");
     Ok(())
 }

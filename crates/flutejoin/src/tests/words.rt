@@ -112,6 +112,55 @@ fn commands_with_numbers_are_read(rt: HostRuntime) -> Result<(), Fail> {
     Ok(())
 }
 
+// Numbers at their greatest: which of them are information is told once all are read.
+#[test]
+fn the_greatest_numbers_are_read(rt: HostRuntime) -> Result<(), Fail> {
+    let rows = [
+        ("--length 281474976710655", (1 << 48) - 1),
+        ("--length 18446744073709551615", u64::MAX),
+    ];
+    for (options, greatest) in rows {
+        let mut words = words_of(
+            rt.alloc(),
+            "info -o OUT --tsi 7 --toi 0 --fdt 3 --symbol 65535 --block 4294967295 J",
+        )?;
+        for word in words_of(rt.alloc(), options)? {
+            words.push(word)?;
+        }
+        let line = line_of(rt.alloc(), words.as_slice())?;
+        let Line::Info {
+            out: "OUT",
+            key,
+            length,
+            symbol: 65_535,
+            block: 4_294_967_295,
+            j: "J",
+        } = line
+        else {
+            return Err(Fail::from("another line"));
+        };
+        assert!(rt; Some(key) == instance(7, 3));
+        assert_eq!(rt; length, greatest);
+    }
+    let words = words_of(
+        rt.alloc(),
+        "carousel -o OUT --tsi 7 --toi 0 --fdt 3 --symbol 65535 --block 4294967295 FILE",
+    )?;
+    let line = line_of(rt.alloc(), words.as_slice())?;
+    let Line::Carousel {
+        out: "OUT",
+        key,
+        symbol: 65_535,
+        block: 4_294_967_295,
+        file: "FILE",
+    } = line
+    else {
+        return Err(Fail::from("another line"));
+    };
+    assert!(rt; Some(key) == instance(7, 3));
+    Ok(())
+}
+
 // The numbers of information come behind those of the key, and the key behind them all.
 #[test]
 fn other_bad_numbers_are_told(rt: HostRuntime) -> Result<(), Fail> {
@@ -211,6 +260,10 @@ fn other_words_are_left_to_the_parser(rt: HostRuntime) -> Result<(), Fail> {
         "merge -o OUT A",
         "info -o OUT --tsi 7 --toi 1 --length 5 --symbol 4 J",
         "carousel -o OUT --tsi 7 --toi 1 --symbol 4 FILE",
+        "info -o OUT --tsi 7 --toi 1 --symbol 4 --block 2 J",
+        "info -o OUT --toi 1 --length 5 --symbol 4 --block 2 J",
+        "carousel -o OUT --toi 1 --symbol 4 --block 2 FILE",
+        "extract -o OUT --toi 1 J",
         "extract -o OUT --tsi 7 J",
         "extract --tsi 7 --toi 1 J",
         "extract -o OUT --tsi 7 --toi 1",

@@ -1,30 +1,46 @@
-use Rattle.std.proofs.Common.{◌≡◌, ◌<◌, length, rules, Err, sym, ap, ◌∙◌, subst}
+use Rattle.std.proofs.Common.{◌≡◌, ◌<◌, length, rules, Err, Some, sym, ap, ◌∙◌, subst}
 use Rattle.std.proofs.lemmas.Result.{err_from_is_err_and}
 use Rattle.flute_journal.specs.declared.fault.ReadFault.TheVariants as faults
 use Rattle.flute_journal.specs.Records.{record_fault, ReadsRecord}
 use Rattle.flute_journal.proofs.Fronts.{fault-here}
-use Rattle.flute_journal.proofs.Records.{too_many_records, record_stops, record_read}
+use Rattle.flute_journal.proofs.Records.{too_many_records, record_stops, record_read, no_record, length_ends, record_ends}
 use Rattle.flute_journal.proofs.datagram_reader.read_record.Goals as goal
+
+pub returns-then-is_empty-clause-reads : goal.returns-then-is_empty-clause-reads
+returns-then-is_empty-clause-reads g c =
+    let front = c.read_front-front.result in
+    rw c.told.ensures (no_record c.args.max_records c.args.count front.failed _ _ front.bytes.now c.read_front-front.ensures.filled (search rules))
+
+pub returns-then-is_empty-clause-within : goal.returns-then-is_empty-clause-within
+returns-then-is_empty-clause-within g c =
+    let filled = c.read_front-front.ensures.filled in
+    length_ends _ _ c.read_front-front.result.bytes.now c.told.result filled.read filled.most
 
 pub returns-then-count-max_records-clause-reads : goal.returns-then-count-max_records-clause-reads
 returns-then-count-max_records-clause-reads g c =
-    let front = c.in_ok-front.front.now in
+    let front = c.read_front-front.result.bytes.now in
     let some : 0 < length front = search rules in
-    fault-here (g.R.Source.unread c.args.source.now) (g.R.Source.unread c.front.new.source) front (record_fault c.args.max_records c.args.count) faults.TooMany
-    c.in_ok-front.ensures.filled.read
+    fault-here (g.R.Source.unread c.args.source.now) (g.R.Source.unread c.read_front-front.new.source) front (record_fault c.args.max_records c.args.count) (Some faults.TooMany)
+    c.read_front-front.ensures.filled.read
     (λ r. too_many_records c.args.max_records c.args.count front r some c.if-count-max_records.true)
 
 pub returns-in_err-datagram-clause-reads : goal.returns-in_err-datagram-clause-reads
 returns-in_err-datagram-clause-reads g c =
-    let front = c.in_ok-front.front.now in
+    let front = c.read_front-front.result.bytes.now in
     let two : length front ≡ 2 = search rules in
-    let e = err_from_is_err_and c.from_residual-in_err-datagram.result c.from_residual-in_err-datagram.ensures.1 in
+    let e = err_from_is_err_and c.from_residual.result c.from_residual.ensures.1 in
     subst (ReadsRecord c.args.max_records c.args.count (g.R.Source.unread c.args.source.now) (g.R.Source.unread c.read_datagram.new.source)) (sym (e.1 ∙ ap Err e.2))
-    (record_stops c.args.max_records c.args.count c.length_in.result (g.R.Source.unread c.args.source.now) (g.R.Source.unread c.front.new.source) front _
-    c.if-count-max_records.false two c.length_in.ensures.value c.in_ok-front.ensures.filled.read c.in_err-datagram.ensures.reads)
+    (record_stops c.args.max_records c.args.count c.length_in.result (g.R.Source.unread c.args.source.now) (g.R.Source.unread c.read_front-front.new.source) _ front _
+    c.if-count-max_records.false two c.length_in.ensures.value c.read_front-front.ensures.filled.read c.in_err-datagram.ensures.reads)
+
+pub returns-in_err-datagram-clause-within : goal.returns-in_err-datagram-clause-within
+returns-in_err-datagram-clause-within g c =
+    let front = c.read_front-front.result.bytes.now in
+    record_ends c.length_in.result (g.R.Source.unread c.args.source.now) (g.R.Source.unread c.read_front-front.new.source) _ front c.from_residual.result
+    c.length_in.ensures.spelled (search rules) c.read_front-front.ensures.filled.read c.in_err-datagram.ensures.advances
 
 pub returns-clause-reads : goal.returns-clause-reads
 returns-clause-reads g c =
-    record_read c.args.max_records c.args.count c.length_in.result (g.R.Source.unread c.args.source.now) (g.R.Source.unread c.front.new.source) (g.R.Source.unread c.read_datagram.new.source)
-    c.in_ok-front.front.now c.in_ok-datagram.datagram c.if-count-max_records.false c.length_in.ensures.spelled (search rules)
-    c.in_ok-front.ensures.filled.read c.in_ok-datagram.ensures.reads.0.0 c.in_ok-datagram.ensures.reads.0.1 c.in_ok-datagram.ensures.reads.1
+    record_read c.args.max_records c.args.count c.length_in.result (g.R.Source.unread c.args.source.now) (g.R.Source.unread c.read_front-front.new.source) (g.R.Source.unread c.read_datagram.new.source)
+    c.read_front-front.result.bytes.now c.in_ok-datagram.datagram c.if-count-max_records.false c.length_in.ensures.spelled (search rules)
+    c.read_front-front.ensures.filled.read c.in_ok-datagram.ensures.reads.0.0 c.in_ok-datagram.ensures.reads.0.1 c.in_ok-datagram.ensures.reads.1

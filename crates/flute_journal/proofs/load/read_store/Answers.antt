@@ -1,11 +1,13 @@
-use Rattle.std.proofs.Common.{◌≡◌, ◌+◌, rules, ap, ◌∙◌, subst, Option, Err}
+use Rattle.std.proofs.Common.{◌≡◌, List, rules, ap, ◌∙◌, subst, Option, Err}
 use Rattle.std.proofs.lemmas.Result.{err_from_is_err_and}
 use Rattle.std.specs.Io.KnownBytes.{IsAtEnd}
 use Rattle.flute_parts.specs.declared.fact.Fact.{Fact}
 use Rattle.flute_store.specs.declared.store.Store.{Store}
 use Rattle.flute_journal.specs.Reading.{is_open}
-use Rattle.flute_journal.specs.Stores.{ReadsPart, load_failed}
-use Rattle.flute_journal.proofs.Loading.{loaded-none, loaded-given, loaded-fits, loaded-full, loaded-all, loaded-fault, loaded-failed, loaded-read, fault-part, refused-part}
+use Rattle.flute_journal.specs.Stores.{FailsToLoad, IsLoadFault}
+use Rattle.flute_journal.specs.declared.fault.LoadFault.TheVariants.{Read}
+use Rattle.flute_journal.specs.Whole.{ReadsPart}
+use Rattle.flute_journal.proofs.Loading.{loaded-none, loaded-given, loaded-fits, loaded-full, loaded-all, loaded-stops, loaded-failed, loaded-read, fault-part, refused-part}
 use Rattle.flute_journal.proofs.load.read_store.Goals as goal
 
 pub loop-store-init : goal.loop-store-init
@@ -19,12 +21,17 @@ loop-store-init g c = (
 pub returns-in_err-fact-clause-fault : goal.returns-in_err-fact-clause-fault
 returns-in_err-fact-clause-fault g c =
     let e = err_from_is_err_and c.from_residual.result c.from_residual.ensures.1 in
-    rw (e.1 ∙ ap Err e.2) (loaded-fault _ _ _ _ _ _ _ _ _ _ _ _ c.loop-store.invariant.0 c.loop-store.invariant.1 c.in_err-fact.ensures.gives)
+    let f = c.in_err-fact.field-0.0 in
+    let stops = loaded-stops _ _ _ _ _ _ _ _ _ _ _ _ c.loop-store.invariant.0 c.loop-store.invariant.1 c.in_err-fact.ensures.gives in
+    let at : (x : g.row.R.Denot) → c.next.new.self.source.now ≡ x
+    → IsLoadFault g.row.SESSIONS g.row.OBJECTS g.row.SYMBOLS c.args.max_entries (g.R.Source.unread c.args.source.now) (g.R.Source.unread x) (Read f) =
+    λ x same. subst (λ (z : g.row.R.Denot). IsLoadFault g.row.SESSIONS g.row.OBJECTS g.row.SYMBOLS c.args.max_entries (g.R.Source.unread c.args.source.now) (g.R.Source.unread z) (Read f)) same stops in
+    rw (e.1 ∙ ap Err e.2) (at _ (search rules))
 
 pub returns-in_err-fact-clause-failures : goal.returns-in_err-fact-clause-failures
 returns-in_err-fact-clause-failures g c =
     let e = err_from_is_err_and c.from_residual.result c.from_residual.ensures.1 in
-    let total : g.R.Source.failures c.next.new.self.source.now ≡ g.R.Source.failures c.args.source.now + load_failed c.from_residual.result =
+    let total : FailsToLoad (g.R.Source.failures c.args.source.now) (g.R.Source.failures c.next.new.self.source.now) c.from_residual.result =
     rw (e.1 ∙ ap Err e.2) (loaded-failed (Option Fact) (Store g.row.SESSIONS g.row.OBJECTS g.row.SYMBOLS) _ _ _ _ _ _ _ _ _ _ _ _ c.loop-store.invariant.0 c.loop-store.invariant.3 c.in_err-fact.ensures.failures) in
     search (rules, total)
 
@@ -32,23 +39,23 @@ pub returns-in_err-fact-clause-reads : goal.returns-in_err-fact-clause-reads
 returns-in_err-fact-clause-reads g c =
     let e = err_from_is_err_and c.from_residual.result c.from_residual.ensures.1 in
     let read = fault-part _ _ _ _ _ _ _ _ _ _ _ _ c.loop-store.invariant.0 c.loop-store.invariant.1 c.in_err-fact.ensures.gives in
-    let reads : (x : g.row.R.Denot) → c.next.new.self.source.now ≡ x → ReadsPart c.args.max_entries (g.R.Source.unread c.args.source.now) (g.R.Source.unread x) =
-    λ x same. subst (λ (z : g.row.R.Denot). ReadsPart c.args.max_entries (g.R.Source.unread c.args.source.now) (g.R.Source.unread z)) same read in
+    let reads : (x : g.row.R.Denot) → c.next.new.self.source.now ≡ x → (entries : List Fact) × ReadsPart c.args.max_entries (g.R.Source.unread c.args.source.now) (g.R.Source.unread x) entries =
+    λ x same. subst (λ (z : g.row.R.Denot). (entries : List Fact) × ReadsPart c.args.max_entries (g.R.Source.unread c.args.source.now) (g.R.Source.unread z) entries) same read in
     rw e.1 (reads _ (search rules))
 
 pub returns-in_err-put-clause-reads : goal.returns-in_err-put-clause-reads
 returns-in_err-put-clause-reads g c =
     let e = err_from_is_err_and c.from_residual-in_err-put.result c.from_residual-in_err-put.ensures.1 in
     let read = refused-part _ _ _ _ _ _ _ _ _ _ _ _ _ c.loop-store.invariant.0 c.loop-store.invariant.1 c.in-Some.is c.in_ok-fact.ensures.gives in
-    let reads : (x : g.row.R.Denot) → c.next.new.self.source.now ≡ x → ReadsPart c.args.max_entries (g.R.Source.unread c.args.source.now) (g.R.Source.unread x) =
-    λ x same. subst (λ (z : g.row.R.Denot). ReadsPart c.args.max_entries (g.R.Source.unread c.args.source.now) (g.R.Source.unread z)) same read in
+    let reads : (x : g.row.R.Denot) → c.next.new.self.source.now ≡ x → (entries : List Fact) × ReadsPart c.args.max_entries (g.R.Source.unread c.args.source.now) (g.R.Source.unread x) entries =
+    λ x same. subst (λ (z : g.row.R.Denot). (entries : List Fact) × ReadsPart c.args.max_entries (g.R.Source.unread c.args.source.now) (g.R.Source.unread z) entries) same read in
     rw e.1 (reads _ (search rules))
 
 pub returns-in_err-put-clause-fault : goal.returns-in_err-put-clause-fault
 returns-in_err-put-clause-fault g c =
     let e = err_from_is_err_and c.from_residual-in_err-put.result c.from_residual-in_err-put.ensures.1 in
     rw (e.1 ∙ ap Err e.2)
-    (loaded-full _ _ _ _ _ _ _ _ _ _ _ _ _ _ c.loop-store.invariant.0 c.loop-store.invariant.1 c.in-Some.is c.in_ok-fact.ensures.gives
+    (loaded-full _ _ _ _ _ _ _ _ _ _ _ _ _ _ _ c.loop-store.invariant.0 c.loop-store.invariant.1 c.in-Some.is c.in_ok-fact.ensures.gives
     (λ full. c.in_err-put.ensures.full.0 (ap Err full)))
 
 pub loop-store-preserved : goal.loop-store-preserved

@@ -9,7 +9,7 @@ pub returns-in_err-read_header-clause-reads : goal.returns-in_err-read_header-cl
 returns-in_err-read_header-clause-reads g c =
     let e = err_from_is_err_and c.from_residual.result c.from_residual.ensures.1 in
     subst (ReadsFrom c.args.max_entries Header _ _) (sym (e.1 ∙ ap Err e.2))
-    (reads_header c.args.max_entries _ _ c.in_err-read_header.field-0.0 c.in_err-read_header.ensures.reads c.in_err-read_header.ensures.advances)
+    (reads_header c.args.max_entries _ _ c.in_err-read_header.field-0.0 c.in_err-read_header.ensures.reads c.in_err-read_header.ensures.memory c.in_err-read_header.ensures.advances)
 
 pub returns-clause-reads : goal.returns-clause-reads
 returns-clause-reads g c =

@@ -8,8 +8,8 @@ returns-in-Ok-extract-clause-object g c = λ origins fits.
     (store_same c.args.count c.args.steps.now origins c.args.replica c.in-Ok.replicas c.in-Some.store.now c.in-Ok.ensures.done fits c.in-Some.ensures.1)
     c.in-Ok-extract.length c.in-Ok-extract.ensures.bytes
 
-pub returns-clause-object : goal.returns-clause-object
-returns-clause-object g c = λ origins fits.
+pub returns-in-Some-clause-object : goal.returns-in-Some-clause-object
+returns-in-Some-clause-object g c = λ origins fits.
     extract_fault-same g.W.Sink.written c.in-Some.store.now _ c.args.key.now c.args.sink.now c.extract.new.sink
     (store_same c.args.count c.args.steps.now origins c.args.replica c.in-Ok.replicas c.in-Some.store.now c.in-Ok.ensures.done fits c.in-Some.ensures.1)
     c.in-Err-extract.fault c.in-Err-extract.ensures.bytes

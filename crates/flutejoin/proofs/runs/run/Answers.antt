@@ -1,7 +1,8 @@
 -- A run, step by step.
 use Rattle.std.proofs.Common.{refl, arith}
+use Rattle.std.proofs.lemmas.Bool.{false≢true}
 use Rattle.std.proofs.lemmas.Option.{slice_get_read}
-use Rattle.flutejoin.proofs.Running.{run_start, run_more, run_refused, run_done}
+use Rattle.flutejoin.proofs.Running.{run_start, run_more, run_refused, run_stops_at_need, run_done}
 use Rattle.flutejoin.proofs.runs.run.Goals as goal
 
 pub loop-k-init : goal.loop-k-init
@@ -18,6 +19,11 @@ returns-in-Err-clause-refused g c = (
   run_refused _ c.args.count c.args.steps.now c.loop-k.k c.index-steps-k.result c.loop-k.replicas c.step.new.self c.in-Err.fault c.loop-k.invariant
       (slice_get_read c.args.steps.now _ c.loop-k.k c.index-steps-k.result refl c.loop-k-test.true c.index-steps-k.is) c.in-Err.ensures.refused,
 )
+
+pub returns-in-Err-clause-sure : goal.returns-in-Err-clause-sure
+returns-in-Err-clause-sure g c =
+    run_stops_at_need _ c.args.count c.args.steps.now c.loop-k.k c.index-steps-k.result c.loop-k.replicas c.loop-k.invariant
+    (slice_get_read c.args.steps.now _ c.loop-k.k c.index-steps-k.result refl c.loop-k-test.true c.index-steps-k.is) (λ needs. false≢true (c.in-Err.ensures.sure needs))
 
 pub returns-clause-done : goal.returns-clause-done
 returns-clause-done g c =

@@ -1,6 +1,7 @@
-use Rattle.std.proofs.Common.{◌+◌, true, ap, ◌∙◌}
+use Rattle.std.proofs.Common.{◌+◌, true, refl, ap, ◌∙◌}
 use Rattle.flute_store.specs.Objects.{runs}
-use Rattle.flute_store.proofs.Looks.{left-ended}
+use Rattle.flute_store.specs.declared.gap_walk.Look.TheVariants.{End}
+use Rattle.flute_store.proofs.Looks.{told, left-ended}
 use Rattle.flute_store.proofs.gap_walk.GapWalk.end.Goals as goal
 use Rattle.flute_store.proofs.GapSteps.{gaps-end}
 
@@ -15,3 +16,9 @@ returns-else-not-self-clause-left c = gaps-end c.args.self.now c.requires.look
 
 pub returns-else-not-self-clause-none : goal.returns-else-not-self-clause-none
 returns-else-not-self-clause-none c = gaps-end c.args.self.now c.requires.look
+
+pub returns-then-not-self-clause-ended : goal.returns-then-not-self-clause-ended
+returns-then-not-self-clause-ended c = record { begun = (told c.args.self.now End c.requires.look).1; ended = refl }
+
+pub returns-else-not-self-clause-ended : goal.returns-else-not-self-clause-ended
+returns-else-not-self-clause-ended c = record { begun = (told c.args.self.now End c.requires.look).1; ended = c.if-not-self.false }

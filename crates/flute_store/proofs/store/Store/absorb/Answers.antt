@@ -14,32 +14,25 @@ use Rattle.flute_store.specs.Content.{content}
 use Rattle.flute_store.proofs.StoreJoin.{ordered-store, content-join, content-below, content-below_join}
 use Rattle.flute_store.proofs.store.Store.absorb.Goals as goal
 
-pub invariant_of-self : goal.invariant_of-self
-invariant_of-self g c = record {
-  ordered = c.join_from.ensures.ordered;
-  within = c.join_from.ensures.within_limit;
-  each = c.join_from.ensures.each c.self.invariant.each c.other.invariant.each;
-}
-
 pub returns-clause-ok : goal.returns-clause-ok
 returns-clause-ok g c =
     let old = c.self.inside.sessions in
     let other = c.other.inside.sessions in
     rw (← c.self.view_is, ← c.other.view_is)
-    (on_ok_weaker c.join_from.result (λ p. subst (λ m. Same (content m) (content old ++ content other)) (sym p) (content-join old other (ordered-store _ _ old c.self.invariant) (ordered-store _ _ other c.other.invariant))) c.join_from.ensures.ok)
+    (on_ok_weaker c.join_sessions.result (λ p. subst (λ m. Same (content m) (content old ++ content other)) (sym p) (content-join old other (ordered-store _ _ old c.self.invariant) (ordered-store _ _ other c.other.invariant))) c.join_sessions.ensures.ok)
 
 pub returns-clause-above : goal.returns-clause-above
 returns-clause-above g c =
     let old = c.self.inside.sessions in
-    rw (← c.self.view_is) (content-below old c.join_from.new.self (ordered-store _ _ old c.self.invariant) (ordered-store _ _ c.join_from.new.self (invariant_of-self g c)) c.join_from.ensures.above_old)
+    rw (← c.self.view_is) (content-below old c.join_sessions.new.sessions (ordered-store _ _ old c.self.invariant) (ordered-store _ _ c.join_sessions.new.sessions c.join_sessions.ensures.store) c.join_sessions.ensures.above)
 
 pub returns-clause-below : goal.returns-clause-below
 returns-clause-below g c =
     let old = c.self.inside.sessions in
     let other = c.other.inside.sessions in
-    let new = c.join_from.new.self in
+    let new = c.join_sessions.new.sessions in
     rw (← c.self.view_is, ← c.other.view_is)
-    (content-below_join new old other (ordered-store _ _ new (invariant_of-self g c)) (ordered-store _ _ old c.self.invariant) (ordered-store _ _ other c.other.invariant) c.join_from.ensures.below_join)
+    (content-below_join new old other (ordered-store _ _ new c.join_sessions.ensures.store) (ordered-store _ _ old c.self.invariant) (ordered-store _ _ other c.other.invariant) c.join_sessions.ensures.below)
 
 pub returns-clause-full : goal.returns-clause-full
 returns-clause-full g c =
@@ -54,7 +47,7 @@ returns-clause-full g c =
     (λ e. Over-below (content J) (content old ++ content other) s o n (Below-from_Same (content J) (content old ++ content other) whole)
     (beyond-over s o J (solid-join old other (solid-store s o old c.self.invariant) (solid-store s o other c.other.invariant))
     (over-beyond s o old other (solid-store s o old c.self.invariant) (solid-store s o other c.other.invariant)
-    (IfErr-at_err (λ x. x ≡ Full → MapOver session_cmp session_join s (MapOver object_cmp object_join o ObjectOver) old other) e c.join_from.ensures.full refl))))
+    (IfErr-at_err (λ x. x ≡ Full → MapOver session_cmp session_join s (MapOver object_cmp object_join o ObjectOver) old other) e c.join_sessions.ensures.full refl))))
 
 pub returns-clause-memory : goal.returns-clause-memory
 returns-clause-memory g c =
@@ -64,4 +57,4 @@ returns-clause-memory g c =
     let o = g.row.OBJECTS in
     rw (← c.self.view_is, ← c.other.view_is)
     (λ e. needs-new old other (solid-store s o old c.self.invariant) (solid-store s o other c.other.invariant)
-    (IfErr-at_err (λ why. why ≡ OutOfMemory → MapNeedsMemory session_cmp (MapNeedsMemory object_cmp ObjectNeedsMemory) old other) e c.join_from.ensures.memory refl))
+    (IfErr-at_err (λ why. why ≡ OutOfMemory → MapNeedsMemory session_cmp (MapNeedsMemory object_cmp ObjectNeedsMemory) old other) e c.join_sessions.ensures.memory refl))

@@ -11,4 +11,4 @@ pub returns-in-Some-clause-counted : goal.returns-in-Some-clause-counted
 returns-in-Some-clause-counted g c = file_counts _ c.args.joined.now c.add.new.self c.add.result c.requires.refused c.add.ensures.added
 
 pub returns-in-None-clause-failed : goal.returns-in-None-clause-failed
-returns-in-None-clause-failed g c = λ bytes looked. journal_adds_not c.args.number _ bytes c.add_journal.result (held_journal g.R.Source.unread c.args.self.now bytes c.in-None.is looked) c.add_journal.ensures.failed
+returns-in-None-clause-failed g c = λ bytes looked. journal_adds_not c.args.number _ _ bytes c.add_journal.result (held_journal g.R.Source.unread c.args.self.now bytes c.in-None.is looked) c.add_journal.ensures.failed

@@ -2,6 +2,7 @@
 use Rattle.std.proofs.Common.{refl, List}
 use Rattle.flute_parts.specs.declared.fact.Fact.{Fact}
 use Rattle.std.proofs.lemmas.Result.{err_from_is_err_and}
+use Rattle.flute_parts.specs.contracts.memory_source.MemorySourceSource.TheImpl as memory
 use Rattle.flutejoin.specs.Held.{capacity}
 use Rattle.flutejoin.proofs.Outcomes.{changed, within_items, join_cause, not_there}
 use Rattle.flutejoin.proofs.Journaled.{loaded_done, loaded_refused, not_loaded, journal_known, fault_known, did_not_fail}
@@ -15,9 +16,10 @@ returns-in_err-place-clause-refused g c =
 pub returns-in_err-store-clause-refused : goal.returns-in_err-store-clause-refused
 returns-in_err-store-clause-refused g c =
     let refused = err_from_is_err_and c.from_residual-in_err-store.result c.from_residual-in_err-store.ensures.1 in
+    let left = memory.ghosts.unread c.read_store.new.source in
     rw (refused.1, refused.2)
-    (not_loaded (capacity g.row.SESSIONS g.row.OBJECTS g.row.SYMBOLS) c.args.self.now c.args.replica c.args.journal.now c.in_err-store.field-0.0
-    (fault_known (capacity g.row.SESSIONS g.row.OBJECTS g.row.SYMBOLS) _ _ _ c.in_err-store.field-0.0 c.new-source.ensures.bytes c.as_slice.ensures.bytes c.in_err-store.ensures.fault)
+    (not_loaded (capacity g.row.SESSIONS g.row.OBJECTS g.row.SYMBOLS) c.args.self.now c.args.replica c.args.journal.now left c.in_err-store.field-0.0
+    (fault_known (capacity g.row.SESSIONS g.row.OBJECTS g.row.SYMBOLS) _ left _ _ c.in_err-store.field-0.0 c.new-source.ensures.bytes c.as_slice.ensures.bytes c.in_err-store.ensures.fault)
     (did_not_fail (List Fact) c.in_err-store.field-0.0 _ c.in_err-store.ensures.failures))
 
 pub returns-in_err-joined-clause-refused : goal.returns-in_err-joined-clause-refused

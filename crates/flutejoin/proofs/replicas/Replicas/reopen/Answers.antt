@@ -2,6 +2,7 @@
 use Rattle.std.proofs.Common.{refl, ap, List}
 use Rattle.std.proofs.lemmas.Result.{err_from_is_err_and}
 use Rattle.flute_parts.specs.declared.fact.Fact.{Fact}
+use Rattle.flute_parts.specs.contracts.memory_source.MemorySourceSource.TheImpl as memory
 use Rattle.flutejoin.specs.Held.{capacity}
 use Rattle.flutejoin.specs.declared.steps.StepFault.TheVariants.{OutOfMemory}
 use Rattle.flutejoin.proofs.Outcomes.{changed, within_items, unchanged_refused, not_there, held_at, same_read}
@@ -20,12 +21,13 @@ returns-in_default-clause-refused g c =
 pub returns-in_err-store-clause-refused : goal.returns-in_err-store-clause-refused
 returns-in_err-store-clause-refused g c =
     let refused = err_from_is_err_and c.from_residual-in_err-store.result c.from_residual-in_err-store.ensures.1 in
+    let left = memory.ghosts.unread c.read_store.new.source in
     let whole = written_whole _ _ _ c.as_slice.result.now c.new-sink.ensures.bytes c.as_slice.ensures c.in-Ok.ensures.bytes in
     rw (refused.1, refused.2, ← c.in_ok-place.ensures.ok.0)
-    (not_reopened (capacity g.row.SESSIONS g.row.OBJECTS g.row.SYMBOLS) c.args.self.now c.in_ok-place.place c.index.result.now.store c.as_slice.result.now c.in_err-store.field-0.0
+    (not_reopened (capacity g.row.SESSIONS g.row.OBJECTS g.row.SYMBOLS) c.args.self.now c.in_ok-place.place c.index.result.now.store c.as_slice.result.now left c.in_err-store.field-0.0
     (held_at _ _ _ _ _ c.index.result.now c.self.view_is c.in_ok-place.ensures.ok.1 c.index.ensures)
     (journal_written _ c.as_slice.result.now c.index.result.now.store _ whole refl c.in-Ok.ensures.journal)
-    (fault_known (capacity g.row.SESSIONS g.row.OBJECTS g.row.SYMBOLS) _ _ _ c.in_err-store.field-0.0 c.new-source.ensures.bytes refl c.in_err-store.ensures.fault)
+    (fault_known (capacity g.row.SESSIONS g.row.OBJECTS g.row.SYMBOLS) _ left _ _ c.in_err-store.field-0.0 c.new-source.ensures.bytes refl c.in_err-store.ensures.fault)
     (did_not_fail (List Fact) c.in_err-store.field-0.0 _ c.in_err-store.ensures.failures))
 
 pub returns-clause-done : goal.returns-clause-done

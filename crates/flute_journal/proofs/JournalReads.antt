@@ -1,0 +1,233 @@
+-- A journal that is read on is a stream that goes on.
+use Rattle.std.proofs.Common.{◌≡◌, ℕ, ◌+◌, ◌-◌, ◌≤◌, true, false, Bool, List, [], ◌∷◌, ◌++◌, length, Option, Some, None, Ok, Err, IsTrue, refl, sym, ap, ◌∙◌, subst, inl, inr, append-nil, arith}
+use Rattle.std.specs.Prelude.{IfSome}
+use Rattle.std.specs.List.{AllByRecursion}
+use Rattle.std.specs.Io.KnownBytes.{Keeps}
+use Rattle.std.proofs.KnownBytes.{Consumes-kept, Consumes-whole}
+use Rattle.flute_parts.specs.Facts.{IsRising}
+use Rattle.flute_parts.specs.declared.fact.Fact.{Fact}
+use Rattle.flute_store.specs.Walk.{IsSized}
+use Rattle.flute_journal.specs.declared.fault.ReadFault.{ReadFault}
+use Rattle.flute_journal.specs.declared.reader.Stage.{Stage}
+use Rattle.flute_journal.specs.declared.reader.Stage.TheVariants.{Header, Entries, Ended, Failed}
+use Rattle.flute_journal.specs.declared.journal_stream.JournalStream.{JournalStream}
+use Rattle.flute_journal.specs.declared.journal_stream.LentStream.{LentStream}
+use Rattle.flute_journal.specs.Format.{spelling}
+use Rattle.flute_journal.specs.Input.{FailsIf}
+use Rattle.flute_journal.specs.Journal.{IsFact, IsJournalWithin}
+use Rattle.flute_journal.specs.Reading.{is_open, position, GivesEnd, GivesFault, Gives}
+use Rattle.flute_journal.specs.Readers.{source_of, limit_of, stage_of}
+use Rattle.flute_journal.specs.SoFar.{Sofar}
+use Rattle.flute_journal.specs.Whole.{HasFault}
+use Rattle.flute_journal.specs.Merges.{ReadsBehind}
+use Rattle.flute_journal.specs.Streams.{Behaviour, option_list, Continues, GoesOn, StopsAt}
+use Rattle.flute_journal.specs.JournalStreams.{ReadWhole, ReadAt, room, FailsBy, IsJournalOfAll, FailsSince, unread_of, journal_behaviour, lent, SameLoans, lent_behaviour}
+use Rattle.flute_journal.proofs.Bodies.{fact_sized}
+use Rattle.flute_journal.proofs.MergeAhead.{ahead-sofar}
+use Rattle.flute_journal.proofs.MergeBytes.{spelling-of_spelling}
+use Rattle.flute_journal.proofs.MergeSides.{AtEnd, side-from, all-last, open_behind, reads-side, reads-sofar, reads-fault}
+use Rattle.flute_journal.proofs.Whole.{sofar-fault}
+
+-- what was read, once the next entry or the end was
+abbrev Read : ℕ → Option (List ℕ) → Option (List ℕ) → Stage → List Fact → Option Fact → Type 0
+Read limit u w stage F (Some f) = Sofar limit u w stage (F ++ f ∷ [])
+Read limit u w stage F None = ReadWhole limit u w F × (stage ≡ Ended)
+
+whole_at : (limit : ℕ) (u w : Option (List ℕ)) (F : List Fact) → AtEnd limit u w F → ReadWhole limit u w F
+whole_at limit u w F s = record {
+  are_entries = s.are_entries;
+  whole = Consumes-whole u w (spelling F) (λ xs. IsJournalWithin limit xs F) s.read s.at_end (record { are_entries = s.are_entries; bytes_are = refl });
+  read = reads-side limit u w Ended F None s;
+}
+
+whole_kept : (limit : ℕ) (u v w : Option (List ℕ)) (F : List Fact) → ReadWhole limit u v F → Keeps v w → ReadWhole limit u w F
+whole_kept limit u v w F r k = record {
+  are_entries = r.are_entries;
+  whole = r.whole;
+  read = record { valid = r.read.valid; bytes = r.read.bytes; read = Consumes-kept u v w r.read.bytes r.read.read k; ends = r.read.ends };
+}
+
+read_from : (limit : ℕ) (u v w : Option (List ℕ)) (old new : Stage) (es : List Fact) (o : Option Fact) → Sofar limit u v old es → Gives limit old new v w (Ok o)
+    → Read limit u w new es o
+read_from limit u v w old new es (Some f) s g = side-from limit u v w old new es (Some f) s g
+read_from limit u v w old new es None s g = (whole_at limit u w es (side-from limit u v w old new es None s g), g.ended)
+
+end_again : (limit : ℕ) (u v w : Option (List ℕ)) (new : Stage) (F : List Fact) (held : Option Fact) → ReadWhole limit u v F → held ≡ None → GivesEnd Ended new v w
+    → Read limit u w new (F ++ option_list held) None
+end_again limit u v w new F held r n g =
+    subst (λ o. Read limit u w new (F ++ option_list o) None) (sym n)
+    (subst (λ (l : List Fact). Read limit u w new l None) (sym (append-nil F))
+    (elim g.bytes [
+      | inl p ↦ (whole_kept limit u v w F r p.1, g.ended)
+      | inr p ↦ absurd (let e = p.0 in cc)
+    ]))
+
+read_on : (limit : ℕ) (u v w : Option (List ℕ)) (old new : Stage) (F : List Fact) (held o : Option Fact) → ReadAt limit u v old F held → Gives limit old new v w (Ok o)
+    → Read limit u w new (F ++ option_list held) o
+read_on limit u v w Header new F held o r g = read_from limit u v w Header new (F ++ option_list held) o r g
+read_on limit u v w (Entries count last) new F held o r g = read_from limit u v w (Entries count last) new (F ++ option_list held) o r g
+read_on limit u v w (Failed f) new F held o r g = absurd r
+read_on limit u v w Ended new F held (Some f) r g = absurd (let e = g.open_before in cc)
+read_on limit u v w Ended new F held None r g = end_again limit u v w new F held r.0 r.1 g
+
+read_open : (limit : ℕ) (u w : Option (List ℕ)) (stage : Stage) (F : List Fact) (f : Fact) → IsTrue (is_open stage) → Sofar limit u w stage (F ++ f ∷ []) → ReadAt limit u w stage F (Some f)
+read_open limit u w Header F f o s = s
+read_open limit u w (Entries count last) F f o s = s
+read_open limit u w Ended F f o s = absurd cc
+read_open limit u w (Failed g) F f o s = absurd cc
+
+read_at : (limit : ℕ) (u w : Option (List ℕ)) (stage : Stage) (F : List Fact) (o : Option Fact) → Read limit u w stage F o → ReadAt limit u w stage F o
+read_at limit u w stage F (Some f) r = read_open limit u w stage F f (open_behind limit u w stage (F ++ f ∷ []) r) r
+read_at limit u w stage F None r = subst (λ x. ReadAt limit u w x F None) (sym r.1) (r.0, refl)
+
+-- What follows.
+
+reads_of : (limit : ℕ) (u w : Option (List ℕ)) (stage : Stage) (F : List Fact) (o : Option Fact) → Read limit u w stage F o → ReadsBehind u w F
+reads_of limit u w stage F (Some f) r = reads-side limit u w stage F (Some f) r
+reads_of limit u w stage F None r = r.0.read
+
+reads_with : (limit : ℕ) (u w : Option (List ℕ)) (stage : Stage) (F : List Fact) (o : Option Fact) → Read limit u w stage F o → ReadsBehind u w (F ++ option_list o)
+reads_with limit u w stage F (Some f) r = reads-sofar limit u w stage (F ++ f ∷ []) r
+reads_with limit u w stage F None r = subst (ReadsBehind u w) (sym (append-nil F)) r.0.read
+
+rising_of : (limit : ℕ) (u w : Option (List ℕ)) (stage : Stage) (F : List Fact) (o : Option Fact) → Read limit u w stage F o → IsRising (F ++ option_list o)
+rising_of limit u w stage F (Some f) r = r.are_entries.rising
+rising_of limit u w stage F None r = subst IsRising (sym (append-nil F)) r.0.are_entries.rising
+
+ended_of : (limit : ℕ) (u w : Option (List ℕ)) (stage : Stage) (F : List Fact) (o : Option Fact) → Read limit u w stage F o → o ≡ None → IfSome u (λ xs. IsJournalWithin limit xs F)
+ended_of limit u w stage F (Some f) r e = absurd (let h = e in cc)
+ended_of limit u w stage F None r e = r.0.whole
+
+only_entries : (limit : ℕ) (u : Option (List ℕ)) (F K : List Fact) → AllByRecursion IsFact F → IfSome u (λ xs. IsJournalWithin limit xs F) → IsJournalOfAll u K → K ≡ F
+only_entries limit None F K v h k = absurd (let e = k.bytes_are in cc)
+only_entries limit (Some xs) F K v h k =
+    let e : xs ≡ spelling K = (let q = k.bytes_are in cc) in
+    (spelling-of_spelling F K [] [] v k.valid (append-nil (spelling F) ∙ sym h.bytes_are ∙ e ∙ sym (append-nil (spelling K)))).0
+
+known_of : (limit : ℕ) (u w : Option (List ℕ)) (stage : Stage) (F : List Fact) (o : Option Fact) → Read limit u w stage F o → (K : List Fact) → IsJournalOfAll u K
+    → Continues K (F ++ option_list o) o
+known_of limit u w stage F (Some f) r K k =
+    let a = ahead-sofar limit u w stage (F ++ f ∷ []) r K k.valid k.rising k.bytes_are in
+    record { rest = a.0; is = a.1; rising = k.rising; ended = λ e. absurd (let h = e in cc) }
+known_of limit u w stage F None r K k = record {
+  rest = [];
+  is = only_entries limit u F K r.0.are_entries.valid r.0.whole k ∙ sym (append-nil F) ∙ sym (append-nil (F ++ []));
+  rising = k.rising;
+  ended = λ e. refl;
+}
+
+room_open : (limit : ℕ) (stage : Stage) → IsTrue (is_open stage) → room limit stage ≡ limit - (position stage).count
+room_open limit Header o = omega arith
+room_open limit (Entries count last) o = refl
+room_open limit Ended o = absurd cc
+room_open limit (Failed f) o = absurd cc
+
+fewer : (limit n : ℕ) (v w : Option (List ℕ)) (old new : Stage) (o : Option Fact) → Gives limit old new v w (Ok o) → (length (option_list o) + room limit new) + n ≤ n + room limit old
+fewer limit n v w old new (Some f) g =
+    let e = ap (room limit) g.goes_on in
+    omega (arith, e, room_open limit old g.open_before, g.within)
+fewer limit n v w old new None g = let e = ap (room limit) g.ended in omega (arith, e)
+
+module _ {R : Type 0} (unread : R → Option (List ℕ)) (failures : R → ℕ) where
+  abbrev b : Behaviour (JournalStream R)
+  b = journal_behaviour unread failures
+
+  -- the same source goes on to be read
+  since : (s t u : JournalStream R) (fault : Option ReadFault) → FailsSince unread failures s t None → FailsSince unread failures t u fault → FailsSince unread failures s u fault
+  since s t u fault h k = record {
+    same_source = k.same_source ∙ h.same_source;
+    failed_as = subst (λ n. FailsBy n (failures (source_of u.reader).now) fault) h.failed_as k.failed_as;
+  }
+
+  pub stream_goes_on : (s t : JournalStream R) → FailsSince unread failures s t None → limit_of t.reader ≡ limit_of s.reader
+      → Gives (limit_of s.reader) (stage_of s.reader) (stage_of t.reader) (unread_of unread failures s) (unread_of unread failures t) (Ok t.held) → GoesOn b s t
+  stream_goes_on s t same limit g = record {
+    gave = λ start F p.
+        let l = limit_of start.reader in
+        let u = unread_of unread failures start in
+        let w = unread_of unread failures t in
+        let G = F ++ option_list s.held in
+        let r : Read l u w (stage_of t.reader) G t.held =
+        read_on l u (unread_of unread failures s) w (stage_of s.reader) (stage_of t.reader) F s.held t.held p.read
+        (subst (λ x. Gives x (stage_of s.reader) (stage_of t.reader) (unread_of unread failures s) w (Ok t.held)) p.same_limit g) in
+        record {
+          passes = record { fails = since start s t None p.fails same; same_limit = limit ∙ p.same_limit; read = read_at l u w (stage_of t.reader) G t.held r };
+          reads = reads_of l u w (stage_of t.reader) G t.held r;
+          reads_held = reads_with l u w (stage_of t.reader) G t.held r;
+          fails = since start s t None p.fails same;
+          rising = rising_of l u w (stage_of t.reader) G t.held r;
+          sized = sized_of l u w (stage_of t.reader) G t.held r;
+          ended = ended_of l u w (stage_of t.reader) G t.held r;
+          known = known_of l u w (stage_of t.reader) G t.held r;
+        };
+    fewer =
+        let e = ap (λ x. room x (stage_of t.reader)) limit in
+        omega (arith, e, fewer (limit_of s.reader) (length (option_list s.held)) (unread_of unread failures s) (unread_of unread failures t) (stage_of s.reader) (stage_of t.reader) t.held g);
+  }
+    where
+      sized_of : (limit : ℕ) (u w : Option (List ℕ)) (stage : Stage) (F : List Fact) (o : Option Fact) → Read limit u w stage F o → IfSome o IsSized
+      sized_of limit u w stage F (Some f) r = fact_sized f (all-last F f r.are_entries.valid).1
+      sized_of limit u w stage F None r = tt
+
+  -- A reader that stops.
+
+  fault_at : (limit : ℕ) (u v w : Option (List ℕ)) (old new : Stage) (F : List Fact) (held : Option Fact) (f : ReadFault) → ReadAt limit u v old F held → GivesFault limit old new v w f
+      → ReadsBehind u w (F ++ option_list held) × HasFault limit u f × IsTrue (is_open old)
+  fault_at limit u v w Header new F held f r g = (reads-fault limit u v w Header new _ f r g, sofar-fault limit u v w Header new _ f r g, refl)
+  fault_at limit u v w (Entries count last) new F held f r g = (reads-fault limit u v w (Entries count last) new _ f r g, sofar-fault limit u v w (Entries count last) new _ f r g, refl)
+  fault_at limit u v w (Failed h) new F held f r g = absurd r
+  fault_at limit u v w Ended new F held f r g = elim g.found [
+    | inl p ↦ absurd (let e = p.0 in cc)
+    | inr p ↦ absurd (let e = p.0 in cc)
+  ]
+
+  pub stream_stops : (s t : JournalStream R) (f : ReadFault) → (IsTrue (is_open (stage_of s.reader)) → FailsSince unread failures s t (Some f))
+      → Gives (limit_of s.reader) (stage_of s.reader) (stage_of t.reader) (unread_of unread failures s) (unread_of unread failures t) (Err f) → StopsAt b s t f
+  stream_stops s t f same g = λ start F p.
+      let h = fault_at (limit_of start.reader) (unread_of unread failures start) (unread_of unread failures s) (unread_of unread failures t) (stage_of s.reader) (stage_of t.reader) F s.held f p.read
+      (subst (λ x. Gives x (stage_of s.reader) (stage_of t.reader) (unread_of unread failures s) (unread_of unread failures t) (Err f)) p.same_limit g) in
+      record { reads = h.0; fails = since start s t (Some f) p.fails (same h.2); stops = h.1 }
+
+  pub none_failed : (s t : JournalStream R) → (source_of t.reader).ghost_name ≡ (source_of s.reader).ghost_name
+      → FailsIf (is_open (stage_of s.reader)) (failures (source_of s.reader).now) (failures (source_of t.reader).now) (Ok t.held) → FailsSince unread failures s t None
+  none_failed s t e h = record { same_source = e; failed_as = never (is_open (stage_of s.reader)) h }
+    where
+      never : (b : Bool) → FailsIf {T = Option Fact} b (failures (source_of s.reader).now) (failures (source_of t.reader).now) (Ok t.held)
+          → failures (source_of t.reader).now ≡ failures (source_of s.reader).now
+      never true h = h
+      never false h = h
+
+  pub one_failed : (s t : JournalStream R) (f : ReadFault) → (source_of t.reader).ghost_name ≡ (source_of s.reader).ghost_name
+      → FailsIf {T = Option Fact} (is_open (stage_of s.reader)) (failures (source_of s.reader).now) (failures (source_of t.reader).now) (Err f) → IsTrue (is_open (stage_of s.reader))
+      → FailsSince unread failures s t (Some f)
+  one_failed s t f e h o = record {
+    same_source = e;
+    failed_as = subst (λ (b : Bool). FailsIf {T = Option Fact} b (failures (source_of s.reader).now) (failures (source_of t.reader).now) (Err f)) o h;
+  }
+
+  -- one whose reader and held entry are lent
+  module _ (s t : LentStream R) (same : SameLoans s t) where
+    loans : (start : LentStream R) → SameLoans start s → SameLoans start t
+    loans start h = record { same_reader = same.same_reader ∙ h.same_reader; same_held = same.same_held ∙ h.same_held }
+
+    pub lent_goes_on : GoesOn b (lent s) (lent t) → GoesOn (lent_behaviour unread failures) s t
+    lent_goes_on h = record {
+      gave = λ start F p.
+          let g = h.gave (lent start) F p.0 in
+          record {
+            passes = (g.passes, loans start p.1);
+            reads = g.reads;
+            reads_held = g.reads_held;
+            fails = (g.fails, loans start p.1);
+            rising = g.rising;
+            sized = g.sized;
+            ended = g.ended;
+            known = g.known;
+          };
+      fewer = h.fewer;
+    }
+
+    pub lent_stops : (f : ReadFault) → StopsAt b (lent s) (lent t) f → StopsAt (lent_behaviour unread failures) s t f
+    lent_stops f h = λ start F p.
+        let g = h (lent start) F p.0 in
+        record { reads = g.reads; fails = (g.fails, loans start p.1); stops = g.stops }

@@ -1,0 +1,91 @@
+-- A stream of two kinds goes on as its kind does.
+use Rattle.std.proofs.Common.{◌≡◌, ℕ, List, [], ◌∷◌, ◌++◌, Result, Ok, Err, sym, ap}
+use Rattle.std.specs.Prelude.{OnOk, IfErr, slice_get, slice_set}
+use Rattle.flute_parts.specs.declared.fact.Fact.{Fact}
+use Rattle.flute_journal.specs.declared.fault.ReadFault.{ReadFault}
+use Rattle.flute_journal.specs.declared.either.Either.{Either}
+use Rattle.flute_journal.specs.declared.either.Either.TheVariants.{First, Second}
+use Rattle.flute_journal.specs.Streams.{Behaviour, Gave, GoesOn, Stopped, StopsAt, Advances, option_list}
+use Rattle.flute_journal.specs.Eithers.{either_behaviour}
+
+module _ {A B : Type 0} (a : Behaviour A) (b : Behaviour B) where
+  abbrev e : Behaviour (Either A B)
+  e = either_behaviour a b
+
+  gave_first : (s t : A) (F : List Fact) → Gave a s t F → Gave e (First s) (First t) F
+  gave_first s t F g = record {
+    passes = g.passes;
+    reads = g.reads;
+    reads_held = g.reads_held;
+    fails = g.fails;
+    rising = g.rising;
+    sized = g.sized;
+    ended = g.ended;
+    known = g.known;
+  }
+
+  gave_second : (s t : B) (F : List Fact) → Gave b s t F → Gave e (Second s) (Second t) F
+  gave_second s t F g = record {
+    passes = g.passes;
+    reads = g.reads;
+    reads_held = g.reads_held;
+    fails = g.fails;
+    rising = g.rising;
+    sized = g.sized;
+    ended = g.ended;
+    known = g.known;
+  }
+
+  first_on : (x y : A) → GoesOn a x y → (start : Either A B) (F : List Fact) → e.passes start (First x) F → Gave e start (First y) (F ++ option_list (a.held x))
+  first_on x y h (First s) F p = gave_first s y (F ++ option_list (a.held x)) (h.gave s F p)
+  first_on x y h (Second s) F p = absurd p
+
+  second_on : (x y : B) → GoesOn b x y → (start : Either A B) (F : List Fact) → e.passes start (Second x) F → Gave e start (Second y) (F ++ option_list (b.held x))
+  second_on x y h (First s) F p = absurd p
+  second_on x y h (Second s) F p = gave_second s y (F ++ option_list (b.held x)) (h.gave s F p)
+
+  first_stops : (x y : A) (f : ReadFault) → StopsAt a x y f → (start : Either A B) (F : List Fact) → e.passes start (First x) F → Stopped e start (First y) (F ++ option_list (a.held x)) f
+  first_stops x y f h (First s) F p = let r = h s F p in record { reads = r.reads; fails = r.fails; stops = r.stops }
+  first_stops x y f h (Second s) F p = absurd p
+
+  second_stops : (x y : B) (f : ReadFault) → StopsAt b x y f → (start : Either A B) (F : List Fact) → e.passes start (Second x) F → Stopped e start (Second y) (F ++ option_list (b.held x)) f
+  second_stops x y f h (First s) F p = absurd p
+  second_stops x y f h (Second s) F p = let r = h s F p in record { reads = r.reads; fails = r.fails; stops = r.stops }
+
+  pub first_advances : (x y : A) (z : B) (n : ℕ) (r : Result (Unit {0}) ReadFault) → n ≡ 0 → OnOk r (GoesOn a x y) → IfErr r (StopsAt a x y)
+      → Advances e n (First x ∷ Second z ∷ []) (First y ∷ Second z ∷ []) r
+  first_advances x y z n (Ok t) h g s = record {
+    before = First x;
+    after = First y;
+    was = ap (slice_get (First x ∷ Second z ∷ [])) h;
+    now = sym (ap (λ k. slice_set (First x ∷ Second z ∷ []) k (First y)) h);
+    goes_on = record { gave = first_on x y g; fewer = g.fewer };
+    stops = tt;
+  }
+  first_advances x y z n (Err f) h g s = record {
+    before = First x;
+    after = First y;
+    was = ap (slice_get (First x ∷ Second z ∷ [])) h;
+    now = sym (ap (λ k. slice_set (First x ∷ Second z ∷ []) k (First y)) h);
+    goes_on = tt;
+    stops = first_stops x y f s;
+  }
+
+  pub second_advances : (x y : B) (z : A) (n : ℕ) (r : Result (Unit {0}) ReadFault) → n ≡ 1 → OnOk r (GoesOn b x y) → IfErr r (StopsAt b x y)
+      → Advances e n (First z ∷ Second x ∷ []) (First z ∷ Second y ∷ []) r
+  second_advances x y z n (Ok t) h g s = record {
+    before = Second x;
+    after = Second y;
+    was = ap (slice_get (First z ∷ Second x ∷ [])) h;
+    now = sym (ap (λ k. slice_set (First z ∷ Second x ∷ []) k (Second y)) h);
+    goes_on = record { gave = second_on x y g; fewer = g.fewer };
+    stops = tt;
+  }
+  second_advances x y z n (Err f) h g s = record {
+    before = Second x;
+    after = Second y;
+    was = ap (slice_get (First z ∷ Second x ∷ [])) h;
+    now = sym (ap (λ k. slice_set (First z ∷ Second x ∷ []) k (Second y)) h);
+    goes_on = tt;
+    stops = second_stops x y f s;
+  }

@@ -1,0 +1,350 @@
+-- Where a merge of streams stands between two turns, and how it ends.
+use Rattle.std.proofs.Common.{◌≡◌, ℕ, ◌+◌, ◌<◌, ◌≤◌, ◌^◌, true, false, Bool, List, [], ◌∷◌, ◌++◌, length, Option, Some, None, IsTrue, refl, sym, ap, ◌∙◌, subst, inl, inr, append_assoc, append-nil, arith}
+use Rattle.std.proofs.lemmas.List.{length-append}
+use Rattle.std.proofs.lemmas.Bool.{cases_Bool}
+use Rattle.std.specs.Prelude.{IfSome}
+use Rattle.std.specs.List.{AllByRecursion}
+use Rattle.std.specs.Io.KnownBytes.{Appends}
+use Rattle.std.proofs.KnownBytes.{Appends-nil, Appends-trans}
+use Rattle.flute_parts.specs.Order.{same_address}
+use Rattle.flute_parts.specs.Addresses.{address}
+use Rattle.flute_parts.specs.Facts.{SameMembers, fact_at, Same, Below, IsRising}
+use Rattle.flute_parts.specs.declared.tally.Tally.{Tally}
+use Rattle.flute_parts.specs.Limits.{Over}
+use Rattle.flute_parts.specs.Tally.{Counts}
+use Rattle.flute_parts.proofs.Named.{Over-below}
+use Rattle.flute_parts.specs.Equality.{address_same}
+use Rattle.flute_parts.specs.Devices.{AppendsPart}
+use Rattle.flute_parts.specs.declared.address.Address.{Address}
+use Rattle.flute_parts.specs.declared.fact.Fact.{Fact}
+use Rattle.flute_parts.proofs.Facts.{fact_at-nil, fact_at-elsewhere, Same-itself, Same-sym, Same-trans, Same-append, Same-members, Same-twice, Below-from_Same}
+use Rattle.flute_parts.proofs.Rising.{rising_unique}
+use Rattle.flute_store.specs.Walk.{IsSized}
+use Rattle.flute_journal.specs.declared.streams_fault.InputFault.{InputFault}
+use Rattle.flute_journal.specs.declared.streams_fault.StreamsFault.{StreamsFault}
+use Rattle.flute_journal.specs.declared.streams_fault.StreamsFault.TheVariants.{Input, Write}
+use Rattle.flute_journal.specs.Format.{header, entry, end, spelling}
+use Rattle.flute_journal.specs.Faults.{is_after}
+use Rattle.flute_journal.specs.Journal.{Journal, IsFact, last_of, Collects}
+use Rattle.flute_journal.specs.Merges.{front}
+use Rattle.flute_journal.specs.Streams.{Behaviour, option_list, heads, most_of}
+use Rattle.flute_journal.specs.Lowest.{Lowest}
+use Rattle.flute_journal.specs.Advances.{GoOnAt, StopsIn, AreNew}
+use Rattle.flute_journal.specs.StreamMerges.{all_of, IsWithinLimits, IsCounted, NoneFails, OneFails, MergedAll, AppendsPartOf, ReadsAhead, NamesInput}
+use Rattle.flute_journal.proofs.Orders.{rising-rises, rises-rising}
+use Rattle.flute_journal.proofs.Existence.{all_more, rises_more}
+use Rattle.flute_journal.proofs.LowestFacts.{all_append}
+use Rattle.flute_journal.proofs.MergeBytes.{front-snoc, written-begins, written-snoc}
+use Rattle.flute_journal.proofs.MergeRising.{last_of-snoc}
+use Rattle.flute_journal.proofs.StreamTurns.{Run, starts, nows, givens, givens_at, Went, Stays, Turned, turn, new_runs, new_starts, new_nows, new_givens, new_stays, went_stays, given_same, given_length, fewer_all, taken_at, taken_same, taken_some, lowest-sized}
+use Rattle.flute_journal.proofs.StreamStops.{reads_now, none_fails, StoppedAll, stopped_all, short_header, short_entry, short_end, told_whole}
+
+-- what holds of the addresses of all facts holds where one stands
+named_all : (P : Address → Type 0) (fs : List Fact) (a : Address) (g : Fact) → AllByRecursion (λ f. P (address f)) fs → fact_at fs a ≡ Some g → P a
+named_all P [] a g h e = absurd (no_some g (sym (fact_at-nil a) ∙ e))
+  where
+    no_some : (g : Fact) → None ≡ Some g → ⊥
+    no_some g e = cc
+named_all P (f ∷ fs) a g h e = elim (cases_Bool (same_address (address f) a)) [
+  | inl s ↦ subst P (address_same (address f) a s) h.0
+  | inr s ↦ named_all P fs a g h.1 (sym (fact_at-elsewhere f fs a s) ∙ e)
+]
+
+all_held : (P : Fact → Type 0) (o : Option Fact) → IfSome o P → AllByRecursion P (option_list o)
+all_held P None h = tt
+all_held P (Some f) h = (h, tt)
+
+-- The limits.
+
+below_more : (F G : List Fact) → Below F (F ++ G)
+below_more F G = subst (λ (l : List Fact). Same l (F ++ G)) (append_assoc F F G) (Same-append (F ++ F) F G G (Same-twice F) (Same-itself G))
+
+pub over_more : (F : List Fact) (f : Fact) (s o y : ℕ) → Over F s o y → Over (F ++ f ∷ []) s o y
+over_more F f s o y h = Over-below F (F ++ f ∷ []) s o y (below_more F (f ∷ [])) h
+
+pub counted : (s o y : ℕ) (tally : Tally s o y) (b : Bool) (F : List Fact) → (b ≡ true → Counts s o y F tally) → (b ≡ false → Over F s o y) → IsCounted s o y tally b F
+counted s o y tally true F h k = h refl
+counted s o y tally false F h k = k refl
+
+within_same : (s o y : ℕ) (tally : Tally s o y) (within : Bool) (F G : List Fact) → Same F G → IsCounted s o y tally within G → IsWithinLimits s o y F within
+within_same s o y tally true F G e h = λ k. h.within (Over-below F G s o y (Below-from_Same F G e) k)
+within_same s o y tally false F G e h = Over-below G F s o y (Below-from_Same G F (Same-sym F G e)) h
+
+module _ {S : Type 0} (b : Behaviour S) where
+  -- what is said of a merge that stopped
+  pub record Stopping (old new : List S) (w w' : Option (List ℕ)) (fault : StreamsFault) : Type 0 where
+    pub short : AppendsPartOf b old w w'
+    pub reads_ahead : ReadsAhead b old new w w' fault
+    pub names : NamesInput b old fault
+
+  none_collects : Collects [] []
+  none_collects = record { valid = tt; rising = tt; same = Same-itself [] }
+
+  -- before the header
+
+  pub stop_first : (old new : List S) (w : Option (List ℕ)) (fault : InputFault) → AreNew b old → StopsIn b None old new fault
+      → Stopping old new w w (Input fault) × OneFails b fault.number fault.fault old new
+  stop_first old new w fault n h =
+      let s : StoppedAll b None fault.number fault.fault (new_runs b old) new =
+      stopped_all b None fault.number fault.fault (new_runs b old) new (new_stays b old n) (subst (λ (l : List S). StopsIn b None l new fault) (sym (new_nows b old)) h) in
+      subst (λ (l : List S). Stopping l new w w (Input fault) × OneFails b fault.number fault.fault l new) (new_starts b old) (
+        record {
+          short = short_header b (starts (new_runs b old)) w w [] header (Appends-nil w) refl;
+          reads_ahead = record {
+            read = givens_at b None (new_runs b old);
+            reads = s.reads;
+            entries = [];
+            collects = subst (λ (l : List Fact). Collects l []) (sym (new_givens b old)) none_collects;
+            bytes = [];
+            appended = Appends-nil w;
+            begins = refl;
+          };
+          names = s.names;
+        },
+        s.fails,
+      )
+
+  -- What the streams gave was appended, joined, and what they hold stands above it.
+  pub record State (Also : List Fact → Type 0) (old now : List S) (w w' : Option (List ℕ)) (count : ℕ) : Type 0 where
+    pub runs : List (Run S)
+    pub starts_are : starts runs ≡ old
+    pub nows_are : nows runs ≡ now
+    pub joined : List Fact
+    pub went : AllByRecursion (Went b (last_of None joined)) runs
+    pub collects : Collects (all_of (givens runs)) joined
+    pub few : length joined ≤ length (all_of (givens runs))
+    pub appended : Appends w w' (front joined)
+    pub count_is : count ≡ length joined
+    pub also : Also joined
+
+  first_turn : (old now : List S) → AreNew b old → GoOnAt b None old now → Turned b None (new_runs b old) now
+  first_turn old now n h = turn b None (new_runs b old) now (new_stays b old n) (subst (λ (l : List S). GoOnAt b None l now) (sym (new_nows b old)) h)
+
+  pub state-start : (Also : List Fact → Type 0) (old now : List S) (w w' : Option (List ℕ)) → Also [] → AreNew b old → GoOnAt b None old now → Appends w w' header → State Also old now w w' 0
+  state-start Also old now w w' also n h a =
+      let t = first_turn old now n h in
+      let e : all_of (givens t.next) ≡ [] = ap all_of t.givens_are ∙ new_givens b old in
+      record {
+        runs = t.next;
+        starts_are = t.starts_are ∙ new_starts b old;
+        nows_are = t.nows_are;
+        joined = [];
+        went = t.went;
+        collects = subst (λ (l : List Fact). Collects l []) (sym e) none_collects;
+        few = omega arith;
+        appended = a;
+        count_is = refl;
+        also = also;
+      }
+
+  stays : (place : Option Address) (runs : List (Run S)) → AllByRecursion (Went b place) runs → AllByRecursion (Stays b place) runs
+  stays place [] w = tt
+  stays place (r ∷ runs) w =
+      let g = w.0.gave in
+      ((record { passes = g.passes; reads = g.reads; reads_held = g.reads_held; fails = g.fails; fewer = w.0.fewer }, λ e. w.0), stays place runs w.1)
+
+  -- a failed write of the header
+  pub stop_header : (old now : List S) (w w' : Option (List ℕ)) → AreNew b old → GoOnAt b None old now → AppendsPart w w' header → Stopping old now w w' Write × NoneFails b old now
+  stop_header old now w w' n h a =
+      let t = first_turn old now n h in
+      let e : all_of (givens t.next) ≡ [] = ap all_of t.givens_are ∙ new_givens b old in
+      let s = stays None t.next t.went in
+      let P : List S → Type 0 = λ l. Stopping l now w w' Write × NoneFails b l now in
+      let Q : List S → Type 0 = λ l. Stopping (starts t.next) l w w' Write × NoneFails b (starts t.next) l in
+      subst P (t.starts_are ∙ new_starts b old) (subst Q t.nows_are (
+        record {
+          short = short_header b (starts t.next) w w' a.part a.rest a.appended (sym a.whole);
+          reads_ahead = record {
+            read = givens t.next;
+            reads = reads_now b None t.next s;
+            entries = [];
+            collects = subst (λ (l : List Fact). Collects l []) (sym e) none_collects;
+            bytes = a.part;
+            appended = a.appended;
+            begins = (a.part, refl);
+          };
+          names = tt;
+        },
+        none_fails b None t.next s,
+      ))
+
+  heads-above : (place : Option Address) (runs : List (Run S)) → AllByRecursion (Went b place) runs → AllByRecursion (λ f. IsTrue (is_after place (address f))) (heads b (nows runs))
+  heads-above place [] w = tt
+  heads-above place (r ∷ runs) w =
+      all_append (λ f. IsTrue (is_after place (address f))) (option_list (b.held r.now)) (heads b (nows runs))
+      (all_held (λ f. IsTrue (is_after place (address f))) (b.held r.now) w.0.above) (heads-above place runs w.1)
+
+  heads-sized : (place : Option Address) (runs : List (Run S)) → AllByRecursion (Went b place) runs → AllByRecursion IsSized (heads b (nows runs))
+  heads-sized place [] w = tt
+  heads-sized place (r ∷ runs) w =
+      all_append IsSized (option_list (b.held r.now)) (heads b (nows runs)) (all_held IsSized (b.held r.now) w.0.gave.sized) (heads-sized place runs w.1)
+
+  -- as many facts as were given, and may still be
+  most-given : (place : Option Address) (runs : List (Run S)) → AllByRecursion (Went b place) runs → most_of b (nows runs) + length (all_of (givens runs)) ≤ most_of b (starts runs)
+  most-given place [] w = omega arith
+  most-given place (r ∷ runs) w = omega (arith, w.0.fewer, most-given place runs w.1, length-append r.given (all_of (givens runs)))
+
+  module _ {Also : List Fact → Type 0} {old now : List S} {w w' : Option (List ℕ)} {count : ℕ} (state : State Also old now w w' count) where
+    abbrev last : Option Address
+    last = last_of None state.joined
+
+    pub few-joined : count ≤ most_of b old
+    few-joined = let e = ap (most_of b) state.starts_are in omega (arith, e, state.count_is, state.few, most-given last state.runs state.went)
+
+    pub no_failure : NoneFails b old now
+    no_failure =
+        subst (λ (l : List S). NoneFails b l now) state.starts_are
+        (subst (λ (l : List S). NoneFails b (starts state.runs) l) state.nows_are (none_fails b last state.runs (stays last state.runs state.went)))
+
+    module _ (g : Fact) (lowest : Lowest (heads b now) g) where
+      low : Lowest (heads b (nows state.runs)) g
+      low = subst (λ (l : List S). Lowest (heads b l) g) (sym state.nows_are) lowest
+
+      pub sized-lowest : IsSized g
+      sized-lowest = lowest-sized (heads b (nows state.runs)) g (heads-sized last state.runs state.went) low
+
+      above : IsTrue (is_after last (address g))
+      above = named_all (λ a. IsTrue (is_after last a)) (heads b (nows state.runs)) (address g) g (heads-above last state.runs state.went) low.comes
+
+      rising_next : IsRising (state.joined ++ g ∷ [])
+      rising_next = rises-rising (state.joined ++ g ∷ []) (rises_more None state.joined g (rising-rises state.joined state.collects.rising) above)
+
+      next_stays : AllByRecursion (Stays b (Some (address g))) state.runs
+      next_stays = went_stays b last (address g) state.runs state.went low.first
+
+      module _ (valid : IsFact g) where
+        collects_next : Collects (all_of (givens_at b (Some (address g)) state.runs)) (state.joined ++ g ∷ [])
+        collects_next = record {
+          valid = all_more state.joined g state.collects.valid valid;
+          rising = rising_next;
+          same = Same-trans (all_of (givens_at b (Some (address g)) state.runs)) (all_of (givens state.runs) ++ taken_at (address g) (heads b (nows state.runs))) (state.joined ++ g ∷ [])
+              (given_same b (address g) state.runs)
+              (Same-append (all_of (givens state.runs)) state.joined (taken_at (address g) (heads b (nows state.runs))) (g ∷ []) state.collects.same
+              (taken_same (heads b (nows state.runs)) g low.comes));
+        }
+
+        next_bytes : (w'' : Option (List ℕ)) → Appends w' w'' (entry g) → Appends w w'' (front (state.joined ++ g ∷ []))
+        next_bytes w'' a = subst (Appends w w'') (front-snoc state.joined g) (Appends-trans w w' w'' (front state.joined) (entry g) state.appended a)
+
+        pub state-turn : (Next : List Fact → Type 0) (new : List S) (w'' : Option (List ℕ)) → ((F : List Fact) → IsRising (F ++ g ∷ []) → Also F → Next (F ++ g ∷ []))
+            → Appends w' w'' (entry g) → GoOnAt b (Some (address g)) now new → State Next old new w w'' (count + 1)
+        state-turn Next new w'' k a h =
+            let t = turn b (Some (address g)) state.runs new next_stays (subst (λ (l : List S). GoOnAt b (Some (address g)) l new) (sym state.nows_are) h) in
+            record {
+              runs = t.next;
+              starts_are = t.starts_are ∙ state.starts_are;
+              nows_are = t.nows_are;
+              joined = state.joined ++ g ∷ [];
+              went = subst (λ p. AllByRecursion (Went b p) t.next) (sym (last_of-snoc None state.joined g)) t.went;
+              collects = subst (λ l. Collects (all_of l) (state.joined ++ g ∷ [])) (sym t.givens_are) collects_next;
+              few =
+                  let l = ap (λ x. length (all_of x)) t.givens_are in
+                  omega (arith, l, state.few, given_length b (address g) state.runs, taken_some (heads b (nows state.runs)) g low.comes, length-append state.joined (g ∷ []));
+              appended = next_bytes w'' a;
+              count_is = omega (arith, state.count_is, length-append state.joined (g ∷ []));
+              also = k state.joined rising_next state.also;
+            }
+
+        pub stop_entry : (w'' : Option (List ℕ)) → AppendsPart w' w'' (entry g) → Stopping old now w w'' Write
+        stop_entry w'' a =
+            let bs : List ℕ = front state.joined ++ a.part in
+            let appended : Appends w w'' bs = Appends-trans w w' w'' (front state.joined) a.part state.appended a.appended in
+            let P : List S → Type 0 = λ l. Stopping l now w w'' Write in
+            let Q : List S → Type 0 = λ l. Stopping (starts state.runs) l w w'' Write in
+            subst P state.starts_are (subst Q state.nows_are (record {
+              short = short_entry b last state.runs state.joined g w w'' bs a.rest state.went low.first collects_next appended
+                  (append_assoc (front state.joined) a.part a.rest ∙ ap (λ (l : List ℕ). front state.joined ++ l) (sym a.whole) ∙ front-snoc state.joined g);
+              reads_ahead = record {
+                read = givens state.runs;
+                reads = reads_now b last state.runs (stays last state.runs state.went);
+                entries = state.joined;
+                collects = state.collects;
+                bytes = bs;
+                appended = appended;
+                begins = written-begins state.joined a.part;
+              };
+              names = tt;
+            }))
+
+        pub stop_input : (new : List S) (w'' : Option (List ℕ)) (fault : InputFault) → Appends w' w'' (entry g) → StopsIn b (Some (address g)) now new fault
+            → Stopping old new w w'' (Input fault) × OneFails b fault.number fault.fault old new
+        stop_input new w'' fault a h =
+            let s : StoppedAll b (Some (address g)) fault.number fault.fault state.runs new =
+            stopped_all b (Some (address g)) fault.number fault.fault state.runs new next_stays (subst (λ (l : List S). StopsIn b (Some (address g)) l new fault) (sym state.nows_are) h) in
+            let bs : List ℕ = front (state.joined ++ g ∷ []) in
+            subst (λ (l : List S). Stopping l new w w'' (Input fault) × OneFails b fault.number fault.fault l new) state.starts_are (
+              record {
+                short = short_entry b last state.runs state.joined g w w'' bs [] state.went low.first collects_next (next_bytes w'' a) (append-nil bs);
+                reads_ahead = record {
+                  read = givens_at b (Some (address g)) state.runs;
+                  reads = s.reads;
+                  entries = state.joined ++ g ∷ [];
+                  collects = collects_next;
+                  bytes = bs;
+                  appended = next_bytes w'' a;
+                  begins = written-snoc state.joined g;
+                };
+                names = s.names;
+              },
+              s.fails,
+            )
+
+      pub turn-falls : (new : List S) → GoOnAt b (Some (address g)) now new → most_of b new < most_of b now
+      turn-falls new h = omega (arith, fewer_all b (address g) now new h, taken_some (heads b now) g lowest.comes)
+
+    -- Behind the last turn.
+
+    module _ (none : heads b now ≡ []) where
+      none_left : heads b (nows state.runs) ≡ []
+      none_left = ap (heads b) state.nows_are ∙ none
+
+      pub stop_end : (w'' : Option (List ℕ)) → AppendsPart w' w'' (end count) → Stopping old now w w'' Write
+      stop_end w'' a =
+          let bs : List ℕ = front state.joined ++ a.part in
+          let appended : Appends w w'' bs = Appends-trans w w' w'' (front state.joined) a.part state.appended a.appended in
+          let P : List S → Type 0 = λ l. Stopping l now w w'' Write in
+          let Q : List S → Type 0 = λ l. Stopping (starts state.runs) l w w'' Write in
+          subst P state.starts_are (subst Q state.nows_are (record {
+            short = short_end b last state.runs state.joined w w'' bs a.rest state.went none_left state.collects appended a.cut
+                (append_assoc (front state.joined) a.part a.rest ∙ ap (λ (l : List ℕ). front state.joined ++ l) (sym a.whole) ∙ ap (λ n. front state.joined ++ end n) state.count_is);
+            reads_ahead = record {
+              read = givens state.runs;
+              reads = reads_now b last state.runs (stays last state.runs state.went);
+              entries = state.joined;
+              collects = state.collects;
+              bytes = bs;
+              appended = appended;
+              begins = written-begins state.joined a.part;
+            };
+            names = tt;
+          }))
+
+      whole : (w'' : Option (List ℕ)) → Appends w' w'' (end count) → Appends w w'' (spelling state.joined)
+      whole w'' a = subst (λ n. Appends w w'' (front state.joined ++ end n)) state.count_is (Appends-trans w w' w'' (front state.joined) (end count) state.appended a)
+
+      -- the journal of other facts with the same members is the one that was written
+      others_too : (w'' : Option (List ℕ)) → Appends w' w'' (end count) → (others : List Fact) → SameMembers (all_of (givens state.runs)) others → (bytes : List ℕ) → Journal bytes others
+          → Appends w w'' bytes
+      others_too w'' a others m bytes j =
+          let given = all_of (givens state.runs) in
+          let same : Same j.0 state.joined =
+          Same-trans j.0 others state.joined (Same-sym others j.0 j.1.same)
+          (Same-trans others given state.joined (Same-sym given others (Same-members given others m)) state.collects.same) in
+          let one : j.0 ≡ state.joined = rising_unique j.0 state.joined j.1.rising state.collects.rising same in
+          subst (Appends w w'') (sym (j.3 ∙ ap spelling one)) (whole w'' a)
+
+  pub finished : (s o y : ℕ) (tally : Tally s o y) (within : Bool) {old now : List S} {w w' : Option (List ℕ)} {count : ℕ} → (state : State (IsCounted s o y tally within) old now w w' count)
+      → (w'' : Option (List ℕ)) → most_of b old < 2 ^ 64 → heads b now ≡ [] → Appends w' w'' (end count)
+      → MergedAll b old s o y (record { entries = count; within = within }) w w''
+  finished s o y tally within {old} {now} {w} {w'} {count} state w'' few none a =
+      subst (λ (l : List S). MergedAll b l s o y (record { entries = count; within = within }) w w'') state.starts_are (record {
+        told = givens state.runs;
+        tell = told_whole b (last_of None state.joined) state.runs state.went (none_left state none);
+        entries = state.joined;
+        collects = state.collects;
+        few = omega (arith, few, state.count_is, few-joined state);
+        count = state.count_is;
+        limits = within_same s o y tally within (all_of (givens state.runs)) state.joined state.collects.same state.also;
+        appended = whole state none w'' a;
+        as_others = others_too state none w'' a;
+      })

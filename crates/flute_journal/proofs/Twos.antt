@@ -1,0 +1,118 @@
+-- What a merge of two streams of journals comes to, said of the journals.
+use Rattle.std.proofs.Common.{◌≡◌, ℕ, zero, suc, List, [], ◌∷◌, ◌++◌, Option, Some, None, Err, sym, ap, ◌∙◌, subst, append-nil}
+use Rattle.std.specs.Prelude.{slice_get}
+use Rattle.flute_parts.specs.Facts.{Same}
+use Rattle.flute_parts.specs.declared.fact.Fact.{Fact}
+use Rattle.flute_parts.proofs.Facts.{Same-sym, Same-trans, Same-append}
+use Rattle.flute_journal.specs.declared.fault.ReadFault.{ReadFault}
+use Rattle.flute_journal.specs.declared.streams_fault.StreamsFault.{StreamsFault}
+use Rattle.flute_journal.specs.declared.streams_fault.StreamsFault.TheVariants.{Input, Write}
+use Rattle.flute_journal.specs.declared.journal_stream.LentStream.{LentStream}
+use Rattle.flute_journal.specs.declared.either.Either.{Either}
+use Rattle.flute_journal.specs.declared.either.Either.TheVariants.{First, Second}
+use Rattle.flute_journal.specs.Journal.{Collects, Journal}
+use Rattle.flute_journal.specs.Whole.{HasFault}
+use Rattle.flute_journal.specs.Merges.{StopsShort, KeepsUp, BeginsWith, NamesFault, MergeGives, written_up_to}
+use Rattle.flute_journal.specs.Readers.{limit_of}
+use Rattle.flute_journal.specs.Streams.{Behaviour}
+use Rattle.flute_journal.specs.Eithers.{either_behaviour}
+use Rattle.flute_journal.specs.JournalStreams.{unread_of, lent, lent_behaviour}
+use Rattle.flute_journal.specs.StreamMerges.{all_of, EachSince, AppendsPartOf, ReadsAhead, BeginWith, NamesInput}
+use Rattle.flute_journal.specs.Pairs.{fault_at, fault_of_two}
+
+-- journals of both inputs and of all their facts have entries that come to the same
+same_entries : (es fs ws F G : List Fact) → Same F es → Same G fs → Same (F ++ G) ws → Same (es ++ fs) ws
+same_entries es fs ws F G p q r = Same-trans (es ++ fs) (F ++ G) ws (Same-append es F fs G (Same-sym F es p) (Same-sym G fs q)) r
+
+begins : (k : ℕ) (f : ReadFault) (bytes : List ℕ) (entries : List Fact) → bytes ≡ written_up_to entries → BeginsWith (fault_at k f) bytes entries
+begins zero f bytes entries e = e
+begins (suc k) f bytes entries e = e
+
+begins_two : (fault : StreamsFault) (bytes : List ℕ) (entries : List Fact) → BeginWith fault bytes entries → BeginsWith (fault_of_two fault) bytes entries
+begins_two Write bytes entries h = h
+begins_two (Input fault) bytes entries h = begins fault.number fault.fault bytes entries h
+
+module _ {A B : Type 0} (ua : A → Option (List ℕ)) (fa : A → ℕ) (ub : B → Option (List ℕ)) (fb : B → ℕ) where
+  abbrev both : Behaviour (Either (LentStream A) (LentStream B))
+  both = either_behaviour (lent_behaviour ua fa) (lent_behaviour ub fb)
+
+  module _ (s s' : LentStream A) (t t' : LentStream B) where
+    abbrev u : Option (List ℕ)
+    u = unread_of ua fa (lent s)
+
+    abbrev v : Option (List ℕ)
+    v = unread_of ub fb (lent t)
+
+    abbrev inputs : List (Either (LentStream A) (LentStream B))
+    inputs = First s ∷ Second t ∷ []
+
+    abbrev after : List (Either (LentStream A) (LentStream B))
+    after = First s' ∷ Second t' ∷ []
+
+    -- the facts of both
+    record Two (P Q : List Fact → Type 0) (told : List (List Fact)) : Type 0 where
+      pub first : List Fact
+      pub second : List Fact
+      pub of_first : P first
+      pub of_second : Q second
+      pub all : all_of told ≡ first ++ second
+
+    since_two : (P : Either (LentStream A) (LentStream B) → Either (LentStream A) (LentStream B) → List Fact → Type 0) (told : List (List Fact)) → EachSince P inputs after told
+        → Two (P (First s) (First s')) (P (Second t) (Second t')) told
+    since_two P [] h = absurd h
+    since_two P (F ∷ []) h = absurd h.1
+    since_two P (F ∷ G ∷ []) h = record { first = F; second = G; of_first = h.0; of_second = h.1.0; all = ap (λ (l : List Fact). F ++ l) (append-nil G) }
+    since_two P (F ∷ G ∷ H ∷ told) h = absurd h.1.1
+
+    journal_of : (es fs : List Fact) (whole : List ℕ) (F G : List Fact) → Same F es → Same G fs → Journal whole (F ++ G) → Journal whole (es ++ (fs ++ []))
+    journal_of es fs whole F G p q j = (
+      j.0,
+      record {
+        valid = j.1.valid;
+        rising = j.1.rising;
+        same = subst (λ (l : List Fact). Same (es ++ l) j.0) (sym (append-nil fs)) (same_entries es fs j.0 F G p q j.1.same);
+      },
+      j.2,
+      j.3,
+    )
+
+    short_two : (w w' : Option (List ℕ)) → AppendsPartOf both inputs w w' → StopsShort u v w w'
+    short_two w w' p = record {
+      bytes = p.bytes;
+      appended = p.appended;
+      no_journal = p.no_journal;
+      prefix = λ xs ys whole F G x y j k n.
+          p.prefix (j.0 ∷ k.0 ∷ [])
+          (record { bytes_are = x ∙ ap Some j.3; valid = j.1.valid; rising = j.1.rising }, (record { bytes_are = y ∙ ap Some k.3; valid = k.1.valid; rising = k.1.rising }, tt)) whole (journal_of j.0 k.0 whole F G j.1.same k.1.same n);
+    }
+
+    keeps_two : (w w' : Option (List ℕ)) (fault : StreamsFault) → ReadsAhead both inputs after w w' fault → KeepsUp u (unread_of ua fa (lent s')) v (unread_of ub fb (lent t')) w w' (fault_of_two fault)
+    keeps_two w w' fault r =
+        let two = since_two both.reads r.read r.reads in
+        record {
+          first_entries = two.first;
+          second_entries = two.second;
+          first_read = two.of_first;
+          second_read = two.of_second;
+          entries = r.entries;
+          collects = subst (λ (l : List Fact). Collects l r.entries) two.all r.collects;
+          bytes = r.bytes;
+          appended = r.appended;
+          begins = begins_two fault r.bytes r.entries r.begins;
+        }
+
+    names_at : (k : ℕ) (f : ReadFault) → limit_of t.reader.now ≡ limit_of s.reader.now → (x : Either (LentStream A) (LentStream B)) → slice_get inputs k ≡ Some x → both.stops x f
+        → NamesFault (limit_of s.reader.now) u v (fault_at k f)
+    names_at zero f same x e h = let q : x ≡ First s = (let p = e in cc) in subst (λ z. both.stops z f) q h
+    names_at (suc zero) f same x e h =
+        let q : x ≡ Second t = (let p = e in cc) in
+        subst (λ n. HasFault n v f) same (subst (λ z. both.stops z f) q h)
+    names_at (suc (suc k)) f same x e h = absurd (let p : None ≡ Some x = e in cc)
+
+    names_two : (fault : StreamsFault) → limit_of t.reader.now ≡ limit_of s.reader.now → NamesInput both inputs fault → NamesFault (limit_of s.reader.now) u v (fault_of_two fault)
+    names_two Write same n = tt
+    names_two (Input fault) same n = names_at fault.number fault.fault same n.0 n.1 n.2
+
+    pub stopped_two : (w w' : Option (List ℕ)) (fault : StreamsFault) → limit_of t.reader.now ≡ limit_of s.reader.now → AppendsPartOf both inputs w w' → ReadsAhead both inputs after w w' fault
+        → NamesInput both inputs fault → MergeGives (limit_of s.reader.now) u (unread_of ua fa (lent s')) v (unread_of ub fb (lent t')) w w' (Err (fault_of_two fault))
+    stopped_two w w' fault same p r n = record { short = short_two w w' p; keeps_up = keeps_two w w' fault r; names = names_two fault same n }

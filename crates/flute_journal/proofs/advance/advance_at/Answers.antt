@@ -1,0 +1,65 @@
+-- One stream more, by whether it stands there.
+use Rattle.std.proofs.Common.{◌≡◌, ◌+◌, length, refl, subst, sym, ap, ◌∙◌, arith}
+use Rattle.flute_journal.specs.Streams.{place_of}
+use Rattle.flute_journal.proofs.GoingOn.{WentSoFar, item_at, none_went, one_stays, one_goes, one_stops, all_went, same_length}
+use Rattle.flute_journal.proofs.advance.advance_at.Goals.{then-is_at+in_default, else-is_at}
+use Rattle.flute_journal.proofs.advance.advance_at.Goals as goal
+
+pub loop-number-init : goal.loop-number-init
+loop-number-init g c = record { went = none_went g.G.Stream.Stream.behaviour c.args.place (g.G.Streams.streams c.args.streams.now); all = sym c.count-number-end.ensures; names = refl }
+
+pub head-requires : goal.head-requires
+head-requires g c = omega (arith, c.loop-number.invariant.all, c.loop-number-test.true)
+
+pub advance-requires : goal.advance-requires
+advance-requires g c = omega (arith, c.loop-number.invariant.all, c.loop-number-test.true)
+
+pub returns-in-Err-clause-stops : goal.returns-in-Err-clause-stops
+returns-in-Err-clause-stops g c =
+    let a = c.in-Err.ensures.advances in
+    one_stops g.G.Stream.Stream.behaviour c.args.place c.loop-number.number (g.G.Streams.streams c.args.streams.now) (g.G.Streams.streams c.loop-number.streams)
+    (g.G.Streams.streams c.advance.new.self) c.in-Err.fault c.loop-number.invariant.went a
+    (sym (ap place_of (c.head.ensures a.before a.was)) ∙ c.is_at.ensures.at c.if-is_at.true)
+
+pub returns-in-Err-clause-names : goal.returns-in-Err-clause-names
+returns-in-Err-clause-names g c = c.advance.ensures.names ∙ c.loop-number.invariant.names
+
+pub loop-number-preserved : goal.loop-number-preserved
+loop-number-preserved g c =
+    let old = g.G.Streams.streams c.args.streams.now in
+    let now = g.G.Streams.streams c.loop-number.streams in
+    let k = c.loop-number.number in
+    let x = item_at now k (omega (arith, c.loop-number.invariant.all, c.loop-number-test.true)) in
+    elim c.if-is_at.branch [
+      | then-is_at+in_default w ↦
+          let a = w.in_default.ensures.advances in
+          let P = λ (s : g.row.G.Denot). WentSoFar g.G.Stream.Stream.behaviour c.args.place (k + 1) old (g.G.Streams.streams s) in
+          let Q = λ (s : g.row.G.Denot). length (g.G.Streams.streams s) ≡ c.count-number-end.result in
+          let N = λ (s : g.row.G.Denot). g.G.Streams.names s ≡ g.G.Streams.names c.args.streams.now in
+          record {
+            went = subst P (sym w.streams-is)
+                (one_goes g.G.Stream.Stream.behaviour c.args.place k old now (g.G.Streams.streams w.advance.new.self) c.loop-number.invariant.went a
+                (sym (ap place_of (c.head.ensures a.before a.was)) ∙ c.is_at.ensures.at w.if-is_at.true));
+            all = subst Q (sym w.streams-is) (same_length g.G.Stream.Stream.behaviour k now (g.G.Streams.streams w.advance.new.self) a ∙ c.loop-number.invariant.all);
+            names = subst N (sym w.streams-is) (w.advance.ensures.names ∙ c.loop-number.invariant.names);
+          }
+      | else-is_at w ↦
+          let P = λ (s : g.row.G.Denot). WentSoFar g.G.Stream.Stream.behaviour c.args.place (k + 1) old (g.G.Streams.streams s) in
+          let Q = λ (s : g.row.G.Denot). length (g.G.Streams.streams s) ≡ c.count-number-end.result in
+          let N = λ (s : g.row.G.Denot). g.G.Streams.names s ≡ g.G.Streams.names c.args.streams.now in
+          record {
+            went = subst P (sym w.streams-is)
+                (one_stays g.G.Stream.Stream.behaviour c.args.place k old now x.0 c.loop-number.invariant.went x.1
+                (λ e. c.is_at.ensures.elsewhere w.if-is_at.false (ap place_of (c.head.ensures x.0 x.1) ∙ e)));
+            all = subst Q (sym w.streams-is) c.loop-number.invariant.all;
+            names = subst N (sym w.streams-is) c.loop-number.invariant.names;
+          }
+    ]
+
+pub returns-clause-go_on : goal.returns-clause-go_on
+returns-clause-go_on g c =
+    all_went g.G.Stream.Stream.behaviour c.args.place c.loop-number.number (g.G.Streams.streams c.args.streams.now) (g.G.Streams.streams c.loop-number.streams)
+    c.loop-number.invariant.went (omega (arith, c.loop-number.invariant.all, c.loop-number-test.false))
+
+pub returns-clause-names : goal.returns-clause-names
+returns-clause-names g c = c.loop-number.invariant.names

@@ -1,0 +1,99 @@
+-- A journal that is read as a stream.
+use Rattle.std.specs.Prelude.{◌≡◌, ℕ, ◌+◌, ◌-◌, List, ◌++◌, length, Option, Some, None, IfSome, Err}
+use Rattle.std.specs.List.{AllByRecursion}
+use Rattle.flute_parts.specs.Facts.{IsRising}
+use Rattle.flute_parts.specs.declared.fact.Fact.{Fact}
+use Rattle.flute_journal.specs.declared.fault.ReadFault.{ReadFault}
+use Rattle.flute_journal.specs.declared.reader.Stage.{Stage}
+use Rattle.flute_journal.specs.declared.reader.Stage.TheVariants.{Header, Entries, Ended, Failed}
+use Rattle.flute_journal.specs.declared.journal_stream.JournalStream.{JournalStream}
+use Rattle.flute_journal.specs.declared.journal_stream.LentStream.{LentStream}
+use Rattle.flute_journal.specs.Format.{spelling}
+use Rattle.flute_journal.specs.Input.{Fails}
+use Rattle.flute_journal.specs.Journal.{IsFact, AreEntries, IsJournalWithin}
+use Rattle.flute_journal.specs.Readers.{source_of, limit_of, stage_of}
+use Rattle.flute_journal.specs.SoFar.{Sofar}
+use Rattle.flute_journal.specs.Whole.{HasFault}
+use Rattle.flute_journal.specs.Merges.{ReadsBehind}
+use Rattle.flute_journal.specs.Streams.{Behaviour, option_list}
+
+-- a journal of these entries was read to its end
+pub record ReadWhole (limit : ℕ) (first now : Option (List ℕ)) (entries : List Fact) : Type 0 where
+  pub are_entries : AreEntries limit entries
+  pub whole : IfSome first (λ bytes. IsJournalWithin limit bytes entries)
+  pub read : ReadsBehind first now entries
+
+-- by where its reader stands: these entries were given, and one more is held
+abbrev pub ReadAt : ℕ → Option (List ℕ) → Option (List ℕ) → Stage → List Fact → Option Fact → Type 0
+ReadAt limit first now Ended entries held = ReadWhole limit first now entries × (held ≡ None)
+ReadAt limit first now (Failed fault) entries held = ⊥
+ReadAt limit first now stage entries held = Sofar limit first now stage (entries ++ option_list held)
+
+-- as many entries as may still be read
+abbrev pub room : ℕ → Stage → ℕ
+room limit Header = limit
+room limit (Entries count last) = limit - count
+room limit Ended = 0
+room limit (Failed fault) = 0
+
+-- how often a source failed that gave this fault, or none
+abbrev pub FailsBy : ℕ → ℕ → Option ReadFault → Type 0
+FailsBy old new None = new ≡ old
+FailsBy old new (Some fault) = Fails {T = Option Fact} old new (Err fault)
+
+-- the bytes are the journal of these entries
+pub record IsJournalOfAll (bytes : Option (List ℕ)) (entries : List Fact) : Type 0 where
+  pub bytes_are : bytes ≡ Some (spelling entries)
+  pub valid : AllByRecursion IsFact entries
+  pub rising : IsRising entries
+
+module _ {R : Type 0} (unread : R → Option (List ℕ)) (failures : R → ℕ) where
+  abbrev pub unread_of : JournalStream R → Option (List ℕ)
+  unread_of s = unread (source_of s.reader).now
+
+  -- it is read of the same source, which failed since as the fault tells
+  pub record FailsSince (start now : JournalStream R) (fault : Option ReadFault) : Type 0 where
+    pub same_source : (source_of now.reader).ghost_name ≡ (source_of start.reader).ghost_name
+    pub failed_as : FailsBy (failures (source_of start.reader).now) (failures (source_of now.reader).now) fault
+
+  -- since it was new, these entries were given
+  pub record PassesSince (start now : JournalStream R) (entries : List Fact) : Type 0 where
+    pub fails : FailsSince start now None
+    pub same_limit : limit_of now.reader ≡ limit_of start.reader
+    pub read : ReadAt (limit_of start.reader) (unread_of start) (unread_of now) (stage_of now.reader) entries now.held
+
+  abbrev pub journal_behaviour : Behaviour (JournalStream R)
+  journal_behaviour = record {
+    held = λ s. s.held;
+    most = λ s. length (option_list s.held) + room (limit_of s.reader) (stage_of s.reader);
+    tells = λ s F. IfSome (unread_of s) (λ bytes. IsJournalWithin (limit_of s.reader) bytes F);
+    knows = λ s F. IsJournalOfAll (unread_of s) F;
+    stops = λ s fault. HasFault (limit_of s.reader) (unread_of s) fault;
+    passes = PassesSince;
+    reads = λ start now F. ReadsBehind (unread_of start) (unread_of now) F;
+    fails = FailsSince;
+  }
+
+-- a journal whose reader and held entry are lent
+abbrev pub lent : {R : Type 0} → LentStream R → JournalStream R
+lent s = record { reader = s.reader.now; held = s.held.now }
+
+-- they are lent by the same references
+pub record SameLoans {R : Type 0} (start now : LentStream R) : Type 0 where
+  pub same_reader : now.reader.ghost_name ≡ start.reader.ghost_name
+  pub same_held : now.held.ghost_name ≡ start.held.ghost_name
+
+module _ {R : Type 0} (unread : R → Option (List ℕ)) (failures : R → ℕ) where
+  abbrev pub lent_behaviour : Behaviour (LentStream R)
+  lent_behaviour =
+      let b = journal_behaviour unread failures in
+      record {
+        held = λ s. s.held.now;
+        most = λ s. b.most (lent s);
+        tells = λ s F. b.tells (lent s) F;
+        knows = λ s F. b.knows (lent s) F;
+        stops = λ s fault. b.stops (lent s) fault;
+        passes = λ start now F. b.passes (lent start) (lent now) F × SameLoans start now;
+        reads = λ start now F. b.reads (lent start) (lent now) F;
+        fails = λ start now fault. b.fails (lent start) (lent now) fault × SameLoans start now;
+      }

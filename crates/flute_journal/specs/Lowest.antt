@@ -1,0 +1,22 @@
+-- What facts come to at the lowest of their addresses.
+use Rattle.std.specs.Prelude.{◌≡◌, ◌≢◌, List, [], Option, Some, None}
+use Rattle.std.specs.List.{AllByRecursion}
+use Rattle.std.specs.declared.cmp.Ordering.TheVariants.{Greater}
+use Rattle.flute_parts.specs.Order.{address_cmp}
+use Rattle.flute_parts.specs.Addresses.{address}
+use Rattle.flute_parts.specs.Facts.{fact_at}
+use Rattle.flute_parts.specs.declared.address.Address.{Address}
+use Rattle.flute_parts.specs.declared.fact.Fact.{Fact}
+
+-- the fact does not stand before that address
+abbrev pub IsNotBefore : Address → Fact → Type 0
+IsNotBefore a f = address_cmp a (address f) ≢ Greater
+
+-- the facts come to g at its address, and none of them stands before that
+pub record Lowest (facts : List Fact) (g : Fact) : Type 0 where
+  pub comes : fact_at facts (address g) ≡ Some g
+  pub first : AllByRecursion (IsNotBefore (address g)) facts
+
+abbrev pub IsLowest : List Fact → Option Fact → Type 0
+IsLowest facts None = facts ≡ []
+IsLowest facts (Some g) = Lowest facts g

@@ -1,0 +1,107 @@
+-- What a merge of streams comes to.
+use Rattle.std.specs.Prelude.{◌≡◌, ℕ, zero, suc, Bool, true, false, ◌<◌, ◌^◌, List, [], ◌∷◌, ◌++◌, length, Option, Some, None, ⊤, Result, Err, slice_get}
+use Rattle.std.specs.Io.KnownBytes.{Appends}
+use Rattle.flute_parts.specs.declared.fact.Fact.{Fact}
+use Rattle.flute_parts.specs.declared.tally.Tally.{Tally}
+use Rattle.flute_parts.specs.Facts.{SameMembers}
+use Rattle.flute_parts.specs.Limits.{Over}
+use Rattle.flute_parts.specs.Tally.{Counts}
+use Rattle.flute_journal.specs.declared.fault.ReadFault.{ReadFault}
+use Rattle.flute_journal.specs.declared.merging.Joined.{Joined}
+use Rattle.flute_journal.specs.declared.streams_fault.StreamsFault.{StreamsFault}
+use Rattle.flute_journal.specs.declared.streams_fault.StreamsFault.TheVariants.{Input, Write}
+use Rattle.flute_journal.specs.Format.{spelling}
+use Rattle.flute_journal.specs.Journal.{Collects, Journal}
+use Rattle.flute_journal.specs.Merges.{IsProperPrefix, written_up_to}
+use Rattle.flute_journal.specs.Streams.{Behaviour}
+
+-- all the facts of lists of facts
+abbrev pub all_of : List (List Fact) → List Fact
+all_of [] = []
+all_of (F ∷ given) = F ++ all_of given
+
+-- how often the sink failed in a merge that gave this
+abbrev pub streams_sink_failed : {T : Type 0} → Result T StreamsFault → ℕ
+streams_sink_failed (Err Write) = 1
+streams_sink_failed _ = 0
+
+-- whether facts are within the limits of a store: so many sessions, objects of each and symbols of each of these
+abbrev pub IsWithinLimits : ℕ → ℕ → ℕ → List Fact → Bool → Type 0
+IsWithinLimits s o y F true = ¬ Over F s o y
+IsWithinLimits s o y F false = Over F s o y
+
+-- the facts are counted, or over the limits
+abbrev pub IsCounted : (s o y : ℕ) → Tally s o y → Bool → List Fact → Type 0
+IsCounted s o y tally true F = Counts s o y F tally
+IsCounted s o y tally false F = Over F s o y
+
+-- of each input this holds with the facts at its place
+abbrev pub Each : {S : Type 0} → (S → List Fact → Type 0) → List S → List (List Fact) → Type 0
+Each P [] [] = Unit {0}
+Each P (s ∷ streams) (F ∷ given) = P s F × Each P streams given
+Each P _ _ = ⊥
+
+-- of each input, as it was and as it is, this holds with the facts at its place
+abbrev pub EachSince : {S : Type 0} → (S → S → List Fact → Type 0) → List S → List S → List (List Fact) → Type 0
+EachSince P [] [] [] = Unit {0}
+EachSince P (s ∷ old) (t ∷ new) (F ∷ given) = P s t F × EachSince P old new given
+EachSince P _ _ _ = ⊥
+
+-- what bytes of a merge that stopped begin with: they are no more than that where an input stopped
+abbrev pub BeginWith : StreamsFault → List ℕ → List Fact → Type 0
+BeginWith Write bytes entries = (rest : List ℕ) × (bytes ≡ written_up_to entries ++ rest)
+BeginWith (Input fault) bytes entries = bytes ≡ written_up_to entries
+
+module _ {S : Type 0} (b : Behaviour S) where
+  -- no input failed
+  abbrev pub NoneFails : List S → List S → Type 0
+  NoneFails [] [] = Unit {0}
+  NoneFails (s ∷ old) (t ∷ new) = b.fails s t None × NoneFails old new
+  NoneFails _ _ = ⊥
+
+  -- the input with this number failed as the fault tells, and no other
+  abbrev pub OneFails : ℕ → ReadFault → List S → List S → Type 0
+  OneFails zero fault (s ∷ old) (t ∷ new) = b.fails s t (Some fault) × NoneFails old new
+  OneFails (suc number) fault (s ∷ old) (t ∷ new) = b.fails s t None × OneFails number fault old new
+  OneFails _ fault _ _ = ⊥
+
+  abbrev pub FailAs : {T : Type 0} → Result T StreamsFault → List S → List S → Type 0
+  FailAs (Err (Input fault)) old new = OneFails fault.number fault.fault old new
+  FailAs _ old new = NoneFails old new
+
+  -- Each input tells some facts. The journal of all of them was appended, with so many entries, and it was told whether they are
+  -- within the limits of a store. Whatever other facts have the same members, in any order, however often and however grouped: that is
+  -- their journal too.
+  pub record MergedAll (inputs : List S) (s o y : ℕ) (joined : Joined) (old new : Option (List ℕ)) : Type 0 where
+    pub told : List (List Fact)
+    pub tell : Each b.tells inputs told
+    pub entries : List Fact
+    pub collects : Collects (all_of told) entries
+    pub few : length entries < 2 ^ 64
+    pub count : joined.entries ≡ length entries
+    pub limits : IsWithinLimits s o y (all_of told) joined.within
+    pub appended : Appends old new (spelling entries)
+    pub as_others : (others : List Fact) → SameMembers (all_of told) others → (bytes : List ℕ) → Journal bytes others → Appends old new bytes
+
+  -- What was appended is the journal of nothing. Where all the facts of each input are known, it is a first part of the journal of all of
+  -- them, and not all of it.
+  pub record AppendsPartOf (inputs : List S) (old new : Option (List ℕ)) : Type 0 where
+    pub bytes : List ℕ
+    pub appended : Appends old new bytes
+    pub no_journal : (facts : List Fact) → Journal bytes facts → ⊥
+    pub prefix : (known : List (List Fact)) → Each b.knows inputs known → (whole : List ℕ) → Journal whole (all_of known) → IsProperPrefix bytes whole
+
+  -- Of each input these facts were read, and at most one more; what they come to was appended.
+  pub record ReadsAhead (inputs now : List S) (old new : Option (List ℕ)) (fault : StreamsFault) : Type 0 where
+    pub read : List (List Fact)
+    pub reads : EachSince b.reads inputs now read
+    pub entries : List Fact
+    pub collects : Collects (all_of read) entries
+    pub bytes : List ℕ
+    pub appended : Appends old new bytes
+    pub begins : BeginWith fault bytes entries
+
+  -- the fault that is told of an input is its own
+  abbrev pub NamesInput : List S → StreamsFault → Type 0
+  NamesInput inputs (Input fault) = (s : S) × (slice_get inputs fault.number ≡ Some s) × b.stops s fault.fault
+  NamesInput inputs Write = ⊤

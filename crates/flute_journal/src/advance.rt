@@ -1,0 +1,46 @@
+//! Streams that go on together.
+ghost use Rattle.std.specs.Prelude.{◌≡◌, ◌≢◌, true, false, OnOk, IfErr};
+ghost use Rattle.flute_journal.specs.Streams.{fact_in, place_of};
+ghost use Rattle.flute_journal.specs.Advances.{GoOnAt, StopsIn};
+
+use crate::streams::Streams;
+use crate::streams_fault::InputFault;
+use flute_parts::{Address, FactRef};
+use std::alloc::Global;
+
+/// Advances each stream that holds a fact at this address, or each that holds none, in their order.
+///
+/// # Errors
+///
+/// The fault of the first that stopped. Those behind it are as they were.
+pub fn advance_at<G: Streams>(
+    alloc: Global,
+    streams: &mut G,
+    place: Option<Address>,
+) -> Result<(), InputFault>
+    ensures go_on { OnOk result (GoOnAt G.Stream.behaviour place (G.streams streams.old) (G.streams streams.new)) }
+    ensures stops { IfErr result (StopsIn G.Stream.behaviour place (G.streams streams.old) (G.streams streams.new)) }
+    ensures names { G.names streams.new ≡ G.names streams.old }
+{
+    for number in 0..streams.count() {
+        if is_at(&streams.head(number), &place) {
+            if let Err(fault) = streams.advance(number, alloc) {
+                return Err(InputFault { number, fault });
+            }
+        }
+    }
+    Ok(())
+}
+
+// Whether a stream that holds this stands at this address, or holds nothing where there is none.
+#[inline(always)]
+fn is_at(head: &Option<FactRef<'_>>, place: &Option<Address>) -> bool
+    ensures at { result ≡ true → place_of (fact_in head.now) ≡ place.now }
+    ensures elsewhere { result ≡ false → place_of (fact_in head.now) ≢ place.now }
+{
+    match (head, place) {
+        (Some(fact), Some(address)) => fact.address() == *address,
+        (None, None) => true,
+        _ => false,
+    }
+}

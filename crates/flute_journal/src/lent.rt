@@ -1,0 +1,73 @@
+//! Entries that lie whole in the buffer of their source, looked at where they lie.
+ghost use Rattle.std.specs.Prelude.{◌≡◌, IfOk, IfErr, IfSome};
+ghost use Rattle.flute_journal.specs.Lent.{BeginsWithEntry, TakesEntry};
+ghost use Rattle.flute_journal.specs.declared.fault.ReadFault.TheVariants.{OutOfMemory};
+
+use crate::fault::ReadFault;
+use crate::format::{Fixed, Kind, parse};
+use flute_parts::{Address, Bytes, Fact, Source};
+
+/// Takes the next entry, if it lies whole in the source's buffer and has no fault. The entry before it is at `last`.
+///
+/// None where it does not, or has a fault, and nothing was taken then. `OutOfMemory` is the only fault. The bytes of a
+/// symbol are put into the memory of `spare`, as far as it suffices.
+#[inline(always)]
+pub fn take_entry<R: Source>(
+    source: &mut R,
+    last: &Option<Address>,
+    spare: Vec<u8>,
+) -> Result<Option<Fact>, ReadFault>
+    ensures takes { TakesEntry last.now (R.unread source.old) (R.unread source.new) result }
+    ensures failures { R.failures source.new ≡ R.failures source.old }
+{
+    match entry_in(source.buffer(), last, spare) {
+        Ok(Some((fact, size))) => {
+            source.consume(size);
+            Ok(Some(fact))
+        }
+        Ok(None) => Ok(None),
+        Err(fault) => Err(fault),
+    }
+}
+
+// The entry at the front of the bytes, and how many bytes it has. None where it is not whole or has a fault.
+#[inline(always)]
+fn entry_in(
+    bytes: &[u8],
+    last: &Option<Address>,
+    spare: Vec<u8>,
+) -> Result<Option<(Fact, usize)>, ReadFault>
+    ensures begins { IfOk result (λ o. IfSome o (λ p. BeginsWithEntry last.now bytes.now p.0 p.1)) }
+    ensures only { IfErr result (λ f. f ≡ OutOfMemory) }
+{
+    let Some((&first, rest)) = bytes.split_first() else {
+        return Ok(None);
+    };
+    let Some(kind) = Kind::from_byte(first) else {
+        return Ok(None);
+    };
+    let Some((fixed, rest)) = rest.split_at_checked(kind.fixed_size()) else {
+        return Ok(None);
+    };
+    match parse(kind, *last, fixed) {
+        Ok(Fixed::Whole(fact)) => Ok(Some((fact, 1 + fixed.len()))),
+        Ok(Fixed::Symbol { key, id, length }) => {
+            let Some(symbol) = rest.get(..usize::from(length)) else {
+                return Ok(None);
+            };
+            let mut octets = spare;
+            octets.clear();
+            if octets.extend_from_slice(symbol).is_err() {
+                return Err(ReadFault::OutOfMemory);
+            }
+            match Bytes::from_vec(octets) {
+                Ok(bytes) => Ok(Some((
+                    Fact::Symbol { key, id, bytes },
+                    1 + fixed.len() + symbol.len(),
+                ))),
+                Err(_) => Err(ReadFault::OutOfMemory),
+            }
+        }
+        Err(_) => Ok(None),
+    }
+}

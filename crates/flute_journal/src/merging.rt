@@ -1,0 +1,118 @@
+//! Any number of streams, merged into one journal.
+ghost use Rattle.std.specs.Prelude.{◌≡◌, ◌+◌, ◌<◌, ◌^◌, List, [], ◌∷◌, ◌++◌, IfOk, IfErr};
+ghost use Rattle.flute_parts.specs.declared.fact.Fact.{Fact};
+ghost use Rattle.flute_parts.specs.Addresses.{address};
+ghost use Rattle.flute_parts.specs.Facts.{IsRising};
+ghost use Rattle.flute_journal.specs.Streams.{most_of};
+ghost use Rattle.flute_journal.specs.Advances.{AreNew};
+ghost use Rattle.flute_journal.specs.StreamMerges.{MergedAll, AppendsPartOf, ReadsAhead, NamesInput, FailAs, IsCounted, streams_sink_failed};
+
+use crate::advance::advance_at;
+use crate::lowest::lowest_held;
+use crate::stream::Stream;
+use crate::streams::{Slice, Streams};
+use crate::streams_fault::StreamsFault;
+use crate::writing::{write_end, write_entry, write_header};
+use flute_parts::{Address, Sink, Tally};
+use std::alloc::Global;
+
+/// The journal that a merge wrote.
+#[derive(Clone, Copy, Debug)]
+pub struct Joined {
+    /// The number of its entries.
+    pub entries: u64,
+    /// Whether its facts are within the limits of a store.
+    pub within: bool,
+}
+
+/// Appends the journal of all that streams tell, and answers the number of its entries, and whether they are within the
+/// limits: at most `SESSIONS` sessions, `OBJECTS` objects of each and `SYMBOLS` symbols of each of these.
+///
+/// The first fact of each stream is taken, and then the header written. Each turn writes what the streams hold at the
+/// lowest address, and then advances each of those that stood there, in their order. It takes no memory of its own.
+///
+/// # Errors
+///
+/// - `Input` with the number of the stream, from 0, and the fault that it met;
+/// - `Write` where the sink failed.
+///
+/// What was appended is then no journal of anything. Where each stream would have come to its end, it is a first part of
+/// the journal of all, and not all of it; after `Input` it is whole entries behind the header, or nothing. Of each
+/// stream, the facts were read that stand at addresses whose entry was appended whole, and at most one more.
+pub fn merge_all<const SESSIONS: u32, const OBJECTS: u32, const SYMBOLS: u32, G: Streams, W: Sink>(
+    alloc: Global,
+    streams: &mut G,
+    sink: &mut W,
+) -> Result<Joined, StreamsFault>
+    requires new { AreNew G.Stream.behaviour (G.streams streams.old) }
+    requires few { most_of G.Stream.behaviour (G.streams streams.old) < 2 ^ 64 }
+    ensures merged { IfOk result (λ joined. MergedAll G.Stream.behaviour (G.streams streams.old) SESSIONS OBJECTS SYMBOLS joined
+        (W.written sink.old) (W.written sink.new)) }
+    ensures short { IfErr result (λ _. AppendsPartOf G.Stream.behaviour (G.streams streams.old) (W.written sink.old) (W.written sink.new)) }
+    ensures reads_ahead { IfErr result (ReadsAhead G.Stream.behaviour (G.streams streams.old) (G.streams streams.new)
+        (W.written sink.old) (W.written sink.new)) }
+    ensures fault { IfErr result (NamesInput G.Stream.behaviour (G.streams streams.old)) }
+    ensures failures { FailAs G.Stream.behaviour result (G.streams streams.old) (G.streams streams.new) }
+    ensures sink_failures { W.failures sink.new ≡ W.failures sink.old + streams_sink_failed result }
+    ensures names { G.names streams.new ≡ G.names streams.old }
+{
+    if let Err(fault) = advance_at(alloc, streams, None) {
+        return Err(StreamsFault::Input(fault));
+    }
+    if write_header(sink).is_err() {
+        return Err(StreamsFault::Write);
+    }
+    let mut tally = Tally::<SESSIONS, OBJECTS, SYMBOLS>::new();
+    let mut within = true;
+    let mut entries = 0;
+    while let Some(fact) = lowest_held(streams) {
+        if write_entry(sink, &fact).is_err() {
+            return Err(StreamsFault::Write);
+        }
+        let place = fact.address();
+        within = count_place(&mut tally, within, &place);
+        if let Err(fault) = advance_at(alloc, streams, Some(place)) {
+            return Err(StreamsFault::Input(fault));
+        }
+        entries += 1;
+    }
+    if write_end(sink, entries).is_err() {
+        return Err(StreamsFault::Write);
+    }
+    Ok(Joined { entries, within })
+}
+
+/// Merges the streams of a slice, as `merge_all` does.
+///
+/// # Errors
+///
+/// Those of `merge_all`, and what it says of them.
+pub fn merge_slice<const SESSIONS: u32, const OBJECTS: u32, const SYMBOLS: u32, S: Stream, W: Sink>(
+    alloc: Global,
+    streams: &mut [S],
+    sink: &mut W,
+) -> Result<Joined, StreamsFault>
+    requires new { AreNew S.behaviour streams.old }
+    requires few { most_of S.behaviour streams.old < 2 ^ 64 }
+    ensures merged { IfOk result (λ joined. MergedAll S.behaviour streams.old SESSIONS OBJECTS SYMBOLS joined (W.written sink.old) (W.written sink.new)) }
+    ensures short { IfErr result (λ _. AppendsPartOf S.behaviour streams.old (W.written sink.old) (W.written sink.new)) }
+    ensures reads_ahead { IfErr result (ReadsAhead S.behaviour streams.old streams.new (W.written sink.old) (W.written sink.new)) }
+    ensures fault { IfErr result (NamesInput S.behaviour streams.old) }
+    ensures failures { FailAs S.behaviour result streams.old streams.new }
+    ensures sink_failures { W.failures sink.new ≡ W.failures sink.old + streams_sink_failed result }
+{
+    let mut all = Slice::new(&mut *streams);
+    merge_all::<SESSIONS, OBJECTS, SYMBOLS, _, _>(alloc, &mut all, sink)
+}
+
+// Counts one address more, unless a limit was passed before, and answers whether none is passed.
+fn count_place<const SESSIONS: u32, const OBJECTS: u32, const SYMBOLS: u32>(
+    tally: &mut Tally<SESSIONS, OBJECTS, SYMBOLS>,
+    within: bool,
+    place: &Address,
+) -> bool
+    ensures { (F : List Fact) (f : Fact) → address f ≡ place.now → IsRising (F ++ f ∷ [])
+        → IsCounted SESSIONS OBJECTS SYMBOLS tally.old within F → IsCounted SESSIONS OBJECTS SYMBOLS tally.new result (F ++ f ∷ []) }
+{
+    if within { tally.count(place) } else { false }
+}

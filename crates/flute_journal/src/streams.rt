@@ -1,0 +1,122 @@
+//! Streams that are read together.
+ghost use Rattle.std.specs.Prelude.{◌≡◌, ◌<◌, List, Some, length, slice_get};
+ghost use Rattle.std.specs.Borrow.{GName};
+ghost use Rattle.flute_journal.specs.Streams.{Advances, fact_in};
+
+use crate::either::Either;
+use crate::fault::ReadFault;
+use crate::stream::Stream;
+use flute_parts::FactRef;
+use std::alloc::Global;
+
+/// Streams with numbers, from 0.
+pub trait Streams {
+    type Stream: Stream;
+
+    ghost streams: { Self → List Self.Stream };
+
+    // The references that they stand behind.
+    ghost names: { Self → List GName };
+
+    /// How many there are.
+    fn count(&self) -> usize
+        ensures { result ≡ length (streams self.now) };
+
+    /// What the stream with this number holds.
+    fn head(&self, number: usize) -> Option<FactRef<'_>>
+        requires { number < length (streams self.now) }
+        ensures { (s : Self.Stream) → slice_get (streams self.now) number ≡ Some s
+            → fact_in result ≡ Self.Stream.behaviour.held s };
+
+    /// Advances the stream with this number.
+    ///
+    /// # Errors
+    ///
+    /// The fault of the stream.
+    fn advance(&mut self, number: usize, alloc: Global) -> Result<(), ReadFault>
+        requires { number < length (streams self.old) }
+        ensures advances { Advances Self.Stream.behaviour number (streams self.old) (streams self.new) result }
+        ensures names { names self.new ≡ names self.old };
+}
+
+/// The streams of a slice.
+#[derive(Drop)]
+pub struct Slice<'a, S> {
+    streams: &'a mut [S],
+}
+
+impl<'a, S: Stream> Slice<'a, S> {
+    pub fn new(streams: &'a mut [S]) -> Slice<'a, S>
+        ensures same { result.streams.ghost_name ≡ streams.entry.ghost_name }
+        ensures now { result.streams.now ≡ streams.old }
+    {
+        Slice { streams }
+    }
+}
+
+impl<'a, S: Stream> Streams for Slice<'a, S> {
+    ghost use Rattle.std.specs.Prelude.{[], ◌∷◌};
+
+    type Stream = S;
+
+    ghost streams = { λ s. s.streams.now };
+
+    ghost names = { λ s. s.streams.ghost_name ∷ [] };
+
+    #[inline(always)]
+    fn count(&self) -> usize {
+        self.streams.len()
+    }
+
+    #[inline(always)]
+    fn head(&self, number: usize) -> Option<FactRef<'_>> {
+        let streams = &*self.streams;
+        streams[number].head()
+    }
+
+    #[inline(always)]
+    fn advance(&mut self, number: usize, alloc: Global) -> Result<(), ReadFault> {
+        self.streams[number].advance(alloc)
+    }
+}
+
+/// Two streams, of whatever kinds.
+#[derive(Drop)]
+pub struct Pair<'a, 'b, A, B> {
+    pub first: &'a mut A,
+    pub second: &'b mut B,
+}
+
+impl<'a, 'b, A: Stream, B: Stream> Streams for Pair<'a, 'b, A, B> {
+    ghost use Rattle.std.specs.Prelude.{[], ◌∷◌};
+    ghost use Rattle.flute_journal.specs.declared.either.Either.TheVariants.{First, Second};
+
+    type Stream = Either<A, B>;
+
+    ghost streams = { λ p. First p.first.now ∷ Second p.second.now ∷ [] };
+
+    ghost names = { λ p. p.first.ghost_name ∷ p.second.ghost_name ∷ [] };
+
+    #[inline(always)]
+    fn count(&self) -> usize {
+        2
+    }
+
+    #[inline(always)]
+    fn head(&self, number: usize) -> Option<FactRef<'_>> {
+        if number == 0 {
+            self.first.head()
+        } else {
+            self.second.head()
+        }
+    }
+
+    #[inline(always)]
+    fn advance(&mut self, number: usize, alloc: Global) -> Result<(), ReadFault> {
+        if number == 0 {
+            self.first.advance(alloc)
+        } else {
+            self.second.advance(alloc)
+        }
+    }
+}

@@ -1,0 +1,120 @@
+-- Two entries of a folder: the name OUT, and the file beside it whose bytes are to become OUT's.
+use Rattle.std.specs.Prelude.{◌≡◌, ◌⊎◌, ℕ, Bool, true, false, List, [], ◌∷◌, ◌++◌, Option, Some, None, is_some, IsSome, option_map, Contains, ⊤}
+use Rattle.flute_output.specs.declared.folder.Name.{Name}
+use Rattle.flute_output.specs.declared.folder.Name.TheVariants.{Out, Beside}
+
+-- the bytes of a file, and whether the disk has all of them
+pub record Stored : Type 0 where
+  pub bytes : List ℕ
+  pub on_disk : Bool
+
+-- with these bytes behind
+abbrev pub longer : List ℕ → Stored → Stored
+longer more file = record { bytes = file.bytes ++ more; on_disk = false }
+
+abbrev pub safe : Stored → Stored
+safe file = record file { on_disk = true }
+
+pub record Entries : Type 0 where
+  -- the file named OUT, where there is one
+  pub out : Option Stored
+  -- the file beside it, where there is one
+  pub beside : Option Stored
+  -- bytes that were taken and are not in the file beside it yet
+  pub waiting : List ℕ
+  -- what OUT was when the file beside it was made
+  pub found : Option Stored
+  -- what OUT has been since then and is no more, the oldest first
+  pub past : List (Option Stored)
+
+-- R of what was and what is, where the folder tells; it tells always or never
+abbrev pub Leads : (Entries → Entries → Type 0) → Option Entries → Option Entries → Type 0
+Leads R None None = ⊤
+Leads R None (Some new) = ⊥
+Leads R (Some old) None = ⊥
+Leads R (Some old) (Some new) = R old new
+
+-- f was done, where the folder tells
+abbrev pub Does : (Entries → Entries) → Option Entries → Option Entries → Type 0
+Does f old new = Leads (λ before after. after ≡ f before) old new
+
+-- an empty file is made beside OUT, also where one stood there
+abbrev pub created : Entries → Entries
+created e = record e { beside = Some (record { bytes = []; on_disk = false }); waiting = []; found = e.out; past = [] }
+
+-- bytes are taken for the file beside OUT
+abbrev pub takes : List ℕ → Entries → Entries
+takes bytes e = record e { waiting = e.waiting ++ bytes }
+
+-- the file beside OUT gets what waits
+abbrev pub flushed : Entries → Entries
+flushed e = record e { beside = option_map (longer e.waiting) e.beside; waiting = [] }
+
+-- the disk has all of the file beside OUT
+abbrev pub synced : Entries → Entries
+synced e = record e { beside = option_map safe e.beside }
+
+-- the file beside OUT is named OUT, in one step
+abbrev pub put_in_place : Entries → Entries
+put_in_place e = record e { out = e.beside; beside = None; past = e.past ++ e.out ∷ [] }
+
+-- one of the two entries is removed
+abbrev pub removes : Name → Entries → Entries
+removes Out e = record e { out = None; past = e.past ++ e.out ∷ [] }
+removes Beside e = record e { beside = None; waiting = [] }
+
+abbrev pub bytes_of : Option Stored → List ℕ
+bytes_of None = []
+bytes_of (Some s) = s.bytes
+
+-- the bytes that were taken since the file beside OUT was made
+abbrev pub taken : Entries → List ℕ
+taken e = bytes_of e.beside ++ e.waiting
+
+-- what OUT is to become: these bytes, which the disk has first where OUT was there
+abbrev pub whole : Entries → List ℕ → Stored
+whole e bytes = record { bytes = bytes; on_disk = is_some e.found }
+
+-- OUT is what it was, and was nothing else in between
+pub record OutStays (old new : Entries) : Type 0 where
+  pub out : new.out ≡ old.out
+  pub found : new.found ≡ old.found
+  pub past : new.past ≡ old.past
+
+-- OUT is what it was when the file beside it was made, and has been nothing else since
+abbrev pub IsUntouched : Entries → Type 0
+IsUntouched e = (e.out ≡ e.found) × (e.past ≡ [])
+
+-- an output that is being written: there is the file beside OUT, and OUT is untouched
+pub record IsWriting (e : Entries) : Type 0 where
+  pub beside : IsSome e.beside
+  pub untouched : IsUntouched e
+
+-- OUT is untouched
+pub record OutIsAsFound (old new : Entries) : Type 0 where
+  pub out : new.out ≡ old.found
+  pub found : new.found ≡ old.found
+  pub past : new.past ≡ []
+
+-- OUT went from what it was when the file beside it was made to this file, and has been nothing else since
+pub record OutBecomes (file : Stored) (old new : Entries) : Type 0 where
+  pub out : new.out ≡ Some file
+  pub found : new.found ≡ old.found
+  pub past : new.past ≡ old.found ∷ []
+
+-- what OUT was at some moment since the file beside it was made: whoever looked, or stopped the program between two calls,
+-- found this
+abbrev pub WasOut : Entries → Option Stored → Type 0
+WasOut e file = (file ≡ e.out) ⊎ Contains e.past file
+
+-- what is left of a file once the power was lost: its bytes, if the disk had them all; else nothing is known
+abbrev pub Survives : Option Stored → Option (List ℕ) → Type 0
+Survives None left = left ≡ None
+Survives (Some s) left = s.on_disk ≡ true → left ≡ Some s.bytes
+
+-- At any moment since, OUT was what was found or this file. And if it was found, with all its bytes on the disk, then a lost
+-- power at any of these moments left the one or the other, whole: the disk may still have the name as it was found.
+pub record IsEitherAlways (file : Stored) (e : Entries) : Type 0 where
+  pub stopped : (seen : Option Stored) → WasOut e seen → (seen ≡ e.found) ⊎ (seen ≡ Some file)
+  pub lost_power : (s : Stored) → e.found ≡ Some s → s.on_disk ≡ true → (seen : Option Stored) (left : Option (List ℕ))
+      → (seen ≡ e.found) ⊎ WasOut e seen → Survives seen left → (left ≡ Some s.bytes) ⊎ (left ≡ Some file.bytes)

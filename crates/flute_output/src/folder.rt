@@ -1,0 +1,97 @@
+//! What an output asks of the folder that OUT is in.
+ghost use Rattle.std.specs.Prelude.{◌≡◌, ℕ, ◌+◌, ◌<◌, ◌≤◌, length, take, IfOk, OnOk, OnErr, IfSome, MatchResult, Option, if◌then◌else◌, is_ok, is_some, true};
+ghost use Rattle.flute_output.specs.Entries.{Entries, Leads, Does, OutStays, created, takes, flushed, synced, put_in_place, removes};
+
+use flute_parts::DeviceFault;
+
+/// The two entries that an output needs.
+#[derive(Clone, Copy, Debug, PartialEq, Eq)]
+pub enum Name {
+    /// The name of the output.
+    Out,
+    /// The file beside it.
+    Beside,
+}
+
+/// A folder, as far as an output needs it: the name OUT, and a file beside it, which takes bytes.
+pub trait Folder {
+    // What the two names stand for, where the folder tells.
+    ghost entries: { Self → Option Entries };
+
+    // How often a call has failed.
+    ghost failures: { Self → ℕ };
+
+    /// Makes the file beside OUT, empty.
+    ///
+    /// # Errors
+    ///
+    /// `DeviceFault` where it cannot be made. OUT is as before.
+    fn create(&mut self) -> Result<(), DeviceFault>
+        ensures made { OnOk result (Does created (entries self.old) (entries self.new)) }
+        ensures refused { OnErr result (Leads OutStays (entries self.old) (entries self.new)) }
+        ensures failures { failures self.new
+            ≡ failures self.old + (if is_ok result then 0 else 1) };
+
+    /// Takes the first bytes of `bytes` for the file beside OUT, and answers how many: at least one, unless `bytes` is empty. They
+    /// may wait in memory.
+    ///
+    /// # Errors
+    ///
+    /// `DeviceFault` where the device failed. It then took nothing.
+    fn write(&mut self, bytes: &[u8]) -> Result<usize, DeviceFault>
+        ensures bound { IfOk result (λ n. n ≤ length bytes.now) }
+        ensures progress { 0 < length bytes.now → IfOk result (λ n. 0 < n) }
+        ensures taken { IfOk result (λ n.
+            Does (takes (take n bytes.now)) (entries self.old) (entries self.new)) }
+        ensures refused { OnErr result (Does (λ same. same) (entries self.old) (entries self.new)) }
+        ensures failures { failures self.new
+            ≡ failures self.old + (if is_ok result then 0 else 1) };
+
+    /// Hands the bytes that wait on to the file beside OUT.
+    ///
+    /// # Errors
+    ///
+    /// `DeviceFault` where the device failed. Which of them it has is then not known.
+    fn flush(&mut self) -> Result<(), DeviceFault>
+        ensures flushed { OnOk result (Does flushed (entries self.old) (entries self.new)) }
+        ensures refused { OnErr result (Leads OutStays (entries self.old) (entries self.new)) }
+        ensures failures { failures self.new
+            ≡ failures self.old + (if is_ok result then 0 else 1) };
+
+    /// Whether OUT is there.
+    fn has_out(&self) -> bool
+        ensures { IfSome (entries self.now) (λ e. result ≡ is_some e.out) };
+
+    /// Waits until the disk has all of the file beside OUT.
+    ///
+    /// # Errors
+    ///
+    /// `DeviceFault` where the disk failed.
+    fn sync(&mut self) -> Result<(), DeviceFault>
+        ensures synced { OnOk result (Does synced (entries self.old) (entries self.new)) }
+        ensures refused { OnErr result (Leads OutStays (entries self.old) (entries self.new)) }
+        ensures failures { failures self.new
+            ≡ failures self.old + (if is_ok result then 0 else 1) };
+
+    /// Names the file beside OUT OUT, in the place of what had that name, in one step.
+    ///
+    /// # Errors
+    ///
+    /// `DeviceFault` where that failed. Both entries are as before.
+    fn put_in_place(&mut self) -> Result<(), DeviceFault>
+        ensures put { OnOk result (Does put_in_place (entries self.old) (entries self.new)) }
+        ensures refused { OnErr result (Leads OutStays (entries self.old) (entries self.new)) }
+        ensures failures { failures self.new
+            ≡ failures self.old + (if is_ok result then 0 else 1) };
+
+    /// Removes one of the two entries.
+    ///
+    /// # Errors
+    ///
+    /// `DeviceFault` where that failed. It is as before.
+    fn remove(&mut self, name: Name) -> Result<(), DeviceFault>
+        ensures removed { OnOk result (Does (removes name) (entries self.old) (entries self.new)) }
+        ensures refused { OnErr result (Leads OutStays (entries self.old) (entries self.new)) }
+        ensures failures { failures self.new
+            ≡ failures self.old + (if is_ok result then 0 else 1) };
+}

@@ -1,0 +1,210 @@
+//! The file OUT and the file beside it, in a folder of the system.
+
+use crate::file_id::FileId;
+use std::alloc::Global;
+use std::fs::{self, File, Metadata, OpenOptions, Permissions, TryLockError};
+use std::io::{self, ErrorKind};
+use std::os::unix::fs::{OpenOptionsExt, PermissionsExt};
+use std::path::PathBuf;
+use std::rt::Files;
+
+/// What the name of the file beside OUT has behind OUT's.
+const SUFFIX: &str = ".partial";
+
+/// The most links that are followed, as the system does.
+const MAX_LINKS: u32 = 40;
+
+/// How often the file beside OUT is tried to be made where other runs take its name.
+const ATTEMPTS: u32 = 16;
+
+/// Who may read and write a new file, but for what the user's mask takes away.
+const NEW_MODE: u32 = 0o666;
+
+/// Who may read, write and run a file, of all that a mode says.
+const ACCESS: u32 = 0o777;
+
+/// The two names, and what is known of OUT.
+#[derive(Drop)]
+pub struct Neighbours {
+    out: PathBuf,
+    beside: String,
+    /// Who may read, write and run OUT, if it was there.
+    mode: Option<u32>,
+}
+
+impl Neighbours {
+    /// The names for an output at this path, which has this metadata if it is there. A symbolic link stands for what it leads
+    /// to.
+    ///
+    /// # Errors
+    ///
+    /// Those of the system, and `OutOfMemory`.
+    pub fn new<R: Files>(
+        rt: &R,
+        alloc: Global,
+        path: &str,
+        metadata: Option<&Metadata>,
+    ) -> io::Result<Neighbours> {
+        let out = without_links(rt, alloc, path)?;
+        let mut beside = String::from_str(alloc, out.as_str())?;
+        beside.push_str(SUFFIX)?;
+        Ok(Neighbours {
+            out,
+            beside,
+            mode: metadata.map(|metadata| metadata.permissions().mode() & ACCESS),
+        })
+    }
+
+    /// Whether OUT was there.
+    pub fn has_out(&self) -> bool {
+        self.mode.is_some()
+    }
+
+    /// Whether the name OUT is that of the file with this metadata.
+    pub fn is_out<R: Files>(&self, rt: &R, found: &Metadata) -> bool {
+        match fs::symlink_metadata(rt, &self.out) {
+            Ok(named) => FileId::of(&named) == FileId::of(found),
+            Err(_) => false,
+        }
+    }
+
+    /// Makes the file beside OUT, empty, locked, and with OUT's mode. What a killed run left there is removed first.
+    ///
+    /// # Errors
+    ///
+    /// Those of the system, also where OUT may not be written; `WouldBlock` where a running program has the file locked; and
+    /// `AlreadyExists` where it is one of `inputs`, or no regular file. Only what a killed run left may be gone then.
+    pub fn create<R: Files<File = File>>(&self, rt: &R, inputs: &[FileId]) -> io::Result<File> {
+        if self.has_out() {
+            OpenOptions::new().write(true).open(rt, &self.out)?;
+        }
+        for _ in 0..ATTEMPTS {
+            match self.make(rt) {
+                Err(error) if error.kind() == ErrorKind::AlreadyExists => {
+                    self.remove_leftover(rt, inputs)?
+                }
+                made => return made,
+            }
+        }
+        Err(ErrorKind::AlreadyExists.into())
+    }
+
+    // `AlreadyExists` where the name is taken, also by another run between the two steps.
+    fn make<R: Files<File = File>>(&self, rt: &R) -> io::Result<File> {
+        let file = OpenOptions::new()
+            .write(true)
+            .create_new(true)
+            .mode(self.mode.unwrap_or(NEW_MODE))
+            .open(rt, &self.beside)?;
+        lock(&file)?;
+        if !self.is_beside(rt, &file)? {
+            return Err(ErrorKind::AlreadyExists.into());
+        }
+        if let Some(mode) = self.mode {
+            // The user's mask may have taken some of it away.
+            if let Err(error) = file.set_permissions(Permissions::from_mode(mode)) {
+                let _ = fs::remove_file(rt, &self.beside);
+                return Err(error);
+            }
+        }
+        Ok(file)
+    }
+
+    // A file that is locked is that of a running program.
+    fn remove_leftover<R: Files<File = File>>(&self, rt: &R, inputs: &[FileId]) -> io::Result<()> {
+        match fs::symlink_metadata(rt, &self.beside) {
+            Ok(found) if found.is_file() && !inputs.contains(&FileId::of(&found)) => {}
+            Ok(_) => return Err(ErrorKind::AlreadyExists.into()),
+            Err(error) if error.kind() == ErrorKind::NotFound => return Ok(()),
+            Err(error) => return Err(error),
+        }
+        let leftover = match fs::open(rt, &self.beside) {
+            Err(error) if error.kind() == ErrorKind::NotFound => return Ok(()),
+            opened => opened?,
+        };
+        lock(&leftover)?;
+        if self.is_beside(rt, &leftover)? {
+            fs::remove_file(rt, &self.beside)?;
+        }
+        Ok(())
+    }
+
+    // Whether the file has the name beside OUT, and no other run has put its own there.
+    fn is_beside<R: Files>(&self, rt: &R, file: &File) -> io::Result<bool> {
+        match fs::symlink_metadata(rt, &self.beside) {
+            Ok(found) => Ok(FileId::of(&found) == FileId::of(&file.metadata()?)),
+            Err(error) if error.kind() == ErrorKind::NotFound => Ok(false),
+            Err(error) => Err(error),
+        }
+    }
+
+    /// Names the file beside OUT OUT.
+    ///
+    /// # Errors
+    ///
+    /// Those of the system, and `NotFound` where the name beside OUT is no longer the file's. Nothing was renamed.
+    pub fn put_in_place<R: Files>(&self, rt: &R, file: &File) -> io::Result<()> {
+        if !self.is_beside(rt, file)? {
+            return Err(ErrorKind::NotFound.into());
+        }
+        fs::rename(rt, &self.beside, &self.out)
+    }
+
+    /// Removes the file beside OUT.
+    ///
+    /// # Errors
+    ///
+    /// Those of the system, and `NotFound` where the name beside OUT is no longer the file's. Nothing was removed.
+    pub fn remove_beside<R: Files>(&self, rt: &R, file: &File) -> io::Result<()> {
+        if !self.is_beside(rt, file)? {
+            return Err(ErrorKind::NotFound.into());
+        }
+        fs::remove_file(rt, &self.beside)
+    }
+
+    /// Removes OUT.
+    ///
+    /// # Errors
+    ///
+    /// Those of the system.
+    pub fn remove_out<R: Files>(&self, rt: &R) -> io::Result<()> {
+        fs::remove_file(rt, &self.out)
+    }
+}
+
+// Locks the file, or answers `WouldBlock` where another program has it locked. A file system that knows no locks is used
+// without.
+fn lock(file: &File) -> io::Result<()> {
+    match file.try_lock() {
+        Err(TryLockError::WouldBlock) => Err(ErrorKind::WouldBlock.into()),
+        Ok(()) | Err(TryLockError::Error(_)) => Ok(()),
+    }
+}
+
+// Where the path leads to, without symbolic links at its end.
+fn without_links<R: Files>(rt: &R, alloc: Global, path: &str) -> io::Result<PathBuf> {
+    let mut path = PathBuf::from_str(alloc, path)?;
+    for _ in 0..MAX_LINKS {
+        match linked(rt, alloc, &path)? {
+            Some(next) => path = next,
+            None => return Ok(path),
+        }
+    }
+    Err(ErrorKind::FilesystemLoop.into())
+}
+
+// What the path leads to, if it is a symbolic link.
+fn linked<R: Files>(rt: &R, alloc: Global, path: &PathBuf) -> io::Result<Option<PathBuf>> {
+    match fs::symlink_metadata(rt, path) {
+        Ok(found) if found.is_symlink() => {
+            let link = rt.read_link(alloc, path.as_str())?;
+            match path.parent() {
+                Some(folder) => Ok(Some(folder.join(alloc, &link)?)),
+                None => Ok(Some(link)),
+            }
+        }
+        Ok(_) => Ok(None),
+        Err(error) if error.kind() == ErrorKind::NotFound => Ok(None),
+        Err(error) => Err(error),
+    }
+}

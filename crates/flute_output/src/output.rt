@@ -1,0 +1,187 @@
+//! An output that becomes OUT whole or not at all.
+ghost use Rattle.std.specs.Prelude.{◌≡◌, ◌≢◌, ℕ, ◌+◌, ◌<◌, ◌≤◌, take, IfOk, IfSome, IfErr, OnOk, OnErr, Ok, Err, option_map, is_ok, None, if◌then◌else◌};
+ghost use Rattle.flute_output.specs.Entries.{Leads, Does, OutStays, OutIsAsFound, OutBecomes, IsEitherAlways, IsWriting, created, takes, taken, whole};
+
+use crate::folder::{Folder, Name};
+use flute_parts::{DeviceFault, Sink};
+use std::marker::Model;
+
+/// An output whose bytes go to a file beside OUT. It is made, written as a [`Sink`], and then finished: OUT is then the file of
+/// all these bytes, or what it was.
+///
+/// Contracts see it as its folder, where the file beside OUT stands.
+#[derive(Drop)]
+pub struct Output<F: Folder + Drop> {
+    folder: F,
+}
+
+impl<F: Folder + Drop> Model for Output<F> {
+    ghost use Rattle.std.specs.Prelude.{IfSome};
+    ghost use Rattle.flute_output.specs.Entries.{IsWriting};
+
+    ghost Value = { F };
+
+    ghost view = { λ o. o.folder };
+
+    ghost invariant = { λ o. IfSome (F.entries o.folder) IsWriting };
+}
+
+/// Why a file was not written.
+#[derive(Clone, Copy, Debug, PartialEq, Eq)]
+pub enum OutputFault {
+    /// The file beside OUT could not be made.
+    Create,
+    /// The device did not take the bytes, or the file could not be put in place.
+    Write,
+}
+
+impl<F: Folder + Drop> Output<F> {
+    /// Makes the file beside OUT, empty.
+    ///
+    /// # Errors
+    ///
+    /// The folder, where the file could not be made. OUT is as before.
+    pub fn create(mut folder: F) -> Result<Output<F>, F>
+        ensures made { IfOk result (λ output. Does created (F.entries folder) (F.entries output)) }
+        ensures refused { IfErr result (λ back. Leads OutStays (F.entries folder) (F.entries back)) }
+        ensures quiet { IfOk result (λ output. F.failures output ≡ F.failures folder) }
+        ensures cause { IfErr result (λ back. F.failures back ≡ F.failures folder + 1) }
+    {
+        match folder.create() {
+            Ok(()) => Ok(Output { folder }),
+            Err(_) => Err(folder),
+        }
+    }
+
+    /// Ends an output after the work that wrote it. Where that was done, the file beside OUT is flushed, brought to the disk if
+    /// OUT was there before, and named OUT. Where it failed, or one of these steps does, the file beside OUT is removed.
+    ///
+    /// It gives the folder back. OUT is then what was written, or exactly what it was; and at each moment in between it was
+    /// one of the two.
+    ///
+    /// # Errors
+    ///
+    /// The fault of the work; or else `DeviceFault`, where a step failed. OUT is as before. The file beside it is gone, unless
+    /// the folder failed to remove it.
+    pub fn finish<T: Drop, E: From<DeviceFault> + Drop>(
+        self,
+        done: Result<T, E>,
+    ) -> (Result<T, E>, F)
+        ensures done { IfOk result.0 (λ x. done ≡ Ok x) }
+        ensures fault { IfErr done (λ e. result.0 ≡ Err e) }
+        ensures why { OnOk done (IfErr result.0 (λ e. (why : _) × E.from_gives why e)) }
+        ensures kept { OnOk result.0 (Leads (λ old new. OutBecomes (whole old (taken old)) old new)
+            (F.entries self) (F.entries result.1)) }
+        ensures dropped { OnErr result.0 (Leads OutIsAsFound
+            (F.entries self) (F.entries result.1)) }
+        ensures any_moment { Leads (λ old new. IsEitherAlways (whole old (taken old)) new)
+            (F.entries self) (F.entries result.1) }
+
+        // The file beside OUT is left only where removing it failed, and a step fails only where the folder did.
+        ensures gone_ok { OnOk result.0 (Leads (λ old new. new.beside ≡ None)
+            (F.entries self) (F.entries result.1)) }
+        ensures gone { OnErr result.0
+            (F.failures result.1 ≡ F.failures self + (if is_ok done then 1 else 0)
+            → Leads (λ old new. new.beside ≡ None) (F.entries self) (F.entries result.1)) }
+        ensures quiet { OnOk result.0 (F.failures result.1 ≡ F.failures self) }
+        ensures cause { OnOk done (OnErr result.0 (F.failures self < F.failures result.1)) }
+        ensures counted { F.failures self ≤ F.failures result.1 }
+    {
+        let Output { mut folder } = self;
+        let ended = match done {
+            Ok(value) => match keep(&mut folder) {
+                Ok(()) => return (Ok(value), folder),
+                Err(fault) => Err(E::from(fault)),
+            },
+            Err(fault) => Err(fault),
+        };
+        let _ = folder.remove(Name::Beside);
+        (ended, folder)
+    }
+}
+
+impl<F: Folder + Drop> Sink for Output<F> {
+    ghost failures = { λ o. F.failures o };
+
+    ghost written = { λ o. option_map taken (F.entries o) };
+
+    fn write(&mut self, bytes: &[u8]) -> Result<usize, DeviceFault> {
+        self.folder.write(bytes)
+    }
+}
+
+// Puts the file beside OUT in its place. The disk has it first where OUT is there, so that a lost power leaves one of the
+// two.
+fn keep<F: Folder>(folder: &mut F) -> Result<(), DeviceFault>
+    requires { IfSome (F.entries folder.old) IsWriting }
+    ensures kept { OnOk result (Leads (λ old new. OutBecomes (whole old (taken old)) old new)
+        (F.entries folder.old) (F.entries folder.new)) }
+    ensures gone { OnOk result (Leads (λ old new. new.beside ≡ None)
+        (F.entries folder.old) (F.entries folder.new)) }
+    ensures refused { OnErr result (Leads OutStays
+        (F.entries folder.old) (F.entries folder.new)) }
+    ensures failures { F.failures folder.new
+        ≡ F.failures folder.old + (if is_ok result then 0 else 1) }
+{
+    folder.flush()?;
+    if folder.has_out() {
+        folder.sync()?;
+    }
+    folder.put_in_place()
+}
+
+// Takes all the bytes for the file beside OUT, or after a failure some of them.
+fn take_all<F: Folder>(folder: &mut F, bytes: &[u8]) -> Result<(), OutputFault>
+    ensures taken { OnOk result (Does (takes bytes.now)
+        (F.entries folder.old) (F.entries folder.new)) }
+    ensures part { Leads (λ old new. (n : ℕ) × (new ≡ takes (take n bytes.now) old))
+        (F.entries folder.old) (F.entries folder.new) }
+    ensures fault { IfErr result (λ e. e ≡ OutputFault.Write) }
+    ensures failures { F.failures folder.new
+        ≡ F.failures folder.old + (if is_ok result then 0 else 1) }
+{
+    let mut at = 0;
+    while at < bytes.len() {
+        at += folder.write(&bytes[at..])?;
+    }
+    Ok(())
+}
+
+/// Writes a file of these bytes as OUT, and gives the folder back. At each moment OUT is what it was, or that file.
+///
+/// # Errors
+///
+/// `Create` where the file beside OUT could not be made, and `Write` where a later step failed. OUT is as before. The file
+/// beside it is gone, unless the folder failed to remove it.
+pub fn write_file<F: Folder + Drop>(folder: F, bytes: &[u8]) -> (Result<(), OutputFault>, F)
+    ensures written { OnOk result.0
+        (Leads (λ old new. OutBecomes (whole (created old) bytes.now) (created old) new)
+        (F.entries folder) (F.entries result.1)) }
+    ensures refused { result.0 ≡ Err OutputFault.Create
+        → Leads OutStays (F.entries folder) (F.entries result.1) }
+    ensures stopped { result.0 ≡ Err OutputFault.Write
+        → Leads (λ old new. OutIsAsFound (created old) new) (F.entries folder) (F.entries result.1) }
+    ensures any_moment { result.0 ≢ Err OutputFault.Create
+        → Leads (λ old new. IsEitherAlways (whole (created old) bytes.now) new)
+        (F.entries folder) (F.entries result.1) }
+    ensures cause { OnErr result.0 (F.failures folder < F.failures result.1) }
+    ensures quiet { OnOk result.0 (F.failures result.1 ≡ F.failures folder) }
+{
+    match Output::create(folder) {
+        Ok(mut output) => {
+            let done = take_all(&mut output.folder, bytes);
+            output.finish(done)
+        }
+        Err(folder) => (Err(OutputFault::Create), folder),
+    }
+}
+
+impl From<DeviceFault> for OutputFault {
+    ghost use Rattle.flute_output.specs.declared.output.OutputFault.TheVariants.{Write};
+
+    ghost from_gives = { λ why fault. fault ≡ Write };
+
+    fn from(_why: DeviceFault) -> OutputFault {
+        OutputFault::Write
+    }
+}

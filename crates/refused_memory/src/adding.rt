@@ -1,0 +1,147 @@
+//! Facts added.
+
+use crate::findings::Findings;
+use crate::refusing::{Case, refuse_after, refuse_all, was_refused};
+use crate::report::Report;
+use crate::stores::{are_same, expect_quiet, taken, writes};
+use crate::vectors::{FIRST, JOURNAL_OF_FIRST, JOURNAL_OF_INFO, LAST, WHOLE};
+use anyhow::Result;
+use flute_join::JoinRefusal;
+use flute_parts::{Bytes, Fact, Info, Key, SymbolId};
+use flute_store::{Shelf, Status};
+use flutejoin::{CommandFault, add_info};
+use std::alloc::Global;
+use std::io::Print;
+
+/// How a fact is added.
+#[derive(Clone, Copy)]
+pub enum Way {
+    /// By the store.
+    Store,
+    /// As information that is entered by hand.
+    Hand,
+}
+
+/// What is added behind datagrams, how much of the object is held before and then, and the journal of the store then.
+#[derive(Clone, Copy)]
+pub struct Add<'a> {
+    key: &'a Key,
+    before: &'a [&'a [u8]],
+    fact: &'a Fact,
+    way: Way,
+    old_status: Option<Status>,
+    new_status: Status,
+    journal: &'a [u8],
+}
+
+impl Add<'_> {
+    fn add(&self, alloc: Global, store: &mut Shelf) -> Result<(), JoinRefusal> {
+        match (self.way, self.fact) {
+            (Way::Hand, Fact::Info { key, info }) => {
+                let entered = add_info(alloc, store, *key, *info);
+                entered.map_err(|fault| match fault {
+                    CommandFault::OutOfMemory => JoinRefusal::OutOfMemory,
+                    _ => JoinRefusal::Full,
+                })
+            }
+            _ => store.add(alloc, self.fact),
+        }
+    }
+}
+
+impl Case for Add<'_> {
+    fn refused_after(&self, alloc: Global, granted: u16, findings: &mut Findings) -> bool {
+        let old: Shelf = taken(alloc, self.before);
+        let mut store: Shelf = taken(alloc, self.before);
+        findings.expect(
+            store.status(self.key) == self.old_status,
+            "another status is told before",
+        );
+        refuse_after(alloc, granted);
+        let mut answer = self.add(alloc, &mut store);
+        let refused = was_refused(alloc);
+        if refused {
+            findings.expect(
+                answer == Err(JoinRefusal::OutOfMemory),
+                "a refused add answers otherwise",
+            );
+            findings.expect(are_same(&store, &old), "a refused add changed the store");
+            expect_quiet(alloc, &store, self.key, findings);
+            answer = self.add(alloc, &mut store);
+        }
+        findings.expect(answer == Ok(()), "an add answers otherwise");
+        findings.expect(
+            store.status(self.key) == Some(self.new_status),
+            "another status is told",
+        );
+        findings.expect(writes(&store, self.journal), "an add leaves another store");
+        expect_quiet(alloc, &store, self.key, findings);
+        refuse_all(alloc);
+        let again = self.add(alloc, &mut store);
+        findings.expect(
+            !was_refused(alloc),
+            "an add of what is held asked for memory",
+        );
+        findings.expect(again == answer, "an add of what is held answers otherwise");
+        refused
+    }
+}
+
+/// Information, in both ways, and a symbol.
+pub fn adds<P: Print>(report: &mut Report<'_, P>, key: Key, info: Info) -> Result<()> {
+    let fact = Fact::Info { key, info };
+    let ways = [
+        (
+            Way::Store,
+            "add of information to symbols",
+            "add of information",
+        ),
+        (Way::Hand, "add_info to symbols", "add_info"),
+    ];
+    for (way, quiet, call) in ways {
+        let to_symbols = Add {
+            key: &key,
+            before: &[FIRST, LAST],
+            fact: &fact,
+            way,
+            old_status: Some(Status::NoInformation),
+            new_status: Status::Whole { length: 5 },
+            journal: WHOLE,
+        };
+        report.ask_for_none(quiet, &to_symbols);
+        let to_nothing = Add {
+            key: &key,
+            before: &[],
+            fact: &fact,
+            way,
+            old_status: None,
+            new_status: Status::Partial {
+                missing: 2,
+                conflicting: 0,
+                misfit: 0,
+            },
+            journal: JOURNAL_OF_INFO,
+        };
+        report.refuse(call, &to_nothing);
+    }
+    add_symbol(report, key)
+}
+
+fn add_symbol<P: Print>(report: &mut Report<'_, P>, key: Key) -> Result<()> {
+    let fact = Fact::Symbol {
+        key,
+        id: SymbolId { sbn: 0, esi: 0 },
+        bytes: Bytes::new(report.alloc(), b"hell")?,
+    };
+    let add = Add {
+        key: &key,
+        before: &[],
+        fact: &fact,
+        way: Way::Store,
+        old_status: None,
+        new_status: Status::NoInformation,
+        journal: JOURNAL_OF_FIRST,
+    };
+    report.refuse("add of a symbol", &add);
+    Ok(())
+}

@@ -1,0 +1,54 @@
+//! Refuses each request for memory in turn, in the calls that ask for some, and looks at what comes of it.
+//!
+//! It is no part of the product. `tests/refused_memory.sh` runs it with the library `tests/refuse.c` loaded before it, which
+//! does the refusing. Without that no request is refused, and it prints zeros.
+#![tactic(auto)]
+
+mod absorbing;
+mod adding;
+mod findings;
+mod inputs;
+mod mapping;
+mod merging;
+mod parts;
+mod reading;
+mod refusing;
+mod report;
+mod running;
+mod sending;
+mod stores;
+mod taking;
+mod vectors;
+
+use absorbing::absorbs;
+use adding::adds;
+use anyhow::{Context, Result};
+use flute_parts::{Info, Key, ObjectKey, SessionKey};
+use inputs::joins;
+use mapping::maps;
+use merging::merges;
+use parts::names_and_packets;
+use reading::reads;
+use report::Report;
+use running::steps;
+use sending::sends;
+use taking::takes;
+
+fn main(rt: HostRuntime) -> Result<()> {
+    let session = SessionKey::new(7).context("a session")?;
+    let object = ObjectKey::file(1).context("a file")?;
+    let key = Key { session, object };
+    let info = Info::new(5, 4, 2)?;
+    let mut report = Report::new(&rt, rt.alloc());
+    maps(&mut report);
+    names_and_packets(&mut report);
+    takes(&mut report, &key);
+    adds(&mut report, key, info)?;
+    absorbs(&mut report, &key);
+    reads(&mut report);
+    merges(&mut report);
+    steps(&mut report, &key)?;
+    sends(&mut report, &key, &info)?;
+    joins(&mut report)?;
+    report.end()
+}

@@ -1,0 +1,153 @@
+//! Objects sent, and what is written to a sink.
+
+use crate::findings::Findings;
+use crate::refusing::{Case, refuse_after, was_refused};
+use crate::report::Report;
+use crate::stores::taken;
+use crate::vectors::{DATAGRAMS, EMPTY_FILE, INFO_AND_FIRST, INFO_AND_LAST, WHOLE};
+use anyhow::Result;
+use flute_journal::{write_datagrams, write_store};
+use flute_parts::{Info, Key, MemorySink};
+use flute_store::{ExtractFault, Shelf};
+use flute_wire::{CarouselFault, Datagrams, carousel};
+use std::alloc::Global;
+use std::io::Print;
+
+/// The datagrams of an object.
+#[derive(Clone, Copy)]
+pub struct Sent<'a> {
+    key: &'a Key,
+    info: &'a Info,
+    content: &'a [u8],
+    datagrams: &'a [&'a [u8]],
+}
+
+impl Sent<'_> {
+    fn are_sent(&self, sent: &Datagrams) -> bool {
+        let mut same = sent.len() == self.datagrams.len();
+        for (place, wanted) in self.datagrams.iter().enumerate() {
+            let is_sent = sent
+                .get(place)
+                .is_some_and(|datagram| datagram.as_slice() == *wanted);
+            same = same && is_sent;
+        }
+        same
+    }
+}
+
+impl Case for Sent<'_> {
+    fn refused_after(&self, alloc: Global, granted: u16, findings: &mut Findings) -> bool {
+        refuse_after(alloc, granted);
+        let mut answer = carousel(alloc, self.key, self.info, self.content);
+        let refused = was_refused(alloc);
+        if refused {
+            let wants = matches!(answer, Err(CarouselFault::OutOfMemory));
+            findings.expect(wants, "a refused carousel answers otherwise");
+            answer = carousel(alloc, self.key, self.info, self.content);
+        }
+        let sent = answer.is_ok_and(|datagrams| self.are_sent(&datagrams));
+        findings.expect(sent, "other datagrams are sent");
+        refused
+    }
+}
+
+/// What is written to a sink, and the bytes of that.
+#[derive(Clone, Copy)]
+pub enum Written<'a> {
+    Journal {
+        store: &'a Shelf,
+        bytes: &'a [u8],
+    },
+    Object {
+        store: &'a Shelf,
+        key: &'a Key,
+        bytes: &'a [u8],
+    },
+    Datagrams {
+        datagrams: &'a Datagrams,
+        bytes: &'a [u8],
+    },
+}
+
+impl Written<'_> {
+    fn bytes(&self) -> &[u8] {
+        match self {
+            Written::Journal { bytes, .. } => bytes,
+            Written::Object { bytes, .. } => bytes,
+            Written::Datagrams { bytes, .. } => bytes,
+        }
+    }
+
+    // Whether the sink took all. None where it is no sink's fault.
+    fn write(&self, sink: &mut MemorySink) -> Option<bool> {
+        match self {
+            Written::Journal { store, .. } => Some(write_store(store, sink).is_ok()),
+            Written::Object { store, key, .. } => match store.extract(key, sink) {
+                Ok(_) => Some(true),
+                Err(ExtractFault::Write) => Some(false),
+                Err(_) => None,
+            },
+            Written::Datagrams { datagrams, .. } => Some(write_datagrams(datagrams, sink).is_ok()),
+        }
+    }
+}
+
+impl Case for Written<'_> {
+    fn refused_after(&self, alloc: Global, granted: u16, findings: &mut Findings) -> bool {
+        let mut sink = MemorySink::new(alloc);
+        refuse_after(alloc, granted);
+        let mut answer = self.write(&mut sink);
+        let refused = was_refused(alloc);
+        let bytes = self.bytes();
+        if refused {
+            findings.expect(answer == Some(false), "a refused sink is another's fault");
+            let part = sink.as_slice();
+            findings.expect(part.len() < bytes.len(), "a refused sink has all bytes");
+            findings.expect(bytes.starts_with(part), "a refused sink has other bytes");
+            sink = MemorySink::new(alloc);
+            answer = self.write(&mut sink);
+        }
+        findings.expect(answer == Some(true), "the sink has failed");
+        findings.expect(sink.as_slice() == bytes, "other bytes are written");
+        refused
+    }
+}
+
+/// The file and an object of no bytes, sent, and the file written in three ways.
+pub fn sends<P: Print>(report: &mut Report<'_, P>, key: &Key, info: &Info) -> Result<()> {
+    let content = b"hello".as_slice();
+    let sent = Sent {
+        key,
+        info,
+        content,
+        datagrams: &[INFO_AND_FIRST, INFO_AND_LAST],
+    };
+    report.refuse("carousel", &sent);
+    let nothing = Info::new(0, 0, 0)?;
+    let sent = Sent {
+        key,
+        info: &nothing,
+        content: &[],
+        datagrams: &[EMPTY_FILE],
+    };
+    report.refuse("carousel of no bytes", &sent);
+    let datagrams = carousel(report.alloc(), key, info, content)?;
+    let store: Shelf = taken(report.alloc(), &[INFO_AND_FIRST, INFO_AND_LAST]);
+    let journal = Written::Journal {
+        store: &store,
+        bytes: WHOLE,
+    };
+    report.refuse("write_store", &journal);
+    let object = Written::Object {
+        store: &store,
+        key,
+        bytes: content,
+    };
+    report.refuse("extract", &object);
+    let file = Written::Datagrams {
+        datagrams: &datagrams,
+        bytes: DATAGRAMS,
+    };
+    report.refuse("write_datagrams", &file);
+    Ok(())
+}

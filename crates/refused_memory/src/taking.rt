@@ -1,0 +1,135 @@
+//! Datagrams taken.
+ghost use Rattle.std.specs.Prelude.{◌+◌, ◌*◌, ◌<◌, ◌^◌};
+
+use crate::findings::Findings;
+use crate::refusing::{Case, refuse_after, refuse_all, was_refused};
+use crate::report::Report;
+use crate::stores::{are_same, expect_quiet, taken, writes};
+use crate::vectors::{
+    FIRST, INFO_AND_FIRST, INFO_AND_LAST, JOURNAL_OF_FIRST, JOURNAL_OF_PART, JOURNAL_OF_SYMBOLS,
+    LAST, OTHER_FILE, OTHER_SESSION, WHOLE,
+};
+use flute_parts::Key;
+use flute_store::{Store, TakeFault, Taken};
+use std::alloc::Global;
+use std::io::Print;
+
+/// A datagram behind others, what is answered, and the journal of the store then.
+#[derive(Clone, Copy)]
+pub struct Take<'a> {
+    key: &'a Key,
+    before: &'a [&'a [u8]],
+    datagram: &'a [u8],
+    answer: Result<Taken, TakeFault>,
+    journal: &'a [u8],
+}
+
+impl Case for Take<'_> {
+    fn refused_after(&self, alloc: Global, granted: u16, findings: &mut Findings) -> bool {
+        take_with_refusal::<64, 4096, 1_048_576>(alloc, granted, self, findings)
+    }
+}
+
+/// The same, where the store has room for one symbol.
+#[derive(Clone, Copy)]
+pub struct TakeInLittleRoom<'a> {
+    take: Take<'a>,
+}
+
+impl Case for TakeInLittleRoom<'_> {
+    fn refused_after(&self, alloc: Global, granted: u16, findings: &mut Findings) -> bool {
+        take_with_refusal::<1, 1, 1>(alloc, granted, &self.take, findings)
+    }
+}
+
+fn take_with_refusal<const SESSIONS: u32, const OBJECTS: u32, const SYMBOLS: u32>(
+    alloc: Global,
+    granted: u16,
+    case: &Take<'_>,
+    findings: &mut Findings,
+) -> bool
+    requires { SESSIONS * OBJECTS * (SYMBOLS + 1) < 2 ^ 64 }
+{
+    let old: Store<SESSIONS, OBJECTS, SYMBOLS> = taken(alloc, case.before);
+    let mut store: Store<SESSIONS, OBJECTS, SYMBOLS> = taken(alloc, case.before);
+    refuse_after(alloc, granted);
+    let mut answer = store.take(alloc, case.datagram);
+    let refused = was_refused(alloc);
+    if refused {
+        findings.expect(
+            answer == Err(TakeFault::OutOfMemory),
+            "a refused take answers otherwise",
+        );
+        findings.expect(are_same(&store, &old), "a refused take changed the store");
+        expect_quiet(alloc, &store, case.key, findings);
+        answer = store.take(alloc, case.datagram);
+    }
+    findings.expect(answer == case.answer, "a take answers otherwise");
+    findings.expect(writes(&store, case.journal), "a take leaves another store");
+    expect_quiet(alloc, &store, case.key, findings);
+    // What is held by now, or has no room, is looked at without memory.
+    refuse_all(alloc);
+    let again = store.take(alloc, case.datagram);
+    findings.expect(
+        !was_refused(alloc),
+        "a take of what is held asked for memory",
+    );
+    findings.expect(again == answer, "a take of what is held answers otherwise");
+    refused
+}
+
+/// Datagrams of one file, and others that have no room.
+pub fn takes<P: Print>(report: &mut Report<'_, P>, key: &Key) {
+    let take = Take {
+        key,
+        before: &[],
+        datagram: INFO_AND_FIRST,
+        answer: Ok(Taken { facts: 2 }),
+        journal: JOURNAL_OF_PART,
+    };
+    report.refuse("take of the first datagram", &take);
+    let take = Take {
+        key,
+        before: &[INFO_AND_FIRST],
+        datagram: INFO_AND_LAST,
+        answer: Ok(Taken { facts: 2 }),
+        journal: WHOLE,
+    };
+    report.refuse("take of the last datagram", &take);
+    let take = Take {
+        key,
+        before: &[FIRST],
+        datagram: LAST,
+        answer: Ok(Taken { facts: 1 }),
+        journal: JOURNAL_OF_SYMBOLS,
+    };
+    report.refuse("take without information", &take);
+    let take = Take {
+        key,
+        before: &[],
+        datagram: FIRST,
+        answer: Ok(Taken { facts: 1 }),
+        journal: JOURNAL_OF_FIRST,
+    };
+    report.refuse("take in little room", &TakeInLittleRoom { take });
+    takes_in_no_room(report, key);
+}
+
+fn takes_in_no_room<P: Print>(report: &mut Report<'_, P>, key: &Key) {
+    let full = Err(TakeFault::Full);
+    for (datagram, answer) in [
+        (LAST, full),
+        (OTHER_SESSION, full),
+        (OTHER_FILE, full),
+        (FIRST, Ok(Taken { facts: 1 })),
+    ] {
+        let take = Take {
+            key,
+            before: &[FIRST],
+            datagram,
+            answer,
+            journal: JOURNAL_OF_FIRST,
+        };
+        report.ask_for_none("take in no room", &TakeInLittleRoom { take });
+    }
+}

@@ -1,0 +1,475 @@
+#!/bin/sh
+# Outputs whole or not at all: runs the built program as a user would, and looks at what stands after faults, kills and in odd places.
+# usage: tests/outputs.sh PROGRAM
+set -u
+work=$(mktemp -d)
+trap 'rm -rf "$work"' EXIT
+cp "$1" "$work/program"
+chmod 755 "$work" "$work/program"
+cd "$work" || exit 1
+program=$work/program
+passed=0
+failed=0
+
+# told NAME TEXT: a check failed
+told() {
+    failed=$((failed + 1))
+    echo "outputs: $1: $2"
+}
+
+# check NAME STATUS OUT ERR: what the last run left must be this ("-": anything)
+check() {
+    if { [ "$2" = - ] || [ "$status" = "$2" ]; } && { [ "$3" = - ] || [ "$(cat out)" = "$3" ]; } && { [ "$4" = - ] || [ "$(cat err)" = "$4" ]; }; then
+        passed=$((passed + 1))
+    else
+        told "$1" "status $status, standard output '$(head -c 400 out)', standard error '$(head -c 400 err)'"
+    fi
+}
+
+# same NAME FILE FILE: two files have the same bytes
+same() {
+    if cmp -s "$2" "$3"; then passed=$((passed + 1)); else told "$1" "$2 is not $3"; fi
+}
+
+# holds NAME TEST..: a test of the shell holds
+holds() {
+    claim=$1
+    shift
+    if "$@"; then passed=$((passed + 1)); else told "$claim" "not so: $*"; fi
+}
+
+# alone NAME FILE: nothing stands beside it
+alone() {
+    if [ ! -e "$2.partial" ] && [ ! -L "$2.partial" ]; then passed=$((passed + 1)); else told "$1" "$2.partial is there"; fi
+}
+
+run() {
+    "$program" "$@" > out 2> err
+    status=$?
+}
+
+# runs as a user who is not root, if that can be
+as_other() {
+    if [ "$(id -u)" != 0 ]; then
+        "$program" "$@" > out 2> err
+    else
+        setpriv --reuid=65534 --regid=65534 --clear-groups "$program" "$@" > out 2> err
+    fi
+    status=$?
+}
+
+# until_there FILE: waits for it, at most 5 seconds
+until_there() {
+    for _ in $(seq 500); do
+        [ -e "$1" ] && return 0
+        sleep 0.01
+    done
+    told 'a file that was waited for' "$1"
+    return 1
+}
+
+# What is received of two files in two stations: each has one of them, and both come to `both`.
+printf 'a file of some bytes, in many symbols' > content
+printf 'hello' > other
+"$program" carousel -o sent1 --tsi 7 --toi 1 --symbol 4 --block 2 content > out || told carousel 'failed'
+"$program" carousel -o sent2 --tsi 7 --toi 2 --symbol 4 --block 2 other > out || told carousel 'failed'
+"$program" join -o one sent1 > out || told join 'failed'
+"$program" join -o two sent2 > out || told join 'failed'
+"$program" join -o both one two > out || told join 'failed'
+both_lines='datagrams 0
+refused 0
+entries 14'
+
+# In place
+cp one all
+run join -o all all two
+check 'join in place' 0 "$both_lines" ''
+same 'the journal joined in place' all both
+alone 'join in place leaves nothing beside' all
+cp one a
+run merge -o ./a a two
+check 'merge into an input by another name' 0 'entries 14' ''
+same 'what was merged into an input' a both
+cp one a
+ln a linked
+run merge -o linked a two
+check 'merge into a hard link of an input' 0 'entries 14' ''
+same 'the hard link has what was merged' linked both
+same 'the input stays' a one
+cp one a
+ln -f a linked
+run join -o a a two
+check 'join over a name of two' 0 "$both_lines" ''
+same 'the other name keeps what was there' linked one
+cp two x
+run extract -o x --tsi 7 --toi 2 x
+check 'extract over its journal' 0 'bytes 5' ''
+same 'the object in the place of its journal' x other
+cp sent2 d
+run join -o d d
+check 'join over its datagram file' 0 'datagrams 2
+refused 0
+entries 3' ''
+same 'the journal in the place of its datagrams' d two
+cp other c
+run carousel -o c --tsi 7 --toi 2 --symbol 4 --block 2 c
+check 'carousel over its content' 0 'datagrams 2' ''
+same 'the datagrams in the place of their content' c sent2
+run info -o x --tsi 7 --toi 3 --length 5 --symbol 4 --block 2 two
+check 'info over another file' 0 'entries 4' ''
+
+# What was there before: modes, links, leftovers
+cp one all
+chmod 600 all
+run join -o all all two
+check 'join over a private file' 0 - ''
+holds 'its mode is kept' [ "$(stat -c %a all)" = 600 ]
+cp one all
+chmod 666 all
+(umask 077 && "$program" join -o all all two > out 2> err)
+holds 'a mode is kept whatever the mask' [ "$(stat -c %a all)" = 666 ]
+(umask 027 && "$program" join -o masked one > out 2> err)
+holds 'a new file has the mode of any other' [ "$(stat -c %a masked)" = 640 ]
+mkdir store
+cp one store/all
+ln -s store/all link
+run join -o link link two
+check 'join over a symbolic link' 0 - ''
+holds 'the link stays' [ -L link ]
+same 'what it leads to is written' store/all both
+alone 'nothing beside what it leads to' store/all
+alone 'nothing beside the link' link
+ln -s new store/relative
+ln -s store/relative chain
+run join -o chain two
+check 'join to a link that leads to nothing yet' 0 - ''
+same 'it leads to the journal' store/new two
+holds 'both links stay' [ -L chain ]
+ln -s circle circle
+run join -o circle two
+check 'a link that leads to itself' 3 '' 'cannot create output'
+printf garbage > left.partial
+chmod 400 left.partial
+run join -o left two
+check 'a leftover is taken over' 0 - ''
+same 'the leftover is gone' left two
+alone 'nothing beside' left
+holds 'the mode of a leftover does not stay' [ "$(stat -c %a left)" = "$(stat -c %a two)" ]
+mkdir -p dir.partial
+run join -o dir two
+check 'a folder beside' 3 '' 'cannot create output'
+holds 'no output beside a folder' [ ! -e dir ]
+ln -s one to.partial
+run join -o to two
+check 'a link beside' 3 '' 'cannot create output'
+"$program" join -o unchanged sent1 > out
+same 'what a link beside leads to stays' one unchanged
+cp one in.partial
+run join -o in in.partial two
+check 'an input beside the output' 3 '' 'cannot create output'
+same 'the input beside the output stays' in.partial one
+run merge -o in two in.partial
+check 'an input of merge beside the output' 3 '' 'cannot create output'
+same 'the input of merge stays' in.partial one
+run join -o folder/ two
+check 'a folder that is not there' 3 '' 'cannot create output'
+run join -o store two
+check 'a folder as the output' 3 '' 'cannot create output'
+run join -o '' two
+check 'an empty name' 3 '' 'cannot create output'
+run join -o "$(printf %0250d 0)" two
+check 'a name with no room for another' 3 '' 'cannot create output'
+
+# Faults after the output was created: it is as it was, and nothing is left beside it.
+head -c 100 one > cut
+for target in all fresh; do
+    cp one all
+    run merge -o $target two cut
+    check "merge with a journal that is cut, to $target" 1 '' 'input 2: Cut'
+    alone "a fault of merge leaves nothing beside $target" $target
+done
+same 'after a fault of merge the output is what it was' all one
+holds 'after a fault of merge there is no new output' [ ! -e fresh ]
+
+# A file that may not grow: a write fails in the middle.
+head -c 3000000 /dev/urandom > large
+"$program" carousel -o sent3 --tsi 7 --toi 3 --symbol 1400 --block 64 large > out
+"$program" join -o three sent3 > out
+cp one all
+for target in all fresh; do
+    (trap '' XFSZ && ulimit -f 1000 && exec "$program" join -o $target one three > out 2> err)
+    status=$?
+    check "a limit on the length of $target" 3 '' 'cannot write'
+    alone "a limit leaves nothing beside $target" $target
+    (trap '' XFSZ && ulimit -f 1000 && exec "$program" merge -o $target one three > out 2> err)
+    status=$?
+    check "a limit on the length of what is merged to $target" 3 '' 'cannot write'
+    alone "a limit of merge leaves nothing beside $target" $target
+done
+same 'after a failed write the output is what it was' all one
+holds 'after a failed write there is no new output' [ ! -e fresh ]
+
+# A disk that is too small
+mkdir small
+if mount -t tmpfs -o size=1m none small 2> err; then
+    cp one small/all
+    run join -o small/all small/all three
+    check 'a full disk' 3 '' 'cannot write'
+    same 'on a full disk the output is what it was' small/all one
+    alone 'nothing is left on a full disk' small/all
+    run extract -o small/object --tsi 7 --toi 3 three
+    check 'a full disk, for a new output' 3 '' 'cannot write'
+    holds 'no new output on a full disk' [ ! -e small/object ]
+    alone 'nothing new is left on a full disk' small/object
+    umount small
+else
+    echo 'outputs: skipped: a full disk (no file system can be mounted here)'
+fi
+
+# Runs that wait on a pipe for an input, with their output made
+mkfifo pipe
+cp one all
+"$program" merge -o all pipe two > out2 2> err2 &
+first=$!
+exec 3> pipe
+until_there all.partial
+holds 'what is beside a file has its mode' [ "$(stat -c %a all.partial)" = "$(stat -c %a all)" ]
+run join -o all one two
+check 'a second run on one output' 3 '' 'cannot create output'
+same 'the output stays meanwhile' all one
+cat one >&3
+exec 3>&-
+wait $first
+status=$?
+holds 'the first run ends well' [ $status = 0 ]
+same 'what the first run wrote' all both
+alone 'nothing beside after two runs' all
+"$program" merge -o fresh pipe two > out2 2> err2 &
+first=$!
+exec 3> pipe
+until_there fresh.partial
+kill -9 $first
+wait $first 2> err
+exec 3>&-
+holds 'a killed run leaves no output' [ ! -e fresh ]
+run show fresh.partial
+check 'what a killed merge leaves is no journal' 1 - -
+run join -o fresh two
+check 'the run after a killed one' 0 - ''
+same 'its output' fresh two
+alone 'the leftover of a killed run is gone' fresh
+"$program" merge -o taken pipe two > out 2> err &
+first=$!
+exec 3> pipe
+until_there taken.partial
+mkdir -p taken/full
+cat one >&3
+exec 3>&-
+wait $first
+status=$?
+check 'a folder that took the name of the output' 3 '' 'cannot write'
+alone 'nothing beside that folder' taken
+cp one all
+"$program" merge -o all pipe two > out 2> err &
+first=$!
+exec 3> pipe
+until_there all.partial
+mv all.partial moved
+printf else > all.partial
+cat one >&3
+exec 3>&-
+wait $first
+status=$?
+check 'a file beside the output that was moved away' 3 '' 'cannot write'
+same 'the output is what it was' all one
+holds 'what another put beside it stays' [ "$(cat all.partial)" = else ]
+rm -f all.partial
+
+# Killed at 20 moments of a join in place of 50 MB
+head -c 25000000 /dev/urandom > large
+"$program" carousel -o sent4 --tsi 7 --toi 4 --symbol 1400 --block 64 large > out
+"$program" carousel -o sent5 --tsi 7 --toi 5 --symbol 1400 --block 64 large > out
+"$program" join -o old sent4 > out
+"$program" join -o new old sent5 > out
+cp old place
+started=$(date +%s%N)
+"$program" join -o place place sent5 > out
+ended=$(date +%s%N)
+same 'a join of 50 MB in place' place new
+cp old place
+kept=0
+for k in $(seq 20); do
+    "$program" join -o place place sent5 > out2 2> err2 &
+    first=$!
+    sleep "$(awk "BEGIN { print ($ended - $started) / 1e9 * $k / 18 }")"
+    kill -9 $first 2> err
+    wait $first 2> err
+    if cmp -s place new; then
+        kept=$((kept + 1))
+        cp old place
+    elif ! cmp -s place old; then
+        told 'a killed join' "at moment $k the output is neither the old journal nor the new one"
+        cp old place
+    fi
+done
+passed=$((passed + 1))
+echo "outputs: of 20 runs that were killed, $((20 - kept)) left the old journal and $kept the new one"
+run join -o place place sent5
+check 'the join after the killed ones' 0 - ''
+same 'it has all' place new
+alone 'it took the leftover over' place
+
+# Devices and pipes take their bytes themselves.
+run join -o /dev/full two
+check 'a full device' 3 '' 'cannot write'
+run join -o /dev/null two
+check 'a device that takes all' 0 - ''
+holds 'a device stays a device' [ -c /dev/null ]
+holds 'nothing beside a device' [ ! -e /dev/null.partial ]
+cat pipe > got &
+first=$!
+run extract -o pipe --tsi 7 --toi 2 two
+check 'a pipe with a name' 0 'bytes 5' ''
+wait $first
+same 'what went through it' got other
+alone 'nothing beside a pipe' pipe
+
+exec 4> nameless
+rm nameless
+run join -o /dev/fd/4 two
+check 'an open file without a name' 0 - ''
+same 'the file without a name is written' /dev/fd/4 two
+holds 'no file with its old name' [ -z "$(ls | grep nameless)" ]
+exec 4>&-
+
+# Standard output as the output: the lines go to standard error.
+two_lines='datagrams 0
+refused 0
+entries 3'
+for name in - /dev/stdout; do
+    "$program" join -o $name two > got 2> err
+    status=$?
+    : > out
+    check "join to $name" 0 '' "$two_lines"
+    same "the journal that went to $name" got two
+    printf before > got
+    "$program" extract -o $name --tsi 7 --toi 2 two >> got 2> err
+    status=$?
+    check "extract behind what is there, to $name" 0 '' 'bytes 5'
+    holds "it stands behind, to $name" [ "$(cat got)" = beforehello ]
+    : > out
+    "$program" merge -o $name one two 2> err | cat > got
+    check "merge to a pipe, by $name" - '' 'entries 14'
+    same "the journal that went through a pipe, by $name" got both
+    "$program" join -o $name two > /dev/full 2> err
+    status=$?
+    check "a full standard output, by $name" 3 '' 'cannot write'
+done
+run carousel -o ./- --tsi 7 --toi 2 --symbol 4 --block 2 other
+check 'a file with the name -' 0 'datagrams 2' ''
+same 'it has the datagrams' ./- sent2
+: > out
+"$program" join -o - - < two > got 2> err
+status=$?
+check 'from standard input to standard output' 0 '' "$two_lines"
+same 'the journal that went through' got two
+"$program" merge -o - - two < one > got 2> err
+status=$?
+check 'merge with standard input' 0 '' 'entries 14'
+same 'what was merged with it' got both
+"$program" gaps - < two > out 2> err
+status=$?
+check 'gaps of standard input' 0 'session 7 object 2 whole 5' ''
+cat other | "$program" carousel -o got --tsi 7 --toi 2 --symbol 4 --block 2 - > out 2> err
+status=$?
+check 'the content from a pipe' 0 'datagrams 2' ''
+same 'its datagrams' got sent2
+
+# closed NAME COMMAND..: with standard output, standard error or both closed, a command that writes OUT leaves it whole.
+closed() {
+    name=$1
+    expected=$2
+    shift 2
+    : > out
+    rm -f closed
+    "$program" "$@" 2> err >&-
+    status=$?
+    check "$name with standard output closed" 3 '' 'cannot write'
+    [ "$expected" = none ] || same "what $name wrote with standard output closed" closed "$expected"
+    rm -f closed
+    "$program" "$@" 2>&- > out
+    status=$?
+    : > err
+    check "$name with standard error closed" 0 - ''
+    [ "$expected" = none ] || same "what $name wrote with standard error closed" closed "$expected"
+    rm -f closed
+    : > out
+    "$program" "$@" >&- 2>&- <&-
+    status=$?
+    check "$name with all streams closed" 3 '' ''
+    [ "$expected" = none ] || same "what $name wrote with all streams closed" closed "$expected"
+}
+closed packet none packet 10A004000000000000000007000000010000000068656C6C
+closed show none show two
+closed gaps none gaps two
+closed extract other extract -o closed --tsi 7 --toi 2 two
+"$program" info -o informed --tsi 7 --toi 3 --length 5 --symbol 4 --block 2 two > out
+closed info informed info -o closed --tsi 7 --toi 3 --length 5 --symbol 4 --block 2 two
+closed join two join -o closed two
+closed merge both merge -o closed one two
+closed carousel sent2 carousel -o closed --tsi 7 --toi 2 --symbol 4 --block 2 other
+: > out
+"$program" show - <&- > out 2> err
+status=$?
+check 'a closed standard input' 3 '' 'cannot open input 1'
+"$program" join -o - two >&- 2> err
+status=$?
+: > out
+check 'a closed standard output as the output' 3 '' 'cannot write'
+"$program" --help >&- 2> err
+status=$?
+check 'help to a closed standard output' 3 '' 'cannot write'
+
+# What only the system keeps from a user
+if [ "$(id -u)" != 0 ] || setpriv --reuid=65534 --regid=65534 --clear-groups true 2> err; then
+    mkdir locked open
+    chmod 777 open
+    cp one locked/all
+    chmod 666 locked/all
+    chmod 555 locked
+    as_other join -o locked/all one two
+    check 'a folder without leave to write' 3 '' 'cannot create output'
+    same 'the file in it stays' locked/all one
+    chmod 755 locked
+    cp one open/all
+    chmod 444 open/all
+    as_other join -o open/all one two
+    check 'a file without leave to write' 3 '' 'cannot create output'
+    same 'that file stays' open/all one
+    alone 'nothing beside that file' open/all
+else
+    echo 'outputs: skipped: a user without leave (no other user can be had here)'
+fi
+
+# Inputs of more than 4,294,967,295 bytes are told by their length, before they are read.
+printf 'FLDG\000\001' > huge
+truncate -s 4294967296 huge
+"$program" join -o got huge > out 2> err &
+first=$!
+(sleep 10; kill -9 $first 2> /dev/null) &
+wait $first
+status=$?
+check 'a datagram file of 4 GiB' 1 '' 'input 1: TooLarge'
+run join -o got other huge
+check 'the kind of the input before it' 1 '' 'input 1: unknown kind'
+run join -o got two huge
+check 'a datagram file of 4 GiB behind a journal' 1 '' 'input 2: TooLarge'
+run carousel -o got --tsi 7 --toi 2 --symbol 1400 --block 64 huge
+check 'a content of 4 GiB' 1 '' 'input 1: TooLarge'
+truncate -s 4294967295 huge
+printf 'FLJN\000\001' | dd of=huge conv=notrunc 2> /dev/null
+run join -o got huge
+check 'a journal of any length is read' 1 '' 'input 1: Kind'
+
+echo "outputs: $passed passed, $failed failed"
+[ $failed = 0 ]
