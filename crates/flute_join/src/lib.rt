@@ -11,8 +11,6 @@ pub mod laws;
 mod map;
 mod place;
 mod refusal;
-#[cfg(test)]
-mod tests;
 mod value;
 
 pub use cell::Cell;

@@ -43,6 +43,3 @@ pub use stream::Stream;
 pub use streams::{Pair, Slice, Streams};
 pub use streams_fault::{InputFault, StreamsFault};
 pub use walk_stream::WalkStream;
-
-#[cfg(test)]
-mod tests;

@@ -19,6 +19,3 @@ pub use folder::{Folder, Name};
 pub use memory_folder::MemoryFolder;
 pub use output::{Output, OutputFault, write_file};
 pub use streams::take_standard_streams;
-
-#[cfg(test)]
-mod tests;

@@ -44,6 +44,3 @@ pub use std_sink::StdSink;
 pub use std_source::StdSource;
 pub use symbol_id::SymbolId;
 pub use tally::Tally;
-
-#[cfg(test)]
-mod tests;

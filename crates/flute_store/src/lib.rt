@@ -20,8 +20,6 @@ mod object;
 mod status;
 mod store;
 mod taken;
-#[cfg(test)]
-mod tests;
 mod walk;
 
 pub use entering::Objects;

@@ -30,6 +30,3 @@ pub use reading::read;
 pub use refusal::Refusal;
 pub use sending::{CarouselFault, carousel};
 pub use writing::{Outgoing, WriteFault, write};
-
-#[cfg(test)]
-mod tests;

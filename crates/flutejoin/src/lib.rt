@@ -50,6 +50,3 @@ pub use sending::{datagrams_of, send_to};
 pub use show::show_to;
 pub use steps::{Step, StepFault};
 pub use writing::count_to;
-
-#[cfg(test)]
-mod tests;

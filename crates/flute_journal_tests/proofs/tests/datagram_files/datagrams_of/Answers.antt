@@ -1,0 +1,33 @@
+use Rattle.std.proofs.Common.{◌≡◌, ℕ, List, [], ◌∷◌, ◌++◌, sym, ap, ◌∙◌, subst, arith, Err}
+use Rattle.std.proofs.lemmas.Result.{err_from_is_err_and}
+use Rattle.flute_journal.specs.Records.{GivesRecord, GivesNone, GivesFileFault}
+use Rattle.flute_journal.proofs.Records.{FileSofar, file_sofar-next, file_sofar-end, file_sofar-fault}
+use Rattle.flute_journal_tests.proofs.tests.datagram_files.datagrams_of.Goals as goal
+
+pub returns-in_err-datagram-clause-fault : goal.returns-in_err-datagram-clause-fault
+returns-in_err-datagram-clause-fault g c =
+    let limit = c.args.max_records in
+    let f = c.in_err-datagram.field-0.0 in
+    let old = c.loop-datagrams.reader.stage in
+    let new = c.next.new.self.stage in
+    let u = g.R.Source.unread c.args.source.now in
+    let v = g.R.Source.unread c.loop-datagrams.reader.source.now in
+    let w = g.R.Source.unread c.next.new.self.source.now in
+    let gave : GivesFileFault limit old new v w f = subst (λ n. GivesFileFault n old new v w f) c.loop-datagrams.invariant.1 c.in_err-datagram.ensures.gives in
+    let e = err_from_is_err_and c.from_residual.result c.from_residual.ensures.1 in
+    rw (e.1 ∙ ap Err e.2) (file_sofar-fault limit u v w old new c.loop-datagrams.datagrams.items f c.loop-datagrams.invariant.0 gave)
+
+pub loop-datagrams-preserved : goal.loop-datagrams-preserved
+loop-datagrams-preserved g c =
+    let limit = c.args.max_records in
+    let ds = c.loop-datagrams.datagrams.items in
+    let d = c.in-Some.datagram in
+    let old = c.loop-datagrams.reader.stage in
+    let new = c.next.new.self.stage in
+    let u = g.R.Source.unread c.args.source.now in
+    let v = g.R.Source.unread c.loop-datagrams.reader.source.now in
+    let w = g.R.Source.unread c.next.new.self.source.now in
+    let gave : GivesRecord c.loop-datagrams.reader.max_records old new v w d = rw c.in-Some.is at c.in_ok-datagram.ensures.gives in
+    let gave' : GivesRecord limit old new v w d = subst (λ n. GivesRecord n old new v w d) c.loop-datagrams.invariant.1 gave in
+    let grown : c.push.new.self.items ≡ ds ++ d ∷ [] = grind arith in
+    (subst (FileSofar limit u w new) (sym grown) (file_sofar-next limit u v w old new ds d c.loop-datagrams.invariant.0 gave'), c.next.ensures.limit ∙ c.loop-datagrams.invariant.1)
