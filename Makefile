@@ -1,8 +1,9 @@
-# make            proves what changed, builds the program and leaves it at bin/flutejoin
-# make test       the whole gate: every proof from nothing, the must-fail edits, the tests, the program, and
-#                 memory refused in turn
-# make example    runs a small session: a file sent, received at three stations, joined and written
-# make install    copies the program to $(PREFIX)/bin
+# make               proves what changed, builds the program and leaves it at bin/flutejoin
+# make test          the whole gate: every proof from nothing, the must-fail edits, the tests, the program, and
+#                    memory refused in turn
+# make wrong-bodies  the wrong bodies that the gate leaves out
+# make example       runs a small session: a file sent, received at three stations, joined and written
+# make install       copies the program to $(PREFIX)/bin
 
 PREFIX ?= /usr/local
 
@@ -18,6 +19,9 @@ test:
 	tests/refused_memory.sh crates/refused_memory/out/refused_memory crates/refused_memory/out/refused_memory.by-rattle
 	tests/refused_program.sh crates/flutejoin_cli/out/flutejoin_cli crates/flutejoin_cli/out/flutejoin_cli.by-rattle
 
+wrong-bodies:
+	tools/wrong_bodies.sh
+
 example: bin/flutejoin
 	@examples/session.sh bin/flutejoin
 
@@ -28,4 +32,4 @@ install: bin/flutejoin
 clean:
 	rm -rf bin crates/*/out
 
-.PHONY: test example install clean
+.PHONY: test wrong-bodies example install clean

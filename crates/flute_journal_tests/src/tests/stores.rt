@@ -9,6 +9,21 @@ use flute_parts::{MemorySink, MemorySource, ShortSink, ShortSource};
 use flute_store::Shelf;
 use std::alloc::Global;
 
+// The store that a journal tells.
+fn held_by<const SESSIONS: u32, const OBJECTS: u32, const SYMBOLS: u32>(
+    alloc: Global,
+    journal: &[u8],
+) -> Result<Store<SESSIONS, OBJECTS, SYMBOLS>, LoadFault> {
+    read_store(alloc, &mut MemorySource::new(journal), MANY)
+}
+
+fn hold_the_same<const SESSIONS: u32, const OBJECTS: u32, const SYMBOLS: u32>(
+    first: &Store<SESSIONS, OBJECTS, SYMBOLS>,
+    second: &Store<SESSIONS, OBJECTS, SYMBOLS>,
+) -> bool {
+    first.walk().eq(second.walk())
+}
+
 /// A new store that took these datagrams.
 fn taken(alloc: Global, datagrams: &[&str]) -> Result<Small, Fail> {
     let mut store = Store::new(alloc);
@@ -138,15 +153,15 @@ fn journals_are_joined(rt: HostRuntime) -> Result<(), Fail> {
         for (j, (second, _)) in JOURNALS.iter().enumerate() {
             let first = bytes(alloc, first)?;
             let second = bytes(alloc, second)?;
-            let mut wanted: Small = read_store(alloc, &mut MemorySource::new(&first), MANY)?;
-            let other: Small = read_store(alloc, &mut MemorySource::new(&second), MANY)?;
+            let mut wanted: Small = held_by(alloc, &first)?;
+            let other: Small = held_by(alloc, &second)?;
             wanted.absorb(alloc, &other)?;
             for piece in [1, 2, 7] {
-                let mut store: Small = read_store(alloc, &mut MemorySource::new(&first), MANY)?;
+                let mut store: Small = held_by(alloc, &first)?;
                 let mut source = ShortSource::new(&second, piece, usize::MAX);
                 let fits = join_journal(alloc, &mut store, &mut source, MANY)?;
                 assert!(rt; fits, "{i} and {j}");
-                assert!(rt; store.walk().eq(wanted.walk()), "{i} and {j} by {piece}");
+                assert!(rt; hold_the_same(&store, &wanted), "{i} and {j} by {piece}");
             }
         }
     }
@@ -161,12 +176,12 @@ fn joined_to_whole(
     wanted: &[&str],
 ) -> Result<Option<Result<bool, LoadFault>>, Fail> {
     let whole = bytes(alloc, vectors::WHOLE)?;
-    let mut store: Store<1, 1, 2> = read_store(alloc, &mut MemorySource::new(&whole), MANY)?;
+    let mut store: Store<1, 1, 2> = held_by(alloc, &whole)?;
     let wanted = bytes(alloc, wanted)?;
-    let wanted: Store<1, 1, 2> = read_store(alloc, &mut MemorySource::new(&wanted), MANY)?;
+    let wanted = held_by(alloc, &wanted)?;
     let journal = bytes(alloc, journal)?;
     let joined = join_journal(alloc, &mut store, &mut MemorySource::new(&journal), MANY);
-    if !store.walk().eq(wanted.walk()) {
+    if !hold_the_same(&store, &wanted) {
         return Ok(None);
     }
     Ok(Some(joined))
@@ -214,7 +229,7 @@ fn a_store_that_is_too_small_for_both(rt: HostRuntime) -> Result<(), Fail> {
 fn joins_that_stop(rt: HostRuntime) -> Result<(), Fail> {
     let alloc = rt.alloc();
     let journal = bytes(alloc, vectors::OTHERS)?;
-    let other: Small = read_store(alloc, &mut MemorySource::new(&journal), MANY)?;
+    let other: Small = held_by(alloc, &journal)?;
     let mut both = taken(alloc, &[INFO_AND_FIRST_SYMBOL])?;
     both.absorb(alloc, &other)?;
     for good in 0..journal.len() {
@@ -225,7 +240,7 @@ fn joins_that_stop(rt: HostRuntime) -> Result<(), Fail> {
         assert!(rt; joined == failed, "{good}");
         assert!(rt; store.walk().count() >= 2, "{good}");
         store.absorb(alloc, &other)?;
-        assert!(rt; store.walk().eq(both.walk()), "{good}");
+        assert!(rt; hold_the_same(&store, &both), "{good}");
     }
     Ok(())
 }
