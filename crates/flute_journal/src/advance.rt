@@ -13,6 +13,7 @@ use std::alloc::Global;
 /// # Errors
 ///
 /// The fault of the first that stopped. Those behind it are as they were.
+#[inline(always)]
 pub fn advance_at<G: Streams>(
     alloc: Global,
     streams: &mut G,

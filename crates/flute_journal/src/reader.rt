@@ -87,6 +87,7 @@ impl<'a, R: Source> JournalReader<'a, R> {
     /// The same, but the bytes of a symbol are put into the memory of `spare`, where that serves: a caller that lets go
     /// of each entry before it reads the next hands its vector on, and no memory is taken but where a symbol is longer
     /// than all before it.
+    #[inline(always)]
     pub fn next_with(&mut self, alloc: Global, spare: Vec<u8>) -> Result<Option<Fact>, ReadFault>
         ensures source { (source_of self.new).ghost_name ≡ (source_of self.old).ghost_name }
         ensures limit { limit_of self.new ≡ limit_of self.old }

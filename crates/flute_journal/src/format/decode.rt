@@ -74,6 +74,7 @@ pub fn parse(kind: Kind, last: Option<Address>, bytes: &[u8]) -> Result<Fixed, R
 }
 
 // The key of which these are the bytes.
+#[inline(always)]
 fn key_in(bytes: &[u8]) -> Option<Key>
     requires { length bytes.now ≡ 21 }
     ensures { MatchOption result (is_key bytes.now ≡ false)
