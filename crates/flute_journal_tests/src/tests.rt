@@ -3,6 +3,7 @@
 mod datagram_files;
 mod faults;
 mod journals;
+mod many;
 mod merges;
 mod stores;
 mod streams;
@@ -15,6 +16,9 @@ use std::test::Fail;
 
 /// More than any of the journals here needs.
 type Small = Store<4, 4, 4>;
+
+/// A store with room for all that the tests tell.
+type Wide = Store<64, 64, 64>;
 
 /// The bound of journals that are not refused for it.
 const MANY: u64 = 16_777_216;

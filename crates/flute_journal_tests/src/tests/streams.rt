@@ -7,11 +7,11 @@ use super::*;
 use flute_parts::{MemorySink, MemorySource, ShortSink, ShortSource};
 use std::alloc::Global;
 
-const ALL: &[&[&str]] = &[NOTHING, WHOLE, CONFLICT, OTHERS, JOINED];
+pub const ALL: &[&[&str]] = &[NOTHING, WHOLE, CONFLICT, OTHERS, JOINED];
 
 /// The journal of a store that absorbed these.
-fn absorbed(alloc: Global, journals: &[&Vec<u8>]) -> Result<MemorySink, Fail> {
-    let mut store: Small = Store::new(alloc);
+pub fn absorbed(alloc: Global, journals: &[Vec<u8>]) -> Result<MemorySink, Fail> {
+    let mut store: Wide = Store::new(alloc);
     for journal in journals {
         if !join_journal(alloc, &mut store, &mut MemorySource::new(journal), MANY)? {
             return Err(Fail::from("over the limits"));
@@ -23,11 +23,27 @@ fn absorbed(alloc: Global, journals: &[&Vec<u8>]) -> Result<MemorySink, Fail> {
 }
 
 /// A store that a journal was read into, from a source that hands out little at a time.
-fn store_of(alloc: Global, journal: &Vec<u8>, piece: usize) -> Result<Small, Fail>
+fn store_of(alloc: Global, journal: &[&str], piece: usize) -> Result<Small, Fail>
     requires { 0 < piece }
 {
-    let mut source = ShortSource::new(journal, piece, usize::MAX);
+    let journal = bytes(alloc, journal)?;
+    let mut source = ShortSource::new(&journal, piece, usize::MAX);
     Ok(read_store(alloc, &mut source, MANY)?)
+}
+
+fn merge_stores<'a>(
+    alloc: Global,
+    first: &'a Small,
+    second: &'a Small,
+    third: &'a Small,
+    sink: &mut MemorySink,
+) -> Result<Joined, StreamsFault> {
+    let mut streams = [
+        WalkStream::new(first.walk()),
+        WalkStream::new(second.walk()),
+        WalkStream::new(third.walk()),
+    ];
+    merge_slice::<4, 4, 4, _, _>(alloc, &mut streams, sink)
 }
 
 /// Each three of the journals, in every order, as stores in memory.
@@ -37,20 +53,13 @@ fn three_stores_are_merged(rt: HostRuntime) -> Result<(), Fail> {
     for a in ALL {
         for b in ALL {
             for c in ALL {
-                let first = bytes(alloc, a)?;
-                let second = bytes(alloc, b)?;
-                let third = bytes(alloc, c)?;
-                let all = absorbed(alloc, &[&first, &second, &third])?;
-                let first = store_of(alloc, &first, 1)?;
-                let second = store_of(alloc, &second, 2)?;
-                let third = store_of(alloc, &third, 7)?;
-                let mut streams = [
-                    WalkStream::new(first.walk()),
-                    WalkStream::new(second.walk()),
-                    WalkStream::new(third.walk()),
-                ];
+                let journals = [bytes(alloc, a)?, bytes(alloc, b)?, bytes(alloc, c)?];
+                let all = absorbed(alloc, &journals)?;
+                let first = store_of(alloc, a, 1)?;
+                let second = store_of(alloc, b, 2)?;
+                let third = store_of(alloc, c, 7)?;
                 let mut sink = MemorySink::new(alloc);
-                let answer = merge_slice::<4, 4, 4, _, _>(alloc, &mut streams, &mut sink);
+                let answer = merge_stores(alloc, &first, &second, &third, &mut sink);
                 assert!(rt; matches!(answer, Ok(Joined { within: true, .. })));
                 assert_eq!(rt; sink.as_slice(), all.as_slice());
             }
