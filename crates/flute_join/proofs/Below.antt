@@ -12,11 +12,6 @@ module _ {M : Type 0} {join : M → M → M} (laws : IsJoin join) where
   pub below_trans : (x y z : M) → IsBelow join x y → IsBelow join y z → IsBelow join x z
   below_trans x y z p q = ap (join x) (sym q) ∙ sym (laws.associative x y z) ∙ ap (λ u. join u z) p ∙ q
 
-  -- a join with a greater value is greater
-  pub join_below : (x y z : M) → IsBelow join y z → IsBelow join (join x y) (join x z)
-  join_below x y z p =
-      laws.associative x y (join x z) ∙ ap (join x) (laws.commutative y (join x z) ∙ laws.associative x z y ∙ ap (join x) (laws.commutative z y ∙ p)) ∙ sym (laws.associative x x z) ∙ ap (λ u. join u z) (laws.idempotent x)
-
   pub below_antisymmetric : (x y : M) → IsBelow join x y → IsBelow join y x → x ≡ y
   below_antisymmetric x y p q = sym q ∙ laws.commutative y x ∙ p
 

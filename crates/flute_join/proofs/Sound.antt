@@ -1,5 +1,5 @@
 -- What holds of each value of a map, and of a map that has keys.
-use Rattle.std.proofs.Common.{◌≡◌, ◌≢◌, List, [], ◌∷◌, Bool, true, false, cond, Option, Some, unwrap_or, Result, Ok, Err, OnOk, OnErr, sym, ap, ◌∙◌, subst}
+use Rattle.std.proofs.Common.{◌≡◌, ◌≢◌, List, [], ◌∷◌, Bool, true, false, cond, Option, Some, unwrap_or, sym, ap, ◌∙◌, subst}
 use Rattle.std.specs.declared.cmp.Ordering.{Ordering}
 use Rattle.std.specs.declared.cmp.Ordering.TheVariants.{Less, Equal, Greater}
 use Rattle.std.specs.Ordering.{match_ordering}
@@ -38,11 +38,6 @@ module _ {K X : Type 0} (cmp : K → K → Ordering) (P : X → Type 0) where
   pub each-insert_entry : (es : List (K × X)) (k : K) (w : X) → EachValue P es → P w → EachValue P (insert_entry cmp es k w)
   each-insert_entry [] k w a p = (p, tt)
   each-insert_entry (e ∷ es) k w a p = each_put (cmp k e.0) k e es (insert_entry cmp es k w) w p a.0 a.1 (each-insert_entry es k w a.1 p)
-
-  -- after `add_new`
-  pub each-added : {T E : Type 0} (r : Result T E) (es ds : List (K × X)) (k : K) (w : X) → OnOk r (ds ≡ insert_entry cmp es k w) → OnErr r (ds ≡ es) → EachValue P es → P w → EachValue P ds
-  each-added (Ok x) es ds k w ok err a p = subst (EachValue P) (sym ok) (each-insert_entry es k w a p)
-  each-added (Err x) es ds k w ok err a p = subst (EachValue P) (sym err) a
 
 module _ {K X : Type 0} {cmp : K → K → Ordering} (order : IsTotalOrder cmp) (join : X → X → X) where
   pub some_above : (es fs : List (K × X)) → IsBelow (map_join cmp join) es fs → es ≢ [] → fs ≢ []

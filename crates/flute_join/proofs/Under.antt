@@ -9,7 +9,7 @@ use Rattle.std.specs.List.{AllByRecursion}
 use Rattle.std.specs.List.Sorted.{IsStrictlySortedBy}
 use Rattle.std.proofs.lemmas.Map.Keys.{sorted_tail}
 use Rattle.flute_join.specs.Semilattice.{IsBelow}
-use Rattle.flute_join.specs.JoinMap.{map_join, IsOrdered, EachValue}
+use Rattle.flute_join.specs.JoinMap.{map_join, IsOrdered}
 use Rattle.flute_join.specs.MapLaws.{first_less, first_equal, first_greater, join_nothing}
 
 abbrev pub head_or : {A : Type 0} → A → List A → A
@@ -55,11 +55,6 @@ module _ {K X : Type 0} {cmp : K → K → Ordering} (order : IsTotalOrder cmp) 
   keys_under P =
       below_induction (λ es fs. AllByRecursion P (keys_of fs) → AllByRecursion P (keys_of es)) (λ fs a. tt)
       (λ e f es fs k v b ih a. (subst P (sym k) a.0, ih a.1)) (λ e f es fs ih a. ih a.1)
-
-  -- what is kept by every lower value holds of each value of the lower map
-  pub values_under : (P : X → Type 0) → ((v w : X) → IsBelow join v w → P w → P v) → (es fs : List (K × X)) → IsBelow (map_join cmp join) es fs → EachValue P fs → EachValue P es
-  values_under P kept =
-      below_induction (λ es fs. EachValue P fs → EachValue P es) (λ fs a. tt) (λ e f es fs k v b ih a. (kept e.1 f.1 v a.0, ih a.1)) (λ e f es fs ih a. ih a.1)
 
   ordered_over : (e f : K × X) (es fs : List (K × X)) → e.0 ≡ f.0 → IsBelow (map_join cmp join) es fs → IsOrdered cmp es → IsOrdered cmp (f ∷ fs) → IsOrdered cmp (e ∷ es)
   unfolding IsStrictlySortedBy

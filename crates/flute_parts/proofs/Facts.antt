@@ -16,10 +16,6 @@ unfoldable pub Member : Fact → List Fact → Type 0
 Member f [] = ⊥
 Member f (g ∷ F) = (f ≡ g) ⊎ Member f F
 
-Member-here : (f g : Fact) (F : List Fact) → f ≡ g → Member f (g ∷ F)
-unfolding Member
-Member-here f g F e = inl e
-
 Member-at : (F : List Fact) (f : Fact) (k : ℕ) → k < length F → get_or F k f ≡ f → Member f F
 unfolding Member
 Member-at [] f k l e = absurd (omega arith)

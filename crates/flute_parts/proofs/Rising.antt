@@ -1,5 +1,5 @@
 -- Lists of facts at rising addresses.
-use Rattle.std.proofs.Common.{◌≡◌, false, List, [], ◌∷◌, ◌++◌, Some, None, refl, sym, ap, ◌∙◌, subst, inl, inr}
+use Rattle.std.proofs.Common.{◌≡◌, false, List, [], ◌∷◌, Some, None, refl, sym, ap, ◌∙◌, subst, inl, inr}
 use Rattle.std.specs.Prelude.{Contains}
 use Rattle.std.specs.declared.cmp.Ordering.{Ordering}
 use Rattle.std.specs.declared.cmp.Ordering.TheVariants.{Less, Equal, Greater}
@@ -19,21 +19,7 @@ pub StandAfter-before : (a b : Address) (F : List Fact) → address_cmp a b ≡ 
 StandAfter-before a b [] l s = tt
 StandAfter-before a b (f ∷ F) l s = (address_total.trans a b (address f) l s.0, StandAfter-before a b F l s.1)
 
--- rising lists put together
-
-pub IsRising-cons : (f g : Fact) (F : List Fact) → address_cmp (address f) (address g) ≡ Less → IsRising (g ∷ F) → IsRising (f ∷ g ∷ F)
-IsRising-cons f g F l r = ((l, StandAfter-before (address f) (address g) F l r.0), r)
-
-pub StandAfter-append : (a : Address) (F G : List Fact) → StandAfter a F → StandAfter a G → StandAfter a (F ++ G)
-StandAfter-append a [] G s t = t
-StandAfter-append a (f ∷ F) G s t = (s.0, StandAfter-append a F G s.1 t)
-
-pub IsRising-append : (F G : List Fact) → IsRising F → IsRising G → ((f : Fact) → Member f F → StandAfter (address f) G) → IsRising (F ++ G)
-unfolding Member
-IsRising-append [] G r s h = s
-IsRising-append (f ∷ F) G r s h = (StandAfter-append (address f) F G r.0 (h f (inl refl)), IsRising-append F G r.1 s (λ g m. h g (inr m)))
-
--- what they come to
+-- what rising lists come to
 
 before_is_other : (a b : Address) → address_cmp a b ≡ Less → same_address b a ≡ false
 before_is_other a b l = ap is_eq (address_total.antisymm b a ∙ ap ordering_reverse l)

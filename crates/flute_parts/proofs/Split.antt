@@ -81,9 +81,6 @@ IsSplit-of i n e l h =
 -- what the numbers tell
 
 module _ (i : Information) (symbols large small length' : ℕ) (s : IsSplit i symbols large small length') where
-  abbrev blocks : List ℕ
-  blocks = split large (length' + 1) small length'
-
   pub count-ids : length (ids i) ≡ symbols
   unfolding ids
   count-ids = length-listing 0 (sizes i) ∙ ap total s.split ∙ total-split large (length' + 1) small length' ∙ sym s.all

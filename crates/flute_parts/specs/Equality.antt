@@ -1,6 +1,6 @@
 -- Names, values and facts that compare equal are the same.
 use Rattle.std.specs.Prelude.{◌≡◌, ℕ, List, Bool, true, false, ◌&&◌, ◌==◌, bytes_eq}
-use Rattle.std.proofs.Common.{sym, ap, ◌∙◌, refl}
+use Rattle.std.proofs.Common.{sym, ap, refl}
 use Rattle.std.proofs.lemmas.Bool.{false≢true, eqb-true, eq-eqb}
 use Rattle.std.proofs.lemmas.Cmp.{ranked, tied_itself}
 use Rattle.std.specs.Cmp.{nat_cmp_total, Equal-is}
@@ -177,11 +177,3 @@ fact_itself (Info k i) = both_true (same_key k k) (same_information i i) (key_it
 fact_itself (InfoConflict k) = key_itself k
 fact_itself (Symbol k i b) = both_true (same_key k k) (same_symbol_id i i && bytes_eq b b) (key_itself k) (both_true (same_symbol_id i i) (bytes_eq b b) (symbol_id_itself i) ((bytes_eq-Decides b b).1 refl))
 fact_itself (SymbolConflict k i) = both_true (same_key k k) (same_symbol_id i i) (key_itself k) (symbol_id_itself i)
-
--- facts of one kind at one address are the same where their values are
-
-pub info_alike : (key : Key) (x y : Information) → same_fact (Info key x) (Info key y) ≡ same_information x y
-info_alike key x y = ap (λ b. b && same_information x y) (key_itself key)
-
-pub symbol_alike : (key : Key) (id : SymbolId) (x y : List ℕ) → same_fact (Symbol key id x) (Symbol key id y) ≡ bytes_eq x y
-symbol_alike key id x y = ap (λ b. b && (same_symbol_id id id && bytes_eq x y)) (key_itself key) ∙ ap (λ b. b && bytes_eq x y) (symbol_id_itself id)

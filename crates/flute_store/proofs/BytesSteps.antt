@@ -1,5 +1,5 @@
 -- The bytes that a walk gives.
-use Rattle.std.proofs.Common.{◌≡◌, ◌≢◌, ℕ, zero, suc, ◌-◌, ◌≤◌, List, [], ◌∷◌, ◌++◌, length, take, drop, Option, Some, None, refl, sym, ap, ◌∙◌, subst, arith, append_assoc, append-nil}
+use Rattle.std.proofs.Common.{◌≡◌, ◌≢◌, ℕ, zero, suc, ◌-◌, ◌≤◌, List, [], ◌∷◌, ◌++◌, length, take, drop, Option, Some, None, refl, sym, ap, ◌∙◌, subst, arith, append_assoc}
 use Rattle.std.specs.Prelude.{flat_map}
 use Rattle.std.specs.Io.KnownBytes.{Appends}
 use Rattle.std.proofs.KnownBytes.{Appends-trans}
@@ -170,13 +170,6 @@ pub record IsWriting (old now : Option (List ℕ)) (all rest : List ℕ) : Type 
   pub appended : Appends old now part
   pub whole : all ≡ part ++ rest
 
-pub writing-starts : (old : Option (List ℕ)) (all : List ℕ) → IsWriting old old all all
-writing-starts old all = record { part = []; appended = nothing old; whole = refl }
-  where
-    nothing : (o : Option (List ℕ)) → Appends o o []
-    nothing None = tt
-    nothing (Some xs) = sym (append-nil xs)
-
 -- what comes after the first bytes that are written
 cut-left : (w all b left more : List ℕ) (x : List ℕ) (n : ℕ) → all ≡ w ++ take n left → left ≡ x ++ more → b ≡ take n x → all ≡ (w ++ b) ++ take (n - length b) more
 cut-left w all b left more x n h e f =
@@ -195,14 +188,6 @@ pub writing-fails : (old now new : Option (List ℕ)) (all b left more x : List 
 writing-fails old now new all b left more x n w e f a =
     subst (AppendsPart old new) (sym (cut-left w.part all b left more x n w.whole e f))
     (AppendsPart-first old new (w.part ++ b) (take (n - length b) more) (AppendsPart-second old now new w.part b w.appended a))
-
-pub writing-ends : (old now : Option (List ℕ)) (all rest : List ℕ) (n : ℕ) → rest ≡ [] → IsWriting old now all (take n rest) → Appends old now all
-writing-ends old now all rest n e w = subst (Appends old now) (sym (w.whole ∙ ap (λ xs. w.part ++ take n xs) e ∙ end n w.part)) w.appended
-  where
-    end : (n : ℕ) (xs : List ℕ) → xs ++ take n [] ≡ xs
-    end zero [] = refl
-    end (suc n) [] = refl
-    end n (x ∷ xs) = ap (λ ys. x ∷ ys) (end n xs)
 
 -- ---- the object
 

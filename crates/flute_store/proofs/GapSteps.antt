@@ -103,11 +103,6 @@ run-smaller r v w x s g =
     let t = goes-ticks r w x g in
     omega (arith, e, f, t)
 
-pub run-none : (r : Reason) (v : GapWalk) → IsWalk v → IsRun r v v
-run-none r v p =
-    let z : zero ≡ v.esi - v.esi = omega arith in
-    record { walk = p; block = refl; begun_is = refl; ended_is = refl; ahead = ahead-none v v refl refl refl; from = omega arith; passed = ap (λ k. map (entry v.sbn r) (range_with_len v.esi k) ++ left v) z; bound_is = refl }
-
 first-above : (p : SymbolId) (held : List Entry) → IsOrdered symbol_id_cmp held → FirstAfter p held → Above p (keys_of held)
 first-above p [] s f = tt
 first-above p (e ∷ es) s f =
@@ -189,9 +184,6 @@ gap-run r v w p e s =
 
 less_number : (m n : ℕ) → nat_lt m n ≡ true → m < n
 less_number m n h = grind (arith, nat_tests)
-
-not_less_number : (m n : ℕ) → nat_lt m n ≡ false → n ≤ m
-not_less_number m n h = grind (arith, nat_tests)
 
 same_number : (m n : ℕ) → (m == n) ≡ true → m ≡ n
 same_number m n h = grind (arith, nat_tests)

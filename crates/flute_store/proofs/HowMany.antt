@@ -119,9 +119,6 @@ counts-few count all rest c l =
     let t = how-all all in
     (omega (arith, m, t, l), omega (arith, n, t, l), omega (arith, f, t, l))
 
-pub counts-none : (all : List Want) → Counts (record { missing = 0; conflicting = 0; misfit = 0 }) all all
-counts-none all = record { missing = omega arith; conflicting = omega arith; misfit = omega arith }
-
 pub counts-all : (count : Wanted) (all : List Want) → Counts count all [] → IsCount count all
 unfolding how_many
 counts-all count all c =

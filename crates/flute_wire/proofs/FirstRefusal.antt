@@ -10,7 +10,7 @@ use Rattle.flute_wire.specs.declared.refusal.Refusal.TheVariants.{TooLong, TooSh
 use Rattle.flute_wire.specs.Header.{toi_of, extension_area, after_header}
 use Rattle.flute_wire.specs.Extensions.{Extension, HasExtensions, bodies, ext_fti, ext_fdt, ext_cenc, fti_information, fdt_version, content_encoding, first}
 use Rattle.flute_wire.specs.Refusals.{Applies, Carries, PassesUpTo, Refuses, rank}
-use Rattle.flute_wire.specs.Walk.{RefusesArea, Finds, RefusesFti, RefusesFdt}
+use Rattle.flute_wire.specs.Walk.{Finds, RefusesFti, RefusesFdt}
 use Rattle.flute_wire.proofs.Walking.{same_extensions}
 
 -- the refusal of a place, but for the one that holds a fault
@@ -109,16 +109,6 @@ none_found (Some b) bs is none = let e = sym none ∙ is in absurd cc
 
 pub found_in : (d area : List ℕ) (fti fdt cenc : Option (List ℕ)) → area ≡ extension_area d → Finds area fti fdt cenc → Finds (extension_area d) fti fdt cenc
 found_in d area fti fdt cenc is f = subst (λ (a : List ℕ). Finds a fti fdt cenc) is f
-
-pub refuses_area : (d : List ℕ) (r : Refusal) → PassesUpTo 9 d → RefusesArea (extension_area d) r → Refuses d r
-refuses_area d r before h =
-    elim h.cases [
-      | inl e ↦ subst (λ (x : Refusal). Refuses d x) (sym e.0) (record { applies = e.1; first = before })
-      | inr e ↦ subst (λ (x : Refusal). Refuses d x) (sym e.0) (record {
-        applies = e.1;
-        first = passes_more 9 d ExtensionLength refl (λ h. absurd (omega arith)) before (λ none. none e.1.0 e.1.1);
-      })
-    ]
 
 pub passes_area : (d : List ℕ) (fti fdt cenc : Option (List ℕ)) → PassesUpTo 9 d → Finds (extension_area d) fti fdt cenc → PassesUpTo 11 d
 passes_area d fti fdt cenc before f =

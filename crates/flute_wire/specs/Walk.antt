@@ -2,7 +2,7 @@
 use Rattle.std.specs.Prelude.{◌≡◌, ◌≢◌, ◌<◌, ◌⊎◌, ℕ, List, [], ◌∷◌, length, Option, Some, None, IfSome, IsSomeAnd}
 use Rattle.std.specs.Option.{option_to_list}
 use Rattle.flute_parts.specs.Information.{info_fault}
-use Rattle.flute_wire.specs.Extensions.{HasExtensions, bodies, ext_fti, ext_fdt, ext_cenc, fti_information, fdt_version, content_encoding}
+use Rattle.flute_wire.specs.Extensions.{HasExtensions, bodies, ext_fti, ext_fdt, ext_cenc, fti_information, fdt_version}
 use Rattle.flute_wire.specs.Extensions as spec
 use Rattle.flute_wire.specs.declared.extensions.Extension.{Extension}
 use Rattle.flute_wire.specs.declared.extensions.Occurrence.{Occurrence}

@@ -2,7 +2,7 @@
 use Rattle.std.proofs.Common.{◌≡◌, ℕ, zero, suc, ◌+◌, ◌*◌, ◌<◌, ◌≤◌, length, arith, List, [], ◌∷◌, ◌++◌, Option, refl, sym, ap, subst, ◌∙◌, take, drop, append_assoc, slice_index, ◌/◌, ◌%◌}
 use Rattle.std.specs.Io.KnownBytes.{Appends}
 use Rattle.std.proofs.KnownBytes.{Appends-trans}
-use Rattle.std.proofs.lemmas.List.{take-append-drop, append-nil, length-append, length-drop}
+use Rattle.std.proofs.lemmas.List.{take-append-drop, length-append, length-drop}
 use Rattle.hex.proofs.HexLemmas.{length-encode_with}
 use Rattle.flute_parts.specs.Devices.{AppendsPart}
 use Rattle.flute_parts.proofs.Appended.{AppendsPart-first, AppendsPart-second}
@@ -41,12 +41,6 @@ pub digits_more : (front piece digits : List ℕ) (old mid new : Option (List �
 digits_more front piece digits old mid new are done more =
     let more' = subst (λ (x : List ℕ). Appends mid new x) are more in
     rw (encode_lower-append front piece) (Appends-trans old mid new _ _ done more')
-
--- what was written is the rest too, where that is empty
-pub digits_all : (bytes front rest : List ℕ) (old new : Option (List ℕ)) → bytes ≡ front ++ rest → rest ≡ [] → Appends old new (encode_lower front) → Appends old new (encode_lower bytes)
-digits_all bytes front rest old new is none done =
-    let same : front ≡ bytes = sym (is ∙ ap (λ (x : List ℕ). front ++ x) none ∙ append-nil front) in
-    subst (λ (x : List ℕ). Appends old new (encode_lower x)) same done
 
 -- the buffer for digits keeps its length
 pub room_kept : (piece digits room : List ℕ) → digits ≡ encode_lower piece → 2 * length piece ≤ length room → length (digits ++ drop (2 * length piece) room) ≡ length room

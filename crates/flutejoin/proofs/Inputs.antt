@@ -239,9 +239,6 @@ pub known_added : (input : Option (List ℕ)) (before now : Joined) (store : Lis
 known_added None before now store fits h content datagrams refused = tt
 known_added (Some bytes) before now store fits h content datagrams refused = journal_added bytes before now store fits h content datagrams refused
 
-pub added_known : (input : Option (List ℕ)) (bytes : List ℕ) (before now : Joined) (fits : Bool) → input ≡ Some bytes → IfSome input (λ bs. Adds bs before now fits) → Adds bytes before now fits
-added_known input bytes before now fits known h = let P : Option (List ℕ) → Type 0 = λ o. IfSome o (λ bs. Adds bs before now fits) in subst P known h
-
 -- why it was not
 pub journal_fails : (number : ℕ) (input left : Option (List ℕ)) (bytes : List ℕ) (fault : CommandFault) → input ≡ Some bytes → HasKind Journal bytes → LoadFails number input left fault
     → ((told : ℕ) → fault ≡ Input told Read → ⊥) → InputFails number bytes fault

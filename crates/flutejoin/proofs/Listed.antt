@@ -3,7 +3,7 @@ use Rattle.std.proofs.Common.{◌≡◌, ℕ, suc, List, [], ◌∷◌, ◌++◌
 use Rattle.std.specs.Prelude.{Contains}
 use Rattle.std.specs.List.{flat_map}
 use Rattle.std.specs.Io.KnownBytes.{Appends}
-use Rattle.std.proofs.KnownBytes.{Appends-trans, Appends-nil}
+use Rattle.std.proofs.KnownBytes.{Appends-trans}
 use Rattle.std.proofs.lemmas.List.{append-nil, flat_map_more}
 use Rattle.std.proofs.lemmas.Grind.{flat_map-append}
 use Rattle.flute_parts.specs.Devices.{AppendsPart}
@@ -14,9 +14,6 @@ pub record Listed {X : Type 0} (f : X → List ℕ) (all rest : List X) (old new
   pub done : List X
   pub split : all ≡ done ++ rest
   pub written : Appends old new (flat_map f done)
-
-pub listed-none : {X : Type 0} (f : X → List ℕ) (all : List X) (s : Option (List ℕ)) → Listed f all all s s
-listed-none f all s = record { done = []; split = refl; written = Appends-nil s }
 
 -- the rest begins with this item
 pub listed-at : {X : Type 0} (f : X → List ℕ) (all rest more : List X) (x : X) (s t : Option (List ℕ)) → Listed f all rest s t → rest ≡ x ∷ more → Listed f all (x ∷ more) s t

@@ -17,7 +17,7 @@ use Rattle.flutejoin.specs.declared.joining.Kind.TheVariants.{Journal, Datagrams
 use Rattle.flutejoin.specs.declared.opened.Opened.{Opened}
 use Rattle.flutejoin.specs.declared.command_fault.CommandFault.{CommandFault}
 use Rattle.flutejoin.specs.declared.command_fault.CommandFault.TheVariants.{Full, Input, OutOfMemory}
-use Rattle.flutejoin.specs.Joined.{Adds, Joins, HasKind, IsNeither, IsKnown, CheckFails, InputFails, JoinFails}
+use Rattle.flutejoin.specs.Joined.{Adds, HasKind, IsNeither, IsKnown, CheckFails, InputFails, JoinFails}
 use Rattle.flutejoin.specs.Opened.{left, IsOpened, IsLooked, AreOpened, AreLooked, CountsMore, LookFails, unchecked, unheld, SomeLookFails, AddFails, OpenedFails, of_inputs, of_size, of_device}
 use Rattle.flutejoin.proofs.Driving.{slice_get-set_other, slice_get-set_same}
 use Rattle.flutejoin.proofs.Inputs.{all_more, all_known, first_at, first_with, few_datagrams, few_refused, input_fails, join_unchecked, journal_fails, take_more, SoFar, so_far_none, so_far_joined, so_far_over, so_far_full, joins_none}
@@ -247,11 +247,6 @@ add_fails unread k opened one fits joined inputs fault e fails h =
       | inl why ↦ of_inputs (input_fails inputs k next.0 fault next.1 h.known h.so_far.within why)
       | inr is ↦ of_device (k + 1) is (first_at IsKnown (λ bytes. ⊤) inputs k next.0 next.1 (all_known k inputs h.known) tt)
     ]
-
-pub joined_all : {S : Type 0} (unread : S → Option (List ℕ)) (k : ℕ) (opened : List (Opened S)) (joined : Joined) (inputs : List (List ℕ)) → length opened ≤ k → JoinedSoFar unread k opened true joined inputs → Joins inputs joined
-joined_all unread k opened joined inputs past h =
-    let P : List (List ℕ) → Type 0 = λ xs. Joins xs joined in
-    subst P (take_all k inputs (omega (arith, past, h.as_many))) h.so_far.state
 
 pub joined_over : {S : Type 0} (unread : S → Option (List ℕ)) (k : ℕ) (opened : List (Opened S)) (joined : Joined) (inputs : List (List ℕ)) → length opened ≤ k → JoinedSoFar unread k opened false joined inputs → OpenedFails inputs Full
 joined_over unread k opened joined inputs past h = of_inputs (so_far_full inputs k joined h.known h.so_far (omega (arith, past, h.as_many)))

@@ -205,10 +205,6 @@ taken_refused limit before now i old content datagram fault h same (inr memory) 
     let P : StepFault → Type 0 = λ f. IsRefused limit before (Take i datagram) now f in
     subst P (sym memory) (memory_refused limit before (Take i datagram) now old content h same)
 
-pub ok_from : {T E P Q R : Type 0} → (r : Result T E) → OnOk r P → OnOk r Q → (P → Q → R) → OnOk r R
-ok_from (Ok x) p q f = f p q
-ok_from (Err e) p q f = tt
-
 pub ok_from_three : {T E P Q R S : Type 0} → (r : Result T E) → OnOk r P → OnOk r Q → OnOk r R → (P → Q → R → S) → OnOk r S
 ok_from_three (Ok x) p q h f = f p q h
 ok_from_three (Err e) p q h f = tt
@@ -297,11 +293,6 @@ pub join_cause : {T : Type 0} → (r : Result T JoinRefusal) (f : JoinRefusal) (
 join_cause r join.Full F limit fault e d over = inl (d, over e)
 join_cause r join.OutOfMemory F limit fault e d over = inr d
 
-pub at_err : {T E : Type 0} → (r : Result T E) (f : E) (P : Type 0) → r ≡ Err f → OnErr r P → P
-at_err {T} {E} r f P e h =
-    let Q : Result T E → Type 0 = λ x. OnErr x P in
-    subst Q e h
-
 -- the facts shown of a replica
 pub held_at : {X : Type 0} → (store : X → List Fact) (refused : X → ℕ) (xs : List X) (before : Held) (i : ℕ) (x : X) → shown store refused xs ≡ before → i < length before.contents → x ≡ get_or xs i x → held_by before.contents i ≡ store x
 held_at store refused xs before i x e within is =
@@ -314,6 +305,3 @@ same_read xs i x y within is also = is ∙ get_or_default xs i x y within ∙ sy
 -- facts at held cells of a replica, as its store and the caller see them
 pub cells_at : (contents : List (List Fact)) (replica i : ℕ) (F : List Fact) (fs gs : List Fact) → held_by contents i ≡ F → i ≡ replica → gs ≡ fs → AllByRecursion (HasCell (held_by contents replica)) fs → AllByRecursion (HasCell F) gs
 cells_at contents replica i F fs gs at is same cells = rw (← at, is, same) cells
-
-pub cell_at : (contents : List (List Fact)) (replica i : ℕ) (F : List Fact) (f : Fact) → held_by contents i ≡ F → i ≡ replica → HasCell (held_by contents replica) f → HasCell F f
-cell_at contents replica i F f at is cell = rw (← at, is) cell

@@ -49,9 +49,6 @@ known_after-start : (held : List (List Fact)) (steps : List Step) (origins : ℕ
 unfolding known_after
 known_after-start held steps origins = refl
 
-held_after-count : (held : List (List Fact)) (step : Step) (origin : List Fact) (now : List (List Fact)) → EachSame (held_after held step origin) now → length now ≡ length (held_after held step origin)
-held_after-count held step origin now h = sym h.count
-
 pub one_more-min : (n : ℕ) (b : Bool) → cond b (one_more (min n (2 ^ 64 - 1))) (min n (2 ^ 64 - 1)) ≡ min (n + cond b 1 0) (2 ^ 64 - 1)
 one_more-min n true = grind (arith, nat_tests)
 one_more-min n false = omega arith

@@ -2,20 +2,20 @@
 use Rattle.std.proofs.Common.{◌≡◌, ℕ, ◌+◌, Bool, true, false, List, [], ◌∷◌, ◌++◌, length, Option, Some, None, Result, Ok, Err, inl, inr, refl, sym, ap, ◌∙◌, subst, arith}
 use Rattle.std.specs.Prelude.{IfSome}
 use Rattle.std.specs.Io.KnownBytes.{Appends, Consumes, IsAtEnd}
-use Rattle.std.proofs.KnownBytes.{Appends-trans, Appends-nil, Consumes-trans}
+use Rattle.std.proofs.KnownBytes.{Appends-trans, Consumes-trans}
 use Rattle.std.proofs.lemmas.List.{length-append, append-nil, flat_map_more}
 use Rattle.flute_parts.specs.Devices.{AppendsPart}
 use Rattle.flute_parts.proofs.Appended.{AppendsPart-second}
 use Rattle.flute_parts.specs.declared.fact.Fact.{Fact}
 use Rattle.flute_journal.specs.declared.fault.ReadFault.{ReadFault}
 use Rattle.flute_journal.specs.declared.reader.Stage.{Stage}
-use Rattle.flute_journal.specs.declared.reader.Stage.TheVariants.{Header, Ended}
+use Rattle.flute_journal.specs.declared.reader.Stage.TheVariants.{Ended}
 use Rattle.flute_journal.specs.Format.{end, spelling}
 use Rattle.flute_journal.specs.Input.{Fails, FailsIf}
 use Rattle.flute_journal.specs.Journal.{AreEntries, IsJournalWithin}
 use Rattle.flute_journal.specs.Reading.{is_open, position, opening, GivesEntry, GivesEnd, GivesFault, Gives}
 use Rattle.flute_journal.specs.SoFar.{Sofar, stage_at, read_of}
-use Rattle.flute_journal.proofs.Whole.{sofar-none, sofar-next, sofar-stops}
+use Rattle.flute_journal.proofs.Whole.{sofar-next, sofar-stops}
 use Rattle.flute_journal.proofs.Loading.{fails_same, open_at, read_some}
 use Rattle.flutejoin.specs.Lines.{fact_line, entries_line}
 use Rattle.flutejoin.specs.Show.{entry_lines, FailsToRead, ShowsAll, ShowsUntil, ShowsPart, of_entries, of_journal}
@@ -28,9 +28,6 @@ pub record Shown (first now : Option (List ℕ)) (stage : Stage) (old new : Opti
   pub sofar : Sofar MAX_ENTRIES first now stage entries
   pub counted : count ≡ length entries
   pub written : Appends old new (entry_lines entries)
-
-pub shown-none : (u s : Option (List ℕ)) → Shown u u Header s s 0
-shown-none u s = record { entries = []; sofar = sofar-none MAX_ENTRIES u; counted = refl; written = Appends-nil s }
 
 -- one line more
 line_more : (es : List Fact) (f : Fact) → entry_lines es ++ fact_line f ≡ entry_lines (es ++ f ∷ [])

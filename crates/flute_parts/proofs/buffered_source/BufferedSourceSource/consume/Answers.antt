@@ -1,6 +1,6 @@
-use Rattle.std.proofs.Common.{◌≡◌, ℕ, Bool, true, false, List, ◌++◌, length, take, drop, Option, Some, None, refl, sym, ap, ◌∙◌, ◌==◌, if◌then◌else◌, append_assoc}
+use Rattle.std.proofs.Common.{ℕ, Bool, true, false, List, ◌++◌, take, drop, Option, Some, None, sym, ap, ◌∙◌, ◌==◌, if◌then◌else◌, append_assoc}
 use Rattle.std.proofs.lemmas.List.{take-append-drop}
-use Rattle.std.specs.Io.Buffered.{reader_buffer, reader_capacity, reader_remaining}
+use Rattle.std.specs.Io.Buffered.{reader_buffer, reader_capacity}
 use Rattle.std.specs.Io.KnownBytes.{Consumes, prepend_known}
 use Rattle.flute_parts.proofs.buffered_source.BufferedSourceSource.consume.Goals as goal
 
