@@ -21,8 +21,8 @@ pub enum Cell<T: Value> {
 }
 
 impl<T: Value> Cell<T> {
-    /// Takes a value in: an absent cell holds it from now on, a cell that holds another one becomes a conflict, and
-    /// any other cell stays as it is. Takes no memory.
+    /// Takes a value in: an absent cell holds it from now on, a cell that holds another one becomes
+    /// a conflict, and any other cell stays as it is. Takes no memory.
     pub fn put(&mut self, value: T)
         ensures { self.new ≡ cell_join T.eq self.old (Cell.One value) }
     {
@@ -46,7 +46,8 @@ impl<T: Value> Cell<T> {
         matches!(self, Cell::Conflict)
     }
 
-    /// The value, where the cell holds one; `None` where it is absent or a conflict. Takes no memory.
+    /// The value, where the cell holds one; `None` where it is absent or a
+    /// conflict. Takes no memory.
     pub fn one(&self) -> Option<&T>
         ensures { option_copied result ≡ one_value self.now }
     {
@@ -69,8 +70,8 @@ impl<T: Value> Join for Cell<T> {
 
     ghost join_laws = { cell_join_laws T.Eq.laws T.same_where_equal };
 
-    /// Joins another cell into this one. It is never `Full`, and takes memory only where this cell is absent and the
-    /// other holds one value; refused, it leaves this cell as it was.
+    /// Joins another cell into this one. It is never `Full`, and takes memory only where this cell
+    /// is absent and the other holds one value; refused, it leaves this cell as it was.
     fn join_from(&mut self, alloc: Global, other: &Cell<T>) -> Result<(), JoinRefusal>
         ensures ok { OnOk result (self.new ≡ cell_join T.eq self.old other.now) }
         ensures err { OnErr result (self.new ≡ self.old) }
@@ -82,7 +83,8 @@ impl<T: Value> Join for Cell<T> {
         ensures stays_sound { IsKnown self.old → IsKnown other.now → IsKnown self.new }
         ensures within { OnOk result (¬ ⊥) }
         ensures full { IfErr result (λ why. why ≡ JoinRefusal.Full → ⊥) }
-        ensures memory { IfErr result (λ why. why ≡ JoinRefusal.OutOfMemory → CellNeedsMemory self.old other.now) }
+        ensures memory { IfErr result (λ why. why ≡ JoinRefusal.OutOfMemory
+            → CellNeedsMemory self.old other.now) }
     {
         match other {
             Cell::Absent => {}

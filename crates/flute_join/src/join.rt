@@ -5,7 +5,8 @@ ghost use Rattle.flute_join.specs.Semilattice.{IsJoin, IsBelow};
 use crate::refusal::JoinRefusal;
 use std::alloc::Global;
 
-/// A type whose values are joined. One value is below another where joining the two gives the other.
+/// A type whose values are joined. One value is below another where joining the
+/// two gives the other.
 pub trait Join: Drop {
     // The join of two values. It knows no limit.
     ghost joined: { Self → Self → Self };
@@ -21,9 +22,10 @@ pub trait Join: Drop {
 
     /// Joins `other` into this value.
     ///
-    /// `Full` comes only where the limits forbid the join, and there no join succeeds. `OutOfMemory` comes only where
-    /// the join asks for memory and was refused. After a refusal this value is above the old one and below the join,
-    /// so joining `other` again with success gives the join.
+    /// `Full` comes only where the limits forbid the join, and there no join succeeds.
+    /// `OutOfMemory` comes only where the join asks for memory and was refused. After a refusal
+    /// this value is above the old one and below the join, so joining `other` again with
+    /// success gives the join.
     fn join_from(&mut self, alloc: Global, other: &Self) -> Result<(), JoinRefusal>
         ensures ok { OnOk result (self.new ≡ joined self.old other.now) }
 
@@ -34,7 +36,8 @@ pub trait Join: Drop {
 
         ensures within { OnOk result (¬ over self.old other.now) }
         ensures full { IfErr result (λ why. why ≡ JoinRefusal.Full → over self.old other.now) }
-        ensures memory { IfErr result (λ why. why ≡ JoinRefusal.OutOfMemory → needs_memory self.old other.now) };
+        ensures memory { IfErr result (λ why. why ≡ JoinRefusal.OutOfMemory
+            → needs_memory self.old other.now) };
 
     /// A second value, equal to this one. The only refusal is `OutOfMemory`.
     fn copy(&self, alloc: Global) -> Result<Self, JoinRefusal>

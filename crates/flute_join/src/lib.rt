@@ -1,8 +1,8 @@
 //! Cells and maps that are joined.
 //!
-//! Joining is commutative, associative and idempotent, so what many parts come to does not depend on their order, on
-//! how they are grouped, or on repeats. A join that is refused leaves a value between the old one and the join: joined
-//! again with success, it gives the join.
+//! Joining is commutative, associative and idempotent, so what many parts come to does not depend
+//! on their order, on how they are grouped, or on repeats. A join that is refused leaves a value
+//! between the old one and the join: joined again with success, it gives the join.
 #![tactic(auto)]
 
 mod cell;

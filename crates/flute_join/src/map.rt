@@ -19,8 +19,8 @@ use std::cmp::Ordering;
 use std::collections::{BTreeMap, btree_map};
 use std::marker::Model;
 
-/// A map in the order of its keys, with at most `LIMIT` of them. The limit is part of the type, so two maps that are
-/// joined have the same. Only what adds, joins or copies asks for memory.
+/// A map in the order of its keys, with at most `LIMIT` of them. The limit is part of the type, so
+/// two maps that are joined have the same. Only what adds, joins or copies asks for memory.
 #[derive(Drop)]
 pub struct JoinMap<K: Place, V: Join, const LIMIT: u32> {
     entries: BTreeMap<K, V>,
@@ -89,10 +89,11 @@ impl<K: Place, V: Join, const LIMIT: u32> JoinMap<K, V, LIMIT> {
         self.entries.iter()
     }
 
-    /// The value at a key, to be changed in place, or `None` where the key is not held. What is written changes the
-    /// value at that key alone.
+    /// The value at a key, to be changed in place, or `None` where the key is not held. What is
+    /// written changes the value at that key alone.
     pub fn get_mut(&mut self, key: &K) -> Option<&mut V>
-        ensures* writes_back { sem 𝓛 (lends_value K.row V.row LIMIT.row K.Place V.Join self.entry (K.cmp key.now) result) }
+        ensures* writes_back { sem 𝓛
+            (lends_value K.row V.row LIMIT.row K.Place V.Join self.entry (K.cmp key.now) result) }
         ensures value { option_copied_mut result ≡ value_at K.cmp self.old key.now }
         ensures ordered { IsOrdered K.cmp self.old }
         ensures within { length self.old ≤ LIMIT }
@@ -100,10 +101,11 @@ impl<K: Place, V: Join, const LIMIT: u32> JoinMap<K, V, LIMIT> {
         self.entries.get_mut(key)
     }
 
-    /// As [`get_mut`](JoinMap::get_mut), but quicker where the key stands above all that are held, and a little slower
-    /// elsewhere: for keys that mostly come in rising order.
+    /// As [`get_mut`](JoinMap::get_mut), but quicker where the key stands above all that are held,
+    /// and a little slower elsewhere: for keys that mostly come in rising order.
     pub fn seek_mut(&mut self, key: &K) -> Option<&mut V>
-        ensures* writes_back { sem 𝓛 (lends_value K.row V.row LIMIT.row K.Place V.Join self.entry (K.cmp key.now) result) }
+        ensures* writes_back { sem 𝓛
+            (lends_value K.row V.row LIMIT.row K.Place V.Join self.entry (K.cmp key.now) result) }
         ensures value { option_copied_mut result ≡ value_at K.cmp self.old key.now }
         ensures ordered { IsOrdered K.cmp self.old }
         ensures within { length self.old ≤ LIMIT }
@@ -114,14 +116,16 @@ impl<K: Place, V: Join, const LIMIT: u32> JoinMap<K, V, LIMIT> {
         self.get_mut(key)
     }
 
-    /// Adds an entry at a key that is not held; `contains` is the test. `Full` comes exactly where the map has `LIMIT`
-    /// keys, before any memory is asked for. A refusal leaves the map unchanged, and drops the value.
+    /// Adds an entry at a key that is not held; `contains` is the test. `Full` comes exactly where
+    /// the map has `LIMIT` keys, before any memory is asked for. A refusal leaves the map
+    /// unchanged, and drops the value.
     pub fn add_new(&mut self, key: K, value: V) -> Result<(), JoinRefusal>
         requires { IsNone (value_at K.cmp self.old key) }
         ensures ok { OnOk result (self.new ≡ insert_entry K.cmp self.old key value) }
         ensures err { OnErr result (self.new ≡ self.old) }
         ensures full { (result ≡ Err JoinRefusal.Full) ↔ (length self.old ≡ LIMIT) }
-        ensures joins { OnOk result (self.new ≡ map_join K.cmp V.joined self.old ((key, value) ∷ [])) }
+        ensures joins { OnOk result
+            (self.new ≡ map_join K.cmp V.joined self.old ((key, value) ∷ [])) }
 
         // Whatever the result:
         ensures ordered { IsOrdered K.cmp self.new }
@@ -136,10 +140,12 @@ impl<K: Place, V: Join, const LIMIT: u32> JoinMap<K, V, LIMIT> {
 
     /// Joins a value into the one at a key, as joining a map of that one pair.
     ///
-    /// At a new key `Full` comes exactly where the map has `LIMIT` keys, before any memory is asked for, and a refusal
-    /// leaves the map unchanged. At a held key the answer is that of joining the two values.
+    /// At a new key `Full` comes exactly where the map has `LIMIT` keys, before any memory is
+    /// asked for, and a refusal leaves the map unchanged. At a held key the answer is that of
+    /// joining the two values.
     pub fn join_at(&mut self, alloc: Global, key: K, value: &V) -> Result<(), JoinRefusal>
-        ensures ok { OnOk result (self.new ≡ map_join K.cmp V.joined self.old ((key, value.now) ∷ [])) }
+        ensures ok { OnOk result
+            (self.new ≡ map_join K.cmp V.joined self.old ((key, value.now) ∷ [])) }
 
         // Whatever the result:
         ensures above_old { IsBelow (map_join K.cmp V.joined) self.old self.new }
@@ -152,7 +158,8 @@ impl<K: Place, V: Join, const LIMIT: u32> JoinMap<K, V, LIMIT> {
         // At a new key:
         ensures new_full { IsNone (value_at K.cmp self.old key)
             → ((result ≡ Err JoinRefusal.Full) ↔ (length self.old ≡ LIMIT)) }
-        ensures new_unchanged { IsNone (value_at K.cmp self.old key) → OnErr result (self.new ≡ self.old) }
+        ensures new_unchanged { IsNone (value_at K.cmp self.old key)
+            → OnErr result (self.new ≡ self.old) }
 
         // At a held key:
         ensures held_full { ForSome (value_at K.cmp self.old key)
@@ -161,7 +168,8 @@ impl<K: Place, V: Join, const LIMIT: u32> JoinMap<K, V, LIMIT> {
             (λ held. result ≡ Err JoinRefusal.OutOfMemory → V.needs_memory held value.now) }
 
         // As for the join of maps:
-        ensures within { OnOk result (¬ MapOver K.cmp V.joined LIMIT V.over self.old ((key, value.now) ∷ [])) }
+        ensures within { OnOk result
+            (¬ MapOver K.cmp V.joined LIMIT V.over self.old ((key, value.now) ∷ [])) }
         ensures full { IfErr result (λ why. why ≡ JoinRefusal.Full
             → MapOver K.cmp V.joined LIMIT V.over self.old ((key, value.now) ∷ [])) }
     {
@@ -202,7 +210,8 @@ impl<K: Place, V: Join, const LIMIT: u32> JoinMap<K, V, LIMIT> {
         requires absent { IsNone (value_at K.cmp self.old key) }
         requires room { length self.old < LIMIT }
         ensures ok { OnOk result (self.new ≡ insert_entry K.cmp self.old key value) }
-        ensures joins { OnOk result (self.new ≡ map_join K.cmp V.joined self.old ((key, value) ∷ [])) }
+        ensures joins { OnOk result
+            (self.new ≡ map_join K.cmp V.joined self.old ((key, value) ∷ [])) }
         ensures err { OnErr result (self.new ≡ self.old) }
         ensures refused { IfErr result (λ why. why ≡ JoinRefusal.OutOfMemory) }
         ensures ordered { IsOrdered K.cmp self.new }
@@ -229,9 +238,10 @@ impl<K: Place, V: Join, const LIMIT: u32> Join for JoinMap<K, V, LIMIT> {
 
     /// Joins another map into this one: the keys united, the values at shared keys joined.
     ///
-    /// The entries of `other` are taken in rising order of their keys. A refusal stops at one of them: those before it
-    /// are joined, those after it are not. At a new key it is `Full` exactly where this map has `LIMIT` keys, before
-    /// any memory is asked for; at a held key it is the refusal of joining the two values.
+    /// The entries of `other` are taken in rising order of their keys. A refusal stops at one of
+    /// them: those before it are joined, those after it are not. At a new key it is `Full` exactly
+    /// where this map has `LIMIT` keys, before any memory is asked for; at a held key it is the
+    /// refusal of joining the two values.
     fn join_from(&mut self, alloc: Global, other: &Self) -> Result<(), JoinRefusal>
         ensures ok { OnOk result (self.new ≡ map_join K.cmp V.joined self.old other.now) }
         ensures stops { IfErr result
@@ -240,12 +250,15 @@ impl<K: Place, V: Join, const LIMIT: u32> Join for JoinMap<K, V, LIMIT> {
         // Whatever the result, also of an empty map:
         ensures ordered { IsOrdered K.cmp self.new }
         ensures within_limit { length self.new ≤ LIMIT }
-        ensures each { EachValue V.sound self.old → EachValue V.sound other.now → EachValue V.sound self.new }
+        ensures each { EachValue V.sound self.old → EachValue V.sound other.now
+            → EachValue V.sound self.new }
 
         // As for each join:
         ensures above_old { IsBelow (map_join K.cmp V.joined) self.old self.new }
-        ensures below_join { IsBelow (map_join K.cmp V.joined) self.new (map_join K.cmp V.joined self.old other.now) }
-        ensures stays_sound { IsSound K.cmp LIMIT V.sound self.old → IsSound K.cmp LIMIT V.sound other.now
+        ensures below_join { IsBelow (map_join K.cmp V.joined) self.new
+            (map_join K.cmp V.joined self.old other.now) }
+        ensures stays_sound { IsSound K.cmp LIMIT V.sound self.old
+            → IsSound K.cmp LIMIT V.sound other.now
             → IsSound K.cmp LIMIT V.sound self.new }
         ensures within { OnOk result (¬ MapOver K.cmp V.joined LIMIT V.over self.old other.now) }
         ensures full { IfErr result (λ why. why ≡ JoinRefusal.Full

@@ -39,8 +39,9 @@ enum Place {
 
 /// The folder of an output in the file system. It tells contracts nothing of its files.
 ///
-/// An output that is no regular file takes its bytes itself: there is then no file beside it, and what it took is not taken
-/// back. Of its calls `sync`, `put_in_place` and `remove` then do nothing.
+/// An output that is no regular file takes its bytes itself: there is then no file beside
+/// it, and what it took is not taken back. Of its calls `sync`, `put_in_place` and
+/// `remove` then do nothing.
 #[derive(Drop)]
 pub struct DiskFolder<'a, R: Files<File = File> + Print> {
     rt: &'a R,
@@ -51,12 +52,14 @@ pub struct DiskFolder<'a, R: Files<File = File> + Print> {
 }
 
 impl<'a, R: Files<File = File> + Print> DiskFolder<'a, R> {
-    /// The folder of the output at this path, or standard output for the path `-`. Nothing is made, and what is there stays as
-    /// it is. No later call asks for memory. The output may be one of `inputs`, but none of them may be the file beside it.
+    /// The folder of the output at this path, or standard output for the path `-`. Nothing is made,
+    /// and what is there stays as it is. No later call asks for memory. The output may be one of
+    /// `inputs`, but none of them may be the file beside it.
     ///
     /// # Errors
     ///
-    /// `CannotCreate` where the path is empty or a folder, or cannot be looked at, and `OutOfMemory`.
+    /// `CannotCreate` where the path is empty or a folder, or cannot be looked
+    /// at, and `OutOfMemory`.
     pub fn new(
         rt: &'a R,
         alloc: Global,

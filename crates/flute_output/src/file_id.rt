@@ -3,7 +3,8 @@
 use std::fs::Metadata;
 use std::os::unix::fs::MetadataExt;
 
-/// A file of the system: two names that lead to one file have one number of a device and of a file on it.
+/// A file of the system: two names that lead to one file have one number of a device
+/// and of a file on it.
 #[derive(Clone, Copy, Debug, PartialEq, Eq)]
 pub struct FileId {
     device: u64,

@@ -32,8 +32,8 @@ pub trait Folder {
         ensures failures { failures self.new
             ≡ failures self.old + (if is_ok result then 0 else 1) };
 
-    /// Takes the first bytes of `bytes` for the file beside OUT, and answers how many: at least one, unless `bytes` is empty. They
-    /// may wait in memory.
+    /// Takes the first bytes of `bytes` for the file beside OUT, and answers how many: at least
+    /// one, unless `bytes` is empty. They may wait in memory.
     ///
     /// # Errors
     ///

@@ -1,7 +1,8 @@
 //! An output that becomes the file OUT whole or not at all.
 //!
-//! [`Output`] hands its bytes to a file beside OUT, and puts that in OUT's place once it is whole. What it needs of a folder is
-//! the trait [`Folder`], which the system's folders meet ([`DiskFolder`]), and one in memory, for tests ([`MemoryFolder`]).
+//! [`Output`] hands its bytes to a file beside OUT, and puts that in OUT's place once it is whole.
+//! What it needs of a folder is the trait [`Folder`], which the system's folders meet
+//! ([`DiskFolder`]), and one in memory, for tests ([`MemoryFolder`]).
 #![tactic(auto)]
 
 mod disk_folder;

@@ -13,7 +13,8 @@ pub struct StoredFile {
     pub on_disk: bool,
 }
 
-/// A folder for tests. Bytes wait in memory until a flush, and it fails for good after so many calls.
+/// A folder for tests. Bytes wait in memory until a flush, and it fails for good
+/// after so many calls.
 #[derive(Debug, Drop)]
 pub struct MemoryFolder {
     alloc: Global,
@@ -32,8 +33,8 @@ impl MemoryFolder {
     ghost use Rattle.flute_output.specs.Entries.{removes};
     ghost use Rattle.flute_output.specs.Memory.{memory_entries};
 
-    /// A folder where OUT has these bytes, all of them on the disk, or is not there. After `good` calls each call fails; before
-    /// that only where it finds no memory, or no file beside OUT.
+    /// A folder where OUT has these bytes, all of them on the disk, or is not there. After `good`
+    /// calls each call fails; before that only where it finds no memory, or no file beside OUT.
     pub fn new(alloc: Global, out: Option<Vec<u8>>, good: usize) -> MemoryFolder
         ensures { memory_entries result ≡ record {
           out = option_map (λ v. record { bytes = v.items; on_disk = true }) out;

@@ -33,8 +33,8 @@ pub struct Neighbours {
 }
 
 impl Neighbours {
-    /// The names for an output at this path, which has this metadata if it is there. A symbolic link stands for what it leads
-    /// to.
+    /// The names for an output at this path, which has this metadata if it is there. A symbolic
+    /// link stands for what it leads to.
     ///
     /// # Errors
     ///
@@ -68,12 +68,14 @@ impl Neighbours {
         }
     }
 
-    /// Makes the file beside OUT, empty, locked, and with OUT's mode. What a killed run left there is removed first.
+    /// Makes the file beside OUT, empty, locked, and with OUT's mode. What a killed run left
+    /// there is removed first.
     ///
     /// # Errors
     ///
-    /// Those of the system, also where OUT may not be written; `WouldBlock` where a running program has the file locked; and
-    /// `AlreadyExists` where it is one of `inputs`, or no regular file. Only what a killed run left may be gone then.
+    /// Those of the system, also where OUT may not be written; `WouldBlock` where a running program
+    /// has the file locked; and `AlreadyExists` where it is one of `inputs`, or no regular file.
+    /// Only what a killed run left may be gone then.
     pub fn create<R: Files<File = File>>(&self, rt: &R, inputs: &[FileId]) -> io::Result<File> {
         if self.has_out() {
             OpenOptions::new().write(true).open(rt, &self.out)?;
@@ -142,7 +144,8 @@ impl Neighbours {
     ///
     /// # Errors
     ///
-    /// Those of the system, and `NotFound` where the name beside OUT is no longer the file's. Nothing was renamed.
+    /// Those of the system, and `NotFound` where the name beside OUT is no longer the file's.
+    /// Nothing was renamed.
     pub fn put_in_place<R: Files>(&self, rt: &R, file: &File) -> io::Result<()> {
         if !self.is_beside(rt, file)? {
             return Err(ErrorKind::NotFound.into());
@@ -154,7 +157,8 @@ impl Neighbours {
     ///
     /// # Errors
     ///
-    /// Those of the system, and `NotFound` where the name beside OUT is no longer the file's. Nothing was removed.
+    /// Those of the system, and `NotFound` where the name beside OUT is no longer the file's.
+    /// Nothing was removed.
     pub fn remove_beside<R: Files>(&self, rt: &R, file: &File) -> io::Result<()> {
         if !self.is_beside(rt, file)? {
             return Err(ErrorKind::NotFound.into());

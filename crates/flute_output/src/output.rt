@@ -6,8 +6,8 @@ use crate::folder::{Folder, Name};
 use flute_parts::{DeviceFault, Sink};
 use std::marker::Model;
 
-/// An output whose bytes go to a file beside OUT. It is made, written as a [`Sink`], and then finished: OUT is then the file of
-/// all these bytes, or what it was.
+/// An output whose bytes go to a file beside OUT. It is made, written as a [`Sink`], and then
+/// finished: OUT is then the file of all these bytes, or what it was.
 ///
 /// Contracts see it as its folder, where the file beside OUT stands.
 #[derive(Drop)]
@@ -43,7 +43,8 @@ impl<F: Folder + Drop> Output<F> {
     /// The folder, where the file could not be made. OUT is as before.
     pub fn create(mut folder: F) -> Result<Output<F>, F>
         ensures made { IfOk result (λ output. Does created (F.entries folder) (F.entries output)) }
-        ensures refused { IfErr result (λ back. Leads OutStays (F.entries folder) (F.entries back)) }
+        ensures refused { IfErr result
+            (λ back. Leads OutStays (F.entries folder) (F.entries back)) }
         ensures quiet { IfOk result (λ output. F.failures output ≡ F.failures folder) }
         ensures cause { IfErr result (λ back. F.failures back ≡ F.failures folder + 1) }
     {
@@ -53,16 +54,17 @@ impl<F: Folder + Drop> Output<F> {
         }
     }
 
-    /// Ends an output after the work that wrote it. Where that was done, the file beside OUT is flushed, brought to the disk if
-    /// OUT was there before, and named OUT. Where it failed, or one of these steps does, the file beside OUT is removed.
+    /// Ends an output after the work that wrote it. Where that was done, the file beside OUT is
+    /// flushed, brought to the disk if OUT was there before, and named OUT. Where it failed, or one
+    /// of these steps does, the file beside OUT is removed.
     ///
-    /// It gives the folder back. OUT is then what was written, or exactly what it was; and at each moment in between it was
-    /// one of the two.
+    /// It gives the folder back. OUT is then what was written, or exactly what it was; and at each
+    /// moment in between it was one of the two.
     ///
     /// # Errors
     ///
-    /// The fault of the work; or else `DeviceFault`, where a step failed. OUT is as before. The file beside it is gone, unless
-    /// the folder failed to remove it.
+    /// The fault of the work; or else `DeviceFault`, where a step failed. OUT is as before. The
+    /// file beside it is gone, unless the folder failed to remove it.
     pub fn finish<T: Drop, E: From<DeviceFault> + Drop>(
         self,
         done: Result<T, E>,
@@ -147,12 +149,13 @@ fn take_all<F: Folder>(folder: &mut F, bytes: &[u8]) -> Result<(), OutputFault>
     Ok(())
 }
 
-/// Writes a file of these bytes as OUT, and gives the folder back. At each moment OUT is what it was, or that file.
+/// Writes a file of these bytes as OUT, and gives the folder back. At each moment OUT is what
+/// it was, or that file.
 ///
 /// # Errors
 ///
-/// `Create` where the file beside OUT could not be made, and `Write` where a later step failed. OUT is as before. The file
-/// beside it is gone, unless the folder failed to remove it.
+/// `Create` where the file beside OUT could not be made, and `Write` where a later step failed. OUT
+/// is as before. The file beside it is gone, unless the folder failed to remove it.
 pub fn write_file<F: Folder + Drop>(folder: F, bytes: &[u8]) -> (Result<(), OutputFault>, F)
     ensures written { OnOk result.0
         (Leads (λ old new. OutBecomes (whole (created old) bytes.now) (created old) new)
@@ -160,7 +163,8 @@ pub fn write_file<F: Folder + Drop>(folder: F, bytes: &[u8]) -> (Result<(), Outp
     ensures refused { result.0 ≡ Err OutputFault.Create
         → Leads OutStays (F.entries folder) (F.entries result.1) }
     ensures stopped { result.0 ≡ Err OutputFault.Write
-        → Leads (λ old new. OutIsAsFound (created old) new) (F.entries folder) (F.entries result.1) }
+        → Leads (λ old new. OutIsAsFound (created old) new)
+        (F.entries folder) (F.entries result.1) }
     ensures any_moment { result.0 ≢ Err OutputFault.Create
         → Leads (λ old new. IsEitherAlways (whole (created old) bytes.now) new)
         (F.entries folder) (F.entries result.1) }

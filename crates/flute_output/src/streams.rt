@@ -10,8 +10,9 @@ const STREAMS: i32 = 3;
 /// What can be opened, and neither read nor written.
 const NEITHER_READ_NOR_WRITTEN: &str = "/";
 
-/// Makes sure that no file which is opened later becomes standard input, output or error, where the program was started with one
-/// of them closed: it is opened as something that can be neither read nor written. Call it first.
+/// Makes sure that no file which is opened later becomes standard input, output or error, where the
+/// program was started with one of them closed: it is opened as something that can be neither read
+/// nor written. Call it first.
 pub fn take_standard_streams<R: Files<File = File>>(rt: &R) {
     for _ in 0..STREAMS {
         match fs::open(rt, NEITHER_READ_NOR_WRITTEN) {

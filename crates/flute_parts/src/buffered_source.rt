@@ -17,7 +17,8 @@ impl<R: Read> BufferedSource<R> {
     /// A source over this reader.
     pub fn new(reader: BufReader<R>) -> BufferedSource<R>
         ensures failures { ⟦<BufferedSource<R> as Source>⟧.failures result ≡ 0 }
-        ensures bytes { ⟦<BufferedSource<R> as Source>⟧.unread result ≡ reader_remaining R.remaining reader }
+        ensures bytes { ⟦<BufferedSource<R> as Source>⟧.unread result
+            ≡ reader_remaining R.remaining reader }
     {
         BufferedSource {
             source: StdSource::new(reader),

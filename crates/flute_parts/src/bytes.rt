@@ -43,7 +43,8 @@ impl Bytes {
     ///
     /// # Errors
     ///
-    /// `Empty` and `TooLong` for their number, and `OutOfMemory` where there is no memory for the copy.
+    /// `Empty` and `TooLong` for their number, and `OutOfMemory` where there is no
+    /// memory for the copy.
     pub fn new(alloc: Global, octets: &[u8]) -> Result<Bytes, BytesFault>
         ensures { MatchResult result
             (λ bytes. (bytes ≡ octets.now) × (size_fault octets.now ≡ None))

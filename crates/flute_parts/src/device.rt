@@ -18,7 +18,8 @@ pub trait Sink {
     // The bytes taken so far, where the sink tells them.
     ghost written: { Self → Option (List ℕ) };
 
-    /// Takes the first bytes of `bytes`, and answers how many: at least one, unless `bytes` is empty.
+    /// Takes the first bytes of `bytes`, and answers how many: at least one,
+    /// unless `bytes` is empty.
     ///
     /// # Errors
     ///
@@ -27,13 +28,15 @@ pub trait Sink {
         ensures bound { IfOk result (λ n. n ≤ length bytes.now) }
         ensures progress { 0 < length bytes.now → IfOk result (λ n. 0 < n) }
         ensures bytes { WriteAppends (written self.old) (written self.new) result bytes.now }
-        ensures failures { failures self.new ≡ failures self.old + (if is_ok result then 0 else 1) };
+        ensures failures { failures self.new ≡ failures self.old
+            + (if is_ok result then 0 else 1) };
 
     /// Takes all the bytes, in as many calls of `write` as that needs.
     ///
     /// # Errors
     ///
-    /// `DeviceFault` where one of them failed. The device then took a first part of the bytes, and not all.
+    /// `DeviceFault` where one of them failed. The device then took a first part of
+    /// the bytes, and not all.
     final fn write_all(&mut self, bytes: &[u8]) -> Result<(), DeviceFault>
         ensures bytes { Writes (written self.old) (written self.new) bytes.now result }
         ensures failures { failures self.new ≡ failures self.old + (if is_ok result then 0 else 1) }

@@ -74,7 +74,8 @@ impl Fact {
         Address { key, part }
     }
 
-    /// The vector of a symbol's bytes, handed over so that its memory can be used again, or a new one. It takes no memory.
+    /// The vector of a symbol's bytes, handed over so that its memory can be used again, or a new
+    /// one. It takes no memory.
     pub fn into_vec(self, alloc: Global) -> Vec<u8>
         ensures { result.items ≡ bytes_of self }
     {

@@ -7,11 +7,12 @@ use std::alloc::Global;
 use std::marker::Model;
 use thiserror::Error;
 
-/// What a receiver has to know of an object before it can put it together: its FEC Object Transmission Information
-/// (RFC 5052, section 6.2.4) for Compact No-Code FEC (RFC 5445, section 3.2.2).
+/// What a receiver has to know of an object before it can put it together: its FEC
+/// Object Transmission Information (RFC 5052, section 6.2.4) for Compact No-Code FEC
+/// (RFC 5445, section 3.2.2).
 ///
-/// It is always valid: the transfer length is below 2^48, and where that is not 0 the block partition of RFC 5052,
-/// section 9.1 gives at most 65,536 blocks of at most 65,536 symbols each.
+/// It is always valid: the transfer length is below 2^48, and where that is not 0 the block
+/// partition of RFC 5052, section 9.1 gives at most 65,536 blocks of at most 65,536 symbols each.
 #[derive(Clone, Copy, Debug, PartialEq, Eq)]
 pub struct Info {
     transfer_length: u64,
@@ -58,8 +59,8 @@ pub enum InfoFault {
 impl Info {
     ghost use Rattle.flute_parts.specs.Information.{IsValid};
 
-    /// The information of an object of `length` bytes, in symbols of `symbol` bytes and blocks of at most `block`
-    /// symbols. Where `length` is 0, the other two may be anything.
+    /// The information of an object of `length` bytes, in symbols of `symbol` bytes and blocks of
+    /// at most `block` symbols. Where `length` is 0, the other two may be anything.
     ///
     /// # Errors
     ///

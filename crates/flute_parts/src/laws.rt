@@ -19,7 +19,8 @@ use crate::object_key::ObjectKey;
 use crate::session_key::SessionKey;
 use crate::symbol_id::SymbolId;
 
-/// Lists with the same facts come to the same at each address, in whatever order and however often each is told.
+/// Lists with the same facts come to the same at each address, in whatever order and
+/// however often each is told.
 pub fn members_decide()
     ensures members { MembersDecide }
     ensures order { OrderIsFree }
@@ -53,7 +54,8 @@ pub fn facts_agree_or_conflict()
     ensures address { AnswersStandThere }
 {}
 
-/// A list of facts at rising addresses has one fact at each, and is the only such list that comes to the same.
+/// A list of facts at rising addresses has one fact at each, and is the only such list
+/// that comes to the same.
 pub fn rising_lists_agree()
     ensures one { RisingHasOneFact }
     ensures tells { RisingTellsItsFacts }

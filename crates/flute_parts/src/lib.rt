@@ -1,5 +1,5 @@
-//! What FLUTE receptions are made of: names, transmission information, partitions, facts and their laws, and the
-//! devices that bytes come from and go to.
+//! What FLUTE receptions are made of: names, transmission information, partitions, facts and their
+//! laws, and the devices that bytes come from and go to.
 #![tactic(auto)]
 
 mod address;

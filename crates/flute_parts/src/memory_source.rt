@@ -16,7 +16,8 @@ pub fn hand_out<'a>(unread: &'a [u8], most: usize, buffer: &mut [u8]) -> (usize,
     (count, rest)
 }
 
-/// A source that gives the bytes of a slice, as many at a time as it is asked for. It never fails, and takes no memory.
+/// A source that gives the bytes of a slice, as many at a time as it is asked for. It never fails,
+/// and takes no memory.
 #[derive(Debug, Drop)]
 pub struct MemorySource<'a> {
     unread: &'a [u8],

@@ -4,7 +4,8 @@ use flute_join::Place;
 use std::cmp::Ordering;
 use std::marker::Model;
 
-/// What an object is named by, as contracts see an [`ObjectKey`]. It may be out of range; a key is not.
+/// What an object is named by, as contracts see an [`ObjectKey`]. It may be out of
+/// range; a key is not.
 #[derive(Clone, Copy, Debug)]
 pub enum ObjectName {
     /// An FDT Instance, by its FDT Instance ID.
@@ -13,8 +14,8 @@ pub enum ObjectName {
     File(u128),
 }
 
-/// An object of a session: an FDT Instance by its FDT Instance ID (RFC 6726, section 3.4.1), or a file by its
-/// Transport Object Identifier (RFC 5651, section 5.1).
+/// An object of a session: an FDT Instance by its FDT Instance ID (RFC 6726, section 3.4.1), or a
+/// file by its Transport Object Identifier (RFC 5651, section 5.1).
 ///
 /// FDT Instances are ordered before files, and each kind by its number.
 #[derive(Clone, Copy, Debug)]
@@ -52,7 +53,8 @@ impl ObjectKey {
         }
     }
 
-    /// The file with this Transport Object Identifier. None if it is 0, which names FDT Instances, or 2^112 or more.
+    /// The file with this Transport Object Identifier. None if it is 0, which names FDT
+    /// Instances, or 2^112 or more.
     pub fn file(toi: u128) -> Option<ObjectKey>
         ensures { SomeIff result ((1 ≤ toi) × (toi < 2 ^ 112)) (File toi) }
     {

@@ -10,9 +10,9 @@ use std::marker::Model;
 
 /// How an object is cut into source blocks, and these into symbols (RFC 5052, section 9.1).
 ///
-/// Its symbols are listed block after block, and in a block by their encoding symbol ID from 0 on: the place of a
-/// symbol is its number in that list, from 0. The larger blocks come first. Every call takes constant time, and no
-/// memory.
+/// Its symbols are listed block after block, and in a block by their encoding symbol ID from 0 on:
+/// the place of a symbol is its number in that list, from 0. The larger blocks come first. Every
+/// call takes constant time, and no memory.
 #[derive(Debug, Drop)]
 pub struct Partition {
     info: Info,
@@ -76,7 +76,8 @@ impl Partition {
         self.large_blocks + self.small_blocks
     }
 
-    /// The number of symbols in the block of this source block number, at most 65,536. 0 where there is no such block.
+    /// The number of symbols in the block of this source block number, at most 65,536. 0 where
+    /// there is no such block.
     pub fn block_len(&self, sbn: u16) -> u32
         ensures value { result ≡ slice_index (sizes self.now) sbn }
         ensures bound { result ≤ 65536 }
@@ -140,9 +141,9 @@ impl Partition {
         })
     }
 
-    /// Whether `len` bytes can be the symbol: as many as the encoding symbol length, or, of the last symbol, as
-    /// many as the object still has there, without padding (RFC 5445, section 3.4). False where the object has no
-    /// such symbol.
+    /// Whether `len` bytes can be the symbol: as many as the encoding symbol length, or, of the
+    /// last symbol, as many as the object still has there, without padding (RFC 5445, section 3.4).
+    /// False where the object has no such symbol.
     pub fn fits(&self, id: SymbolId, len: usize) -> bool
         ensures { result ≡ fits self.now id len }
     {

@@ -6,7 +6,8 @@ use crate::failures::Failures;
 use crate::memory_source::hand_out;
 use crate::source::Source;
 
-/// A source for tests: it gives the bytes of a slice in short pieces, until it fails for good. It takes no memory.
+/// A source for tests: it gives the bytes of a slice in short pieces, until it fails for
+/// good. It takes no memory.
 #[derive(Debug, Drop)]
 pub struct ShortSource<'a> {
     unread: &'a [u8],
@@ -17,8 +18,8 @@ pub struct ShortSource<'a> {
 }
 
 impl<'a> ShortSource<'a> {
-    /// A source of these bytes that gives at most `piece` of them at a time, which is at least 1, and fails in each
-    /// call from the moment that it has given `good` of them.
+    /// A source of these bytes that gives at most `piece` of them at a time, which is at least 1,
+    /// and fails in each call from the moment that it has given `good` of them.
     pub fn new(bytes: &'a [u8], piece: usize, good: usize) -> ShortSource<'a>
         requires { 0 < piece }
         ensures bytes { ⟦<ShortSource<'a> as Source>⟧.unread result ≡ Some bytes.now }

@@ -16,8 +16,8 @@ pub trait Source {
     // The next of these, as far as they lie in memory.
     ghost buffered: { Self → List ℕ } = { λ _. [] };
 
-    /// Puts the next bytes at the front of `buffer`, and answers how many: none only at the end, or where `buffer` is
-    /// empty.
+    /// Puts the next bytes at the front of `buffer`, and answers how many: none only at the end, or
+    /// where `buffer` is empty.
     ///
     /// # Errors
     ///
@@ -25,9 +25,11 @@ pub trait Source {
     fn read(&mut self, buffer: &mut [u8]) -> Result<usize, DeviceFault>
         ensures bound { IfOk result (λ n. n ≤ length buffer.new) }
         ensures bytes { ReadConsumes (unread self.old) (unread self.new) result buffer.new }
-        ensures failures { failures self.new ≡ failures self.old + (if is_ok result then 0 else 1) };
+        ensures failures { failures self.new ≡ failures self.old
+            + (if is_ok result then 0 else 1) };
 
-    /// Lends the next bytes, as far as they lie in memory already: perhaps none. It reads nothing, and cannot fail.
+    /// Lends the next bytes, as far as they lie in memory already: perhaps none. It reads
+    /// nothing, and cannot fail.
     fn buffer(&self) -> &[u8]
         ensures buffered { result.now ≡ buffered self.now }
         ensures front { IfSome (unread self.now) (λ bytes. StartsWith bytes result.now) };
@@ -36,6 +38,7 @@ pub trait Source {
     fn consume(&mut self, count: usize)
         requires { count ≤ length (buffered self.old) }
         ensures buffered { buffered self.new ≡ drop count (buffered self.old) }
-        ensures bytes { Consumes (unread self.old) (unread self.new) (take count (buffered self.old)) }
+        ensures bytes { Consumes (unread self.old) (unread self.new)
+            (take count (buffered self.old)) }
         ensures failures { failures self.new ≡ failures self.old };
 }

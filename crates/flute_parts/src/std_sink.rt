@@ -9,11 +9,11 @@ use std::io::{ErrorKind, Write};
 /// How often an interrupted call is made again.
 const REPEATS: u32 = 64;
 
-/// A sink over a writer, as a file or standard output. It tells contracts the bytes that the writer tells them: those
-/// of a writer over memory, and none of a file.
+/// A sink over a writer, as a file or standard output. It tells contracts the bytes that the writer
+/// tells them: those of a writer over memory, and none of a file.
 ///
-/// An interrupted call is made again at most 64 times, and then it is a failure. No clause has that bound. A writer
-/// that takes none of some bytes has failed.
+/// An interrupted call is made again at most 64 times, and then it is a failure. No clause has that
+/// bound. A writer that takes none of some bytes has failed.
 #[derive(Debug, Drop)]
 pub struct StdSink<W> {
     writer: W,
@@ -38,7 +38,8 @@ impl<W: Write> StdSink<W> {
     ///
     /// `DeviceFault` where the writer failed. What it still holds is then not known.
     pub fn flush(&mut self) -> Result<(), DeviceFault>
-        ensures bytes { Keeps (⟦<StdSink<W> as Sink>⟧.written self.old) (⟦<StdSink<W> as Sink>⟧.written self.new) }
+        ensures bytes { Keeps (⟦<StdSink<W> as Sink>⟧.written self.old)
+            (⟦<StdSink<W> as Sink>⟧.written self.new) }
         ensures failures { ⟦<StdSink<W> as Sink>⟧.failures self.new
             ≡ ⟦<StdSink<W> as Sink>⟧.failures self.old + (if is_ok result then 0 else 1) }
     {

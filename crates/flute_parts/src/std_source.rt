@@ -9,10 +9,11 @@ use std::io::{ErrorKind, Read};
 /// How often an interrupted call is made again.
 const REPEATS: u32 = 64;
 
-/// A source over a reader, as a file or standard input. It tells contracts the bytes that the reader tells them: those
-/// of a reader over memory, and none of a file.
+/// A source over a reader, as a file or standard input. It tells contracts the bytes that the
+/// reader tells them: those of a reader over memory, and none of a file.
 ///
-/// An interrupted call is made again at most 64 times, and then it is a failure. No clause has that bound.
+/// An interrupted call is made again at most 64 times, and then it is a failure. No
+/// clause has that bound.
 #[derive(Debug, Drop)]
 pub struct StdSource<R> {
     pub(crate) reader: R,

@@ -5,12 +5,12 @@ ghost use Rattle.std.specs.Prelude.{◌≡◌, ◌+◌, ◌<◌, ◌≤◌, true
 use crate::address::{Address, Part};
 use crate::key::Key;
 
-/// How many sessions, objects of the last session and symbols of the last object were named by addresses that came in
-/// rising order. It tells whether they pass a limit: `SESSIONS` sessions, `OBJECTS` objects of one session or `SYMBOLS`
-/// symbols of one object.
+/// How many sessions, objects of the last session and symbols of the last object were named by
+/// addresses that came in rising order. It tells whether they pass a limit: `SESSIONS` sessions,
+/// `OBJECTS` objects of one session or `SYMBOLS` symbols of one object.
 ///
-/// As the addresses rise, a session, an object or a symbol that differs from the last was not named before. So a tally
-/// has the same size however many addresses it has counted.
+/// As the addresses rise, a session, an object or a symbol that differs from the last was not named
+/// before. So a tally has the same size however many addresses it has counted.
 #[derive(Clone, Copy, Debug)]
 pub struct Tally<const SESSIONS: u32, const OBJECTS: u32, const SYMBOLS: u32> {
     last: Option<Key>,
@@ -43,8 +43,9 @@ impl<const SESSIONS: u32, const OBJECTS: u32, const SYMBOLS: u32> Tally<
         }
     }
 
-    /// Counts the next address. True if no limit is passed by it and those before. Each has to stand after all that were
-    /// counted: once one did not, or the answer was false, the tally tells nothing more.
+    /// Counts the next address. True if no limit is passed by it and those before. Each has
+    /// to stand after all that were counted: once one did not, or the answer was false, the
+    /// tally tells nothing more.
     pub fn count(&mut self, next: &Address) -> bool
         ensures within { (F : List Fact) (f : Fact) → address f ≡ next.now → IsRising (F ++ f ∷ [])
             → Counts SESSIONS OBJECTS SYMBOLS F self.old
@@ -58,10 +59,12 @@ impl<const SESSIONS: u32, const OBJECTS: u32, const SYMBOLS: u32> Tally<
 
     // Counts the session and the object of the next address, where they are new.
     fn count_key(&mut self, key: &Key) -> bool
-        ensures within { (F : List Fact) (f : Fact) → (address f).key ≡ key.now → IsRising (F ++ f ∷ [])
+        ensures within { (F : List Fact) (f : Fact) → (address f).key ≡ key.now
+            → IsRising (F ++ f ∷ [])
             → Counts SESSIONS OBJECTS SYMBOLS F self.old
             → result ≡ true → CountsKey SESSIONS OBJECTS SYMBOLS F f self.new }
-        ensures over { (F : List Fact) (f : Fact) → (address f).key ≡ key.now → IsRising (F ++ f ∷ [])
+        ensures over { (F : List Fact) (f : Fact) → (address f).key ≡ key.now
+            → IsRising (F ++ f ∷ [])
             → Counts SESSIONS OBJECTS SYMBOLS F self.old
             → result ≡ false → Over (F ++ f ∷ []) SESSIONS OBJECTS SYMBOLS }
     {
@@ -84,10 +87,12 @@ impl<const SESSIONS: u32, const OBJECTS: u32, const SYMBOLS: u32> Tally<
 
     // Counts its symbol, if it has one.
     fn count_part(&mut self, part: &Part) -> bool
-        ensures within { (F : List Fact) (f : Fact) → (address f).part ≡ part.now → IsRising (F ++ f ∷ [])
+        ensures within { (F : List Fact) (f : Fact) → (address f).part ≡ part.now
+            → IsRising (F ++ f ∷ [])
             → CountsKey SESSIONS OBJECTS SYMBOLS F f self.old
             → result ≡ true → Counts SESSIONS OBJECTS SYMBOLS (F ++ f ∷ []) self.new }
-        ensures over { (F : List Fact) (f : Fact) → (address f).part ≡ part.now → IsRising (F ++ f ∷ [])
+        ensures over { (F : List Fact) (f : Fact) → (address f).part ≡ part.now
+            → IsRising (F ++ f ∷ [])
             → CountsKey SESSIONS OBJECTS SYMBOLS F f self.old
             → result ≡ false → Over (F ++ f ∷ []) SESSIONS OBJECTS SYMBOLS }
     {

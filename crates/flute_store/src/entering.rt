@@ -26,8 +26,8 @@ pub type Sessions<const SESSIONS: u32, const OBJECTS: u32, const SYMBOLS: u32> =
     SESSIONS,
 >;
 
-/// Joins what is told of an object into a session. `Full` comes before any memory is asked for. After a refusal the
-/// session is unchanged.
+/// Joins what is told of an object into a session. `Full` comes before any memory is asked for.
+/// After a refusal the session is unchanged.
 pub fn enter_object<const OBJECTS: u32, const SYMBOLS: u32>(
     objects: &mut Objects<OBJECTS, SYMBOLS>,
     alloc: Global,
@@ -38,7 +38,8 @@ pub fn enter_object<const OBJECTS: u32, const SYMBOLS: u32>(
     requires news { IsNews news }
     ensures ok { OnOk result (objects.new ≡ with_object objects.old key news.entry) }
     ensures err { OnErr result (objects.new ≡ objects.old) }
-    ensures full { result ≡ Err JoinRefusal.Full → SessionBeyond OBJECTS (with_object objects.old key news.entry) }
+    ensures full { result ≡ Err JoinRefusal.Full
+        → SessionBeyond OBJECTS (with_object objects.old key news.entry) }
     ensures held { IsHeldObject objects.old key news.entry → IsOk result }
     ensures room { (result ≡ Err JoinRefusal.Full → ⊥)
         → IsSession OBJECTS (with_object objects.old key news.entry) }
@@ -54,8 +55,8 @@ pub fn enter_object<const OBJECTS: u32, const SYMBOLS: u32>(
     objects.add_new(key, object)
 }
 
-/// Joins what is told of an object into the sessions. `Full` comes before any memory is asked for. After a refusal
-/// they are unchanged.
+/// Joins what is told of an object into the sessions. `Full` comes before any memory is asked for.
+/// After a refusal they are unchanged.
 pub fn enter_session<const SESSIONS: u32, const OBJECTS: u32, const SYMBOLS: u32>(
     sessions: &mut Sessions<SESSIONS, OBJECTS, SYMBOLS>,
     alloc: Global,
@@ -70,7 +71,8 @@ pub fn enter_session<const SESSIONS: u32, const OBJECTS: u32, const SYMBOLS: u32
         → StoreBeyond SESSIONS OBJECTS (with_session sessions.old key.now news.entry) }
     ensures held { IsHeldSession sessions.old key.now news.entry → IsOk result }
     ensures room { (result ≡ Err JoinRefusal.Full → ⊥)
-        → IsSound session_cmp SESSIONS (IsSession OBJECTS) (with_session sessions.old key.now news.entry) }
+        → IsSound session_cmp SESSIONS (IsSession OBJECTS)
+        (with_session sessions.old key.now news.entry) }
 {
     if let Some(held) = sessions.get_mut(&key.session) {
         return enter_object(held, alloc, key.object, news);

@@ -103,8 +103,10 @@ impl<'a> GapWalk<'a> {
     fn write<W: Sink>(&mut self, sink: &mut W, len: u64) -> Result<(), DeviceFault>
         requires walk { IsWalk self.old }
         requires whole { left self.old ≡ [] }
-        ensures bytes { Writes (W.written sink.old) (W.written sink.new) (take len (bytes_left self.old)) result }
-        ensures failures { W.failures sink.new ≡ W.failures sink.old + (if is_ok result then 0 else 1) }
+        ensures bytes { Writes (W.written sink.old) (W.written sink.new)
+            (take len (bytes_left self.old)) result }
+        ensures failures { W.failures sink.new
+            ≡ W.failures sink.old + (if is_ok result then 0 else 1) }
     {
         let mut rest = len;
         while let Some(bytes) = self.next_bytes() {
@@ -126,7 +128,8 @@ fn write_object<W: Sink>(
     requires known { EachValue IsKnown symbols }
     requires few { length symbols < 2 ^ 32 }
     requires whole { wanted info.now symbols (ids info.now) ≡ [] }
-    ensures bytes { Writes (W.written sink.old) (W.written sink.new) (take info.now.transfer_length (held_bytes symbols.entry (ids info.now))) result }
+    ensures bytes { Writes (W.written sink.old) (W.written sink.new)
+        (take info.now.transfer_length (held_bytes symbols.entry (ids info.now))) result }
     ensures failures { W.failures sink.new ≡ W.failures sink.old + (if is_ok result then 0 else 1) }
 {
     let mut walk = GapWalk::new(info, symbols);
@@ -138,16 +141,16 @@ impl<const SESSIONS: u32, const OBJECTS: u32, const SYMBOLS: u32> Store<
     OBJECTS,
     SYMBOLS,
 > {
-    /// Writes an object that is whole, and answers its length in bytes: its symbols in the order of the partition,
-    /// without the padding of the last one (RFC 5052, section 9.1).
+    /// Writes an object that is whole, and answers its length in bytes: its symbols in the order of
+    /// the partition, without the padding of the last one (RFC 5052, section 9.1).
     ///
-    /// `NoObject` where nothing of the object is held, `NoInformation` where no information of it is,
-    /// `ConflictingInformation` where two values of it were told, and `NotWhole` where some symbol of the partition
-    /// is not held as one fitting value: after these nothing was written. `Write` where the sink failed: it then
-    /// took a first part of the object, and not all.
+    /// `NoObject` where nothing of the object is held, `NoInformation` where no information of it
+    /// is, `ConflictingInformation` where two values of it were told, and `NotWhole` where some
+    /// symbol of the partition is not held as one fitting value: after these nothing was written.
+    /// `Write` where the sink failed: it then took a first part of the object, and not all.
     ///
-    /// It hands each symbol to the sink as it lies in the store. It takes no memory of its own, and time by the
-    /// number of blocks and of held symbols.
+    /// It hands each symbol to the sink as it lies in the store. It takes no memory of its own, and
+    /// time by the number of blocks and of held symbols.
     pub fn extract<W: Sink>(&self, key: &Key, sink: &mut W) -> Result<u64, ExtractFault>
         ensures bytes { Extracts W.written self.now key.now sink.old sink.new result }
         ensures failures { W.failures sink.new ≡ W.failures sink.old + failed result }

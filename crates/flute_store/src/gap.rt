@@ -11,8 +11,8 @@ pub enum Reason {
     Misfit,
 }
 
-/// Symbols of one source block that follow one another and are missing for one reason: those with the encoding
-/// symbol IDs from `first` to `last`, both among them (RFC 5445, section 3.2.1).
+/// Symbols of one source block that follow one another and are missing for one reason: those with
+/// the encoding symbol IDs from `first` to `last`, both among them (RFC 5445, section 3.2.1).
 #[derive(Clone, Copy, Debug, PartialEq, Eq)]
 pub struct Gap {
     /// The source block number.

@@ -38,8 +38,8 @@ pub enum GapFault {
 
 /// The gaps of an object, in the order of its partition.
 ///
-/// It walks the held symbols and the blocks side by side: however long the object is, all its gaps take no more
-/// ticks than there are blocks and held symbols, and one. It takes no memory.
+/// It walks the held symbols and the blocks side by side: however long the object is, all its gaps
+/// take no more ticks than there are blocks and held symbols, and one. It takes no memory.
 #[derive(Drop)]
 pub struct Gaps<'a> {
     walk: GapWalk<'a>,
@@ -88,8 +88,8 @@ impl<'a> Gaps<'a> {
         }
     }
 
-    /// How many steps were taken so far: each passes a held symbol or begins a block, and the first to find that
-    /// nothing is left is one too. It takes constant time.
+    /// How many steps were taken so far: each passes a held symbol or begins a block, and the first
+    /// to find that nothing is left is one too. It takes constant time.
     pub fn ticks(&self) -> u64
         ensures value { result ≡ self.now.ticks }
         ensures bounded { self.now.ticks ≤ self.now.bound }
@@ -107,11 +107,13 @@ impl Iterator for Gaps<'_> {
 
     /// The next gap, by constant time a tick. None where none is left, and again None after that.
     ///
-    /// Each block that it begins takes a tick, and each held symbol that it passes, and, once, that it finds nothing
-    /// left. At a gap it has begun the blocks up to the gap's, and passed the held symbols up to the gap's last one.
+    /// Each block that it begins takes a tick, and each held symbol that it passes, and, once, that
+    /// it finds nothing left. At a gap it has begun the blocks up to the gap's, and passed the held
+    /// symbols up to the gap's last one.
     fn next(&mut self) -> Option<Gap>
         ensures steps { YieldsFirst (λ g. g.gaps) self.old result self.new }
-        ensures goes { MakesProgress (λ _. Unit {0}) (item_count (λ g. g.gaps)) self.old result self.new }
+        ensures goes { MakesProgress (λ _. Unit {0})
+            (item_count (λ g. g.gaps)) self.old result self.new }
         ensures bound { self.new.bound ≡ self.old.bound }
         ensures total { self.new.blocks ≡ self.old.blocks }
         ensures rises { self.old.ticks ≤ self.new.ticks }
@@ -128,15 +130,16 @@ impl<const SESSIONS: u32, const OBJECTS: u32, const SYMBOLS: u32> Store<
     OBJECTS,
     SYMBOLS,
 > {
-    /// The symbols of an object's partition that are not held as one fitting value, grouped into the longest runs of
-    /// symbols of one block that follow one another and are missing for one reason. A held symbol that the
-    /// partition does not have is no gap.
+    /// The symbols of an object's partition that are not held as one fitting value, grouped into
+    /// the longest runs of symbols of one block that follow one another and are missing for one
+    /// reason. A held symbol that the partition does not have is no gap.
     ///
-    /// `NoObject` where nothing of the object is held, `NoInformation` where no information of it is, and
-    /// `ConflictingInformation` where two values of it were told. It takes no memory, and the time of two look-ups:
-    /// of the session, and of its object.
+    /// `NoObject` where nothing of the object is held, `NoInformation` where no information of it
+    /// is, and `ConflictingInformation` where two values of it were told. It takes no memory, and
+    /// the time of two look-ups: of the session, and of its object.
     pub fn gaps(&self, key: &Key) -> Result<Gaps<'_>, GapFault>
-        ensures { MatchResult result (λ gaps. GivesGaps self.now key.now gaps) (λ fault. TellsGapFault self.now key.now fault) }
+        ensures { MatchResult result (λ gaps. GivesGaps self.now key.now gaps)
+            (λ fault. TellsGapFault self.now key.now fault) }
     {
         let Some(object) = self.object(key) else {
             return Err(GapFault::NoObject);

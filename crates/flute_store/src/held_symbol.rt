@@ -9,9 +9,11 @@ use flute_parts::Bytes;
 use std::alloc::Global;
 use std::marker::Model;
 
-/// What is held of a symbol: its bytes, 1 to 65,535 of them, or that there were two values. Proofs see it as a cell.
+/// What is held of a symbol: its bytes, 1 to 65,535 of them, or that there were two values.
+/// Proofs see it as a cell.
 ///
-/// A symbol has a byte at least, so a conflict is held as no bytes: it takes no tag beside them, and no memory.
+/// A symbol has a byte at least, so a conflict is held as no bytes: it takes no tag beside
+/// them, and no memory.
 #[derive(Drop)]
 pub struct HeldSymbol {
     octets: Vec<u8>,

@@ -9,13 +9,15 @@ ghost use Rattle.flute_store.specs.Sent.{DatagramsGiveTheObject};
 
 /// What a refused `absorb` leaves, joined again with success, gives the join.
 pub fn absorbing_again_gives_the_join()
-    ensures { (old other left new : List Known) → Below old left → Below left (old ++ other) → Same new (left ++ other)
+    ensures { (old other left new : List Known) → Below old left → Below left (old ++ other)
+        → Same new (left ++ other)
         → Same new (old ++ other) }
 {}
 
 /// At a held address a fact needs no new session, object or symbol.
 pub fn held_addresses_have_cells()
-    ensures { (held : List Known) (fact : Known) → fact_at held (address fact) ≢ None → HasCell held fact }
+    ensures { (held : List Known) (fact : Known)
+        → fact_at held (address fact) ≢ None → HasCell held fact }
 {}
 
 /// Lists of facts that come to the same at each address make the same of each object.
@@ -25,8 +27,8 @@ pub fn objects_agree()
     ensures gaps { SameGaps }
 {}
 
-/// Gaps are the maximal runs of the symbols that are not held as one fitting value, and an object is whole exactly
-/// where it has no gap.
+/// Gaps are the maximal runs of the symbols that are not held as one fitting value, and an object
+/// is whole exactly where it has no gap.
 pub fn gaps_are_maximal_runs()
     ensures wants { GapsListWants }
     ensures runs { GapsAreRuns }
@@ -39,8 +41,8 @@ pub fn whole_objects_have_their_length()
     ensures { WholeHasItsLength }
 {}
 
-/// Where as much is known of an object as the datagrams tell that carry it, in any order and with any repeats, it is
-/// whole, and its bytes are those that were sent.
+/// Where as much is known of an object as the datagrams tell that carry it, in any order and with
+/// any repeats, it is whole, and its bytes are those that were sent.
 pub fn datagrams_give_the_object()
     ensures { DatagramsGiveTheObject }
 {}

@@ -1,8 +1,9 @@
-//! A store of FLUTE receptions: sessions of objects, each with its transmission information and its encoding symbols.
+//! A store of FLUTE receptions: sessions of objects, each with its transmission information and
+//! its encoding symbols.
 //!
-//! What a [`Store`] holds is a list of facts, one at an address, and what is taken, added or absorbed is joined into
-//! it: the order in which facts come, and how often they come, makes no difference. Two values at one address are a
-//! conflict, and stay one.
+//! What a [`Store`] holds is a list of facts, one at an address, and what is taken, added or
+//! absorbed is joined into it: the order in which facts come, and how often they come, makes no
+//! difference. Two values at one address are a conflict, and stay one.
 #![tactic(auto)]
 
 mod entering;

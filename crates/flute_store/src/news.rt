@@ -84,7 +84,8 @@ impl<'a> News<'a> {
     pub fn of_packet(packet: &Packet<'a>) -> Option<Self>
         requires { IfSome packet.now.symbol (λ symbol. HasSymbolSize symbol.1) }
         ensures news { IfSome result IsNews }
-        ensures facts { IfSome result (λ news. news_facts (key_of packet.now) news ≡ facts_of packet.now) }
+        ensures facts { IfSome result (λ news. news_facts (key_of packet.now) news
+            ≡ facts_of packet.now) }
         ensures nothing { IfNone result (facts_of packet.now ≡ []) }
     {
         let info = match packet.info() {
@@ -117,8 +118,9 @@ impl<'a> News<'a> {
 }
 
 impl Told<'_> {
-    /// What is held of the symbol then. Borrowed bytes are copied; they are as many as a symbol's, so the one refusal
-    /// is `OutOfMemory`. Owned bytes are moved, and like a conflict they take no memory.
+    /// What is held of the symbol then. Borrowed bytes are copied; they are as many as a
+    /// symbol's, so the one refusal is `OutOfMemory`. Owned bytes are moved, and like a conflict
+    /// they take no memory.
     pub fn into_cell(self, alloc: Global) -> Result<HeldSymbol, JoinRefusal>
         requires { HasSize self }
         ensures ok { IfOk result (λ c. c ≡ told_cell self.entry) }

@@ -81,12 +81,14 @@ impl<const SESSIONS: u32, const OBJECTS: u32, const SYMBOLS: u32> Store<
     OBJECTS,
     SYMBOLS,
 > {
-    /// How much of an object is held. None where nothing of it is. A held symbol that the partition does not have
-    /// is not counted.
+    /// How much of an object is held. None where nothing of it is. A held symbol that the partition
+    /// does not have is not counted.
     ///
-    /// It takes no memory, and time by the number of blocks and of held symbols, however long the object is.
+    /// It takes no memory, and time by the number of blocks and of held symbols,
+    /// however long the object is.
     pub fn status(&self, key: &Key) -> Option<Status>
-        ensures { MatchOption result (IsUnheard self.now key.now) (λ status. TellsStatus self.now key.now status) }
+        ensures { MatchOption result (IsUnheard self.now key.now)
+            (λ status. TellsStatus self.now key.now status) }
     {
         let Some(object) = self.object(key) else {
             return None;

@@ -50,9 +50,9 @@ use flute_wire::{Packet, read};
 use std::alloc::Global;
 use std::marker::Model;
 
-/// What was received: at most `SESSIONS` sessions, `OBJECTS` objects of each and `SYMBOLS` symbols of each object, with
-/// an object's transmission information beside them. Proofs see it as the list of its facts in the order of their
-/// addresses, one at each.
+/// What was received: at most `SESSIONS` sessions, `OBJECTS` objects of each and `SYMBOLS` symbols
+/// of each object, with an object's transmission information beside them. Proofs see it as the list
+/// of its facts in the order of their addresses, one at each.
 ///
 /// No session is held without an object, and no object without information or a symbol.
 #[derive(Drop)]
@@ -91,10 +91,12 @@ fn join_sessions<const SESSIONS: u32, const OBJECTS: u32, const SYMBOLS: u32>(
     ensures above { IsBelow store_join sessions.old sessions.new }
     ensures below { IsBelow store_join sessions.new (store_join sessions.old other.now) }
     ensures full { IfErr result (λ why. why ≡ JoinRefusal.Full
-        → MapOver session_cmp session_join SESSIONS (MapOver object_cmp object_join OBJECTS ObjectOver)
+        → MapOver session_cmp session_join SESSIONS
+        (MapOver object_cmp object_join OBJECTS ObjectOver)
         sessions.old other.now) }
     ensures memory { IfErr result (λ why. why ≡ JoinRefusal.OutOfMemory
-        → MapNeedsMemory session_cmp (MapNeedsMemory object_cmp ObjectNeedsMemory) sessions.old other.now) }
+        → MapNeedsMemory session_cmp (MapNeedsMemory object_cmp ObjectNeedsMemory)
+        sessions.old other.now) }
 {
     sessions.join_from(alloc, other)
 }
@@ -113,21 +115,23 @@ impl<const SESSIONS: u32, const OBJECTS: u32, const SYMBOLS: u32> Store<
         }
     }
 
-    /// Joins another store into this one: it holds the facts of both, and where they tell two values, the conflict.
+    /// Joins another store into this one: it holds the facts of both, and where they tell two
+    /// values, the conflict.
     ///
-    /// It looks up each session, object and symbol of the other store once, and copies the bytes of a symbol only
-    /// where the symbol is new.
+    /// It looks up each session, object and symbol of the other store once, and copies the bytes of
+    /// a symbol only where the symbol is new.
     ///
     /// # Errors
     ///
-    /// `Full` only where both together pass the limits, and `OutOfMemory` only where the other store has a fact at an
-    /// address that is not held here. After either this store has its old facts and perhaps some of the other one's:
-    /// absorbing that again with success gives the join.
+    /// `Full` only where both together pass the limits, and `OutOfMemory` only where the other
+    /// store has a fact at an address that is not held here. After either this store has its old
+    /// facts and perhaps some of the other one's: absorbing that again with success gives the join.
     pub fn absorb(&mut self, alloc: Global, other: &Self) -> Result<(), JoinRefusal>
         ensures ok { OnOk result (Same self.new (self.old ++ other.now)) }
         ensures above { Below self.old self.new }
         ensures below { Below self.new (self.old ++ other.now) }
-        ensures full { result ≡ Err JoinRefusal.Full → Over (self.old ++ other.now) SESSIONS OBJECTS SYMBOLS }
+        ensures full { result ≡ Err JoinRefusal.Full
+            → Over (self.old ++ other.now) SESSIONS OBJECTS SYMBOLS }
         ensures memory { result ≡ Err JoinRefusal.OutOfMemory → HasNew self.old other.now }
     {
         // By this the proof knows that the other store is one.
@@ -142,18 +146,20 @@ impl<const SESSIONS: u32, const OBJECTS: u32, const SYMBOLS: u32> Store<
         ensures err { OnErr result (self.new ≡ self.old) }
         ensures full { (result ≡ Err JoinRefusal.Full)
             ↔ Over (self.old ++ news_facts key.now news.entry) SESSIONS OBJECTS SYMBOLS }
-        ensures held { AllByRecursion (HasCell self.old) (news_facts key.now news.entry) → IsOk result }
+        ensures held { AllByRecursion (HasCell self.old) (news_facts key.now news.entry)
+            → IsOk result }
     {
         enter_session(&mut self.sessions, alloc, key, news)
     }
 
-    /// Adds a fact. Where another value is held at its address, the conflict is held from then on, and a conflict that
-    /// is told makes one. It costs as much as [`take`](Store::take).
+    /// Adds a fact. Where another value is held at its address, the conflict is held from then on,
+    /// and a conflict that is told makes one. It costs as much as [`take`](Store::take).
     ///
     /// # Errors
     ///
-    /// `Full` exactly where the fact needs a new session, object or symbol beyond the limits, before any memory is
-    /// asked for, and else `OutOfMemory`. Neither comes at a held address. After each the store is unchanged.
+    /// `Full` exactly where the fact needs a new session, object or symbol beyond the limits,
+    /// before any memory is asked for, and else `OutOfMemory`. Neither comes at a held address.
+    /// After each the store is unchanged.
     pub fn add(&mut self, alloc: Global, fact: &Fact) -> Result<(), JoinRefusal>
         ensures ok { OnOk result (Same self.new (self.old ++ fact.now ∷ [])) }
         ensures err { OnErr result (self.new ≡ self.old) }
@@ -164,17 +170,19 @@ impl<const SESSIONS: u32, const OBJECTS: u32, const SYMBOLS: u32> Store<
         self.enter(alloc, &fact.address().key, News::of_fact(fact))
     }
 
-    /// As [`add`](Store::add), but the fact is handed over: none of its bytes is copied. Where it isn't kept, it is
-    /// dropped.
+    /// As [`add`](Store::add), but the fact is handed over: none of its bytes is copied. Where it
+    /// isn't kept, it is dropped.
     ///
     /// # Errors
     ///
-    /// `Full` exactly where the fact needs a new session, object or symbol beyond the limits, before any memory is
-    /// asked for, and else `OutOfMemory`. Neither comes at a held address. After each the store is unchanged.
+    /// `Full` exactly where the fact needs a new session, object or symbol beyond the limits,
+    /// before any memory is asked for, and else `OutOfMemory`. Neither comes at a held address.
+    /// After each the store is unchanged.
     pub fn put(&mut self, alloc: Global, fact: Fact) -> Result<(), JoinRefusal>
         ensures ok { OnOk result (Same self.new (self.old ++ fact ∷ [])) }
         ensures err { OnErr result (self.new ≡ self.old) }
-        ensures full { (result ≡ Err JoinRefusal.Full) ↔ Over (self.old ++ fact ∷ []) SESSIONS OBJECTS SYMBOLS }
+        ensures full { (result ≡ Err JoinRefusal.Full)
+            ↔ Over (self.old ++ fact ∷ []) SESSIONS OBJECTS SYMBOLS }
         ensures held { HasCell self.old fact → IsOk result }
     {
         let key = fact.address().key;
@@ -201,23 +209,26 @@ impl<const SESSIONS: u32, const OBJECTS: u32, const SYMBOLS: u32> Store<
         Ok(Taken { facts })
     }
 
-    /// Adds the facts of a datagram: the transmission information of its object and its encoding symbol, as far as it
-    /// has them. What is held at an address already is joined, as by [`add`](Store::add). Whether a symbol fits the
-    /// information is not looked at, nor whether there is any.
+    /// Adds the facts of a datagram: the transmission information of its object and its
+    /// encoding symbol, as far as it has them. What is held at an address already is joined, as
+    /// by [`add`](Store::add). Whether a symbol fits the information is not looked at, nor
+    /// whether there is any.
     ///
-    /// It looks up the session, the object and the symbol once each. A new symbol's bytes are copied once; at a held
-    /// address nothing is copied, and no memory is asked for.
+    /// It looks up the session, the object and the symbol once each. A new symbol's bytes are
+    /// copied once; at a held address nothing is copied, and no memory is asked for.
     ///
     /// # Errors
     ///
-    /// `Datagram` with the first refusal of [`read`](flute_wire::read), else `Full` exactly where a fact needs a new
-    /// session, object or symbol beyond the limits, and else `OutOfMemory`. Where every fact stands at a held address
-    /// neither of the last two comes. After each the store is unchanged: of two facts it never keeps one.
+    /// `Datagram` with the first refusal of [`read`](flute_wire::read), else `Full` exactly where a
+    /// fact needs a new session, object or symbol beyond the limits, and else `OutOfMemory`. Where
+    /// every fact stands at a held address neither of the last two comes. After each the store is
+    /// unchanged: of two facts it never keeps one.
     pub fn take(&mut self, alloc: Global, datagram: &[u8]) -> Result<Taken, TakeFault>
         ensures ok { OnOk result (Same self.new (self.old ++ facts datagram.now)) }
         ensures number { IfOk result (λ taken. taken.facts ≡ length (facts datagram.now)) }
         ensures err { OnErr result (self.new ≡ self.old) }
-        ensures refused { (r : Reason) → (result ≡ Err (TakeFault.Datagram r)) ↔ Refuses datagram.now r }
+        ensures refused { (r : Reason) → (result ≡ Err (TakeFault.Datagram r))
+            ↔ Refuses datagram.now r }
         ensures full { (result ≡ Err TakeFault.Full)
             ↔ Over (self.old ++ facts datagram.now) SESSIONS OBJECTS SYMBOLS }
         ensures held { (p : Content) → Spells datagram.now p
@@ -231,8 +242,9 @@ impl<const SESSIONS: u32, const OBJECTS: u32, const SYMBOLS: u32> Store<
         }
     }
 
-    /// The facts in the rising order of their addresses: sessions, in each its FDT Instances and then its files, and of
-    /// each object the information before the symbols. The bytes of a symbol are borrowed, 1 to 65,535 of them.
+    /// The facts in the rising order of their addresses: sessions, in each its FDT Instances and
+    /// then its files, and of each object the information before the symbols. The bytes of a symbol
+    /// are borrowed, 1 to 65,535 of them.
     ///
     /// It takes no memory, and goes once over what is held.
     pub fn walk(&self) -> Walk<'_, Objects<OBJECTS, SYMBOLS>>
@@ -247,7 +259,8 @@ impl<const SESSIONS: u32, const OBJECTS: u32, const SYMBOLS: u32> Store<
         Walk::new(sessions)
     }
 
-    /// Every store has its facts in the rising order of their addresses, and within its limits. A law: it does nothing.
+    /// Every store has its facts in the rising order of their addresses, and within its limits. A
+    /// law: it does nothing.
     pub fn keeps_order_and_limits(&self)
         ensures rising { IsRising self.now }
         ensures within { ¬ Over self.now SESSIONS OBJECTS SYMBOLS }
@@ -255,8 +268,8 @@ impl<const SESSIONS: u32, const OBJECTS: u32, const SYMBOLS: u32> Store<
         let _ = &self.sessions;
     }
 
-    /// The keys of the objects of which something is held, in rising order. It takes no memory, and goes once over the
-    /// sessions and objects.
+    /// The keys of the objects of which something is held, in rising order. It takes no memory, and
+    /// goes once over the sessions and objects.
     pub fn objects(&self) -> Keys<'_, Objects<OBJECTS, SYMBOLS>>
         ensures rising { IsStrictlySortedBy key_cmp result }
         ensures held { (key : Name) → Contains result key ↔ HoldsObject self.now key }
@@ -267,8 +280,8 @@ impl<const SESSIONS: u32, const OBJECTS: u32, const SYMBOLS: u32> Store<
         Keys::new(sessions)
     }
 
-    /// Whether a value or a conflict is held at the address. It takes no memory, and looks up the session, the object
-    /// and the symbol once each.
+    /// Whether a value or a conflict is held at the address. It takes no memory, and looks up the
+    /// session, the object and the symbol once each.
     pub fn contains(&self, address: &Address) -> bool
         ensures { result ≡ is_some (fact_at self.now address.now) }
     {

@@ -14,8 +14,8 @@ use byteorder::{BigEndian, ByteOrder};
 use flute_parts::{Info, Key, SymbolId};
 use std::alloc::{AllocError, Global};
 
-/// The first half of the first word: LCT version 1, and fields of 32 bits for the congestion control information, the
-/// TSI and the TOI (RFC 5651, section 5.1).
+/// The first half of the first word: LCT version 1, and fields of 32 bits for the congestion
+/// control information, the TSI and the TOI (RFC 5651, section 5.1).
 const FIRST_BYTES: [u8; 2] = [0x10, 0xA0];
 
 /// FLUTE's version 2, above the 20 bits of the FDT Instance ID (RFC 6726, section 3.4.1).
@@ -27,7 +27,8 @@ const FTI_WORDS: u8 = 4;
 /// The bytes of the FEC Payload ID (RFC 5445, section 3.2.1).
 pub const PAYLOAD_ID_LEN: usize = 4;
 
-/// The header up to its extensions, with so many words in all: the congestion control information is 0.
+/// The header up to its extensions, with so many words in all: the congestion
+/// control information is 0.
 fn fixed_fields(words: u8, tsi: u32, toi: u32) -> [u8; 16]
     ensures { result ≡ word_bytes words ++ (big_bytes 4 0 ++ (big_bytes 4 tsi ++ big_bytes 4 toi)) }
 {
@@ -41,7 +42,8 @@ fn fixed_fields(words: u8, tsi: u32, toi: u32) -> [u8; 16]
 
 /// Appends EXT_FDT, where the object is an FDT Instance.
 fn put_fdt(out: &mut Vec<u8>, key: &Key) -> Result<(), AllocError>
-    ensures bytes { OnOk result (out.new.items ≡ out.old.items ++ fdt_bytes (instance_of key.now.object)) }
+    ensures bytes { OnOk result
+        (out.new.items ≡ out.old.items ++ fdt_bytes (instance_of key.now.object)) }
     ensures fits { OnOk result (IsObjectName key.now.object) }
 {
     if let Some(instance) = key.object.instance() {
@@ -89,7 +91,8 @@ fn payload_id(id: SymbolId) -> [u8; PAYLOAD_ID_LEN]
 
 /// Appends the FEC Payload ID and the bytes of the symbol, where there is one.
 fn put_symbol(out: &mut Vec<u8>, symbol: Option<(SymbolId, &[u8])>) -> Result<(), AllocError>
-    ensures bytes { OnOk result (out.new.items ≡ out.old.items ++ symbol_bytes (option_map (λ s. (s.0, s.1.now)) symbol.entry)) }
+    ensures bytes { OnOk result (out.new.items
+        ≡ out.old.items ++ symbol_bytes (option_map (λ s. (s.0, s.1.now)) symbol.entry)) }
     ensures fits { OnOk result (HasFittingId (option_map (λ s. (s.0, s.1.now)) symbol.entry)) }
 {
     if let Some((id, bytes)) = symbol {

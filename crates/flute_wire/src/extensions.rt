@@ -13,22 +13,25 @@ pub const EXT_FTI: u8 = 64;
 /// The type of the extension with the FDT Instance ID (RFC 6726, section 3.4.1).
 pub const EXT_FDT: u8 = 192;
 
-/// The type of the extension with the content encoding of an FDT Instance (RFC 6726, section 3.4.3).
+/// The type of the extension with the content encoding of an FDT Instance
+/// (RFC 6726, section 3.4.3).
 const EXT_CENC: u8 = 193;
 
-/// One extension: its type HET and the bytes after that, the length HEL included where there is one.
+/// One extension: its type HET and the bytes after that, the length HEL included where there is
+/// one.
 #[derive(Clone, Copy)]
 pub struct Extension<'a> {
     het: u8,
     body: &'a [u8],
 }
 
-/// The extension at the front, and the bytes after it. None where no extension is there: it has no words, or more
-/// than there are.
+/// The extension at the front, and the bytes after it. None where no extension is there: it has no
+/// words, or more than there are.
 fn split_extension(bytes: &[u8]) -> Option<(Extension<'_>, &[u8])>
     ensures whole { IfSome result (λ s. IsExtension (extension_of s.0)) }
     ensures parts { IfSome result (λ s. bytes.now ≡ bytes_of (extension_of s.0) ++ s.1.now) }
-    ensures none { IfNone result ((e : Record) (rest : List ℕ) → IsExtension e → bytes.now ≢ bytes_of e ++ rest) }
+    ensures none { IfNone result
+        ((e : Record) (rest : List ℕ) → IsExtension e → bytes.now ≢ bytes_of e ++ rest) }
 {
     let het = *bytes.first()?;
     let words = if het < 128 { *bytes.get(1)? } else { 1 };
@@ -72,7 +75,8 @@ impl<'a> Occurrence<'a> {
     fn body(self) -> Result<Option<&'a [u8]>, Refusal>
         ensures found { IfOk result (λ body. (bs : List (List ℕ)) → Occurs self.entry bs
             → bs ≡ option_to_list (option_copied body)) }
-        ensures repeated { OnErr result ((bs : List (List ℕ)) → Occurs self.entry bs → 1 < length bs) }
+        ensures repeated { OnErr result
+            ((bs : List (List ℕ)) → Occurs self.entry bs → 1 < length bs) }
         ensures refusal { IfErr result (λ r. r ≡ Refusal.Repeated) }
     {
         match self {
@@ -83,7 +87,8 @@ impl<'a> Occurrence<'a> {
     }
 }
 
-/// The bodies of the extensions that FLUTE reads: what stands behind their type. All others are skipped.
+/// The bodies of the extensions that FLUTE reads: what stands behind their type.
+/// All others are skipped.
 #[derive(Clone, Copy)]
 pub struct Known<'a> {
     pub fti: Option<&'a [u8]>,
@@ -96,10 +101,11 @@ impl<'a> Known<'a> {
     ///
     /// # Errors
     ///
-    /// `ExtensionLength` where the bytes are no extensions, wherever that is found, and else `Repeated` where one of
-    /// the three stands twice.
+    /// `ExtensionLength` where the bytes are no extensions, wherever that is found, and else
+    /// `Repeated` where one of the three stands twice.
     pub fn read(area: &'a [u8]) -> Result<Self, Refusal>
-        ensures found { IfOk result (λ k. Finds area.now (option_copied k.fti) (option_copied k.fdt) (option_copied k.cenc)) }
+        ensures found { IfOk result (λ k. Finds area.now (option_copied k.fti) (option_copied k.fdt)
+            (option_copied k.cenc)) }
         ensures refused { IfErr result (λ r. RefusesArea area.now r) }
     {
         let mut rest = area;

@@ -2,7 +2,8 @@
 
 use std::marker::Model;
 
-/// The first 32-bit word of an LCT header, which says how long the header's fields are (RFC 5651, section 5.1).
+/// The first 32-bit word of an LCT header, which says how long the header's fields are
+/// (RFC 5651, section 5.1).
 #[derive(Drop)]
 pub struct FirstWord {
     bits: u32,

@@ -24,30 +24,38 @@ pub fn one_reading()
     ensures decided { (d : List ℕ) → ((p : Content) × Spells d p) ⊎ ((r : Reason) × Applies r d) }
 {}
 
-/// The packet of a datagram can be computed, and from it the facts that the datagram tells: none, where it is
-/// refused.
+/// The packet of a datagram can be computed, and from it the facts that the datagram tells: none,
+/// where it is refused.
 pub fn computed_reading()
     ensures packet { (d : List ℕ) (p : Content) → (packet d ≡ Some p) ↔ Spells d p }
     ensures facts { (d : List ℕ) (p : Content) → Spells d p → facts d ≡ facts_of p }
     ensures no_facts { (d : List ℕ) (r : Reason) → Applies r d → facts d ≡ [] }
 {}
 
-/// An object is cut into the symbols of its partition: their bytes joined are the object, each fits, and no two bytes
-/// are sent as one symbol.
+/// An object is cut into the symbols of its partition: their bytes joined are the object, each
+/// fits, and no two bytes are sent as one symbol.
 pub fn an_object_is_cut_into_symbols()
-    ensures ids { (i : Information) (content : List ℕ) → map (λ s. s.0) (symbols_of i content) ≡ ids i }
-    ensures joined { (i : Information) (content : List ℕ) → IsValid i → length content ≡ i.transfer_length
+    ensures ids { (i : Information) (content : List ℕ)
+        → map (λ s. s.0) (symbols_of i content) ≡ ids i }
+    ensures joined { (i : Information) (content : List ℕ) → IsValid i
+        → length content ≡ i.transfer_length
         → flat_map (λ s. s.1) (symbols_of i content) ≡ content }
-    ensures fit { (i : Information) (content : List ℕ) (s : SymbolId × List ℕ) → IsValid i → length content ≡ i.transfer_length
+    ensures fit { (i : Information) (content : List ℕ) (s : SymbolId × List ℕ) → IsValid i
+        → length content ≡ i.transfer_length
         → Contains (symbols_of i content) s → fits i s.0 (length s.1) ≡ true }
-    ensures one { (i : Information) (content : List ℕ) (s t : SymbolId × List ℕ) → Contains (symbols_of i content) s
+    ensures one { (i : Information) (content : List ℕ) (s t : SymbolId × List ℕ)
+        → Contains (symbols_of i content) s
         → Contains (symbols_of i content) t → s.0 ≡ t.0 → s ≡ t }
 {}
 
 /// What an object's datagrams tell is its information and each of its symbols, and nothing else.
 pub fn an_object_is_told_by_its_datagrams()
-    ensures facts { (key : Key) (i : Information) (content : List ℕ) (f : Fact) → IsValid i → Contains (facts_sent key i content) f
-        ↔ ((f ≡ Info key i) ⊎ ((s : SymbolId × List ℕ) × Contains (symbols_of i content) s × (f ≡ Symbol key s.0 s.1))) }
+    ensures facts { (key : Key) (i : Information) (content : List ℕ) (f : Fact) → IsValid i
+        → Contains (facts_sent key i content) f
+        ↔ ((f ≡ Info key i)
+        ⊎ ((s : SymbolId × List ℕ) × Contains (symbols_of i content) s
+        × (f ≡ Symbol key s.0 s.1))) }
     ensures datagrams { (key : Key) (i : Information) (content : List ℕ) (datagrams : List (List ℕ))
-        → AllZip IsWritten datagrams (packets_of key i content) → flat_map facts datagrams ≡ facts_sent key i content }
+        → AllZip IsWritten datagrams (packets_of key i content)
+        → flat_map facts datagrams ≡ facts_sent key i content }
 {}

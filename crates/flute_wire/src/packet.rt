@@ -3,8 +3,8 @@
 use flute_parts::{Info, Key, ObjectKey, SessionKey, SymbolId};
 use std::marker::Model;
 
-/// What a datagram says. [`read`](crate::read) makes it. The symbol's bytes are those of the datagram: nothing is
-/// copied, and no call takes memory.
+/// What a datagram says. [`read`](crate::read) makes it. The symbol's bytes are those of the
+/// datagram: nothing is copied, and no call takes memory.
 #[derive(Debug, Drop)]
 pub struct Packet<'a> {
     tsi: u64,
@@ -76,15 +76,17 @@ impl<'a> Packet<'a> {
         self.toi
     }
 
-    /// The FDT Instance ID, below 2^20. There is one exactly where the TOI is 0 (RFC 6726, section 3.4.1).
+    /// The FDT Instance ID, below 2^20. There is one exactly where the TOI is 0
+    /// (RFC 6726, section 3.4.1).
     pub fn instance(&self) -> Option<u32>
         ensures { result ≡ self.now.instance }
     {
         self.instance
     }
 
-    /// What the packet belongs to: the session of its TSI, and there the FDT Instance of its number, where the TOI is
-    /// 0, and else the file of its TOI (RFC 6726, section 3.4). The widths of the fields make no difference.
+    /// What the packet belongs to: the session of its TSI, and there the FDT Instance of its
+    /// number, where the TOI is 0, and else the file of its TOI (RFC 6726, section 3.4). The widths
+    /// of the fields make no difference.
     pub fn key(&self) -> Key
         ensures { result ≡ key_of self.now }
     {
@@ -96,17 +98,17 @@ impl<'a> Packet<'a> {
         Key { session, object }
     }
 
-    /// The transmission information of EXT_FTI. None where there is no EXT_FTI (RFC 5775, section 4.2; RFC 5445,
-    /// section 3.2.2).
+    /// The transmission information of EXT_FTI. None where there is no EXT_FTI (RFC 5775,
+    /// section 4.2; RFC 5445, section 3.2.2).
     pub fn info(&self) -> Option<Info>
         ensures { result ≡ self.now.info }
     {
         self.info
     }
 
-    /// The numbers of the encoding symbol and its bytes, 1 to 65,519 of them. None where the datagram ends with its
-    /// header or with the FEC Payload ID (RFC 5445, section 3.2.1). Whether they fit the transmission information is
-    /// not looked at.
+    /// The numbers of the encoding symbol and its bytes, 1 to 65,519 of them. None where the
+    /// datagram ends with its header or with the FEC Payload ID (RFC 5445, section 3.2.1). Whether
+    /// they fit the transmission information is not looked at.
     pub fn symbol(&self) -> Option<(SymbolId, &'a [u8])>
         ensures { option_map (λ s. (s.0, s.1.now)) result ≡ self.now.symbol }
     {

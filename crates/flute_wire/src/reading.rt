@@ -20,15 +20,19 @@ use flute_parts::{Info, SymbolId};
 /// The length of EXT_FTI's body: four words without the byte of the type.
 const FTI_LEN: usize = 15;
 
-/// The transmission information of EXT_FTI, if that is there. Behind HEL stand the transfer length, two bytes that
-/// are reserved, the encoding symbol length and the maximum source block length (RFC 5445, section 3.2.2.2).
+/// The transmission information of EXT_FTI, if that is there. Behind HEL stand the transfer length,
+/// two bytes that are reserved, the encoding symbol length and the maximum source block length
+/// (RFC 5445, section 3.2.2.2).
 ///
 /// # Errors
 ///
-/// `FtiLength` where EXT_FTI does not have four words, and else `Information` where its numbers are not valid.
+/// `FtiLength` where EXT_FTI does not have four words, and else `Information` where its
+/// numbers are not valid.
 fn information(fti: Option<&[u8]>) -> Result<Option<Info>, Refusal>
-    ensures taken { OnOk result (IfSome (option_copied fti.entry) (λ body. (length body ≡ 15) × (info_fault (fti_information body) ≡ None))) }
-    ensures value { IfOk result (λ info. info ≡ option_map fti_information (option_copied fti.entry)) }
+    ensures taken { OnOk result (IfSome (option_copied fti.entry)
+        (λ body. (length body ≡ 15) × (info_fault (fti_information body) ≡ None))) }
+    ensures value { IfOk result (λ info. info
+        ≡ option_map fti_information (option_copied fti.entry)) }
     ensures refused { IfErr result (λ r. RefusesFti (option_copied fti.entry) r) }
 {
     let Some(body) = fti else {
@@ -46,7 +50,8 @@ fn information(fti: Option<&[u8]>) -> Result<Option<Info>, Refusal>
     }
 }
 
-/// FLUTE's version, of 4 bits, and the FDT Instance ID, of 20, in EXT_FDT (RFC 6726, section 3.4.1).
+/// FLUTE's version, of 4 bits, and the FDT Instance ID, of 20, in EXT_FDT
+/// (RFC 6726, section 3.4.1).
 fn fdt_fields(body: &[u8]) -> (u8, u32)
     requires { length body.now ≡ 3 }
     ensures version { result.0 ≡ fdt_version body.now }
@@ -60,11 +65,14 @@ fn fdt_fields(body: &[u8]) -> (u8, u32)
 ///
 /// # Errors
 ///
-/// `NoInstance` where the TOI is 0 and there is no EXT_FDT, and `FluteVersion` where it is not of version 2.
+/// `NoInstance` where the TOI is 0 and there is no EXT_FDT, and `FluteVersion` where it
+/// is not of version 2.
 fn instance(toi: u128, fdt: Option<&[u8]>) -> Result<Option<u32>, Refusal>
     requires { IfSome (option_copied fdt) (λ body. length body ≡ 3) }
-    ensures taken { OnOk result (toi ≡ 0 → IsSomeAnd (option_copied fdt.entry) (λ body. fdt_version body ≡ 2)) }
-    ensures value { IfOk result (λ i. i ≡ (if toi == 0 then option_map fdt_instance (option_copied fdt.entry) else None)) }
+    ensures taken { OnOk result
+        (toi ≡ 0 → IsSomeAnd (option_copied fdt.entry) (λ body. fdt_version body ≡ 2)) }
+    ensures value { IfOk result
+        (λ i. i ≡ (if toi == 0 then option_map fdt_instance (option_copied fdt.entry) else None)) }
     ensures fits { IfOk result (λ i. IfSome i (λ n. n < 2 ^ 20)) }
     ensures refused { IfErr result (λ r. RefusesFdt toi (option_copied fdt.entry) r) }
 {
@@ -81,11 +89,14 @@ fn instance(toi: u128, fdt: Option<&[u8]>) -> Result<Option<u32>, Refusal>
     Ok(Some(number))
 }
 
-/// Refuses a content encoding as `ContentEncoded`: the first byte of EXT_CENC (RFC 6726, section 3.4.3).
+/// Refuses a content encoding as `ContentEncoded`: the first byte of EXT_CENC
+/// (RFC 6726, section 3.4.3).
 fn check_encoding(cenc: Option<&[u8]>) -> Result<(), Refusal>
     requires { IfSome (option_copied cenc) (λ body. length body ≡ 3) }
-    ensures plain { OnOk result (IfSome (option_copied cenc.entry) (λ body. content_encoding body ≡ 0)) }
-    ensures encoded { OnErr result (IsSomeAnd (option_copied cenc.entry) (λ body. content_encoding body ≢ 0)) }
+    ensures plain { OnOk result
+        (IfSome (option_copied cenc.entry) (λ body. content_encoding body ≡ 0)) }
+    ensures encoded { OnErr result
+        (IsSomeAnd (option_copied cenc.entry) (λ body. content_encoding body ≢ 0)) }
     ensures refusal { IfErr result (λ r. r ≡ Refusal.ContentEncoded) }
 {
     match cenc {
@@ -94,7 +105,8 @@ fn check_encoding(cenc: Option<&[u8]>) -> Result<(), Refusal>
     }
 }
 
-/// The symbol behind the header, if there is one: the FEC Payload ID and at least one byte (RFC 5445, section 3.2.1).
+/// The symbol behind the header, if there is one: the FEC Payload ID and at least one byte
+/// (RFC 5445, section 3.2.1).
 ///
 /// # Errors
 ///
@@ -135,12 +147,13 @@ fn packet_of(datagram: &[u8]) -> Result<Packet<'_>, Refusal>
     Ok(Packet::new(header.tsi, header.toi, instance, info, symbol))
 }
 
-/// Reads a datagram as a packet of FLUTE version 2: the LCT header with its extensions (RFC 5651, section 5), the FEC
-/// Payload ID and one encoding symbol (RFC 5775, section 4.1; RFC 5445, section 3.2.1).
+/// Reads a datagram as a packet of FLUTE version 2: the LCT header with its extensions
+/// (RFC 5651, section 5), the FEC Payload ID and one encoding symbol (RFC 5775, section 4.1;
+/// RFC 5445, section 3.2.1).
 ///
-/// It takes no memory: the symbol is a part of the datagram. The answer depends on these bytes alone. Congestion
-/// control information, reserved bits, the close flags and extensions other than EXT_FTI, EXT_FDT and EXT_CENC are
-/// not looked at.
+/// It takes no memory: the symbol is a part of the datagram. The answer depends on these bytes
+/// alone. Congestion control information, reserved bits, the close flags and extensions other than
+/// EXT_FTI, EXT_FDT and EXT_CENC are not looked at.
 ///
 /// # Errors
 ///

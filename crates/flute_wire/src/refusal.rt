@@ -3,8 +3,9 @@
 use flute_parts::InfoFault;
 use thiserror::Error;
 
-/// Why a datagram is refused, in the order of the checks: the first that applies is told. Shown as its number in
-/// that order, from 1, and its name, as `4 HeaderLength`; `Information` with the name of its fault behind that.
+/// Why a datagram is refused, in the order of the checks: the first that applies is told. Shown as
+/// its number in that order, from 1, and its name, as `4 HeaderLength`; `Information` with the name
+/// of its fault behind that.
 ///
 /// The header is that of RFC 5651, section 5.
 #[derive(Clone, Copy, Debug, PartialEq, Eq, Error)]
@@ -30,7 +31,8 @@ pub enum Refusal {
     /// The Transport Object Identifier has no bits.
     #[error("7 NoToi")]
     NoToi,
-    /// The codepoint, here the FEC Encoding ID, is not 0: that of Compact No-Code FEC (RFC 5445, section 3).
+    /// The codepoint, here the FEC Encoding ID, is not 0: that of Compact No-Code FEC
+    /// (RFC 5445, section 3).
     #[error("8 Codepoint")]
     Codepoint,
     /// A header extension has no words, or passes the header's end (RFC 5651, section 5.2).
@@ -42,8 +44,8 @@ pub enum Refusal {
     /// EXT_FTI does not have four words (RFC 5775, section 4.2; RFC 5445, section 3.2.2.2).
     #[error("11 FtiLength")]
     FtiLength,
-    /// The numbers of EXT_FTI are no transmission information, for this reason. The transfer length is never too
-    /// large: EXT_FTI has 48 bits for it.
+    /// The numbers of EXT_FTI are no transmission information, for this reason. The transfer length
+    /// is never too large: EXT_FTI has 48 bits for it.
     #[error("12 Information {0}")]
     Information(InfoFault),
     /// The TOI is 0, so this is an FDT Instance, and there is no EXT_FDT (RFC 6726, section 3.4.1).

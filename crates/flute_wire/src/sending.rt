@@ -16,14 +16,15 @@ use flute_parts::{Info, Key, Partition, SymbolId};
 use std::alloc::{AllocError, Global};
 use thiserror::Error;
 
-/// Why an object is not sent, in the order of the checks: the first that applies is told. Shown by its name, `Write`
-/// with the name of its fault behind that.
+/// Why an object is not sent, in the order of the checks: the first that applies is told. Shown by
+/// its name, `Write` with the name of its fault behind that.
 #[derive(Clone, Copy, Debug, PartialEq, Eq, Error)]
 pub enum CarouselFault {
     /// The content does not have as many bytes as the transfer length says.
     #[error("Length")]
     Length,
-    /// A datagram cannot be written, for this reason, which is not want of memory: that of the first such datagram.
+    /// A datagram cannot be written, for this reason, which is not want of memory: that of the
+    /// first such datagram.
     #[error("Write {0}")]
     Write(WriteFault),
     /// There was no memory for the datagrams.
@@ -49,7 +50,8 @@ fn symbol_at<'a>(
 ) -> Option<(SymbolId, &'a [u8])>
     requires same { partition.now ≡ info.now }
     requires whole { length content.now ≡ info.now.transfer_length }
-    ensures { option_map (λ s. (s.0, s.1.now)) result ≡ slice_get (symbols_of info.now content.now) place }
+    ensures { option_map (λ s. (s.0, s.1.now)) result
+        ≡ slice_get (symbols_of info.now content.now) place }
 {
     let symbol_length = usize::from(info.symbol());
     let id = partition.id_at(place)?;
@@ -67,9 +69,12 @@ fn datagrams_of(
     requires valid { IsValid info.now }
     requires whole { length content.now ≡ info.now.transfer_length }
     requires words { words ≡ words_to_write (packet_at key.now (Some info.now) None) }
-    requires sound { write_fault (packet_at key.now (Some info.now) (slice_get (symbols_of info.now content.now) 0)) ≡ None }
-    ensures written { IfOk result (λ datagrams. AllZip IsWritten datagrams (packets_of key.now info.now content.now)) }
-    ensures facts { IfOk result (λ datagrams. flat_map facts datagrams ≡ facts_sent key.now info.now content.now) }
+    requires sound { write_fault (packet_at key.now (Some info.now)
+        (slice_get (symbols_of info.now content.now) 0)) ≡ None }
+    ensures written { IfOk result (λ datagrams. AllZip IsWritten datagrams
+        (packets_of key.now info.now content.now)) }
+    ensures facts { IfOk result (λ datagrams. flat_map facts datagrams
+        ≡ facts_sent key.now info.now content.now) }
 {
     let partition = Partition::of(info);
     let count = partition.symbols().max(1);
@@ -85,9 +90,10 @@ fn datagrams_of(
     Ok(datagrams)
 }
 
-/// Makes the datagrams that carry an object: one for each symbol of its partition, in that order (RFC 5052, section
-/// 9.1), each with the transmission information in EXT_FTI. The last symbol is sent without padding. An object of no
-/// bytes has one datagram, with the information and no symbol.
+/// Makes the datagrams that carry an object: one for each symbol of its partition, in that
+/// order (RFC 5052, section 9.1), each with the transmission information in EXT_FTI. The last
+/// symbol is sent without padding. An object of no bytes has one datagram, with the
+/// information and no symbol.
 ///
 /// # Errors
 ///
@@ -99,10 +105,14 @@ pub fn carousel(
     content: &[u8],
 ) -> Result<Datagrams, CarouselFault>
     ensures whole { OnOk result (length content.now ≡ info.now.transfer_length) }
-    ensures written { IfOk result (λ datagrams. AllZip IsWritten datagrams (packets_of key.now info.now content.now)) }
-    ensures facts { IfOk result (λ datagrams. flat_map facts datagrams ≡ facts_sent key.now info.now content.now) }
-    ensures fault { IfSome (carousel_fault key.now info.now content.now) (λ fault. result ≡ Err fault) }
-    ensures memory { IfErr result (λ fault. carousel_fault key.now info.now content.now ≡ None → fault ≡ faults.OutOfMemory) }
+    ensures written { IfOk result (λ datagrams. AllZip IsWritten datagrams
+        (packets_of key.now info.now content.now)) }
+    ensures facts { IfOk result (λ datagrams. flat_map facts datagrams
+        ≡ facts_sent key.now info.now content.now) }
+    ensures fault { IfSome (carousel_fault key.now info.now content.now)
+        (λ fault. result ≡ Err fault) }
+    ensures memory { IfErr result (λ fault. carousel_fault key.now info.now content.now ≡ None
+        → fault ≡ faults.OutOfMemory) }
 {
     if content.len() as u64 != info.length() {
         return Err(CarouselFault::Length);

@@ -12,19 +12,21 @@ use flute_parts::{Info, Key, SymbolId};
 use std::alloc::{AllocError, Global};
 use thiserror::Error;
 
-/// What a datagram is to say: an object, its transmission information if that is to be told, and one symbol with its
-/// bytes if there is one.
+/// What a datagram is to say: an object, its transmission information if that is to be told, and
+/// one symbol with its bytes if there is one.
 #[derive(Clone, Copy, Debug)]
 pub struct Outgoing<'a> {
     /// The session and the object in it.
     pub key: Key,
     /// What EXT_FTI is to tell.
     pub info: Option<Info>,
-    /// The source block number and the encoding symbol ID, and the bytes of the symbol, at least one.
+    /// The source block number and the encoding symbol ID, and the bytes of the
+    /// symbol, at least one.
     pub symbol: Option<(SymbolId, &'a [u8])>,
 }
 
-/// Why no datagram is written, in the order of the checks: the first that applies is told. Shown by its name.
+/// Why no datagram is written, in the order of the checks: the first that applies is
+/// told. Shown by its name.
 #[derive(Clone, Copy, Debug, PartialEq, Eq, Error)]
 pub enum WriteFault {
     /// The Transport Session Identifier is 2^32 or more.
@@ -80,29 +82,32 @@ pub fn encoded(alloc: Global, outgoing: &Outgoing<'_>, words: u8) -> Result<Data
     requires words { words ≡ words_to_write (said outgoing.now) }
     requires sound { write_fault (said outgoing.now) ≡ None }
     ensures written { IfOk result (λ datagram. IsWritten datagram (said outgoing.now)) }
-    ensures facts { IfOk result (λ datagram. facts datagram ≡ told outgoing.now.key outgoing.now.info (said outgoing.now).symbol) }
+    ensures facts { IfOk result (λ datagram. facts datagram
+        ≡ told outgoing.now.key outgoing.now.info (said outgoing.now).symbol) }
 {
     let bytes = bytes_of(alloc, outgoing, words)?;
     Ok(Datagram::of(bytes))
 }
 
-/// Writes a packet of FLUTE version 2 as a datagram. [`read`](crate::read) gives back the same key, information and
-/// symbol.
+/// Writes a packet of FLUTE version 2 as a datagram. [`read`](crate::read) gives back the same key,
+/// information and symbol.
 ///
-/// There is one form (RFC 5651, section 5.1): a TSI, a TOI and congestion control information of 32 bits each, the
-/// last of them 0. EXT_FDT follows where the object is an FDT Instance (RFC 6726, section 3.4.1), and then EXT_FTI
-/// where there is information (RFC 5775, section 4.2). The FEC Payload ID and the symbol's bytes end the datagram;
-/// without a symbol it ends with its header. The symbol's bytes are copied once, into the one piece of memory that is
-/// asked for.
+/// There is one form (RFC 5651, section 5.1): a TSI, a TOI and congestion control information of 32
+/// bits each, the last of them 0. EXT_FDT follows where the object is an FDT Instance (RFC 6726,
+/// section 3.4.1), and then EXT_FTI where there is information (RFC 5775, section 4.2). The FEC
+/// Payload ID and the symbol's bytes end the datagram; without a symbol it ends with its header.
+/// The symbol's bytes are copied once, into the one piece of memory that is asked for.
 ///
 /// # Errors
 ///
 /// The first [`WriteFault`] that applies, in the order of that list.
 pub fn write(alloc: Global, outgoing: &Outgoing<'_>) -> Result<Datagram, WriteFault>
     ensures written { IfOk result (λ datagram. IsWritten datagram (said outgoing.now)) }
-    ensures facts { IfOk result (λ datagram. facts datagram ≡ told outgoing.now.key outgoing.now.info (said outgoing.now).symbol) }
+    ensures facts { IfOk result (λ datagram. facts datagram
+        ≡ told outgoing.now.key outgoing.now.info (said outgoing.now).symbol) }
     ensures fault { IfSome (write_fault (said outgoing.now)) (λ fault. result ≡ Err fault) }
-    ensures memory { IfErr result (λ fault. write_fault (said outgoing.now) ≡ None → fault ≡ faults.OutOfMemory) }
+    ensures memory { IfErr result (λ fault. write_fault (said outgoing.now) ≡ None
+        → fault ≡ faults.OutOfMemory) }
 {
     let words = header_words(outgoing)?;
     encoded(alloc, outgoing, words).map_err(|_| WriteFault::OutOfMemory)

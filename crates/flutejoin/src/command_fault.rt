@@ -11,14 +11,15 @@ use thiserror::Error;
 /// Why a command failed. Shown, it is the line that the program writes to standard error.
 #[derive(Debug, Drop, Error)]
 pub enum CommandFault {
-    /// The parser refused the command line, with its own text; or it was asked for help or the version, which is
-    /// that text.
+    /// The parser refused the command line, with its own text; or it was asked for help or the
+    /// version, which is that text.
     #[error(transparent)]
     CommandLine(clap::Error),
     /// A word of the command line is not UTF-8.
     #[error("an argument is not text")]
     NotText,
-    /// The value of the option with this name is not 1 to 39 decimal digits, or not within its range.
+    /// The value of the option with this name is not 1 to 39 decimal digits, or
+    /// not within its range.
     #[error("bad number: --{0}")]
     BadNumber(&'static str),
     /// The TOI is 0 and no FDT Instance is named, or it is another and one is.
@@ -54,7 +55,8 @@ pub enum CommandFault {
     /// The input with this number, from 1, begins as neither a journal nor a datagram file.
     #[error("input {0}: unknown kind")]
     UnknownKind(usize),
-    /// A journal, or all inputs together, have more sessions, objects or symbols than a store holds.
+    /// A journal, or all inputs together, have more sessions, objects or symbols than a store
+    /// holds.
     #[error("full")]
     Full,
     /// Nothing of the object is held.
@@ -66,8 +68,8 @@ pub enum CommandFault {
     /// Two values of the object's information were told.
     #[error("conflicting information")]
     ConflictingInformation,
-    /// Some symbol of the object is not held as one fitting value: this one is the first, by its source block number and
-    /// its encoding symbol ID.
+    /// Some symbol of the object is not held as one fitting value: this one is the first, by its
+    /// source block number and its encoding symbol ID.
     #[error("not whole: {sbn}/{esi}")]
     NotWhole { sbn: u16, esi: u16 },
     /// There was no memory.
@@ -84,8 +86,8 @@ pub enum CommandFault {
 impl CommandFault {
     ghost use Rattle.flutejoin.specs.Status.{status_of};
 
-    /// The status that the program ends with: 1 for what is wrong in the input, 2 for the command line, 3 for
-    /// memory and devices.
+    /// The status that the program ends with: 1 for what is wrong in the input, 2 for the command
+    /// line, 3 for memory and devices.
     pub fn status(&self) -> u8
         ensures { result ≡ status_of self.now }
     {
@@ -141,7 +143,8 @@ pub fn load_fault(number: usize, fault: LoadFault) -> CommandFault
 
 /// What was read of the input with this number, from 1; or `Input` with that number and the fault.
 pub fn at_input<T: Drop>(number: usize, read: Result<T, ReadFault>) -> Result<T, CommandFault>
-    ensures { MatchResult read (λ x. result ≡ Ok x) (λ f. result ≡ Err (CommandFault.Input number f)) }
+    ensures { MatchResult read (λ x. result ≡ Ok x)
+        (λ f. result ≡ Err (CommandFault.Input number f)) }
 {
     match read {
         Ok(value) => Ok(value),

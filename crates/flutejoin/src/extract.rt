@@ -12,9 +12,9 @@ use flute_store::{ExtractFault, GapFault, Shelf};
 ///
 /// # Errors
 ///
-/// The first that applies: `NoObject` where nothing of the object is held, `NoInformation` where no information of it is,
-/// `ConflictingInformation` where two values of it were told, and `NotWhole` with the first symbol of its partition that
-/// is not held as one fitting value.
+/// The first that applies: `NoObject` where nothing of the object is held, `NoInformation` where no
+/// information of it is, `ConflictingInformation` where two values of it were told, and `NotWhole`
+/// with the first symbol of its partition that is not held as one fitting value.
 pub fn check_whole(shelf: &Shelf, key: &Key) -> Result<(), CommandFault>
     ensures whole { OnOk result (IsWhole shelf.now key.now) }
     ensures fault { IfErr result (IsNoWhole shelf.now key.now) }
@@ -37,8 +37,8 @@ pub fn check_whole(shelf: &Shelf, key: &Key) -> Result<(), CommandFault>
 ///
 /// # Errors
 ///
-/// Those of [`check_whole`], and nothing was written then; `CannotWrite` where the sink failed: it took a first part of the
-/// object, and not all.
+/// Those of [`check_whole`], and nothing was written then; `CannotWrite` where the sink failed: it
+/// took a first part of the object, and not all.
 pub fn extract_to<W: Sink>(shelf: &Shelf, key: &Key, sink: &mut W) -> Result<u64, CommandFault>
     ensures extracts { MatchResult result
         (WritesWhole W.written shelf.now key.now sink.old sink.new)

@@ -15,15 +15,18 @@ use crate::writing::write_words;
 use flute_parts::{DeviceFault, Key, Sink};
 use flute_store::{Gap, Gaps, Reason, Shelf, Status};
 
-/// Writes how much is held of each object, in the order of their keys: a line for the object, and where some symbols are
-/// missing, in conflict or of a length that does not fit, a line for each longest run of those.
+/// Writes how much is held of each object, in the order of their keys: a line for the object, and
+/// where some symbols are missing, in conflict or of a length that does not fit, a line for each
+/// longest run of those.
 ///
 /// # Errors
 ///
 /// `CannotWrite` where the sink failed: it took a first part of the lines, and not all.
 pub fn gaps_to<W: Sink>(shelf: &Shelf, sink: &mut W) -> Result<(), CommandFault>
-    ensures printed { OnOk result (OfObjects shelf.now (Appends (W.written sink.old) (W.written sink.new))) }
-    ensures failed { IfErr result (FailsToWrite (OfObjects shelf.now (AppendsPart (W.written sink.old) (W.written sink.new)))) }
+    ensures printed { OnOk result
+        (OfObjects shelf.now (Appends (W.written sink.old) (W.written sink.new))) }
+    ensures failed { IfErr result (FailsToWrite
+        (OfObjects shelf.now (AppendsPart (W.written sink.old) (W.written sink.new)))) }
     ensures failures { W.failures sink.new ≡ W.failures sink.old + write_failures result }
 {
     let mut keys = shelf.objects();
@@ -37,7 +40,8 @@ pub fn gaps_to<W: Sink>(shelf: &Shelf, sink: &mut W) -> Result<(), CommandFault>
 
 fn write_object<W: Sink>(sink: &mut W, shelf: &Shelf, key: &Key) -> Result<(), DeviceFault>
     requires held { HoldsObject shelf.now key.now }
-    ensures lines { Writes (W.written sink.old) (W.written sink.new) (object_lines shelf.now key.now) result }
+    ensures lines { Writes (W.written sink.old) (W.written sink.new)
+        (object_lines shelf.now key.now) result }
     ensures failures { W.failures sink.new ≡ W.failures sink.old + (if is_ok result then 0 else 1) }
 {
     let status = shelf.status(key).unwrap();
@@ -49,7 +53,8 @@ fn write_object<W: Sink>(sink: &mut W, shelf: &Shelf, key: &Key) -> Result<(), D
 }
 
 fn write_status<W: Sink>(sink: &mut W, key: &Key, status: Status) -> Result<(), DeviceFault>
-    ensures line { Writes (W.written sink.old) (W.written sink.new) (status_line key.now status) result }
+    ensures line { Writes (W.written sink.old) (W.written sink.new)
+        (status_line key.now status) result }
     ensures failures { W.failures sink.new ≡ W.failures sink.old + (if is_ok result then 0 else 1) }
 {
     let mut text = Text::new();
@@ -87,7 +92,8 @@ fn push_status(text: &mut Text, status: Status)
 }
 
 fn write_gaps<W: Sink>(sink: &mut W, mut gaps: Gaps<'_>) -> Result<(), DeviceFault>
-    ensures lines { Writes (W.written sink.old) (W.written sink.new) (flat_map gap_line gaps.entry.gaps) result }
+    ensures lines { Writes (W.written sink.old) (W.written sink.new)
+        (flat_map gap_line gaps.entry.gaps) result }
     ensures failures { W.failures sink.new ≡ W.failures sink.old + (if is_ok result then 0 else 1) }
 {
     while let Some(gap) = next_of(&mut gaps) {

@@ -35,8 +35,10 @@ impl HexDigits {
     /// `DeviceFault` where the sink failed: it then took a first part of the digits, and not all.
     #[inline(never)]
     pub fn write<W: Sink>(&self, sink: &mut W, bytes: &[u8]) -> Result<(), DeviceFault>
-        ensures digits { Writes (W.written sink.old) (W.written sink.new) (encode_lower bytes.now) result }
-        ensures failures { W.failures sink.new ≡ W.failures sink.old + (if is_ok result then 0 else 1) }
+        ensures digits { Writes (W.written sink.old) (W.written sink.new)
+            (encode_lower bytes.now) result }
+        ensures failures { W.failures sink.new
+            ≡ W.failures sink.old + (if is_ok result then 0 else 1) }
     {
         let mut digits = [0; 2 * PIECE];
         let mut rest = bytes;

@@ -66,9 +66,11 @@ impl Joined {
         requires few { length datagrams.now ≤ MAX_ENTRIES }
         requires room { self.now.datagrams + MAX_ENTRIES < 2 ^ 64 }
         requires refused { self.now.refused ≤ self.now.datagrams }
-        ensures taken { OnOk result (TakesDatagrams self.old (map (λ d. d.now) datagrams.now) self.new) }
+        ensures taken { OnOk result
+            (TakesDatagrams self.old (map (λ d. d.now) datagrams.now) self.new) }
         ensures within { OnOk result (¬ IsOverShelf self.new.store) }
-        ensures failed { IfErr result (StoreFails (self.old.store ++ flat_map facts (map (λ d. d.now) datagrams.now))) }
+        ensures failed { IfErr result
+            (StoreFails (self.old.store ++ flat_map facts (map (λ d. d.now) datagrams.now))) }
     {
         for datagram in datagrams {
             self.take(alloc, datagram)?;
@@ -103,8 +105,10 @@ impl Joined {
         number: usize,
         source: &mut R,
     ) -> Result<bool, CommandFault>
-        ensures added { IfOk result (λ fits. IfSome (R.unread source.old) (λ bytes. Adds bytes self.old self.new fits)) }
-        ensures failed { IfErr result (LoadFails number (R.unread source.old) (R.unread source.new)) }
+        ensures added { IfOk result (λ fits. IfSome (R.unread source.old)
+            (λ bytes. Adds bytes self.old self.new fits)) }
+        ensures failed { IfErr result
+            (LoadFails number (R.unread source.old) (R.unread source.new)) }
         ensures datagrams { self.new.datagrams ≡ self.old.datagrams }
         ensures refused { self.new.refused ≡ self.old.refused }
         ensures failures { FailsToRead (R.failures source.old) (R.failures source.new) result }
@@ -155,23 +159,26 @@ pub(crate) fn kind_of(bytes: &[u8]) -> Option<Kind>
     }
 }
 
-/// What all the inputs come to together, each a journal or a datagram file, as its first four bytes say. There may be up to
-/// 64, and none comes to the empty store. A datagram that is refused tells nothing, and is counted.
+/// What all the inputs come to together, each a journal or a datagram file, as its first four bytes
+/// say. There may be up to 64, and none comes to the empty store. A datagram that is refused tells
+/// nothing, and is counted.
 ///
-/// A journal is joined entry by entry as it is read, and a datagram where it lies: of an input's bytes it copies only those
-/// of symbols, once.
+/// A journal is joined entry by entry as it is read, and a datagram where it lies: of an input's
+/// bytes it copies only those of symbols, once.
 ///
 /// # Errors
 ///
 /// Inputs are numbered from 1. The first that is met:
 ///
-/// - first, input by input: `UnknownKind` where it is neither, and `Input` with the fault of a datagram file that does not
-///   hold whole records alone, at most 16,777,216;
-/// - then, input by input: `Input` with the fault of a journal, which may have at most 16,777,216 entries, and `Full` where
-///   the input alone has more sessions, objects or symbols than a store holds;
+/// - first, input by input: `UnknownKind` where it is neither, and `Input` with the fault of a
+///   datagram file that does not hold whole records alone, at most 16,777,216;
+/// - then, input by input: `Input` with the fault of a journal, which may have at most
+///   16,777,216 entries, and `Full` where the input alone has more sessions, objects or symbols
+///   than a store holds;
 /// - last, `Full` where all of them together do.
 ///
-/// `OutOfMemory`, or `Input` with it, where a request for memory was refused. Nothing is handed out after any of these.
+/// `OutOfMemory`, or `Input` with it, where a request for memory was refused. Nothing is handed
+/// out after any of these.
 pub fn join_inputs(alloc: Global, inputs: &[Blob]) -> Result<Joined, CommandFault>
     requires { length inputs.now ≤ 64 }
     ensures joined { IfOk result (Joins inputs.now) }

@@ -13,20 +13,28 @@ ghost use Rattle.flutejoin.specs.Runs.{IsRunDone};
 ghost use Rattle.flutejoin.specs.Laws.{GivenTheSame};
 ghost use Rattle.flutejoin.specs.declared.steps.Step.{Step as Doing};
 
-/// Replicas that were given the same facts come to the same at each address, whatever the order, the repeats, the merges
-/// and the journals between. So they have one journal, and the same whole objects with the same bytes and gaps.
+/// Replicas that were given the same facts come to the same at each address, whatever the order,
+/// the repeats, the merges and the journals between. So they have one journal, and the same whole
+/// objects with the same bytes and gaps.
 pub fn the_same_facts_make_the_same()
     ensures same { (F G : List Known) → GivenTheSame F G → Same F G }
-    ensures journal { (F G : List Known) (bs : List ℕ) → GivenTheSame F G → Journal bs F → Journal bs G }
-    ensures one_journal { (F G : List Known) (bs cs : List ℕ) → GivenTheSame F G → Journal bs F → Journal cs G → bs ≡ cs }
-    ensures whole { (F G : List Known) (key : Name) (info : Information) → GivenTheSame F G → Whole F key info → Whole G key info }
-    ensures bytes { (F G : List Known) (key : Name) (info : Information) → GivenTheSame F G → object F key info ≡ object G key info }
-    ensures gaps { (F G : List Known) (key : Name) (info : Information) → GivenTheSame F G → gaps F key info ≡ gaps G key info }
+    ensures journal { (F G : List Known) (bs : List ℕ) → GivenTheSame F G
+        → Journal bs F → Journal bs G }
+    ensures one_journal { (F G : List Known) (bs cs : List ℕ) → GivenTheSame F G → Journal bs F
+        → Journal cs G → bs ≡ cs }
+    ensures whole { (F G : List Known) (key : Name) (info : Information) → GivenTheSame F G
+        → Whole F key info → Whole G key info }
+    ensures bytes { (F G : List Known) (key : Name) (info : Information) → GivenTheSame F G
+        → object F key info ≡ object G key info }
+    ensures gaps { (F G : List Known) (key : Name) (info : Information) → GivenTheSame F G
+        → gaps F key info ≡ gaps G key info }
 {}
 
-/// Replicas of runs that succeeded are such replicas, where what they were given has the same members.
+/// Replicas of runs that succeeded are such replicas, where what they were given
+/// has the same members.
 pub fn runs_leave_what_was_given()
-    ensures { (n m : ℕ) (steps others : List Doing) (origins further : ℕ → List Known) (r q : ℕ) (now then : Held)
+    ensures { (n m : ℕ) (steps others : List Doing) (origins further : ℕ → List Known)
+        (r q : ℕ) (now then : Held)
         → IsRunDone n steps now → IsRunDone m others then → Fits steps origins → Fits others further
         → SameMembers (known_by n steps origins r) (known_by m others further q)
         → GivenTheSame (held_by now.contents r) (held_by then.contents q) }

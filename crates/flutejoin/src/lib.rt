@@ -1,5 +1,5 @@
-//! Replicas of a store and the steps that they take, the commands of the program `flutejoin`, each over any source and
-//! sink, and its command line.
+//! Replicas of a store and the steps that they take, the commands of the program `flutejoin`, each
+//! over any source and sink, and its command line.
 #![tactic(auto)]
 
 mod blob;

@@ -55,7 +55,8 @@ pub enum Line<'a> {
         a: &'a str,
         b: &'a str,
     },
-    /// Write the datagrams of the object `key`, whose content is `file`, to the datagram file `out`.
+    /// Write the datagrams of the object `key`, whose content is `file`, to the
+    /// datagram file `out`.
     Carousel {
         out: &'a str,
         key: Key,
@@ -69,9 +70,11 @@ pub enum Line<'a> {
 ///
 /// # Errors
 ///
-/// `CommandLine` with the parser's text where that refuses the words, or where they ask for help or the version;
-/// `BadNumber` with the first option, in the order `--tsi`, `--toi`, `--fdt`, `--length`, `--symbol`, `--block`, that is not a number of its range; `BadKey`
-/// where `--fdt` does not go with `--toi`; `TooManyInputs` where `join` has more than 64 inputs; `OutputIsInput` where `merge` is to write one of its inputs; and `OutOfMemory`.
+/// `CommandLine` with the parser's text where that refuses the words, or where they ask for help or
+/// the version; `BadNumber` with the first option, in the order `--tsi`, `--toi`, `--fdt`,
+/// `--length`, `--symbol`, `--block`, that is not a number of its range; `BadKey` where `--fdt`
+/// does not go with `--toi`; `TooManyInputs` where `join` has more than 64 inputs; `OutputIsInput`
+/// where `merge` is to write one of its inputs; and `OutOfMemory`.
 pub fn line_of(alloc: Global, words: &[String]) -> Result<Line<'_>, CommandFault>
     ensures few { IfOk result HasFewInputs }
     ensures fault { IfErr result IsLineFault }

@@ -90,7 +90,8 @@ pub fn push_symbol(text: &mut Text, id: SymbolId, len: usize)
 /// Appends what there is of the symbol, but for its bytes.
 pub fn push_symbol_head(text: &mut Text, symbol: Option<(SymbolId, &[u8])>)
     requires { length text.old + 160 ≤ 512 }
-    ensures text { text.new ≡ text.old ++ symbol_head (option_map (λ s. (s.0, s.1.now)) symbol.entry) }
+    ensures text { text.new
+        ≡ text.old ++ symbol_head (option_map (λ s. (s.0, s.1.now)) symbol.entry) }
     ensures len { length text.new ≤ length text.old + 160 }
 {
     match symbol {

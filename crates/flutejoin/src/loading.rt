@@ -17,11 +17,13 @@ use std::alloc::Global;
 ///
 /// # Errors
 ///
-/// The first that is met: `Input` with the fault of the journal, or where the source failed or there was no memory for a
-/// symbol, and the entries before it are within the limits of the store; `Full` where an entry needs a new session, object or symbol beyond the limits of the store; `OutOfMemory` where
-/// the store found none for an entry.
+/// The first that is met: `Input` with the fault of the journal, or where the source failed or
+/// there was no memory for a symbol, and the entries before it are within the limits of the store;
+/// `Full` where an entry needs a new session, object or symbol beyond the limits of the store;
+/// `OutOfMemory` where the store found none for an entry.
 pub fn load<R: Source>(alloc: Global, source: &mut R) -> Result<Shelf, CommandFault>
-    ensures journal { IfOk result (λ shelf. IfSome (R.unread source.old) (λ bytes. IsJournalOf MAX_ENTRIES bytes shelf)) }
+    ensures journal { IfOk result (λ shelf. IfSome (R.unread source.old)
+        (λ bytes. IsJournalOf MAX_ENTRIES bytes shelf)) }
     ensures end { IfOk result (λ _. IsAtEnd (R.unread source.new)) }
     ensures failed { IfErr result (LoadFails 1 (R.unread source.old) (R.unread source.new)) }
     ensures failures { FailsToRead (R.failures source.old) (R.failures source.new) result }

@@ -11,21 +11,23 @@ use flute_journal::{MergeFault, merge_streams};
 use flute_parts::{Sink, Source};
 use std::alloc::Global;
 
-/// Writes the journal of all that two journals tell, of at most 16,777,216 entries each, and answers the number of its
-/// entries. It holds one entry of each.
+/// Writes the journal of all that two journals tell, of at most 16,777,216 entries each, and
+/// answers the number of its entries. It holds one entry of each.
 ///
 /// # Errors
 ///
-/// `Input` with the number of the journal, 1 or 2, and its fault; `CannotWrite` where the sink failed. What was written is
-/// then no journal.
+/// `Input` with the number of the journal, 1 or 2, and its fault; `CannotWrite` where the sink
+/// failed. What was written is then no journal.
 pub fn merge_to<A: Source, B: Source, W: Sink>(
     alloc: Global,
     first: &mut A,
     second: &mut B,
     sink: &mut W,
 ) -> Result<u64, CommandFault>
-    ensures merged { IfOk result (λ n. Merged MAX_ENTRIES n (A.unread first.old) (B.unread second.old) (W.written sink.old) (W.written sink.new)) }
-    ensures short { OnErr result (StopsShort (A.unread first.old) (B.unread second.old) (W.written sink.old) (W.written sink.new)) }
+    ensures merged { IfOk result (λ n. Merged MAX_ENTRIES n
+        (A.unread first.old) (B.unread second.old) (W.written sink.old) (W.written sink.new)) }
+    ensures short { OnErr result (StopsShort (A.unread first.old) (B.unread second.old)
+        (W.written sink.old) (W.written sink.new)) }
     ensures failed { IfErr result (MergeFails (A.unread first.old) (B.unread second.old)) }
     ensures failures { W.failures sink.new ≡ W.failures sink.old + write_failures result }
 {

@@ -13,7 +13,8 @@ use flute_journal::{ReadFault, fill};
 use flute_parts::Source;
 use std::alloc::Global;
 
-/// An input of which the first bytes were read, which tell what it is. It holds its source for as long as it lives.
+/// An input of which the first bytes were read, which tell what it is. It holds its source for
+/// as long as it lives.
 #[derive(Drop)]
 pub struct Opened<R> {
     /// What it is by its first four bytes, if it is either.
@@ -33,21 +34,23 @@ impl<R: Source + Drop> Opened<R> {
     ///
     /// `Read` where the source fails, and nothing else.
     pub fn read(source: R) -> Result<Opened<R>, ReadFault>
-        ensures opened { IfOk result (λ opened. IfSome (R.unread source) (IsOpened R.unread opened)) }
+        ensures opened { IfOk result
+            (λ opened. IfSome (R.unread source) (IsOpened R.unread opened)) }
         ensures only { IfErr result (λ f. f ≡ Read) }
     {
         Opened::read_sized(source, None)
     }
 
-    /// Reads the first four bytes of a source, or as many as it has, where its number of bytes may be known: a datagram file
-    /// that is too large is then refused before it is read.
+    /// Reads the first four bytes of a source, or as many as it has, where its number of bytes may
+    /// be known: a datagram file that is too large is then refused before it is read.
     ///
     /// # Errors
     ///
     /// `Read` where the source fails, and nothing else.
     pub fn read_sized(mut source: R, size: Option<u64>) -> Result<Opened<R>, ReadFault>
         requires { IfSome size (λ n. IfSome (R.unread source) (λ bytes. n ≡ length bytes)) }
-        ensures opened { IfOk result (λ opened. IfSome (R.unread source) (IsOpened R.unread opened)) }
+        ensures opened { IfOk result
+            (λ opened. IfSome (R.unread source) (IsOpened R.unread opened)) }
         ensures only { IfErr result (λ f. f ≡ Read) }
     {
         let mut front = [0; 4];
@@ -64,8 +67,10 @@ impl<R: Source + Drop> Opened<R> {
 impl<R: Source> Opened<R> {
     // Looks at its kind and, if it is a datagram file, reads it whole and looks at its records.
     fn look(&mut self, alloc: Global, number: usize) -> Result<(), CommandFault>
-        ensures looked { (bytes : List ℕ) → IsOpened R.unread self.old bytes → OnOk result (IsLooked R.unread self.new bytes) }
-        ensures failed { (bytes : List ℕ) → IsOpened R.unread self.old bytes → IfErr result (LookFails number bytes) }
+        ensures looked { (bytes : List ℕ) → IsOpened R.unread self.old bytes
+            → OnOk result (IsLooked R.unread self.new bytes) }
+        ensures failed { (bytes : List ℕ) → IsOpened R.unread self.old bytes
+            → IfErr result (LookFails number bytes) }
     {
         match self.kind {
             Some(Kind::Journal) => Ok(()),
@@ -91,8 +96,10 @@ impl<R: Source> Opened<R> {
     ) -> Result<bool, CommandFault>
         requires room { joined.old.datagrams + MAX_ENTRIES < 2 ^ 64 }
         requires refused { joined.old.refused ≤ joined.old.datagrams }
-        ensures added { (bytes : List ℕ) → IsLooked R.unread self.old bytes → IfOk result (Adds bytes joined.old joined.new) }
-        ensures failed { (bytes : List ℕ) → IsLooked R.unread self.old bytes → IfErr result (AddFails number bytes) }
+        ensures added { (bytes : List ℕ) → IsLooked R.unread self.old bytes
+            → IfOk result (Adds bytes joined.old joined.new) }
+        ensures failed { (bytes : List ℕ) → IsLooked R.unread self.old bytes
+            → IfErr result (AddFails number bytes) }
         ensures counted { IfOk result (λ fits. fits ≡ true → CountsMore joined.old joined.new) }
     {
         match &self.file {
@@ -113,32 +120,36 @@ fn whole<R: Source>(alloc: Global, number: usize, input: &mut R) -> Result<Blob,
     }
 }
 
-/// What all the inputs come to together, each a journal or a datagram file, as its first four bytes say. There may be up to
-/// 64, and none comes to the empty store. A datagram that is refused tells nothing, and is counted.
+/// What all the inputs come to together, each a journal or a datagram file, as its first four bytes
+/// say. There may be up to 64, and none comes to the empty store. A datagram that is refused tells
+/// nothing, and is counted.
 ///
-/// A journal is joined entry by entry as it is read, and no more than one entry of it is held. A datagram file is held
-/// whole: its records are looked at before any journal is read.
+/// A journal is joined entry by entry as it is read, and no more than one entry of it is held. A
+/// datagram file is held whole: its records are looked at before any journal is read.
 ///
 /// # Errors
 ///
 /// Inputs are numbered from 1. The first that is met:
 ///
-/// - first, input by input: `UnknownKind` where it is neither; and of a datagram file `Input` with `Read` where its source
-///   fails, `TooLarge` behind 4,294,967,295 bytes, and `Input` with its fault where it does not hold whole records alone, at
-///   most 16,777,216;
-/// - then, input by input: `Input` with the fault of a journal, which may have at most 16,777,216 entries, or with `Read`
-///   where its source fails, and `Full` where the input alone has more sessions, objects or symbols than a store holds;
+/// - first, input by input: `UnknownKind` where it is neither; and of a datagram file `Input` with
+///   `Read` where its source fails, `TooLarge` behind 4,294,967,295 bytes, and `Input` with its
+///   fault where it does not hold whole records alone, at most 16,777,216;
+/// - then, input by input: `Input` with the fault of a journal, which may have at most 16,777,216
+///   entries, or with `Read` where its source fails, and `Full` where the input alone has more
+///   sessions, objects or symbols than a store holds;
 /// - last, `Full` where all of them together do.
 ///
-/// `OutOfMemory`, or `Input` with it, where a request for memory was refused. Nothing is handed out after any of these. The
-/// inputs were read in part then, and are of no further use.
+/// `OutOfMemory`, or `Input` with it, where a request for memory was refused. Nothing is handed out
+/// after any of these. The inputs were read in part then, and are of no further use.
 pub fn join_opened<R: Source>(
     alloc: Global,
     inputs: &mut [Opened<R>],
 ) -> Result<Joined, CommandFault>
     requires { length inputs.old ≤ 64 }
-    ensures joined { (contents : List (List ℕ)) → AreOpened R.unread inputs.old contents → IfOk result (Joins contents) }
-    ensures failed { (contents : List (List ℕ)) → AreOpened R.unread inputs.old contents → IfErr result (OpenedFails contents) }
+    ensures joined { (contents : List (List ℕ)) → AreOpened R.unread inputs.old contents
+        → IfOk result (Joins contents) }
+    ensures failed { (contents : List (List ℕ)) → AreOpened R.unread inputs.old contents
+        → IfErr result (OpenedFails contents) }
 {
     look_at_all(alloc, inputs)?;
     join_looked(alloc, inputs)
@@ -147,8 +158,10 @@ pub fn join_opened<R: Source>(
 // Looks at the kind of each input, and at the records of each datagram file.
 fn look_at_all<R: Source>(alloc: Global, inputs: &mut [Opened<R>]) -> Result<(), CommandFault>
     requires { length inputs.old ≤ 64 }
-    ensures looked { (contents : List (List ℕ)) → AreOpened R.unread inputs.old contents → OnOk result (AreLooked R.unread inputs.new contents) }
-    ensures failed { (contents : List (List ℕ)) → AreOpened R.unread inputs.old contents → IfErr result (SomeLookFails contents) }
+    ensures looked { (contents : List (List ℕ)) → AreOpened R.unread inputs.old contents
+        → OnOk result (AreLooked R.unread inputs.new contents) }
+    ensures failed { (contents : List (List ℕ)) → AreOpened R.unread inputs.old contents
+        → IfErr result (SomeLookFails contents) }
 {
     for k in 0..inputs.len() {
         inputs[k].look(alloc, k + 1)?;
@@ -160,8 +173,10 @@ fn look_at_all<R: Source>(alloc: Global, inputs: &mut [Opened<R>]) -> Result<(),
 // them was read: then those that follow are each looked at alone.
 fn join_looked<R: Source>(alloc: Global, inputs: &mut [Opened<R>]) -> Result<Joined, CommandFault>
     requires { length inputs.old ≤ 64 }
-    ensures joined { (contents : List (List ℕ)) → AreLooked R.unread inputs.old contents → IfOk result (Joins contents) }
-    ensures failed { (contents : List (List ℕ)) → AreLooked R.unread inputs.old contents → IfErr result (OpenedFails contents) }
+    ensures joined { (contents : List (List ℕ)) → AreLooked R.unread inputs.old contents
+        → IfOk result (Joins contents) }
+    ensures failed { (contents : List (List ℕ)) → AreLooked R.unread inputs.old contents
+        → IfErr result (OpenedFails contents) }
 {
     let mut joined = Joined::new(alloc);
     let mut fits = true;

@@ -30,15 +30,17 @@ pub enum OutputFault {
     Extract(ExtractFault),
 }
 
-/// Does the steps on so many new replicas, writes the journal of one of them, and answers the number of its entries.
+/// Does the steps on so many new replicas, writes the journal of one of them, and answers the
+/// number of its entries.
 ///
-/// Replicas that were given the same set of facts write equal bytes, whatever the order and the repeats, whatever was
-/// merged, and whatever journals were written and read between.
+/// Replicas that were given the same set of facts write equal bytes, whatever the order and the
+/// repeats, whatever was merged, and whatever journals were written and read between.
 ///
 /// # Errors
 ///
-/// `Run` with the fault of [`run`], and else `NoReplica` exactly where the replica is not there: nothing was written then.
-/// `Save` where the sink failed: it then took a first part of the journal, and not all.
+/// `Run` with the fault of [`run`], and else `NoReplica` exactly where the replica is not there:
+/// nothing was written then. `Save` where the sink failed: it then took a first part of the
+/// journal, and not all.
 pub fn journal_after<const SESSIONS: u32, const OBJECTS: u32, const SYMBOLS: u32, W: Sink>(
     alloc: Global,
     count: u32,
@@ -48,9 +50,12 @@ pub fn journal_after<const SESSIONS: u32, const OBJECTS: u32, const SYMBOLS: u32
 ) -> Result<u64, OutputFault>
     requires { SESSIONS * OBJECTS * (SYMBOLS + 1) < 2 ^ 64 }
     ensures journal { (origins : ℕ → List Known) → Fits steps.now origins
-        → TellsJournal W.written (known_by count steps.now origins replica) sink.old sink.new result }
-    ensures one { OnOk result (WritesAsOthers count steps.now replica (W.written sink.old) (W.written sink.new)) }
-    ensures fault { IfErr result (IsOutputFault (capacity SESSIONS OBJECTS SYMBOLS) count steps.now replica) }
+        → TellsJournal W.written (known_by count steps.now origins replica)
+        sink.old sink.new result }
+    ensures one { OnOk result
+        (WritesAsOthers count steps.now replica (W.written sink.old) (W.written sink.new)) }
+    ensures fault { IfErr result
+        (IsOutputFault (capacity SESSIONS OBJECTS SYMBOLS) count steps.now replica) }
     ensures there { OnOk result (replica < count) }
     ensures sure { IfErr result (IsOutputNeed count steps.now) }
     ensures failures { W.failures sink.new ≡ W.failures sink.old + output_failed result }
@@ -69,13 +74,14 @@ pub fn journal_after<const SESSIONS: u32, const OBJECTS: u32, const SYMBOLS: u32
     }
 }
 
-/// Does the steps on so many new replicas, writes an object that is whole with one of them, and answers its length in
-/// bytes.
+/// Does the steps on so many new replicas, writes an object that is whole with one of them, and
+/// answers its length in bytes.
 ///
 /// # Errors
 ///
-/// `Run` with the fault of [`run`], and else `NoReplica` exactly where the replica is not there: nothing was written then.
-/// `Extract` with the fault of [`Store::extract`](flute_store::Store::extract), and what that leaves written.
+/// `Run` with the fault of [`run`], and else `NoReplica` exactly where the replica is not there:
+/// nothing was written then. `Extract` with the fault of
+/// [`Store::extract`](flute_store::Store::extract), and what that leaves written.
 pub fn object_after<const SESSIONS: u32, const OBJECTS: u32, const SYMBOLS: u32, W: Sink>(
     alloc: Global,
     count: u32,
@@ -86,8 +92,10 @@ pub fn object_after<const SESSIONS: u32, const OBJECTS: u32, const SYMBOLS: u32,
 ) -> Result<u64, OutputFault>
     requires { SESSIONS * OBJECTS * (SYMBOLS + 1) < 2 ^ 64 }
     ensures object { (origins : ℕ → List Known) → Fits steps.now origins
-        → TellsObject W.written (known_by count steps.now origins replica) sink.old sink.new key.now result }
-    ensures fault { IfErr result (IsOutputFault (capacity SESSIONS OBJECTS SYMBOLS) count steps.now replica) }
+        → TellsObject W.written (known_by count steps.now origins replica)
+        sink.old sink.new key.now result }
+    ensures fault { IfErr result
+        (IsOutputFault (capacity SESSIONS OBJECTS SYMBOLS) count steps.now replica) }
     ensures there { OnOk result (replica < count) }
     ensures sure { IfErr result (IsOutputNeed count steps.now) }
     ensures failures { W.failures sink.new ≡ W.failures sink.old + output_failed result }

@@ -16,16 +16,17 @@ use flute_wire::{Packet, read};
 use hex::FromHexError;
 use std::alloc::Global;
 
-/// Writes what the datagram says that `text` has in hexadecimal: a line each for its session, its object, its
-/// information and its symbol.
+/// Writes what the datagram says that `text` has in hexadecimal: a line each for its session, its
+/// object, its information and its symbol.
 ///
 /// # Errors
 ///
-/// `BadHex` where `text` is not an even number of hexadecimal digits, `Refused` where the datagram is refused,
-/// and `OutOfMemory`: nothing was written then. `CannotWrite` where the sink failed: it took a first part of the
-/// lines, and not all.
+/// `BadHex` where `text` is not an even number of hexadecimal digits, `Refused` where the datagram
+/// is refused, and `OutOfMemory`: nothing was written then. `CannotWrite` where the sink failed: it
+/// took a first part of the lines, and not all.
 pub fn packet_to<W: Sink>(alloc: Global, text: &str, sink: &mut W) -> Result<(), CommandFault>
-    ensures printed { OnOk result (HasLines text.now (Appends (W.written sink.old) (W.written sink.new))) }
+    ensures printed { OnOk result
+        (HasLines text.now (Appends (W.written sink.old) (W.written sink.new))) }
     ensures failed { IfErr result (FailsWith text.now (W.written sink.old) (W.written sink.new)) }
     ensures failures { W.failures sink.new ≡ W.failures sink.old + write_failures result }
 {
@@ -53,7 +54,8 @@ fn datagram_of(alloc: Global, text: &str) -> Result<Vec<u8>, CommandFault>
 }
 
 fn write_packet<W: Sink>(sink: &mut W, packet: &Packet<'_>) -> Result<(), DeviceFault>
-    ensures lines { Writes (W.written sink.old) (W.written sink.new) (packet_lines packet.now) result }
+    ensures lines { Writes (W.written sink.old) (W.written sink.new)
+        (packet_lines packet.now) result }
     ensures failures { W.failures sink.new ≡ W.failures sink.old + (if is_ok result then 0 else 1) }
 {
     let head = head_of(packet);

@@ -4,7 +4,8 @@ ghost use Rattle.std.specs.Io.KnownBytes.{prepend_known};
 
 use flute_parts::{DeviceFault, Source};
 
-/// A source that gives four bytes that were read ahead, and then those that another source has left. It takes no memory.
+/// A source that gives four bytes that were read ahead, and then those that another source has
+/// left. It takes no memory.
 #[derive(Drop)]
 pub(crate) struct PeekedSource<R> {
     front: [u8; 4],
@@ -17,7 +18,8 @@ pub(crate) struct PeekedSource<R> {
 impl<R: Source> PeekedSource<R> {
     // A source of the bytes of `front`, and then of those of `source`.
     pub(crate) fn new(front: [u8; 4], source: R) -> PeekedSource<R>
-        ensures { ⟦<PeekedSource<R> as Source>⟧.unread result ≡ prepend_known front (R.unread source) }
+        ensures { ⟦<PeekedSource<R> as Source>⟧.unread result
+            ≡ prepend_known front (R.unread source) }
     {
         PeekedSource {
             front,

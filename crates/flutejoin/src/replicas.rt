@@ -47,7 +47,8 @@ impl<const SESSIONS: u32, const OBJECTS: u32, const SYMBOLS: u32> Replica<
         ensures within { OnOk result (¬ Over self.new.store SESSIONS OBJECTS SYMBOLS) }
         ensures err { OnErr result (self.new ≡ self.old) }
         ensures sure { AllByRecursion (HasCell self.old.store) (facts datagram.now) → IsOk result }
-        ensures fault { IfErr result (λ f. (f ≡ faults.Full × Over (self.old.store ++ facts datagram.now) SESSIONS OBJECTS SYMBOLS)
+        ensures fault { IfErr result (λ f. (f ≡ faults.Full
+            × Over (self.old.store ++ facts datagram.now) SESSIONS OBJECTS SYMBOLS)
             ⊎ (f ≡ faults.OutOfMemory)) }
     {
         // By this the proof knows that a datagram is a packet or refused.
@@ -126,16 +127,19 @@ impl<const SESSIONS: u32, const OBJECTS: u32, const SYMBOLS: u32> Replicas<
     /// The store of a replica, None where it is not there.
     pub fn store(&self, replica: u32) -> Option<&Store<SESSIONS, OBJECTS, SYMBOLS>>
         ensures { MatchOption result (length self.now.contents ≤ replica)
-            (λ s. (replica < length self.now.contents) × (s.now ≡ held_by self.now.contents replica)) }
+            (λ s. (replica < length self.now.contents)
+            × (s.now ≡ held_by self.now.contents replica)) }
     {
         let held = self.replicas.get(replica as usize)?;
         Some(&held.store)
     }
 
-    /// How many datagrams were refused to a replica, None where it is not there. It stays at the greatest number.
+    /// How many datagrams were refused to a replica, None where it is not there. It stays at
+    /// the greatest number.
     pub fn refused(&self, replica: u32) -> Option<u64>
         ensures { MatchOption result (length self.now.contents ≤ replica)
-            (λ n. (replica < length self.now.contents) × (n ≡ slice_index self.now.refused replica)) }
+            (λ n. (replica < length self.now.contents)
+            × (n ≡ slice_index self.now.refused replica)) }
     {
         let held = self.replicas.get(replica as usize)?;
         Some(held.refused)
@@ -144,7 +148,8 @@ impl<const SESSIONS: u32, const OBJECTS: u32, const SYMBOLS: u32> Replicas<
     // The place of a replica.
     fn place(&self, replica: u32) -> Result<usize, StepFault>
         ensures ok { IfOk result (λ i. (i ≡ replica) × (i < length self.now.contents)) }
-        ensures err { IfErr result (λ e. (e ≡ faults.NoReplica) × (replica < length self.now.contents → ⊥)) }
+        ensures err { IfErr result (λ e. (e ≡ faults.NoReplica)
+            × (replica < length self.now.contents → ⊥)) }
     {
         let place = replica as usize;
         if place < self.replicas.len() {
@@ -155,9 +160,12 @@ impl<const SESSIONS: u32, const OBJECTS: u32, const SYMBOLS: u32> Replicas<
     }
 
     fn take(&mut self, alloc: Global, replica: u32, datagram: &Datagram) -> Result<(), StepFault>
-        ensures done { OnOk result (IsDone (capacity SESSIONS OBJECTS SYMBOLS) self.old (doing.Take replica datagram.now) self.new) }
-        ensures refused { IfErr result (IsRefused (capacity SESSIONS OBJECTS SYMBOLS) self.old (doing.Take replica datagram.now) self.new) }
-        ensures sure { NeedsNothing self.old.contents (doing.Take replica datagram.now) → IsOk result }
+        ensures done { OnOk result (IsDone (capacity SESSIONS OBJECTS SYMBOLS) self.old
+            (doing.Take replica datagram.now) self.new) }
+        ensures refused { IfErr result (IsRefused (capacity SESSIONS OBJECTS SYMBOLS) self.old
+            (doing.Take replica datagram.now) self.new) }
+        ensures sure { NeedsNothing self.old.contents (doing.Take replica datagram.now)
+            → IsOk result }
     {
         let place = self.place(replica)?;
         let target = &mut self.replicas[place];
@@ -165,8 +173,10 @@ impl<const SESSIONS: u32, const OBJECTS: u32, const SYMBOLS: u32> Replicas<
     }
 
     fn add(&mut self, alloc: Global, replica: u32, fact: &Fact) -> Result<(), StepFault>
-        ensures done { OnOk result (IsDone (capacity SESSIONS OBJECTS SYMBOLS) self.old (doing.Add replica fact.now) self.new) }
-        ensures refused { IfErr result (IsRefused (capacity SESSIONS OBJECTS SYMBOLS) self.old (doing.Add replica fact.now) self.new) }
+        ensures done { OnOk result (IsDone (capacity SESSIONS OBJECTS SYMBOLS) self.old
+            (doing.Add replica fact.now) self.new) }
+        ensures refused { IfErr result (IsRefused (capacity SESSIONS OBJECTS SYMBOLS) self.old
+            (doing.Add replica fact.now) self.new) }
         ensures sure { NeedsNothing self.old.contents (doing.Add replica fact.now) → IsOk result }
     {
         let place = self.place(replica)?;
@@ -175,8 +185,10 @@ impl<const SESSIONS: u32, const OBJECTS: u32, const SYMBOLS: u32> Replicas<
     }
 
     fn merge(&mut self, alloc: Global, into: u32, from: u32) -> Result<(), StepFault>
-        ensures done { OnOk result (IsDone (capacity SESSIONS OBJECTS SYMBOLS) self.old (doing.Merge into from) self.new) }
-        ensures refused { IfErr result (IsRefused (capacity SESSIONS OBJECTS SYMBOLS) self.old (doing.Merge into from) self.new) }
+        ensures done { OnOk result (IsDone (capacity SESSIONS OBJECTS SYMBOLS) self.old
+            (doing.Merge into from) self.new) }
+        ensures refused { IfErr result (IsRefused (capacity SESSIONS OBJECTS SYMBOLS) self.old
+            (doing.Merge into from) self.new) }
         ensures sure { NeedsNothing self.old.contents (doing.Merge into from) → IsOk result }
     {
         let into = self.place(into)?;
@@ -194,8 +206,10 @@ impl<const SESSIONS: u32, const OBJECTS: u32, const SYMBOLS: u32> Replicas<
     }
 
     fn load(&mut self, alloc: Global, replica: u32, journal: &Blob) -> Result<(), StepFault>
-        ensures done { OnOk result (IsDone (capacity SESSIONS OBJECTS SYMBOLS) self.old (doing.Load replica journal.now) self.new) }
-        ensures refused { IfErr result (IsRefused (capacity SESSIONS OBJECTS SYMBOLS) self.old (doing.Load replica journal.now) self.new) }
+        ensures done { OnOk result (IsDone (capacity SESSIONS OBJECTS SYMBOLS) self.old
+            (doing.Load replica journal.now) self.new) }
+        ensures refused { IfErr result (IsRefused (capacity SESSIONS OBJECTS SYMBOLS) self.old
+            (doing.Load replica journal.now) self.new) }
     {
         let place = self.place(replica)?;
         let mut source = MemorySource::new(journal.as_slice());
@@ -208,8 +222,10 @@ impl<const SESSIONS: u32, const OBJECTS: u32, const SYMBOLS: u32> Replicas<
 
     fn reopen(&mut self, alloc: Global, replica: u32) -> Result<(), StepFault>
         requires { SESSIONS * OBJECTS * (SYMBOLS + 1) < 2 ^ 64 }
-        ensures done { OnOk result (IsDone (capacity SESSIONS OBJECTS SYMBOLS) self.old (doing.Reopen replica) self.new) }
-        ensures refused { IfErr result (IsRefused (capacity SESSIONS OBJECTS SYMBOLS) self.old (doing.Reopen replica) self.new) }
+        ensures done { OnOk result (IsDone (capacity SESSIONS OBJECTS SYMBOLS) self.old
+            (doing.Reopen replica) self.new) }
+        ensures refused { IfErr result (IsRefused (capacity SESSIONS OBJECTS SYMBOLS) self.old
+            (doing.Reopen replica) self.new) }
     {
         let place = self.place(replica)?;
         let mut sink = MemorySink::new(alloc);
@@ -224,24 +240,30 @@ impl<const SESSIONS: u32, const OBJECTS: u32, const SYMBOLS: u32> Replicas<
 
     /// Does one step.
     ///
-    /// A `Take` of a refused datagram succeeds: it gives nothing, and one more is counted. A `Load` reads its journal into
-    /// a new store and joins that. A `Merge` of a replica into itself changes nothing and succeeds.
+    /// A `Take` of a refused datagram succeeds: it gives nothing, and one more is counted. A `Load`
+    /// reads its journal into a new store and joins that. A `Merge` of a replica into itself
+    /// changes nothing and succeeds.
     ///
     /// # Errors
     ///
     /// - `NoReplica` where the step names a replica that is not there.
-    /// - `Journal` with the first fault of a journal that a `Load` reads, behind entries within the limits, and with `TooMany` where a `Reopen` is of a
-    ///   replica at more than 16,777,216 addresses.
-    /// - `Full` where the facts that the step gives pass the limits, or the entries do that a `Load` begins with.
+    /// - `Journal` with the first fault of a journal that a `Load` reads, behind entries within
+    ///   the limits, and with `TooMany` where a `Reopen` is of a replica at more than
+    ///   16,777,216 addresses.
+    /// - `Full` where the facts that the step gives pass the limits, or the entries do that a
+    ///   `Load` begins with.
     /// - `OutOfMemory` where a request for memory was refused.
     ///
-    /// A refused step leaves all replicas unchanged. Only a `Load` or a `Merge` that is refused by `Full` or
-    /// `OutOfMemory` may leave a part of what it gives with its replica: no fact is lost, and none comes that the step does
-    /// not give. The same step made again with success gives the whole.
+    /// A refused step leaves all replicas unchanged. Only a `Load` or a `Merge` that is refused
+    /// by `Full` or `OutOfMemory` may leave a part of what it gives with its replica: no fact
+    /// is lost, and none comes that the step does not give. The same step made again with
+    /// success gives the whole.
     pub fn step(&mut self, alloc: Global, step: &Step) -> Result<(), StepFault>
         requires { SESSIONS * OBJECTS * (SYMBOLS + 1) < 2 ^ 64 }
-        ensures done { OnOk result (IsDone (capacity SESSIONS OBJECTS SYMBOLS) self.old step.now self.new) }
-        ensures refused { IfErr result (IsRefused (capacity SESSIONS OBJECTS SYMBOLS) self.old step.now self.new) }
+        ensures done { OnOk result
+            (IsDone (capacity SESSIONS OBJECTS SYMBOLS) self.old step.now self.new) }
+        ensures refused { IfErr result
+            (IsRefused (capacity SESSIONS OBJECTS SYMBOLS) self.old step.now self.new) }
         ensures sure { NeedsNothing self.old.contents step.now → IsOk result }
     {
         match step {
@@ -255,8 +277,9 @@ impl<const SESSIONS: u32, const OBJECTS: u32, const SYMBOLS: u32> Replicas<
 
     /// Does all the steps in turn, refused or not. `done` tells of each whether it succeeded.
     ///
-    /// Each replica then has at least what the steps that succeeded gave it, and nothing but what all the steps give.
-    /// Where each refused step is followed directly by the same step, it has just that.
+    /// Each replica then has at least what the steps that succeeded gave it, and nothing but
+    /// what all the steps give. Where each refused step is followed directly by the same
+    /// step, it has just that.
     pub fn drive(&mut self, alloc: Global, steps: &[Step], done: &mut [bool])
         requires aligned { length steps.now ≡ length done.old }
         requires countable { SESSIONS * OBJECTS * (SYMBOLS + 1) < 2 ^ 64 }

@@ -23,9 +23,10 @@ pub enum RunFault {
 ///
 /// # Errors
 ///
-/// `Start` where there is no memory for the replicas, and `At` with the number of the first step that was refused. No step
-/// before it has a cause for a fault, and no run stops at a step that takes no memory: a `Take` or an `Add` of what is held
-/// already, a `Take` of a refused datagram, or a `Merge` of a replica into itself. Nothing is handed out then.
+/// `Start` where there is no memory for the replicas, and `At` with the number of the first step
+/// that was refused. No step before it has a cause for a fault, and no run stops at a step that
+/// takes no memory: a `Take` or an `Add` of what is held already, a `Take` of a refused datagram,
+/// or a `Merge` of a replica into itself. Nothing is handed out then.
 pub fn run<const SESSIONS: u32, const OBJECTS: u32, const SYMBOLS: u32>(
     alloc: Global,
     count: u32,
@@ -33,7 +34,8 @@ pub fn run<const SESSIONS: u32, const OBJECTS: u32, const SYMBOLS: u32>(
 ) -> Result<Replicas<SESSIONS, OBJECTS, SYMBOLS>, RunFault>
     requires { SESSIONS * OBJECTS * (SYMBOLS + 1) < 2 ^ 64 }
     ensures done { IfOk result (IsRunDone count steps.now) }
-    ensures refused { IfErr result (IsRunRefused (capacity SESSIONS OBJECTS SYMBOLS) count steps.now) }
+    ensures refused { IfErr result
+        (IsRunRefused (capacity SESSIONS OBJECTS SYMBOLS) count steps.now) }
     ensures sure { IfErr result (StopsAtNeed count steps.now) }
 {
     let Ok(mut replicas) = Replicas::new(alloc, count) else {

@@ -18,10 +18,12 @@ use flute_store::Shelf;
 ///
 /// `CannotWrite` where the sink failed: it took a first part of the journal, and not all.
 pub fn save_to<W: Sink>(shelf: &Shelf, sink: &mut W) -> Result<u64, CommandFault>
-    ensures written { OnOk result (Appends (W.written sink.old) (W.written sink.new) (spelling shelf.now)) }
+    ensures written { OnOk result
+        (Appends (W.written sink.old) (W.written sink.new) (spelling shelf.now)) }
     ensures journal { OnOk result (Journal (spelling shelf.now) shelf.now) }
     ensures count { IfOk result (λ count. count ≡ length shelf.now) }
-    ensures failed { IfErr result (FailsToWrite (AppendsPart (W.written sink.old) (W.written sink.new) (spelling shelf.now))) }
+    ensures failed { IfErr result (FailsToWrite
+        (AppendsPart (W.written sink.old) (W.written sink.new) (spelling shelf.now))) }
     ensures failures { W.failures sink.new ≡ W.failures sink.old + write_failures result }
 {
     match write_store(shelf, sink) {

@@ -13,14 +13,15 @@ use flute_parts::{Info, Key, Sink};
 use flute_wire::{CarouselFault, Datagrams, carousel};
 use std::alloc::Global;
 
-/// The datagrams of an object of this content, in symbols of `symbol` bytes and blocks of at most `block` symbols: one for
-/// each symbol of its partition, in that order, each with the transmission information; of no content one, with the
-/// information alone.
+/// The datagrams of an object of this content, in symbols of `symbol` bytes and blocks of at most
+/// `block` symbols: one for each symbol of its partition, in that order, each with the transmission
+/// information; of no content one, with the information alone.
 ///
 /// # Errors
 ///
-/// `BadInformation` where the length of the content and the two numbers are no transmission information; `CannotSend` where
-/// a datagram cannot be written, with the reason of the first; and `OutOfMemory`.
+/// `BadInformation` where the length of the content and the two numbers are no transmission
+/// information; `CannotSend` where a datagram cannot be written, with the reason of the
+/// first; and `OutOfMemory`.
 pub fn datagrams_of(
     alloc: Global,
     key: &Key,
@@ -49,10 +50,13 @@ pub fn datagrams_of(
 ///
 /// `CannotWrite` where the sink failed: it took a first part of the file, and not all.
 pub fn send_to<W: Sink>(datagrams: &Datagrams, sink: &mut W) -> Result<u64, CommandFault>
-    ensures written { OnOk result (Appends (W.written sink.old) (W.written sink.new) (file_header ++ flat_map record_of datagrams.now)) }
-    ensures file { OnOk result (IsFileOf (file_header ++ flat_map record_of datagrams.now) datagrams.now) }
+    ensures written { OnOk result (Appends (W.written sink.old) (W.written sink.new)
+        (file_header ++ flat_map record_of datagrams.now)) }
+    ensures file { OnOk result
+        (IsFileOf (file_header ++ flat_map record_of datagrams.now) datagrams.now) }
     ensures count { IfOk result (λ count. count ≡ length datagrams.now) }
-    ensures failed { IfErr result (FailsToWrite (AppendsPart (W.written sink.old) (W.written sink.new) (file_header ++ flat_map record_of datagrams.now))) }
+    ensures failed { IfErr result (FailsToWrite (AppendsPart (W.written sink.old)
+        (W.written sink.new) (file_header ++ flat_map record_of datagrams.now))) }
     ensures failures { W.failures sink.new ≡ W.failures sink.old + write_failures result }
 {
     match write_datagrams(datagrams, sink) {

@@ -16,21 +16,24 @@ use flute_journal::JournalReader;
 use flute_parts::{DeviceFault, Fact, Sink, Source};
 use std::alloc::Global;
 
-/// Writes what the journal holds that the source gives: a line for each entry as it is read, and then the number of the
-/// entries. The journal may have at most 16,777,216 entries.
+/// Writes what the journal holds that the source gives: a line for each entry as it is read, and
+/// then the number of the entries. The journal may have at most 16,777,216 entries.
 ///
 /// # Errors
 ///
-/// `Input` with the fault of the journal, or where the source failed or there was no memory for a symbol: the lines of the
-/// entries that were read before it were written, and no more. `CannotWrite` where the sink failed: it took a first part of
-/// the lines of the entries that were read, and not all.
+/// `Input` with the fault of the journal, or where the source failed or there was no memory for a
+/// symbol: the lines of the entries that were read before it were written, and no more.
+/// `CannotWrite` where the sink failed: it took a first part of the lines of the entries that
+/// were read, and not all.
 pub fn show_to<R: Source, W: Sink>(
     alloc: Global,
     source: &mut R,
     sink: &mut W,
 ) -> Result<(), CommandFault>
-    ensures printed { OnOk result (ShowsAll (R.unread source.old) (W.written sink.old) (W.written sink.new)) }
-    ensures failed { IfErr result (ShowFails (R.unread source.old) (R.unread source.new) (W.written sink.old) (W.written sink.new)) }
+    ensures printed { OnOk result
+        (ShowsAll (R.unread source.old) (W.written sink.old) (W.written sink.new)) }
+    ensures failed { IfErr result (ShowFails (R.unread source.old) (R.unread source.new)
+        (W.written sink.old) (W.written sink.new)) }
     ensures read_failures { FailsToRead (R.failures source.old) (R.failures source.new) result }
     ensures failures { W.failures sink.new ≡ W.failures sink.old + write_failures result }
 {

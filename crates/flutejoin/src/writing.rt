@@ -37,7 +37,8 @@ pub fn write_line<W: Sink>(
     words: &Text,
     bytes: &[u8],
 ) -> Result<(), DeviceFault>
-    ensures line { Writes (W.written sink.old) (W.written sink.new) (words.now ++ (encode_lower bytes.now ++ codes "\n")) result }
+    ensures line { Writes (W.written sink.old) (W.written sink.new)
+        (words.now ++ (encode_lower bytes.now ++ codes "\n")) result }
     ensures failures { W.failures sink.new ≡ W.failures sink.old + (if is_ok result then 0 else 1) }
 {
     sink.write_all(words.as_slice())?;
@@ -52,7 +53,8 @@ pub fn write_line<W: Sink>(
 /// `DeviceFault` where the sink failed: it then took a first part of the line, and not all.
 pub fn write_count<W: Sink>(sink: &mut W, word: &str, count: u64) -> Result<(), DeviceFault>
     requires { length word.now ≤ 100 }
-    ensures line { Writes (W.written sink.old) (W.written sink.new) (count_line word.now count) result }
+    ensures line { Writes (W.written sink.old) (W.written sink.new)
+        (count_line word.now count) result }
     ensures failures { W.failures sink.new ≡ W.failures sink.old + (if is_ok result then 0 else 1) }
 {
     let mut text = Text::new();
@@ -69,8 +71,10 @@ pub fn write_count<W: Sink>(sink: &mut W, word: &str, count: u64) -> Result<(), 
 /// `CannotWrite` where the sink failed: it took a first part of the line, and not all.
 pub fn count_to<W: Sink>(word: &str, count: u64, sink: &mut W) -> Result<(), CommandFault>
     requires { length word.now ≤ 100 }
-    ensures printed { OnOk result (Appends (W.written sink.old) (W.written sink.new) (count_line word.now count)) }
-    ensures failed { IfErr result (FailsToWrite (AppendsPart (W.written sink.old) (W.written sink.new) (count_line word.now count))) }
+    ensures printed { OnOk result
+        (Appends (W.written sink.old) (W.written sink.new) (count_line word.now count)) }
+    ensures failed { IfErr result (FailsToWrite
+        (AppendsPart (W.written sink.old) (W.written sink.new) (count_line word.now count))) }
     ensures failures { W.failures sink.new ≡ W.failures sink.old + write_failures result }
 {
     match write_count(sink, word, count) {

@@ -73,7 +73,8 @@ fn words_of(rt: &HostRuntime) -> io::Result<Vec<String>> {
     Ok(words)
 }
 
-/// Prints what the parser says: a refusal to standard error, and help and the version to standard output.
+/// Prints what the parser says: a refusal to standard error, and help and the
+/// version to standard output.
 fn tell(rt: &HostRuntime, error: &clap::Error) -> ExitCode {
     match error.print(rt) {
         Err(_) if !error.use_stderr() => fail(rt, &CommandFault::CannotWrite),
@@ -147,8 +148,8 @@ fn join(rt: &HostRuntime, out: &str, paths: &[&str]) -> Result<(), CommandFault>
     tell_count(rt, report, "entries", entries)
 }
 
-/// What the inputs come to, and which files they are. Each is opened and its first bytes are read, one after the other, before any
-/// is looked at.
+/// What the inputs come to, and which files they are. Each is opened and its first bytes are read,
+/// one after the other, before any is looked at.
 fn joined(rt: &HostRuntime, paths: &[&str], files: &mut Vec<FileId>) -> Result<Joined, CommandFault>
     requires { length paths.now ≤ 64 }
 {

@@ -19,7 +19,8 @@ pub enum Report {
     StandardError,
 }
 
-/// Creates the output at this path, which may be one of the inputs. All memory that it needs is asked for first.
+/// Creates the output at this path, which may be one of the inputs. All memory that it
+/// needs is asked for first.
 pub fn create_output<'a>(
     rt: &'a HostRuntime,
     path: &str,
@@ -36,7 +37,8 @@ pub fn create_output<'a>(
     }
 }
 
-/// Ends the output after the work that wrote it: it is kept where that was done, and dropped after a fault.
+/// Ends the output after the work that wrote it: it is kept where that was done, and
+/// dropped after a fault.
 pub fn finish<T: Drop>(
     output: OutputFile<'_>,
     done: Result<T, CommandFault>,
