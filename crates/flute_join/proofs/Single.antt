@@ -12,12 +12,10 @@ use Rattle.std.proofs.lemmas.Map.Entries.{none_below_head}
 use Rattle.std.proofs.lemmas.Map.Keys.{sorted_tail}
 use Rattle.std.proofs.lemmas.Map.Steps.{set_value_same}
 use Rattle.std.proofs.lemmas.Result.{on_ok_weaker}
+use Rattle.std.proofs.lemmas.Option.{none-some}
 use Rattle.flute_join.specs.MapLaws.{join_nothing}
 use Rattle.flute_join.specs.Semilattice.{IsJoin, IsBelow}
 use Rattle.flute_join.specs.JoinMap.{map_join, join_entry, value_at, IsOrdered, MapOver}
-
-pub none_is_not_some : {X : Type 0} (x : X) → None ≡ Some x → ⊥
-none_is_not_some x p = cc
 
 pub none_from_IsNone : {X : Type 0} (o : Option X) → IsNone o → o ≡ None
 none_from_IsNone None n = refl
@@ -39,11 +37,11 @@ module _ {K X : Type 0} {cmp : K → K → Ordering} (order : IsTotalOrder cmp) 
   single_held_at e es k v w Greater p s f ih =
       let t : cmp k e.0 ≡ Less = order.antisymm k e.0 ∙ ap ordering_reverse p in
       let n : value_at cmp (e ∷ es) k ≡ None = lookup-none (is_at (cmp k)) (e ∷ es) (none_below_head order k e es s t) in
-      absurd (none_is_not_some v (sym n ∙ f))
+      absurd (none-some v (sym n ∙ f))
 
   pub single_held : (es : List (K × X)) (k : K) (v w : X) → IsOrdered cmp es → value_at cmp es k ≡ Some v → map_join cmp join es ((k, w) ∷ []) ≡ set_value (is_at (cmp k)) es (join v w)
   unfolding map_join join_entry
-  single_held [] k v w s f = absurd (none_is_not_some v f)
+  single_held [] k v w s f = absurd (none-some v f)
   single_held (e ∷ es) k v w s f = single_held_at e es k v w (cmp e.0 k) refl s f (single_held es k v w (sorted_tail cmp e.0 (keys_of es) s))
 
   -- at a key that es lacks
@@ -54,7 +52,7 @@ module _ {K X : Type 0} {cmp : K → K → Ordering} (order : IsTotalOrder cmp) 
   single_new_at e es k w Less p f ih =
       let t : cmp e.0 k ≡ Greater = order.antisymm e.0 k ∙ ap ordering_reverse p in
       rw (p, t) refl
-  single_new_at e es k w Equal p f ih = absurd (none_is_not_some e.1 (sym (rw p at f)))
+  single_new_at e es k w Equal p f ih = absurd (none-some e.1 (sym (rw p at f)))
   single_new_at e es k w Greater p f ih =
       let t : cmp e.0 k ≡ Less = order.antisymm e.0 k ∙ ap ordering_reverse p in
       rw (p, t) (ap (λ l. e ∷ l) (ih (rw p at f)))
@@ -106,7 +104,7 @@ module _ {K X : Type 0} {cmp : K → K → Ordering} (order : IsTotalOrder cmp) 
   module _ (same : (x y : K) → cmp x y ≡ Equal → x ≡ y) (limit : ℕ) (over : X → X → Type 0) where
     single_value : (k q : K) (w u : X) (b : Bool) → is_at (cmp q) k ≡ b → cond b (Some w) None ≡ Some u → (q ≡ k) × (w ≡ u)
     single_value k q w u true p f = (same q k ((Equal-is (cmp q k)).0 p), ap (λ o. unwrap_or o u) f)
-    single_value k q w u false p f = absurd (none_is_not_some u f)
+    single_value k q w u false p f = absurd (none-some u f)
 
     pub not_over_held : (es : List (K × X)) (k : K) (v w : X) → IsOrdered cmp es → length es ≤ limit → value_at cmp es k ≡ Some v → ¬ over v w → ¬ MapOver cmp join limit over es ((k, w) ∷ [])
     not_over_held es k v w s within f free (inl long) =
@@ -121,7 +119,7 @@ module _ {K X : Type 0} {cmp : K → K → Ordering} (order : IsTotalOrder cmp) 
     length_new_at : (e : K × X) (es : List (K × X)) (k : K) (w : X) (r : Ordering) → cmp k e.0 ≡ r → value_at cmp (e ∷ es) k ≡ None → (value_at cmp es k ≡ None → length (insert_entry cmp es k w) ≡ length es + 1)
         → length (insert_entry cmp (e ∷ es) k w) ≡ length (e ∷ es) + 1
     length_new_at e es k w Less p f ih = rw p (omega arith)
-    length_new_at e es k w Equal p f ih = absurd (none_is_not_some e.1 (sym (rw p at f)))
+    length_new_at e es k w Equal p f ih = absurd (none-some e.1 (sym (rw p at f)))
     length_new_at e es k w Greater p f ih = rw p (omega (arith, ih (rw p at f)))
 
     pub length_new : (es : List (K × X)) (k : K) (w : X) → value_at cmp es k ≡ None → length (insert_entry cmp es k w) ≡ length es + 1
@@ -135,4 +133,4 @@ module _ {K X : Type 0} {cmp : K → K → Ordering} (order : IsTotalOrder cmp) 
     not_over_new es k w room f (inl long) = let e = ap length (single_new es k w f) ∙ length_new es k w f in omega (arith, e)
     not_over_new es k w room f (inr (q, a, b, left, right, o)) =
         let found = single_value k q w b (is_at (cmp q) k) refl right in
-        none_is_not_some a (sym f ∙ ap (value_at cmp es) (sym found.0) ∙ left)
+        none-some a (sym f ∙ ap (value_at cmp es) (sym found.0) ∙ left)

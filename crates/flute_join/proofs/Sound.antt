@@ -6,12 +6,12 @@ use Rattle.std.specs.Ordering.{match_ordering}
 use Rattle.std.specs.Cmp.{IsTotalOrder}
 use Rattle.std.specs.Map.{set_value}
 use Rattle.std.specs.BTreeMap.{is_at, insert_entry}
+use Rattle.std.proofs.lemmas.Option.{none-some}
 use Rattle.flute_join.specs.Semilattice.{IsBelow}
 use Rattle.flute_join.specs.JoinMap.{map_join, value_at, IsOrdered, EachValue}
 use Rattle.flute_join.specs.MapLaws.{join_nothing}
 use Rattle.flute_join.proofs.Ordered.{ordered-map_join}
 use Rattle.flute_join.proofs.Under.{ordered_under}
-use Rattle.flute_join.proofs.Single.{none_is_not_some}
 
 module _ {K X : Type 0} (cmp : K → K → Ordering) (P : X → Type 0) where
   found_first : (b : Bool) (v w : X) (o : Option X) → cond b (Some v) o ≡ Some w → P v → (o ≡ Some w → P w) → P w
@@ -19,7 +19,7 @@ module _ {K X : Type 0} (cmp : K → K → Ordering) (P : X → Type 0) where
   found_first false v w o e p h = h e
 
   pub each-value_at : (es : List (K × X)) (k : K) (w : X) → EachValue P es → value_at cmp es k ≡ Some w → P w
-  each-value_at [] k w a e = absurd (none_is_not_some w e)
+  each-value_at [] k w a e = absurd (none-some w e)
   each-value_at (e ∷ es) k w a f = found_first (is_at (cmp k) e.0) e.1 w (value_at cmp es k) f a.0 (each-value_at es k w a.1)
 
   each_set : (b : Bool) (e : K × X) (es fs : List (K × X)) (w : X) → P w → P e.1 → EachValue P es → EachValue P fs → EachValue P (cond b ((e.0, w) ∷ es) (e ∷ fs))

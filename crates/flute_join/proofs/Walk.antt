@@ -2,19 +2,16 @@
 use Rattle.std.proofs.Common.{◌≡◌, ℕ, ◌≤◌, List, [], ◌∷◌, ◌++◌, length, Bool, true, false, cond, Some, None, refl, sym, ap, ◌∙◌, arith, inl, inr}
 use Rattle.std.specs.declared.cmp.Ordering.{Ordering}
 use Rattle.std.specs.declared.cmp.Ordering.TheVariants.{Equal}
-use Rattle.std.specs.Cmp.{IsTotalOrder, eq_by_cmp_equiv}
-use Rattle.std.specs.Map.{keys_of}
+use Rattle.std.specs.Cmp.{IsTotalOrder}
 use Rattle.std.specs.BTreeMap.{is_at}
 use Rattle.std.specs.List.Sorted.{IsStrictlySortedBy}
-use Rattle.std.proofs.lemmas.Map.{lookup-none}
-use Rattle.std.proofs.lemmas.Map.Entries.{none_past_head}
-use Rattle.std.proofs.lemmas.Map.Keys.{IsDistinct-from_sorted}
+use Rattle.std.proofs.lemmas.Option.{none-some}
 use Rattle.flute_join.specs.Semilattice.{IsJoin}
 use Rattle.flute_join.specs.JoinMap.{map_join, join_values, value_at, IsOrdered, MapOver}
 use Rattle.flute_join.specs.MapLaws.{first_less, join_nothing, nothing_join, map_join_laws}
-use Rattle.flute_join.proofs.Single.{none_is_not_some, single_new}
+use Rattle.flute_join.proofs.Single.{single_new}
 use Rattle.flute_join.proofs.Copied.{absent_before, insert_last, ordered_before}
-use Rattle.flute_join.proofs.Values.{join_values_none, value_at-map_join, length-le-map_join}
+use Rattle.flute_join.proofs.Values.{join_values_none, value_at-map_join, length-le-map_join, absent_past}
 
 module _ {K X : Type 0} {cmp : K → K → Ordering} (order : IsTotalOrder cmp) (same : (x y : K) → cmp x y ≡ Equal → x ≡ y) {join : X → X → X} (laws : IsJoin join) where
   -- the first entry and the others
@@ -45,13 +42,10 @@ module _ {K X : Type 0} {cmp : K → K → Ordering} (order : IsTotalOrder cmp) 
       value_at-map_join order join es before p.0 s (ordered_before order before (p ∷ rest) u) ∙ ap (join_values join (value_at cmp es p.0)) (absent_before order before p rest u)
       ∙ join_values_none order join (value_at cmp es p.0)
 
-  absent_past : (p : K × X) (rest : List (K × X)) (q : K) → IsOrdered cmp (p ∷ rest) → is_at (cmp q) p.0 ≡ true → value_at cmp rest q ≡ None
-  absent_past p rest q s t = lookup-none (is_at (cmp q)) rest (none_past_head (eq_by_cmp_equiv order) q p rest (IsDistinct-from_sorted cmp (keys_of (p ∷ rest)) s) t)
-
   module _ (limit : ℕ) (over : X → X → Type 0) where
     first_value : (p : K × X) (rest : List (K × X)) (q : K) (w : X) (b : Bool) → is_at (cmp q) p.0 ≡ b → cond b (Some p.1) None ≡ Some w → value_at cmp (p ∷ rest) q ≡ Some w
     first_value p rest q w true t f = rw t f
-    first_value p rest q w false t f = absurd (none_is_not_some w f)
+    first_value p rest q w false t f = absurd (none-some w f)
 
     -- what forbids the first join forbids the whole
     pub over_first : (es : List (K × X)) (p : K × X) (rest : List (K × X)) → IsOrdered cmp (p ∷ rest) → MapOver cmp join limit over es (p ∷ []) → MapOver cmp join limit over es (p ∷ rest)
@@ -66,7 +60,7 @@ module _ {K X : Type 0} {cmp : K → K → Ordering} (order : IsTotalOrder cmp) 
     -- what forbids the join of the others forbids the whole
     over_rest_at : (es : List (K × X)) (p : K × X) (rest : List (K × X)) (q : K) (v w : X) (b : Bool) → is_at (cmp q) p.0 ≡ b → IsOrdered cmp es → IsOrdered cmp (p ∷ rest)
         → value_at cmp (map_join cmp join es (p ∷ [])) q ≡ Some v → value_at cmp rest q ≡ Some w → over v w → MapOver cmp join limit over es (p ∷ rest)
-    over_rest_at es p rest q v w true t s u l r o = absurd (none_is_not_some w (sym (absent_past p rest q u t) ∙ r))
+    over_rest_at es p rest q v w true t s u l r o = absurd (none-some w (sym (absent_past order p rest q u t) ∙ r))
     over_rest_at es p rest q v w false t s u l r o = inr (q, v, w, sym (value_elsewhere es p q s t) ∙ l, rw t r, o)
 
     pub over_rest : (es : List (K × X)) (p : K × X) (rest : List (K × X)) → IsOrdered cmp es → IsOrdered cmp (p ∷ rest) → MapOver cmp join limit over (map_join cmp join es (p ∷ [])) rest → MapOver cmp join limit over es (p ∷ rest)
@@ -86,4 +80,4 @@ module _ {K X : Type 0} {cmp : K → K → Ordering} (order : IsTotalOrder cmp) 
     -- a join with nothing
     pub not_over_nothing : (es : List (K × X)) → length es ≤ limit → ¬ MapOver cmp join limit over es []
     not_over_nothing es within (inl long) = let e = ap length (join_nothing cmp join es) in omega (arith, e)
-    not_over_nothing es within (inr (q, v, w, l, r, o)) = none_is_not_some w r
+    not_over_nothing es within (inr (q, v, w, l, r, o)) = none-some w r

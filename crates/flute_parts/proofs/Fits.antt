@@ -3,18 +3,12 @@ use Rattle.std.proofs.Common.{◌≡◌, ℕ, ◌+◌, ◌-◌, ◌||◌, ◌&&�
 use Rattle.std.specs.Prelude.{slice_get, ◌==◌, ◌↔◌, Contains}
 use Rattle.std.proofs.lemmas.Bool.Decides.{nat_tests}
 use Rattle.std.proofs.lemmas.Option.{slice_get_within, slice_get-get_or, get_or_from_slice_get}
-use Rattle.std.proofs.lemmas.Bool.{false≢true}
+use Rattle.std.proofs.lemmas.Bool.{false≢true, eq-eqb, ne_eqb, or_cases}
 use Rattle.flute_parts.specs.Equality.{both}
 use Rattle.flute_parts.specs.declared.symbol_id.SymbolId.{SymbolId}
 use Rattle.flute_parts.specs.Information.{Information, symbol_count, IsValid}
 use Rattle.flute_parts.specs.Partition.{ids, place, last_length, fits_at, fits}
 use Rattle.flute_parts.proofs.Split.{places-inverse, ids_counted}
-
-equal_is : (m n : ℕ) → m ≡ n → (m == n) ≡ true
-equal_is m n h = grind (arith, nat_tests)
-
-unequal_is : (m n : ℕ) → (m ≡ n → ⊥) → (m == n) ≡ false
-unequal_is m n h = grind (arith, nat_tests)
 
 module _ (i : Information) (id : SymbolId) (n : ℕ) where
   pub fits-none : place i id ≡ None → fits i id n ≡ false
@@ -24,30 +18,26 @@ module _ (i : Information) (id : SymbolId) (n : ℕ) where
   pub fits-full : (k : ℕ) → place i id ≡ Some k → n ≡ i.symbol_length → fits i id n ≡ (n == i.symbol_length)
   unfolding fits
   fits-full k e h =
-      let t = equal_is n i.symbol_length h in
+      let t = eq-eqb n i.symbol_length h in
       ap (λ p. fits_at i p n) e ∙ ap (λ b. b || ((k + 1 == symbol_count i) && (n == last_length i))) t ∙ sym t
 
   pub fits-last : (k : ℕ) → place i id ≡ Some k → (n ≡ i.symbol_length → ⊥) → k + 1 ≡ symbol_count i → fits i id n ≡ (n == last_length i)
   unfolding fits
   fits-last k e h l =
       ap (λ p. fits_at i p n) e
-      ∙ ap (λ b. b || ((k + 1 == symbol_count i) && (n == last_length i))) (unequal_is n i.symbol_length h)
-      ∙ ap (λ b. b && (n == last_length i)) (equal_is (k + 1) (symbol_count i) l)
+      ∙ ap (λ b. b || ((k + 1 == symbol_count i) && (n == last_length i))) (ne_eqb n i.symbol_length h)
+      ∙ ap (λ b. b && (n == last_length i)) (eq-eqb (k + 1) (symbol_count i) l)
 
   pub fits-other : (k : ℕ) → place i id ≡ Some k → (n ≡ i.symbol_length → ⊥) → (k + 1 ≡ symbol_count i → ⊥) → fits i id n ≡ (k + 1 == symbol_count i)
   unfolding fits
   fits-other k e h l =
-      let t = unequal_is (k + 1) (symbol_count i) l in
+      let t = ne_eqb (k + 1) (symbol_count i) l in
       ap (λ p. fits_at i p n) e
-      ∙ ap (λ b. b || ((k + 1 == symbol_count i) && (n == last_length i))) (unequal_is n i.symbol_length h)
+      ∙ ap (λ b. b || ((k + 1 == symbol_count i) && (n == last_length i))) (ne_eqb n i.symbol_length h)
       ∙ ap (λ b. b && (n == last_length i)) t
       ∙ sym t
 
 -- and in words
-
-either : (a b : Bool) → (a || b) ≡ true → (a ≡ true) ⊎ (b ≡ true)
-either true b h = inl refl
-either false b h = inr h
 
 fits-some : (info : Information) (id : SymbolId) (n k : ℕ) → place info id ≡ Some k → fits info id n ≡ fits_at info (Some k) n
 unfolding fits
@@ -65,7 +55,7 @@ fits-from info id n v None e h = absurd (false≢true h)
 fits-from info id n v (Some k) e h =
     let at_k = (places-inverse info id k).0 e in
     let c = Contains-at (ids info) id k at_k in
-    elim (either (n == info.symbol_length) ((k + 1 == symbol_count info) && (n == last_length info)) h) [
+    elim (or_cases (n == info.symbol_length) ((k + 1 == symbol_count info) && (n == last_length info)) h) [
       | inl f ↦ (c, inl (is_equal n info.symbol_length f))
       | inr g ↦
           let p = both (k + 1 == symbol_count info) (n == last_length info) g in
@@ -83,15 +73,15 @@ unfolding Fits
 fits-to info id n v (c, inl f) =
     let e : slice_get (ids info) c.0 ≡ Some id = slice_get-get_or (ids info) c.0 id c.1 ∙ ap Some c.2 in
     fits-some info id n c.0 ((places-inverse info id c.0).1 e)
-    ∙ ap (λ b. b || ((c.0 + 1 == symbol_count info) && (n == last_length info))) (equal_is n info.symbol_length f)
+    ∙ ap (λ b. b || ((c.0 + 1 == symbol_count info) && (n == last_length info))) (eq-eqb n info.symbol_length f)
 fits-to info id n v (c, inr l) =
     let k = length (ids info) - 1 in
     let w = slice_get_within (ids info) k id l.0 in
     let t = ids_counted info v in
     let last : k + 1 ≡ symbol_count info = omega arith in
     fits-some info id n k ((places-inverse info id k).1 l.0)
-    ∙ ap (λ b. (n == info.symbol_length) || (b && (n == last_length info))) (equal_is (k + 1) (symbol_count info) last)
-    ∙ ap (λ b. (n == info.symbol_length) || b) (equal_is n (last_length info) l.1)
+    ∙ ap (λ b. (n == info.symbol_length) || (b && (n == last_length info))) (eq-eqb (k + 1) (symbol_count info) last)
+    ∙ ap (λ b. (n == info.symbol_length) || b) (eq-eqb n (last_length info) l.1)
     ∙ or_true (n == info.symbol_length)
   where
     or_true : (b : Bool) → (b || true) ≡ true

@@ -6,6 +6,7 @@ use Rattle.std.specs.declared.cmp.Ordering.TheVariants.{Less, Equal, Greater}
 use Rattle.std.specs.Ordering.{is_eq, ordering_reverse, ordering_then}
 use Rattle.std.proofs.lemmas.Bool.{false≢true, cases_Bool}
 use Rattle.std.proofs.lemmas.List.Elements.{filter-append, filter_map-append}
+use Rattle.std.proofs.lemmas.Option.{same_Some, none-some}
 use Rattle.flute_parts.specs.Session.{Session}
 use Rattle.flute_parts.specs.declared.object_key.ObjectName.{ObjectName}
 use Rattle.flute_parts.specs.declared.key.Key.{Key}
@@ -90,19 +91,13 @@ module _ {X : Type 0} (same : X → X → Bool) (t : Tells same) (part : Address
 
 -- ---- what addresses name
 
-pub some-is : {X : Type 0} (x y : X) → Some x ≡ Some y → x ≡ y
-some-is x y e = cc
-
-pub none-is_not : {X : Type 0} (x : X) → None ≡ Some x → ⊥
-none-is_not x e = cc
-
 pub object_of-inside : (session : Session) (a : Address) → a.key.session ≡ session → object_of session a ≡ Some a.key.object
 object_of-inside session a e = ap (λ b. cond b (Some a.key.object) None) (subst (λ s. same_session a.key.session s ≡ true) e (session_itself a.key.session))
 
 pub object_of-some : (session : Session) (a : Address) (x : ObjectName) → object_of session a ≡ Some x → (a.key.session ≡ session) × (a.key.object ≡ x)
 object_of-some session a x e = elim (cases_Bool (same_session a.key.session session)) [
-  | inl t ↦ (session_same a.key.session session t, some-is a.key.object x (sym (ap (λ b. cond b (Some a.key.object) None) t) ∙ e))
-  | inr t ↦ absurd (none-is_not x (sym (ap (λ b. cond b (Some a.key.object) None) t) ∙ e))
+  | inl t ↦ (session_same a.key.session session t, same_Some a.key.object x (sym (ap (λ b. cond b (Some a.key.object) None) t) ∙ e))
+  | inr t ↦ absurd (none-some x (sym (ap (λ b. cond b (Some a.key.object) None) t) ∙ e))
 ]
 
 pub object_of-elsewhere : (session : Session) (a : Address) → same_session a.key.session session ≡ false → object_of session a ≡ None
@@ -115,13 +110,13 @@ pub symbol_of-elsewhere : (key : Key) (a : Address) → same_key a.key key ≡ f
 symbol_of-elsewhere key a e = ap (λ b. cond b (symbol_in a.part) None) e
 
 symbol_in-some : (part : Part) (x : SymbolId) → symbol_in part ≡ Some x → part ≡ SymbolPart x
-symbol_in-some InfoPart x e = absurd (none-is_not x e)
-symbol_in-some (SymbolPart id) x e = ap SymbolPart (some-is id x e)
+symbol_in-some InfoPart x e = absurd (none-some x e)
+symbol_in-some (SymbolPart id) x e = ap SymbolPart (same_Some id x e)
 
 pub symbol_of-some : (key : Key) (a : Address) (x : SymbolId) → symbol_of key a ≡ Some x → (a.key ≡ key) × (a.part ≡ SymbolPart x)
 symbol_of-some key a x e = elim (cases_Bool (same_key a.key key)) [
   | inl t ↦ (key_same a.key key t, symbol_in-some a.part x (sym (ap (λ b. cond b (symbol_in a.part) None) t) ∙ e))
-  | inr t ↦ absurd (none-is_not x (sym (ap (λ b. cond b (symbol_in a.part) None) t) ∙ e))
+  | inr t ↦ absurd (none-some x (sym (ap (λ b. cond b (symbol_in a.part) None) t) ∙ e))
 ]
 
 -- ---- which stands after which

@@ -5,6 +5,7 @@ use Rattle.std.specs.declared.cmp.Ordering.{Ordering}
 use Rattle.std.specs.declared.cmp.Ordering.TheVariants.{Less, Equal, Greater}
 use Rattle.std.specs.Ordering.{is_eq, ordering_reverse}
 use Rattle.std.proofs.lemmas.Bool.{cases_Bool}
+use Rattle.std.proofs.lemmas.Option.{same_Some, none-some}
 use Rattle.flute_parts.specs.declared.address.Address.{Address}
 use Rattle.flute_parts.specs.declared.fact.Fact.{Fact}
 use Rattle.flute_parts.specs.Order.{address_cmp, same_address}
@@ -48,14 +49,8 @@ fact_at-rising (g ∷ F) f r (inr m) = fact_at-elsewhere g F (address f) (ap is_
 pub rising_tells : (F : List Fact) (f : Fact) → IsRising F → Contains F f → fact_at F (address f) ≡ Some f
 rising_tells F f r c = fact_at-rising F f r (Member-from F f c)
 
-some_same : (f g : Fact) → Some f ≡ Some g → f ≡ g
-some_same f g e = cc
-
-none_some : (f : Fact) → None ≡ Some f → ⊥
-none_some f e = cc
-
 pub rising_has_one : (F : List Fact) (f g : Fact) → IsRising F → Contains F f → Contains F g → address f ≡ address g → f ≡ g
-rising_has_one F f g r c d e = some_same f g (sym (rising_tells F f r c) ∙ ap (fact_at F) e ∙ rising_tells F g r d)
+rising_has_one F f g r c d e = same_Some f g (sym (rising_tells F f r c) ∙ ap (fact_at F) e ∙ rising_tells F g r d)
 
 -- after the first of two lists, which is in both, they come to the same
 rest_same : (f : Fact) (F G : List Fact) → StandAfter (address f) F → StandAfter (address f) G → ((a : Address) → fact_at (f ∷ F) a ≡ fact_at (f ∷ G) a) → (a : Address) → fact_at F a ≡ fact_at G a
@@ -69,15 +64,15 @@ rest_same f F G p q h a = elim (cases_Bool (same_address (address f) a)) [
 -- a list that begins later tells nothing of the first fact
 first_alone : (f g : Fact) (F G : List Fact) → IsRising (f ∷ F) → IsRising (g ∷ G) → address_cmp (address f) (address g) ≡ Less → fact_at (f ∷ F) (address f) ≡ fact_at (g ∷ G) (address f) → ⊥
 first_alone f g F G r s l h =
-    none_some f (
+    none-some f (
     sym (fact_at-after (address f) (g ∷ G) (l, StandAfter-before (address f) (address g) G l s.0))
     ∙ sym h ∙ fact_at-first f F r.0)
 
 -- two rising lists that come to the same at each address are one
 rising_same : (F G : List Fact) → IsRising F → IsRising G → ((a : Address) → fact_at F a ≡ fact_at G a) → F ≡ G
 rising_same [] [] r s h = refl
-rising_same [] (g ∷ G) r s h = absurd (none_some g (sym (fact_at-nil (address g)) ∙ h (address g) ∙ fact_at-first g G s.0))
-rising_same (f ∷ F) [] r s h = absurd (none_some f (sym (fact_at-nil (address f)) ∙ sym (h (address f)) ∙ fact_at-first f F r.0))
+rising_same [] (g ∷ G) r s h = absurd (none-some g (sym (fact_at-nil (address g)) ∙ h (address g) ∙ fact_at-first g G s.0))
+rising_same (f ∷ F) [] r s h = absurd (none-some f (sym (fact_at-nil (address f)) ∙ sym (h (address f)) ∙ fact_at-first f F r.0))
 rising_same (f ∷ F) (g ∷ G) r s h = by_order (rising_same F G r.1 s.1) (address_cmp (address f) (address g)) refl
   where
     by_order : (((a : Address) → fact_at F a ≡ fact_at G a) → F ≡ G) → (o : Ordering) → address_cmp (address f) (address g) ≡ o → f ∷ F ≡ g ∷ G
@@ -87,7 +82,7 @@ rising_same (f ∷ F) (g ∷ G) r s h = by_order (rising_same F G r.1 s.1) (addr
         absurd (first_alone g f G F s r m (sym (h (address g))))
     by_order tail Equal l =
         let p = address_same (address f) (address g) (ap is_eq l) in
-        let e : f ≡ g = some_same f g (sym (fact_at-first f F r.0) ∙ h (address f) ∙ ap (fact_at (g ∷ G)) p ∙ fact_at-first g G s.0) in
+        let e : f ≡ g = same_Some f g (sym (fact_at-first f F r.0) ∙ h (address f) ∙ ap (fact_at (g ∷ G)) p ∙ fact_at-first g G s.0) in
         let s' = subst (λ x. StandAfter (address x) G) (sym e) s.0 in
         let h' : (a : Address) → fact_at (f ∷ F) a ≡ fact_at (f ∷ G) a = λ a. h a ∙ ap (λ x. fact_at (x ∷ G) a) (sym e) in
         let t = tail (rest_same f F G r.0 s' h') in

@@ -3,10 +3,11 @@ use Rattle.std.proofs.Common.{◌≡◌, ℕ, ◌+◌, ◌-◌, ◌<◌, ◌≤�
 use Rattle.std.specs.Prelude.{◌==◌}
 use Rattle.std.proofs.lemmas.Bool.{cases_lt}
 use Rattle.std.proofs.lemmas.Bool.Decides.{nat_tests}
+use Rattle.std.proofs.Math.Nat.{eq-zero-or-pos}
 use Rattle.flute_parts.specs.Information.{Information, sizes, symbol_count, block_count, large_length, small_length, large_count, IsValid}
 use Rattle.flute_parts.specs.Split.{IsSplit}
 use Rattle.flute_parts.proofs.Listing.{split, size-large, size-small, size-none}
-use Rattle.flute_parts.proofs.Split.{IsSplit-none, IsSplit-of, cases_zero, count-sizes}
+use Rattle.flute_parts.proofs.Split.{IsSplit-none, IsSplit-of, count-sizes}
 
 pub sizes-none : (i : Information) → i.transfer_length ≡ 0 → sizes i ≡ []
 sizes-none i z = (IsSplit-none i z).split
@@ -18,7 +19,7 @@ sizes-some i n =
     ap (λ b. cond b [] (replicate (large_count i) (large_length i) ++ replicate (block_count i - large_count i) (small_length i))) not_zero
 
 pub IsSplit-from : (i : Information) → IsValid i → (large : ℕ) × (small : ℕ) × (length' : ℕ) × IsSplit i (symbol_count i) large small length'
-IsSplit-from i v = elim (cases_zero i.transfer_length) [
+IsSplit-from i v = elim (eq-zero-or-pos i.transfer_length) [
   | inl z ↦ let s = IsSplit-none i z in (0, 0, 0, subst (λ t. IsSplit i t 0 0 0) s.count s)
   | inr l ↦ (_, _, _, IsSplit-of i (block_count i) refl l (v.parts l))
 ]

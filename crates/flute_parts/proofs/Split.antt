@@ -1,6 +1,6 @@
 -- The partition that information gives, from its four numbers.
-use Rattle.std.proofs.Common.{◌≡◌, ℕ, zero, suc, ◌+◌, ◌-◌, ◌*◌, ◌/◌, ◌%◌, ◌^◌, ◌<◌, ◌≤◌, min, Bool, true, false, cond, List, [], ◌∷◌, ◌++◌, length, get_or, take, replicate, Some, None, refl, sym, ap, ◌∙◌, subst, inl, inr, ◌⊎◌, arith}
-use Rattle.std.proofs.Math.Nat.{div-add-mod'}
+use Rattle.std.proofs.Common.{◌≡◌, ℕ, zero, suc, ◌+◌, ◌-◌, ◌*◌, ◌/◌, ◌%◌, ◌^◌, ◌<◌, ◌≤◌, min, Bool, true, false, cond, List, [], ◌∷◌, ◌++◌, length, get_or, take, replicate, Some, None, refl, sym, ap, ◌∙◌, subst, inl, inr, arith}
+use Rattle.std.proofs.Math.Nat.{div-add-mod', eq-zero-or-pos}
 use Rattle.std.specs.Prelude.{slice_get, ◌==◌, ◌↔◌}
 use Rattle.std.specs.Int.{div_ceil}
 use Rattle.std.specs.declared.cmp.Ordering.TheVariants.{Less}
@@ -32,10 +32,6 @@ IsSplit-none i h =
       large_longest = λ l. omega (arith, l);
       not_empty = λ l. omega (arith, l);
     }
-
-pub cases_zero : (n : ℕ) → (n ≡ 0) ⊎ (0 < n)
-cases_zero zero = inl refl
-cases_zero (suc n) = inr (omega arith)
 
 larger : (q r : ℕ) → replicate r (q + min 1 r) ≡ replicate r (q + 1)
 larger q zero = refl
@@ -90,7 +86,7 @@ module _ (i : Information) (symbols large small length' : ℕ) (s : IsSplit i sy
   few-symbols =
       let all = s.all in
       let blocks = s.blocks in
-      elim (cases_zero large) [
+      elim (eq-zero-or-pos large) [
         | inl z ↦
             let p = mul-le small length' 65536 65536 (omega arith) s.longest in
             let e : large * (length' + 1) ≡ 0 = ap (λ x. x * (length' + 1)) z ∙ omega arith in
@@ -136,7 +132,7 @@ module _ (i : Information) (symbols large small length' : ℕ) (s : IsSplit i sy
   place-second k h l =
       let rest = k - large * (length' + 1) in
       let below : rest < small * length' = let all = s.all in omega arith in
-      let some : 0 < small = elim (cases_zero small) [
+      let some : 0 < small = elim (eq-zero-or-pos small) [
         | inl z ↦ absurd (let e : small * length' ≡ 0 = ap (λ x. x * length') z ∙ omega arith in omega arith)
         | inr p ↦ p
       ] in
@@ -212,7 +208,7 @@ unfolding ids
 ids_follow info = next-in_block (sizes info)
 
 pub ids_counted : (info : Information) → IsValid info → length (ids info) ≡ symbol_count info
-ids_counted info v = elim (cases_zero info.transfer_length) [
+ids_counted info v = elim (eq-zero-or-pos info.transfer_length) [
   | inl z ↦ let s = IsSplit-none info z in count-ids info 0 0 0 0 s ∙ s.count
   | inr l ↦ let s = IsSplit-of info (block_count info) refl l (v.parts l) in count-ids info (symbol_count info) _ _ _ s
 ]

@@ -4,6 +4,7 @@ use Rattle.std.specs.List.{last_or}
 use Rattle.std.specs.declared.cmp.Ordering.TheVariants.{Greater}
 use Rattle.std.specs.Ordering.{is_eq}
 use Rattle.std.proofs.lemmas.Bool.{false≢true, cases_Bool, eqb-true, eq-eqb}
+use Rattle.std.proofs.lemmas.Option.{same_Some, none-some}
 use Rattle.flute_parts.specs.Session.{Session}
 use Rattle.flute_parts.specs.declared.key.Key.{Key}
 use Rattle.flute_parts.specs.declared.symbol_id.SymbolId.{SymbolId}
@@ -19,7 +20,7 @@ use Rattle.flute_parts.specs.Limits.{symbol_in, session_of, object_of, symbol_of
 use Rattle.flute_parts.specs.Tally.{last_key, Counts, CountsKey}
 use Rattle.flute_parts.proofs.Facts.{Member}
 use Rattle.flute_parts.proofs.Rising.{member-after}
-use Rattle.flute_parts.proofs.OneMore.{count-none, count-again, count-new, count-empty, some-is, none-is_not, object_of-inside, object_of-some, object_of-elsewhere, symbol_of-inside, symbol_of-elsewhere, symbol_of-some, keys-after, equal-is_not, tied, key-before, before-next, rising-front}
+use Rattle.flute_parts.proofs.OneMore.{count-none, count-again, count-new, count-empty, object_of-inside, object_of-some, object_of-elsewhere, symbol_of-inside, symbol_of-elsewhere, symbol_of-some, keys-after, equal-is_not, tied, key-before, before-next, rising-front}
 use Rattle.flute_parts.proofs.Named.{session_tells, object_tells, symbol_id_tells}
 
 -- ---- the last of them
@@ -42,8 +43,8 @@ last_after (f ∷ h ∷ F) g r (inr m) = let w = last_after (h ∷ F) g r.1 m in
 
 last_member : (F : List Fact) (k : Key) → IsRising F → last_key F ≡ Some k → (l : Fact) × Member l F × ((address l).key ≡ k)
 unfolding Member
-last_member [] k r e = absurd (none-is_not k e)
-last_member (f ∷ F) k r e = let w = last_after (f ∷ F) f r (inl refl) in (w.0, w.1, some-is (address w.0).key k (sym w.2 ∙ e))
+last_member [] k r e = absurd (none-some k e)
+last_member (f ∷ F) k r e = let w = last_after (f ∷ F) f r (inl refl) in (w.0, w.1, same_Some (address w.0).key k (sym w.2 ∙ e))
 
 last_key-more : (o : Option Key) (F : List Fact) (f : Fact) → last_or o (map (λ g. (address g).key) (F ++ f ∷ [])) ≡ Some (address f).key
 last_key-more o [] f = refl
@@ -101,7 +102,7 @@ module _ (F : List Fact) (f : Fact) (r : IsRising (F ++ f ∷ [])) where
   sessions-new : ((k : Key) → last_key F ≡ Some k → k.session ≡ session → ⊥) → length (sessions (F ++ f ∷ [])) ≡ length (sessions F) + 1
   unfolding sessions
   sessions-new other =
-      count-new same_session session_tells session_of F f session refl (λ g m e. other_session other g m (some-is (address g).key.session session e))
+      count-new same_session session_tells session_of F f session refl (λ g m e. other_session other g m (same_Some (address g).key.session session e))
 
   named_object : object_of session (address f) ≡ Some key.object
   named_object = object_of-inside session (address f) refl
@@ -175,7 +176,7 @@ session-told a b t = let s = eqb-true a.tsi b.tsi (sym t) in λ i. record { tsi 
 
 pub session-told_apart : (last : Option Key) (x key : Key) → last ≡ Some x → false ≡ (x.session.tsi == key.session.tsi) → (k : Key) → last ≡ Some k → k.session ≡ key.session → ⊥
 session-told_apart last x key e t k p q =
-    let s = ap (λ (z : Key). z.session.tsi) (some-is x k (sym e ∙ p)) ∙ ap (λ (z : Session). z.tsi) q in
+    let s = ap (λ (z : Key). z.session.tsi) (same_Some x k (sym e ∙ p)) ∙ ap (λ (z : Session). z.tsi) q in
     false≢true (t ∙ eq-eqb x.session.tsi key.session.tsi s)
 
 pub key-told : (a b : Key) → true ≡ ((a.session.tsi == b.session.tsi) && same_object a.object b.object) → a ≡ b
@@ -219,7 +220,7 @@ module _ {s o y : ℕ} (F : List Fact) (f : Fact) (tally : Tally s o y) (r : IsR
     inside = q ∙ ap (λ (x : Key). x.session) (sym d)
 
     other : last_key F ≡ Some (address f).key → ⊥
-    other h = apart (some-is k (address f).key (sym e ∙ c.last ∙ h) ∙ d)
+    other h = apart (same_Some k (address f).key (sym e ∙ c.last ∙ h) ∙ d)
 
     known : tally.objects ≡ length (objects F (address f).key.session)
     known = c.object_count k e ∙ ap (λ x. length (objects F x)) inside
@@ -293,8 +294,8 @@ module _ {s o y : ℕ} (F : List Fact) (f : Fact) (tally : Tally s o y) (r : IsR
     counted n e few = record {
       last = c.last ∙ sym (last_key-snoc F f);
       session_count = c.session_count;
-      object_count = λ k h. c.object_count ∙ ap (λ (x : Key). length (objects (F ++ f ∷ []) x.session)) (some-is (address f).key k (sym c.last ∙ h));
-      symbol_count = λ k h. e ∙ ap (λ (x : Key). length (symbols (F ++ f ∷ []) x)) (some-is (address f).key k (sym c.last ∙ h));
+      object_count = λ k h. c.object_count ∙ ap (λ (x : Key). length (objects (F ++ f ∷ []) x.session)) (same_Some (address f).key k (sym c.last ∙ h));
+      symbol_count = λ k h. e ∙ ap (λ (x : Key). length (symbols (F ++ f ∷ []) x)) (same_Some (address f).key k (sym c.last ∙ h));
       within = within-more F f r s o y c.within c.few_sessions c.few_objects (subst (λ m. m ≤ y) e few);
     }
 

@@ -4,7 +4,7 @@ use Rattle.std.specs.Prelude.{flat_map}
 use Rattle.std.specs.declared.cmp.Ordering.{Ordering}
 use Rattle.std.specs.declared.cmp.Ordering.TheVariants.{Equal}
 use Rattle.std.specs.Ordering.{is_eq}
-use Rattle.std.specs.Cmp.{IsTotalOrder, Equal-is, eq_by_cmp_equiv}
+use Rattle.std.specs.Cmp.{IsTotalOrder, Equal-is}
 use Rattle.std.proofs.lemmas.Cmp.{tied_itself}
 use Rattle.std.proofs.lemmas.Bool.{false≢true, cases_Bool}
 use Rattle.flute_parts.specs.declared.address.Address.{Address}
@@ -14,25 +14,21 @@ use Rattle.flute_parts.specs.Addresses.{address}
 use Rattle.flute_parts.specs.Facts.{fact_at, agreed, same_fact, conflict_at}
 use Rattle.flute_parts.specs.Equality.{address_same, address_itself}
 use Rattle.flute_parts.proofs.Joined.{joined, joined-none, joined_fact, joined-conflict_left, joined-conflict_right, joined-itself, fact_at-append}
+use Rattle.flute_parts.proofs.Facts.{fact_at-nil}
 use Rattle.std.specs.Option.{option_map_or}
 use Rattle.std.specs.Map.{keys_of}
 use Rattle.std.specs.BTreeMap.{is_at}
-use Rattle.std.proofs.lemmas.Map.{lookup-none}
-use Rattle.std.proofs.lemmas.Map.Entries.{none_past_head}
-use Rattle.std.proofs.lemmas.Map.Keys.{sorted_tail, IsDistinct-from_sorted}
+use Rattle.std.proofs.lemmas.Map.Keys.{sorted_tail}
 use Rattle.flute_join.specs.Cell.{cell_join}
 use Rattle.flute_join.specs.JoinMap.{map_join, value_at, IsOrdered, EachValue}
 use Rattle.flute_join.proofs.Ordered.{ordered-map_join}
 use Rattle.flute_join.proofs.Reading.{reading_at}
 use Rattle.flute_join.specs.declared.cell.Cell.{Cell}
 use Rattle.flute_join.specs.declared.cell.Cell.TheVariants.{Absent, One, Conflict}
+use Rattle.flute_join.proofs.Values.{absent_past}
 use Rattle.flute_store.specs.Content.{cell_facts}
 
 -- ---- facts that stand elsewhere
-
-pub at-nothing : (a : Address) → fact_at [] a ≡ None
-unfolding fact_at
-at-nothing a = refl
 
 pub at-one_here : (f : Fact) → fact_at (f ∷ []) (address f) ≡ Some f
 unfolding fact_at
@@ -48,7 +44,7 @@ Elsewhere a [] = Unit {0}
 Elsewhere a (f ∷ F) = (address f ≡ a → ⊥) × Elsewhere a F
 
 pub elsewhere-none : (a : Address) (F : List Fact) → Elsewhere a F → fact_at F a ≡ None
-elsewhere-none a [] h = at-nothing a
+elsewhere-none a [] h = fact_at-nil a
 elsewhere-none a (f ∷ F) h =
     let apart : same_address (address f) a ≡ false = elim (cases_Bool (same_address (address f) a)) [
       | inl e ↦ absurd (h.0 (address_same (address f) a e))
@@ -87,12 +83,12 @@ module _ {T : Type 0} (told : T → Fact) (here : Address) where
 
     pub at-cell_join : (c d : Cell T) → fact_at (facts (cell_join eq c d)) here ≡ joined here (fact_at (facts c) here) (fact_at (facts d) here)
     unfolding joined_fact
-    at-cell_join Absent d = sym (ap (λ x. joined here x (fact_at (facts d) here)) (at-nothing here))
-    at-cell_join (One v) Absent = sym (ap (joined here (fact_at (facts (One v)) here)) (at-nothing here) ∙ joined-none here (fact_at (facts (One v)) here))
+    at-cell_join Absent d = sym (ap (λ x. joined here x (fact_at (facts d) here)) (fact_at-nil here))
+    at-cell_join (One v) Absent = sym (ap (joined here (fact_at (facts (One v)) here)) (fact_at-nil here) ∙ joined-none here (fact_at (facts (One v)) here))
     at-cell_join (One v) (One w) =
         two_values v w (eq v w) refl ∙ ap (λ b. Some (cond b (told v) (conflict_at here))) (sym (decides v w)) ∙ sym (λ i. joined here (value v i) (value w i))
     at-cell_join (One v) Conflict = conflict ∙ sym ((λ i. joined here (value v i) (conflict i)) ∙ ap Some (joined-conflict_right here (told v)))
-    at-cell_join Conflict Absent = sym (ap (joined here (fact_at (facts Conflict) here)) (at-nothing here) ∙ joined-none here (fact_at (facts Conflict) here))
+    at-cell_join Conflict Absent = sym (ap (joined here (fact_at (facts Conflict) here)) (fact_at-nil here) ∙ joined-none here (fact_at (facts Conflict) here))
     at-cell_join Conflict (One w) = conflict ∙ sym ((λ i. joined here (conflict i) (value w i)) ∙ ap Some (joined-conflict_left here (told w)))
     at-cell_join Conflict Conflict = sym (joined-itself here (fact_at (facts Conflict) here))
 
@@ -101,19 +97,16 @@ module _ {K X : Type 0} {cmp : K → K → Ordering} (order : IsTotalOrder cmp) 
   not_at : (e : K × X) → is_at (cmp q) e.0 ≡ false → q ≡ e.0 → ⊥
   not_at e t p = false≢true (sym t ∙ ap (λ k. is_eq (cmp q k)) (sym p) ∙ ap is_eq (tied_itself order q))
 
-  absent_past : (p : K × X) (rest : List (K × X)) → IsOrdered cmp (p ∷ rest) → is_at (cmp q) p.0 ≡ true → value_at cmp rest q ≡ None
-  absent_past p rest s t = lookup-none (is_at (cmp q)) rest (none_past_head (eq_by_cmp_equiv order) q p rest (IsDistinct-from_sorted cmp (keys_of (p ∷ rest)) s) t)
-
   at_head : (e : K × X) (es : List (K × X)) (b : Bool) → is_at (cmp q) e.0 ≡ b → IsOrdered cmp (e ∷ es) → fact_at (flat_map f es) a ≡ option_map_or (λ v. fact_at (f (q, v)) a) (value_at cmp es q) None
       → fact_at (flat_map f (e ∷ es)) a ≡ option_map_or (λ v. fact_at (f (q, v)) a) (cond b (Some e.1) (value_at cmp es q)) None
   at_head e es true t s ih =
       let here : q ≡ e.0 = same q e.0 ((Equal-is (cmp q e.0)).0 t) in
-      let none : fact_at (flat_map f es) a ≡ None = ih ∙ ap (λ o. option_map_or (λ v. fact_at (f (q, v)) a) o None) (absent_past e es s t) in
+      let none : fact_at (flat_map f es) a ≡ None = ih ∙ ap (λ o. option_map_or (λ v. fact_at (f (q, v)) a) o None) (absent_past order e es q s t) in
       fact_at-append (f e) (flat_map f es) a ∙ ap (joined a (fact_at (f e) a)) none ∙ joined-none a (fact_at (f e) a) ∙ ap (λ k. fact_at (f (k, e.1)) a) (sym here)
   at_head e es false t s ih = fact_at-append (f e) (flat_map f es) a ∙ ap (λ x. joined a x (fact_at (flat_map f es) a)) (elsewhere-none a (f e) (apart e (not_at e t))) ∙ ih
 
   pub at-entries : (es : List (K × X)) → IsOrdered cmp es → fact_at (flat_map f es) a ≡ option_map_or (λ v. fact_at (f (q, v)) a) (value_at cmp es q) None
-  at-entries [] s = at-nothing a
+  at-entries [] s = fact_at-nil a
   at-entries (e ∷ es) s = at_head e es (is_at (cmp q) e.0) refl s (at-entries es (sorted_tail cmp e.0 (keys_of es) s))
 
   module _ (join : X → X → X) (P : X → Type 0) (keeps : (v w : X) → P v → P w → fact_at (f (q, join v w)) a ≡ joined a (fact_at (f (q, v)) a) (fact_at (f (q, w)) a)) where

@@ -6,16 +6,14 @@ use Rattle.std.proofs.KnownBytes.{Appends-trans}
 use Rattle.flute_join.specs.JoinMap.{value_at}
 use Rattle.flute_join.specs.declared.cell.Cell.{Cell}
 use Rattle.flute_join.specs.declared.cell.Cell.TheVariants.{Absent, One, Conflict}
+use Rattle.flute_join.proofs.Under.{not_cons_nil}
 use Rattle.flute_parts.specs.Information.{Information, IsValid}
 use Rattle.flute_parts.specs.Order.{symbol_id_cmp}
-use Rattle.flute_parts.specs.Addresses.{info_address}
-use Rattle.flute_parts.specs.Facts.{fact_at}
 use Rattle.flute_parts.specs.Partition.{ids, symbol_id}
 use Rattle.flute_parts.specs.Devices.{AppendsPart}
 use Rattle.flute_parts.specs.declared.key.Key.{Key}
 use Rattle.flute_parts.specs.declared.symbol_id.SymbolId.{SymbolId}
 use Rattle.flute_parts.specs.declared.fact.Fact.{Fact}
-use Rattle.flute_parts.specs.declared.fact.Fact.TheVariants.{Info, InfoConflict}
 use Rattle.flute_parts.proofs.Appended.{AppendsPart-first, AppendsPart-second}
 use Rattle.flute_store.specs.declared.gap.Reason.{Reason}
 use Rattle.flute_store.specs.declared.gap.Gap.{Gap}
@@ -24,7 +22,7 @@ use Rattle.flute_store.specs.declared.gap_walk.Look.{Look}
 use Rattle.flute_store.specs.declared.gap_walk.Look.TheVariants.{End, BlockEnd, Passed, Fitting, Wanted, NotHeld}
 use Rattle.flute_store.specs.declared.gap_walk.GapWalk.{GapWalk}
 use Rattle.flute_store.specs.Objects.{Whole, object, bytes_of, runs, gaps, listed}
-use Rattle.flute_store.specs.Found.{cell_fact, symbol_fact, IsTold}
+use Rattle.flute_store.specs.Found.{symbol_fact, IsTold}
 use Rattle.flute_store.specs.Wanted.{wanted, blocks_from}
 use Rattle.flute_store.specs.GapWalk.{at_start, symbols_left, left, IsWalk, after_pass, after_take, after_begin, look_of}
 use Rattle.flute_store.specs.BytesLeft.{cell_bytes, found_bytes, held_bytes, bytes_left, KeepsBytes, IsNext, GivesFirst}
@@ -32,7 +30,7 @@ use Rattle.flute_store.proofs.SortedSymbols.{Above, above-before, blocks_from-al
 use Rattle.flute_store.proofs.Lookups.{Entry, value-past, value-here}
 use Rattle.flute_store.proofs.Runs.{runs-listed}
 use Rattle.flute_store.proofs.WholeObjects.{gapless-whole}
-use Rattle.flute_store.proofs.ToldObjects.{wants-told}
+use Rattle.flute_store.proofs.ToldObjects.{wants-told, told-information}
 use Rattle.flute_store.proofs.ObjectLength.{object-length}
 use Rattle.flute_store.specs.Extract.{IsNotWhole, WritesWhole, WritesPart}
 use Rattle.flute_store.proofs.Looks.{here, AtHere, AtPassed, Tells, told, others_left, symbols-first, symbols-end, others-above, inside-less, block-left, keeps-trans, step-pass, step-begin, step-take, take-left}
@@ -81,12 +79,6 @@ end-bytes : (w : GapWalk) → Tells w End → bytes_left w ≡ []
 unfolding bytes_left held_bytes
 end-bytes w t = ap (held_bytes w.held) (symbols-end w t.0 ∙ ap (blocks_from w.partition) t.1 ∙ blocks_from-end w.partition)
 
-some_want : (w : SymbolId × Reason) (ws : List (SymbolId × Reason)) → w ∷ ws ≡ [] → ⊥
-some_want w ws e = cc
-
-some_gap : (g : Gap) (gs : List Gap) → g ∷ gs ≡ [] → ⊥
-some_gap g gs e = cc
-
 -- where nothing is wanted, the next symbol fits, or nothing is left
 pub none-bytes : (w : GapWalk) → IsWalk w → left w ≡ [] → (l : Look) → look_of w ≡ l → IsNext l → l ≢ Fitting → bytes_left w ≡ []
 unfolding runs
@@ -94,8 +86,8 @@ none-bytes w p h End e n f = end-bytes w (told w End e)
 none-bytes w p h BlockEnd e n f = absurd n
 none-bytes w p h Passed e n f = absurd n
 none-bytes w p h Fitting e n f = absurd (f refl)
-none-bytes w p h (Wanted r) e n f = absurd (some_want (here w, r) (left (after_take w)) (sym (take-left w (Some r) p (told w (Wanted r) e)) ∙ h))
-none-bytes w p h NotHeld e n f = absurd (some_gap _ _ (sym (gap-missing w p e).first ∙ ap runs h))
+none-bytes w p h (Wanted r) e n f = absurd (not_cons_nil (here w, r) (left (after_take w)) (sym (take-left w (Some r) p (told w (Wanted r) e)) ∙ h))
+none-bytes w p h NotHeld e n f = absurd (not_cons_nil _ _ (sym (gap-missing w p e).first ∙ ap runs h))
 
 first_cell : Cell (List ℕ) → List Entry → Cell (List ℕ)
 first_cell c [] = c
@@ -129,11 +121,8 @@ none-left v w x k l h n f =
     let m = keeps-on v w x k l in
     sym m.bytes ∙ none-bytes x m.keeps.walk (m.keeps.left_is ∙ h) (look_of x) refl n f
 
-empty_held : (e : Entry) (es : List Entry) → e ∷ es ≡ [] → ⊥
-empty_held e es z = cc
-
 pub fitting-held : (w : GapWalk) → look_of w ≡ Fitting → w.held ≡ [] → ⊥
-fitting-held w f h = let t = told w Fitting f in empty_held t.first t.others (sym t.held ∙ h)
+fitting-held w f h = let t = told w Fitting f in not_cons_nil t.first t.others (sym t.held ∙ h)
 
 pub gives-next : (v w x y : GapWalk) (id : SymbolId) (c : Cell (List ℕ)) (es : List Entry) (b : List ℕ) → KeepsBytes v w → KeepsBytes w x → left v ≡ [] → look_of x ≡ Fitting → x.held ≡ (id, c) ∷ es → v.ticks ≤ x.ticks → b ≡ cell_bytes c → y ≡ after_take x → GivesFirst v b y
 gives-next v w x y id c es b k l h f d t e g =
@@ -204,17 +193,14 @@ none-wanted info s held again gs g n h a = ap (λ (x : List Entry). wanted info 
 
 module _ {n : ℕ} (F : List Fact) (key : Key) (x : Object n) (info : Information) (held : List Entry) (gs : List Gap)
     (t : IsTold F key x) (e : x.info ≡ One info) (h : held ≡ x.symbols) (g : gs ≡ runs (wanted info held (ids info))) where
-  one_information : fact_at F (info_address key) ≡ Some (Info key info)
-  one_information = t.info ∙ ap (cell_fact (Info key) (InfoConflict key)) e
-
   are_gaps : gaps F key info ≡ gs
   are_gaps = ap runs (wants-told F key x info t ∙ ap (λ (s : List Entry). wanted info s (ids info)) (sym h)) ∙ sym g
 
   pub not-whole : (gap : Gap) (others : List Gap) → gs ≡ gap ∷ others → IsNotWhole F key (symbol_id gap.sbn gap.first)
-  not-whole gap others f = record { info = info; information = one_information; gap = gap; others = others; gaps_are = are_gaps ∙ f; first_is = refl }
+  not-whole gap others f = record { info = info; information = told-information F key x info t e; gap = gap; others = others; gaps_are = are_gaps ∙ f; first_is = refl }
 
   pub whole-object : gs ≡ [] → Whole F key info
-  whole-object f = gapless-whole F key info one_information (are_gaps ∙ f)
+  whole-object f = gapless-whole F key info (told-information F key x info t e) (are_gaps ∙ f)
 
   pub writes-whole : {W : Type 0} (written : W → Option (List ℕ)) (old new : W) (again : List Entry) (length : ℕ) → gs ≡ [] → again ≡ x.symbols → Appends (written old) (written new) (take info.transfer_length (held_bytes again (ids info))) → length ≡ info.transfer_length → IsValid info → WritesWhole written F key old new length
   writes-whole written old new again length f a w l v = record {

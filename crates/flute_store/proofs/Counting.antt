@@ -1,31 +1,29 @@
 -- How many sessions, objects and symbols the content of a store names.
-use Rattle.std.proofs.Common.{append-nil, ◌≡◌, ◌≢◌, ℕ, ◌≤◌, List, [], ◌∷◌, ◌++◌, length, Bool, true, false, cond, ◌||◌, Option, Some, None, unwrap_or, refl, sym, ap, ◌∙◌, subst, inl, inr, arith}
+use Rattle.std.proofs.Common.{append-nil, ◌≡◌, ◌≢◌, ℕ, ◌≤◌, List, [], ◌∷◌, ◌++◌, length, Bool, true, false, cond, ◌||◌, Option, Some, None, refl, sym, ap, ◌∙◌, subst, arith}
 use Rattle.std.specs.declared.cmp.Ordering.{Ordering}
 use Rattle.std.specs.Ordering.{is_eq}
 use Rattle.std.specs.Option.{option_map_or}
 use Rattle.std.specs.Map.{keys_of}
 use Rattle.std.proofs.lemmas.Map.Entries.{length-keys_of}
-use Rattle.std.proofs.lemmas.Bool.{cases_Bool}
+use Rattle.std.proofs.lemmas.Option.{none-some, same_Some}
 use Rattle.flute_parts.specs.Session.{Session}
 use Rattle.flute_parts.specs.declared.object_key.ObjectName.{ObjectName}
 use Rattle.flute_parts.specs.declared.key.Key.{Key}
 use Rattle.flute_parts.specs.declared.symbol_id.SymbolId.{SymbolId}
-use Rattle.flute_parts.specs.declared.address.Part.{Part}
-use Rattle.flute_parts.specs.declared.address.Part.TheVariants.{Info as InfoPart, Symbol as SymbolPart}
 use Rattle.flute_parts.specs.declared.address.Address.{Address}
 use Rattle.flute_parts.specs.declared.fact.Fact.{Fact}
-use Rattle.flute_parts.specs.Order.{session_cmp, object_cmp, symbol_id_cmp, same_key, same_symbol_id, same_session, same_object}
+use Rattle.flute_parts.specs.Order.{session_cmp, object_cmp, symbol_id_cmp, same_symbol_id, same_session, same_object}
 use Rattle.flute_parts.specs.Addresses.{symbol_address, address}
 use Rattle.flute_parts.specs.Totality.{session_total, object_total, symbol_id_total}
 use Rattle.flute_parts.specs.Facts.{fact_at}
-use Rattle.flute_parts.specs.Equality.{session_place, object_place, symbol_id_place, session_same, key_same}
-use Rattle.flute_parts.specs.Limits.{firsts, named, symbol_in, session_of, object_of, symbol_of, sessions, objects, symbols, Over, more_sessions, more_objects, more_symbols}
+use Rattle.flute_parts.specs.Equality.{session_place, object_place, symbol_id_place}
+use Rattle.flute_parts.specs.Limits.{firsts, named, session_of, object_of, symbol_of, sessions, objects, symbols, Over, more_sessions, more_objects, more_symbols}
 use Rattle.flute_parts.proofs.Counted.{Tells, has, has-firsts, Distinct, Distinct-firsts, length-Distinct}
 use Rattle.flute_parts.proofs.Facts.{Member, fact_at-member_some}
 use Rattle.flute_parts.proofs.Named.{named-member, named-names, session_tells, object_tells, symbol_id_tells}
+use Rattle.flute_parts.proofs.OneMore.{object_of-some, symbol_of-some}
 use Rattle.flute_join.specs.JoinMap.{value_at}
 use Rattle.flute_join.proofs.Sound.{each-value_at}
-use Rattle.flute_join.proofs.Single.{none_is_not_some}
 use Rattle.flute_store.specs.declared.object.Object.{Object}
 use Rattle.flute_store.specs.Content.{key_of, symbol_facts, object_facts, session_facts, content}
 use Rattle.flute_store.specs.WellFormed.{IsObject, IsSession, IsStore}
@@ -47,7 +45,7 @@ module _ {K X : Type 0} (cmp : K → K → Ordering) (t : Tells (λ a b. is_eq (
   key_here false k e es v b f h = ap (λ c. c || is_key k es) b ∙ h f
 
   pub value_at-has : (es : List (K × X)) (k : K) (v : X) → value_at cmp es k ≡ Some v → is_key k es ≡ true
-  value_at-has [] k v f = absurd (none_is_not_some v f)
+  value_at-has [] k v f = absurd (none-some v f)
   value_at-has (e ∷ es) k v f = key_here (is_eq (cmp k e.0)) k e es v refl f (value_at-has es k v)
 
 -- ---- counting
@@ -65,27 +63,8 @@ module _ {X : Type 0} (same : X → X → Bool) (t : Tells same) (part : Address
 
 -- ---- what addresses name
 
-in_session-is : (s x : Session) → Some s ≡ Some x → s ≡ x
-in_session-is s x e = ap (λ o. unwrap_or o s) e
-
-named_object : (session : Session) (a : Address) (x : ObjectName) → object_of session a ≡ Some x → (a.key.session ≡ session) × (a.key.object ≡ x)
-named_object session a x e = elim (cases_Bool (same_session a.key.session session)) [
-  | inl t ↦ (session_same a.key.session session t, ap (λ o. unwrap_or o x) (sym (ap (λ b. cond b (Some a.key.object) None) t) ∙ e))
-  | inr t ↦ absurd (none_is_not_some x (sym (ap (λ b. cond b (Some a.key.object) None) t) ∙ e))
-]
-
-named_part : (part : Part) (x : SymbolId) → symbol_in part ≡ Some x → part ≡ SymbolPart x
-named_part InfoPart x e = absurd (none_is_not_some x e)
-named_part (SymbolPart id) x e = ap (λ o. SymbolPart (unwrap_or o x)) e
-
 pub named_symbol : (key : Key) (a : Address) (x : SymbolId) → symbol_of key a ≡ Some x → a ≡ symbol_address key x
-named_symbol key a x e = elim (cases_Bool (same_key a.key key)) [
-  | inl t ↦
-      let k = key_same a.key key t in
-      let p = named_part a.part x (sym (ap (λ b. cond b (symbol_in a.part) None) t) ∙ e) in
-      λ i. record { key = k i; part = p i }
-  | inr t ↦ absurd (none_is_not_some x (sym (ap (λ b. cond b (symbol_in a.part) None) t) ∙ e))
-]
+named_symbol key a x e = let p = symbol_of-some key a x e in λ i. record { key = p.0 i; part = p.1 i }
 
 module _ {n : ℕ} where
   -- ---- what stands at an address
@@ -110,7 +89,7 @@ module _ {n : ℕ} where
         let c = count-Below same_session session_tells session_of (content m) (keys_of m) (λ x f k e.
         let a = address f in
         let found = some-of (λ os. fact_at (session_facts a.key.session os) a) (value_at session_cmp m a.key.session) (λ z. fact_at-member_some f (content m) k (at-content m a (ordered-store s o m p) ∙ z)) in
-        value_at-has session_cmp session_tells m x found.0 (subst (λ q. value_at session_cmp m q ≡ Some found.0) (in_session-is a.key.session x e) found.1)) in
+        value_at-has session_cmp session_tells m x found.0 (subst (λ q. value_at session_cmp m q ≡ Some found.0) (same_Some a.key.session x e) found.1)) in
         omega (arith, c, length-keys_of m)
 
     few_objects_of : (session : Session) (found : Option (List (ObjectName × Object n))) → value_at session_cmp m session ≡ found → length (objects F session) ≤ o
@@ -118,7 +97,7 @@ module _ {n : ℕ} where
     few_objects_of session None f =
         let c = count-Below same_object object_tells (object_of session) (content m) [] (λ x f' k e.
         let a = address f' in
-        let q = named_object session a x e in
+        let q = object_of-some session a x e in
         absurd (fact_at-member_some f' (content m) k (at-content m a (ordered-store s o m p) ∙ ap (λ z. option_map_or (λ os. fact_at (session_facts a.key.session os) a) (value_at session_cmp m z) None) q.0 ∙ ap (λ z. option_map_or (λ os. fact_at (session_facts a.key.session os) a) z None) f))) in
         omega (arith, c)
     few_objects_of session (Some os) f =
@@ -126,7 +105,7 @@ module _ {n : ℕ} where
         let w = sound.within in
         let c = count-Below same_object object_tells (object_of session) (content m) (keys_of os) (λ x f' k e.
         let a = address f' in
-        let q = named_object session a x e in
+        let q = object_of-some session a x e in
         let found = some-of (λ v. fact_at (object_facts (key_of a.key.session a.key.object) v) a) (value_at object_cmp os a.key.object) (λ z.
         fact_at-member_some f' (content m) k (at-content m a (ordered-store s o m p) ∙ ap (λ z. option_map_or (λ os. fact_at (session_facts a.key.session os) a) (value_at session_cmp m z) None) q.0 ∙ ap (λ z. option_map_or (λ os. fact_at (session_facts a.key.session os) a) z None) f
         ∙ at-session os a (ordered-session o os sound) ∙ z)) in

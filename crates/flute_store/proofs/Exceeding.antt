@@ -3,7 +3,7 @@ use Rattle.std.proofs.Common.{◌≡◌, ◌≢◌, ℕ, ◌<◌, List, [], ◌�
 use Rattle.std.specs.declared.cmp.Ordering.{Ordering}
 use Rattle.std.specs.declared.cmp.Ordering.TheVariants.{Less}
 use Rattle.std.specs.Ordering.{is_eq}
-use Rattle.std.specs.Cmp.{IsTotalOrder, eq_by_cmp_equiv}
+use Rattle.std.specs.Cmp.{IsTotalOrder}
 use Rattle.std.specs.Map.{keys_of}
 use Rattle.std.specs.List.Sorted.{IsStrictlySortedBy}
 use Rattle.flute_join.specs.Cell.{cell_join, IsKnown}
@@ -35,12 +35,11 @@ use Rattle.std.proofs.lemmas.Cmp.{tied_itself}
 use Rattle.std.specs.Option.{option_map_or}
 use Rattle.std.specs.BTreeMap.{is_at}
 use Rattle.std.specs.List.{AllByRecursion}
-use Rattle.std.proofs.lemmas.Map.{lookup-none}
-use Rattle.std.proofs.lemmas.Map.Entries.{none_past_head, length-keys_of}
-use Rattle.std.proofs.lemmas.Map.Keys.{sorted_tail, IsDistinct-from_sorted}
+use Rattle.std.proofs.lemmas.Map.Entries.{length-keys_of}
+use Rattle.std.proofs.lemmas.Map.Keys.{sorted_tail}
+use Rattle.std.proofs.lemmas.Option.{none-some}
 use Rattle.flute_join.proofs.Sound.{each-value_at}
-use Rattle.flute_join.proofs.Values.{value_at-map_join}
-use Rattle.flute_join.proofs.Single.{none_is_not_some}
+use Rattle.flute_join.proofs.Values.{value_at-map_join, absent_past}
 use Rattle.flute_store.proofs.At.{at-one_here}
 use Rattle.flute_store.proofs.Counting.{count-ge, at-content, at-session, at-object}
 use Rattle.flute_store.specs.declared.object.Object.{Object}
@@ -149,13 +148,10 @@ module _ {K X : Type 0} {cmp : K → K → Ordering} (order : IsTotalOrder cmp) 
     | inr f ↦ absurd (false≢true (sym f ∙ h))
   ]
 
-  absent_past : (p : K × X) (rest : List (K × X)) (q : K) → IsOrdered cmp (p ∷ rest) → is_at (cmp q) p.0 ≡ true → value_at cmp rest q ≡ None
-  absent_past p rest q s t = lookup-none (is_at (cmp q)) rest (none_past_head (eq_by_cmp_equiv order) q p rest (IsDistinct-from_sorted cmp (keys_of (p ∷ rest)) s) t)
-
   -- what is looked up past the first entry
   pub later_value : (e : K × X) (es : List (K × X)) (k : K) (v : X) → IsOrdered cmp (e ∷ es) → value_at cmp es k ≡ Some v → value_at cmp (e ∷ es) k ≡ Some v
   later_value e es k v s f = elim (cases_Bool (is_at (cmp k) e.0)) [
-    | inl b ↦ absurd (none_is_not_some v (sym (absent_past e es k s b) ∙ f))
+    | inl b ↦ absurd (none-some v (sym (absent_past order e es k s b) ∙ f))
     | inr b ↦ ap (λ c. cond c (Some e.1) (value_at cmp es k)) b ∙ f
   ]
 
@@ -165,20 +161,20 @@ module _ {K X : Type 0} {cmp : K → K → Ordering} (order : IsTotalOrder cmp) 
   any-value B (e ∷ es) s (inr a) =
       let r = any-value B es (sorted_tail cmp e.0 (keys_of es) s) a in
       elim (cases_Bool (is_at (cmp r.0) e.0)) [
-        | inl b ↦ absurd (none_is_not_some r.1 (sym (absent_past e es r.0 s b) ∙ r.2))
+        | inl b ↦ absurd (none-some r.1 (sym (absent_past order e es r.0 s b) ∙ r.2))
         | inr b ↦ (r.0, r.1, ap (λ c. cond c (Some e.1) (value_at cmp es r.0)) b ∙ r.2, r.3)
       ]
 
 -- ---- what stands
 pub info_stands : (key : Key) (c : Cell Information) → IsKnown c → fact_at (info_facts key c) (info_address key) ≢ None
 info_stands key Absent h e = h refl
-info_stands key (One i) h e = none_is_not_some (Info key i) (sym e ∙ at-one_here (Info key i))
-info_stands key Conflict h e = none_is_not_some (InfoConflict key) (sym e ∙ at-one_here (InfoConflict key))
+info_stands key (One i) h e = none-some (Info key i) (sym e ∙ at-one_here (Info key i))
+info_stands key Conflict h e = none-some (InfoConflict key) (sym e ∙ at-one_here (InfoConflict key))
 
 cell_stands : (key : Key) (id : SymbolId) (c : Cell (List ℕ)) → IsKnown c → fact_at (symbol_facts key id c) (symbol_address key id) ≢ None
 cell_stands key id Absent h e = h refl
-cell_stands key id (One b) h e = none_is_not_some (Symbol key id b) (sym e ∙ at-one_here (Symbol key id b))
-cell_stands key id Conflict h e = none_is_not_some (SymbolConflict key id) (sym e ∙ at-one_here (SymbolConflict key id))
+cell_stands key id (One b) h e = none-some (Symbol key id b) (sym e ∙ at-one_here (Symbol key id b))
+cell_stands key id Conflict h e = none-some (SymbolConflict key id) (sym e ∙ at-one_here (SymbolConflict key id))
 
 known_or_absent : {T : Type 0} (c : Cell T) → (c ≡ Absent) ⊎ IsKnown c
 known_or_absent Absent = inl refl
@@ -289,7 +285,7 @@ module _ {K X : Type 0} (cmp : K → K → Ordering) (B : X → Type 0) where
   any_first false e es o v f p h = inr (h f)
 
   pub any-value_at : (es : List (K × X)) (k : K) (v : X) → value_at cmp es k ≡ Some v → B v → AnyValue B es
-  any-value_at [] k v f p = absurd (none_is_not_some v f)
+  any-value_at [] k v f p = absurd (none-some v f)
   any-value_at (e ∷ es) k v f p = any_first (is_eq (cmp k e.0)) e es (value_at cmp es k) v f p (λ g. any-value_at es k v g p)
 
 module _ {K X : Type 0} {cmp : K → K → Ordering} (order : IsTotalOrder cmp) (join : X → X → X) (limit : ℕ) (over : X → X → Type 0) (P B : X → Type 0) (beyond : (v w : X) → P v → P w → over v w → B (join v w)) where

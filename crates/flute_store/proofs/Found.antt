@@ -1,5 +1,5 @@
 -- What the content of a store tells of an object.
-use Rattle.std.proofs.Common.{◌≡◌, ◌≢◌, ℕ, ◌≤◌, List, [], ◌∷◌, length, cond, Option, Some, None, refl, sym, ap, ◌∙◌, subst, inl, inr, arith}
+use Rattle.std.proofs.Common.{◌≡◌, ◌≢◌, ℕ, ◌≤◌, List, [], ◌∷◌, length, cond, Option, Some, None, refl, sym, ap, ◌∙◌, subst, arith}
 use Rattle.std.specs.Prelude.{MatchOption}
 use Rattle.std.specs.Borrow.{Bor}
 use Rattle.std.specs.Option.{option_map_or, option_copied}
@@ -25,38 +25,32 @@ use Rattle.flute_parts.specs.declared.address.Part.TheVariants.{Info as InfoPart
 use Rattle.flute_parts.specs.declared.address.Address.{Address}
 use Rattle.flute_parts.specs.declared.fact.Fact.{Fact}
 use Rattle.flute_parts.specs.declared.fact.Fact.TheVariants.{Info, InfoConflict, Symbol, SymbolConflict}
-use Rattle.flute_parts.proofs.Facts.{Member, fact_at-some_named, fact_at-member_some}
+use Rattle.flute_parts.proofs.Facts.{fact_at-member_some, fact_at-nil}
 use Rattle.flute_parts.proofs.Named.{symbol_id_tells}
 use Rattle.flute_store.specs.declared.object.Object.{Object}
 use Rattle.flute_store.specs.Content.{info_facts, symbol_facts, object_facts, session_facts, content}
 use Rattle.flute_store.specs.WellFormed.{IsObject, IsSession, IsStore}
 use Rattle.flute_store.specs.Found.{IsUnheard, IsHeard, cell_fact, symbol_fact, IsTold}
-use Rattle.flute_store.proofs.At.{at-nothing, at-one_here}
+use Rattle.flute_store.proofs.At.{at-one_here}
 use Rattle.flute_store.proofs.StoreJoin.{ordered-session, ordered-store, object-info}
 use Rattle.flute_store.proofs.Counting.{value_at-has, count-Below, count-ge, named_symbol, at-content, at-session, at-object}
-use Rattle.flute_store.proofs.Exceeding.{distinct, has-value_at, first_value}
+use Rattle.flute_store.proofs.Exceeding.{distinct, has-value_at, first_value, a_fact}
 
 info-cell : (key : Key) (c : Cell Information) → fact_at (info_facts key c) (info_address key) ≡ cell_fact (Info key) (InfoConflict key) c
-info-cell key Absent = at-nothing (info_address key)
+info-cell key Absent = fact_at-nil (info_address key)
 info-cell key (One i) = at-one_here (Info key i)
 info-cell key Conflict = at-one_here (InfoConflict key)
 
 symbol-cell : (key : Key) (id : SymbolId) (found : Option (Cell (List ℕ))) → option_map_or (λ c. fact_at (symbol_facts key id c) (symbol_address key id)) found None ≡ symbol_fact key id found
 symbol-cell key id None = refl
-symbol-cell key id (Some Absent) = at-nothing (symbol_address key id)
+symbol-cell key id (Some Absent) = fact_at-nil (symbol_address key id)
 symbol-cell key id (Some (One b)) = at-one_here (Symbol key id b)
 symbol-cell key id (Some Conflict) = at-one_here (SymbolConflict key id)
 
-known-fact : (key : Key) (id : SymbolId) (c : Cell (List ℕ)) → IsKnown c → symbol_fact key id (Some c) ≢ None
+pub known-fact : (key : Key) (id : SymbolId) (c : Cell (List ℕ)) → IsKnown c → symbol_fact key id (Some c) ≢ None
 known-fact key id Absent k e = k refl
 known-fact key id (One b) k e = cc
 known-fact key id Conflict k e = cc
-
-a_fact : (F : List Fact) (a : Address) → fact_at F a ≢ None → (f : Fact) × Member f F × (address f ≡ a)
-a_fact F a h = elim (fact_at-some_named F a) [
-  | inl n ↦ n
-  | inr e ↦ absurd (h e)
-]
 
 module _ {n : ℕ} (s o : ℕ) (m : List (Session × List (ObjectName × Object n))) (p : IsStore s o m) (key : Key) where
   pub unheard-session : value_at session_cmp m key.session ≡ None → IsUnheard (content m) key

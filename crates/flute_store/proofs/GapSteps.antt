@@ -6,8 +6,9 @@ use Rattle.std.specs.Map.{keys_of}
 use Rattle.std.specs.declared.cmp.Ordering.{Ordering}
 use Rattle.std.specs.declared.cmp.Ordering.TheVariants.{Less, Equal, Greater}
 use Rattle.std.specs.Ordering.{nat_cmp, ordering_then, ordering_reverse}
-use Rattle.std.proofs.lemmas.Bool.{cases_Bool}
+use Rattle.std.proofs.lemmas.Bool.{cases_Bool, eqb-true, ltb-true}
 use Rattle.std.proofs.lemmas.Bool.Decides.{nat_tests}
+use Rattle.std.proofs.lemmas.Option.{same_Some}
 use Rattle.flute_join.specs.Cell.{IsKnown}
 use Rattle.flute_join.specs.JoinMap.{IsOrdered, EachValue, value_at}
 use Rattle.flute_join.specs.declared.cell.Cell.{Cell}
@@ -125,9 +126,6 @@ first-known held e es h k = let a : EachValue IsKnown (e ∷ es) = subst (EachVa
 here-known : (w : GapWalk) (r : Reason) → IsWalk w → AtHere w (Some r) → r ≢ Missing
 here-known w r p t = λ e. known-not_missing w.partition (here w) t.first.1 (first-known w.held t.first t.others t.held p.known) (t.why_is ∙ ap Some e)
 
-some_reason : (r s : Reason) → Some r ≡ Some s → r ≡ s
-some_reason r s e = cc
-
 -- where a run ends, what is wanted next is another symbol, or wanted for another reason
 module _ (w : GapWalk) (r : Reason) (p : IsWalk w) (h : 0 < w.esi) (d : r ≢ Missing) where
   at_end : w.esi ≡ w.size → Elsewhere (here w) r (left w)
@@ -146,7 +144,7 @@ module _ (w : GapWalk) (r : Reason) (p : IsWalk w) (h : 0 < w.esi) (d : r ≢ Mi
       let l = inside-less w p t.0 in
       subst (λ xs. Elsewhere (here w) r (wanted w.partition w.held xs)) (sym (symbols-first w l))
       (elsewhere-here w.partition w.held (here w) r (others_left w)
-      (λ e. d (sym (some_reason Missing r (sym (ap (want_cell w.partition (here w)) (value-before w.held (here w) (first-above (here w) w.held p.ordered t.1))) ∙ e))))
+      (λ e. d (sym (same_Some Missing r (sym (ap (want_cell w.partition (here w)) (value-before w.held (here w) (first-above (here w) w.held p.ordered t.1))) ∙ e))))
       (others-above w p l))
 
   pub stop-elsewhere : (l : Look) → look_of w ≡ l → EndsRun r l → Elsewhere (here w) r (left w)
@@ -181,12 +179,6 @@ gap-run r v w p e s =
     }
 
 -- ---- symbols that are not held
-
-less_number : (m n : ℕ) → nat_lt m n ≡ true → m < n
-less_number m n h = grind (arith, nat_tests)
-
-same_number : (m n : ℕ) → (m == n) ≡ true → m ≡ n
-same_number m n h = grind (arith, nat_tests)
 
 greater-cases : (p q : SymbolId) → symbol_id_cmp p q ≡ Greater → (q.sbn < p.sbn) ⊎ ((p.sbn ≡ q.sbn) × (q.esi < p.esi))
 greater-cases p q h = by_block (nat_cmp p.sbn q.sbn) refl h
@@ -223,8 +215,8 @@ until-is n a size [] l s f = record { less = l; within = omega arith; none = λ 
 until-is n a size (e ∷ es) l s f = elim (cases_Bool ((e.0.sbn == n) && nat_lt e.0.esi size)) [
   | inl t ↦
       let b = both (e.0.sbn == n) (nat_lt e.0.esi size) t in
-      let m = same_number e.0.sbn n b.0 in
-      let j = less_number e.0.esi size b.1 in
+      let m = eqb-true e.0.sbn n b.0 in
+      let j = ltb-true e.0.esi size b.1 in
       subst (λ b. Until n a size (cond b e.0.esi size) (e ∷ es)) (sym t) (record {
         less = elim (greater-cases e.0 (symbol_id n a) f) [ inl g ↦ absurd (omega (arith, g, m)) | inr g ↦ g.1 ];
         within = omega (arith, j);
@@ -277,7 +269,7 @@ behind-until n a size [] l s f = tt
 behind-until n a size (e ∷ es) l s f = elim (cases_Bool ((e.0.sbn == n) && nat_lt e.0.esi size)) [
   | inl t ↦
       let b = both (e.0.sbn == n) (nat_lt e.0.esi size) t in
-      let m = same_number e.0.sbn n b.0 in
+      let m = eqb-true e.0.sbn n b.0 in
       subst (λ b. IsBehind n (cond b e.0.esi size - 1) (e ∷ es)) (sym t)
       (all (e.0.esi - 1) (elim (greater-cases e.0 (symbol_id n a) f) [
         | inl g ↦ absurd (omega (arith, g, m))

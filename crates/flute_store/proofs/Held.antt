@@ -20,6 +20,7 @@ use Rattle.flute_parts.specs.Order.{session_cmp, object_cmp, symbol_id_cmp}
 use Rattle.flute_parts.specs.Addresses.{info_address, symbol_address}
 use Rattle.flute_parts.specs.Facts.{fact_at}
 use Rattle.flute_parts.specs.declared.address.Part.{Part}
+use Rattle.flute_parts.proofs.Facts.{fact_at-nil}
 use Rattle.flute_store.specs.declared.object.Object.{Object}
 use Rattle.flute_store.specs.Content.{info_facts, symbol_facts, symbols_facts, object_facts, session_facts, content}
 use Rattle.flute_store.specs.WellFormed.{IsObject, IsSession, IsStore}
@@ -28,7 +29,7 @@ use Rattle.flute_store.specs.Held.{HoldsObject, HasCell}
 use Rattle.std.specs.List.{AllByRecursion}
 use Rattle.flute_store.specs.declared.news.Told.{Told}
 use Rattle.flute_store.specs.declared.news.Told.TheVariants.{Borrowed as BorrowedTold, Owned as OwnedTold, Conflict as ConflictTold}
-use Rattle.flute_store.proofs.At.{at-nothing, at-one_here}
+use Rattle.flute_store.proofs.At.{at-one_here}
 use Rattle.flute_store.proofs.StoreJoin.{ordered-session, ordered-store, object-info}
 use Rattle.flute_store.proofs.Counting.{some-of, at-content, at-session, at-object}
 
@@ -38,12 +39,12 @@ is_known Absent = false
 is_known _ = true
 
 info-held : (key : Key) (c : Cell Information) → is_some (fact_at (info_facts key c) (info_address key)) ≡ is_known c
-info-held key Absent = ap is_some (at-nothing (info_address key))
+info-held key Absent = ap is_some (fact_at-nil (info_address key))
 info-held key (One i) = ap is_some (at-one_here (Info key i))
 info-held key Conflict = ap is_some (at-one_here (InfoConflict key))
 
 symbol-held : (key : Key) (id : SymbolId) (c : Cell (List ℕ)) → is_some (fact_at (symbol_facts key id c) (symbol_address key id)) ≡ is_known c
-symbol-held key id Absent = ap is_some (at-nothing (symbol_address key id))
+symbol-held key id Absent = ap is_some (fact_at-nil (symbol_address key id))
 symbol-held key id (One b) = ap is_some (at-one_here (Symbol key id b))
 symbol-held key id Conflict = ap is_some (at-one_here (SymbolConflict key id))
 

@@ -6,11 +6,10 @@ use Rattle.std.specs.Cmp.{Equal-is}
 use Rattle.std.specs.Map.{keys_of}
 use Rattle.std.proofs.lemmas.List.Elements.{Contains-append_right, Contains-append_cases}
 use Rattle.std.proofs.lemmas.Map.Keys.{sorted_tail}
+use Rattle.std.proofs.lemmas.Option.{none-some}
 use Rattle.flute_join.specs.Cell.{IsKnown}
 use Rattle.flute_join.specs.JoinMap.{value_at, IsOrdered}
 use Rattle.flute_join.specs.declared.cell.Cell.{Cell}
-use Rattle.flute_join.specs.declared.cell.Cell.TheVariants.{Absent, One, Conflict}
-use Rattle.flute_join.proofs.Single.{none_is_not_some}
 use Rattle.flute_join.proofs.Sound.{each-value_at}
 use Rattle.flute_parts.specs.Addresses.{symbol_address}
 use Rattle.flute_parts.specs.Facts.{fact_at}
@@ -26,6 +25,7 @@ use Rattle.flute_store.specs.Found.{symbol_fact, IsTold}
 use Rattle.flute_store.proofs.Lookups.{Entry}
 use Rattle.flute_store.proofs.Exceeding.{first_value, later_value}
 use Rattle.flute_store.proofs.KeyLists.{one_is, first_is, none_in}
+use Rattle.flute_store.proofs.Found.{known-fact}
 
 id_found : (es : List Entry) (q : SymbolId) → IsOrdered symbol_id_cmp es → Contains (keys_of es) q → (c : Cell (List ℕ)) × (value_at symbol_id_cmp es q ≡ Some c)
 id_found [] q p c = absurd (none_in q c)
@@ -37,24 +37,19 @@ id_found (e ∷ es) q p c = elim (Contains-append_cases (e.0 ∷ []) (keys_of es
 ]
 
 found_id : (es : List Entry) (q : SymbolId) (c : Cell (List ℕ)) → value_at symbol_id_cmp es q ≡ Some c → Contains (keys_of es) q
-found_id [] q c f = absurd (none_is_not_some c f)
+found_id [] q c f = absurd (none-some c f)
 found_id (e ∷ es) q c f = by_test (λ g. found_id es q c g) (is_eq (symbol_id_cmp q e.0)) refl f
   where
     by_test : (value_at symbol_id_cmp es q ≡ Some c → Contains (keys_of es) q) → (b : Bool) → is_eq (symbol_id_cmp q e.0) ≡ b → cond b (Some e.1) (value_at symbol_id_cmp es q) ≡ Some c → Contains (keys_of (e ∷ es)) q
     by_test later true t f = subst (λ z. Contains (keys_of (e ∷ es)) z) (sym (symbol_id_place q e.0 ((Equal-is (symbol_id_cmp q e.0)).0 t))) (first_is e.0 (keys_of es))
     by_test later false t f = Contains-append_right (e.0 ∷ []) (keys_of es) q (later f)
 
-known-tells : (key : Key) (id : SymbolId) (c : Cell (List ℕ)) → IsKnown c → symbol_fact key id (Some c) ≢ None
-known-tells key id Absent k = λ e. k refl
-known-tells key id (One b) k = λ e. cc
-known-tells key id Conflict k = λ e. cc
-
 pub ids_told : {n : ℕ} (F : List Fact) (key : Key) (x : Object n) → IsTold F key x → (id : SymbolId) → Contains (keys_of x.symbols) id ↔ (fact_at F (symbol_address key id) ≢ None)
 ids_told F key x t id = (
   (λ c.
       let r = id_found x.symbols id t.object.symbols_are.ordered c in
       let k = each-value_at symbol_id_cmp IsKnown x.symbols id r.0 t.object.symbols_are.each r.1 in
-      λ e. known-tells key id r.0 k (sym (t.each id ∙ ap (symbol_fact key id) r.1) ∙ e)),
+      λ e. known-fact key id r.0 k (sym (t.each id ∙ ap (symbol_fact key id) r.1) ∙ e)),
   (λ h. by_found h (value_at symbol_id_cmp x.symbols id) refl),
 )
   where

@@ -2,18 +2,16 @@
 use Rattle.std.proofs.Common.{◌≡◌, ℕ, zero, suc, ◌+◌, ◌-◌, ◌<◌, ◌≤◌, ◌^◌, Bool, true, false, cond, List, [], ◌∷◌, ◌++◌, length, map, Option, Some, None, refl, sym, ap, ◌∙◌, subst, arith}
 use Rattle.std.specs.Prelude.{filter, flat_map, option_map}
 use Rattle.std.specs.List.{range_with_len, cons_option}
+use Rattle.std.proofs.lemmas.List.{nil_from_length}
 use Rattle.flute_join.specs.JoinMap.{value_at}
 use Rattle.flute_join.specs.declared.cell.Cell.{Cell}
 use Rattle.flute_join.specs.declared.cell.Cell.TheVariants.{One}
 use Rattle.flute_parts.specs.Information.{Information}
 use Rattle.flute_parts.specs.Order.{symbol_id_cmp}
-use Rattle.flute_parts.specs.Addresses.{info_address}
-use Rattle.flute_parts.specs.Facts.{fact_at}
 use Rattle.flute_parts.specs.Partition.{symbol_id, ids}
 use Rattle.flute_parts.specs.declared.key.Key.{Key}
 use Rattle.flute_parts.specs.declared.symbol_id.SymbolId.{SymbolId}
 use Rattle.flute_parts.specs.declared.fact.Fact.{Fact}
-use Rattle.flute_parts.specs.declared.fact.Fact.TheVariants.{Info, InfoConflict}
 use Rattle.flute_store.specs.declared.gap.Reason.{Reason}
 use Rattle.flute_store.specs.declared.gap.Reason.TheVariants.{Missing, Conflicting, Misfit}
 use Rattle.flute_store.specs.declared.gap.Gap.{Gap}
@@ -21,11 +19,11 @@ use Rattle.flute_store.specs.declared.object.Object.{Object}
 use Rattle.flute_store.specs.declared.status.Wanted.{Wanted}
 use Rattle.flute_store.specs.Objects.{Whole, wants, runs, listed, same_reason, AreRuns}
 use Rattle.flute_store.specs.Wanted.{want_cell, with_reason, wanted}
-use Rattle.flute_store.specs.Found.{cell_fact, IsTold}
+use Rattle.flute_store.specs.Found.{IsTold}
 use Rattle.flute_store.specs.Status.{how_many, IsCount, Adds, IsPartial}
 use Rattle.flute_store.proofs.Runs.{runs-are, runs-listed}
 use Rattle.flute_store.proofs.WholeObjects.{gapless-whole}
-use Rattle.flute_store.proofs.ToldObjects.{wants-told}
+use Rattle.flute_store.proofs.ToldObjects.{wants-told, told-information}
 
 abbrev Want : Type 0
 Want = SymbolId × Reason
@@ -152,13 +150,6 @@ module _ {n : ℕ} (F : List Fact) (key : Key) (x : Object n) (info : Informatio
   are_wants : flat_map listed gs ≡ wants F key info
   are_wants = ap (flat_map listed) g ∙ runs-listed (wanted info held (ids info)) ∙ ap (λ s. wanted info s (ids info)) h ∙ sym (wants-told F key x info t)
 
-  one_information : fact_at F (info_address key) ≡ Some (Info key info)
-  one_information = t.info ∙ ap (cell_fact (Info key) (InfoConflict key)) e
-
-  no_want : (ws : List Want) → length ws ≡ 0 → ws ≡ []
-  no_want [] l = refl
-  no_want (w ∷ ws) l = absurd (omega (arith, l))
-
   total : length (wants F key info) ≡ count.missing + count.conflicting + count.misfit
   total =
       let a = how-all (flat_map listed gs) in
@@ -168,12 +159,12 @@ module _ {n : ℕ} (F : List Fact) (key : Key) (x : Object n) (info : Informatio
 
   pub is-whole : count.missing ≡ 0 → count.conflicting ≡ 0 → count.misfit ≡ 0 → Whole F key info
   unfolding runs
-  is-whole a b d = let s = total in gapless-whole F key info one_information (ap runs (no_want (wants F key info) (omega (arith, s, a, b, d))))
+  is-whole a b d = let s = total in gapless-whole F key info (told-information F key x info t e) (ap runs (nil_from_length (wants F key info) (omega (arith, s, a, b, d))))
 
   pub is-partial : (count.missing ≡ 0 → count.conflicting ≡ 0 → count.misfit ≡ 0 → ⊥) → IsPartial F key count.missing count.conflicting count.misfit
   is-partial z = record {
     info = info;
-    information = one_information;
+    information = told-information F key x info t e;
     some = λ w. let s = total in let l : length (wants F key info) ≡ 0 = ap (λ (x : List Want). length x) w in z (omega (arith, s, l)) (omega (arith, s, l)) (omega (arith, s, l));
     missing_are = c.missing ∙ ap (how_many Missing) are_wants;
     conflicting_are = c.conflicting ∙ ap (how_many Conflicting) are_wants;

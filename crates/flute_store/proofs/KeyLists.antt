@@ -10,8 +10,8 @@ use Rattle.std.specs.List.Sorted.{IsStrictlySortedBy}
 use Rattle.std.proofs.lemmas.Cmp.{tied_itself}
 use Rattle.std.proofs.lemmas.List.Elements.{Contains-append_left, Contains-append_right, Contains-append_cases}
 use Rattle.std.proofs.lemmas.Map.Keys.{sorted_tail}
+use Rattle.std.proofs.lemmas.Option.{none-some}
 use Rattle.flute_join.specs.JoinMap.{value_at, IsOrdered, EachValue}
-use Rattle.flute_join.proofs.Single.{none_is_not_some}
 use Rattle.flute_parts.specs.Session.{Session}
 use Rattle.flute_parts.specs.declared.object_key.ObjectName.{ObjectName}
 use Rattle.flute_parts.specs.declared.key.Key.{Key}
@@ -86,7 +86,7 @@ module _ {X : Type 0} where
   ]
 
   session_has : (s : Session) (es : List (ObjectName × X)) (o : ObjectName) (v : X) → value_at object_cmp es o ≡ Some v → Contains (session_keys s es) (key_of s o)
-  session_has s [] o v f = absurd (none_is_not_some v f)
+  session_has s [] o v f = absurd (none-some v f)
   session_has s (e ∷ es) o v f = by_test (λ g. session_has s es o v g) (is_eq (object_cmp o e.0)) refl f
     where
       by_test : (value_at object_cmp es o ≡ Some v → Contains (session_keys s es) (key_of s o)) → (b : Bool) → is_eq (object_cmp o e.0) ≡ b → cond b (Some e.1) (value_at object_cmp es o) ≡ Some v → Contains (session_keys s (e ∷ es)) (key_of s o)
@@ -117,7 +117,7 @@ module _ {n : ℕ} where
 
   store_has : (m : List (Session × List (ObjectName × Object n))) (s : Session) (o : ObjectName) (os : List (ObjectName × Object n)) (x : Object n)
       → value_at session_cmp m s ≡ Some os → value_at object_cmp os o ≡ Some x → Contains (store_keys m) (key_of s o)
-  store_has [] s o os x f h = absurd (none_is_not_some os f)
+  store_has [] s o os x f h = absurd (none-some os f)
   store_has (e ∷ m) s o os x f h = by_test (λ g. store_has m s o os x g h) (is_eq (session_cmp s e.0)) refl f
     where
       by_test : (value_at session_cmp m s ≡ Some os → Contains (store_keys m) (key_of s o)) → (b : Bool) → is_eq (session_cmp s e.0) ≡ b → cond b (Some e.1) (value_at session_cmp m s) ≡ Some os → Contains (store_keys (e ∷ m)) (key_of s o)

@@ -1,5 +1,5 @@
 -- What comes next on a walk, and what is left then.
-use Rattle.std.proofs.Common.{◌≡◌, ◌≢◌, ℕ, ◌+◌, ◌<◌, ◌≤◌, Bool, true, false, cond, List, [], ◌∷◌, ◌++◌, length, drop, Option, Some, None, refl, sym, ap, ◌∙◌, subst, inl, inr, arith, append_assoc, ◌-◌}
+use Rattle.std.proofs.Common.{◌≡◌, ◌≢◌, ℕ, ◌+◌, ◌<◌, ◌≤◌, Bool, cond, List, [], ◌∷◌, ◌++◌, length, drop, Option, Some, None, refl, sym, ap, ◌∙◌, subst, inl, inr, arith, append_assoc, ◌-◌}
 use Rattle.std.specs.Prelude.{◌==◌, option_map}
 use Rattle.std.specs.List.{cons_option}
 use Rattle.std.specs.Map.{keys_of}
@@ -7,8 +7,7 @@ use Rattle.std.specs.declared.cmp.Ordering.{Ordering}
 use Rattle.std.specs.declared.cmp.Ordering.TheVariants.{Less, Equal, Greater}
 use Rattle.std.specs.List.Sorted.{IsStrictlySortedBy}
 use Rattle.std.specs.Ordering.{match_ordering}
-use Rattle.std.proofs.lemmas.Bool.{cases_Bool}
-use Rattle.std.proofs.lemmas.Bool.Decides.{nat_tests}
+use Rattle.std.proofs.lemmas.Bool.{cases_Bool, eqb-true, eqb-false, ne_eqb, eq-eqb}
 use Rattle.std.proofs.lemmas.Map.Keys.{sorted_tail}
 use Rattle.flute_join.specs.Cell.{IsKnown}
 use Rattle.flute_join.specs.JoinMap.{IsOrdered, EachValue}
@@ -58,12 +57,6 @@ Tells w Fitting = AtHere w None
 Tells w (Wanted reason) = AtHere w (Some reason)
 Tells w NotHeld = (w.esi ≢ w.size) × FirstAfter (here w) w.held
 
-equal_numbers : (m n : ℕ) → (m == n) ≡ true → m ≡ n
-equal_numbers m n h = grind (arith, nat_tests)
-
-other_numbers : (m n : ℕ) → (m == n) ≡ false → m ≢ n
-other_numbers m n h = grind (arith, nat_tests)
-
 tells-wanted : (w : GapWalk) (o : Option Reason) → AtHere w o → Tells w (look_wanted o)
 tells-wanted w None h = h
 tells-wanted w (Some r) h = h
@@ -84,13 +77,13 @@ unfolding look_of
 tells w = elim (cases_Bool (w.esi == w.size)) [
   | inr f ↦
       subst (λ b. Tells w (cond b (cond (w.begun == length (sizes w.partition)) End BlockEnd) (look_held w.partition (here w) w.held))) (sym f)
-      (tells-held w w.held refl (other_numbers w.esi w.size f))
+      (tells-held w w.held refl (eqb-false w.esi w.size f))
   | inl t ↦
-      let e = equal_numbers w.esi w.size t in
+      let e = eqb-true w.esi w.size t in
       subst (λ b. Tells w (cond b (cond (w.begun == length (sizes w.partition)) End BlockEnd) (look_held w.partition (here w) w.held))) (sym t)
       (elim (cases_Bool (w.begun == length (sizes w.partition))) [
-        | inl u ↦ subst (λ b. Tells w (cond b End BlockEnd)) (sym u) (e, equal_numbers w.begun (length (sizes w.partition)) u)
-        | inr u ↦ subst (λ b. Tells w (cond b End BlockEnd)) (sym u) (e, other_numbers w.begun (length (sizes w.partition)) u)
+        | inl u ↦ subst (λ b. Tells w (cond b End BlockEnd)) (sym u) (e, eqb-true w.begun (length (sizes w.partition)) u)
+        | inr u ↦ subst (λ b. Tells w (cond b End BlockEnd)) (sym u) (e, eqb-false w.begun (length (sizes w.partition)) u)
       ])
 ]
 
@@ -266,24 +259,15 @@ step-begin w p t s =
 
 pub look-end : (w : GapWalk) → w.esi ≡ w.size → w.begun ≡ length (sizes w.partition) → End ≡ look_of w
 unfolding look_of
-look-end w e f = sym (ap (λ b. cond b (cond (w.begun == length (sizes w.partition)) End BlockEnd) (look_held w.partition (here w) w.held)) (is_same w.esi w.size e) ∙ ap (λ b. cond b End BlockEnd) (is_same w.begun (length (sizes w.partition)) f))
-  where
-    is_same : (m n : ℕ) → m ≡ n → (m == n) ≡ true
-    is_same m n h = grind (arith, nat_tests)
-
-is_other : (m n : ℕ) → m ≢ n → (m == n) ≡ false
-is_other m n h = grind (arith, nat_tests)
+look-end w e f = sym (ap (λ b. cond b (cond (w.begun == length (sizes w.partition)) End BlockEnd) (look_held w.partition (here w) w.held)) (eq-eqb w.esi w.size e) ∙ ap (λ b. cond b End BlockEnd) (eq-eqb w.begun (length (sizes w.partition)) f))
 
 pub look-block_end : (w : GapWalk) → w.esi ≡ w.size → w.begun ≢ length (sizes w.partition) → BlockEnd ≡ look_of w
 unfolding look_of
-look-block_end w e f = sym (ap (λ b. cond b (cond (w.begun == length (sizes w.partition)) End BlockEnd) (look_held w.partition (here w) w.held)) (is_same w.esi w.size e) ∙ ap (λ b. cond b End BlockEnd) (is_other w.begun (length (sizes w.partition)) f))
-  where
-    is_same : (m n : ℕ) → m ≡ n → (m == n) ≡ true
-    is_same m n h = grind (arith, nat_tests)
+look-block_end w e f = sym (ap (λ b. cond b (cond (w.begun == length (sizes w.partition)) End BlockEnd) (look_held w.partition (here w) w.held)) (eq-eqb w.esi w.size e) ∙ ap (λ b. cond b End BlockEnd) (ne_eqb w.begun (length (sizes w.partition)) f))
 
 look-inside : (w : GapWalk) (held : List Entry) → w.esi ≢ w.size → w.held ≡ held → look_held w.partition (here w) held ≡ look_of w
 unfolding look_of
-look-inside w held i h = ap (look_held w.partition (here w)) (sym h) ∙ sym (ap (λ b. cond b (cond (w.begun == length (sizes w.partition)) End BlockEnd) (look_held w.partition (here w) w.held)) (is_other w.esi w.size i))
+look-inside w held i h = ap (look_held w.partition (here w)) (sym h) ∙ sym (ap (λ b. cond b (cond (w.begun == length (sizes w.partition)) End BlockEnd) (look_held w.partition (here w) w.held)) (ne_eqb w.esi w.size i))
 
 pub look-none : (w : GapWalk) → w.esi ≢ w.size → w.held ≡ [] → NotHeld ≡ look_of w
 look-none w i h = look-inside w [] i h

@@ -17,12 +17,11 @@ use Rattle.flute_parts.specs.declared.fact.Fact.{Fact}
 use Rattle.flute_parts.specs.Addresses.{info_address, symbol_address}
 use Rattle.flute_parts.specs.Facts.{fact_at}
 use Rattle.flute_parts.specs.Order.{session_cmp, object_cmp, symbol_id_cmp}
-use Rattle.flute_parts.proofs.Facts.{Contains-from}
+use Rattle.flute_parts.proofs.Facts.{Contains-from, fact_at-nil}
 use Rattle.flute_store.specs.declared.object.Object.{Object}
 use Rattle.flute_store.specs.ObjectJoin.{ObjectNeedsMemory}
 use Rattle.flute_store.specs.Content.{key_of, info_facts, symbol_facts, object_facts, session_facts, content}
 use Rattle.flute_store.specs.Memory.{HasNew}
-use Rattle.flute_store.proofs.At.{at-nothing}
 use Rattle.flute_store.proofs.StoreJoin.{object-info}
 use Rattle.flute_store.proofs.Counting.{at-content, at-session, at-object}
 use Rattle.flute_store.proofs.Exceeding.{SolidSession, SolidObject, SolidStore, ordered_session, ordered_store, a_fact, first_object, object_stands, info_stands, at-held, symbol_stands}
@@ -53,7 +52,7 @@ module _ {n : ℕ} (m w : List (Session × List (ObjectName × Object n))) (p : 
           let key = key_of s o in
           from_address (content m) (content w) (info_address key)
           (λ z. info_stands key y.info (has_value y.info v) (sym (at-held w q s ws g o y k InfoPart ∙ object-info key y) ∙ z))
-          (at-held m p s os f o x h InfoPart ∙ object-info key x ∙ ap (λ c. fact_at (info_facts key c) (info_address key)) e ∙ at-nothing (info_address key))
+          (at-held m p s os f o x h InfoPart ∙ object-info key x ∙ ap (λ c. fact_at (info_facts key c) (info_address key)) e ∙ fact_at-nil (info_address key))
 
       new_symbol : (id : SymbolId) (d : Cell (List ℕ)) → value_at symbol_id_cmp y.symbols id ≡ Some d → (found : Option (Cell (List ℕ))) → value_at symbol_id_cmp x.symbols id ≡ found
           → ForSome found (λ c. CellNeedsMemory c d) → HasNew (content m) (content w)
@@ -67,7 +66,7 @@ module _ {n : ℕ} (m w : List (Session × List (ObjectName × Object n))) (p : 
         where
           nothing : (found : Option (Cell (List ℕ))) → ForSome found (λ c. CellNeedsMemory c d) → option_map_or (λ c. fact_at (symbol_facts (key_of s o) id c) (symbol_address (key_of s o) id)) found None ≡ None
           nothing None needs = refl
-          nothing (Some c) needs = ap (λ c. fact_at (symbol_facts (key_of s o) id c) (symbol_address (key_of s o) id)) (needs c refl).0 ∙ at-nothing (symbol_address (key_of s o) id)
+          nothing (Some c) needs = ap (λ c. fact_at (symbol_facts (key_of s o) id c) (symbol_address (key_of s o) id)) (needs c refl).0 ∙ fact_at-nil (symbol_address (key_of s o) id)
 
       new_in_object : ObjectNeedsMemory x y → HasNew (content m) (content w)
       new_in_object (inl needs) = new_info needs

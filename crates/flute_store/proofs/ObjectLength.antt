@@ -1,10 +1,11 @@
 -- A whole object has as many bytes as its transfer length says.
-use Rattle.std.proofs.Common.{◌≡◌, ℕ, zero, suc, ◌+◌, ◌-◌, ◌*◌, ◌<◌, ◌≤◌, ◌||◌, ◌&&◌, Bool, true, false, List, [], ◌∷◌, length, get_or, take, Some, refl, sym, ap, ◌∙◌, subst, inl, inr, ◌⊎◌, arith}
+use Rattle.std.proofs.Common.{◌≡◌, ℕ, zero, suc, ◌+◌, ◌-◌, ◌*◌, ◌<◌, ◌≤◌, ◌&&◌, true, List, [], ◌∷◌, length, get_or, take, Some, refl, sym, ap, ◌∙◌, subst, inl, inr, ◌⊎◌, arith}
 use Rattle.std.specs.Prelude.{flat_map, ◌==◌}
-use Rattle.std.proofs.lemmas.Bool.Decides.{nat_tests}
 use Rattle.std.proofs.lemmas.Grind.{div_ceil_times}
 use Rattle.std.proofs.lemmas.List.{length-append, length-take-le}
 use Rattle.std.proofs.lemmas.Option.{slice_get-get_or}
+use Rattle.std.proofs.Math.Nat.{eq-zero-or-pos}
+use Rattle.std.proofs.lemmas.Bool.{eqb-true, or_cases}
 use Rattle.flute_parts.specs.Equality.{both}
 use Rattle.flute_parts.specs.Information.{Information, symbol_count, IsValid}
 use Rattle.flute_parts.specs.Addresses.{symbol_address}
@@ -14,7 +15,7 @@ use Rattle.flute_parts.specs.declared.key.Key.{Key}
 use Rattle.flute_parts.specs.declared.symbol_id.SymbolId.{SymbolId}
 use Rattle.flute_parts.specs.declared.fact.Fact.{Fact}
 use Rattle.flute_parts.proofs.Division.{div_ceil-pos}
-use Rattle.flute_parts.proofs.Split.{cases_zero, places-inverse, ids_counted}
+use Rattle.flute_parts.proofs.Split.{places-inverse, ids_counted}
 use Rattle.flute_store.specs.Objects.{Whole, bytes_of, object}
 
 -- each symbol has e bytes, or is the last and has m
@@ -44,13 +45,6 @@ length-each f e m x (y ∷ ys) l h =
       | inr p ↦ absurd (omega (arith, p.0))
     ]
 
-either : (a b : Bool) → (a || b) ≡ true → (a ≡ true) ⊎ (b ≡ true)
-either true b h = inl refl
-either false b h = inr h
-
-is_equal : (m n : ℕ) → (m == n) ≡ true → m ≡ n
-is_equal m n t = grind (arith, nat_tests)
-
 -- how long a symbol is that fits
 fits-length : (info : Information) (id : SymbolId) (n k : ℕ) → IsValid info → k < length (ids info) → get_or (ids info) k id ≡ id → fits info id n ≡ true → (n ≡ info.symbol_length) ⊎ ((k + 1 ≡ length (ids info)) × (n ≡ last_length info))
 unfolding fits
@@ -58,11 +52,11 @@ fits-length info id n k v l g h =
     let at_k : place info id ≡ Some k = (places-inverse info id k).1 (slice_get-get_or (ids info) k id l ∙ ap Some g) in
     let count = ids_counted info v in
     let told : fits_at info (Some k) n ≡ true = sym (ap (λ p. fits_at info p n) at_k) ∙ h in
-    elim (either (n == info.symbol_length) ((k + 1 == symbol_count info) && (n == last_length info)) told) [
-      | inl p ↦ inl (is_equal n info.symbol_length p)
+    elim (or_cases (n == info.symbol_length) ((k + 1 == symbol_count info) && (n == last_length info)) told) [
+      | inl p ↦ inl (eqb-true n info.symbol_length p)
       | inr p ↦
           let q = both (k + 1 == symbol_count info) (n == last_length info) p in
-          inr (is_equal (k + 1) (symbol_count info) q.0 ∙ sym count, is_equal n (last_length info) q.1)
+          inr (eqb-true (k + 1) (symbol_count info) q.0 ∙ sym count, eqb-true n (last_length info) q.1)
     ]
 
 symbol_bytes : List Fact → Key → SymbolId → List ℕ
@@ -103,7 +97,7 @@ enough info f (x ∷ xs) c p l h =
 
 pub object-length : (F : List Fact) (key : Key) (info : Information) → IsValid info → Whole F key info → length (object F key info) ≡ info.transfer_length
 unfolding object symbol_bytes
-object-length F key info v w = elim (cases_zero info.transfer_length) [
+object-length F key info v w = elim (eq-zero-or-pos info.transfer_length) [
   | inl z ↦ none info.transfer_length (flat_map (λ id. bytes_of (fact_at F (symbol_address key id))) (ids info)) z
   | inr l ↦
       let h = v.parts l in

@@ -7,13 +7,14 @@ use Rattle.std.specs.Cmp.{IsTotalOrder}
 use Rattle.std.specs.Map.{set_value}
 use Rattle.std.specs.BTreeMap.{is_at, insert_entry}
 use Rattle.std.proofs.lemmas.Map.{length-set_value}
+use Rattle.std.proofs.lemmas.Option.{none-some}
 use Rattle.flute_join.specs.Semilattice.{IsJoin, IsBelow}
 use Rattle.flute_join.specs.JoinMap.{map_join, value_at, IsOrdered, EachValue, IsSound}
 use Rattle.flute_join.specs.MapLaws.{map_join_laws}
 use Rattle.flute_join.proofs.Below.{below_join}
 use Rattle.flute_join.proofs.Ordered.{ordered-map_join}
 use Rattle.flute_join.proofs.Sound.{each-set_value, each-insert_entry, some_above}
-use Rattle.flute_join.proofs.Single.{none_is_not_some, single_held, single_new, length_new}
+use Rattle.flute_join.proofs.Single.{single_held, single_new, length_new}
 use Rattle.flute_join.proofs.Walk.{ordered_one}
 use Rattle.flute_join.specs.Cell.{cell_join, IsKnown}
 use Rattle.flute_join.specs.declared.cell.Cell.{Cell}
@@ -30,7 +31,7 @@ module _ {K X : Type 0} (cmp : K → K → Ordering) (B : X → Type 0) where
   found_any false e es fs o v w f p h = inr (h f)
 
   pub any-set_value : (es : List (K × X)) (k : K) (v w : X) → value_at cmp es k ≡ Some v → B w → AnyValue B (set_value (is_at (cmp k)) es w)
-  any-set_value [] k v w f p = absurd (none_is_not_some v f)
+  any-set_value [] k v w f p = absurd (none-some v f)
   any-set_value (e ∷ es) k v w f p = found_any (is_at (cmp k) e.0) e es (set_value (is_at (cmp k)) es w) (value_at cmp es k) v w f p (λ g. any-set_value es k v w g p)
 
   put_any : (r : Ordering) (k : K) (e : K × X) (es fs : List (K × X)) (w : X) → B w → AnyValue B fs → AnyValue B (match_ordering r ((k, w) ∷ e ∷ es) ((e.0, w) ∷ es) (e ∷ fs))

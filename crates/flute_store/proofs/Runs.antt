@@ -10,7 +10,7 @@ use Rattle.flute_store.specs.declared.gap.Reason.TheVariants.{Missing, Conflicti
 use Rattle.flute_store.specs.declared.gap.Gap.{Gap}
 use Rattle.flute_parts.specs.Partition.{symbol_id}
 use Rattle.flute_store.specs.Objects.{same_reason, goes_on, one, before, runs, listed, IsApart, AreRuns}
-use Rattle.flute_parts.specs.Equality.{both}
+use Rattle.flute_parts.specs.Equality.{both, eqb_itself}
 use Rattle.std.proofs.lemmas.Bool.{cases_Bool}
 use Rattle.flute_store.proofs.Lookups.{Elsewhere}
 
@@ -123,13 +123,10 @@ apart-from : (n a b l : ℕ) (r : Reason) (gaps : List Gap) → IsApart (gap n a
 apart-from n a b l r [] s = tt
 apart-from n a b l r (h ∷ gaps) s = s
 
-eqb_true : (n : ℕ) → (n == n) ≡ true
-eqb_true n = grind (arith, nat_tests)
-
 goes_on-next : (n a l : ℕ) (r : Reason) → goes_on (gap n a a r) (gap n (a + 1) l r) ≡ true
 goes_on-next n a l r =
-    ap (λ b. b && ((a + 1 == a + 1) && same_reason r r)) (eqb_true n)
-    ∙ ap (λ b. b && same_reason r r) (eqb_true (a + 1))
+    ap (λ b. b && ((a + 1 == a + 1) && same_reason r r)) (eqb_itself n)
+    ∙ ap (λ b. b && same_reason r r) (eqb_itself (a + 1))
     ∙ reason_itself r
 
 -- the symbols of a gap before others are that gap before the others' runs, where it does not go on in those

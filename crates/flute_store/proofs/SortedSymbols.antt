@@ -5,6 +5,7 @@ use Rattle.std.specs.List.{range_with_len, enumerate_from, AllByRecursion}
 use Rattle.std.specs.declared.cmp.Ordering.TheVariants.{Less, Equal}
 use Rattle.std.specs.Ordering.{nat_cmp, ordering_then}
 use Rattle.std.proofs.lemmas.Bool.Decides.{nat_tests}
+use Rattle.std.proofs.Math.Seq.{drop-length}
 use Rattle.flute_parts.specs.Information.{Information, sizes}
 use Rattle.flute_parts.specs.Order.{symbol_id_cmp}
 use Rattle.flute_parts.specs.Partition.{symbol_id, block_ids, ids}
@@ -76,13 +77,9 @@ blocks_from-next info n l =
     ∙ ap (λ k. map (symbol_id n) (range_with_len 0 k) ++ flat_map block_ids (enumerate_from (n + 1) (drop (suc n) (sizes info)))) e
     ∙ ap (λ k. map (symbol_id n) (range_with_len 0 (get_or (sizes info) n 0 - 0)) ++ flat_map block_ids (enumerate_from (n + 1) (drop k (sizes info)))) f
 
-drop_all : (xs : List ℕ) → drop (length xs) xs ≡ []
-drop_all [] = refl
-drop_all (x ∷ xs) = drop_all xs
-
 pub blocks_from-end : (info : Information) → blocks_from info (length (sizes info)) ≡ []
 unfolding blocks_from
-blocks_from-end info = ap (λ xs. flat_map block_ids (enumerate_from (length (sizes info)) xs)) (drop_all (sizes info))
+blocks_from-end info = ap (λ xs. flat_map block_ids (enumerate_from (length (sizes info)) xs)) (drop-length (sizes info))
 
 pub blocks_from-all : (info : Information) → blocks_from info 0 ≡ ids info
 unfolding blocks_from ids

@@ -17,7 +17,7 @@ use Rattle.flute_parts.specs.Addresses.{info_address, symbol_address}
 use Rattle.flute_parts.specs.Facts.{fact_at, Same, Below, same_information}
 use Rattle.flute_parts.specs.Equality.{session_place, object_place, symbol_id_place, key_itself, symbol_id_itself}
 use Rattle.flute_parts.proofs.Joined.{joined, joined-none, fact_at-append}
-use Rattle.flute_parts.proofs.Facts.{Below-trans, Below-from_Same}
+use Rattle.flute_parts.proofs.Facts.{Below-trans, Below-from_Same, Same-sym}
 use Rattle.flute_join.specs.Cell.{cell_join}
 use Rattle.flute_join.specs.JoinMap.{IsOrdered, EachValue}
 use Rattle.flute_join.specs.declared.cell.Cell.{Cell}
@@ -78,9 +78,6 @@ symbols-info key es = elsewhere-none (info_address key) (symbols_facts key es) (
 
 info-symbol : (key : Key) (id : SymbolId) (c : Cell Information) → fact_at (info_facts key c) (symbol_address key id) ≡ None
 info-symbol key id c = elsewhere-none (symbol_address key id) (info_facts key c) (elsewhere-info (symbol_address key id) key (not_symbol key key id) c)
-
-pub Same-swapped : (F G : List Fact) → Same F G → Same G F
-Same-swapped F G h = record { each = λ a. sym (h.each a) }
 
 pub EachValue-weaker : {K X : Type 0} (P Q : X → Type 0) → ((x : X) → P x → Q x) → (es : List (K × X)) → EachValue P es → EachValue Q es
 EachValue-weaker P Q h [] a = tt
@@ -179,7 +176,7 @@ module _ {n : ℕ} where
 
   -- the content of a lower store is below
   pub content-below : (v w : List (Session × List (ObjectName × Object n))) → OrderedStore v → OrderedStore w → IsBelow store_join v w → Below (content v) (content w)
-  content-below v w p q b = subst (λ m. Same (content v ++ content w) (content m)) b (Same-swapped (content (store_join v w)) (content v ++ content w) (content-join v w p q))
+  content-below v w p q b = subst (λ m. Same (content v ++ content w) (content m)) b (Same-sym (content (store_join v w)) (content v ++ content w) (content-join v w p q))
 
   pub content-below_join : (u v w : List (Session × List (ObjectName × Object n))) → OrderedStore u → OrderedStore v → OrderedStore w → IsBelow store_join u (store_join v w) → Below (content u) (content v ++ content w)
   content-below_join u v w o p q b =

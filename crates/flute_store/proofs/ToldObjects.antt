@@ -3,7 +3,7 @@ use Rattle.std.proofs.Common.{◌≡◌, ◌≢◌, ℕ, ◌+◌, ◌↔◌, fal
 use Rattle.std.specs.Prelude.{Contains, filter_map, option_map}
 use Rattle.std.specs.List.Sorted.{IsStrictlySortedBy}
 use Rattle.std.specs.Map.{keys_of}
-use Rattle.flute_parts.specs.Addresses.{symbol_address}
+use Rattle.flute_parts.specs.Addresses.{symbol_address, info_address}
 use Rattle.flute_parts.specs.Facts.{fact_at}
 use Rattle.flute_join.specs.JoinMap.{value_at}
 use Rattle.flute_join.specs.declared.cell.Cell.{Cell}
@@ -41,6 +41,9 @@ pub start-left : (info : Information) (held : List (SymbolId × Cell (List ℕ))
 unfolding left
 start-left info held = ap (λ xs. runs (wanted info held xs)) (blocks_from-all info)
 
+pub told-information : {n : ℕ} (F : List Fact) (key : Key) (x : Object n) (info : Information) → IsTold F key x → x.info ≡ One info → fact_at F (info_address key) ≡ Some (Info key info)
+told-information F key x info t e = t.info ∙ ap (cell_fact (Info key) (InfoConflict key)) e
+
 pub gives-gaps : {n : ℕ} (F : List Fact) (key : Key) (x : Object n) (info : Information) (held : List (SymbolId × Cell (List ℕ))) (g : GapsLeft) → IsTold F key x → x.info ≡ One info → held ≡ x.symbols
     → g.gaps ≡ runs (wanted info held (ids info)) → g.held ≡ keys_of held → g.begun ≡ 0 → g.blocks ≡ length (sizes info) → g.ended ≡ false → g.ticks ≡ 0 → g.bound ≡ length (sizes info) + length held + 1 → GivesGaps F key g
 gives-gaps F key x info held g t e h a s u v w b c =
@@ -49,7 +52,7 @@ gives-gaps F key x info held g t e h a s u v w b c =
     let m : length held ≡ length x.symbols = ap (λ (s : List (SymbolId × Cell (List ℕ))). length s) h in
     record {
       info = info;
-      information = t.info ∙ ap (cell_fact (Info key) (InfoConflict key)) e;
+      information = told-information F key x info t e;
       gaps_are = a ∙ ap (λ s. runs (wanted info s (ids info))) h ∙ ap runs (sym (wants-told F key x info t));
       rising = subst (IsStrictlySortedBy symbol_id_cmp) (sym k) t.object.symbols_are.ordered;
       held_are = subst (λ (l : List SymbolId). (id : SymbolId) → Contains l id ↔ (fact_at F (symbol_address key id) ≢ None)) (sym k) (ids_told F key x t);

@@ -8,12 +8,12 @@ use Rattle.std.proofs.lemmas.List.{drop-drop, take_all}
 use Rattle.std.proofs.lemmas.List.Concat.{flat_map-cons}
 use Rattle.std.proofs.lemmas.Option.{slice_get_within, slice_get-get_or, get_or_from_slice_get}
 use Rattle.std.proofs.Math.Seq.{take-add}
-use Rattle.std.proofs.Math.Nat.{mul-le-mul_right}
+use Rattle.std.proofs.Math.Nat.{mul-le-mul_right, eq-zero-or-pos}
 use Rattle.std.proofs.lemmas.Bool.{cases_lt}
 use Rattle.flute_parts.specs.Information.{Information, symbol_count, IsValid}
 use Rattle.flute_parts.specs.Partition.{ids, place, fits, last_length}
 use Rattle.flute_parts.specs.declared.symbol_id.SymbolId.{SymbolId}
-use Rattle.flute_parts.proofs.Split.{ids_counted, cases_zero, places-inverse}
+use Rattle.flute_parts.proofs.Split.{ids_counted, places-inverse}
 use Rattle.flute_parts.proofs.Fits.{fits-means}
 use Rattle.flute_wire.specs.Carousel.{piece, with_piece, symbols_of}
 use Rattle.flute_wire.proofs.Pieces.{symbol_there, begins_within}
@@ -45,7 +45,7 @@ pieces_from i content n (x ∷ xs) =
     ∙ ap (λ (m : ℕ). take m (drop (n * e) content)) (sym longer)
 
 enough : (i : Information) → IsValid i → i.transfer_length ≤ length (ids i) * i.symbol_length
-enough i v = elim (cases_zero i.transfer_length) [
+enough i v = elim (eq-zero-or-pos i.transfer_length) [
   | inl z ↦ omega (arith, z)
   | inr l ↦
       let t = (div_ceil_times i.transfer_length i.symbol_length (v.parts l).symbol).0 in

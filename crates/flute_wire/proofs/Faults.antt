@@ -1,10 +1,11 @@
 -- Why an object is not sent.
-use Rattle.std.proofs.Common.{◌≡◌, ℕ, suc, ◌-◌, ◌*◌, ◌^◌, ◌<◌, ◌≤◌, min, max, inl, inr, List, [], ◌∷◌, ◌++◌, length, drop, Bool, true, false, cond, leb, ltb, Option, Some, None, refl, sym, ap, subst, ◌∙◌, arith}
-use Rattle.std.specs.Prelude.{◌==◌, slice_get}
+use Rattle.std.proofs.Common.{◌≡◌, ℕ, suc, ◌-◌, ◌*◌, ◌^◌, ◌<◌, ◌≤◌, min, max, inl, inr, List, [], ◌∷◌, ◌++◌, length, drop, Bool, false, cond, leb, ltb, Option, Some, None, refl, sym, ap, subst, ◌∙◌, arith}
+use Rattle.std.specs.Prelude.{slice_get}
 use Rattle.std.specs.Option.{option_map, option_or}
-use Rattle.std.proofs.lemmas.Option.{slice_get_within, slice_get_cases, slice_get-get_or}
+use Rattle.std.proofs.lemmas.Option.{slice_get_within, slice_get_cases, slice_get-get_or, same_Some}
 use Rattle.std.proofs.lemmas.List.{length-append, length-take, length-drop}
 use Rattle.std.proofs.lemmas.Bool.Decides.{nat_tests}
+use Rattle.std.proofs.lemmas.Bool.{eq-eqb, ne_eqb, lt-leb, le-ltb}
 use Rattle.flute_parts.specs.Information.{Information, IsValid}
 use Rattle.flute_parts.specs.Partition.{ids}
 use Rattle.flute_parts.specs.declared.symbol_id.SymbolId.{SymbolId}
@@ -21,16 +22,10 @@ use Rattle.flute_wire.proofs.Pieces.{symbol_there, begins_within, length-packets
 faultless : (a b s l : Bool) → a ≡ false → b ≡ false → s ≡ false → l ≡ false → cond a (Some Tsi) (cond b (Some Toi) (cond s (Some EmptySymbol) (cond l (Some TooLong) None))) ≡ None
 faultless a b s l one two three four = rw (one, two, three, four) refl
 
-not_above : (m n : ℕ) → n < m → leb m n ≡ false
-not_above m n h = grind (arith, nat_tests)
-
-not_over : (m n : ℕ) → n ≤ m → ltb m n ≡ false
-not_over m n h = grind (arith, nat_tests)
-
 sent : (c : Content) → IsSent c → write_fault c ≡ None
 sent c p =
     faultless (leb (2 ^ 32) c.tsi) (leb (2 ^ 32) c.toi) (has_no_byte c.symbol) (ltb 65535 (length (spelling c)))
-    (not_above (2 ^ 32) c.tsi p.tsi) (not_above (2 ^ 32) c.toi p.toi) p.symbol (not_over 65535 (length (spelling c)) p.limit)
+    (lt-leb (2 ^ 32) c.tsi p.tsi) (lt-leb (2 ^ 32) c.toi p.toi) p.symbol (le-ltb 65535 (length (spelling c)) p.limit)
 
 -- a packet with a symbol that is no longer can be written too
 shorter : (key : Key) (i : Option Information) (id other : SymbolId) (bytes more : List ℕ) → 0 < length bytes → length bytes ≤ length more
@@ -85,32 +80,23 @@ first_none : (cs : List Content) → ((k : ℕ) (c : Content) → slice_get cs k
 first_none [] each = refl
 first_none (x ∷ cs) each = ap (λ (f : Option WriteFault). option_or f (first_fault cs)) (each 0 x refl) ∙ first_none cs (λ k c h. each (suc k) c h)
 
-same_is : (m n : ℕ) → m ≡ n → (m == n) ≡ true
-same_is m n h = grind (arith, nat_tests)
-
-other_is : (m n : ℕ) → (m ≡ n → ⊥) → (m == n) ≡ false
-other_is m n h = grind (arith, nat_tests)
-
 -- the three answers
 pub wrong_length : (key : Key) (i : Information) (content : List ℕ) → (length content ≡ i.transfer_length → ⊥) → carousel_fault key i content ≡ Some Length
 unfolding carousel_fault
 wrong_length key i content h =
-    ap (λ (b : Bool). cond b (option_map (λ fault. Write fault) (first_fault (packets_of key i content))) (Some Length)) (other_is (length content) i.transfer_length h)
+    ap (λ (b : Bool). cond b (option_map (λ fault. Write fault) (first_fault (packets_of key i content))) (Some Length)) (ne_eqb (length content) i.transfer_length h)
 
 whole_is : (key : Key) (i : Information) (content : List ℕ) → length content ≡ i.transfer_length
     → carousel_fault key i content ≡ option_map (λ fault. Write fault) (first_fault (packets_of key i content))
 unfolding carousel_fault
 whole_is key i content h =
-    ap (λ (b : Bool). cond b (option_map (λ fault. Write fault) (first_fault (packets_of key i content))) (Some Length)) (same_is (length content) i.transfer_length h)
+    ap (λ (b : Bool). cond b (option_map (λ fault. Write fault) (first_fault (packets_of key i content))) (Some Length)) (eq-eqb (length content) i.transfer_length h)
 
 pub first_refused : (key : Key) (i : Information) (content : List ℕ) (fault : WriteFault) → IsValid i → length content ≡ i.transfer_length
     → write_fault (packet_at key (Some i) (slice_get (symbols_of i content) 0)) ≡ Some fault → carousel_fault key i content ≡ Some (Write fault)
 first_refused key i content fault v whole h =
     whole_is key i content whole
     ∙ ap (option_map (λ f. Write f)) (first_some (packets_of key i content) _ fault (packet_there key i content 0 v (omega arith)) h)
-
-one_content : (a b : Content) → Some a ≡ Some b → a ≡ b
-one_content a b h = cc
 
 pub none_refused : (key : Key) (i : Information) (content : List ℕ) → IsValid i → length content ≡ i.transfer_length
     → write_fault (packet_at key (Some i) (slice_get (symbols_of i content) 0)) ≡ None → carousel_fault key i content ≡ None
@@ -121,5 +107,5 @@ none_refused key i content v whole none =
     each k c some =
         let within : k < max (length (ids i)) 1 = omega (arith, slice_get_within (packets_of key i content) k c some, length-packets_of key i content v) in
         let there = packet_there key i content k v within in
-        let is : packet_at key (Some i) (slice_get (symbols_of i content) k) ≡ c = one_content (packet_at key (Some i) (slice_get (symbols_of i content) k)) c (sym there ∙ some) in
+        let is : packet_at key (Some i) (slice_get (symbols_of i content) k) ≡ c = same_Some (packet_at key (Some i) (slice_get (symbols_of i content) k)) c (sym there ∙ some) in
         ap write_fault (sym is) ∙ all_sent key i content k v whole within none

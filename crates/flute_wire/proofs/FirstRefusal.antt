@@ -133,7 +133,7 @@ found_carried d het found es x is P c =
     subst (λ (o : Option (List ℕ)). IsSomeAnd o P) (first_found found (bodies het es) is) (carried d es x (λ es. IsSomeAnd (first (bodies het es)) P) c)
 
 -- a found body that has one property does not have the opposite
-not_both : (found : Option (List ℕ)) (P Q : List ℕ → Type 0) (apart : (b : List ℕ) → P b → Q b → ⊥) → IfSome found P → IsSomeAnd found Q → ⊥
+pub not_both : (found : Option (List ℕ)) (P Q : List ℕ → Type 0) (apart : (b : List ℕ) → P b → Q b → ⊥) → IfSome found P → IsSomeAnd found Q → ⊥
 not_both None P Q apart h k = k
 not_both (Some b) P Q apart h k = apart b h k
 

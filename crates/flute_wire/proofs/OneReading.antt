@@ -1,6 +1,6 @@
 -- A datagram spells one packet at most, and one exactly where no refusal applies.
 use Rattle.std.proofs.Common.{◌≡◌, ℕ, ◌+◌, ◌-◌, ◌<◌, ◌≤◌, ◌⊎◌, List, [], ◌∷◌, ◌++◌, length, take, drop, cond, eqb, Option, Some, None, inl, inr, refl, sym, ap, subst, ◌∙◌, arith}
-use Rattle.std.specs.Prelude.{IfSome, IsSomeAnd, slice_range}
+use Rattle.std.specs.Prelude.{IsSomeAnd, slice_range}
 use Rattle.std.specs.Option.{option_map}
 use Rattle.std.proofs.lemmas.List.{take_at, drop_at, drop-drop, length-append}
 use Rattle.flute_parts.specs.Information.{info_fault}
@@ -15,7 +15,7 @@ use Rattle.flute_wire.specs.Datagram.{Parts, HasParts, IsAccepted, content_of, s
 use Rattle.flute_wire.specs.Refusals.{Applies}
 use Rattle.flute_wire.specs.Reading.{content_by}
 use Rattle.flute_wire.proofs.Walking.{same_extensions}
-use Rattle.flute_wire.proofs.FirstRefusal.{carried}
+use Rattle.flute_wire.proofs.FirstRefusal.{carried, not_both}
 use Rattle.flute_wire.proofs.Spelling.{same_content}
 
 -- a part that stands at place i, and what follows it
@@ -83,10 +83,6 @@ one_packet d a b s t =
 one_only : (bs : List (List ℕ)) → length bs ≤ 1 → 1 < length bs → ⊥
 one_only bs one two = omega arith
 
-apart : (o : Option (List ℕ)) (P Q : List ℕ → Type 0) (no_both : (b : List ℕ) → P b → Q b → ⊥) → IfSome o P → IsSomeAnd o Q → ⊥
-apart None P Q no_both h k = k
-apart (Some b) P Q no_both h k = no_both b h k
-
 some_first : (bs : List (List ℕ)) (P : List ℕ → Type 0) → IsSomeAnd (first bs) P → bs ≡ [] → ⊥
 some_first [] P h e = h
 some_first (b ∷ bs) P h e = cc
@@ -111,10 +107,10 @@ none_by d p h t b x Repeated a =
       | inr rest ↦ elim rest [ inl two ↦ one_only (bodies ext_fdt p.extensions) t.one_fdt two | inr two ↦ one_only (bodies ext_cenc p.extensions) t.one_cenc two ]
     ]
 none_by d p h t b x FtiLength a =
-    apart (first (bodies ext_fti p.extensions)) (λ body. (length body ≡ 15) × (info_fault (fti_information body) ≡ None)) (λ body. length body ≡ 15 → ⊥) (λ body m n. n m.0) t.information
+    not_both (first (bodies ext_fti p.extensions)) (λ body. (length body ≡ 15) × (info_fault (fti_information body) ≡ None)) (λ body. length body ≡ 15 → ⊥) (λ body m n. n m.0) t.information
     (carried d p.extensions x (λ es. IsSomeAnd (first (bodies ext_fti es)) (λ body. length body ≡ 15 → ⊥)) a)
 none_by d p h t b x (Information f) a =
-    apart (first (bodies ext_fti p.extensions)) (λ body. (length body ≡ 15) × (info_fault (fti_information body) ≡ None)) (λ body. info_fault (fti_information body) ≡ Some f) (λ body m n. let e = sym m.1 ∙ n in cc) t.information
+    not_both (first (bodies ext_fti p.extensions)) (λ body. (length body ≡ 15) × (info_fault (fti_information body) ≡ None)) (λ body. info_fault (fti_information body) ≡ Some f) (λ body m n. let e = sym m.1 ∙ n in cc) t.information
     (carried d p.extensions x (λ es. IsSomeAnd (first (bodies ext_fti es)) (λ body. info_fault (fti_information body) ≡ Some f)) a)
 none_by d p h t b x NoInstance a =
     some_first (bodies ext_fdt p.extensions) (λ body. fdt_version body ≡ 2) (t.instance (ap big_endian (sym b.toi) ∙ a.0)) (carried d p.extensions x (λ es. bodies ext_fdt es ≡ []) a.1)
@@ -122,7 +118,7 @@ none_by d p h t b x FluteVersion a =
     both_some (first (bodies ext_fdt p.extensions)) (λ body. fdt_version body ≡ 2) (λ body. fdt_version body ≡ 2 → ⊥) (λ body m n. n m) (t.instance (ap big_endian (sym b.toi) ∙ a.0))
     (carried d p.extensions x (λ es. IsSomeAnd (first (bodies ext_fdt es)) (λ body. fdt_version body ≡ 2 → ⊥)) a.1)
 none_by d p h t b x ContentEncoded a =
-    apart (first (bodies ext_cenc p.extensions)) (λ body. content_encoding body ≡ 0) (λ body. content_encoding body ≡ 0 → ⊥) (λ body m n. n m) t.plain
+    not_both (first (bodies ext_cenc p.extensions)) (λ body. content_encoding body ≡ 0) (λ body. content_encoding body ≡ 0 → ⊥) (λ body m n. n m) t.plain
     (carried d p.extensions x (λ es. IsSomeAnd (first (bodies ext_cenc es)) (λ body. content_encoding body ≡ 0 → ⊥)) a)
 none_by d p h t b x PayloadIdCut a =
     let len = ap length b.tail in

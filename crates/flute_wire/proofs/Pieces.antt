@@ -6,7 +6,7 @@ use Rattle.std.specs.Option.{option_map}
 use Rattle.std.proofs.lemmas.Grind.{div_ceil_times}
 use Rattle.std.proofs.lemmas.Option.{slice_get-map, slice_get_within, slice_get_past}
 use Rattle.std.proofs.lemmas.Bool.Decides.{nat_tests}
-use Rattle.std.proofs.Math.Nat.{mul-le-mul_right}
+use Rattle.std.proofs.Math.Nat.{mul-le-mul_right, eq-zero-or-pos}
 use Rattle.flute_parts.specs.Information.{Information, symbol_count, IsValid}
 use Rattle.flute_parts.specs.Partition.{ids}
 use Rattle.flute_parts.specs.declared.symbol_id.SymbolId.{SymbolId}
@@ -14,7 +14,7 @@ use Rattle.flute_parts.specs.declared.key.Key.{Key}
 use Rattle.std.specs.Int.{div_ceil}
 use Rattle.std.proofs.lemmas.List.{length-map}
 use Rattle.std.proofs.lemmas.List.FromFn.{length-enumerate_from}
-use Rattle.flute_parts.proofs.Split.{ids_counted, cases_zero}
+use Rattle.flute_parts.proofs.Split.{ids_counted}
 use Rattle.flute_parts.proofs.Division.{div_ceil-pos, div_ceil-zero}
 use Rattle.std.specs.Prelude.{flat_map}
 use Rattle.std.proofs.lemmas.List.Concat.{flat_map-cons}
@@ -81,7 +81,7 @@ some_symbol i v h = omega (arith, ids_counted i v, div_ceil-pos i.transfer_lengt
 
 -- a place of the partition begins within the object
 pub begins_within : (i : Information) (k : ℕ) → IsValid i → k < length (ids i) → k * i.symbol_length < i.transfer_length
-begins_within i k v h = elim (cases_zero i.transfer_length) [
+begins_within i k v h = elim (eq-zero-or-pos i.transfer_length) [
   | inl z ↦ absurd (omega (arith, h, ap length (no_symbol i v z)))
   | inr l ↦ below k (symbol_count i) i.symbol_length i.transfer_length (omega (arith, h, ids_counted i v)) (div_ceil_times i.transfer_length i.symbol_length (v.parts l).symbol).1
 ]
@@ -107,7 +107,7 @@ unfolding payloads_of
 payloads_some i content l = ap (λ (b : Bool). cond b (None ∷ []) (map (λ s. Some s) (symbols_of i content))) (not_empty i l)
 
 length-payloads_of : (i : Information) (content : List ℕ) → IsValid i → length (payloads_of i content) ≡ max (length (ids i)) 1
-length-payloads_of i content v = elim (cases_zero i.transfer_length) [
+length-payloads_of i content v = elim (eq-zero-or-pos i.transfer_length) [
   | inl z ↦ omega (arith, ap length (payloads_none i content z), ap length (no_symbol i v z))
   | inr l ↦
       let is = ap length (payloads_some i content l) ∙ length-map (symbols_of i content) (λ s. Some s) ∙ length-symbols_of i content in
@@ -116,7 +116,7 @@ length-payloads_of i content v = elim (cases_zero i.transfer_length) [
 
 payload_there : (i : Information) (content : List ℕ) (k : ℕ) → IsValid i → k < max (length (ids i)) 1
     → slice_get (payloads_of i content) k ≡ Some (slice_get (symbols_of i content) k)
-payload_there i content k v h = elim (cases_zero i.transfer_length) [
+payload_there i content k v h = elim (eq-zero-or-pos i.transfer_length) [
   | inl z ↦
       let none = no_symbol i v z in
       let first : k ≡ 0 = omega (arith, h, ap length none) in
@@ -142,7 +142,7 @@ unfolding packets_of
 packet_there key i content k v h = slice_get-map (packet_at key (Some i)) (payloads_of i content) k ∙ ap (option_map (packet_at key (Some i))) (payload_there i content k v h)
 
 -- one more packet is written
-take_one_more : {X : Type 0} (xs : List X) (k : ℕ) (x : X) → slice_get xs k ≡ Some x → take (k + 1) xs ≡ take k xs ++ x ∷ []
+pub take_one_more : {X : Type 0} (xs : List X) (k : ℕ) (x : X) → slice_get xs k ≡ Some x → take (k + 1) xs ≡ take k xs ++ x ∷ []
 take_one_more [] k x h = absurd (cc)
 take_one_more (y ∷ xs) zero x h = let e : y ≡ x = cc in ap (λ z. z ∷ []) e
 take_one_more (y ∷ xs) (suc k) x h =

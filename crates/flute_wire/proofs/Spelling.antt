@@ -100,7 +100,7 @@ has_parts d es h x =
       extensions = x;
     }
 
-few : (found : Option (List ℕ)) (bs : List (List ℕ)) → bs ≡ option_to_list found → length bs ≤ 1
+pub few : (found : Option (List ℕ)) (bs : List (List ℕ)) → bs ≡ option_to_list found → length bs ≤ 1
 few None bs is = omega (arith, ap length is)
 few (Some b) bs is = omega (arith, ap length is)
 

@@ -3,13 +3,13 @@ use Rattle.std.proofs.Common.{◌≡◌, ℕ, zero, suc, ◌<◌, ◌⊎◌, inl
 use Rattle.std.specs.Prelude.{flat_map, Contains, ◌↔◌}
 use Rattle.std.proofs.lemmas.List.Concat.{flat_map-cons}
 use Rattle.std.proofs.lemmas.List.Folds.{flat_map-map}
+use Rattle.std.proofs.Math.Nat.{eq-zero-or-pos}
 use Rattle.flute_parts.specs.Information.{Information, IsValid}
 use Rattle.flute_parts.specs.declared.symbol_id.SymbolId.{SymbolId}
 use Rattle.flute_parts.specs.declared.key.Key.{Key}
 use Rattle.flute_parts.specs.declared.fact.Fact.{Fact}
 use Rattle.flute_parts.specs.declared.fact.Fact.TheVariants.{Info, Symbol}
 use Rattle.flute_parts.proofs.Facts.{Member, Member-from, Contains-from}
-use Rattle.flute_parts.proofs.Split.{cases_zero}
 use Rattle.flute_wire.specs.Writing.{told}
 use Rattle.flute_wire.specs.Carousel.{symbols_of, facts_sent}
 use Rattle.flute_wire.proofs.Pieces.{payloads_none, payloads_some, length-symbols_of, no_symbol, some_symbol}
@@ -59,20 +59,20 @@ module _ (key : Key) (i : Information) where
 
   only : (content : List ℕ) (f : Fact) → Member f (facts_sent key i content) → IsSent key i (symbols_of i content) f
   unfolding Member
-  only content f m = elim (cases_zero i.transfer_length) [
+  only content f m = elim (eq-zero-or-pos i.transfer_length) [
     | inl z ↦ elim (subst (Member f) (alone content z) m) [ inl info ↦ inl info | inr none ↦ absurd none ]
     | inr l ↦ from_both (symbols_of i content) f (subst (Member f) (each content l) m)
   ]
 
   all : (content : List ℕ) (f : Fact) → IsValid i → IsSent key i (symbols_of i content) f → Member f (facts_sent key i content)
   unfolding Member
-  all content f v (inl info) = elim (cases_zero i.transfer_length) [
+  all content f v (inl info) = elim (eq-zero-or-pos i.transfer_length) [
     | inl z ↦ subst (Member f) (sym (alone content z)) (inl info)
     | inr l ↦
         let some : 0 < length (symbols_of i content) = omega (arith, length-symbols_of i content, some_symbol i v l) in
         subst (λ g. Member g (facts_sent key i content)) (sym info) (subst (Member (Info key i)) (sym (each content l)) (to_info (symbols_of i content) some))
   ]
-  all content f v (inr (s, c, e)) = elim (cases_zero i.transfer_length) [
+  all content f v (inr (s, c, e)) = elim (eq-zero-or-pos i.transfer_length) [
     | inl z ↦ absurd (omega (arith, c.1, length-symbols_of i content, ap length (no_symbol i v z)))
     | inr l ↦ subst (λ g. Member g (facts_sent key i content)) (sym e) (subst (Member (Symbol key s.0 s.1)) (sym (each content l)) (to_symbol (symbols_of i content) s c))
   ]

@@ -23,8 +23,9 @@ use Rattle.flute_wire.specs.Encoding.{HasFittingId, HasFittingInformation, IsEnc
 use Rattle.flute_wire.proofs.BigEndian.{big_from-whole}
 use Rattle.flute_wire.specs.Facts.{object_of, key_of}
 use Rattle.flute_wire.specs.Reading.{facts}
-use Rattle.flute_wire.proofs.Spelling.{same_content}
+use Rattle.flute_wire.proofs.Spelling.{same_content, few}
 use Rattle.flute_wire.proofs.Computed.{facts-Spells}
+use Rattle.flute_wire.proofs.FirstRefusal.{first_found}
 use Rattle.flute_parts.proofs.Division.{fault-none}
 
 -- a number in enough bytes is that number
@@ -118,14 +119,6 @@ has_parts c =
       extensions = extensions_are c.instance c.info;
     }
 
-one_at_most : (o : Option (List ℕ)) (bs : List (List ℕ)) → bs ≡ option_to_list o → length bs ≤ 1
-one_at_most None bs is = omega (arith, ap length is)
-one_at_most (Some b) bs is = omega (arith, ap length is)
-
-the_first : (o : Option (List ℕ)) (bs : List (List ℕ)) → bs ≡ option_to_list o → first bs ≡ o
-the_first None bs is = ap first is
-the_first (Some b) bs is = ap first is
-
 -- EXT_FTI says the numbers again
 information_again : (i : Information) → i.transfer_length < 2 ^ 48 → i.symbol_length < 2 ^ 16 → i.max_block_length < 2 ^ 32 → fti_information (fti_body i) ≡ i
 information_again i l e b =
@@ -216,8 +209,8 @@ spelled c e z none =
     let i = c.info in
     let f = fields_are n i in
     let es = fdt_extensions n ++ fti_extensions i in
-    let fti_is : first (bodies ext_fti es) ≡ option_map fti_body i = the_first (option_map fti_body i) (bodies ext_fti es) (fti_bodies n i) in
-    let fdt_is : first (bodies ext_fdt es) ≡ option_map fdt_body n = the_first (option_map fdt_body n) (bodies ext_fdt es) (fdt_bodies n i) in
+    let fti_is : first (bodies ext_fti es) ≡ option_map fti_body i = first_found (option_map fti_body i) (bodies ext_fti es) (fti_bodies n i) in
+    let fdt_is : first (bodies ext_fdt es) ≡ option_map fdt_body n = first_found (option_map fdt_body n) (bodies ext_fdt es) (fdt_bodies n i) in
     let info = fti_taken i e.info in
     let symbol = symbol_again c.symbol e.symbol p.symbol in (
       parts c,
@@ -228,8 +221,8 @@ spelled c e z none =
         codepoint = ap (λ (w : Fields). w.codepoint) f;
         tsi = omega arith;
         toi = omega arith;
-        one_fti = one_at_most (option_map fti_body i) (bodies ext_fti es) (fti_bodies n i);
-        one_fdt = one_at_most (option_map fdt_body n) (bodies ext_fdt es) (fdt_bodies n i);
+        one_fti = few (option_map fti_body i) (bodies ext_fti es) (fti_bodies n i);
+        one_fdt = few (option_map fdt_body n) (bodies ext_fdt es) (fdt_bodies n i);
         one_cenc = omega (arith, ap length (cenc_bodies n i));
         information = subst (λ (x : Option (List ℕ)). IfSome x (λ body. (length body ≡ 15) × (info_fault (fti_information body) ≡ None))) (sym fti_is) info.0;
         instance = λ none. subst (λ (x : Option (List ℕ)). IsSomeAnd x (λ body. fdt_version body ≡ 2)) (sym fdt_is) (fdt_taken c.tsi c.toi n e.key (sym toi ∙ none));

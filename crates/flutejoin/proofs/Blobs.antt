@@ -1,5 +1,5 @@
 -- An input that is read piece by piece.
-use Rattle.std.proofs.Common.{◌≡◌, ◌<◌, ◌≤◌, ◌+◌, ℕ, List, [], ◌++◌, length, take, Option, Some, None, refl, ap, subst, ◌∙◌, arith, length-append, append-nil, length-take-le, ◌-◌}
+use Rattle.std.proofs.Common.{◌≡◌, ◌<◌, ◌≤◌, ◌+◌, ℕ, List, [], ◌++◌, length, take, Option, Some, None, refl, ap, subst, ◌∙◌, arith, length-append, append-nil, ◌-◌}
 use Rattle.std.proofs.lemmas.List.{length-take}
 use Rattle.std.specs.Prelude.{IfSome}
 use Rattle.std.specs.Io.KnownBytes.{Consumes, IsAtEnd}
@@ -37,6 +37,3 @@ pub piece_fits : (bytes more buffer : List ℕ) (count : ℕ) → more ≡ bytes
 piece_fits bytes more buffer count e room small =
     let n : length more ≡ length bytes + length (take count buffer) = ap length e ∙ length-append bytes (take count buffer) in
     omega (arith, n, length-take count buffer, room, small)
-
-pub piece_length : (buffer : List ℕ) (count : ℕ) → count ≤ length buffer → length (take count buffer) ≡ count
-piece_length buffer count within = length-take-le count buffer within

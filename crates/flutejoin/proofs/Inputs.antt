@@ -1,9 +1,9 @@
 -- Inputs, joined one after the other.
-use Rattle.std.proofs.Common.{◌≡◌, ◌≢◌, ℕ, zero, suc, ◌+◌, ◌*◌, ◌^◌, ◌≤◌, ◌<◌, Bool, true, false, cond, List, [], ◌∷◌, ◌++◌, length, take, drop, map, count_by, Option, Some, None, Result, Ok, Err, get_or, refl, sym, ap, subst, ◌∙◌, arith, add-one, append-nil, append_assoc, inl, inr}
-use Rattle.std.specs.Prelude.{slice_get, IfSome, IfOk, IfErr, MatchResult}
+use Rattle.std.proofs.Common.{◌≡◌, ◌≢◌, ℕ, zero, suc, ◌+◌, ◌*◌, ◌^◌, ◌≤◌, ◌<◌, Bool, true, false, cond, List, [], ◌∷◌, ◌++◌, length, take, drop, map, count_by, Option, Some, None, Result, Ok, Err, get_or, refl, sym, ap, subst, ◌∙◌, arith, append-nil, append_assoc, inl, inr}
+use Rattle.std.specs.Prelude.{slice_get, IfSome, IfErr, MatchResult}
 use Rattle.std.specs.Option.{option_map}
 use Rattle.std.specs.List.{flat_map, AllByRecursion}
-use Rattle.std.proofs.lemmas.List.{length-append, take_all}
+use Rattle.std.proofs.lemmas.List.{length-append, take_all, length-take-le}
 use Rattle.std.proofs.lemmas.List.Sums.{count_by-le-length, sum_by-append, sum_by_push}
 use Rattle.std.proofs.lemmas.Grind.{flat_map-append}
 use Rattle.std.proofs.lemmas.Option.{slice_get_within, slice_get-map, slice_get-get_or}
@@ -33,23 +33,13 @@ use Rattle.flutejoin.proofs.Receptions.{Below-left, Below-right}
 
 -- lists
 
-take_next : {X : Type 0} (xs : List X) (k : ℕ) (x : X) → slice_get xs k ≡ Some x → take (suc k) xs ≡ take k xs ++ x ∷ []
-take_next [] k x e = let within = slice_get_within [] k x e in absurd (omega (arith, within))
-take_next (y ∷ ys) zero x e = cc
-take_next (y ∷ ys) (suc k) x e = ap (λ zs. y ∷ zs) (take_next ys k x e)
-
-pub take_more : {X : Type 0} (xs : List X) (k : ℕ) (x : X) → slice_get xs k ≡ Some x → take (k + 1) xs ≡ take k xs ++ x ∷ []
-take_more xs k x e = rw add-one (take_next xs k x e)
-
 split_at : {X : Type 0} (xs : List X) (k : ℕ) (x : X) → slice_get xs k ≡ Some x → xs ≡ take k xs ++ x ∷ drop (suc k) xs
 split_at [] k x e = let within = slice_get_within [] k x e in absurd (omega (arith, within))
 split_at (y ∷ ys) zero x e = cc
 split_at (y ∷ ys) (suc k) x e = ap (λ zs. y ∷ zs) (split_at ys k x e)
 
 taken_many : {X : Type 0} (xs : List X) (k : ℕ) (x : X) → slice_get xs k ≡ Some x → length (take k xs) ≡ k
-taken_many [] k x e = let within = slice_get_within [] k x e in absurd (omega (arith, within))
-taken_many (y ∷ ys) zero x e = refl
-taken_many (y ∷ ys) (suc k) x e = ap suc (taken_many ys k x e)
+taken_many xs k x e = length-take-le k xs (let within = slice_get_within xs k x e in omega (arith, within))
 
 pub all_more : {X : Type 0} (P : X → Type 0) (xs : List X) (x : X) → AllByRecursion P xs → P x → AllByRecursion P (xs ++ x ∷ [])
 all_more P [] x all one = (one, tt)
@@ -396,9 +386,6 @@ file_not_read {A = A} r m number bytes fault kind has no_device mapped is =
     let failed = read_failed r m number fault mapped is in
     let P : (ReadFault → Type 0) → Result A ReadFault → Type 0 = λ Q s. IfErr s Q in
     of_records failed.0 failed.2 (kind, subst (P (HasFileFault MAX_ENTRIES (Some bytes))) failed.1 has, subst (P (λ f. f ≢ Read)) failed.1 no_device)
-
-pub ok_of : {A E : Type 0} (r : Result A E) (x : A) (P : A → Type 0) → r ≡ Ok x → IfOk r P → P x
-ok_of {A = A} {E = E} r x P is h = let Q : Result A E → Type 0 = λ s. IfOk s P in subst Q is h
 
 -- all inputs, at the end
 pub so_far_full : (inputs : List (List ℕ)) (k : ℕ) (joined : Joined) → AllByRecursion IsKnown inputs → SoFar (take k inputs) false joined → length inputs ≤ k → JoinFails inputs Full

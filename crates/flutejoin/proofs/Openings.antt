@@ -20,7 +20,9 @@ use Rattle.flutejoin.specs.declared.command_fault.CommandFault.TheVariants.{Full
 use Rattle.flutejoin.specs.Joined.{Adds, HasKind, IsNeither, IsKnown, CheckFails, InputFails, JoinFails}
 use Rattle.flutejoin.specs.Opened.{left, IsOpened, IsLooked, AreOpened, AreLooked, CountsMore, LookFails, unchecked, unheld, SomeLookFails, AddFails, OpenedFails, of_inputs, of_size, of_device}
 use Rattle.flutejoin.proofs.Driving.{slice_get-set_other, slice_get-set_same}
-use Rattle.flutejoin.proofs.Inputs.{all_more, all_known, first_at, first_with, few_datagrams, few_refused, input_fails, join_unchecked, journal_fails, take_more, SoFar, so_far_none, so_far_joined, so_far_over, so_far_full, joins_none}
+use Rattle.flutejoin.proofs.Inputs.{all_more, all_known, first_at, first_with, few_datagrams, few_refused, input_fails, join_unchecked, journal_fails, SoFar, so_far_none, so_far_joined, so_far_over, so_far_full, joins_none}
+use Rattle.flutejoin.proofs.Running.{some_same}
+use Rattle.flute_wire.proofs.Pieces.{take_one_more}
 
 -- the first four bytes, read ahead
 
@@ -127,9 +129,6 @@ at_place [] k within = absurd (omega (arith, within))
 at_place (x ∷ xs) zero within = (x, refl)
 at_place (x ∷ xs) (suc k) within = at_place xs k (omega (arith, within))
 
-same_some : {X : Type 0} (o : Option X) (x y : X) → o ≡ Some x → o ≡ Some y → x ≡ y
-same_some o x y e f = cc
-
 all_at : (P : List ℕ → Type 0) (xs : List (List ℕ)) → ((k : ℕ) (x : List ℕ) → slice_get xs k ≡ Some x → P x) → AllByRecursion P xs
 all_at P [] each = tt
 all_at P (x ∷ xs) each = (each 0 x refl, all_at P xs (λ k y e. each (suc k) y e))
@@ -169,14 +168,14 @@ looked_more {S} unread k opened one now inputs e looks h =
             | inl same ↦
                 let P : ℕ → Type 0 = λ i. slice_get (set opened k now) i ≡ Some other in
                 let Q : ℕ → Type 0 = λ i. slice_get inputs i ≡ Some bytes in
-                let is_now : now ≡ other = same_some _ now other (slice_get-set_same opened k now within) (subst P same at) in
-                let is_bytes : next.0 ≡ bytes = same_some _ next.0 bytes next.1 (subst Q same its) in
+                let is_now : now ≡ other = some_same _ now other (slice_get-set_same opened k now within) (subst P same at) in
+                let is_bytes : next.0 ≡ bytes = some_same _ next.0 bytes next.1 (subst Q same its) in
                 rw (← is_now, ← is_bytes) here
             | inr differs ↦ h.looked j other bytes (omega (arith, before, differs)) (sym (slice_get-set_other opened k j now differs) ∙ at) its
           ];
       fresh = λ j other bytes past at its.
           h.fresh j other bytes (omega (arith, past)) (sym (slice_get-set_other opened k j now (λ same. absurd (omega (arith, same, past)))) ∙ at) its;
-      known = rw (take_more inputs k next.0 next.1) (all_more IsKnown (take k inputs) next.0 h.known here.known);
+      known = rw (take_one_more inputs k next.0 next.1) (all_more IsKnown (take k inputs) next.0 h.known here.known);
     }
 
 pub looked_all : {S : Type 0} (unread : S → Option (List ℕ)) (k : ℕ) (opened : List (Opened S)) (inputs : List (List ℕ)) → length opened ≤ k → LookedSoFar unread k opened inputs → AreLooked unread opened inputs
@@ -230,14 +229,14 @@ pub joined_more : {S : Type 0} (unread : S → Option (List ℕ)) (k : ℕ) (ope
 joined_more unread k opened one now fits joined after inputs e adds h =
     let next = next_looked unread k opened one true joined inputs e h in
     joined_step unread k opened now true fits joined after inputs
-    (rw (take_more inputs k next.0 next.1) (so_far_joined (take k inputs) next.0 fits joined after h.so_far (adds next.0 next.2))) h
+    (rw (take_one_more inputs k next.0 next.1) (so_far_joined (take k inputs) next.0 fits joined after h.so_far (adds next.0 next.2))) h
 
 pub joined_past : {S : Type 0} (unread : S → Option (List ℕ)) (k : ℕ) (opened : List (Opened S)) (one now : Opened S) (fits : Bool) (joined none alone : Joined) (inputs : List (List ℕ)) → slice_get opened k ≡ Some one
     → ((bytes : List ℕ) → IsLooked unread one bytes → Adds bytes none alone fits) → JoinedSoFar unread k opened false joined inputs → JoinedSoFar unread (k + 1) (set opened k now) false joined inputs
 joined_past unread k opened one now fits joined none alone inputs e adds h =
     let next = next_looked unread k opened one false joined inputs e h in
     joined_step unread k opened now false false joined joined inputs
-    (rw (take_more inputs k next.0 next.1) (so_far_over (take k inputs) next.0 fits joined none alone h.so_far (adds next.0 next.2))) h
+    (rw (take_one_more inputs k next.0 next.1) (so_far_over (take k inputs) next.0 fits joined none alone h.so_far (adds next.0 next.2))) h
 
 pub add_fails : {S : Type 0} (unread : S → Option (List ℕ)) (k : ℕ) (opened : List (Opened S)) (one : Opened S) (fits : Bool) (joined : Joined) (inputs : List (List ℕ)) (fault : CommandFault) → slice_get opened k ≡ Some one
     → ((bytes : List ℕ) → IsLooked unread one bytes → AddFails (k + 1) bytes fault) → JoinedSoFar unread k opened fits joined inputs → OpenedFails inputs fault

@@ -1,8 +1,8 @@
 -- One replica changed, among the others.
-use Rattle.std.proofs.Common.{◌≡◌, ◌≢◌, ℕ, List, [], ◌∷◌, ◌++◌, refl, sym, ◌∙◌, ap, subst, arith, ◌<◌, ◌≤◌, length, get_or, inl, inr, zero, suc}
+use Rattle.std.proofs.Common.{◌≡◌, ◌≢◌, ℕ, List, [], ◌++◌, refl, sym, ◌∙◌, ap, subst, arith, ◌<◌, ◌≤◌, length, get_or, inl, inr}
 use Rattle.std.proofs.Math.ListN.{set, length-set}
 use Rattle.std.proofs.lemmas.Bool.{cases_eq, cases_lt}
-use Rattle.std.proofs.lemmas.List.{get_or-set_same, get_or-set_other, set_past}
+use Rattle.std.proofs.lemmas.List.{get_or-set_same, get_or-set_other, set_past, set-get_or}
 use Rattle.flute_parts.specs.declared.fact.Fact.{Fact}
 use Rattle.flute_parts.specs.Facts.{Same, Below}
 use Rattle.flute_parts.proofs.Facts.{Same-itself, Same-sym, Same-trans, Same-append, Below-itself, Below-trans, Below-append, Below-from_Same}
@@ -55,9 +55,7 @@ EachBelow-set A B i x y within h below =
 
 -- to set what stands there changes nothing
 pub set_same : {X : Type 0} → (xs : List X) (i : ℕ) (x : X) → x ≡ get_or xs i x → set xs i x ≡ xs
-set_same [] i x e = refl
-set_same (y ∷ ys) zero x e = ap (λ z. z ∷ ys) e
-set_same (y ∷ ys) (suc i) x e = ap (λ zs. y ∷ zs) (set_same ys i x e)
+set_same xs i x e = ap (set xs i) e ∙ set-get_or xs i x
 
 -- more is given to a replica
 pub given_to-same : (A : List (List Fact)) (i : ℕ) (more content : List Fact) → i < length A → Same content (held_by A i ++ more) → EachSame (given_to A i more) (set A i content)

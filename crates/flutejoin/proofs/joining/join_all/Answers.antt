@@ -3,9 +3,10 @@ use Rattle.std.proofs.Common.{◌+◌, take, List, ℕ, Bool, refl, subst, arith
 use Rattle.std.proofs.lemmas.Option.{slice_get_read}
 use Rattle.std.proofs.lemmas.Result.{err_from_is_err_and}
 use Rattle.flutejoin.specs.Joined.{Adds, InputFails}
-use Rattle.flutejoin.proofs.Inputs.{SoFar, take_more, input_fails, joins_none, so_far_none, so_far_joined, so_far_over, so_far_full, so_far_few}
+use Rattle.flutejoin.proofs.Inputs.{SoFar, input_fails, joins_none, so_far_none, so_far_joined, so_far_over, so_far_full, so_far_few}
 use Rattle.flutejoin.proofs.joining.join_all.Goals.{then-fits+in_ok-fits, else-fits+in_ok-add}
 use Rattle.flutejoin.proofs.joining.join_all.Goals as goal
+use Rattle.flute_wire.proofs.Pieces.{take_one_more}
 
 pub loop-k-init : goal.loop-k-init
 loop-k-init c = so_far_none c.new-joined.result (joins_none c.new-joined.result c.new-joined.ensures.store c.new-joined.ensures.datagrams c.new-joined.ensures.refused)
@@ -43,7 +44,7 @@ loop-k-preserved c =
     let bytes = c.index-inputs-k.result in
     let first : List (List ℕ) = take c.loop-k.k c.args.inputs.now in
     let P : Bool → Type 0 = λ fits. SoFar first fits c.loop-k.joined in
-    rw (take_more c.args.inputs.now c.loop-k.k bytes (slice_get_read c.args.inputs.now _ c.loop-k.k bytes refl c.loop-k-test.true c.index-inputs-k.is))
+    rw (take_one_more c.args.inputs.now c.loop-k.k bytes (slice_get_read c.args.inputs.now _ c.loop-k.k bytes refl c.loop-k-test.true c.index-inputs-k.is))
     (elim c.if-fits.branch [
       | then-fits+in_ok-fits w ↦
           let Q : List ℕ → Type 0 = λ bs. Adds bs c.loop-k.joined w.add.new.self w.in_ok-fits.fits in

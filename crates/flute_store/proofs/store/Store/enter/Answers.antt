@@ -3,7 +3,7 @@ use Rattle.std.proofs.lemmas.Result.{on_ok_weaker}
 use Rattle.flute_join.specs.declared.refusal.JoinRefusal.TheVariants.{Full}
 use Rattle.flute_parts.specs.Facts.{Same}
 use Rattle.flute_parts.proofs.Named.{Over-below}
-use Rattle.flute_parts.proofs.Facts.{Below-from_Same}
+use Rattle.flute_parts.proofs.Facts.{Below-from_Same, Same-sym}
 use Rattle.flute_store.specs.Content.{content}
 use Rattle.flute_store.specs.ObjectJoin.{store_join}
 use Rattle.flute_store.specs.News.{news_facts}
@@ -11,7 +11,6 @@ use Rattle.flute_store.proofs.StoreJoin.{ordered-store, content-join}
 use Rattle.std.proofs.Common.{Result, Ok, refl}
 use Rattle.flute_join.specs.declared.refusal.JoinRefusal.{JoinRefusal}
 use Rattle.flute_join.specs.declared.refusal.JoinRefusal.TheVariants.{OutOfMemory}
-use Rattle.flute_store.proofs.StoreJoin.{Same-swapped}
 use Rattle.flute_store.proofs.Held.{news_held}
 use Rattle.flute_store.proofs.Counting.{not_over}
 use Rattle.flute_store.proofs.Exceeding.{beyond-over, solid-join, solid-store, solid-one}
@@ -46,7 +45,7 @@ returns-clause-full g c =
       λ over. is_full c.enter_session.result (λ h.
           let room = c.enter_session.ensures.room h in
           not_over g.row.SESSIONS g.row.OBJECTS (store_join old one) (record { ordered = room.ordered; within = room.within; each = room.each })
-          (Over-below (content old ++ news) (content (store_join old one)) g.row.SESSIONS g.row.OBJECTS n (Below-from_Same (content old ++ news) (content (store_join old one)) (Same-swapped (content (store_join old one)) (content old ++ news) whole)) over)),
+          (Over-below (content old ++ news) (content (store_join old one)) g.row.SESSIONS g.row.OBJECTS n (Below-from_Same (content old ++ news) (content (store_join old one)) (Same-sym (content (store_join old one)) (content old ++ news) whole)) over)),
     )
 
 pub returns-clause-held : goal.returns-clause-held

@@ -1,7 +1,7 @@
 -- An input is kept as it is read.
 use Rattle.std.proofs.Common.{◌≡◌, ◌∙◌, refl, ap, take, arith}
-use Rattle.std.proofs.lemmas.List.{with_items_is}
-use Rattle.flutejoin.proofs.Blobs.{nothing_kept, end_kept, too_large, piece_kept, piece_of, piece_fits, piece_length}
+use Rattle.std.proofs.lemmas.List.{with_items_is, length-take-le}
+use Rattle.flutejoin.proofs.Blobs.{nothing_kept, end_kept, too_large, piece_kept, piece_of, piece_fits}
 use Rattle.flutejoin.proofs.blob.Blob.read.Goals as goal
 
 pub loop-bytes-init : goal.loop-bytes-init
@@ -18,7 +18,7 @@ returns-then-count-eq0-clause-bytes g c =
 pub returns-then-count-len-clause-fault : goal.returns-then-count-len-clause-fault
 returns-then-count-len-clause-fault g c =
     too_large _ _ (g.R.Source.unread c.read.new.self) c.loop-bytes.bytes.items (take c.in_ok-count.count c.read.new.buffer) c.loop-bytes.invariant.2 c.in_ok-count.ensures.bytes.0
-    (omega (arith, piece_length c.read.new.buffer c.in_ok-count.count c.in_ok-count.ensures.bound, c.if-count-len.true, c.len.ensures, c.loop-bytes.bytes.ok.0, c.loop-bytes.invariant.1))
+    (omega (arith, length-take-le c.in_ok-count.count c.read.new.buffer c.in_ok-count.ensures.bound, c.if-count-len.true, c.len.ensures, c.loop-bytes.bytes.ok.0, c.loop-bytes.invariant.1))
 
 pub loop-bytes-preserved : goal.loop-bytes-preserved
 loop-bytes-preserved g c =

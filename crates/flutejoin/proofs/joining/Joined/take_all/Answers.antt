@@ -3,8 +3,9 @@ use Rattle.std.proofs.Common.{map, take, List, ℕ, arith, subst}
 use Rattle.std.proofs.lemmas.List.{take_all, length-map}
 use Rattle.std.proofs.lemmas.Result.{err_from_is_err_and}
 use Rattle.flutejoin.specs.Joined.{TakesDatagrams}
-use Rattle.flutejoin.proofs.Inputs.{take_more, place_of, takes_none, takes_few, takes_no_more, takes_more, datagrams_fail}
+use Rattle.flutejoin.proofs.Inputs.{place_of, takes_none, takes_few, takes_no_more, takes_more, datagrams_fail}
 use Rattle.flutejoin.proofs.joining.Joined.take_all.Goals as goal
+use Rattle.flute_wire.proofs.Pieces.{take_one_more}
 
 pub loop-datagram-init : goal.loop-datagram-init
 loop-datagram-init c = takes_none c.args.self.now
@@ -29,7 +30,7 @@ pub loop-datagram-preserved : goal.loop-datagram-preserved
 loop-datagram-preserved c =
     let ds : List (List ℕ) = map (λ d. d.now) c.args.datagrams.now in
     let at = place_of (λ d. d.now) c.args.datagrams.now c.loop-datagram.datagram-index _ c.loop-datagram-test.true in
-    rw (take_more ds c.loop-datagram.datagram-index _ at)
+    rw (take_one_more ds c.loop-datagram.datagram-index _ at)
     (takes_more c.args.self.now c.loop-datagram.self c.take.new.self (take c.loop-datagram.datagram-index ds) _ c.loop-datagram.invariant c.in_ok-take.ensures.taken)
 
 pub returns-clause-taken : goal.returns-clause-taken
