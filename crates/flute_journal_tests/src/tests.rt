@@ -1,13 +1,14 @@
 //! The worked examples of the format: what each journal tells, what is written, and why other bytes are none.
 
 mod datagram_files;
+mod endless;
 mod faults;
-mod journals;
+mod fields;
 mod many;
 mod merges;
+mod reading;
 mod stores;
 mod streams;
-mod vectors;
 
 use flute_journal::*;
 use flute_parts::{Fact, FactRef, Info, InfoFault, Key, ObjectKey, SessionKey, Source, SymbolId};
@@ -34,6 +35,7 @@ enum Told {
 }
 
 use Told::{InfoConflict, Symbol, SymbolConflict};
+use test_vectors::journals;
 
 const WHOLE_FILE: &[Told] = &[Told::Info, Symbol(0, b"hell"), Symbol(1, b"o")];
 
@@ -47,12 +49,12 @@ const BOTH: &[Told] = &[
 ];
 
 /// What each journal tells.
-const JOURNALS: &[(&[&str], &[Told])] = &[
-    (vectors::NOTHING, &[]),
-    (vectors::WHOLE, WHOLE_FILE),
-    (vectors::CONFLICT, &[InfoConflict]),
-    (vectors::OTHERS, OTHER_SYMBOLS),
-    (vectors::JOINED, BOTH),
+const JOURNALS: &[(&str, &[Told])] = &[
+    (journals::NOTHING, &[]),
+    (journals::WHOLE, WHOLE_FILE),
+    (journals::CONFLICT, &[InfoConflict]),
+    (journals::OTHERS, OTHER_SYMBOLS),
+    (journals::JOINED, BOTH),
 ];
 
 impl Told {

@@ -3,7 +3,6 @@
 mod objects;
 mod sent;
 mod slow_listing;
-mod vectors;
 
 use flute_join::JoinRefusal;
 use flute_parts::{
@@ -14,7 +13,7 @@ use flute_wire::Refusal;
 use std::alloc::Global;
 use std::process::Abort;
 use std::test::Fail;
-use vectors::bytes;
+use test_vectors::bytes;
 
 /// One session, one object and one symbol.
 type Smallest = Store<1, 1, 1>;
@@ -92,8 +91,8 @@ fn taken(alloc: Global, datagrams: &[&str]) -> Result<Small, Fail> {
 #[test]
 fn a_file_in_any_order(rt: HostRuntime) -> Result<(), Fail> {
     let key = file(&rt, 7, 1);
-    let first = vectors::INFO_AND_FIRST_SYMBOL;
-    let last = vectors::INFO_AND_LAST_SYMBOL;
+    let first = test_vectors::INFO_AND_FIRST_SYMBOL;
+    let last = test_vectors::INFO_AND_LAST_SYMBOL;
     let hello = [
         info(&rt, &key),
         symbol(&key, FIRST, b"hell"),
@@ -106,9 +105,9 @@ fn a_file_in_any_order(rt: HostRuntime) -> Result<(), Fail> {
     let apart = taken(
         rt.alloc(),
         &[
-            vectors::FIRST_SYMBOL_NARROW,
-            vectors::INFO_ALONE,
-            vectors::LAST_SYMBOL,
+            test_vectors::FIRST_SYMBOL_NARROW,
+            test_vectors::INFO_ALONE,
+            test_vectors::LAST_SYMBOL,
         ],
     )?;
     assert_holds(&rt, &apart, &hello);
@@ -119,8 +118,8 @@ fn a_file_in_any_order(rt: HostRuntime) -> Result<(), Fail> {
 #[test]
 fn two_values_are_a_conflict(rt: HostRuntime) -> Result<(), Fail> {
     let key = file(&rt, 7, 1);
-    let one = vectors::INFO_ALONE;
-    let other = vectors::OTHER_INFO;
+    let one = test_vectors::INFO_ALONE;
+    let other = test_vectors::OTHER_INFO;
     let store = taken(rt.alloc(), &[one, other])?;
     assert_holds(&rt, &store, &[info_conflict(&key)]);
     let store = taken(rt.alloc(), &[one, other, one])?;
@@ -134,10 +133,10 @@ fn objects_in_order(rt: HostRuntime) -> Result<(), Fail> {
     let store = taken(
         rt.alloc(),
         &[
-            vectors::OTHER_SESSION,
-            vectors::OTHER_FILE,
-            vectors::FIRST_SYMBOL,
-            vectors::FDT_INSTANCE,
+            test_vectors::OTHER_SESSION,
+            test_vectors::OTHER_FILE,
+            test_vectors::FIRST_SYMBOL,
+            test_vectors::FDT_INSTANCE,
         ],
     )?;
     let fdt = instance(&rt, 7, 3);
@@ -164,7 +163,7 @@ fn objects_in_order(rt: HostRuntime) -> Result<(), Fail> {
 fn fdt_instances_are_apart(rt: HostRuntime) -> Result<(), Fail> {
     let store = taken(
         rt.alloc(),
-        &[vectors::FDT_INSTANCE, vectors::OTHER_FDT_INSTANCE],
+        &[test_vectors::FDT_INSTANCE, test_vectors::OTHER_FDT_INSTANCE],
     )?;
     let wanted = [
         symbol(&instance(&rt, 7, 3), FIRST, b"<"),
@@ -180,11 +179,11 @@ fn a_full_store(rt: HostRuntime) -> Result<(), Fail> {
     let held = [symbol(&file(&rt, 7, 1), FIRST, b"hell")];
     let mut store: Smallest = Store::new(rt.alloc());
     for (hex, wanted) in [
-        (vectors::FIRST_SYMBOL, Ok(Taken { facts: 1 })),
-        (vectors::LAST_SYMBOL, Err(TakeFault::Full)),
-        (vectors::OTHER_FILE, Err(TakeFault::Full)),
-        (vectors::OTHER_SESSION, Err(TakeFault::Full)),
-        (vectors::FIRST_SYMBOL, Ok(Taken { facts: 1 })),
+        (test_vectors::FIRST_SYMBOL, Ok(Taken { facts: 1 })),
+        (test_vectors::LAST_SYMBOL, Err(TakeFault::Full)),
+        (test_vectors::OTHER_FILE, Err(TakeFault::Full)),
+        (test_vectors::OTHER_SESSION, Err(TakeFault::Full)),
+        (test_vectors::FIRST_SYMBOL, Ok(Taken { facts: 1 })),
     ] {
         let datagram = bytes(rt.alloc(), hex)?;
         let result = store.take(rt.alloc(), &datagram);
@@ -200,15 +199,15 @@ fn a_datagram_is_taken_whole(rt: HostRuntime) -> Result<(), Fail> {
     let key = file(&rt, 7, 1);
     let mut store: Smallest = Store::new(rt.alloc());
     for (hex, wanted) in [
-        (vectors::FIRST_SYMBOL, Ok(Taken { facts: 1 })),
-        (vectors::INFO_AND_LAST_SYMBOL, Err(TakeFault::Full)),
+        (test_vectors::FIRST_SYMBOL, Ok(Taken { facts: 1 })),
+        (test_vectors::INFO_AND_LAST_SYMBOL, Err(TakeFault::Full)),
     ] {
         let datagram = bytes(rt.alloc(), hex)?;
         let result = store.take(rt.alloc(), &datagram);
         assert!(rt; result == wanted, "{hex}");
         assert_holds(&rt, &store, &[symbol(&key, FIRST, b"hell")]);
     }
-    let datagram = bytes(rt.alloc(), vectors::INFO_AND_FIRST_SYMBOL)?;
+    let datagram = bytes(rt.alloc(), test_vectors::INFO_AND_FIRST_SYMBOL)?;
     let result = store.take(rt.alloc(), &datagram);
     assert!(rt; result == Ok(Taken { facts: 2 }));
     let held = [info(&rt, &key), symbol(&key, FIRST, b"hell")];
@@ -229,7 +228,10 @@ fn a_refused_datagram_changes_nothing(rt: HostRuntime) -> Result<(), Fail> {
 #[test]
 fn facts_are_added(rt: HostRuntime) -> Result<(), Fail> {
     let key = file(&rt, 7, 1);
-    let mut store = taken(rt.alloc(), &[vectors::FIRST_SYMBOL, vectors::LAST_SYMBOL])?;
+    let mut store = taken(
+        rt.alloc(),
+        &[test_vectors::FIRST_SYMBOL, test_vectors::LAST_SYMBOL],
+    )?;
     let fact = Fact::Info {
         key,
         info: Info::new(5, 4, 2)?,
@@ -299,7 +301,10 @@ fn facts_are_put(rt: HostRuntime) -> Result<(), Fail> {
 #[test]
 fn information_and_conflicts_are_put(rt: HostRuntime) -> Result<(), Fail> {
     let key = file(&rt, 7, 1);
-    let mut store = taken(rt.alloc(), &[vectors::FIRST_SYMBOL, vectors::LAST_SYMBOL])?;
+    let mut store = taken(
+        rt.alloc(),
+        &[test_vectors::FIRST_SYMBOL, test_vectors::LAST_SYMBOL],
+    )?;
     let fact = Fact::Info {
         key,
         info: Info::new(5, 4, 2)?,
@@ -326,8 +331,8 @@ fn information_and_conflicts_are_put(rt: HostRuntime) -> Result<(), Fail> {
 #[test]
 fn stores_are_joined(rt: HostRuntime) -> Result<(), Fail> {
     let key = file(&rt, 7, 1);
-    let mut store = taken(rt.alloc(), &[vectors::INFO_AND_FIRST_SYMBOL])?;
-    let other = taken(rt.alloc(), &[vectors::INFO_AND_LAST_SYMBOL])?;
+    let mut store = taken(rt.alloc(), &[test_vectors::INFO_AND_FIRST_SYMBOL])?;
+    let other = taken(rt.alloc(), &[test_vectors::INFO_AND_LAST_SYMBOL])?;
     let hello = [
         info(&rt, &key),
         symbol(&key, FIRST, b"hell"),
@@ -337,7 +342,7 @@ fn stores_are_joined(rt: HostRuntime) -> Result<(), Fail> {
     assert_holds(&rt, &store, &hello);
     store.absorb(rt.alloc(), &other)?;
     assert_holds(&rt, &store, &hello);
-    let padded = taken(rt.alloc(), &[vectors::INFO_AND_PADDED_SYMBOL])?;
+    let padded = taken(rt.alloc(), &[test_vectors::INFO_AND_PADDED_SYMBOL])?;
     store.absorb(rt.alloc(), &padded)?;
     let held = [
         info(&rt, &key),
@@ -351,7 +356,7 @@ fn stores_are_joined(rt: HostRuntime) -> Result<(), Fail> {
 #[test]
 fn a_shelf(rt: HostRuntime) -> Result<(), Fail> {
     let mut shelf: Shelf = Store::new(rt.alloc());
-    let datagram = bytes(rt.alloc(), vectors::INFO_AND_FIRST_SYMBOL)?;
+    let datagram = bytes(rt.alloc(), test_vectors::INFO_AND_FIRST_SYMBOL)?;
     let result = shelf.take(rt.alloc(), &datagram);
     assert!(rt; result == Ok(Taken { facts: 2 }));
     assert!(rt; shelf.walk().count() == 2);

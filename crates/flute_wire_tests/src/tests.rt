@@ -5,7 +5,6 @@ mod datagrams;
 mod packets;
 mod refusals;
 mod sent;
-mod vectors;
 mod written;
 
 use flute_parts::SymbolId;

@@ -1,4 +1,3 @@
-mod datagrams;
 mod driven;
 mod files;
 mod joining;
@@ -8,7 +7,6 @@ mod outputs;
 mod runs;
 mod show;
 mod shuffled;
-mod vectors;
 mod words;
 
 use flute_parts::{MemorySink, StdSink};

@@ -1,21 +1,12 @@
 //! Datagram files: what is read of them, in any pieces, and their faults.
-ghost use Rattle.std.specs.Prelude.{◌≡◌, ℕ, None, IfOk, IfErr, IfSome};
+ghost use Rattle.std.specs.Prelude.{◌≡◌, ℕ, IfOk, IfErr, IfSome};
 ghost use Rattle.flute_journal.specs.Records.{IsFileWithin, HasFileFault};
 
-use super::vectors::bytes;
 use super::*;
-use flute_parts::{DeviceFault, MemorySink, MemorySource, ShortSink, ShortSource};
+use flute_parts::{MemorySink, MemorySource, ShortSink, ShortSource};
 use flute_wire::{Datagram, carousel};
 use std::alloc::Global;
-
-/// Two datagrams of session 7 and file 1, with its information and the symbols 0/0 and 0/1: 87 bytes.
-const TWO: &[&str] = &["464C44470001", "0028", FIRST, "0025", SECOND];
-
-const FIRST: &str =
-    "10A00800 00000000 00000007 00000001 40040000 00000005 00000004 00000002 00000000 68656C6C";
-
-const SECOND: &str =
-    "10A00800 00000000 00000007 00000001 40040000 00000005 00000004 00000002 00000001 6F";
+use test_vectors::{INFO_AND_FIRST_SYMBOL, INFO_AND_LAST_SYMBOL, bytes, bytes_of};
 
 /// The datagrams of the file that the source holds.
 fn datagrams_of<R: Source>(
@@ -37,7 +28,7 @@ fn datagrams_of<R: Source>(
 }
 
 /// The lengths of the datagrams that a reader gives, and the fault that it stays at, or None where it stays at the end.
-fn lengths<R: Source>(
+pub fn lengths<R: Source>(
     rt: &HostRuntime,
     source: &mut R,
     max_records: u64,
@@ -67,10 +58,10 @@ fn lengths<R: Source>(
 /// In one piece, and in pieces of 1, 2 and 7 bytes.
 #[test]
 fn datagram_files_are_read(rt: HostRuntime) -> Result<(), Fail> {
-    let file = bytes(rt.alloc(), TWO)?;
+    let file = bytes(rt.alloc(), journals::DATAGRAMS)?;
     assert_eq!(rt; file.len(), 87);
-    let first = bytes(rt.alloc(), &[FIRST])?;
-    let second = bytes(rt.alloc(), &[SECOND])?;
+    let first = bytes(rt.alloc(), INFO_AND_FIRST_SYMBOL)?;
+    let second = bytes(rt.alloc(), INFO_AND_LAST_SYMBOL)?;
     let datagrams = datagrams_of(rt.alloc(), &mut MemorySource::new(&file), 2)?;
     assert_eq!(rt; datagrams.len(), 2);
     assert_eq!(rt; datagrams[0].as_slice(), first.as_slice());
@@ -91,7 +82,7 @@ fn datagram_files_are_read(rt: HostRuntime) -> Result<(), Fail> {
 /// A file that ends within its header or a record is cut, and one that ends between records is whole.
 #[test]
 fn datagram_files_are_cut(rt: HostRuntime) -> Result<(), Fail> {
-    let file = bytes(rt.alloc(), TWO)?;
+    let file = bytes(rt.alloc(), journals::DATAGRAMS)?;
     for n in 0..file.len() {
         let (lengths, fault) = lengths(&rt, &mut MemorySource::new(&file[..n]), 100)?;
         let whole: &[usize] = if n < 48 { &[] } else { &[40] };
@@ -126,7 +117,7 @@ fn datagram_files_have_faults(rt: HostRuntime) -> Result<(), Fail> {
         (&["464C44470001", "0000", "0001 61"], 2, 2, None),
     ];
     for (parts, max_records, records, fault) in rows {
-        let file = bytes(rt.alloc(), parts)?;
+        let file = bytes_of(rt.alloc(), parts)?;
         let (lengths, found) = lengths(&rt, &mut MemorySource::new(&file), max_records)?;
         assert_eq!(rt; lengths.len(), records);
         assert!(rt; found == fault, "behind {records}");
@@ -141,7 +132,7 @@ fn datagram_files_have_faults(rt: HostRuntime) -> Result<(), Fail> {
 /// What is sent is written, in as many bytes as a sink takes.
 #[test]
 fn datagram_files_are_written(rt: HostRuntime) -> Result<(), Fail> {
-    let file = bytes(rt.alloc(), TWO)?;
+    let file = bytes(rt.alloc(), journals::DATAGRAMS)?;
     let (Some(session), Some(object)) = (SessionKey::new(7), ObjectKey::file(1)) else {
         return Err(Fail::from("no key"));
     };
@@ -155,43 +146,6 @@ fn datagram_files_are_written(rt: HostRuntime) -> Result<(), Fail> {
         assert!(rt; write_datagrams(&datagrams, &mut sink) == Err(SaveFault::Write));
         assert_eq!(rt; sink.as_slice(), &file[..good], "of {good} bytes");
     }
-    Ok(())
-}
-
-/// A header and then zeros without end, a byte at a time.
-#[derive(Drop)]
-struct Zeros {
-    given: usize,
-}
-
-impl Source for Zeros {
-    ghost failures = { λ _. 0 };
-
-    ghost unread = { λ _. None };
-
-    fn read(&mut self, buffer: &mut [u8]) -> Result<usize, DeviceFault> {
-        let Some(first) = buffer.first_mut() else {
-            return Ok(0);
-        };
-        *first = b"FLDG\x00\x01".get(self.given).copied().unwrap_or(0);
-        self.given = self.given.saturating_add(1);
-        Ok(1)
-    }
-
-    fn buffer(&self) -> &[u8] {
-        &[]
-    }
-
-    fn consume(&mut self, _count: usize) {}
-}
-
-/// Records without end stop at the bound.
-#[test]
-fn records_without_end(rt: HostRuntime) -> Result<(), Fail> {
-    let (lengths, fault) = lengths(&rt, &mut Zeros { given: 0 }, 1_000)?;
-    assert_eq!(rt; lengths.len(), 1_000);
-    assert!(rt; lengths.iter().all(|length| *length == 0));
-    assert!(rt; fault == Some(ReadFault::TooMany));
     Ok(())
 }
 
@@ -210,7 +164,7 @@ fn records_before_a_failing_source(rt: HostRuntime) -> Result<(), Fail> {
         ),
     ];
     for (parts, max_records, end, fault) in rows {
-        let file = bytes(rt.alloc(), parts)?;
+        let file = bytes_of(rt.alloc(), parts)?;
         for good in 0..=file.len() {
             let mut source = ShortSource::new(&file, 5, good);
             let (_, found) = lengths(&rt, &mut source, max_records)?;
@@ -224,7 +178,7 @@ fn records_before_a_failing_source(rt: HostRuntime) -> Result<(), Fail> {
 /// A source that fails, behind each number of bytes.
 #[test]
 fn sources_of_datagrams_fail(rt: HostRuntime) -> Result<(), Fail> {
-    let file = bytes(rt.alloc(), TWO)?;
+    let file = bytes(rt.alloc(), journals::DATAGRAMS)?;
     for good in 0..=file.len() {
         let mut source = ShortSource::new(&file, 5, good);
         let (lengths, fault) = lengths(&rt, &mut source, 100)?;

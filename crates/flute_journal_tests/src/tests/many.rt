@@ -2,10 +2,11 @@
 ghost use Rattle.std.specs.Prelude.{◌<◌};
 
 use super::streams::{ALL, absorbed};
-use super::vectors::{CONFLICT, OTHERS, WHOLE, bytes};
 use super::*;
 use flute_parts::{Bytes, MemorySink, MemorySource, ShortSink, ShortSource, Sink};
 use std::alloc::Global;
+use test_vectors::journals::{CONFLICT, OTHERS, WHOLE};
+use test_vectors::{Draw, bytes};
 
 /// At most 64 journals, merged as streams.
 fn merge_journals<R: Source + Drop, W: Sink>(
@@ -110,57 +111,38 @@ fn the_sink_of_three_fails(rt: HostRuntime) -> Result<(), Fail> {
     Ok(())
 }
 
-/// Numbers that look random, and are the same in each run.
-#[derive(Drop)]
-struct Draw {
-    state: u64,
+/// A fact of one of nine objects.
+fn fact(alloc: Global, draw: &mut Draw) -> Result<Fact, Fail> {
+    let session = SessionKey::new(draw.below(3) as u64).ok_or("a session")?;
+    let object = ObjectKey::file(1 + draw.below(3) as u128).ok_or("a file")?;
+    let key = Key { session, object };
+    let esi = draw.below(4) as u16;
+    let id = SymbolId { sbn: 0, esi };
+    let info = Info::new(5, 4, 2)?;
+    Ok(match draw.below(8) {
+        0 => Fact::Info { key, info },
+        1 => Fact::SymbolConflict { key, id },
+        value => {
+            let bytes = Bytes::new(alloc, &[value as u8 % 2])?;
+            Fact::Symbol { key, id, bytes }
+        }
+    })
 }
 
-impl Draw {
-    fn below(&mut self, count: usize) -> usize
-        requires { 0 < count }
-        ensures { result < count }
-    {
-        self.state = self
-            .state
-            .wrapping_mul(6_364_136_223_846_793_005)
-            .wrapping_add(1_442_695_040_888_963_407);
-        ((self.state >> 33) % count as u64) as usize
+/// The journal of up to seven facts. Now and then a byte is changed.
+fn journal(alloc: Global, draw: &mut Draw) -> Result<Vec<u8>, Fail> {
+    let mut store: Small = Store::new(alloc);
+    for _ in 0..draw.below(8) {
+        store.add(alloc, &fact(alloc, draw)?)?;
     }
-
-    /// A fact of one of nine objects.
-    fn fact(&mut self, alloc: Global) -> Result<Fact, Fail> {
-        let session = SessionKey::new(self.below(3) as u64).ok_or("a session")?;
-        let object = ObjectKey::file(1 + self.below(3) as u128).ok_or("a file")?;
-        let key = Key { session, object };
-        let esi = self.below(4) as u16;
-        let id = SymbolId { sbn: 0, esi };
-        let info = Info::new(5, 4, 2)?;
-        Ok(match self.below(8) {
-            0 => Fact::Info { key, info },
-            1 => Fact::SymbolConflict { key, id },
-            value => {
-                let bytes = Bytes::new(alloc, &[value as u8 % 2])?;
-                Fact::Symbol { key, id, bytes }
-            }
-        })
+    let mut sink = MemorySink::new(alloc);
+    write_store(&store, &mut sink)?;
+    let mut journal = sink.as_slice().to_vec(alloc)?;
+    let changed = draw.below(80 * 40);
+    if let Some(byte) = journal.get_mut(changed) {
+        *byte = draw.below(256) as u8;
     }
-
-    /// The journal of up to seven facts. Now and then a byte is changed.
-    fn journal(&mut self, alloc: Global) -> Result<Vec<u8>, Fail> {
-        let mut store: Small = Store::new(alloc);
-        for _ in 0..self.below(8) {
-            store.add(alloc, &self.fact(alloc)?)?;
-        }
-        let mut sink = MemorySink::new(alloc);
-        write_store(&store, &mut sink)?;
-        let mut journal = sink.as_slice().to_vec(alloc)?;
-        let changed = self.below(80 * 40);
-        if let Some(byte) = journal.get_mut(changed) {
-            *byte = self.below(256) as u8;
-        }
-        Ok(journal)
-    }
+    Ok(journal)
 }
 
 /// The fault of a journal alone.
@@ -190,11 +172,11 @@ fn is_right(alloc: Global, journals: &[Vec<u8>]) -> Result<bool, Fail> {
 #[test]
 fn groups_of_journals_are_merged(rt: HostRuntime) -> Result<(), Fail> {
     let alloc = rt.alloc();
-    let mut draw = Draw { state: 1 };
+    let mut draw = Draw::new(1);
     for group in 0..200 {
         let mut journals = Vec::new(alloc);
         for _ in 0..1 + draw.below(64) {
-            journals.push(draw.journal(alloc)?)?;
+            journals.push(journal(alloc, &mut draw)?)?;
         }
         assert!(rt; is_right(alloc, &journals)?, "{group}");
     }

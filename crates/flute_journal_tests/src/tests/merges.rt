@@ -1,50 +1,51 @@
 //! Journals merged as streams: in any pieces, with inputs that are none, and with devices that fail.
 
 use super::faults::is_shown;
-use super::vectors::{
-    CONFLICT, END_3, END_4, HEADER, HELL, INFO, JOINED, KEY, LETTER_O, LETTER_X, NOTHING, OTHERS,
-    PADDED_O, WHOLE, bytes,
-};
 use super::*;
 use flute_parts::{MemorySink, MemorySource, ShortSink, ShortSource};
+use test_vectors::journals::{
+    CONFLICT, END_3, END_4, HEADER, HELL, INFO, JOINED, KEY, LETTER_O, LETTER_X, NOTHING, OTHERS,
+    PADDED_O, WHOLE,
+};
+use test_vectors::{bytes, bytes_of};
 
 /// The symbol conflict of the whole file and the other symbols, behind its key.
 const LAST: &str = "0000 0001";
 
 /// Two journals in either order, and the journal of both with the number of its entries.
 const MERGES: &[(&[&str], &[&str], &[&str], u64)] = &[
-    (NOTHING, NOTHING, NOTHING, 0),
-    (WHOLE, WHOLE, WHOLE, 3),
-    (CONFLICT, CONFLICT, CONFLICT, 1),
-    (OTHERS, OTHERS, OTHERS, 3),
-    (JOINED, JOINED, JOINED, 4),
-    (NOTHING, WHOLE, WHOLE, 3),
-    (NOTHING, CONFLICT, CONFLICT, 1),
-    (NOTHING, OTHERS, OTHERS, 3),
-    (NOTHING, JOINED, JOINED, 4),
+    (&[NOTHING], &[NOTHING], &[NOTHING], 0),
+    (&[WHOLE], &[WHOLE], &[WHOLE], 3),
+    (&[CONFLICT], &[CONFLICT], &[CONFLICT], 1),
+    (&[OTHERS], &[OTHERS], &[OTHERS], 3),
+    (&[JOINED], &[JOINED], &[JOINED], 4),
+    (&[NOTHING], &[WHOLE], &[WHOLE], 3),
+    (&[NOTHING], &[CONFLICT], &[CONFLICT], 1),
+    (&[NOTHING], &[OTHERS], &[OTHERS], 3),
+    (&[NOTHING], &[JOINED], &[JOINED], 4),
     // 98 bytes
     (
-        CONFLICT,
-        WHOLE,
+        &[CONFLICT],
+        &[WHOLE],
         &[
             HEADER, "02", KEY, "03", KEY, HELL, "03", KEY, LETTER_O, END_3,
         ],
         3,
     ),
-    (WHOLE, OTHERS, JOINED, 4),
-    (WHOLE, JOINED, JOINED, 4),
-    (OTHERS, JOINED, JOINED, 4),
+    (&[WHOLE], &[OTHERS], &[JOINED], 4),
+    (&[WHOLE], &[JOINED], &[JOINED], 4),
+    (&[OTHERS], &[JOINED], &[JOINED], 4),
     (
-        CONFLICT,
-        OTHERS,
+        &[CONFLICT],
+        &[OTHERS],
         &[
             HEADER, "02", KEY, "03", KEY, HELL, "03", KEY, PADDED_O, "03", KEY, LETTER_X, END_4,
         ],
         4,
     ),
     (
-        CONFLICT,
-        JOINED,
+        &[CONFLICT],
+        &[JOINED],
         &[
             HEADER, "02", KEY, "03", KEY, HELL, "04", KEY, LAST, "03", KEY, LETTER_X, END_4,
         ],
@@ -66,9 +67,9 @@ fn merged<A: Source, B: Source>(
 #[test]
 fn journals_are_merged(rt: HostRuntime) -> Result<(), Fail> {
     for (number, (a, b, both, count)) in MERGES.iter().enumerate() {
-        let a = bytes(rt.alloc(), a)?;
-        let b = bytes(rt.alloc(), b)?;
-        let both = bytes(rt.alloc(), both)?;
+        let a = bytes_of(rt.alloc(), a)?;
+        let b = bytes_of(rt.alloc(), b)?;
+        let both = bytes_of(rt.alloc(), both)?;
         for (first, second) in [(&a, &b), (&b, &a)] {
             for piece in [1, 2, 7, 200] {
                 let mut sink = MemorySink::new(rt.alloc());
@@ -161,7 +162,7 @@ fn fault_before_the_header_is_written(rt: HostRuntime) -> Result<(), Fail> {
     let swapped = [
         HEADER, "01", KEY, INFO, "03", KEY, LETTER_O, "03", KEY, HELL, END_3,
     ];
-    let swapped = bytes(rt.alloc(), &swapped)?;
+    let swapped = bytes_of(rt.alloc(), &swapped)?;
     let others = bytes(rt.alloc(), OTHERS)?;
     assert!(rt; others.len() > 3);
     let mut second = MemorySource::new(&others[..3]);
@@ -221,15 +222,15 @@ fn inputs_beyond_the_bound(rt: HostRuntime) -> Result<(), Fail> {
 
 /// The journal of conflicting information of file 1 in so many sessions, which rise from `first`.
 fn conflicts(rt: &HostRuntime, first: u8, count: u8) -> Result<Vec<u8>, Fail> {
-    let mut journal = bytes(rt.alloc(), &[HEADER])?;
-    let entry = bytes(rt.alloc(), &["02 0000000000"])?;
-    let object = bytes(rt.alloc(), &["01 0000000000000000000000000001"])?;
+    let mut journal = bytes(rt.alloc(), HEADER)?;
+    let entry = bytes(rt.alloc(), "02 0000000000")?;
+    let object = bytes(rt.alloc(), "01 0000000000000000000000000001")?;
     for step in 0..count {
         journal.extend_from_slice(&entry)?;
         journal.push(first.saturating_add(step))?;
         journal.extend_from_slice(&object)?;
     }
-    journal.extend_from_slice(&bytes(rt.alloc(), &["FF 00000000000000"])?)?;
+    journal.extend_from_slice(&bytes(rt.alloc(), "FF 00000000000000")?)?;
     journal.push(count)?;
     Ok(journal)
 }

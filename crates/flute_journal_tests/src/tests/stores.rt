@@ -1,13 +1,13 @@
 //! Stores, written as journals and read.
 
-use super::vectors::{
-    self, FIRST_SYMBOL_NARROW, INFO_ALONE, INFO_AND_FIRST_SYMBOL, INFO_AND_LAST_SYMBOL,
-    INFO_AND_PADDED_SYMBOL, LAST_SYMBOL, OTHER_INFO, bytes,
-};
 use super::*;
 use flute_parts::{MemorySink, MemorySource, ShortSink, ShortSource};
 use flute_store::Shelf;
 use std::alloc::Global;
+use test_vectors::{
+    FIRST_SYMBOL_NARROW, INFO_ALONE, INFO_AND_FIRST_SYMBOL, INFO_AND_LAST_SYMBOL,
+    INFO_AND_PADDED_SYMBOL, LAST_SYMBOL, OTHER_INFO, bytes, bytes_of,
+};
 
 // The store that a journal tells.
 fn held_by<const SESSIONS: u32, const OBJECTS: u32, const SYMBOLS: u32>(
@@ -28,14 +28,14 @@ fn hold_the_same<const SESSIONS: u32, const OBJECTS: u32, const SYMBOLS: u32>(
 fn taken(alloc: Global, datagrams: &[&str]) -> Result<Small, Fail> {
     let mut store = Store::new(alloc);
     for datagram in datagrams {
-        let datagram = bytes(alloc, &[datagram])?;
+        let datagram = bytes(alloc, datagram)?;
         store.take(alloc, &datagram)?;
     }
     Ok(store)
 }
 
 /// Whether the store is written as this journal, with so many entries.
-fn is_written(alloc: Global, store: &Small, journal: &[&str], entries: u64) -> Result<bool, Fail> {
+fn is_written(alloc: Global, store: &Small, journal: &str, entries: u64) -> Result<bool, Fail> {
     let mut sink = MemorySink::new(alloc);
     let count = write_store(store, &mut sink)?;
     Ok(count == entries && sink.as_slice() == bytes(alloc, journal)?.as_slice())
@@ -48,12 +48,12 @@ fn stores_are_written(rt: HostRuntime) -> Result<(), Fail> {
     let first = INFO_AND_FIRST_SYMBOL;
     let last = INFO_AND_LAST_SYMBOL;
     let narrow = FIRST_SYMBOL_NARROW;
-    let received: &[(&[&str], &[&str], u64)] = &[
-        (&[], vectors::NOTHING, 0),
-        (&[first, last], vectors::WHOLE, 3),
-        (&[last, first, last, first, last, first], vectors::WHOLE, 3),
-        (&[narrow, INFO_ALONE, LAST_SYMBOL], vectors::WHOLE, 3),
-        (&[INFO_ALONE, OTHER_INFO, INFO_ALONE], vectors::CONFLICT, 1),
+    let received: &[(&[&str], &str, u64)] = &[
+        (&[], journals::NOTHING, 0),
+        (&[first, last], journals::WHOLE, 3),
+        (&[last, first, last, first, last, first], journals::WHOLE, 3),
+        (&[narrow, INFO_ALONE, LAST_SYMBOL], journals::WHOLE, 3),
+        (&[INFO_ALONE, OTHER_INFO, INFO_ALONE], journals::CONFLICT, 1),
     ];
     for (number, (datagrams, journal, entries)) in received.iter().enumerate() {
         let store = taken(alloc, datagrams)?;
@@ -67,7 +67,7 @@ fn stores_are_written(rt: HostRuntime) -> Result<(), Fail> {
 fn a_new_store_is_written(rt: HostRuntime) -> Result<(), Fail> {
     let mut sink = MemorySink::new(rt.alloc());
     assert_eq!(rt; write_store(&Shelf::new(rt.alloc()), &mut sink)?, 0);
-    let journal = bytes(rt.alloc(), vectors::NOTHING)?;
+    let journal = bytes(rt.alloc(), journals::NOTHING)?;
     assert_eq!(rt; sink.as_slice(), journal.as_slice());
     let shelf: Shelf = read_store(rt.alloc(), &mut MemorySource::new(&journal), 0)?;
     assert!(rt; shelf.walk().next().is_none());
@@ -81,10 +81,10 @@ fn joined_stores_are_written(rt: HostRuntime) -> Result<(), Fail> {
     let other = taken(alloc, &[INFO_AND_LAST_SYMBOL])?;
     for _ in 0..2 {
         store.absorb(alloc, &other)?;
-        assert!(rt; is_written(alloc, &store, vectors::WHOLE, 3)?);
+        assert!(rt; is_written(alloc, &store, journals::WHOLE, 3)?);
     }
     store.absorb(alloc, &taken(alloc, &[INFO_AND_PADDED_SYMBOL])?)?;
-    assert!(rt; is_written(alloc, &store, vectors::LAST_IN_CONFLICT, 3)?);
+    assert!(rt; is_written(alloc, &store, journals::LAST_IN_CONFLICT, 3)?);
     Ok(())
 }
 
@@ -111,7 +111,7 @@ fn stores_are_read(rt: HostRuntime) -> Result<(), Fail> {
 /// A journal of two symbols, and a store of one.
 #[test]
 fn a_store_that_is_too_small(rt: HostRuntime) -> Result<(), Fail> {
-    let input = bytes(rt.alloc(), vectors::WHOLE)?;
+    let input = bytes(rt.alloc(), journals::WHOLE)?;
     let store: Result<Store<1, 1, 1>, LoadFault> = read_store(
         rt.alloc(),
         &mut MemorySource::new(&input),
@@ -127,7 +127,7 @@ fn a_store_that_is_too_small(rt: HostRuntime) -> Result<(), Fail> {
 #[test]
 fn a_store_that_is_too_small_for_a_failing_source(rt: HostRuntime) -> Result<(), Fail> {
     let alloc = rt.alloc();
-    let journal = bytes(alloc, vectors::WHOLE)?;
+    let journal = bytes(alloc, journals::WHOLE)?;
     for good in 0..=journal.len() {
         let wanted = if good < 101 {
             LoadFault::Read(ReadFault::Read)
@@ -173,13 +173,13 @@ fn journals_are_joined(rt: HostRuntime) -> Result<(), Fail> {
 fn joined_to_whole(
     alloc: Global,
     journal: &[&str],
-    wanted: &[&str],
+    wanted: &str,
 ) -> Result<Option<Result<bool, LoadFault>>, Fail> {
-    let whole = bytes(alloc, vectors::WHOLE)?;
+    let whole = bytes(alloc, journals::WHOLE)?;
     let mut store: Store<1, 1, 2> = held_by(alloc, &whole)?;
     let wanted = bytes(alloc, wanted)?;
     let wanted = held_by(alloc, &wanted)?;
-    let journal = bytes(alloc, journal)?;
+    let journal = bytes_of(alloc, journal)?;
     let joined = join_journal(alloc, &mut store, &mut MemorySource::new(&journal), MANY);
     if !hold_the_same(&store, &wanted) {
         return Ok(None);
@@ -194,13 +194,13 @@ fn a_store_that_is_too_small_for_both(rt: HostRuntime) -> Result<(), Fail> {
     let third = "0000 0002 0001 78";
     let fourth = "0000 0003 0001 79";
     let fifth = "0000 0004 0001 7A";
-    let (key, header) = (vectors::KEY, vectors::HEADER);
-    let whole = vectors::WHOLE;
-    let held = joined_to_whole(alloc, whole, whole)?;
+    let (key, header) = (journals::KEY, journals::HEADER);
+    let whole = journals::WHOLE;
+    let held = joined_to_whole(alloc, &[whole], whole)?;
     assert!(rt; held == Some(Ok(true)));
-    let beyond = joined_to_whole(alloc, &[header, "03", key, third, vectors::END_1], whole)?;
+    let beyond = joined_to_whole(alloc, &[header, "03", key, third, journals::END_1], whole)?;
     assert!(rt; beyond == Some(Ok(false)));
-    let two: &[&str] = &[header, "03", key, third, "03", key, fourth, vectors::END_2];
+    let two: &[&str] = &[header, "03", key, third, "03", key, fourth, journals::END_2];
     assert!(rt; joined_to_whole(alloc, two, whole)? == Some(Ok(false)));
     let three: &[&str] = &[
         header,
@@ -213,13 +213,13 @@ fn a_store_that_is_too_small_for_both(rt: HostRuntime) -> Result<(), Fail> {
         "03",
         key,
         fifth,
-        vectors::END_3,
+        journals::END_3,
     ];
     assert!(rt; joined_to_whole(alloc, three, whole)? == Some(Err(LoadFault::Full)));
     let cut: &[&str] = &[header, "03", key, third];
     assert!(rt; joined_to_whole(alloc, cut, whole)? == Some(Err(LoadFault::Read(ReadFault::Cut))));
     // the second value of the last symbol comes before the symbol that is beyond
-    let others = joined_to_whole(alloc, vectors::OTHERS, vectors::LAST_IN_CONFLICT)?;
+    let others = joined_to_whole(alloc, &[journals::OTHERS], journals::LAST_IN_CONFLICT)?;
     assert!(rt; others == Some(Err(LoadFault::Full)));
     Ok(())
 }
@@ -228,7 +228,7 @@ fn a_store_that_is_too_small_for_both(rt: HostRuntime) -> Result<(), Fail> {
 #[test]
 fn joins_that_stop(rt: HostRuntime) -> Result<(), Fail> {
     let alloc = rt.alloc();
-    let journal = bytes(alloc, vectors::OTHERS)?;
+    let journal = bytes(alloc, journals::OTHERS)?;
     let other: Small = held_by(alloc, &journal)?;
     let mut both = taken(alloc, &[INFO_AND_FIRST_SYMBOL])?;
     both.absorb(alloc, &other)?;
@@ -249,7 +249,7 @@ fn joins_that_stop(rt: HostRuntime) -> Result<(), Fail> {
 #[test]
 fn sinks_that_fail(rt: HostRuntime) -> Result<(), Fail> {
     let store = taken(rt.alloc(), &[INFO_AND_FIRST_SYMBOL, INFO_AND_LAST_SYMBOL])?;
-    let journal = bytes(rt.alloc(), vectors::WHOLE)?;
+    let journal = bytes(rt.alloc(), journals::WHOLE)?;
     assert_eq!(rt; journal.len(), 110);
     for good in 0..journal.len() {
         let mut sink = ShortSink::new(rt.alloc(), good);

@@ -2,12 +2,13 @@
 
 ghost use Rattle.std.specs.Prelude.{◌<◌};
 
-use super::vectors::{CONFLICT, END_2, HEADER, JOINED, KEY, NOTHING, OTHERS, WHOLE, bytes};
 use super::*;
 use flute_parts::{MemorySink, MemorySource, ShortSink, ShortSource};
 use std::alloc::Global;
+use test_vectors::journals::{CONFLICT, END_2, HEADER, JOINED, KEY, NOTHING, OTHERS, WHOLE};
+use test_vectors::{bytes, bytes_of};
 
-pub const ALL: &[&[&str]] = &[NOTHING, WHOLE, CONFLICT, OTHERS, JOINED];
+pub const ALL: &[&str] = &[NOTHING, WHOLE, CONFLICT, OTHERS, JOINED];
 
 /// The journal of a store that absorbed these.
 pub fn absorbed(alloc: Global, journals: &[Vec<u8>]) -> Result<MemorySink, Fail> {
@@ -23,7 +24,7 @@ pub fn absorbed(alloc: Global, journals: &[Vec<u8>]) -> Result<MemorySink, Fail>
 }
 
 /// A store that a journal was read into, from a source that hands out little at a time.
-fn store_of(alloc: Global, journal: &[&str], piece: usize) -> Result<Small, Fail>
+fn store_of(alloc: Global, journal: &str, piece: usize) -> Result<Small, Fail>
     requires { 0 < piece }
 {
     let journal = bytes(alloc, journal)?;
@@ -128,7 +129,7 @@ fn facts_are_merged(rt: HostRuntime) -> Result<(), Fail> {
             })
         )
     );
-    let told = bytes(
+    let told = bytes_of(
         rt.alloc(),
         &[HEADER, "02", KEY, "04", KEY, "0000 0001", END_2],
     )?;

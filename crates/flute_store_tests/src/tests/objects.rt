@@ -1,5 +1,5 @@
 //! Worked examples of what is missing of an object, and of whole objects.
-use super::{taken, vectors};
+use super::taken;
 use flute_parts::{Bytes, Fact, Info, Key, MemorySink, ObjectKey, SessionKey, StdSink, SymbolId};
 use flute_store::{ExtractFault, Gap, GapFault, Reason, Status, Store, laws};
 use std::alloc::Global;
@@ -211,12 +211,16 @@ fn whole_objects_are_written(rt: HostRuntime) {
 #[test]
 fn taken_objects_are_written(rt: HostRuntime) -> Result<(), Fail> {
     let key = key().expect(&rt, "a key");
-    let first = vectors::INFO_AND_FIRST_SYMBOL;
+    let first = test_vectors::INFO_AND_FIRST_SYMBOL;
     let wanted = SymbolId { sbn: 0, esi: 1 };
     let not_whole = Err(ExtractFault::NotWhole { first: wanted });
     for (last, answer, object) in [
-        (vectors::INFO_AND_LAST_SYMBOL, Ok(5), b"hello".as_slice()),
-        (vectors::INFO_AND_PADDED_SYMBOL, Ok(5), b"hello"),
+        (
+            test_vectors::INFO_AND_LAST_SYMBOL,
+            Ok(5),
+            b"hello".as_slice(),
+        ),
+        (test_vectors::INFO_AND_PADDED_SYMBOL, Ok(5), b"hello"),
         (first, not_whole, b""),
     ] {
         let store = taken(rt.alloc(), &[first, last])?;

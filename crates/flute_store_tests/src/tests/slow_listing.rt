@@ -1,12 +1,11 @@
 //! Gaps, status and objects compared with a plain slow listing, on stores drawn at random with a fixed seed.
-ghost use Rattle.std.specs.Prelude.{◌<◌};
-
 use super::objects::{check_gaps, key, partial};
 use flute_parts::{Bytes, Fact, Info, Key, MemorySink, SymbolId};
 use flute_store::{Gap, Reason, Status, Store};
 use std::alloc::{AllocError, Global};
 use std::process::Abort;
 use std::test::Fail;
+use test_vectors::Draw;
 
 type Drawn = Store<1, 1, 64>;
 
@@ -86,48 +85,37 @@ fn id_at(place: u8) -> SymbolId {
     }
 }
 
-/// Numbers that look random (a linear congruential generator).
-#[derive(Drop)]
-struct Draws {
-    state: u32,
+/// A value of a symbol. So many in 16 have any length, and as many another value.
+fn symbol(draw: &mut Draw, shape: &Shape, place: u8, odd: usize) -> Told {
+    let id = id_at(place);
+    let length = if draw.below(16) < odd {
+        1 + draw.below(usize::from(shape.symbol) + 1)
+    } else if shape.is_last(id) && draw.below(2) == 0 {
+        shape.last
+    } else {
+        usize::from(shape.symbol).max(1)
+    };
+    let byte = if draw.below(16) < odd { 255 } else { place };
+    Told { id, length, byte }
 }
 
-impl Draws {
-    fn below(&mut self, bound: u32) -> u32
-        requires { 0 < bound }
-        ensures { result < bound }
-    {
-        self.state = self.state.wrapping_mul(1_103_515_245).wrapping_add(12_345);
-        (self.state >> 16) % bound
-    }
-
-    /// A value of a symbol. So many in 16 have any length, and as many another value.
-    fn symbol(&mut self, shape: &Shape, place: u8, odd: u32) -> Told {
-        let id = id_at(place);
-        let length = if self.below(16) < odd {
-            1 + self.below(u32::from(shape.symbol) + 1) as usize
-        } else if shape.is_last(id) && self.below(2) == 0 {
-            shape.last
-        } else {
-            usize::from(shape.symbol).max(1)
-        };
-        let byte = if self.below(16) < odd { 255 } else { place };
-        Told { id, length, byte }
-    }
-
-    /// Values of the symbols of the partition and of others: of some none, of some two.
-    fn told(&mut self, alloc: Global, shape: &Shape, odd: u32) -> Result<Vec<Told>, AllocError> {
-        let mut told = Vec::new(alloc);
-        for place in 0..64 {
-            if self.below(16) >= odd {
-                told.push(self.symbol(shape, place, odd))?;
-            }
-            if self.below(16) < odd {
-                told.push(self.symbol(shape, place, odd))?;
-            }
+/// Values of the symbols of the partition and of others: of some none, of some two.
+fn drawn(
+    alloc: Global,
+    draw: &mut Draw,
+    shape: &Shape,
+    odd: usize,
+) -> Result<Vec<Told>, AllocError> {
+    let mut told = Vec::new(alloc);
+    for place in 0..64 {
+        if draw.below(16) >= odd {
+            told.push(symbol(draw, shape, place, odd))?;
         }
-        Ok(told)
+        if draw.below(16) < odd {
+            told.push(symbol(draw, shape, place, odd))?;
+        }
     }
+    Ok(told)
 }
 
 /// The one value that was told of a symbol, or why there is none.
@@ -266,12 +254,12 @@ fn compare(rt: &impl Abort, alloc: Global, shape: &Shape, told: &[Told]) -> Resu
 /// Ten stores of each shape, from one in which nothing is odd to one in which much is.
 #[test]
 fn gaps_agree_with_a_slow_listing(rt: HostRuntime) -> Result<(), Fail> {
-    let mut draws = Draws { state: 1 };
+    let mut draw = Draw::new(1);
     let mut all = Vec::new(rt.alloc());
     let mut whole = false;
     for shape in &shapes() {
         for odd in 0..10 {
-            let told = draws.told(rt.alloc(), shape, odd)?;
+            let told = drawn(rt.alloc(), &mut draw, shape, odd)?;
             let wanted = compare(&rt, rt.alloc(), shape, &told)?;
             all.extend_from_slice(&wanted)?;
             whole |= wanted.is_empty() && shape.length > 20;

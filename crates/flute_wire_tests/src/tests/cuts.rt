@@ -1,28 +1,28 @@
 //! Datagrams of each length, up to the longest.
 
-use super::vectors::{self, bytes};
 use super::*;
 use std::alloc::Global;
 use std::test::Fail;
+use test_vectors::bytes;
 
 /// Each vector, cut to each length.
 #[test]
 fn cut_datagrams(rt: HostRuntime) -> Result<(), Fail> {
     for (hex, header_len) in [
-        (vectors::INFO_AND_FIRST_SYMBOL, 32),
-        (vectors::INFO_AND_LAST_SYMBOL, 32),
-        (vectors::INFO_AND_PADDED_SYMBOL, 32),
-        (vectors::FIRST_SYMBOL_NARROW, 12),
-        (vectors::INFO_ALONE, 32),
-        (vectors::OTHER_INFO, 32),
-        (vectors::LAST_SYMBOL, 16),
-        (vectors::FIRST_SYMBOL, 16),
-        (vectors::WIDEST_FIELDS, 28),
-        (vectors::FDT_INSTANCE, 20),
-        (vectors::INFO_OF_EMPTY_FILE, 32),
-        (vectors::LONG_LAST_SYMBOL, 16),
-        (vectors::OTHER_SESSION, 16),
-        (vectors::OTHER_FILE, 16),
+        (test_vectors::INFO_AND_FIRST_SYMBOL, 32),
+        (test_vectors::INFO_AND_LAST_SYMBOL, 32),
+        (test_vectors::INFO_AND_PADDED_SYMBOL, 32),
+        (test_vectors::FIRST_SYMBOL_NARROW, 12),
+        (test_vectors::INFO_ALONE, 32),
+        (test_vectors::OTHER_INFO, 32),
+        (test_vectors::LAST_SYMBOL, 16),
+        (test_vectors::FIRST_SYMBOL, 16),
+        (test_vectors::WIDEST_FIELDS, 28),
+        (test_vectors::FDT_INSTANCE, 20),
+        (test_vectors::INFO_OF_EMPTY_FILE, 32),
+        (test_vectors::LONG_LAST_SYMBOL, 16),
+        (test_vectors::OTHER_SESSION, 16),
+        (test_vectors::OTHER_FILE, 16),
     ] {
         let datagram = bytes(rt.alloc(), hex)?;
         for len in 0..=datagram.len() {
@@ -74,7 +74,7 @@ fn longest(alloc: Global, before: &str, skipped: u8, after: &str) -> Result<Vec<
 /// A datagram has 65,535 bytes at most, whatever they are.
 #[test]
 fn longest_datagram(rt: HostRuntime) -> Result<(), Fail> {
-    let mut datagram = bytes(rt.alloc(), vectors::FIRST_SYMBOL)?;
+    let mut datagram = bytes(rt.alloc(), test_vectors::FIRST_SYMBOL)?;
     datagram.resize(65_535, 0)?;
     let said = read(&datagram).map(|packet| packet.symbol().map(|(_, bytes)| bytes.len()));
     assert_eq!(rt; said, Ok(Some(65_515)));

@@ -1,8 +1,8 @@
 //! Datagrams that are packets.
 
-use super::vectors::{self, bytes};
 use super::*;
 use std::test::Fail;
+use test_vectors::bytes;
 
 /// Each vector says what its name tells: every field is compared.
 #[test]
@@ -13,23 +13,32 @@ fn vectors_are_read(rt: HostRuntime) -> Result<(), Fail> {
     let session_8 = Said { tsi: 8, ..FILE };
     let file_2 = Said { toi: 2, ..FILE };
     for (hex, said) in [
-        (vectors::INFO_AND_FIRST_SYMBOL, hello.symbol(0, 0, b"hell")),
-        (vectors::INFO_AND_LAST_SYMBOL, hello.symbol(0, 1, b"o")),
         (
-            vectors::INFO_AND_PADDED_SYMBOL,
+            test_vectors::INFO_AND_FIRST_SYMBOL,
+            hello.symbol(0, 0, b"hell"),
+        ),
+        (test_vectors::INFO_AND_LAST_SYMBOL, hello.symbol(0, 1, b"o")),
+        (
+            test_vectors::INFO_AND_PADDED_SYMBOL,
             hello.symbol(0, 1, b"o\0\0\0"),
         ),
-        (vectors::FIRST_SYMBOL_NARROW, FILE.symbol(0, 0, b"hell")),
-        (vectors::INFO_ALONE, hello),
-        (vectors::OTHER_INFO, FILE.info(5, 4, 3)),
-        (vectors::LAST_SYMBOL, FILE.symbol(0, 1, b"o")),
-        (vectors::FIRST_SYMBOL, FILE.symbol(0, 0, b"hell")),
-        (vectors::WIDEST_FIELDS, widest.symbol(0, 0, b"a")),
-        (vectors::FDT_INSTANCE, FILE.instance(3).symbol(0, 0, b"<")),
-        (vectors::INFO_OF_EMPTY_FILE, FILE.info(0, 0, 0)),
-        (vectors::LONG_LAST_SYMBOL, FILE.symbol(0, 1, b"o!")),
-        (vectors::OTHER_SESSION, session_8.symbol(0, 0, b"a")),
-        (vectors::OTHER_FILE, file_2.symbol(0, 0, b"a")),
+        (
+            test_vectors::FIRST_SYMBOL_NARROW,
+            FILE.symbol(0, 0, b"hell"),
+        ),
+        (test_vectors::INFO_ALONE, hello),
+        (test_vectors::OTHER_INFO, FILE.info(5, 4, 3)),
+        (test_vectors::LAST_SYMBOL, FILE.symbol(0, 1, b"o")),
+        (test_vectors::FIRST_SYMBOL, FILE.symbol(0, 0, b"hell")),
+        (test_vectors::WIDEST_FIELDS, widest.symbol(0, 0, b"a")),
+        (
+            test_vectors::FDT_INSTANCE,
+            FILE.instance(3).symbol(0, 0, b"<"),
+        ),
+        (test_vectors::INFO_OF_EMPTY_FILE, FILE.info(0, 0, 0)),
+        (test_vectors::LONG_LAST_SYMBOL, FILE.symbol(0, 1, b"o!")),
+        (test_vectors::OTHER_SESSION, session_8.symbol(0, 0, b"a")),
+        (test_vectors::OTHER_FILE, file_2.symbol(0, 0, b"a")),
     ] {
         assert_says(&rt, &bytes(rt.alloc(), hex)?, said);
     }

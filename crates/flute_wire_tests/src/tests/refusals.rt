@@ -1,9 +1,9 @@
 //! Datagrams that are refused, and how refusals are shown.
 
-use super::vectors::bytes;
 use super::*;
 use flute_parts::InfoFault;
 use std::test::Fail;
+use test_vectors::bytes;
 
 /// Headers that are refused before their extensions are looked at.
 #[test]

@@ -1,10 +1,10 @@
 //! Objects sent as datagrams.
 
-use super::vectors::{self, bytes};
 use super::written::{fdt, file};
 use super::*;
 use flute_parts::Info;
 use std::test::Fail;
+use test_vectors::bytes;
 
 /// A file of two symbols, and one of no bytes.
 #[test]
@@ -13,8 +13,8 @@ fn vectors_are_sent(rt: HostRuntime) -> Result<(), Fail> {
     let sent = carousel(rt.alloc(), &key, &Info::new(5, 4, 2)?, b"hello")?;
     assert_eq!(rt; sent.len(), 2);
     for (place, hex) in [
-        vectors::INFO_AND_FIRST_SYMBOL,
-        vectors::INFO_AND_LAST_SYMBOL,
+        test_vectors::INFO_AND_FIRST_SYMBOL,
+        test_vectors::INFO_AND_LAST_SYMBOL,
     ]
     .into_iter()
     .enumerate()
@@ -26,7 +26,7 @@ fn vectors_are_sent(rt: HostRuntime) -> Result<(), Fail> {
     let sent = carousel(rt.alloc(), &key, &Info::new(0, 0, 0)?, b"")?;
     assert_eq!(rt; sent.len(), 1);
     let datagram = sent.get(0).expect(&rt, "a datagram");
-    let wanted = bytes(rt.alloc(), vectors::INFO_OF_EMPTY_FILE)?;
+    let wanted = bytes(rt.alloc(), test_vectors::INFO_OF_EMPTY_FILE)?;
     assert_eq!(rt; datagram.as_slice(), wanted.as_slice());
     Ok(())
 }

@@ -1,10 +1,10 @@
 //! Packets written as datagrams.
 
-use super::vectors::{self, bytes};
 use super::*;
 use flute_parts::{Info, Key, ObjectKey, SessionKey};
 use std::alloc::Global;
 use std::test::Fail;
+use test_vectors::bytes;
 
 /// A file of a session.
 pub fn file(rt: &impl Abort, tsi: u64, toi: u128) -> Key {
@@ -58,16 +58,28 @@ fn vectors_are_written(rt: HostRuntime) -> Result<(), Fail> {
     let hello = FILE.info(5, 4, 2);
     let datagram = written(alloc, &fdt(&rt, 7, 3), None, 0, b"<")?;
     let said = FILE.instance(3).symbol(0, 0, b"<");
-    assert_written(&rt, alloc, &datagram, vectors::FDT_INSTANCE, said)?;
+    assert_written(&rt, alloc, &datagram, test_vectors::FDT_INSTANCE, said)?;
     let datagram = written(alloc, &file(&rt, 7, 1), None, 0, b"hell")?;
     let said = FILE.symbol(0, 0, b"hell");
-    assert_written(&rt, alloc, &datagram, vectors::FIRST_SYMBOL, said)?;
+    assert_written(&rt, alloc, &datagram, test_vectors::FIRST_SYMBOL, said)?;
     let datagram = written(alloc, &file(&rt, 7, 1), info, 0, b"hell")?;
     let said = hello.symbol(0, 0, b"hell");
-    assert_written(&rt, alloc, &datagram, vectors::INFO_AND_FIRST_SYMBOL, said)?;
+    assert_written(
+        &rt,
+        alloc,
+        &datagram,
+        test_vectors::INFO_AND_FIRST_SYMBOL,
+        said,
+    )?;
     let datagram = written(alloc, &file(&rt, 7, 1), info, 1, b"o")?;
     let said = hello.symbol(0, 1, b"o");
-    assert_written(&rt, alloc, &datagram, vectors::INFO_AND_LAST_SYMBOL, said)
+    assert_written(
+        &rt,
+        alloc,
+        &datagram,
+        test_vectors::INFO_AND_LAST_SYMBOL,
+        said,
+    )
 }
 
 /// Without a symbol the datagram ends with its header.
@@ -80,7 +92,7 @@ fn no_symbol(rt: HostRuntime) -> Result<(), Fail> {
     };
     let datagram = write(rt.alloc(), &outgoing)?;
     let said = FILE.info(5, 4, 2);
-    assert_written(&rt, rt.alloc(), &datagram, vectors::INFO_ALONE, said)
+    assert_written(&rt, rt.alloc(), &datagram, test_vectors::INFO_ALONE, said)
 }
 
 /// The largest numbers that are written, of an FDT Instance with information: EXT_FDT stands before EXT_FTI.

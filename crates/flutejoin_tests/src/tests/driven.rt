@@ -1,12 +1,12 @@
 //! Worked examples of steps of which some are refused.
 use super::runs::{add_first, assert_writes, file, load, ring, take};
-use super::{datagrams, vectors};
 use flute_parts::{Address, FactRef, Info, MemorySink, Part, SymbolId};
 use flute_store::Store;
 use flutejoin::{Replicas, Step};
 use std::alloc::Global;
 use std::process::Abort;
 use std::test::Fail;
+use test_vectors::journals;
 
 /// Room for one object of two symbols.
 type Narrow = Replicas<1, 1, 2>;
@@ -38,10 +38,10 @@ fn told(store: &Store<1, 1, 2>, address: Option<Address>) -> Option<FactRef<'_>>
 fn a_step_without_room_is_passed(rt: HostRuntime) -> Result<(), Fail> {
     let mut replicas = Replicas::<1, 1, 1>::new(rt.alloc(), 1)?;
     let steps = [
-        take(rt.alloc(), 0, datagrams::FIRST)?,
-        take(rt.alloc(), 0, datagrams::LAST)?,
-        take(rt.alloc(), 0, datagrams::REFUSED)?,
-        take(rt.alloc(), 0, datagrams::FIRST)?,
+        take(rt.alloc(), 0, test_vectors::FIRST_SYMBOL)?,
+        take(rt.alloc(), 0, test_vectors::LAST_SYMBOL)?,
+        take(rt.alloc(), 0, test_vectors::REFUSED)?,
+        take(rt.alloc(), 0, test_vectors::FIRST_SYMBOL)?,
     ];
     let mut done = [false; 4];
     replicas.drive(rt.alloc(), &steps, &mut done);
@@ -53,10 +53,10 @@ fn a_step_without_room_is_passed(rt: HostRuntime) -> Result<(), Fail> {
 /// Two replicas that together pass the limits.
 fn overfull(alloc: Global) -> Result<Vec<Step>, Fail> {
     let mut steps = Vec::new(alloc);
-    steps.push(take(alloc, 0, datagrams::FIRST)?)?;
-    steps.push(take(alloc, 0, datagrams::LAST)?)?;
-    steps.push(take(alloc, 1, datagrams::INFO_ALONE)?)?;
-    steps.push(take(alloc, 1, datagrams::STRAY)?)?;
+    steps.push(take(alloc, 0, test_vectors::FIRST_SYMBOL)?)?;
+    steps.push(take(alloc, 0, test_vectors::LAST_SYMBOL)?)?;
+    steps.push(take(alloc, 1, test_vectors::INFO_ALONE)?)?;
+    steps.push(take(alloc, 1, test_vectors::STRAY_SYMBOL)?)?;
     steps.push(Step::Merge { into: 0, from: 1 })?;
     Ok(steps)
 }
@@ -122,10 +122,10 @@ fn a_refused_merge_loses_nothing(rt: HostRuntime) -> Result<(), Fail> {
 fn the_steps_after_a_refusal_are_done(rt: HostRuntime) -> Result<(), Fail> {
     let mut replicas = Replicas::<64, 4096, 1_048_576>::new(rt.alloc(), 1)?;
     let steps = [
-        take(rt.alloc(), 0, datagrams::INFO_AND_FIRST)?,
+        take(rt.alloc(), 0, test_vectors::INFO_AND_FIRST_SYMBOL)?,
         Step::Merge { into: 0, from: 1 },
-        load(rt.alloc(), 0, vectors::SWAPPED)?,
-        take(rt.alloc(), 0, datagrams::INFO_AND_LAST)?,
+        load(rt.alloc(), 0, journals::SWAPPED)?,
+        take(rt.alloc(), 0, test_vectors::INFO_AND_LAST_SYMBOL)?,
     ];
     let mut done = [false; 4];
     replicas.drive(rt.alloc(), &steps, &mut done);
@@ -141,7 +141,7 @@ fn the_steps_after_a_refusal_are_done(rt: HostRuntime) -> Result<(), Fail> {
 /// Each kind of step, with room.
 fn each_kind(alloc: Global) -> Result<Vec<Step>, Fail> {
     let mut steps = ring(alloc)?;
-    steps.push(load(alloc, 1, vectors::WHOLE)?)?;
+    steps.push(load(alloc, 1, journals::WHOLE)?)?;
     steps.push(add_first(alloc, 2)?)?;
     Ok(steps)
 }
@@ -162,9 +162,9 @@ fn each_kind_of_step_is_done(rt: HostRuntime) -> Result<(), Fail> {
     }
     for replica in 0..3 {
         let store = driven.store(replica).ok_or("a replica")?;
-        assert_writes(&rt, rt.alloc(), store, vectors::WHOLE)?;
+        assert_writes(&rt, rt.alloc(), store, journals::WHOLE)?;
         let store = stepped.store(replica).ok_or("a replica")?;
-        assert_writes(&rt, rt.alloc(), store, vectors::WHOLE)?;
+        assert_writes(&rt, rt.alloc(), store, journals::WHOLE)?;
     }
     Ok(())
 }

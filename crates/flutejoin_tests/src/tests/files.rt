@@ -1,6 +1,5 @@
 //! Journals that are written with information added, merged and made of an object's datagrams.
 
-use super::vectors::{self, bytes};
 use flute_parts::{
     Info, InfoFault, Key, MemorySink, MemorySource, ObjectKey, SessionKey, ShortSink, ShortSource,
 };
@@ -11,6 +10,7 @@ use flutejoin::{
 };
 use std::alloc::Global;
 use std::test::Fail;
+use test_vectors::{bytes, journals};
 
 fn key(tsi: u64) -> Option<Key> {
     let session = SessionKey::new(tsi)?;
@@ -26,13 +26,13 @@ fn loaded(alloc: Global, journal: &str) -> Result<Shelf, Fail> {
 // The symbols alone, then with their information, and with other information in conflict.
 #[test]
 fn information_is_added(rt: HostRuntime) -> Result<(), Fail> {
-    let mut shelf = loaded(rt.alloc(), vectors::SYMBOLS)?;
+    let mut shelf = loaded(rt.alloc(), journals::SYMBOLS)?;
     let key = key(7).ok_or("a key")?;
     let info = Info::new(5, 4, 2).ok().ok_or("information")?;
     add_info(rt.alloc(), &mut shelf, key, info)?;
     let mut sink = MemorySink::new(rt.alloc());
     assert_eq!(rt; save_to(&shelf, &mut sink)?, 3);
-    let journal = bytes(rt.alloc(), vectors::WHOLE)?;
+    let journal = bytes(rt.alloc(), journals::WHOLE)?;
     assert_eq!(rt; sink.as_slice(), journal.as_slice());
     for good in 0..journal.len() {
         let mut sink = ShortSink::new(rt.alloc(), good);
@@ -48,7 +48,7 @@ fn information_is_added(rt: HostRuntime) -> Result<(), Fail> {
     assert_eq!(rt; save_to(&shelf, &mut sink)?, 1);
     assert_eq!(rt;
         sink.as_slice(),
-        bytes(rt.alloc(), vectors::CONFLICT)?.as_slice()
+        bytes(rt.alloc(), journals::CONFLICT)?.as_slice()
     );
     Ok(())
 }
@@ -68,8 +68,8 @@ fn information_may_find_no_room(rt: HostRuntime) -> Result<(), Fail> {
 
 #[test]
 fn journals_are_merged(rt: HostRuntime) -> Result<(), Fail> {
-    let first = bytes(rt.alloc(), vectors::WHOLE)?;
-    let second = bytes(rt.alloc(), vectors::OTHERS)?;
+    let first = bytes(rt.alloc(), journals::WHOLE)?;
+    let second = bytes(rt.alloc(), journals::OTHERS)?;
     let mut sink = MemorySink::new(rt.alloc());
     let count = merge_to(
         rt.alloc(),
@@ -80,15 +80,15 @@ fn journals_are_merged(rt: HostRuntime) -> Result<(), Fail> {
     assert_eq!(rt; count, 4);
     assert_eq!(rt;
         sink.as_slice(),
-        bytes(rt.alloc(), vectors::JOINED)?.as_slice()
+        bytes(rt.alloc(), journals::JOINED)?.as_slice()
     );
     Ok(())
 }
 
 #[test]
 fn a_merge_tells_which_input_is_at_fault(rt: HostRuntime) -> Result<(), Fail> {
-    let good = bytes(rt.alloc(), vectors::WHOLE)?;
-    let bad = bytes(rt.alloc(), vectors::SWAPPED)?;
+    let good = bytes(rt.alloc(), journals::WHOLE)?;
+    let bad = bytes(rt.alloc(), journals::SWAPPED)?;
     // Where both are at fault at the same place, the first is read first.
     let rows = [
         (&bad, &good, "input 1: Order"),
@@ -118,7 +118,7 @@ fn a_merge_tells_which_input_is_at_fault(rt: HostRuntime) -> Result<(), Fail> {
 
 #[test]
 fn a_merge_tells_which_input_failed(rt: HostRuntime) -> Result<(), Fail> {
-    let journal = bytes(rt.alloc(), vectors::WHOLE)?;
+    let journal = bytes(rt.alloc(), journals::WHOLE)?;
     let rows = [
         (20, usize::MAX, "input 1: Read"),
         (usize::MAX, 20, "input 2: Read"),
@@ -140,7 +140,7 @@ fn a_merge_tells_which_input_failed(rt: HostRuntime) -> Result<(), Fail> {
 
 #[test]
 fn objects_are_sent(rt: HostRuntime) -> Result<(), Fail> {
-    let file = bytes(rt.alloc(), vectors::DATAGRAMS)?;
+    let file = bytes(rt.alloc(), journals::DATAGRAMS)?;
     let key = key(7).ok_or("a key")?;
     let datagrams = datagrams_of(rt.alloc(), &key, 4, 2, b"hello")?;
     let mut sink = MemorySink::new(rt.alloc());

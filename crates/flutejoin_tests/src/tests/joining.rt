@@ -1,6 +1,5 @@
 //! What inputs come to together, and the order of their faults.
 
-use super::vectors::{self, bytes};
 use flute_journal::{merge_streams, write_datagrams, write_store};
 use flute_parts::{Info, Key, MemorySink, MemorySource, ObjectKey, SessionKey, ShortSource};
 use flute_wire::carousel;
@@ -8,15 +7,7 @@ use flutejoin::{Blob, CommandFault, Joined, MAX_ENTRIES, join_inputs};
 use std::alloc::Global;
 use std::ops::Range;
 use std::test::Fail;
-
-// The file of two datagrams with one between them that is refused, and its first alone, cut.
-pub const REFUSED_BETWEEN: &str = "464C44470001
-    0028 10A00800 00000000 00000007 00000001 40040000 00000005 00000004 00000002 00000000 68656C6C
-    0003 10A000
-    0025 10A00800 00000000 00000007 00000001 40040000 00000005 00000004 00000002 00000001 6F";
-
-pub const CUT: &str = "464C44470001
-    0028 10A00800 00000000 00000007 00000001 40040000 00000005 00000004 00000002 00000000 68656C";
+use test_vectors::{bytes, journals};
 
 // Neither a journal nor a datagram file, though it begins as both do.
 pub const NEITHER: &str = "46";
@@ -64,22 +55,31 @@ pub fn journal_of(alloc: Global, joined: &Joined) -> Result<MemorySink, Fail> {
 #[test]
 fn journals_and_datagrams_are_joined(rt: HostRuntime) -> Result<(), Fail> {
     let rows: [(&[&str], u64, u64, &str); 6] = [
-        (&[vectors::DATAGRAMS, vectors::WHOLE], 2, 0, vectors::WHOLE),
-        (&[REFUSED_BETWEEN], 3, 1, vectors::WHOLE),
         (
-            &[vectors::WHOLE, vectors::DATAGRAMS, REFUSED_BETWEEN],
+            &[journals::DATAGRAMS, journals::WHOLE],
+            2,
+            0,
+            journals::WHOLE,
+        ),
+        (&[journals::REFUSED_BETWEEN], 3, 1, journals::WHOLE),
+        (
+            &[
+                journals::WHOLE,
+                journals::DATAGRAMS,
+                journals::REFUSED_BETWEEN,
+            ],
             5,
             1,
-            vectors::WHOLE,
+            journals::WHOLE,
         ),
         (
-            &[vectors::NOTHING, vectors::CONFLICT],
+            &[journals::NOTHING, journals::CONFLICT],
             0,
             0,
-            vectors::CONFLICT,
+            journals::CONFLICT,
         ),
-        (&["464C44470001"], 0, 0, vectors::NOTHING),
-        (&[], 0, 0, vectors::NOTHING),
+        (&["464C44470001"], 0, 0, journals::NOTHING),
+        (&[], 0, 0, journals::NOTHING),
     ];
     for (texts, datagrams, refused, journal) in rows {
         let inputs = blobs(rt.alloc(), texts)?;
@@ -97,11 +97,11 @@ fn journals_and_datagrams_are_joined(rt: HostRuntime) -> Result<(), Fail> {
 #[test]
 fn merged_and_joined_journals_are_equal(rt: HostRuntime) -> Result<(), Fail> {
     let journals = [
-        vectors::NOTHING,
-        vectors::WHOLE,
-        vectors::CONFLICT,
-        vectors::OTHERS,
-        vectors::JOINED,
+        journals::NOTHING,
+        journals::WHOLE,
+        journals::CONFLICT,
+        journals::OTHERS,
+        journals::JOINED,
     ];
     for first in journals {
         for second in journals {
@@ -126,13 +126,20 @@ fn merged_and_joined_journals_are_equal(rt: HostRuntime) -> Result<(), Fail> {
 fn the_first_fault_is_told(rt: HostRuntime) -> Result<(), Fail> {
     let rows: [(&[&str], &str); 7] = [
         (&[NEITHER], "input 1: unknown kind"),
-        (&[CUT], "input 1: Cut"),
-        (&[vectors::WHOLE, vectors::SWAPPED], "input 2: Order"),
+        (&[journals::CUT_DATAGRAM], "input 1: Cut"),
+        (&[journals::WHOLE, journals::SWAPPED], "input 2: Order"),
         // the kinds and the datagram files come before the journals
-        (&[vectors::SWAPPED, NEITHER], "input 2: unknown kind"),
-        (&[vectors::SWAPPED, vectors::DATAGRAMS, CUT], "input 3: Cut"),
-        (&[CUT, NEITHER], "input 1: Cut"),
-        (&[vectors::SWAPPED, "464C4A4E0001"], "input 1: Order"),
+        (&[journals::SWAPPED, NEITHER], "input 2: unknown kind"),
+        (
+            &[
+                journals::SWAPPED,
+                journals::DATAGRAMS,
+                journals::CUT_DATAGRAM,
+            ],
+            "input 3: Cut",
+        ),
+        (&[journals::CUT_DATAGRAM, NEITHER], "input 1: Cut"),
+        (&[journals::SWAPPED, "464C4A4E0001"], "input 1: Order"),
     ];
     for (texts, line) in rows {
         let inputs = blobs(rt.alloc(), texts)?;
@@ -145,7 +152,7 @@ fn the_first_fault_is_told(rt: HostRuntime) -> Result<(), Fail> {
 
 #[test]
 fn what_is_over_together_is_told_last(rt: HostRuntime) -> Result<(), Fail> {
-    let swapped = bytes(rt.alloc(), vectors::SWAPPED)?;
+    let swapped = bytes(rt.alloc(), journals::SWAPPED)?;
     let half = conflicts(rt.alloc(), 0..40)?;
     let other = conflicts(rt.alloc(), 40..80)?;
     let fault = join(rt.alloc(), &[half, other]).err().ok_or("a fault")?;

@@ -1,6 +1,5 @@
 //! What is held of objects, the gaps that are left, and objects that are written.
 
-use super::vectors::{self, bytes};
 use flute_parts::{
     Bytes, Fact, Info, Key, MemorySink, MemorySource, ObjectKey, SessionKey, ShortSink, SymbolId,
 };
@@ -8,25 +7,10 @@ use flute_store::{ExtractFault, Shelf, Taken};
 use flutejoin::{CommandFault, check_whole, count_to, extract_to, gaps_to, load, save_to};
 use std::alloc::Global;
 use std::test::Fail;
-
-// Packets of session 7 and file 1: information and a symbol, another symbol, other information, and a symbol alone.
-const FIRST: &str =
-    "10A00800 00000000 00000007 00000001 40040000 00000005 00000004 00000002 00000000 68656C6C";
-
-const LAST: &str =
-    "10A00800 00000000 00000007 00000001 40040000 00000005 00000004 00000002 00000001 6F";
-
-const INFORMATION: &str = "10A00800 00000000 00000007 00000001 40040000 00000005 00000004 00000002";
-
-const OTHER_INFORMATION: &str =
-    "10A00800 00000000 00000007 00000001 40040000 00000005 00000004 00000003";
-
-const SYMBOL: &str = "10A00400 00000000 00000007 00000001 00000000 68656C6C";
-
-// A symbol of FDT Instance 3 of session 7, and one of session 8.
-const INSTANCE: &str = "10A00500 00000000 00000007 00000000 C0200003 00000000 3C";
-
-const OTHER_SESSION: &str = "10A00400 00000000 00000008 00000001 00000000 61";
+use test_vectors::{
+    FDT_INSTANCE, FIRST_SYMBOL, INFO_ALONE, INFO_AND_FIRST_SYMBOL, INFO_AND_LAST_SYMBOL,
+    OTHER_INFO, OTHER_SESSION, bytes, journals,
+};
 
 fn shelf_of(alloc: Global, datagrams: &[&str]) -> Result<Shelf, Fail> {
     let mut shelf = Shelf::new(alloc);
@@ -47,7 +31,7 @@ fn key() -> Option<Key> {
 #[test]
 fn a_whole_file_is_taken(rt: HostRuntime) -> Result<(), Fail> {
     let mut shelf = Shelf::new(rt.alloc());
-    for datagram in [FIRST, LAST] {
+    for datagram in [INFO_AND_FIRST_SYMBOL, INFO_AND_LAST_SYMBOL] {
         let datagram = bytes(rt.alloc(), datagram)?;
         let taken = shelf.take(rt.alloc(), &datagram);
         assert!(rt; taken == Ok(Taken { facts: 2 }));
@@ -58,7 +42,7 @@ fn a_whole_file_is_taken(rt: HostRuntime) -> Result<(), Fail> {
     assert_eq!(rt; object.as_slice(), b"hello".as_slice());
     let mut journal = MemorySink::new(rt.alloc());
     assert_eq!(rt; save_to(&shelf, &mut journal)?, 3);
-    let whole = bytes(rt.alloc(), vectors::WHOLE)?;
+    let whole = bytes(rt.alloc(), journals::WHOLE)?;
     assert_eq!(rt; journal.as_slice(), whole.as_slice());
     for good in 0..5 {
         let mut sink = ShortSink::new(rt.alloc(), good);
@@ -73,17 +57,25 @@ fn gaps_are_printed(rt: HostRuntime) -> Result<(), Fail> {
     let rows: [(&[&str], &str); 6] = [
         (&[], ""),
         (
-            &[FIRST],
+            &[INFO_AND_FIRST_SYMBOL],
             "session 7 object 1 partial missing 1 conflicting 0 misfit 0\ngap 0/1-1 missing\n",
         ),
-        (&[SYMBOL], "session 7 object 1 no information\n"),
+        (&[FIRST_SYMBOL], "session 7 object 1 no information\n"),
         (
-            &[INFORMATION, OTHER_INFORMATION],
+            &[INFO_ALONE, OTHER_INFO],
             "session 7 object 1 conflicting information\n",
         ),
-        (&[FIRST, LAST], "session 7 object 1 whole 5\n"),
         (
-            &[OTHER_SESSION, FIRST, LAST, INSTANCE],
+            &[INFO_AND_FIRST_SYMBOL, INFO_AND_LAST_SYMBOL],
+            "session 7 object 1 whole 5\n",
+        ),
+        (
+            &[
+                OTHER_SESSION,
+                INFO_AND_FIRST_SYMBOL,
+                INFO_AND_LAST_SYMBOL,
+                FDT_INSTANCE,
+            ],
             "session 7 object fdt 3 no information\nsession 7 object 1 whole 5\nsession 8 object 1 no information\n",
         ),
     ];
@@ -147,14 +139,14 @@ gap 2/0-1 missing
 
 #[test]
 fn journals_are_loaded(rt: HostRuntime) -> Result<(), Fail> {
-    let journal = bytes(rt.alloc(), vectors::WHOLE)?;
+    let journal = bytes(rt.alloc(), journals::WHOLE)?;
     let shelf = load(rt.alloc(), &mut MemorySource::new(&journal))?;
     let mut facts = shelf.walk();
     for _ in 0..3 {
         assert!(rt; facts.next().is_some());
     }
     assert!(rt; facts.next().is_none());
-    let journal = bytes(rt.alloc(), vectors::SWAPPED)?;
+    let journal = bytes(rt.alloc(), journals::SWAPPED)?;
     let fault = load(rt.alloc(), &mut MemorySource::new(&journal)).err();
     let fault = fault.ok_or("a fault")?;
     assert_eq!(rt; fault.to_string(rt.alloc())?.as_str(), "input 1: Order");
@@ -181,7 +173,7 @@ fn a_store_is_full(rt: HostRuntime) -> Result<(), Fail> {
 
 #[test]
 fn whole_objects_are_extracted(rt: HostRuntime) -> Result<(), Fail> {
-    let shelf = shelf_of(rt.alloc(), &[FIRST, LAST])?;
+    let shelf = shelf_of(rt.alloc(), &[INFO_AND_FIRST_SYMBOL, INFO_AND_LAST_SYMBOL])?;
     let key = key().ok_or("a key")?;
     check_whole(&shelf, &key)?;
     let mut sink = MemorySink::new(rt.alloc());
@@ -200,9 +192,9 @@ fn whole_objects_are_extracted(rt: HostRuntime) -> Result<(), Fail> {
 fn other_objects_are_not_extracted(rt: HostRuntime) -> Result<(), Fail> {
     let rows: [(&[&str], &str); 4] = [
         (&[OTHER_SESSION], "no object"),
-        (&[SYMBOL], "no information"),
-        (&[INFORMATION, OTHER_INFORMATION], "conflicting information"),
-        (&[FIRST], "not whole: 0/1"),
+        (&[FIRST_SYMBOL], "no information"),
+        (&[INFO_ALONE, OTHER_INFO], "conflicting information"),
+        (&[INFO_AND_FIRST_SYMBOL], "not whole: 0/1"),
     ];
     let key = key().ok_or("a key")?;
     for (datagrams, text) in rows {

@@ -1,12 +1,12 @@
 //! Inputs that are joined as they are read come to what they come to in memory, or have the same fault.
 ghost use Rattle.std.specs.Prelude.{◌<◌};
 
-use super::joining::{CUT, NEITHER, REFUSED_BETWEEN, blob, blobs, conflicts, join, journal_of};
-use super::vectors::{self, bytes};
+use super::joining::{NEITHER, blob, blobs, conflicts, join, journal_of};
 use flute_parts::{MemorySource, ShortSource, Source};
 use flutejoin::{Blob, CommandFault, Joined, Opened, at_input, is_too_large, join_opened};
 use std::alloc::Global;
 use std::test::Fail;
+use test_vectors::{bytes, journals};
 
 // What inputs come to, or the line of their fault, as one text.
 fn told(alloc: Global, joined: Result<Joined, CommandFault>) -> Result<String, Fail> {
@@ -75,17 +75,21 @@ fn join_pieces(
 fn opened_inputs_come_to_what_they_are(rt: HostRuntime) -> Result<(), Fail> {
     let rows: [&[&str]; 22] = [
         &[],
-        &[vectors::NOTHING],
-        &[vectors::WHOLE],
-        &[vectors::DATAGRAMS],
+        &[journals::NOTHING],
+        &[journals::WHOLE],
+        &[journals::DATAGRAMS],
         &["464C44470001"],
-        &[vectors::DATAGRAMS, vectors::WHOLE],
-        &[REFUSED_BETWEEN],
-        &[vectors::WHOLE, vectors::DATAGRAMS, REFUSED_BETWEEN],
-        &[vectors::NOTHING, vectors::CONFLICT],
-        &[vectors::OTHERS, vectors::JOINED, vectors::DATAGRAMS],
+        &[journals::DATAGRAMS, journals::WHOLE],
+        &[journals::REFUSED_BETWEEN],
+        &[
+            journals::WHOLE,
+            journals::DATAGRAMS,
+            journals::REFUSED_BETWEEN,
+        ],
+        &[journals::NOTHING, journals::CONFLICT],
+        &[journals::OTHERS, journals::JOINED, journals::DATAGRAMS],
         // neither, and too short to be either
-        &[vectors::INSTANCE, "00000000"],
+        &[journals::INSTANCE, "00000000"],
         &[NEITHER],
         &[""],
         &["464C4A"],
@@ -93,11 +97,15 @@ fn opened_inputs_come_to_what_they_are(rt: HostRuntime) -> Result<(), Fail> {
         // cut, and in no order
         &["464C4A4E"],
         &["464C4447"],
-        &[CUT],
-        &[vectors::WHOLE, vectors::SWAPPED],
-        &[vectors::SWAPPED, NEITHER],
-        &[vectors::SWAPPED, vectors::DATAGRAMS, CUT],
-        &[vectors::SWAPPED, "464C4A4E0001"],
+        &[journals::CUT_DATAGRAM],
+        &[journals::WHOLE, journals::SWAPPED],
+        &[journals::SWAPPED, NEITHER],
+        &[
+            journals::SWAPPED,
+            journals::DATAGRAMS,
+            journals::CUT_DATAGRAM,
+        ],
+        &[journals::SWAPPED, "464C4A4E0001"],
     ];
     for texts in rows {
         let inputs = blobs(rt.alloc(), texts)?;
@@ -115,7 +123,7 @@ fn opened_inputs_come_to_what_they_are(rt: HostRuntime) -> Result<(), Fail> {
 
 #[test]
 fn opened_inputs_over_the_limits_are_told(rt: HostRuntime) -> Result<(), Fail> {
-    let swapped = bytes(rt.alloc(), vectors::SWAPPED)?;
+    let swapped = bytes(rt.alloc(), journals::SWAPPED)?;
     let rows = [
         (
             [
@@ -161,8 +169,8 @@ fn opened_inputs_over_the_limits_are_told(rt: HostRuntime) -> Result<(), Fail> {
 
 #[test]
 fn a_failed_source_is_told_at_its_place(rt: HostRuntime) -> Result<(), Fail> {
-    for short in [vectors::WHOLE, vectors::DATAGRAMS] {
-        let inputs = blobs(rt.alloc(), &[vectors::DATAGRAMS, short, vectors::OTHERS])?;
+    for short in [journals::WHOLE, journals::DATAGRAMS] {
+        let inputs = blobs(rt.alloc(), &[journals::DATAGRAMS, short, journals::OTHERS])?;
         let count = bytes(rt.alloc(), short)?.len();
         for good in 0..=count {
             let fault = join_pieces(rt.alloc(), &inputs, 1, 2, good)
@@ -178,12 +186,20 @@ fn a_failed_source_is_told_at_its_place(rt: HostRuntime) -> Result<(), Fail> {
     }
     // the first bytes, then the datagram files, and the journals last
     let rows: [(&[&str], usize, &str); 6] = [
-        (&[NEITHER, vectors::DATAGRAMS], 3, "input 2: Read"),
-        (&[NEITHER, vectors::DATAGRAMS], 4, "input 1: unknown kind"),
-        (&[vectors::SWAPPED, vectors::DATAGRAMS], 4, "input 2: Read"),
-        (&[vectors::SWAPPED, vectors::WHOLE], 4, "input 1: Order"),
-        (&[vectors::SWAPPED, vectors::WHOLE], 3, "input 2: Read"),
-        (&[CUT, vectors::DATAGRAMS], 4, "input 1: Cut"),
+        (&[NEITHER, journals::DATAGRAMS], 3, "input 2: Read"),
+        (&[NEITHER, journals::DATAGRAMS], 4, "input 1: unknown kind"),
+        (
+            &[journals::SWAPPED, journals::DATAGRAMS],
+            4,
+            "input 2: Read",
+        ),
+        (&[journals::SWAPPED, journals::WHOLE], 4, "input 1: Order"),
+        (&[journals::SWAPPED, journals::WHOLE], 3, "input 2: Read"),
+        (
+            &[journals::CUT_DATAGRAM, journals::DATAGRAMS],
+            4,
+            "input 1: Cut",
+        ),
     ];
     for (texts, good, line) in rows {
         let inputs = blobs(rt.alloc(), texts)?;

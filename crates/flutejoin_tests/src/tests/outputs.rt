@@ -1,7 +1,5 @@
 //! Worked examples of what is written after runs, and of whole inputs.
-use super::datagrams;
 use super::runs::{file, take};
-use super::vectors::{self, bytes};
 use flute_journal::SaveFault;
 use flute_parts::{MemorySink, MemorySource, ShortSink, ShortSource};
 use flute_store::ExtractFault;
@@ -9,17 +7,18 @@ use flutejoin::{
     Blob, BlobFault, OutputFault, RunFault, StepFault, journal_after, laws, object_after,
 };
 use std::test::Fail;
+use test_vectors::{bytes, journals};
 
 #[test]
 fn a_journal_is_written_after_a_run(rt: HostRuntime) -> Result<(), Fail> {
     let steps = [
-        take(rt.alloc(), 0, datagrams::INFO_AND_FIRST)?,
-        take(rt.alloc(), 0, datagrams::INFO_AND_LAST)?,
+        take(rt.alloc(), 0, test_vectors::INFO_AND_FIRST_SYMBOL)?,
+        take(rt.alloc(), 0, test_vectors::INFO_AND_LAST_SYMBOL)?,
     ];
     let mut sink = MemorySink::new(rt.alloc());
     let written = journal_after::<64, 4096, 1_048_576, _>(rt.alloc(), 1, &steps, 0, &mut sink);
     assert_eq!(rt; written, Ok(3));
-    let wanted = bytes(rt.alloc(), vectors::WHOLE)?;
+    let wanted = bytes(rt.alloc(), journals::WHOLE)?;
     assert_eq!(rt; sink.as_slice(), wanted.as_slice());
     let mut short = ShortSink::new(rt.alloc(), 109);
     let written = journal_after::<64, 4096, 1_048_576, _>(rt.alloc(), 1, &steps, 0, &mut short);
@@ -40,8 +39,8 @@ fn a_journal_is_written_after_a_run(rt: HostRuntime) -> Result<(), Fail> {
 fn an_object_is_written_after_a_run(rt: HostRuntime) -> Result<(), Fail> {
     let key = file().ok_or("a key")?;
     let steps = [
-        take(rt.alloc(), 0, datagrams::FIRST)?,
-        take(rt.alloc(), 1, datagrams::INFO_AND_LAST)?,
+        take(rt.alloc(), 0, test_vectors::FIRST_SYMBOL)?,
+        take(rt.alloc(), 1, test_vectors::INFO_AND_LAST_SYMBOL)?,
         flutejoin::Step::Merge { into: 0, from: 1 },
     ];
     let mut sink = MemorySink::new(rt.alloc());

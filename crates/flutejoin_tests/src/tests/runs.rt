@@ -1,8 +1,6 @@
 //! Worked examples of runs of replicas.
 ghost use Rattle.std.specs.Prelude.{◌+◌, ◌*◌, ◌<◌, ◌^◌};
 
-use super::datagrams;
-use super::vectors::{self, bytes};
 use flute_journal::{ReadFault, write_store};
 use flute_parts::{
     Bytes, Fact, FactRef, Info, Key, MemorySink, MemorySource, ObjectKey, SessionKey, ShortSource,
@@ -17,12 +15,13 @@ use flutejoin::{
 use std::alloc::Global;
 use std::process::Abort;
 use std::test::Fail;
+use test_vectors::{bytes, journals};
 
 /// Replicas of the size that the program uses.
 type Shelves = Replicas<64, 4096, 1_048_576>;
 
 pub fn take(alloc: Global, replica: u32, hex: &str) -> Result<Step, Fail> {
-    let datagram = Datagram::from_vec(hex::decode(alloc, hex)?)?;
+    let datagram = Datagram::from_vec(bytes(alloc, hex)?)?;
     Ok(Step::Take { replica, datagram })
 }
 
@@ -68,9 +67,9 @@ pub fn assert_writes<const SESSIONS: u32, const OBJECTS: u32, const SYMBOLS: u32
 /// Three replicas, each given a part of the file, merged in a ring, with what needs nothing at the end.
 pub fn ring(alloc: Global) -> Result<Vec<Step>, Fail> {
     let mut steps = Vec::new(alloc);
-    steps.push(take(alloc, 0, datagrams::INFO_AND_FIRST)?)?;
-    steps.push(take(alloc, 1, datagrams::INFO_AND_LAST)?)?;
-    steps.push(take(alloc, 2, datagrams::FIRST_NARROW)?)?;
+    steps.push(take(alloc, 0, test_vectors::INFO_AND_FIRST_SYMBOL)?)?;
+    steps.push(take(alloc, 1, test_vectors::INFO_AND_LAST_SYMBOL)?)?;
+    steps.push(take(alloc, 2, test_vectors::FIRST_SYMBOL_NARROW)?)?;
     for (into, from) in [(0, 1), (1, 2), (2, 0), (0, 2), (0, 0)] {
         steps.push(Step::Merge { into, from })?;
     }
@@ -81,7 +80,7 @@ pub fn ring(alloc: Global) -> Result<Vec<Step>, Fail> {
 #[test]
 fn a_step_on_one_new_replica(rt: HostRuntime) -> Result<(), Fail> {
     let mut replicas = Shelves::new(rt.alloc(), 1)?;
-    let step = take(rt.alloc(), 0, datagrams::FIRST)?;
+    let step = take(rt.alloc(), 0, test_vectors::FIRST_SYMBOL)?;
     assert_eq!(rt; replicas.step(rt.alloc(), &step), Ok(()));
     assert_eq!(rt; replicas.count(), 1);
     let store = replicas.store(0).ok_or("a replica")?;
@@ -95,7 +94,7 @@ fn replicas_merged_in_a_ring(rt: HostRuntime) -> Result<(), Fail> {
     let replicas = run::<64, 4096, 1_048_576>(rt.alloc(), 3, &steps)?;
     for replica in 0..3 {
         let store = replicas.store(replica).ok_or("a replica")?;
-        assert_writes(&rt, rt.alloc(), store, vectors::WHOLE)?;
+        assert_writes(&rt, rt.alloc(), store, journals::WHOLE)?;
     }
     Ok(())
 }
@@ -103,13 +102,13 @@ fn replicas_merged_in_a_ring(rt: HostRuntime) -> Result<(), Fail> {
 #[test]
 fn a_journal_is_loaded(rt: HostRuntime) -> Result<(), Fail> {
     let steps = [
-        take(rt.alloc(), 0, datagrams::INFO_AND_FIRST)?,
-        load(rt.alloc(), 0, vectors::OTHERS)?,
+        take(rt.alloc(), 0, test_vectors::INFO_AND_FIRST_SYMBOL)?,
+        load(rt.alloc(), 0, journals::OTHERS)?,
     ];
     let replicas = run::<64, 4096, 1_048_576>(rt.alloc(), 1, &steps)?;
     let store = replicas.store(0).ok_or("a replica")?;
     assert_eq!(rt; store.walk().count(), 4);
-    assert_writes(&rt, rt.alloc(), store, vectors::FIRST_AND_OTHERS)?;
+    assert_writes(&rt, rt.alloc(), store, journals::INFO_AND_OTHERS)?;
     let key = file().ok_or("a key")?;
     let mut object = MemorySink::new(rt.alloc());
     assert_eq!(rt; store.extract(&key, &mut object), Ok(5));
@@ -135,8 +134,8 @@ fn no_replicas(rt: HostRuntime) -> Result<(), Fail> {
 #[test]
 fn refused_datagrams_are_counted(rt: HostRuntime) -> Result<(), Fail> {
     let steps = [
-        take(rt.alloc(), 0, datagrams::FIRST)?,
-        take(rt.alloc(), 0, datagrams::REFUSED)?,
+        take(rt.alloc(), 0, test_vectors::FIRST_SYMBOL)?,
+        take(rt.alloc(), 0, test_vectors::REFUSED)?,
         Step::Merge { into: 1, from: 0 },
     ];
     let replicas = run::<64, 4096, 1_048_576>(rt.alloc(), 2, &steps)?;
@@ -169,15 +168,15 @@ fn runs_stop_at_the_first_fault(rt: HostRuntime) -> Result<(), Fail> {
     let steps = [Step::Merge { into: 0, from: 1 }];
     assert_stops::<64, 4096, 1_048_576>(&rt, rt.alloc(), &steps, 0, StepFault::NoReplica);
     let order = StepFault::Journal(ReadFault::Order);
-    let steps = [load(rt.alloc(), 0, vectors::SWAPPED)?];
+    let steps = [load(rt.alloc(), 0, journals::SWAPPED)?];
     assert_stops::<64, 4096, 1_048_576>(&rt, rt.alloc(), &steps, 0, order);
     let steps = [
-        take(rt.alloc(), 0, datagrams::FIRST)?,
-        take(rt.alloc(), 0, datagrams::LAST)?,
+        take(rt.alloc(), 0, test_vectors::FIRST_SYMBOL)?,
+        take(rt.alloc(), 0, test_vectors::LAST_SYMBOL)?,
     ];
     assert_stops::<1, 1, 1>(&rt, rt.alloc(), &steps, 1, StepFault::Full);
     // The entries pass the limits before the byte behind the end is met.
-    let steps = [load(rt.alloc(), 0, vectors::TRAILING)?];
+    let steps = [load(rt.alloc(), 0, journals::TRAILING)?];
     assert_stops::<1, 1, 1>(&rt, rt.alloc(), &steps, 0, StepFault::Full);
     Ok(())
 }
@@ -186,10 +185,10 @@ fn runs_stop_at_the_first_fault(rt: HostRuntime) -> Result<(), Fail> {
 #[test]
 fn steps_without_memory_do_not_stop_a_run(rt: HostRuntime) -> Result<(), Fail> {
     let steps = [
-        take(rt.alloc(), 0, datagrams::FIRST)?,
-        take(rt.alloc(), 0, datagrams::FIRST_NARROW)?,
+        take(rt.alloc(), 0, test_vectors::FIRST_SYMBOL)?,
+        take(rt.alloc(), 0, test_vectors::FIRST_SYMBOL_NARROW)?,
         add_first(rt.alloc(), 0)?,
-        take(rt.alloc(), 0, datagrams::REFUSED)?,
+        take(rt.alloc(), 0, test_vectors::REFUSED)?,
         Step::Merge { into: 0, from: 0 },
     ];
     let replicas = run::<1, 1, 1>(rt.alloc(), 1, &steps)?;

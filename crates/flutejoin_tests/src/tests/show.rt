@@ -1,10 +1,10 @@
 //! The lines of journals, and what is told where they stop.
 
-use super::vectors::{self, bytes};
 use flute_journal::ReadFault;
 use flute_parts::{InfoFault, MemorySink, MemorySource, ShortSink, ShortSource};
 use flutejoin::{CommandFault, show_to};
 use std::test::Fail;
+use test_vectors::{bytes, journals};
 
 const WHOLE_LINES: &str = "\
 session 7 object 1 info length 5 symbol 4 block 2
@@ -16,18 +16,18 @@ entries 3
 #[test]
 fn journals_are_shown(rt: HostRuntime) -> Result<(), Fail> {
     let rows = [
-        (vectors::NOTHING, "entries 0\n"),
-        (vectors::WHOLE, WHOLE_LINES),
+        (journals::NOTHING, "entries 0\n"),
+        (journals::WHOLE, WHOLE_LINES),
         (
-            vectors::CONFLICT,
+            journals::CONFLICT,
             "session 7 object 1 info conflict\nentries 1\n",
         ),
         (
-            vectors::JOINED,
+            journals::JOINED,
             "session 7 object 1 info length 5 symbol 4 block 2\nsession 7 object 1 symbol 0/0 length 4 68656c6c\nsession 7 object 1 symbol 0/1 conflict\nsession 7 object 1 symbol 0/2 length 1 78\nentries 4\n",
         ),
         (
-            vectors::INSTANCE,
+            journals::INSTANCE,
             "session 7 object fdt 3 symbol 0/0 length 1 3c\nentries 1\n",
         ),
     ];
@@ -43,7 +43,7 @@ fn journals_are_shown(rt: HostRuntime) -> Result<(), Fail> {
 // The lines of the entries before the fault are printed, and then its text.
 #[test]
 fn lines_stop_at_a_fault(rt: HostRuntime) -> Result<(), Fail> {
-    let journal = bytes(rt.alloc(), vectors::SWAPPED)?;
+    let journal = bytes(rt.alloc(), journals::SWAPPED)?;
     let mut sink = MemorySink::new(rt.alloc());
     let fault = show_to(rt.alloc(), &mut MemorySource::new(&journal), &mut sink)
         .err()
@@ -61,7 +61,7 @@ session 7 object 1 symbol 0/1 length 1 6f
 // In whatever pieces the source hands out its bytes, and wherever it fails.
 #[test]
 fn sources_may_be_short(rt: HostRuntime) -> Result<(), Fail> {
-    let journal = bytes(rt.alloc(), vectors::WHOLE)?;
+    let journal = bytes(rt.alloc(), journals::WHOLE)?;
     for piece in [1, 2, 7] {
         let mut sink = MemorySink::new(rt.alloc());
         let mut source = ShortSource::new(&journal, piece, journal.len() + 1);
@@ -83,7 +83,7 @@ fn sources_may_be_short(rt: HostRuntime) -> Result<(), Fail> {
 
 #[test]
 fn a_failed_write_leaves_first_lines(rt: HostRuntime) -> Result<(), Fail> {
-    let journal = bytes(rt.alloc(), vectors::WHOLE)?;
+    let journal = bytes(rt.alloc(), journals::WHOLE)?;
     let lines = WHOLE_LINES.as_bytes();
     for good in 0..lines.len() {
         let mut sink = ShortSink::new(rt.alloc(), good);

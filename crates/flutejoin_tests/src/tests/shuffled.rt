@@ -1,68 +1,48 @@
 //! Random lists of steps, in other orders and groupings: the journals are equal byte for byte.
-ghost use Rattle.std.specs.Prelude.{◌<◌};
-
 use super::runs::{add_first, load, take};
-use super::{datagrams, vectors};
 use flute_journal::write_store;
 use flute_parts::{MemorySink, MemorySource};
 use flutejoin::{Blob, Replicas, Step, run};
 use std::alloc::Global;
 use std::test::Fail;
+use test_vectors::{Draw, journals};
 
 /// How many replicas the steps are scattered over.
 const REPLICAS: u32 = 3;
 
 /// What a replica may be given: each datagram, each journal, and a fact.
 const DATAGRAMS: &[&str] = &[
-    datagrams::INFO_AND_FIRST,
-    datagrams::INFO_AND_LAST,
-    datagrams::INFO_AND_PADDED,
-    datagrams::FIRST_NARROW,
-    datagrams::INFO_ALONE,
-    datagrams::OTHER_INFO,
-    datagrams::LAST,
-    datagrams::FIRST,
-    datagrams::GREAT_TOI,
-    datagrams::FDT_INSTANCE,
-    datagrams::EMPTY_FILE,
-    datagrams::TOO_LONG,
-    datagrams::OTHER_SESSION,
-    datagrams::OTHER_FILE,
-    datagrams::STRAY,
-    datagrams::REFUSED,
+    test_vectors::INFO_AND_FIRST_SYMBOL,
+    test_vectors::INFO_AND_LAST_SYMBOL,
+    test_vectors::INFO_AND_PADDED_SYMBOL,
+    test_vectors::FIRST_SYMBOL_NARROW,
+    test_vectors::INFO_ALONE,
+    test_vectors::OTHER_INFO,
+    test_vectors::LAST_SYMBOL,
+    test_vectors::FIRST_SYMBOL,
+    test_vectors::WIDEST_FIELDS,
+    test_vectors::FDT_INSTANCE,
+    test_vectors::INFO_OF_EMPTY_FILE,
+    test_vectors::LONG_LAST_SYMBOL,
+    test_vectors::OTHER_SESSION,
+    test_vectors::OTHER_FILE,
+    test_vectors::STRAY_SYMBOL,
+    test_vectors::REFUSED,
 ];
 
 const JOURNALS: &[&str] = &[
-    vectors::NOTHING,
-    vectors::WHOLE,
-    vectors::CONFLICT,
-    vectors::OTHERS,
-    vectors::JOINED,
+    journals::NOTHING,
+    journals::WHOLE,
+    journals::CONFLICT,
+    journals::OTHERS,
+    journals::JOINED,
 ];
 
 const GIFTS: usize = 22;
 
-/// Numbers that look random, and are the same in each run.
-#[derive(Drop)]
-struct Draw {
-    state: u64,
-}
-
-impl Draw {
-    fn below(&mut self, count: usize) -> usize
-        requires { 0 < count }
-        ensures { result < count }
-    {
-        self.state = self
-            .state
-            .wrapping_mul(6_364_136_223_846_793_005)
-            .wrapping_add(1_442_695_040_888_963_407);
-        ((self.state >> 33) % count as u64) as usize
-    }
-
-    fn replica(&mut self) -> u32 {
-        self.below(REPLICAS as usize) as u32
-    }
+/// A replica.
+fn replica(draw: &mut Draw) -> u32 {
+    draw.below(REPLICAS as usize) as u32
 }
 
 /// The step that gives a replica one of these.
@@ -109,23 +89,25 @@ fn in_order(alloc: Global, gifts: &[usize]) -> Result<Vec<Step>, Fail> {
 fn scattered(alloc: Global, draw: &mut Draw, gifts: &[usize]) -> Result<Vec<Step>, Fail> {
     let mut steps = Vec::new(alloc);
     for gift in &shuffled(alloc, draw, gifts)? {
-        steps.push(giving(alloc, draw.replica(), *gift)?)?;
+        steps.push(giving(alloc, replica(draw), *gift)?)?;
         match draw.below(6) {
-            0 => steps.push(giving(alloc, draw.replica(), *gift)?)?,
+            0 => steps.push(giving(alloc, replica(draw), *gift)?)?,
             1 | 2 => steps.push(Step::Merge {
-                into: draw.replica(),
-                from: draw.replica(),
+                into: replica(draw),
+                from: replica(draw),
             })?,
             3 => steps.push(Step::Reopen {
-                replica: draw.replica(),
+                replica: replica(draw),
             })?,
             _ => {}
         }
     }
     let first = journal(alloc, 1, &in_order(alloc, &gifts[..gifts.len() / 2])?, 0)?;
     let journal = Blob::read(alloc, &mut MemorySource::new(first.as_slice()))?;
-    let replica = draw.replica();
-    steps.push(Step::Load { replica, journal })?;
+    steps.push(Step::Load {
+        replica: replica(draw),
+        journal,
+    })?;
     for (into, from) in [(0, 1), (0, 2), (1, 0), (2, 1)] {
         steps.push(Step::Merge { into, from })?;
     }
@@ -143,7 +125,7 @@ fn journal(alloc: Global, count: u32, steps: &[Step], replica: u32) -> Result<Me
 
 #[test]
 fn the_same_gifts_make_one_journal(rt: HostRuntime) -> Result<(), Fail> {
-    let mut draw = Draw { state: 20_260_707 };
+    let mut draw = Draw::new(20_260_707);
     for _ in 0..50 {
         let gifts = drawn(rt.alloc(), &mut draw)?;
         let wanted = journal(rt.alloc(), 1, &in_order(rt.alloc(), &gifts)?, 0)?;

@@ -1,8 +1,13 @@
-//! Datagrams in hex, by name. Spaces are no part of them.
+//! What the tests of several crates read: datagrams and journals in hexadecimal, by name, and numbers that look random.
 //!
-//! Those of session 7 and file 1 belong to a file `hello` of 5 bytes, in symbols of 4 bytes and blocks of at most 2
-//! symbols, so one block of two symbols.
+//! The datagrams of session 7 and file 1 belong to a file `hello` of 5 bytes, in symbols of 4 bytes and blocks of at most
+//! 2 symbols, so one block of two symbols. Spaces and line feeds are no part of the bytes.
+#![tactic(auto)]
 
+mod draw;
+pub mod journals;
+
+pub use draw::Draw;
 use std::alloc::Global;
 use std::test::Fail;
 
@@ -35,11 +40,25 @@ pub const LAST_SYMBOL: &str = "10A00400 00000000 00000007 00000001 00000001 6F";
 /// Symbol 0, without EXT_FTI.
 pub const FIRST_SYMBOL: &str = "10A00400 00000000 00000007 00000001 00000000 68656C6C";
 
+/// The last symbol with a byte too many.
+pub const LONG_LAST_SYMBOL: &str = "10A00400 00000000 00000007 00000001 00000001 6F21";
+
+/// Symbol 2 of block 0, which the file does not have.
+pub const STRAY_SYMBOL: &str = "10A00400 00000000 00000007 00000001 00000002 78";
+
+/// A TSI of 48 bits, and the largest TOI, which has 112.
+pub const WIDEST_FIELDS: &str =
+    "10F00700 00000000 00000000 0007FFFF FFFFFFFF FFFFFFFF FFFFFFFF 00000000 61";
+
 /// FDT Instance 3.
 pub const FDT_INSTANCE: &str = "10A00500 00000000 00000007 00000000 C0200003 00000000 3C";
 
 /// FDT Instance 4.
 pub const OTHER_FDT_INSTANCE: &str = "10A00500 00000000 00000007 00000000 C0200004 00000000 3D";
+
+/// EXT_FTI of a file with no bytes, with symbols and blocks of 0.
+pub const INFO_OF_EMPTY_FILE: &str =
+    "10A00800 00000000 00000007 00000001 40040000 00000000 00000000 00000000";
 
 /// File 1 of session 8.
 pub const OTHER_SESSION: &str = "10A00400 00000000 00000008 00000001 00000000 61";
@@ -47,24 +66,26 @@ pub const OTHER_SESSION: &str = "10A00400 00000000 00000008 00000001 00000000 61
 /// File 2.
 pub const OTHER_FILE: &str = "10A00400 00000000 00000007 00000002 00000000 61";
 
-/// The bytes that a text in hex has.
-pub fn bytes(alloc: Global, hex: &str) -> Result<Vec<u8>, Fail> {
-    let mut bytes = Vec::new(alloc);
-    let mut high = None;
-    for c in hex.bytes() {
-        let digit = match c {
-            b' ' => continue,
-            b'0'..=b'9' => c - b'0',
-            b'A'..=b'F' => c - b'A' + 10,
-            _ => return Err(Fail::from("no hex digit")),
-        };
-        match high {
-            None => high = Some(digit << 4),
-            Some(high_digit) => {
-                bytes.push(high_digit | digit)?;
-                high = None;
-            }
-        }
+/// Three bytes, which are too few.
+pub const REFUSED: &str = "10A000";
+
+/// The bytes that a text in hexadecimal has.
+pub fn bytes(alloc: Global, text: &str) -> Result<Vec<u8>, Fail> {
+    bytes_of(alloc, &[text])
+}
+
+/// The bytes that texts in hexadecimal have together.
+pub fn bytes_of(alloc: Global, texts: &[&str]) -> Result<Vec<u8>, Fail> {
+    let mut digits = String::new(alloc);
+    for text in texts {
+        push_words(&mut digits, text)?;
     }
-    Ok(bytes)
+    Ok(hex::decode(alloc, digits.as_str())?)
+}
+
+fn push_words(digits: &mut String, text: &str) -> Result<(), Fail> {
+    for word in text.split_whitespace() {
+        digits.push_str(word)?;
+    }
+    Ok(())
 }
