@@ -1,6 +1,6 @@
 # make               proves what changed, builds the program and leaves it at bin/flutejoin
-# make test          the whole gate: every proof from nothing, the must-fail edits, the tests, the program, and
-#                    memory refused in turn
+# make test          the whole gate: every proof from nothing, the must-fail edits, the tests, the trials, the
+#                    program, and memory refused in turn
 # make wrong-bodies  the wrong bodies that the gate leaves out
 # make example       runs a small session: a file sent, received at three stations, joined and written
 # make install       copies the program to $(PREFIX)/bin
@@ -14,6 +14,7 @@ bin/flutejoin: $(SOURCES)
 
 test:
 	rt ci
+	tests/trials.sh
 	tests/program.sh crates/flutejoin_cli/out/flutejoin_cli
 	tests/outputs.sh crates/flutejoin_cli/out/flutejoin_cli
 	tests/refused_memory.sh crates/refused_memory/out/refused_memory crates/refused_memory/out/refused_memory.by-rattle

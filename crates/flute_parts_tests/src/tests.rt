@@ -1,10 +1,9 @@
 //! Worked examples, each public call on its happy path, and printed texts.
 
+mod devices;
 mod joins;
 mod listing;
 mod partitions;
-mod sinks;
-mod sources;
 mod tallies;
 
 use flute_parts::{

@@ -1,90 +1,90 @@
-//! The worked examples of the format: what each datagram says, or why it is refused.
+//! The worked examples of the format, and each public call once.
 
-mod cuts;
 mod datagrams;
-mod packets;
-mod refusals;
-mod sent;
-mod written;
 
-use flute_parts::SymbolId;
+use flute_parts::{Info, Key, ObjectKey, SessionKey, SymbolId};
 use flute_wire::*;
 use std::process::Abort;
-
-/// All that a datagram says.
-#[derive(Clone, Copy, Drop)]
-struct Said<'a> {
-    tsi: u64,
-    toi: u128,
-    instance: Option<u32>,
-    /// Transfer length, encoding symbol length and maximum source block length.
-    info: Option<(u64, u16, u32)>,
-    /// Source block number, encoding symbol ID and the symbol's bytes.
-    symbol: Option<(u16, u16, &'a [u8])>,
-}
-
-/// File 1 of session 7, with nothing more.
-const FILE: Said<'static> = Said {
-    tsi: 7,
-    toi: 1,
-    instance: None,
-    info: None,
-    symbol: None,
+use std::test::Fail;
+use test_vectors::{
+    FDT_INSTANCE, FIRST_SYMBOL, INFO_ALONE, INFO_AND_FIRST_SYMBOL, INFO_AND_LAST_SYMBOL,
+    INFO_OF_EMPTY_FILE, REFUSED, bytes,
 };
 
-impl<'a> Said<'a> {
-    /// The same of an FDT Instance.
-    fn instance(self, instance: u32) -> Self {
-        let instance = Some(instance);
-        Said {
-            toi: 0,
-            instance,
-            ..self
-        }
-    }
+const FIRST: SymbolId = SymbolId { sbn: 0, esi: 0 };
 
-    /// The same with this information.
-    fn info(self, length: u64, symbol: u16, block: u32) -> Self {
-        let info = Some((length, symbol, block));
-        Said { info, ..self }
-    }
+const LAST: SymbolId = SymbolId { sbn: 0, esi: 1 };
 
-    /// The same with this symbol.
-    fn symbol(self, sbn: u16, esi: u16, bytes: &'a [u8]) -> Self {
-        let symbol = Some((sbn, esi, bytes));
-        Said { symbol, ..self }
-    }
+/// File 1 of session 7.
+fn file(rt: &impl Abort) -> Key {
+    let session = SessionKey::new(7).expect(rt, "a session");
+    let object = ObjectKey::file(1).expect(rt, "a file");
+    Key { session, object }
 }
 
-fn assert_says(rt: &impl Abort, datagram: &[u8], said: Said<'_>) {
-    let packet = match read(datagram) {
-        Ok(packet) => packet,
-        Err(refusal) => return assert!(rt; false, "refused: {refusal}"),
-    };
-    assert_eq!(rt; packet.tsi(), said.tsi);
-    assert_eq!(rt; packet.toi(), said.toi);
-    assert_eq!(rt; packet.instance(), said.instance);
-    let key = packet.key();
-    assert_eq!(rt; key.session.tsi(), said.tsi);
-    assert_eq!(rt; key.object.toi(), said.toi);
-    assert_eq!(rt; key.object.instance(), said.instance);
-    let info = packet.info().map(|i| (i.length(), i.symbol(), i.block()));
-    assert_eq!(rt; info, said.info);
-    assert_symbol(rt, packet.symbol(), said.symbol);
+/// FDT Instance 3 of session 7.
+fn instance(rt: &impl Abort) -> Key {
+    let session = SessionKey::new(7).expect(rt, "a session");
+    let object = ObjectKey::fdt(3).expect(rt, "an FDT Instance");
+    Key { session, object }
 }
 
-fn assert_symbol(
-    rt: &impl Abort,
-    symbol: Option<(SymbolId, &[u8])>,
-    said: Option<(u16, u16, &[u8])>,
-) {
-    assert_eq!(rt; symbol.is_some(), said.is_some());
-    if let (Some((id, bytes)), Some((sbn, esi, wanted))) = (symbol, said) {
-        assert_eq!(rt; id, SymbolId { sbn, esi });
-        assert_eq!(rt; bytes, wanted);
+#[test]
+fn a_datagram_is_read(rt: HostRuntime) -> Result<(), Fail> {
+    let datagram = bytes(rt.alloc(), INFO_AND_FIRST_SYMBOL)?;
+    let packet = read(&datagram)?;
+    assert!(rt; packet.tsi() == 7 && packet.toi() == 1 && packet.instance().is_none());
+    assert!(rt; packet.key() == file(&rt));
+    assert!(rt; packet.info() == Some(Info::new(5, 4, 2)?));
+    assert!(rt; packet.symbol() == Some((FIRST, b"hell".as_slice())));
+    let datagram = bytes(rt.alloc(), REFUSED)?;
+    assert!(rt; read(&datagram).err() == Some(Refusal::TooShort));
+    Ok(())
+}
+
+#[test]
+fn datagrams_are_written(rt: HostRuntime) -> Result<(), Fail> {
+    let info = Some(Info::new(5, 4, 2)?);
+    let hell = Some((FIRST, b"hell".as_slice()));
+    for (key, info, symbol, hex) in [
+        (
+            instance(&rt),
+            None,
+            Some((FIRST, b"<".as_slice())),
+            FDT_INSTANCE,
+        ),
+        (file(&rt), None, hell, FIRST_SYMBOL),
+        (file(&rt), info, hell, INFO_AND_FIRST_SYMBOL),
+        (
+            file(&rt),
+            info,
+            Some((LAST, b"o".as_slice())),
+            INFO_AND_LAST_SYMBOL,
+        ),
+        (file(&rt), info, None, INFO_ALONE),
+    ] {
+        let datagram = write(rt.alloc(), &Outgoing { key, info, symbol })?;
+        assert!(rt; datagram.as_slice() == bytes(rt.alloc(), hex)?.as_slice());
     }
+    Ok(())
 }
 
-fn assert_refused(rt: &impl Abort, datagram: &[u8], wanted: Refusal) {
-    assert_eq!(rt; read(datagram).err(), Some(wanted));
+#[test]
+fn an_object_is_sent(rt: HostRuntime) -> Result<(), Fail> {
+    let sent = carousel(rt.alloc(), &file(&rt), &Info::new(5, 4, 2)?, b"hello")?;
+    assert!(rt; sent.len() == 2 && sent.get(2).is_none());
+    for (place, hex) in [(0, INFO_AND_FIRST_SYMBOL), (1, INFO_AND_LAST_SYMBOL)] {
+        let datagram = sent.get(place).ok_or("a datagram")?;
+        assert!(rt; datagram.as_slice() == bytes(rt.alloc(), hex)?.as_slice());
+    }
+    Ok(())
+}
+
+#[test]
+fn an_empty_object_is_sent(rt: HostRuntime) -> Result<(), Fail> {
+    let sent = carousel(rt.alloc(), &file(&rt), &Info::new(0, 0, 0)?, b"")?;
+    assert!(rt; sent.len() == 1);
+    let datagram = sent.get(0).ok_or("a datagram")?;
+    assert!(rt; datagram.as_slice() == bytes(rt.alloc(), INFO_OF_EMPTY_FILE)?.as_slice());
+    Ok(())
 }

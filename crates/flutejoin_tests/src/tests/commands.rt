@@ -1,0 +1,94 @@
+//! What commands write.
+
+use super::*;
+use flute_parts::{Info, MemorySink, MemorySource};
+use flute_store::Shelf;
+use flutejoin::{
+    CommandFault, Line, add_info, extract_to, gaps_to, line_of, load, merge_to, packet_to, save_to,
+    show_to,
+};
+use std::alloc::Global;
+use test_vectors::{bytes, journals};
+
+fn loaded(alloc: Global, journal: &str) -> Result<Shelf, Fail> {
+    let journal = bytes(alloc, journal)?;
+    Ok(load(alloc, &mut MemorySource::new(&journal))?)
+}
+
+#[test]
+fn a_line_is_read(rt: HostRuntime) -> Result<(), Fail> {
+    let words = ["show".to_string(rt.alloc())?, "J".to_string(rt.alloc())?];
+    let line = line_of(rt.alloc(), &words)?;
+    assert!(rt; matches!(&line, Line::Show { j: "J" }));
+    Ok(())
+}
+
+#[test]
+fn a_packet_is_printed(rt: HostRuntime) -> Result<(), Fail> {
+    let hex = "10A004000000000000000007000000010000000068656C6C";
+    let lines = "session 7\nobject 1\ninfo none\nsymbol 0/0 length 4 68656c6c\n";
+    let mut sink = MemorySink::new(rt.alloc());
+    packet_to(rt.alloc(), hex, &mut sink)?;
+    assert!(rt; sink.as_slice() == lines.as_bytes());
+    Ok(())
+}
+
+#[test]
+fn a_journal_is_shown(rt: HostRuntime) -> Result<(), Fail> {
+    let journal = bytes(rt.alloc(), journals::CONFLICT)?;
+    let mut sink = MemorySink::new(rt.alloc());
+    show_to(rt.alloc(), &mut MemorySource::new(&journal), &mut sink)?;
+    let lines = "session 7 object 1 info conflict\nentries 1\n";
+    assert!(rt; sink.as_slice() == lines.as_bytes());
+    Ok(())
+}
+
+#[test]
+fn gaps_are_printed(rt: HostRuntime) -> Result<(), Fail> {
+    let shelf = loaded(rt.alloc(), journals::WHOLE)?;
+    let mut sink = MemorySink::new(rt.alloc());
+    gaps_to(&shelf, &mut sink)?;
+    assert!(rt; sink.as_slice() == "session 7 object 1 whole 5\n".as_bytes());
+    Ok(())
+}
+
+#[test]
+fn an_object_is_extracted(rt: HostRuntime) -> Result<(), Fail> {
+    let shelf = loaded(rt.alloc(), journals::WHOLE)?;
+    let key = file().ok_or("a key")?;
+    let mut sink = MemorySink::new(rt.alloc());
+    assert!(rt; extract_to(&shelf, &key, &mut sink)? == 5);
+    assert!(rt; sink.as_slice() == "hello".as_bytes());
+    Ok(())
+}
+
+#[test]
+fn information_is_added(rt: HostRuntime) -> Result<(), Fail> {
+    let mut shelf = loaded(rt.alloc(), journals::SYMBOLS)?;
+    let key = file().ok_or("a key")?;
+    add_info(rt.alloc(), &mut shelf, key, Info::new(5, 4, 2)?)?;
+    let mut sink = MemorySink::new(rt.alloc());
+    assert!(rt; save_to(&shelf, &mut sink)? == 3);
+    assert!(rt; sink.as_slice() == bytes(rt.alloc(), journals::WHOLE)?.as_slice());
+    Ok(())
+}
+
+#[test]
+fn journals_are_merged(rt: HostRuntime) -> Result<(), Fail> {
+    let first = bytes(rt.alloc(), journals::WHOLE)?;
+    let second = bytes(rt.alloc(), journals::OTHERS)?;
+    let mut first = MemorySource::new(&first);
+    let mut second = MemorySource::new(&second);
+    let mut sink = MemorySink::new(rt.alloc());
+    assert!(rt; merge_to(rt.alloc(), &mut first, &mut second, &mut sink)? == 4);
+    assert!(rt; sink.as_slice() == bytes(rt.alloc(), journals::JOINED)?.as_slice());
+    Ok(())
+}
+
+#[test]
+fn a_fault_has_its_text(rt: HostRuntime) -> Result<(), Fail> {
+    let fault = CommandFault::CannotOpen(2);
+    assert!(rt; fault.to_string(rt.alloc())?.as_str() == "cannot open input 2");
+    assert!(rt; fault.status() == 3);
+    Ok(())
+}
