@@ -66,12 +66,6 @@ key_passes k rest more p =
     ∙ ap (λ (b : Bool). first_fault ((not b, faults.Key) ∷ more (key_in (key_bytes k)) rest)) read.1
     ∙ ap (λ (x : Key). first_fault (more x rest)) read.0
 
-pub key_reads : (k : Key) (rest : List ℕ) → IsKey k → (is_key (take 21 (key_bytes k ++ rest)) ≡ true) × (key_in (take 21 (key_bytes k ++ rest)) ≡ k)
-key_reads k rest p =
-    let front = take_at (key_bytes k) rest 21 (length-key_bytes k) in
-    let read = key_read k.session.tsi k.object p.0 p.1 in
-    (ap is_key front ∙ read.1, ap key_in front ∙ read.0)
-
 no_object : (p q a b : Bool) → a ≡ false → b ≡ false → (a && p || (b && q)) ≡ true → ⊥
 no_object p q false false ea eb e = cc
 no_object p q true b ea eb e = cc

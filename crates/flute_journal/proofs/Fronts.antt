@@ -1,5 +1,5 @@
 -- Faults of bytes of which a front was read.
-use Rattle.std.proofs.Common.{◌≡◌, ℕ, ◌+◌, ◌<◌, ◌≤◌, Bool, true, false, List, [], ◌++◌, length, Option, Some, None, Result, Ok, Err, inl, inr, refl, sym, ap, ◌∙◌, subst, append_assoc, arith}
+use Rattle.std.proofs.Common.{◌≡◌, ℕ, ◌+◌, ◌≤◌, Bool, true, false, List, [], ◌++◌, length, Option, Some, None, Result, Ok, Err, inl, inr, refl, sym, ap, ◌∙◌, subst, append_assoc, arith}
 use Rattle.std.proofs.lemmas.List.{length-append, append-nil}
 use Rattle.std.specs.Prelude.{IfSome, IfErr}
 use Rattle.std.specs.Io.KnownBytes.{Consumes}
@@ -51,14 +51,6 @@ fault-here (Some x) (Some y) front whole o took e = ap whole took ∙ e y
 pub stops_here : (n : ℕ) (whole : List ℕ → Option ReadFault) (front : List ℕ) (f : ReadFault) → (f ≡ faults.Cut → ⊥) → IsOfBytes f
     → ((r : List ℕ) → whole (front ++ r) ≡ Some f) → StopsFront n whole front f
 stops_here n whole front f other bytes h = record { of_bytes = bytes; short = λ e. absurd (other e); whole = λ r e. h r }
-
--- they are all that there is, and end too early
-pub stops_cut : (n : ℕ) (whole : List ℕ → Option ReadFault) (front : List ℕ) → length front < n → whole front ≡ Some faults.Cut → StopsFront n whole front faults.Cut
-stops_cut n whole front few h = record {
-  of_bytes = tt;
-  short = λ e. few;
-  whole = λ r e. ap (λ (x : List ℕ). whole (front ++ x)) (e refl) ∙ ap whole (append-nil front) ∙ h;
-}
 
 -- what stands behind their first part has the fault
 pub stops_behind : (n m : ℕ) (whole part : List ℕ → Option ReadFault) (front a b : List ℕ) (f : ReadFault) → front ≡ a ++ b → length a + m ≤ n

@@ -5,7 +5,7 @@ use Rattle.std.proofs.lemmas.List.{take_more, take_more_set, drop-set-lt, take_a
 use Rattle.std.proofs.lemmas.Option.{slice_get_within, get_or_from_slice_get}
 use Rattle.std.specs.Prelude.{◌≢◌, slice_get}
 use Rattle.flute_parts.specs.declared.address.Address.{Address}
-use Rattle.flute_journal.specs.declared.fault.ReadFault.{ReadFault}
+use Rattle.flute_journal.specs.declared.fault.LoadFault.{LoadFault}
 use Rattle.flute_journal.specs.Streams.{Behaviour, StopsAt, Advances, place_of}
 use Rattle.flute_journal.specs.Advances.{GoesOnAt, GoOnAt, StopAt}
 
@@ -70,14 +70,14 @@ module _ {S : Type 0} (b : Behaviour S) (place : Option Address) where
         rest = drop-set-lt (k + 1) now k a.after (omega arith) ∙ (as_it_was k old now x w.rest a.was).1;
       })
 
-  stop_at : (xs ys zs : List S) (x y : S) (f : ReadFault) → GoOnAt b place xs ys → place_of (b.held x) ≡ place → StopsAt b x y f
+  stop_at : (xs ys zs : List S) (x y : S) (f : LoadFault) → GoOnAt b place xs ys → place_of (b.held x) ≡ place → StopsAt b x y f
       → StopAt b place (length xs) f ((xs ++ x ∷ []) ++ zs) ((ys ++ y ∷ []) ++ zs)
   stop_at [] [] zs x y f h p s = (p, s, refl)
   stop_at [] (w ∷ ys) zs x y f h p s = absurd h
   stop_at (w ∷ xs) [] zs x y f h p s = absurd h
   stop_at (w ∷ xs) (z ∷ ys) zs x y f h p s = (h.0, stop_at xs ys zs x y f h.1 p s)
 
-  pub one_stops : (k : ℕ) (old now new : List S) (f : ReadFault) → WentSoFar k old now → (a : Advances b k now new (Err f)) → place_of (b.held a.before) ≡ place → StopAt b place k f old new
+  pub one_stops : (k : ℕ) (old now new : List S) (f : LoadFault) → WentSoFar k old now → (a : Advances b k now new (Err f)) → place_of (b.held a.before) ≡ place → StopAt b place k f old new
   one_stops k old now new f w a p =
       let x = a.before in
       let y = a.after in

@@ -1,23 +1,26 @@
 -- A journal that is read on is a stream that goes on.
 use Rattle.std.proofs.Common.{◌≡◌, ℕ, ◌+◌, ◌-◌, ◌≤◌, true, false, Bool, List, [], ◌∷◌, ◌++◌, length, Option, Some, None, Ok, Err, IsTrue, refl, sym, ap, ◌∙◌, subst, inl, inr, append-nil, arith}
 use Rattle.std.specs.Prelude.{IfSome}
-use Rattle.std.specs.List.{AllByRecursion}
-use Rattle.std.specs.Io.KnownBytes.{Keeps}
+use Rattle.std.specs.List.{AllByRecursion, flat_map}
+use Rattle.std.specs.Io.KnownBytes.{Consumes, Keeps}
 use Rattle.std.proofs.KnownBytes.{Consumes-kept, Consumes-whole}
 use Rattle.flute_parts.specs.Facts.{IsRising}
 use Rattle.flute_parts.specs.declared.fact.Fact.{Fact}
 use Rattle.flute_store.specs.Walk.{IsSized}
 use Rattle.flute_journal.specs.declared.fault.ReadFault.{ReadFault}
+use Rattle.flute_journal.specs.declared.fault.LoadFault.{LoadFault}
+use Rattle.flute_journal.specs.declared.fault.LoadFault.TheVariants as load
 use Rattle.flute_journal.specs.declared.reader.Stage.{Stage}
 use Rattle.flute_journal.specs.declared.reader.Stage.TheVariants.{Header, Entries, Ended, Failed}
 use Rattle.flute_journal.specs.declared.journal_stream.JournalStream.{JournalStream}
 use Rattle.flute_journal.specs.declared.journal_stream.LentStream.{LentStream}
-use Rattle.flute_journal.specs.Format.{spelling}
+use Rattle.flute_journal.specs.Format.{header, entry, end, spelling}
 use Rattle.flute_journal.specs.Input.{FailsIf}
-use Rattle.flute_journal.specs.Journal.{IsFact, IsJournalWithin}
+use Rattle.flute_journal.specs.Journal.{IsFact, AreEntries, IsJournalWithin}
 use Rattle.flute_journal.specs.Reading.{is_open, position, GivesEnd, GivesFault, Gives}
 use Rattle.flute_journal.specs.Readers.{source_of, limit_of, stage_of}
-use Rattle.flute_journal.specs.SoFar.{Sofar}
+use Rattle.flute_journal.specs.SoFar.{read_of, Sofar}
+use Rattle.flute_journal.specs.Stores.{BeginsWith}
 use Rattle.flute_journal.specs.Whole.{HasFault}
 use Rattle.flute_journal.specs.Merges.{ReadsBehind}
 use Rattle.flute_journal.specs.Streams.{Behaviour, option_list, Continues, GoesOn, StopsAt}
@@ -116,6 +119,21 @@ known_of limit u w stage F None r K k = record {
   ended = λ e. refl;
 }
 
+begins_read : (limit : ℕ) (u w : Option (List ℕ)) (es : List Fact) → AreEntries limit es → Consumes u w (header ++ flat_map entry es) → IfSome u (λ bytes. BeginsWith limit bytes es)
+begins_read limit None w es a h = tt
+begins_read limit (Some x) None es a h = absurd h
+begins_read limit (Some x) (Some z) es a h = record { are_entries = a; rest = z; whole = h }
+
+read_some : (es : List Fact) (f : Fact) → read_of (es ++ f ∷ []) ≡ header ++ flat_map entry (es ++ f ∷ [])
+read_some [] f = refl
+read_some (e ∷ es) f = refl
+
+begins_of : (limit : ℕ) (u w : Option (List ℕ)) (stage : Stage) (F : List Fact) (o : Option Fact) → Read limit u w stage F o → IfSome u (λ bytes. BeginsWith limit bytes (F ++ option_list o))
+begins_of limit u w stage F (Some f) r = begins_read limit u w (F ++ f ∷ []) r.are_entries (subst (Consumes u w) (read_some F f) r.read)
+begins_of limit None w stage F None r = tt
+begins_of limit (Some x) w stage F None r =
+    subst (BeginsWith limit x) (sym (append-nil F)) (record { are_entries = r.0.are_entries; rest = end (length F); whole = r.0.whole.bytes_are })
+
 room_open : (limit : ℕ) (stage : Stage) → IsTrue (is_open stage) → room limit stage ≡ limit - (position stage).count
 room_open limit Header o = omega arith
 room_open limit (Entries count last) o = refl
@@ -133,7 +151,7 @@ module _ {R : Type 0} (unread : R → Option (List ℕ)) (failures : R → ℕ) 
   b = journal_behaviour unread failures
 
   -- the same source goes on to be read
-  since : (s t u : JournalStream R) (fault : Option ReadFault) → FailsSince unread failures s t None → FailsSince unread failures t u fault → FailsSince unread failures s u fault
+  since : (s t u : JournalStream R) (fault : Option LoadFault) → FailsSince unread failures s t None → FailsSince unread failures t u fault → FailsSince unread failures s u fault
   since s t u fault h k = record {
     same_source = k.same_source ∙ h.same_source;
     failed_as = subst (λ n. FailsBy n (failures (source_of u.reader).now) fault) h.failed_as k.failed_as;
@@ -158,6 +176,7 @@ module _ {R : Type 0} (unread : R → Option (List ℕ)) (failures : R → ℕ) 
           rising = rising_of l u w (stage_of t.reader) G t.held r;
           sized = sized_of l u w (stage_of t.reader) G t.held r;
           ended = ended_of l u w (stage_of t.reader) G t.held r;
+          begins = begins_of l u w (stage_of t.reader) G t.held r;
           known = known_of l u w (stage_of t.reader) G t.held r;
         };
     fewer =
@@ -181,12 +200,12 @@ module _ {R : Type 0} (unread : R → Option (List ℕ)) (failures : R → ℕ) 
     | inr p ↦ absurd (let e = p.0 in cc)
   ]
 
-  pub stream_stops : (s t : JournalStream R) (f : ReadFault) → (IsTrue (is_open (stage_of s.reader)) → FailsSince unread failures s t (Some f))
-      → Gives (limit_of s.reader) (stage_of s.reader) (stage_of t.reader) (unread_of unread failures s) (unread_of unread failures t) (Err f) → StopsAt b s t f
+  pub stream_stops : (s t : JournalStream R) (f : ReadFault) → (IsTrue (is_open (stage_of s.reader)) → FailsSince unread failures s t (Some (load.Read f)))
+      → Gives (limit_of s.reader) (stage_of s.reader) (stage_of t.reader) (unread_of unread failures s) (unread_of unread failures t) (Err f) → StopsAt b s t (load.Read f)
   stream_stops s t f same g = λ start F p.
       let h = fault_at (limit_of start.reader) (unread_of unread failures start) (unread_of unread failures s) (unread_of unread failures t) (stage_of s.reader) (stage_of t.reader) F s.held f p.read
       (subst (λ x. Gives x (stage_of s.reader) (stage_of t.reader) (unread_of unread failures s) (unread_of unread failures t) (Err f)) p.same_limit g) in
-      record { reads = h.0; fails = since start s t (Some f) p.fails (same h.2); stops = h.1 }
+      record { reads = h.0; fails = since start s t (Some (load.Read f)) p.fails (same h.2); stops = h.1 }
 
   pub none_failed : (s t : JournalStream R) → (source_of t.reader).ghost_name ≡ (source_of s.reader).ghost_name
       → FailsIf (is_open (stage_of s.reader)) (failures (source_of s.reader).now) (failures (source_of t.reader).now) (Ok t.held) → FailsSince unread failures s t None
@@ -199,7 +218,7 @@ module _ {R : Type 0} (unread : R → Option (List ℕ)) (failures : R → ℕ) 
 
   pub one_failed : (s t : JournalStream R) (f : ReadFault) → (source_of t.reader).ghost_name ≡ (source_of s.reader).ghost_name
       → FailsIf {T = Option Fact} (is_open (stage_of s.reader)) (failures (source_of s.reader).now) (failures (source_of t.reader).now) (Err f) → IsTrue (is_open (stage_of s.reader))
-      → FailsSince unread failures s t (Some f)
+      → FailsSince unread failures s t (Some (load.Read f))
   one_failed s t f e h o = record {
     same_source = e;
     failed_as = subst (λ (b : Bool). FailsIf {T = Option Fact} b (failures (source_of s.reader).now) (failures (source_of t.reader).now) (Err f)) o h;
@@ -222,12 +241,13 @@ module _ {R : Type 0} (unread : R → Option (List ℕ)) (failures : R → ℕ) 
             rising = g.rising;
             sized = g.sized;
             ended = g.ended;
+            begins = g.begins;
             known = g.known;
           };
       fewer = h.fewer;
     }
 
-    pub lent_stops : (f : ReadFault) → StopsAt b (lent s) (lent t) f → StopsAt (lent_behaviour unread failures) s t f
+    pub lent_stops : (f : LoadFault) → StopsAt b (lent s) (lent t) f → StopsAt (lent_behaviour unread failures) s t f
     lent_stops f h = λ start F p.
         let g = h (lent start) F p.0 in
         record { reads = g.reads; fails = (g.fails, loans start p.1); stops = g.stops }

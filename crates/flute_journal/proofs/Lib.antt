@@ -29,6 +29,8 @@ pub mod Pairs
 pub mod JournalReads
 pub mod GoingOn
 pub mod LowestFacts
+pub mod LeadFacts
+pub mod WithinFacts
 pub mod StreamTurns
 pub mod StreamStops
 pub mod StreamStates

@@ -9,7 +9,7 @@ use Rattle.flute_parts.specs.declared.address.Address.{Address}
 use Rattle.flute_parts.specs.declared.fact.Fact.{Fact}
 use Rattle.flute_parts.specs.declared.fact.FactRef.{FactRef}
 use Rattle.flute_store.specs.Walk.{IsSized, YieldsFact}
-use Rattle.flute_journal.specs.Streams.{fact_in, option_list, GoesOn, IsNew}
+use Rattle.flute_journal.specs.Streams.{fact_in, option_list, GoesOn}
 use Rattle.flute_journal.specs.Listed.{listed_behaviour}
 use Rattle.flute_journal.proofs.Orders.{Rises, rising-rises, rises-rising}
 
@@ -50,6 +50,7 @@ module _ {S : Type 0} (held : S → Option Fact) (rest : S → List Fact) (is_so
           rising = rising_front (G ++ option_list (held t)) (rest t) (subst IsRising all p.rising);
           sized = elim v [ inl h ↦ some_of IsSized (held t) (all_split IsSized G (option_list (held t)) (all_split IsSized (G ++ option_list (held t)) (rest t) (subst (AllByRecursion IsSized) all (h start p.sound))).0).1 | inr h ↦ h ];
           ended = λ h. told G (held t) (rest t) (rest start) h (n h) all;
+          begins = (rest t, all);
           known = λ K k. record { rest = rest t; is = k ∙ all; rising = subst IsRising (sym k) p.rising; ended = n };
         };
     fewer = let l = ap length e in omega (arith, l, length-append (option_list (held t)) (rest t));
@@ -58,11 +59,3 @@ module _ {S : Type 0} (held : S → Option Fact) (rest : S → List Fact) (is_so
       told : (G : List Fact) (o : Option Fact) (left all : List Fact) → o ≡ None → left ≡ [] → all ≡ (G ++ option_list o) ++ left → G ≡ all
       told G None left all h n e = sym (e ∙ ap (λ (l : List Fact). (G ++ []) ++ l) n ∙ append-nil (G ++ []) ∙ append-nil G)
       told G (Some f) left all h n e = absurd (let p : Some f ≡ None = h in cc)
-
-  pub listed_new : (s : S) → held s ≡ None → IsRising (rest s) → is_sound s → IsNew (listed_behaviour held rest is_sound) s
-  listed_new s h r v = record {
-    held = h;
-    passes = record { all = ap (λ o. option_list o ++ rest s) (sym h); rising = r; sound = v };
-    reads = (rest s, refl);
-    fails = refl;
-  }

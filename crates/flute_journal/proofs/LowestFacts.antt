@@ -30,21 +30,21 @@ use Rattle.flute_journal.specs.Lowest.{IsNotBefore, Lowest}
 abbrev pub IsUpTo : Ordering → Type 0
 IsUpTo o = o ≢ Greater
 
-up_to_less : (o : Ordering) → o ≡ Less → IsUpTo o
+pub up_to_less : (o : Ordering) → o ≡ Less → IsUpTo o
 up_to_less o e h = cc
 
-up_to-trans : (a b c : Address) (o p : Ordering) → address_cmp a b ≡ o → address_cmp b c ≡ p → IsUpTo o → IsUpTo p → IsUpTo (address_cmp a c)
+pub up_to-trans : (a b c : Address) (o p : Ordering) → address_cmp a b ≡ o → address_cmp b c ≡ p → IsUpTo o → IsUpTo p → IsUpTo (address_cmp a c)
 up_to-trans a b c Less Less e f h k = up_to_less (address_cmp a c) (address_total.trans a b c e f)
 up_to-trans a b c Less Equal e f h k = up_to_less (address_cmp a c) (subst (λ x. address_cmp a x ≡ Less) (address_same b c (ap is_eq f)) e)
 up_to-trans a b c Equal p e f h k = subst (λ x. IsUpTo (address_cmp x c)) (sym (address_same a b (ap is_eq e))) (subst IsUpTo (sym f) k)
 up_to-trans a b c Less Greater e f h k = absurd (k refl)
 up_to-trans a b c Greater p e f h k = absurd (h refl)
 
-up_to_itself : (a : Address) → IsUpTo (address_cmp a a)
+pub up_to_itself : (a : Address) → IsUpTo (address_cmp a a)
 up_to_itself a e = let h : is_eq (address_cmp a a) ≡ true = address_itself a in absurd cc
 
 -- the second is not above the first, where the first isn't below it
-up_to_turned : (a b : Address) (o : Ordering) → address_cmp a b ≡ o → is_lt o ≡ false → IsUpTo (address_cmp b a)
+pub up_to_turned : (a b : Address) (o : Ordering) → address_cmp a b ≡ o → is_lt o ≡ false → IsUpTo (address_cmp b a)
 up_to_turned a b Less e h = absurd cc
 up_to_turned a b Equal e h = λ k. let r = address_total.antisymm b a in absurd cc
 up_to_turned a b Greater e h = λ k. let r = address_total.antisymm b a in absurd cc
@@ -78,7 +78,7 @@ heads-more b xs k o within held =
     ∙ ap (λ l. heads b (take k xs) ++ l) (append-nil (option_list (b.held x.0)))
     ∙ ap (λ p. heads b (take k xs) ++ option_list p) (sym (held x.0 x.1))
 
-less_up_to : (a b c : Address) (o : Ordering) → address_cmp a b ≡ Less → address_cmp b c ≡ o → IsUpTo o → address_cmp a c ≡ Less
+pub less_up_to : (a b c : Address) (o : Ordering) → address_cmp a b ≡ Less → address_cmp b c ≡ o → IsUpTo o → address_cmp a c ≡ Less
 less_up_to a b c Less l e h = address_total.trans a b c l e
 less_up_to a b c Equal l e h = subst (λ x. address_cmp a x ≡ Less) (address_same b c (ap is_eq e)) l
 less_up_to a b c Greater l e h = absurd (h refl)

@@ -2,7 +2,7 @@
 use Rattle.std.proofs.Common.{◌≡◌, ℕ, List, [], ◌∷◌, ◌++◌, Result, Ok, Err, sym, ap}
 use Rattle.std.specs.Prelude.{OnOk, IfErr, slice_get, slice_set}
 use Rattle.flute_parts.specs.declared.fact.Fact.{Fact}
-use Rattle.flute_journal.specs.declared.fault.ReadFault.{ReadFault}
+use Rattle.flute_journal.specs.declared.fault.LoadFault.{LoadFault}
 use Rattle.flute_journal.specs.declared.either.Either.{Either}
 use Rattle.flute_journal.specs.declared.either.Either.TheVariants.{First, Second}
 use Rattle.flute_journal.specs.Streams.{Behaviour, Gave, GoesOn, Stopped, StopsAt, Advances, option_list}
@@ -21,6 +21,7 @@ module _ {A B : Type 0} (a : Behaviour A) (b : Behaviour B) where
     rising = g.rising;
     sized = g.sized;
     ended = g.ended;
+    begins = g.begins;
     known = g.known;
   }
 
@@ -33,6 +34,7 @@ module _ {A B : Type 0} (a : Behaviour A) (b : Behaviour B) where
     rising = g.rising;
     sized = g.sized;
     ended = g.ended;
+    begins = g.begins;
     known = g.known;
   }
 
@@ -44,15 +46,15 @@ module _ {A B : Type 0} (a : Behaviour A) (b : Behaviour B) where
   second_on x y h (First s) F p = absurd p
   second_on x y h (Second s) F p = gave_second s y (F ++ option_list (b.held x)) (h.gave s F p)
 
-  first_stops : (x y : A) (f : ReadFault) → StopsAt a x y f → (start : Either A B) (F : List Fact) → e.passes start (First x) F → Stopped e start (First y) (F ++ option_list (a.held x)) f
+  first_stops : (x y : A) (f : LoadFault) → StopsAt a x y f → (start : Either A B) (F : List Fact) → e.passes start (First x) F → Stopped e start (First y) (F ++ option_list (a.held x)) f
   first_stops x y f h (First s) F p = let r = h s F p in record { reads = r.reads; fails = r.fails; stops = r.stops }
   first_stops x y f h (Second s) F p = absurd p
 
-  second_stops : (x y : B) (f : ReadFault) → StopsAt b x y f → (start : Either A B) (F : List Fact) → e.passes start (Second x) F → Stopped e start (Second y) (F ++ option_list (b.held x)) f
+  second_stops : (x y : B) (f : LoadFault) → StopsAt b x y f → (start : Either A B) (F : List Fact) → e.passes start (Second x) F → Stopped e start (Second y) (F ++ option_list (b.held x)) f
   second_stops x y f h (First s) F p = absurd p
   second_stops x y f h (Second s) F p = let r = h s F p in record { reads = r.reads; fails = r.fails; stops = r.stops }
 
-  pub first_advances : (x y : A) (z : B) (n : ℕ) (r : Result (Unit {0}) ReadFault) → n ≡ 0 → OnOk r (GoesOn a x y) → IfErr r (StopsAt a x y)
+  pub first_advances : (x y : A) (z : B) (n : ℕ) (r : Result (Unit {0}) LoadFault) → n ≡ 0 → OnOk r (GoesOn a x y) → IfErr r (StopsAt a x y)
       → Advances e n (First x ∷ Second z ∷ []) (First y ∷ Second z ∷ []) r
   first_advances x y z n (Ok t) h g s = record {
     before = First x;
@@ -71,7 +73,7 @@ module _ {A B : Type 0} (a : Behaviour A) (b : Behaviour B) where
     stops = first_stops x y f s;
   }
 
-  pub second_advances : (x y : B) (z : A) (n : ℕ) (r : Result (Unit {0}) ReadFault) → n ≡ 1 → OnOk r (GoesOn b x y) → IfErr r (StopsAt b x y)
+  pub second_advances : (x y : B) (z : A) (n : ℕ) (r : Result (Unit {0}) LoadFault) → n ≡ 1 → OnOk r (GoesOn b x y) → IfErr r (StopsAt b x y)
       → Advances e n (First z ∷ Second x ∷ []) (First z ∷ Second y ∷ []) r
   second_advances x y z n (Ok t) h g s = record {
     before = Second x;

@@ -1,8 +1,8 @@
 -- The header, the end, and what stands behind a key, in parts.
 use Rattle.std.proofs.Common.{◌≡◌, ℕ, ◌+◌, ◌<◌, ◌≤◌, ◌^◌, true, false, not, eqb, leb, ltb, List, [], ◌∷◌, ◌++◌, length, take, drop, Option, Some, None, IsTrue, refl, sym, ap, ◌∙◌, append_assoc, arith}
-use Rattle.std.proofs.lemmas.Bool.{lt-ltb, lt-leb, le-leb, ne_eqb, eq-eqb}
+use Rattle.std.proofs.lemmas.Bool.{lt-leb, le-leb, ne_eqb, eq-eqb}
 use Rattle.std.proofs.lemmas.List.{take_at, drop_at, length-append}
-use Rattle.std.specs.Prelude.{bytes_eq, slice_get, MatchOption}
+use Rattle.std.specs.Prelude.{bytes_eq, slice_get}
 use Rattle.flute_parts.specs.Addresses.{symbol_address}
 use Rattle.flute_parts.specs.declared.key.Key.{Key}
 use Rattle.flute_parts.specs.declared.symbol_id.SymbolId.{SymbolId}
@@ -28,12 +28,6 @@ use Rattle.flute_journal.proofs.Entries.{key-injective, id-injective}
 abbrev opening_checks : List ℕ → List ℕ → List ℕ → List ℕ → List Check
 opening_checks opening bytes front back =
     (not (bytes_eq front (take 4 opening)), faults.Magic) ∷ cut 6 bytes ∷ (not (bytes_eq back (take 2 (drop 4 opening))), faults.Version) ∷ []
-
-pub magic_wrong : (o bs r : List ℕ) → length bs ≡ 4 → bytes_eq bs (take 4 o) ≡ false → opening_fault o (bs ++ r) ≡ Some faults.Magic
-magic_wrong o bs r len e =
-    first-pass (cut 4 (bs ++ r)) (opening_checks o (bs ++ r) (take 4 (bs ++ r)) (take 2 (drop 4 (bs ++ r)))) (cut-passes 4 bs r (omega (arith, len)))
-    ∙ ap (λ (x : List ℕ). first_fault (opening_checks o (bs ++ r) x (take 2 (drop 4 (bs ++ r))))) (take_at bs r 4 len)
-    ∙ first-stop (not (bytes_eq bs (take 4 o)), faults.Magic) (cut 6 (bs ++ r) ∷ (not (bytes_eq (take 2 (drop 4 (bs ++ r))) (take 2 (drop 4 o))), faults.Version) ∷ []) (ap not e)
 
 pub opening_comes : (o bs v r : List ℕ) → length bs ≡ 4 → length v ≡ 2 → bytes_eq bs (take 4 o) ≡ true
     → opening_fault o ((bs ++ v) ++ r) ≡ first_fault ((not (bytes_eq v (take 2 (drop 4 o))), faults.Version) ∷ [])
@@ -64,20 +58,10 @@ end_comes count bs r len =
     first-pass (cut 8 (bs ++ r)) ((not (eqb (big_endian (take 8 (bs ++ r))) count), faults.Count) ∷ (ltb 8 (length (bs ++ r)), faults.Trailing) ∷ []) (cut-passes 8 bs r (omega (arith, len)))
     ∙ ap (λ (x : List ℕ). first_fault ((not (eqb (big_endian x) count), faults.Count) ∷ (ltb 8 (length (bs ++ r)), faults.Trailing) ∷ [])) (take_at bs r 8 len)
 
-pub count_wrong : (count : ℕ) (bs r : List ℕ) → length bs ≡ 8 → (big_endian bs ≡ count → ⊥) → first_fault (end_checks count (bs ++ r)) ≡ Some faults.Count
-count_wrong count bs r len ne =
-    end_comes count bs r len ∙ first-stop (not (eqb (big_endian bs) count), faults.Count) ((ltb 8 (length (bs ++ r)), faults.Trailing) ∷ []) (ap not (ne_eqb (big_endian bs) count ne))
-
 pub end_counts : (count : ℕ) (bs r : List ℕ) → length bs ≡ 8 → big_endian bs ≡ count
     → first_fault (end_checks count (bs ++ r)) ≡ first_fault ((ltb 8 (length (bs ++ r)), faults.Trailing) ∷ [])
 end_counts count bs r len e =
     end_comes count bs r len ∙ first-pass (not (eqb (big_endian bs) count), faults.Count) ((ltb 8 (length (bs ++ r)), faults.Trailing) ∷ []) (ap not (eq-eqb (big_endian bs) count e))
-
-pub trailing : (count : ℕ) (bs t r : List ℕ) → length bs ≡ 8 → big_endian bs ≡ count → 0 < length t → first_fault (end_checks count ((bs ++ t) ++ r)) ≡ Some faults.Trailing
-trailing count bs t r len e some =
-    ap (λ (x : List ℕ). first_fault (end_checks count x)) (append_assoc bs t r)
-    ∙ end_counts count bs (t ++ r) len e
-    ∙ first-stop (ltb 8 (length (bs ++ (t ++ r))), faults.Trailing) [] (lt-ltb 8 _ (omega (arith, len, some, length-append bs (t ++ r), length-append t r)))
 
 -- an id
 
@@ -98,15 +82,8 @@ id_comes b key id r more p =
     ∙ ap (λ (x : List ℕ). first_fault (in_order b (symbol_address key (id_in x)) ∷ more)) (take_at (id_bytes id) r 4 refl)
     ∙ ap (λ (x : SymbolId). first_fault (in_order b (symbol_address key x) ∷ more)) (id_reads id p)
 
-pub order_stops : (b : Before) (a : Address) (more : List Check) → is_after b.last a ≡ false → first_fault (in_order b a ∷ more) ≡ Some faults.Order
-order_stops b a more e = first-stop (in_order b a) more (ap not e)
-
 pub order_passes : (b : Before) (a : Address) (more : List Check) → is_after b.last a ≡ true → first_fault (in_order b a ∷ more) ≡ first_fault more
 order_passes b a more e = first-pass (in_order b a) more (ap not e)
-
-pub id_stops : (b : Before) (key : Key) (id : SymbolId) (r : List ℕ) (more : List Check) → IsId id → is_after b.last (symbol_address key id) ≡ false
-    → first_fault (id_checks b key (id_bytes id ++ r) more) ≡ Some faults.Order
-id_stops b key id r more p e = id_comes b key id r more p ∙ order_stops b (symbol_address key id) more e
 
 -- bytes behind an id in order
 pub symbol_comes : (last : Option Address) (key : Key) (id : SymbolId) (r : List ℕ) → IsId id → is_after last (symbol_address key id) ≡ true
@@ -228,7 +205,3 @@ too_many b limit k bs r is many =
     ap (λ (x : List ℕ). next_fault b limit (x ++ r)) is
     ∙ entry_kind b limit k r
     ∙ first-stop (leb limit b.count, faults.TooMany) (body_checks b (byte_of k) r) (le-leb limit b.count many)
-
-pub default_none : {T : Type 0} (o : Option T) (P : Type 0) (Q : T → Type 0) → ((k : T) → o ≡ Some k → ⊥) → MatchOption o P Q → P
-default_none None P Q n h = h
-default_none (Some k) P Q n h = absurd (n k refl)

@@ -4,7 +4,7 @@ use Rattle.std.proofs.lemmas.Bool.{le-leb, lt-leb, lt-ltb}
 use Rattle.std.proofs.lemmas.List.{take_at, drop_at, length-append, append-nil, flat_map_more}
 use Rattle.std.specs.List.{flat_map, AllByRecursion, IsSplitAt}
 use Rattle.std.specs.Io.KnownBytes.{Consumes, IsAtEnd}
-use Rattle.std.proofs.KnownBytes.{Consumes-trans, Consumes-nil}
+use Rattle.std.proofs.KnownBytes.{Consumes-trans}
 use Rattle.std.specs.Prelude.{IfSome}
 use Rattle.flute_parts.specs.BigEndian.{big_endian}
 use Rattle.flute_journal.specs.declared.fault.ReadFault.{ReadFault}
@@ -13,7 +13,7 @@ use Rattle.flute_journal.specs.declared.datagram_reader.FileStage.{FileStage}
 use Rattle.flute_journal.specs.declared.datagram_reader.FileStage.TheVariants.{Header, Records, Ended, Failed}
 use Rattle.flute_journal.specs.Numbers.{in_bytes}
 use Rattle.flute_journal.specs.Faults.{Check, first_fault, cut, opening_fault}
-use Rattle.flute_journal.specs.Input.{Advances, Fronts, IsFaultOf, IsFaultUpTo, IsWithin, StaysWithin, shortage, told}
+use Rattle.flute_journal.specs.Input.{Advances, Fronts, IsFaultOf, IsFaultUpTo, IsWithin, StaysWithin, told}
 use Rattle.flute_journal.specs.Journal.{IsByte}
 use Rattle.flute_journal.specs.Parsing.{StopsFront, cut_fault}
 use Rattle.flute_journal.specs.Reading.{or_else}
@@ -95,10 +95,6 @@ record_split bs field rest d later n s t spells small oct = (
       ∙ sym (append_assoc (in_bytes 2 (length d)) d later),
 )
 
-pub cut_behind : (bs field rest : List ℕ) (n : ℕ) → IsSplitAt bs 2 field rest → n ≡ big_endian field → length rest < n → IsCut bs
-cut_behind bs field rest n s is few =
-    inr (subst (λ (x : List ℕ). length x < big_endian (take 2 bs)) s.2 (subst (λ (x : List ℕ). length rest < big_endian x) s.1 (subst (λ k. length rest < k) is few)))
-
 -- A file that is read record by record.
 
 -- where a reader stands behind these records
@@ -116,13 +112,6 @@ pub record FileSofar (limit : ℕ) (first now : Option (List ℕ)) (stage : File
   pub are_datagrams : AreDatagrams limit datagrams
   pub stage_is : stage ≡ file_stage_at datagrams
   pub read : Consumes first now (file_read_of datagrams)
-
-pub file_sofar-none : (limit : ℕ) (u : Option (List ℕ)) → FileSofar limit u u Header []
-file_sofar-none limit u = record {
-  are_datagrams = record { valid = tt; few = omega arith };
-  stage_is = refl;
-  read = Consumes-nil u;
-}
 
 given_is : (ds : List (List ℕ)) → given (file_stage_at ds) ≡ length ds
 given_is [] = refl
@@ -241,29 +230,6 @@ pub record FileRead (limit : ℕ) (file : List ℕ) (datagrams : List (List ℕ)
   pub are_datagrams : AreDatagrams limit datagrams
   pub whole : file ≡ file_header ++ flat_map record_of datagrams ++ rest
 
-pub file_read-none : (limit : ℕ) (file opening rest : List ℕ) (n : ℕ) → IsSplitAt file n opening rest → opening ≡ file_header → FileRead limit file [] rest
-file_read-none limit file opening rest n s is = record {
-  are_datagrams = record { valid = tt; few = omega arith };
-  whole = joined file opening rest n s ∙ ap (λ (x : List ℕ). x ++ rest) is;
-}
-
-pub file_read-next : (limit : ℕ) (file : List ℕ) (ds : List (List ℕ)) (d rest later : List ℕ) → FileRead limit file ds rest → length ds < limit → IsDatagram d → rest ≡ record_of d ++ later
-    → FileRead limit file (ds ++ d ∷ []) later
-file_read-next limit file ds d rest later h few v is = record {
-  are_datagrams = datagrams_more limit ds d h.are_datagrams v few;
-  whole =
-      h.whole ∙ ap (λ (x : List ℕ). file_header ++ flat_map record_of ds ++ x) is
-      ∙ sym (append_assoc (file_header ++ flat_map record_of ds) (record_of d) later)
-      ∙ ap (λ (x : List ℕ). x ++ later) (flat_map_more record_of file_header ds d);
-}
-
-pub file_read-end : (limit : ℕ) (file : List ℕ) (ds : List (List ℕ)) (rest : List ℕ) → FileRead limit file ds rest → length rest ≡ 0 → IsFileWithin limit file ds
-file_read-end limit file ds [] h e = record {
-  file = record { valid = h.are_datagrams.valid; bytes_are = h.whole ∙ append-nil (file_header ++ flat_map record_of ds) };
-  few = h.are_datagrams.few;
-}
-file_read-end limit file ds (b ∷ bs) h e = absurd (omega (arith, e))
-
 pub file_read-stops : (limit : ℕ) (file : List ℕ) (ds : List (List ℕ)) (rest : List ℕ) (f : ReadFault) → FileRead limit file ds rest → record_fault limit (length ds) rest ≡ Some f
     → (datagrams : List (List ℕ)) × FileStops file limit datagrams f
 file_read-stops limit file ds rest f h e = (ds, behind (record { are_datagrams = h.are_datagrams; rest = rest; whole = h.whole; first = e }))
@@ -290,22 +256,9 @@ opening_stops limit file opening rest n f s whole stops =
     let bytes : file ≡ opening ++ rest = joined file opening rest n s in
     opening_fault_found limit file f (ap (opening_fault file_header) bytes ∙ stops.whole rest (λ e. nothing_behind opening rest n s.3 whole (stops.short e)))
 
-known_cut : (u v : Option (List ℕ)) (front : List ℕ) (fault : List ℕ → Option ReadFault) → Consumes u v front → IsAtEnd v → fault front ≡ Some faults.Cut
-    → IfSome u (λ bytes. fault bytes ≡ Some faults.Cut)
-known_cut None v front fault took ended e = tt
-known_cut (Some x) None front fault took ended e = absurd took
-known_cut (Some x) (Some y) front fault took ended e = ap fault (took ∙ ap (λ (z : List ℕ). front ++ z) ended ∙ append-nil front) ∙ e
-
 nothing : (bytes : List ℕ) → length bytes ≡ 0 → bytes ≡ []
 nothing [] e = refl
 nothing (b ∷ bs) e = absurd (omega (arith, e))
-
--- the length of a record is cut, as far as the source told
-pub length_stops : (limit count : ℕ) (failed : Bool) (u v : Option (List ℕ)) (front : List ℕ) → Fronts u v 2 failed front → 0 < length front → length front < 2 → count < limit
-    → IsFaultUpTo [] (record_fault limit count) u v (shortage failed)
-length_stops limit count true u v front a some short few = inl (front, a.read, cut_at limit count front some few (inl short))
-length_stops limit count false u v front a some short few =
-    known_cut u v front (record_fault limit count) a.read (a.fewer short refl) (cut_at limit count front some few (inl short))
 
 -- no record: the end of the input, or a source that failed
 pub no_record : (limit count : ℕ) (failed : Bool) (u v : Option (List ℕ)) (front : List ℕ) → Fronts u v 2 failed front → length front ≡ 0

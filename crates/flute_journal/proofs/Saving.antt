@@ -1,5 +1,5 @@
 -- A store that is written entry by entry.
-use Rattle.std.proofs.Common.{◌≡◌, ℕ, ◌+◌, List, [], ◌∷◌, ◌++◌, length, Option, refl, sym, ap, ◌∙◌, subst, append_assoc, append-nil, arith}
+use Rattle.std.proofs.Common.{◌≡◌, ℕ, ◌+◌, List, [], ◌∷◌, ◌++◌, length, Option, sym, ap, ◌∙◌, subst, append_assoc, append-nil, arith}
 use Rattle.std.specs.List.{flat_map, AllByRecursion}
 use Rattle.std.specs.Io.KnownBytes.{Appends}
 use Rattle.std.proofs.KnownBytes.{Appends-trans}
@@ -21,9 +21,6 @@ pub record Saved (facts left : List Fact) (old now : Option (List ℕ)) (count :
   pub valid : AllByRecursion IsFact done
   pub counted : count ≡ length done
   pub written : Appends old now (header ++ flat_map entry done)
-
-pub saved-none : (facts left : List Fact) (u v : Option (List ℕ)) → left ≡ facts → Appends u v header → Saved facts left u v 0
-saved-none facts left u v e h = record { done = []; parts = sym e; valid = tt; counted = refl; written = h }
 
 pub saved-next : (facts left rest : List Fact) (u v w : Option (List ℕ)) (count : ℕ) (f : Fact) → Saved facts left u v count → left ≡ f ∷ rest → IsFact f
     → Appends v w (entry f) → Saved facts rest u w (count + 1)

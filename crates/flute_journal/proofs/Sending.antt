@@ -21,9 +21,6 @@ pub record Sent (all : List (List ℕ)) (place : ℕ) (old now : Option (List �
   pub counted : place ≡ length done
   pub written : Appends old now (file_header ++ flat_map record_of done)
 
-pub sent-none : (all : List (List ℕ)) (u v : Option (List ℕ)) → Appends u v file_header → Sent all 0 u v
-sent-none all u v h = record { done = []; parts = refl; valid = tt; counted = refl; written = h }
-
 next_one : (all : List (List ℕ)) (place : ℕ) (d : List ℕ) → slice_get all place ≡ Some d → drop place all ≡ d ∷ drop (suc place) all
 next_one all place d e =
     drop-cons all place d (slice_get_within all place d e) ∙ ap (λ (x : List ℕ). x ∷ drop (suc place) all) (get_or_from_slice_get all place d d e)
@@ -76,6 +73,3 @@ sent-all all place u v s e = subst (λ (x : List (List ℕ)). Appends u v (file_
 pub sent-file : (all : List (List ℕ)) (place : ℕ) (u v : Option (List ℕ)) → Sent all place u v → slice_get all place ≡ None
     → IsFileOf (file_header ++ flat_map record_of all) all
 sent-file all place u v s e = record { valid = subst (AllByRecursion IsDatagram) (done_all all place u v s e) s.valid; bytes_are = refl }
-
-pub sent-count : (all : List (List ℕ)) (place : ℕ) (u v : Option (List ℕ)) → Sent all place u v → slice_get all place ≡ None → place ≡ length all
-sent-count all place u v s e = s.counted ∙ ap length (done_all all place u v s e)

@@ -14,7 +14,7 @@ use Rattle.flute_parts.specs.declared.fact.Fact.{Fact}
 use Rattle.flute_parts.proofs.Facts.{Same-sym, Same-trans}
 use Rattle.flute_parts.proofs.Joined.{joined, fact_at-append}
 use Rattle.flute_parts.proofs.Rising.{rising_unique}
-use Rattle.flute_journal.specs.declared.fault.ReadFault.{ReadFault}
+use Rattle.flute_journal.specs.declared.fault.LoadFault.{LoadFault}
 use Rattle.flute_journal.specs.Faults.{is_after}
 use Rattle.flute_journal.specs.Format.{header, entry, end, spelling}
 use Rattle.flute_journal.specs.Journal.{IsFact, Collects}
@@ -73,12 +73,12 @@ module _ {S : Type 0} (b : Behaviour S) where
       record { reads = subst (λ (l : List Fact). b.reads r.start u (r.given ++ l)) (sym (given_here p (b.held r.now) h.0)) g.reads; fails = g.fails }
   passed p r u w (inr h) = subst (λ (x : S). Passed p r x) (sym h.1) (record { reads = stands p r w; fails = w.fails })
 
-  pub record StoppedAll (p : Option Address) (k : ℕ) (f : ReadFault) (runs : List (Run S)) (new : List S) : Type 0 where
+  pub record StoppedAll (p : Option Address) (k : ℕ) (f : LoadFault) (runs : List (Run S)) (new : List S) : Type 0 where
     pub reads : EachSince b.reads (starts runs) new (givens_at b p runs)
     pub fails : OneFails b k f (starts runs) new
     pub names : (s : S) × (slice_get (starts runs) k ≡ Some s) × b.stops s f
 
-  pub stopped_all : (p : Option Address) (k : ℕ) (f : ReadFault) (runs : List (Run S)) (new : List S) → AllByRecursion (Stays b p) runs → StopAt b p k f (nows runs) new
+  pub stopped_all : (p : Option Address) (k : ℕ) (f : LoadFault) (runs : List (Run S)) (new : List S) → AllByRecursion (Stays b p) runs → StopAt b p k f (nows runs) new
       → StoppedAll p k f runs new
   stopped_all p zero f [] new w h = absurd h
   stopped_all p (suc k) f [] new w h = absurd h

@@ -5,6 +5,10 @@ use Rattle.flute_parts.specs.Facts.{Same}
 use Rattle.flute_parts.specs.declared.fact.Fact.{Fact}
 use Rattle.flute_parts.proofs.Facts.{Same-sym, Same-trans, Same-append}
 use Rattle.flute_journal.specs.declared.fault.ReadFault.{ReadFault}
+use Rattle.flute_journal.specs.declared.fault.LoadFault.{LoadFault}
+use Rattle.flute_journal.specs.declared.fault.LoadFault.TheVariants.{Read, Full, OutOfMemory}
+use Rattle.flute_journal.specs.declared.merge.MergeFault.{MergeFault}
+use Rattle.flute_journal.specs.declared.merging.Joined.{Joined}
 use Rattle.flute_journal.specs.declared.streams_fault.StreamsFault.{StreamsFault}
 use Rattle.flute_journal.specs.declared.streams_fault.StreamsFault.TheVariants.{Input, Write}
 use Rattle.flute_journal.specs.declared.journal_stream.LentStream.{LentStream}
@@ -12,25 +16,30 @@ use Rattle.flute_journal.specs.declared.either.Either.{Either}
 use Rattle.flute_journal.specs.declared.either.Either.TheVariants.{First, Second}
 use Rattle.flute_journal.specs.Journal.{Collects, Journal}
 use Rattle.flute_journal.specs.Whole.{HasFault}
-use Rattle.flute_journal.specs.Merges.{StopsShort, KeepsUp, BeginsWith, NamesFault, MergeGives, written_up_to}
-use Rattle.flute_journal.specs.Readers.{limit_of}
+use Rattle.flute_journal.specs.Merges.{StopsShort, KeepsUp, BeginsWith, NamesFault, FirstFails, SecondFails, MergeGives, written_up_to}
+use Rattle.flute_journal.specs.Readers.{source_of, limit_of}
 use Rattle.flute_journal.specs.Streams.{Behaviour}
 use Rattle.flute_journal.specs.Eithers.{either_behaviour}
 use Rattle.flute_journal.specs.JournalStreams.{unread_of, lent, lent_behaviour}
-use Rattle.flute_journal.specs.StreamMerges.{all_of, EachSince, AppendsPartOf, ReadsAhead, BeginWith, NamesInput}
-use Rattle.flute_journal.specs.Pairs.{fault_at, fault_of_two}
+use Rattle.flute_journal.specs.StreamMerges.{all_of, EachSince, AppendsPartOf, ReadsAhead, BeginWith, NamesInput, OneFails, FailAs}
+use Rattle.flute_journal.specs.Pairs.{fault_at, IsFaultAt, IsFaultOfTwo, IsOfReading}
 
 -- journals of both inputs and of all their facts have entries that come to the same
 same_entries : (es fs ws F G : List Fact) → Same F es → Same G fs → Same (F ++ G) ws → Same (es ++ fs) ws
 same_entries es fs ws F G p q r = Same-trans (es ++ fs) (F ++ G) ws (Same-append es F fs G (Same-sym F es p) (Same-sym G fs q)) r
 
-begins : (k : ℕ) (f : ReadFault) (bytes : List ℕ) (entries : List Fact) → bytes ≡ written_up_to entries → BeginsWith (fault_at k f) bytes entries
-begins zero f bytes entries e = e
-begins (suc k) f bytes entries e = e
+begins_at : (k : ℕ) (f : ReadFault) (bytes : List ℕ) (entries : List Fact) → bytes ≡ written_up_to entries → BeginsWith (fault_at k f) bytes entries
+begins_at zero f bytes entries e = e
+begins_at (suc k) f bytes entries e = e
 
-begins_two : (fault : StreamsFault) (bytes : List ℕ) (entries : List Fact) → BeginWith fault bytes entries → BeginsWith (fault_of_two fault) bytes entries
-begins_two Write bytes entries h = h
-begins_two (Input fault) bytes entries h = begins fault.number fault.fault bytes entries h
+begins : (k : ℕ) (f : LoadFault) (merge : MergeFault) (bytes : List ℕ) (entries : List Fact) → IsFaultAt k f merge → bytes ≡ written_up_to entries → BeginsWith merge bytes entries
+begins k (Read f) merge bytes entries is e = subst (λ x. BeginsWith x bytes entries) (sym is) (begins_at k f bytes entries e)
+begins k Full merge bytes entries is e = absurd is
+begins k OutOfMemory merge bytes entries is e = absurd is
+
+begins_two : (fault : StreamsFault) (merge : MergeFault) (bytes : List ℕ) (entries : List Fact) → IsFaultOfTwo fault merge → BeginWith fault bytes entries → BeginsWith merge bytes entries
+begins_two Write merge bytes entries is h = subst (λ x. BeginsWith x bytes entries) (sym is) h
+begins_two (Input fault) merge bytes entries is h = begins fault.number fault.fault merge bytes entries is h
 
 module _ {A B : Type 0} (ua : A → Option (List ℕ)) (fa : A → ℕ) (ub : B → Option (List ℕ)) (fb : B → ℕ) where
   abbrev both : Behaviour (Either (LentStream A) (LentStream B))
@@ -86,8 +95,9 @@ module _ {A B : Type 0} (ua : A → Option (List ℕ)) (fa : A → ℕ) (ub : B 
           (record { bytes_are = x ∙ ap Some j.3; valid = j.1.valid; rising = j.1.rising }, (record { bytes_are = y ∙ ap Some k.3; valid = k.1.valid; rising = k.1.rising }, tt)) whole (journal_of j.0 k.0 whole F G j.1.same k.1.same n);
     }
 
-    keeps_two : (w w' : Option (List ℕ)) (fault : StreamsFault) → ReadsAhead both inputs after w w' fault → KeepsUp u (unread_of ua fa (lent s')) v (unread_of ub fb (lent t')) w w' (fault_of_two fault)
-    keeps_two w w' fault r =
+    keeps_two : (w w' : Option (List ℕ)) (fault : StreamsFault) (merge : MergeFault) → IsFaultOfTwo fault merge → ReadsAhead both inputs after w w' fault
+        → KeepsUp u (unread_of ua fa (lent s')) v (unread_of ub fb (lent t')) w w' merge
+    keeps_two w w' fault merge is r =
         let two = since_two both.reads r.read r.reads in
         record {
           first_entries = two.first;
@@ -98,21 +108,64 @@ module _ {A B : Type 0} (ua : A → Option (List ℕ)) (fa : A → ℕ) (ub : B 
           collects = subst (λ (l : List Fact). Collects l r.entries) two.all r.collects;
           bytes = r.bytes;
           appended = r.appended;
-          begins = begins_two fault r.bytes r.entries r.begins;
+          begins = begins_two fault merge r.bytes r.entries is r.begins;
         }
 
-    names_at : (k : ℕ) (f : ReadFault) → limit_of t.reader.now ≡ limit_of s.reader.now → (x : Either (LentStream A) (LentStream B)) → slice_get inputs k ≡ Some x → both.stops x f
+    names_at : (k : ℕ) (f : ReadFault) → limit_of t.reader.now ≡ limit_of s.reader.now → (x : Either (LentStream A) (LentStream B)) → slice_get inputs k ≡ Some x → both.stops x (Read f)
         → NamesFault (limit_of s.reader.now) u v (fault_at k f)
-    names_at zero f same x e h = let q : x ≡ First s = (let p = e in cc) in subst (λ z. both.stops z f) q h
+    names_at zero f same x e h = let q : x ≡ First s = (let p = e in cc) in subst (λ z. both.stops z (Read f)) q h
     names_at (suc zero) f same x e h =
         let q : x ≡ Second t = (let p = e in cc) in
-        subst (λ n. HasFault n v f) same (subst (λ z. both.stops z f) q h)
+        subst (λ n. HasFault n v f) same (subst (λ z. both.stops z (Read f)) q h)
     names_at (suc (suc k)) f same x e h = absurd (let p : None ≡ Some x = e in cc)
 
-    names_two : (fault : StreamsFault) → limit_of t.reader.now ≡ limit_of s.reader.now → NamesInput both inputs fault → NamesFault (limit_of s.reader.now) u v (fault_of_two fault)
-    names_two Write same n = tt
-    names_two (Input fault) same n = names_at fault.number fault.fault same n.0 n.1 n.2
+    names_of : (k : ℕ) (f : LoadFault) (merge : MergeFault) → IsFaultAt k f merge → limit_of t.reader.now ≡ limit_of s.reader.now → (x : Either (LentStream A) (LentStream B))
+        → slice_get inputs k ≡ Some x → both.stops x f → NamesFault (limit_of s.reader.now) u v merge
+    names_of k (Read f) merge is same x e h = subst (λ m. NamesFault (limit_of s.reader.now) u v m) (sym is) (names_at k f same x e h)
+    names_of k Full merge is same x e h = absurd is
+    names_of k OutOfMemory merge is same x e h = absurd is
 
-    pub stopped_two : (w w' : Option (List ℕ)) (fault : StreamsFault) → limit_of t.reader.now ≡ limit_of s.reader.now → AppendsPartOf both inputs w w' → ReadsAhead both inputs after w w' fault
-        → NamesInput both inputs fault → MergeGives (limit_of s.reader.now) u (unread_of ua fa (lent s')) v (unread_of ub fb (lent t')) w w' (Err (fault_of_two fault))
-    stopped_two w w' fault same p r n = record { short = short_two w w' p; keeps_up = keeps_two w w' fault r; names = names_two fault same n }
+    names_two : (fault : StreamsFault) (merge : MergeFault) → IsFaultOfTwo fault merge → limit_of t.reader.now ≡ limit_of s.reader.now → NamesInput both inputs fault
+        → NamesFault (limit_of s.reader.now) u v merge
+    names_two Write merge is same n = subst (λ m. NamesFault (limit_of s.reader.now) u v m) (sym is) tt
+    names_two (Input fault) merge is same n = names_of fault.number fault.fault merge is same n.0 n.1 n.2
+
+    -- an input stopped where it could not be read
+    reading_of : (x : Either (LentStream A) (LentStream B)) (number : ℕ) (f : LoadFault) → both.stops x f → IsOfReading (Input (record { number = number; fault = f }))
+    reading_of x number (Read f) h = tt
+    reading_of (First x) number Full h = absurd h
+    reading_of (Second x) number Full h = absurd h
+    reading_of (First x) number OutOfMemory h = absurd h
+    reading_of (Second x) number OutOfMemory h = absurd h
+
+    pub reading_two : (fault : StreamsFault) → NamesInput both inputs fault → IsOfReading fault
+    reading_two Write n = tt
+    reading_two (Input fault) n = reading_of n.0 fault.number fault.fault n.2
+
+    pub stopped_two : (w w' : Option (List ℕ)) (fault : StreamsFault) (merge : MergeFault) → IsFaultOfTwo fault merge → limit_of t.reader.now ≡ limit_of s.reader.now
+        → AppendsPartOf both inputs w w' → ReadsAhead both inputs after w w' fault → NamesInput both inputs fault
+        → MergeGives (limit_of s.reader.now) u (unread_of ua fa (lent s')) v (unread_of ub fb (lent t')) w w' (Err merge)
+    stopped_two w w' fault merge is same p r n = record { short = short_two w w' p; keeps_up = keeps_two w w' fault merge is r; names = names_two fault merge is same n }
+
+    -- how often the sources failed
+    pub record FailTwo (merge : MergeFault) : Type 0 where
+      pub first : FirstFails (fa (source_of s.reader.now).now) (fa (source_of s'.reader.now).now) (Err merge)
+      pub second : SecondFails (fb (source_of t.reader.now).now) (fb (source_of t'.reader.now).now) (Err merge)
+
+    fail_at : (k : ℕ) (f : ReadFault) → OneFails both k (Read f) inputs after → FailTwo (fault_at k f)
+    fail_at zero f h = record { first = h.0.0.failed_as; second = h.1.0.0.failed_as }
+    fail_at (suc zero) f h = record { first = h.0.0.failed_as; second = h.1.0.0.failed_as }
+    fail_at (suc (suc k)) f h = absurd (no_more k h.1.1)
+      where
+        no_more : (k : ℕ) → OneFails both k (Read f) [] [] → ⊥
+        no_more zero h = h
+        no_more (suc k) h = h
+
+    fail_of : (k : ℕ) (f : LoadFault) (merge : MergeFault) → IsFaultAt k f merge → OneFails both k f inputs after → FailTwo merge
+    fail_of k (Read f) merge is h = subst FailTwo (sym is) (fail_at k f h)
+    fail_of k Full merge is h = absurd is
+    fail_of k OutOfMemory merge is h = absurd is
+
+    pub fail_two : (fault : StreamsFault) (merge : MergeFault) → IsFaultOfTwo fault merge → FailAs both {T = Joined} (Err fault) inputs after → FailTwo merge
+    fail_two Write merge is h = subst FailTwo (sym is) (record { first = h.0.0.failed_as; second = h.1.0.0.failed_as })
+    fail_two (Input fault) merge is h = fail_of fault.number fault.fault merge is h

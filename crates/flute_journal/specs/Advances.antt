@@ -1,7 +1,7 @@
 -- Streams that go on together.
 use Rattle.std.specs.Prelude.{◌≡◌, ◌≢◌, ℕ, zero, suc, List, [], ◌∷◌, ◌⊎◌, Option}
 use Rattle.flute_parts.specs.declared.address.Address.{Address}
-use Rattle.flute_journal.specs.declared.fault.ReadFault.{ReadFault}
+use Rattle.flute_journal.specs.declared.fault.LoadFault.{LoadFault}
 use Rattle.flute_journal.specs.declared.streams_fault.InputFault.{InputFault}
 use Rattle.flute_journal.specs.Streams.{Behaviour, place_of, GoesOn, StopsAt, IsNew}
 
@@ -18,7 +18,7 @@ module _ {S : Type 0} (b : Behaviour S) where
   GoOnAt place _ _ = ⊥
 
   -- those before this number went on, that one stopped at the fault, and those behind it are as they were
-  abbrev pub StopAt : Option Address → ℕ → ReadFault → List S → List S → Type 0
+  abbrev pub StopAt : Option Address → ℕ → LoadFault → List S → List S → Type 0
   StopAt place zero fault (s ∷ old) (t ∷ new) = (place_of (b.held s) ≡ place) × StopsAt b s t fault × (new ≡ old)
   StopAt place (suc number) fault (s ∷ old) (t ∷ new) = GoesOnAt place s t × StopAt place number fault old new
   StopAt place _ fault _ _ = ⊥

@@ -4,6 +4,8 @@ use Rattle.std.specs.List.{AllByRecursion}
 use Rattle.flute_parts.specs.Facts.{IsRising}
 use Rattle.flute_parts.specs.declared.fact.Fact.{Fact}
 use Rattle.flute_journal.specs.declared.fault.ReadFault.{ReadFault}
+use Rattle.flute_journal.specs.declared.fault.LoadFault.{LoadFault}
+use Rattle.flute_journal.specs.declared.fault.LoadFault.TheVariants.{Read, Full, OutOfMemory}
 use Rattle.flute_journal.specs.declared.reader.Stage.{Stage}
 use Rattle.flute_journal.specs.declared.reader.Stage.TheVariants.{Header, Entries, Ended, Failed}
 use Rattle.flute_journal.specs.declared.journal_stream.JournalStream.{JournalStream}
@@ -13,6 +15,7 @@ use Rattle.flute_journal.specs.Input.{Fails}
 use Rattle.flute_journal.specs.Journal.{IsFact, AreEntries, IsJournalWithin}
 use Rattle.flute_journal.specs.Readers.{source_of, limit_of, stage_of}
 use Rattle.flute_journal.specs.SoFar.{Sofar}
+use Rattle.flute_journal.specs.Stores.{BeginsWith}
 use Rattle.flute_journal.specs.Whole.{HasFault}
 use Rattle.flute_journal.specs.Merges.{ReadsBehind}
 use Rattle.flute_journal.specs.Streams.{Behaviour, option_list}
@@ -36,10 +39,17 @@ room limit (Entries count last) = limit - count
 room limit Ended = 0
 room limit (Failed fault) = 0
 
+-- a journal stops at no other faults than those of reading
+abbrev pub StopsReading : (ReadFault → Type 0) → LoadFault → Type 0
+StopsReading P (Read fault) = P fault
+StopsReading P Full = ⊥
+StopsReading P OutOfMemory = ⊥
+
 -- how often a source failed that gave this fault, or none
-abbrev pub FailsBy : ℕ → ℕ → Option ReadFault → Type 0
+abbrev pub FailsBy : ℕ → ℕ → Option LoadFault → Type 0
 FailsBy old new None = new ≡ old
-FailsBy old new (Some fault) = Fails {T = Option Fact} old new (Err fault)
+FailsBy old new (Some (Read fault)) = Fails {T = Option Fact} old new (Err fault)
+FailsBy old new (Some fault) = new ≡ old
 
 -- the bytes are the journal of these entries
 pub record IsJournalOfAll (bytes : Option (List ℕ)) (entries : List Fact) : Type 0 where
@@ -52,7 +62,7 @@ module _ {R : Type 0} (unread : R → Option (List ℕ)) (failures : R → ℕ) 
   unread_of s = unread (source_of s.reader).now
 
   -- it is read of the same source, which failed since as the fault tells
-  pub record FailsSince (start now : JournalStream R) (fault : Option ReadFault) : Type 0 where
+  pub record FailsSince (start now : JournalStream R) (fault : Option LoadFault) : Type 0 where
     pub same_source : (source_of now.reader).ghost_name ≡ (source_of start.reader).ghost_name
     pub failed_as : FailsBy (failures (source_of start.reader).now) (failures (source_of now.reader).now) fault
 
@@ -68,7 +78,8 @@ module _ {R : Type 0} (unread : R → Option (List ℕ)) (failures : R → ℕ) 
     most = λ s. length (option_list s.held) + room (limit_of s.reader) (stage_of s.reader);
     tells = λ s F. IfSome (unread_of s) (λ bytes. IsJournalWithin (limit_of s.reader) bytes F);
     knows = λ s F. IsJournalOfAll (unread_of s) F;
-    stops = λ s fault. HasFault (limit_of s.reader) (unread_of s) fault;
+    begins = λ s F. IfSome (unread_of s) (λ bytes. BeginsWith (limit_of s.reader) bytes F);
+    stops = λ s fault. StopsReading (HasFault (limit_of s.reader) (unread_of s)) fault;
     passes = PassesSince;
     reads = λ start now F. ReadsBehind (unread_of start) (unread_of now) F;
     fails = FailsSince;
@@ -92,6 +103,7 @@ module _ {R : Type 0} (unread : R → Option (List ℕ)) (failures : R → ℕ) 
         most = λ s. b.most (lent s);
         tells = λ s F. b.tells (lent s) F;
         knows = λ s F. b.knows (lent s) F;
+        begins = λ s F. b.begins (lent s) F;
         stops = λ s fault. b.stops (lent s) fault;
         passes = λ start now F. b.passes (lent start) (lent now) F × SameLoans start now;
         reads = λ start now F. b.reads (lent start) (lent now) F;

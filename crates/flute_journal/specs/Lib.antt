@@ -22,7 +22,9 @@ pub mod JournalStreams
 pub mod Advances
 pub mod Lowest
 pub mod Changes
+pub mod Leads
 pub mod StreamMerges
 pub mod Pairs
 pub mod Listed
 pub mod FactStreams
+pub mod Withins

@@ -6,7 +6,7 @@ use Rattle.flute_parts.specs.declared.tally.Tally.{Tally}
 use Rattle.flute_parts.specs.Facts.{SameMembers}
 use Rattle.flute_parts.specs.Limits.{Over}
 use Rattle.flute_parts.specs.Tally.{Counts}
-use Rattle.flute_journal.specs.declared.fault.ReadFault.{ReadFault}
+use Rattle.flute_journal.specs.declared.fault.LoadFault.{LoadFault}
 use Rattle.flute_journal.specs.declared.merging.Joined.{Joined}
 use Rattle.flute_journal.specs.declared.streams_fault.StreamsFault.{StreamsFault}
 use Rattle.flute_journal.specs.declared.streams_fault.StreamsFault.TheVariants.{Input, Write}
@@ -60,7 +60,7 @@ module _ {S : Type 0} (b : Behaviour S) where
   NoneFails _ _ = ⊥
 
   -- the input with this number failed as the fault tells, and no other
-  abbrev pub OneFails : ℕ → ReadFault → List S → List S → Type 0
+  abbrev pub OneFails : ℕ → LoadFault → List S → List S → Type 0
   OneFails zero fault (s ∷ old) (t ∷ new) = b.fails s t (Some fault) × NoneFails old new
   OneFails (suc number) fault (s ∷ old) (t ∷ new) = b.fails s t None × OneFails number fault old new
   OneFails _ fault _ _ = ⊥

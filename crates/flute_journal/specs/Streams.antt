@@ -6,7 +6,7 @@ use Rattle.flute_parts.specs.declared.address.Address.{Address}
 use Rattle.flute_parts.specs.declared.fact.Fact.{Fact}
 use Rattle.flute_parts.specs.declared.fact.FactRef.{FactRef}
 use Rattle.flute_store.specs.Walk.{IsSized}
-use Rattle.flute_journal.specs.declared.fault.ReadFault.{ReadFault}
+use Rattle.flute_journal.specs.declared.fault.LoadFault.{LoadFault}
 
 -- what is said of a kind of stream
 pub record Behaviour (S : Type 0) : Type 1 where
@@ -18,14 +18,16 @@ pub record Behaviour (S : Type 0) : Type 1 where
   pub tells : S → List Fact → Type 0
   -- a new one is known to have these facts and no others, if nothing fails
   pub knows : S → List Fact → Type 0
+  -- a new one begins with these facts, whatever follows
+  pub begins : S → List Fact → Type 0
   -- a new one may stop at this fault
-  pub stops : S → ReadFault → Type 0
+  pub stops : S → LoadFault → Type 0
   -- since the first state, when it was new, it let go of these facts, and no device failed
   pub passes : S → S → List Fact → Type 0
   -- since then these facts were read whole, and at most one more
   pub reads : S → S → List Fact → Type 0
   -- since then its device failed as often as this fault tells
-  pub fails : S → S → Option ReadFault → Type 0
+  pub fails : S → S → Option LoadFault → Type 0
 
 abbrev pub fact_in : Option FactRef → Option Fact
 fact_in None = None
@@ -57,6 +59,7 @@ module _ {S : Type 0} (b : Behaviour S) where
     pub rising : IsRising (F ++ option_list (b.held now))
     pub sized : IfSome (b.held now) IsSized
     pub ended : b.held now ≡ None → b.tells start F
+    pub begins : b.begins start (F ++ option_list (b.held now))
     pub known : (K : List Fact) → b.knows start K → Continues K (F ++ option_list (b.held now)) (b.held now)
 
   -- it let go of what it held, and holds the next fact or has ended
@@ -65,13 +68,13 @@ module _ {S : Type 0} (b : Behaviour S) where
     pub fewer : b.most new + length (option_list (b.held old)) ≤ b.most old
 
   -- it gave these facts, and then stopped at a fault
-  pub record Stopped (start now : S) (F : List Fact) (fault : ReadFault) : Type 0 where
+  pub record Stopped (start now : S) (F : List Fact) (fault : LoadFault) : Type 0 where
     pub reads : b.reads start now F
     pub fails : b.fails start now (Some fault)
     pub stops : b.stops start fault
 
   -- it let go of what it held, and stopped
-  abbrev pub StopsAt : S → S → ReadFault → Type 0
+  abbrev pub StopsAt : S → S → LoadFault → Type 0
   StopsAt old new fault = (start : S) (F : List Fact) → b.passes start old F → Stopped start new (F ++ option_list (b.held old)) fault
 
   -- nothing was read of it
@@ -82,7 +85,7 @@ module _ {S : Type 0} (b : Behaviour S) where
     pub fails : b.fails s s None
 
   -- the stream with this number was advanced, and the others stay
-  pub record Advances (number : ℕ) (old new : List S) (result : Result (Unit {0}) ReadFault) : Type 0 where
+  pub record Advances (number : ℕ) (old new : List S) (result : Result (Unit {0}) LoadFault) : Type 0 where
     pub before : S
     pub after : S
     pub was : slice_get old number ≡ Some before

@@ -1,7 +1,7 @@
 //! A stream of one kind or of another.
 ghost use Rattle.flute_journal.specs.Eithers.{either_behaviour};
 
-use crate::fault::ReadFault;
+use crate::fault::LoadFault;
 use crate::stream::Stream;
 use flute_parts::FactRef;
 use std::alloc::Global;
@@ -25,7 +25,7 @@ impl<A: Stream, B: Stream> Stream for Either<A, B> {
         }
     }
 
-    fn advance(&mut self, alloc: Global) -> Result<(), ReadFault> {
+    fn advance(&mut self, alloc: Global) -> Result<(), LoadFault> {
         match self {
             Either::First(stream) => stream.advance(alloc),
             Either::Second(stream) => stream.advance(alloc),

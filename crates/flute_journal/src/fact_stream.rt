@@ -4,7 +4,7 @@ ghost use Rattle.flute_store.specs.Walk.{IsSized};
 ghost use Rattle.flute_journal.specs.Streams.{option_list, IsNew};
 ghost use Rattle.flute_journal.specs.FactStreams.{fact_behaviour};
 
-use crate::fault::ReadFault;
+use crate::fault::LoadFault;
 use crate::stream::Stream;
 use flute_parts::{Fact, FactRef};
 use std::alloc::Global;
@@ -41,7 +41,7 @@ impl Stream for FactStream {
         }
     }
 
-    fn advance(&mut self, _alloc: Global) -> Result<(), ReadFault> {
+    fn advance(&mut self, _alloc: Global) -> Result<(), LoadFault> {
         self.held = self.next.take();
         Ok(())
     }

@@ -5,7 +5,7 @@ ghost use Rattle.flute_journal.specs.Streams.{IsNew};
 ghost use Rattle.flute_journal.specs.JournalStreams.{journal_behaviour, lent_behaviour};
 ghost use Rattle.flute_journal.specs.declared.reader.Stage.TheVariants as Stage;
 
-use crate::fault::ReadFault;
+use crate::fault::LoadFault;
 use crate::reader::JournalReader;
 use crate::stream::Stream;
 use flute_parts::{Fact, FactRef, Source};
@@ -49,7 +49,7 @@ impl<'a, R: Source> Stream for JournalStream<'a, R> {
     }
 
     #[inline(always)]
-    fn advance(&mut self, alloc: Global) -> Result<(), ReadFault> {
+    fn advance(&mut self, alloc: Global) -> Result<(), LoadFault> {
         let spare = spare_of(alloc, self.held.take());
         self.held = self.reader.next_with(alloc, spare)?;
         Ok(())
@@ -76,7 +76,7 @@ impl<'r, 'a, R: Source> Stream for LentStream<'r, 'a, R> {
     }
 
     #[inline(always)]
-    fn advance(&mut self, alloc: Global) -> Result<(), ReadFault> {
+    fn advance(&mut self, alloc: Global) -> Result<(), LoadFault> {
         let spare = spare_of(alloc, self.held.take());
         *self.held = self.reader.next_with(alloc, spare)?;
         Ok(())

@@ -7,11 +7,11 @@ ghost use Rattle.flute_journal.specs.Advances.{AreNew};
 ghost use Rattle.flute_journal.specs.Eithers.{either_behaviour};
 ghost use Rattle.flute_journal.specs.JournalStreams.{lent_behaviour, SameLoans};
 ghost use Rattle.flute_journal.specs.StreamMerges.{MergedAll, AppendsPartOf, ReadsAhead, NamesInput, FailAs, streams_sink_failed};
-ghost use Rattle.flute_journal.specs.Pairs.{fault_of_two};
+ghost use Rattle.flute_journal.specs.Pairs.{fault_at, IsOfReading, IsFaultOfTwo};
 ghost use Rattle.flute_journal.specs.declared.reader.Stage.TheVariants as Stage;
 ghost use Rattle.flute_journal.specs.declared.either.Either.TheVariants.{First as Left, Second as Right};
 
-use crate::fault::ReadFault;
+use crate::fault::{LoadFault, ReadFault};
 use crate::journal_stream::LentStream;
 use crate::merging::{Joined, merge_all};
 use crate::reader::JournalReader;
@@ -171,13 +171,30 @@ pub fn merge_two<
     merge_all::<SESSIONS, OBJECTS, SYMBOLS, _, _>(alloc, &mut pair, sink)
 }
 
-// The fault of a merge of two.
+// The fault of a merge of two journals.
 fn fault_of_two(fault: StreamsFault) -> MergeFault
-    ensures { result ≡ fault_of_two fault }
+    requires { IsOfReading fault }
+    ensures { IsFaultOfTwo fault result }
 {
     match fault {
-        StreamsFault::Input(InputFault { number: 0, fault }) => MergeFault::First(fault),
-        StreamsFault::Input(InputFault { fault, .. }) => MergeFault::Second(fault),
+        StreamsFault::Input(
+            InputFault {
+                number,
+                fault: LoadFault::Read(fault),
+            },
+        ) => fault_at(number, fault),
+        StreamsFault::Input(_) => unreachable!(),
         StreamsFault::Write => MergeFault::Write,
+    }
+}
+
+// The fault of the input with this number.
+fn fault_at(number: usize, fault: ReadFault) -> MergeFault
+    ensures { result ≡ fault_at number fault }
+{
+    if number == 0 {
+        MergeFault::First(fault)
+    } else {
+        MergeFault::Second(fault)
     }
 }

@@ -8,7 +8,7 @@ ghost use Rattle.flute_journal.specs.Advances.{AreNew};
 ghost use Rattle.flute_journal.specs.StreamMerges.{MergedAll, AppendsPartOf, ReadsAhead, NamesInput, FailAs, IsCounted, streams_sink_failed};
 
 use crate::advance::advance_at;
-use crate::lowest::lowest_held;
+use crate::leading::Lead;
 use crate::stream::Stream;
 use crate::streams::{Slice, Streams};
 use crate::streams_fault::StreamsFault;
@@ -65,13 +65,14 @@ pub fn merge_all<const SESSIONS: u32, const OBJECTS: u32, const SYMBOLS: u32, G:
     let mut tally = Tally::<SESSIONS, OBJECTS, SYMBOLS>::new();
     let mut within = true;
     let mut entries = 0;
-    while let Some(fact) = lowest_held(streams) {
+    let mut lead = Lead::new();
+    while let Some(fact) = lead.lowest(streams) {
         if write_entry(sink, &fact).is_err() {
             return Err(StreamsFault::Write);
         }
         let place = fact.address();
         within = count_place(&mut tally, within, &place);
-        if let Err(fault) = advance_at(alloc, streams, Some(place)) {
+        if let Err(fault) = lead.advance(alloc, streams, place) {
             return Err(StreamsFault::Input(fault));
         }
         entries += 1;

@@ -2,7 +2,7 @@
 ghost use Rattle.std.specs.Prelude.{◌≡◌, OnOk, IfErr};
 ghost use Rattle.flute_journal.specs.Streams.{Behaviour, fact_in, GoesOn, StopsAt};
 
-use crate::fault::ReadFault;
+use crate::fault::LoadFault;
 use flute_parts::FactRef;
 use std::alloc::Global;
 
@@ -20,7 +20,7 @@ pub trait Stream {
     /// # Errors
     ///
     /// Why no next fact could be read. It holds none then.
-    fn advance(&mut self, alloc: Global) -> Result<(), ReadFault>
+    fn advance(&mut self, alloc: Global) -> Result<(), LoadFault>
         ensures goes_on { OnOk result (GoesOn behaviour self.old self.new) }
         ensures stops { IfErr result (StopsAt behaviour self.old self.new) };
 }

@@ -4,7 +4,7 @@ ghost use Rattle.std.specs.Borrow.{GName};
 ghost use Rattle.flute_journal.specs.Streams.{Advances, fact_in};
 
 use crate::either::Either;
-use crate::fault::ReadFault;
+use crate::fault::LoadFault;
 use crate::stream::Stream;
 use flute_parts::FactRef;
 use std::alloc::Global;
@@ -33,7 +33,7 @@ pub trait Streams {
     /// # Errors
     ///
     /// The fault of the stream.
-    fn advance(&mut self, number: usize, alloc: Global) -> Result<(), ReadFault>
+    fn advance(&mut self, number: usize, alloc: Global) -> Result<(), LoadFault>
         requires { number < length (streams self.old) }
         ensures advances { Advances Self.Stream.behaviour number (streams self.old) (streams self.new) result }
         ensures names { names self.new ≡ names self.old };
@@ -75,7 +75,7 @@ impl<'a, S: Stream> Streams for Slice<'a, S> {
     }
 
     #[inline(always)]
-    fn advance(&mut self, number: usize, alloc: Global) -> Result<(), ReadFault> {
+    fn advance(&mut self, number: usize, alloc: Global) -> Result<(), LoadFault> {
         self.streams[number].advance(alloc)
     }
 }
@@ -112,7 +112,7 @@ impl<'a, 'b, A: Stream, B: Stream> Streams for Pair<'a, 'b, A, B> {
     }
 
     #[inline(always)]
-    fn advance(&mut self, number: usize, alloc: Global) -> Result<(), ReadFault> {
+    fn advance(&mut self, number: usize, alloc: Global) -> Result<(), LoadFault> {
         if number == 0 {
             self.first.advance(alloc)
         } else {

@@ -1,6 +1,6 @@
 //! Why streams could not be merged.
 
-use crate::fault::ReadFault;
+use crate::fault::LoadFault;
 use thiserror::Error;
 
 /// The fault of one of several inputs.
@@ -10,7 +10,7 @@ pub struct InputFault {
     /// The number of the input, from 0.
     pub number: usize,
     /// Why it was read no further.
-    pub fault: ReadFault,
+    pub fault: LoadFault,
 }
 
 /// Why streams could not be merged.

@@ -5,7 +5,7 @@ ghost use Rattle.flute_parts.specs.Facts.{IsRising};
 ghost use Rattle.flute_journal.specs.Streams.{fact_in, IsNew};
 ghost use Rattle.flute_journal.specs.Listed.{listed_behaviour};
 
-use crate::fault::ReadFault;
+use crate::fault::LoadFault;
 use crate::stream::Stream;
 use flute_parts::FactRef;
 use flute_store::{HasObjects, Walk};
@@ -40,7 +40,7 @@ impl<'a, S: HasObjects + 'a> Stream for WalkStream<'a, S> {
         }
     }
 
-    fn advance(&mut self, _alloc: Global) -> Result<(), ReadFault> {
+    fn advance(&mut self, _alloc: Global) -> Result<(), LoadFault> {
         self.held = self.walk.next();
         Ok(())
     }

@@ -51,3 +51,20 @@ fn facts_are_merged(rt: HostRuntime) -> Result<(), Fail> {
     assert!(rt; sink.as_slice() == bytes_of(rt.alloc(), &told)?.as_slice());
     Ok(())
 }
+
+/// The second journal has three symbols, and two are its limit. The first has two, and alone it is within the limits.
+#[test]
+fn a_journal_over_limits_stops(rt: HostRuntime) -> Result<(), Fail> {
+    let whole = bytes(rt.alloc(), WHOLE)?;
+    let others = bytes(rt.alloc(), OTHERS)?;
+    let mut first = MemorySource::new(&whole);
+    let mut second = MemorySource::new(&others);
+    let mut few = Within::<1, 1, 2, _>::new(JournalStream::new(&mut first, MANY));
+    let mut many = Within::<1, 1, 2, _>::new(JournalStream::new(&mut second, MANY));
+    let mut sink = MemorySink::new(rt.alloc());
+    let answer = merge_two::<4, 4, 4, _, _, _>(rt.alloc(), &mut few, &mut many, &mut sink);
+    let fault = LoadFault::Full;
+    let told = StreamsFault::Input(InputFault { number: 1, fault });
+    assert!(rt; answer.err() == Some(told));
+    Ok(())
+}

@@ -1,12 +1,17 @@
 -- One stream more, by whether it stands there.
-use Rattle.std.proofs.Common.{◌≡◌, ◌+◌, length, refl, subst, sym, ap, ◌∙◌, arith}
+use Rattle.std.proofs.Common.{◌≡◌, ℕ, ◌+◌, ◌<◌, length, Option, Some, None, refl, subst, sym, ap, ◌∙◌, arith}
+use Rattle.std.specs.Prelude.{IfSome}
 use Rattle.flute_journal.specs.Streams.{place_of}
 use Rattle.flute_journal.proofs.GoingOn.{WentSoFar, item_at, none_went, one_stays, one_goes, one_stops, all_went, same_length}
 use Rattle.flute_journal.proofs.advance.advance_at.Goals.{then-is_at+in_default, else-is_at}
 use Rattle.flute_journal.proofs.advance.advance_at.Goals as goal
 
+below_more : (P : ℕ → Type 0) (k : ℕ) (o : Option ℕ) → IfSome o P → ((n : ℕ) → P n → n < k + 1) → IfSome o (λ n. n < k + 1)
+below_more P k None h m = tt
+below_more P k (Some n) h m = m n h
+
 pub loop-number-init : goal.loop-number-init
-loop-number-init g c = record { went = none_went g.G.Stream.Stream.behaviour c.args.place (g.G.Streams.streams c.args.streams.now); all = sym c.count-number-end.ensures; names = refl }
+loop-number-init g c = record { went = none_went g.G.Stream.Stream.behaviour c.args.place (g.G.Streams.streams c.args.streams.now); all = sym c.count-number-end.ensures; names = refl; one = tt }
 
 pub head-requires : goal.head-requires
 head-requires g c = omega (arith, c.loop-number.invariant.all, c.loop-number-test.true)
@@ -42,6 +47,7 @@ loop-number-preserved g c =
                 (sym (ap place_of (c.head.ensures a.before a.was)) ∙ c.is_at.ensures.at w.if-is_at.true));
             all = subst Q (sym w.streams-is) (same_length g.G.Stream.Stream.behaviour k now (g.G.Streams.streams w.advance.new.self) a ∙ c.loop-number.invariant.all);
             names = subst N (sym w.streams-is) (w.advance.ensures.names ∙ c.loop-number.invariant.names);
+            one = subst (λ o. IfSome o (λ n. n < k + 1)) (sym w.one-is) (below_more (λ n. n ≡ k) k w.first_of-one.result w.first_of-one.ensures (λ n e. omega (arith, e)));
           }
       | else-is_at w ↦
           let P = λ (s : g.row.G.Denot). WentSoFar g.G.Stream.Stream.behaviour c.args.place (k + 1) old (g.G.Streams.streams s) in
@@ -53,6 +59,7 @@ loop-number-preserved g c =
                 (λ e. c.is_at.ensures.elsewhere w.if-is_at.false (ap place_of (c.head.ensures x.0 x.1) ∙ e)));
             all = subst Q (sym w.streams-is) c.loop-number.invariant.all;
             names = subst N (sym w.streams-is) c.loop-number.invariant.names;
+            one = subst (λ o. IfSome o (λ n. n < k + 1)) (sym w.one-is) (below_more (λ n. n < k) k c.loop-number.one c.loop-number.invariant.one (λ n e. omega (arith, e)));
           }
     ]
 
@@ -63,3 +70,10 @@ returns-clause-go_on g c =
 
 pub returns-clause-names : goal.returns-clause-names
 returns-clause-names g c = c.loop-number.invariant.names
+
+pub returns-clause-number : goal.returns-clause-number
+returns-clause-number g c = below_end c.loop-number.one c.loop-number.invariant.one
+  where
+    below_end : (o : Option ℕ) → IfSome o (λ n. n < c.loop-number.number) → IfSome o (λ n. n < length (g.G.Streams.streams c.loop-number.streams))
+    below_end None h = tt
+    below_end (Some n) h = omega (arith, h, c.loop-number.invariant.all, c.loop-number-test.false)

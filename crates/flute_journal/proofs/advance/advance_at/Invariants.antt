@@ -1,5 +1,6 @@
 -- The first streams went on, and the others are as they were.
-use Rattle.std.proofs.Common.{◌≡◌, length}
+use Rattle.std.proofs.Common.{◌≡◌, ◌<◌, length}
+use Rattle.std.specs.Prelude.{IfSome}
 use Rattle.flute_journal.proofs.GoingOn.{WentSoFar}
 use Rattle.flute_journal.proofs.advance.advance_at.Given as goal
 
@@ -8,4 +9,5 @@ invariant-loop-number g l = record {
   went : WentSoFar g.G.Stream.Stream.behaviour l.place l.number (g.G.Streams.streams l.fn.streams) (g.G.Streams.streams l.streams);
   all : length (g.G.Streams.streams l.streams) ≡ l.number-end;
   names : g.G.Streams.names l.streams ≡ g.G.Streams.names l.fn.streams;
+  one : IfSome l.one (λ number. number < l.number);
 }

@@ -1,6 +1,7 @@
 -- Between two turns, the sink has not failed.
-use Rattle.std.proofs.Common.{◌≡◌}
+use Rattle.std.proofs.Common.{◌≡◌, true}
 use Rattle.flute_journal.specs.Streams.{most_of}
+use Rattle.flute_journal.specs.Leads.{Leads}
 use Rattle.flute_journal.specs.StreamMerges.{IsCounted}
 use Rattle.flute_journal.proofs.StreamStates.{State}
 use Rattle.flute_journal.proofs.merging.merge_all.Given as goal
@@ -10,6 +11,7 @@ invariant-loop-fact g l = record {
   state : State g.G.Stream.Stream.behaviour (IsCounted g.row.SESSIONS g.row.OBJECTS g.row.SYMBOLS l.tally l.within) (g.G.Streams.streams l.fn.streams) (g.G.Streams.streams l.streams)
       (g.W.Sink.written l.fn.sink) (g.W.Sink.written l.sink) l.entries;
   sink_failures : g.W.Sink.failures l.sink ≡ g.W.Sink.failures l.fn.sink;
+  lead : l.lead.known ≡ true → Leads g.G.Stream.Stream.behaviour (g.G.Streams.streams l.streams) l.lead.number l.lead.next;
   names : g.G.Streams.names l.streams ≡ g.G.Streams.names l.fn.streams;
 }
 
