@@ -8,8 +8,8 @@ use crate::streams_fault::InputFault;
 use flute_parts::{Address, FactRef};
 use std::alloc::Global;
 
-/// Advances each stream that holds a fact at this address, or each that holds none, in their order. Answers the number of
-/// the one that was advanced, if it was one only.
+/// Advances each stream that holds a fact at this address, or each that holds none, in their order.
+/// Answers the number of the one that was advanced, if it was one only.
 ///
 /// # Errors
 ///
@@ -20,9 +20,12 @@ pub fn advance_at<G: Streams>(
     streams: &mut G,
     place: Option<Address>,
 ) -> Result<Option<usize>, InputFault>
-    ensures go_on { IfOk result (λ _. GoOnAt G.Stream.behaviour place (G.streams streams.old) (G.streams streams.new)) }
-    ensures number { IfOk result (λ one. IfSome one (λ number. number < length (G.streams streams.new))) }
-    ensures stops { IfErr result (StopsIn G.Stream.behaviour place (G.streams streams.old) (G.streams streams.new)) }
+    ensures go_on { IfOk result (λ _. GoOnAt G.Stream.behaviour place (G.streams streams.old)
+        (G.streams streams.new)) }
+    ensures number { IfOk result (λ one. IfSome one
+        (λ number. number < length (G.streams streams.new))) }
+    ensures stops { IfErr result
+        (StopsIn G.Stream.behaviour place (G.streams streams.old) (G.streams streams.new)) }
     ensures names { G.names streams.new ≡ G.names streams.old }
 {
     let mut one = None;

@@ -9,8 +9,8 @@ use crate::format::check_opening;
 use crate::format::number::length_in;
 use std::alloc::Global;
 
-/// The datagrams of a file that lies in memory, in its order. None is copied: the only memory taken is that of the list.
-/// The file may have at most `max_records` records.
+/// The datagrams of a file that lies in memory, in its order. None is copied: the only memory taken
+/// is that of the list. The file may have at most `max_records` records.
 ///
 /// # Errors
 ///
@@ -20,7 +20,8 @@ pub fn datagrams_in<'a>(
     file: &'a [u8],
     max_records: u64,
 ) -> Result<Vec<&'a [u8]>, ReadFault>
-    ensures read { IfOk result (λ datagrams. IsFileWithin max_records file.now (map (λ d. d.now) datagrams.items)) }
+    ensures read { IfOk result (λ datagrams. IsFileWithin max_records file.now
+        (map (λ d. d.now) datagrams.items)) }
     ensures fault { IfErr result (HasFileFault max_records (Some file.now)) }
     ensures no_device { IfErr result (λ f. f ≢ Read) }
 {

@@ -44,8 +44,8 @@ pub struct DatagramReader<'a, R> {
 }
 
 impl<'a, R: Source> DatagramReader<'a, R> {
-    /// A reader of the datagram file that the source holds, which may have at most `max_records` records. It takes no
-    /// memory, and reads nothing yet.
+    /// A reader of the datagram file that the source holds, which may have at most `max_records`
+    /// records. It takes no memory, and reads nothing yet.
     pub fn new(source: &'a mut R, max_records: u64) -> DatagramReader<'a, R>
         ensures source { (datagrams_source_of result).ghost_name ≡ source.entry.ghost_name }
         ensures unread { (datagrams_source_of result).now ≡ source.old }
@@ -59,8 +59,8 @@ impl<'a, R: Source> DatagramReader<'a, R> {
         }
     }
 
-    /// The next datagram, of 0 to 65,535 bytes, whatever they say. None once the input ends between two records, and
-    /// from then on.
+    /// The next datagram, of 0 to 65,535 bytes, whatever they say. None once the input ends between
+    /// two records, and from then on.
     ///
     /// The bytes of the datagram are the only memory that is taken.
     ///
@@ -69,19 +69,25 @@ impl<'a, R: Source> DatagramReader<'a, R> {
     /// - `Magic` and `Version` of the header;
     /// - `TooMany` where a byte follows `max_records` records;
     /// - `Cut` where the input ends within the header or a record;
-    /// - `Read` where the source fails in this call, and `OutOfMemory` where there is no memory for a datagram.
+    /// - `Read` where the source fails in this call, and `OutOfMemory` where there is no
+    ///   memory for a datagram.
     ///
-    /// What came whole before the source failed is looked at first: `Read` stands where the fault would be `Cut` if the
-    /// input ended there, or where it would end between two records. Nothing behind the header and one record was read.
+    /// What came whole before the source failed is looked at first: `Read` stands where the fault
+    /// would be `Cut` if the input ended there, or where it would end between two records. Nothing
+    /// behind the header and one record was read.
     ///
     /// Each later call answers the same fault, and reads nothing.
     pub fn next(&mut self, alloc: Global) -> Result<Option<Datagram>, ReadFault>
-        ensures source { (datagrams_source_of self.new).ghost_name ≡ (datagrams_source_of self.old).ghost_name }
+        ensures source { (datagrams_source_of self.new).ghost_name
+            ≡ (datagrams_source_of self.old).ghost_name }
         ensures limit { records_limit_of self.new ≡ records_limit_of self.old }
-        ensures gives { GivesOfFile (records_limit_of self.old) (file_stage_of self.old) (file_stage_of self.new)
-            (R.unread (datagrams_source_of self.old).now) (R.unread (datagrams_source_of self.new).now) result }
+        ensures gives { GivesOfFile (records_limit_of self.old) (file_stage_of self.old)
+            (file_stage_of self.new)
+            (R.unread (datagrams_source_of self.old).now)
+            (R.unread (datagrams_source_of self.new).now) result }
         ensures failures { FailsIf (is_open (file_stage_of self.old))
-            (R.failures (datagrams_source_of self.old).now) (R.failures (datagrams_source_of self.new).now) result }
+            (R.failures (datagrams_source_of self.old).now)
+            (R.failures (datagrams_source_of self.new).now) result }
     {
         let (count, given) = match self.stage {
             FileStage::Ended => return Ok(None),
@@ -103,7 +109,8 @@ fn read_first<R: Source>(
     source: &mut R,
     max_records: u64,
 ) -> Result<Option<Datagram>, ReadFault>
-    ensures reads { ReadsFileFrom max_records FileStage.Header (R.unread source.old) (R.unread source.new) result }
+    ensures reads { ReadsFileFrom max_records FileStage.Header (R.unread source.old)
+        (R.unread source.new) result }
     ensures faults { IfErr result IsFileFault }
     ensures failures { Fails (R.failures source.old) (R.failures source.new) result }
 {
@@ -113,7 +120,8 @@ fn read_first<R: Source>(
 
 // Reads the magic number and the version.
 fn read_header<R: Source>(source: &mut R) -> Result<(), ReadFault>
-    ensures reads { Reads (λ _. file_header) (λ _. Unit {0}) (opening_fault file_header) (R.unread source.old) (R.unread source.new) result }
+    ensures reads { Reads (λ _. file_header) (λ _. Unit {0}) (opening_fault file_header)
+        (R.unread source.old) (R.unread source.new) result }
     ensures advances { Advances (R.unread source.old) (R.unread source.new) 6 }
     ensures memory { IfErr result (λ f. f ≢ OutOfMemory) }
     ensures faults { IfErr result IsFileFault }
@@ -131,8 +139,10 @@ fn read_record<R: Source>(
     max_records: u64,
     count: u64,
 ) -> Result<Option<Datagram>, ReadFault>
-    ensures reads { ReadsRecord max_records count (R.unread source.old) (R.unread source.new) result }
-    ensures within { StaysWithin record_of IsDatagram (R.unread source.old) (R.unread source.new) result }
+    ensures reads { ReadsRecord max_records count (R.unread source.old)
+        (R.unread source.new) result }
+    ensures within { StaysWithin record_of IsDatagram (R.unread source.old)
+        (R.unread source.new) result }
     ensures faults { IfErr result IsFileFault }
     ensures failures { Fails (R.failures source.old) (R.failures source.new) result }
 {
@@ -157,7 +167,8 @@ fn read_datagram<R: Source>(
     source: &mut R,
     length: u16,
 ) -> Result<Datagram, ReadFault>
-    ensures reads { Reads (λ bytes. bytes) (λ bytes. (length_of bytes ≡ length) × AllByRecursion IsByte bytes) (cut_fault length) (R.unread source.old) (R.unread source.new) result }
+    ensures reads { Reads (λ bytes. bytes) (λ bytes. (length_of bytes ≡ length) × AllByRecursion
+        IsByte bytes) (cut_fault length) (R.unread source.old) (R.unread source.new) result }
     ensures advances { Advances (R.unread source.old) (R.unread source.new) length }
     ensures faults { IfErr result IsFileFault }
     ensures failures { Fails (R.failures source.old) (R.failures source.new) result }

@@ -12,15 +12,17 @@ use crate::format::number::length_field;
 use flute_parts::{DeviceFault, Sink};
 use flute_wire::{Datagram, Datagrams};
 
-/// Writes a datagram file, a record for each datagram in their order, and answers the number of the records. It takes no
-/// memory of its own.
+/// Writes a datagram file, a record for each datagram in their order, and answers the number of the
+/// records. It takes no memory of its own.
 ///
 /// # Errors
 ///
 /// `Write` where the sink failed. A first part of the file was then written, and not all of it.
 pub fn write_datagrams<W: Sink>(datagrams: &Datagrams, sink: &mut W) -> Result<u64, SaveFault>
-    ensures bytes { Writes (W.written sink.old) (W.written sink.new) (file_header ++ flat_map record_of datagrams.now) result }
-    ensures file { IfOk result (λ _. IsFileOf (file_header ++ flat_map record_of datagrams.now) datagrams.now) }
+    ensures bytes { Writes (W.written sink.old) (W.written sink.new)
+        (file_header ++ flat_map record_of datagrams.now) result }
+    ensures file { IfOk result
+        (λ _. IsFileOf (file_header ++ flat_map record_of datagrams.now) datagrams.now) }
     ensures count { IfOk result (λ count. count ≡ length datagrams.now) }
     ensures failures { W.failures sink.new ≡ W.failures sink.old + (if is_ok result then 0 else 1) }
 {
@@ -36,7 +38,8 @@ pub fn write_datagrams<W: Sink>(datagrams: &Datagrams, sink: &mut W) -> Result<u
 
 fn write_record<W: Sink>(sink: &mut W, datagram: &Datagram) -> Result<(), DeviceFault>
     ensures valid { IsDatagram datagram.now }
-    ensures bytes { Writes (W.written sink.old) (W.written sink.new) (record_of datagram.now) result }
+    ensures bytes { Writes (W.written sink.old) (W.written sink.new)
+        (record_of datagram.now) result }
     ensures failures { W.failures sink.new ≡ W.failures sink.old + (if is_ok result then 0 else 1) }
 {
     let bytes = datagram.as_slice();

@@ -17,7 +17,8 @@ pub struct FactStream {
 }
 
 impl FactStream {
-    /// The stream of this fact, whose symbol, if it is one, has 1 to 65,535 bytes. It takes no memory.
+    /// The stream of this fact, whose symbol, if it is one, has 1 to 65,535
+    /// bytes. It takes no memory.
     pub fn new(fact: Fact) -> FactStream
         requires { IsSized fact }
         ensures facts { option_list result.next ≡ fact ∷ [] }

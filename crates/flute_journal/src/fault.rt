@@ -4,8 +4,8 @@ use flute_join::JoinRefusal;
 use flute_parts::{DeviceFault, InfoFault};
 use thiserror::Error;
 
-/// Why a journal could not be read: the first fault of its bytes in the order of their fields, or why they were read no
-/// further.
+/// Why a journal could not be read: the first fault of its bytes in the order of their fields, or
+/// why they were read no further.
 #[derive(Clone, Copy, Debug, PartialEq, Eq, Error)]
 pub enum ReadFault {
     /// The source failed.

@@ -1,4 +1,5 @@
-//! How the header, the entries and the end of a journal are spelled. Nothing outside this module knows an entry's bytes.
+//! How the header, the entries and the end of a journal are spelled. Nothing outside this module
+//! knows an entry's bytes.
 ghost use Rattle.std.specs.Prelude.{◌≡◌, false, MatchOption};
 ghost use Rattle.flute_journal.specs.Faults.{is_kind};
 ghost use Rattle.flute_journal.specs.Parsing.{byte_of, fixed_size};

@@ -11,8 +11,8 @@ use crate::fault::ReadFault;
 use flute_parts::Source;
 use std::alloc::Global;
 
-/// What was read of a source up to some number of bytes: so many, or fewer at the end of the input or where the source
-/// failed.
+/// What was read of a source up to some number of bytes: so many, or fewer at the end of the input
+/// or where the source failed.
 #[derive(Clone, Copy)]
 pub struct Front<'b> {
     /// The bytes.
@@ -29,8 +29,8 @@ impl Front<'_> {
         shortage(self.failed)
     }
 
-    /// What was found in the bytes, where the source may have failed behind them: a fault that they have is told as it
-    /// is, and else `Read`.
+    /// What was found in the bytes, where the source may have failed behind them: a fault that they
+    /// have is told as it is, and else `Read`.
     pub fn told<T: Drop>(self, found: Result<T, ReadFault>) -> Result<T, ReadFault>
         ensures { result ≡ told self.entry.failed found }
     {
@@ -57,7 +57,8 @@ fn shortage(failed: bool) -> ReadFault
 
 /// Reads until the buffer is full, up to the end of the input, or until the source fails.
 pub fn read_front<'b, R: Source>(source: &mut R, buffer: &'b mut [u8]) -> Front<'b>
-    ensures filled { Fronts (R.unread source.old) (R.unread source.new) (length buffer.old) result.failed result.bytes.now }
+    ensures filled { Fronts (R.unread source.old) (R.unread source.new)
+        (length buffer.old) result.failed result.bytes.now }
     ensures advances { Advances (R.unread source.old) (R.unread source.new) (length buffer.old) }
     ensures failures { R.failures source.new ≡ R.failures source.old + failure result.failed }
 {
@@ -68,13 +69,15 @@ pub fn read_front<'b, R: Source>(source: &mut R, buffer: &'b mut [u8]) -> Front<
     }
 }
 
-/// Reads until the buffer is full, or up to the end of the input, and answers how many bytes were read.
+/// Reads until the buffer is full, or up to the end of the input, and answers how
+/// many bytes were read.
 ///
 /// # Errors
 ///
 /// `Read` where the source fails, and nothing else. The buffer may hold anything then.
 pub fn fill<R: Source>(source: &mut R, buffer: &mut [u8]) -> Result<usize, ReadFault>
-    ensures filled { IfOk result (λ count. (count ≤ length buffer.new) × Fills (R.unread source.old) (R.unread source.new) (length buffer.new) (take count buffer.new)) }
+    ensures filled { IfOk result (λ count. (count ≤ length buffer.new) × Fills (R.unread source.old)
+        (R.unread source.new) (length buffer.new) (take count buffer.new)) }
     ensures octets { (i : ℕ) → slice_index buffer.new i < 256 }
     ensures only { IfErr result (λ f. f ≡ Read) }
     ensures advances { Advances (R.unread source.old) (R.unread source.new) (length buffer.new) }
@@ -89,7 +92,8 @@ pub fn fill<R: Source>(source: &mut R, buffer: &mut [u8]) -> Result<usize, ReadF
 // Reads until the buffer is full, up to the end of the input, or until the source fails. Answers how many bytes were
 // read, and whether the source failed.
 fn fill_front<R: Source>(source: &mut R, buffer: &mut [u8]) -> (usize, bool)
-    ensures filled { Fronts (R.unread source.old) (R.unread source.new) (length buffer.new) result.1 (take result.0 buffer.new) }
+    ensures filled { Fronts (R.unread source.old) (R.unread source.new) (length buffer.new) result.1
+        (take result.0 buffer.new) }
     ensures within { result.0 ≤ length buffer.new }
     ensures size { length buffer.new ≡ length buffer.old }
     ensures octets { (i : ℕ) → slice_index buffer.new i < 256 }
@@ -108,7 +112,8 @@ fn fill_front<R: Source>(source: &mut R, buffer: &mut [u8]) -> (usize, bool)
 
 /// Reads so many bytes, into memory of their own.
 pub fn octets<R: Source>(alloc: Global, source: &mut R, length: u16) -> Result<Vec<u8>, ReadFault>
-    ensures reads { Reads (λ v. v.items) (λ v. (length_of v.items ≡ length) × AllByRecursion IsByte v.items) (cut_fault length) (R.unread source.old) (R.unread source.new) result }
+    ensures reads { Reads (λ v. v.items) (λ v. (length_of v.items ≡ length) × AllByRecursion IsByte
+        v.items) (cut_fault length) (R.unread source.old) (R.unread source.new) result }
     ensures advances { Advances (R.unread source.old) (R.unread source.new) length }
     ensures faults { IfErr result IsFileFault }
     ensures failures { Fails (R.failures source.old) (R.failures source.new) result }

@@ -19,8 +19,8 @@ pub struct JournalStream<'a, R> {
 }
 
 impl<'a, R: Source> JournalStream<'a, R> {
-    /// The stream of the journal that the source holds, which may have at most `max_entries` entries. It takes no memory,
-    /// and reads nothing yet.
+    /// The stream of the journal that the source holds, which may have at most `max_entries`
+    /// entries. It takes no memory, and reads nothing yet.
     pub fn new(source: &'a mut R, max_entries: u64) -> JournalStream<'a, R>
         ensures source { (source_of result.reader).ghost_name ≡ source.entry.ghost_name }
         ensures unread { (source_of result.reader).now ≡ source.old }

@@ -13,16 +13,18 @@ ghost use Rattle.flute_journal.specs.Records.{IsFileOf, IsFileWithin, FileStops}
 
 /// What an entry spells is read in one way, whatever follows it.
 pub fn entry_has_one_reading()
-    ensures { (f g : Fact) (x y : List ℕ) → IsFact f → IsFact g → entry f ++ x ≡ entry g ++ y → (f ≡ g) × (x ≡ y) }
+    ensures { (f g : Fact) (x y : List ℕ) → IsFact f → IsFact g
+        → entry f ++ x ≡ entry g ++ y → (f ≡ g) × (x ≡ y) }
 {}
 
 /// Journals are equal exactly where their facts come to the same at each address.
 pub fn one_journal_for_one_content()
-    ensures { (bs cs : List ℕ) (F G : List Fact) → Journal bs F → Journal cs G → (bs ≡ cs) ↔ Same F G }
+    ensures { (bs cs : List ℕ) (F G : List Fact) → Journal bs F → Journal cs G
+        → (bs ≡ cs) ↔ Same F G }
 {}
 
-/// Merging what merges wrote is merging all at once: where the facts of each group were joined into entries, the journal
-/// of all these entries is the journal of the facts of all groups.
+/// Merging what merges wrote is merging all at once: where the facts of each group were joined into
+/// entries, the journal of all these entries is the journal of the facts of all groups.
 pub fn merging_merged_is_merging_all()
     ensures { (groups joined : List (List Fact)) → Each Collects groups joined
         → (bytes : List ℕ) → Journal bytes (all_of joined) ↔ Journal bytes (all_of groups) }
@@ -30,7 +32,8 @@ pub fn merging_merged_is_merging_all()
 
 /// No journal is a proper prefix of another.
 pub fn no_journal_begins_another()
-    ensures { (bs more : List ℕ) (F G : List Fact) → Journal bs F → Journal (bs ++ more) G → more ≡ [] }
+    ensures { (bs more : List ℕ) (F G : List Fact) → Journal bs F
+        → Journal (bs ++ more) G → more ≡ [] }
 {}
 
 /// Lists with one journal come to the same at each address.
@@ -40,39 +43,47 @@ pub fn a_journal_has_one_content()
 
 /// A journal within a bound is the journal of the facts that its entries are.
 pub fn a_journal_within_a_bound_is_one()
-    ensures { (bs : List ℕ) (limit : ℕ) (F : List Fact) → limit < 2 ^ 64 → IsJournalOf limit bs F → Journal bs F }
+    ensures { (bs : List ℕ) (limit : ℕ) (F : List Fact) → limit < 2 ^ 64
+        → IsJournalOf limit bs F → Journal bs F }
 {}
 
 /// A journal stops nowhere but behind more entries than the bound.
 pub fn a_journal_stops_at_the_bound()
-    ensures { (bs : List ℕ) (F es : List Fact) (limit : ℕ) (f : Fault) → Journal bs F → Stops bs limit es f
-        → (f ≡ faults.TooMany) × ((all : List Fact) × IsJournalWithin (length all) bs all × (limit < length all)) }
+    ensures { (bs : List ℕ) (F es : List Fact) (limit : ℕ) (f : Fault)
+        → Journal bs F → Stops bs limit es f
+        → (f ≡ faults.TooMany) × ((all : List Fact) × IsJournalWithin (length all) bs all
+        × (limit < length all)) }
 {}
 
 /// Bytes aren't both a journal within the bound and at fault.
 pub fn a_journal_has_no_fault()
-    ensures { (bs : List ℕ) (limit : ℕ) (es fs : List Fact) (f : Fault) → limit < 2 ^ 64 → IsJournalWithin limit bs es → Stops bs limit fs f → ⊥ }
+    ensures { (bs : List ℕ) (limit : ℕ) (es fs : List Fact) (f : Fault) → limit < 2 ^ 64
+        → IsJournalWithin limit bs es → Stops bs limit fs f → ⊥ }
 {}
 
 /// Bytes have one first fault, behind one list of entries.
 pub fn bytes_stop_once()
-    ensures { (bs : List ℕ) (limit : ℕ) (es fs : List Fact) (f g : Fault) → Stops bs limit es f → Stops bs limit fs g → (es ≡ fs) × (f ≡ g) }
+    ensures { (bs : List ℕ) (limit : ℕ) (es fs : List Fact) (f g : Fault) → Stops bs limit es f
+        → Stops bs limit fs g → (es ≡ fs) × (f ≡ g) }
 {}
 
 /// The entries that a journal begins with tell nothing more than its facts.
 pub fn first_entries_are_below()
-    ensures { (bs : List ℕ) (F es : List Fact) (rest : List ℕ) → Journal bs F → AllByRecursion IsFact es → bs ≡ header ++ flat_map entry es ++ rest → Below es F }
+    ensures { (bs : List ℕ) (F es : List Fact) (rest : List ℕ) → Journal bs F
+        → AllByRecursion IsFact es → bs ≡ header ++ flat_map entry es ++ rest → Below es F }
 {}
 
 /// Rising facts that come to the same at each address are spelled alike.
 pub fn rising_facts_have_one_spelling()
-    ensures { (es fs : List Fact) → IsRising es → IsRising fs → Same es fs → spelling es ≡ spelling fs }
+    ensures { (es fs : List Fact) → IsRising es → IsRising fs → Same es fs
+        → spelling es ≡ spelling fs }
 {}
 
 /// Bytes are a journal within the bound, or they stop at a fault.
 pub fn bytes_are_a_journal_or_stop()
     ensures { (bs : List ℕ) (limit : ℕ) → AllByRecursion IsByte bs
-        → ((es : List Fact) × IsJournalWithin limit bs es) ⊎ ((es : List Fact) × ((f : Fault) × Stops bs limit es f)) }
+        → ((es : List Fact) × IsJournalWithin limit bs es)
+        ⊎ ((es : List Fact) × ((f : Fault) × Stops bs limit es f)) }
 {}
 
 /// A datagram file is the file of one list of datagrams.
@@ -82,22 +93,26 @@ pub fn a_file_has_one_reading()
 
 /// Bytes aren't both a datagram file within the bound and at fault.
 pub fn a_file_has_no_fault()
-    ensures { (bs : List ℕ) (limit : ℕ) (ds es : List (List ℕ)) (f : Fault) → IsFileWithin limit bs ds → FileStops bs limit es f → ⊥ }
+    ensures { (bs : List ℕ) (limit : ℕ) (ds es : List (List ℕ)) (f : Fault)
+        → IsFileWithin limit bs ds → FileStops bs limit es f → ⊥ }
 {}
 
 /// Bytes are a datagram file within the bound, or they stop at a fault.
 pub fn bytes_are_a_file_or_stop()
     ensures { (bs : List ℕ) (limit : ℕ) → AllByRecursion IsByte bs
-        → ((ds : List (List ℕ)) × IsFileWithin limit bs ds) ⊎ ((ds : List (List ℕ)) × ((f : Fault) × FileStops bs limit ds f)) }
+        → ((ds : List (List ℕ)) × IsFileWithin limit bs ds)
+        ⊎ ((ds : List (List ℕ)) × ((f : Fault) × FileStops bs limit ds f)) }
 {}
 
 /// Bytes have one first fault, behind one list of datagrams.
 pub fn a_file_stops_once()
-    ensures { (bs : List ℕ) (limit : ℕ) (ds es : List (List ℕ)) (f g : Fault) → FileStops bs limit ds f → FileStops bs limit es g → (ds ≡ es) × (f ≡ g) }
+    ensures { (bs : List ℕ) (limit : ℕ) (ds es : List (List ℕ)) (f g : Fault)
+        → FileStops bs limit ds f → FileStops bs limit es g → (ds ≡ es) × (f ≡ g) }
 {}
 
 /// A datagram file stops nowhere but behind more records than the bound.
 pub fn a_file_stops_at_the_bound()
-    ensures { (bs : List ℕ) (limit : ℕ) (ds es : List (List ℕ)) (f : Fault) → IsFileOf bs ds → FileStops bs limit es f
+    ensures { (bs : List ℕ) (limit : ℕ) (ds es : List (List ℕ)) (f : Fault) → IsFileOf bs ds
+        → FileStops bs limit es f
         → (f ≡ faults.TooMany) × (limit < length ds) }
 {}

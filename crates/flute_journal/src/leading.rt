@@ -1,4 +1,5 @@
-//! The stream that holds a fact below all others, so that they needn't be looked at until it has passed the next address.
+//! The stream that holds a fact below all others, so that they needn't be looked at until it has
+//! passed the next address.
 ghost use Rattle.std.specs.Prelude.{◌≡◌, ◌<◌, true, false, Some, length, OnOk, IfErr};
 ghost use Rattle.std.specs.Ordering.{is_lt};
 ghost use Rattle.flute_parts.specs.Order.{address_cmp};
@@ -38,12 +39,16 @@ impl Lead {
         }
     }
 
-    /// What the facts that streams hold come to at the lowest of their addresses. None where none is held.
+    /// What the facts that streams hold come to at the lowest of their addresses.
+    /// None where none is held.
     #[inline(always)]
     pub fn lowest<'a, G: Streams>(&self, streams: &'a G) -> Option<FactRef<'a>>
-        requires { self.now.known ≡ true → Leads G.Stream.behaviour (G.streams streams.now) self.now.number self.now.next }
-        ensures lowest { IsLowest (heads G.Stream.behaviour (G.streams streams.now)) (fact_in result) }
-        ensures held { self.now.known ≡ true → StandsAt G.Stream.behaviour (place_of (fact_in result)) (G.streams streams.now) self.now.number }
+        requires { self.now.known ≡ true
+            → Leads G.Stream.behaviour (G.streams streams.now) self.now.number self.now.next }
+        ensures lowest { IsLowest (heads G.Stream.behaviour (G.streams streams.now))
+            (fact_in result) }
+        ensures held { self.now.known ≡ true → StandsAt G.Stream.behaviour
+            (place_of (fact_in result)) (G.streams streams.now) self.now.number }
     {
         if self.known {
             streams.head(self.number)
@@ -64,11 +69,16 @@ impl Lead {
         streams: &mut G,
         place: Address,
     ) -> Result<(), InputFault>
-        requires leads { self.old.known ≡ true → Leads G.Stream.behaviour (G.streams streams.old) self.old.number self.old.next }
-        requires held { self.old.known ≡ true → StandsAt G.Stream.behaviour (Some place) (G.streams streams.old) self.old.number }
-        ensures go_on { OnOk result (GoOnAt G.Stream.behaviour (Some place) (G.streams streams.old) (G.streams streams.new)) }
-        ensures leads { OnOk result (self.new.known ≡ true → Leads G.Stream.behaviour (G.streams streams.new) self.new.number self.new.next) }
-        ensures stops { IfErr result (StopsIn G.Stream.behaviour (Some place) (G.streams streams.old) (G.streams streams.new)) }
+        requires leads { self.old.known ≡ true
+            → Leads G.Stream.behaviour (G.streams streams.old) self.old.number self.old.next }
+        requires held { self.old.known ≡ true
+            → StandsAt G.Stream.behaviour (Some place) (G.streams streams.old) self.old.number }
+        ensures go_on { OnOk result (GoOnAt G.Stream.behaviour (Some place) (G.streams streams.old)
+            (G.streams streams.new)) }
+        ensures leads { OnOk result (self.new.known ≡ true
+            → Leads G.Stream.behaviour (G.streams streams.new) self.new.number self.new.next) }
+        ensures stops { IfErr result (StopsIn G.Stream.behaviour (Some place)
+            (G.streams streams.old) (G.streams streams.new)) }
         ensures names { G.names streams.new ≡ G.names streams.old }
     {
         if self.known {
@@ -86,11 +96,15 @@ impl Lead {
     #[inline(always)]
     fn follow<G: Streams>(&mut self, alloc: Global, streams: &mut G) -> Result<(), InputFault>
         requires { Leads G.Stream.behaviour (G.streams streams.old) self.old.number self.old.next }
-        ensures go_on { OnOk result ((a : Address) → StandsAt G.Stream.behaviour (Some a) (G.streams streams.old) self.old.number
+        ensures go_on { OnOk result ((a : Address)
+            → StandsAt G.Stream.behaviour (Some a) (G.streams streams.old) self.old.number
             → GoOnAt G.Stream.behaviour (Some a) (G.streams streams.old) (G.streams streams.new)) }
-        ensures leads { OnOk result (self.new.known ≡ true → Leads G.Stream.behaviour (G.streams streams.new) self.new.number self.new.next) }
-        ensures stops { IfErr result (λ fault. (a : Address) → StandsAt G.Stream.behaviour (Some a) (G.streams streams.old) self.old.number
-            → StopsIn G.Stream.behaviour (Some a) (G.streams streams.old) (G.streams streams.new) fault) }
+        ensures leads { OnOk result (self.new.known ≡ true
+            → Leads G.Stream.behaviour (G.streams streams.new) self.new.number self.new.next) }
+        ensures stops { IfErr result (λ fault. (a : Address)
+            → StandsAt G.Stream.behaviour (Some a) (G.streams streams.old) self.old.number
+            → StopsIn G.Stream.behaviour (Some a) (G.streams streams.old)
+            (G.streams streams.new) fault) }
         ensures names { G.names streams.new ≡ G.names streams.old }
     {
         let number = self.number;
@@ -105,7 +119,8 @@ impl Lead {
     #[inline(always)]
     fn look<G: Streams>(&mut self, streams: &G, number: usize)
         requires { number < length (G.streams streams.now) }
-        ensures { self.new.known ≡ true → Leads G.Stream.behaviour (G.streams streams.now) self.new.number self.new.next }
+        ensures { self.new.known ≡ true
+            → Leads G.Stream.behaviour (G.streams streams.now) self.new.number self.new.next }
     {
         let head = streams.head(number);
         self.number = number;

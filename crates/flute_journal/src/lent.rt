@@ -7,10 +7,11 @@ use crate::fault::ReadFault;
 use crate::format::{Fixed, Kind, parse};
 use flute_parts::{Address, Bytes, Fact, Source};
 
-/// Takes the next entry, if it lies whole in the source's buffer and has no fault. The entry before it is at `last`.
+/// Takes the next entry, if it lies whole in the source's buffer and has no fault. The entry
+/// before it is at `last`.
 ///
-/// None where it does not, or has a fault, and nothing was taken then. `OutOfMemory` is the only fault. The bytes of a
-/// symbol are put into the memory of `spare`, as far as it suffices.
+/// None where it does not, or has a fault, and nothing was taken then. `OutOfMemory` is the only
+/// fault. The bytes of a symbol are put into the memory of `spare`, as far as it suffices.
 #[inline(always)]
 pub fn take_entry<R: Source>(
     source: &mut R,

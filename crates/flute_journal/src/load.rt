@@ -14,16 +14,18 @@ use flute_parts::{Fact, Source, Tally};
 use flute_store::Store;
 use std::alloc::Global;
 
-/// Reads the journal that the source holds, which may have at most `max_entries` entries, into a new store.
+/// Reads the journal that the source holds, which may have at most `max_entries`
+/// entries, into a new store.
 ///
-/// It reads entry by entry, and hands each to the store without a copy of its bytes. The whole source is read where it
-/// succeeds.
+/// It reads entry by entry, and hands each to the store without a copy of its bytes. The whole
+/// source is read where it succeeds.
 ///
 /// # Errors
 ///
 /// The first that is met:
 ///
-/// - `Read` with the fault that [`JournalReader::next`] answers: the entries before it are within the limits;
+/// - `Read` with the fault that [`JournalReader::next`] answers: the entries before it are
+///   within the limits;
 /// - `Full` where an entry needs a new session, object or symbol beyond the limits;
 /// - `OutOfMemory` where there is no memory for an entry in the store.
 ///
@@ -33,11 +35,14 @@ pub fn read_store<const SESSIONS: u32, const OBJECTS: u32, const SYMBOLS: u32, R
     source: &mut R,
     max_entries: u64,
 ) -> Result<Store<SESSIONS, OBJECTS, SYMBOLS>, LoadFault>
-    ensures journal { IfOk result (λ store. IfSome (R.unread source.old) (λ bytes. IsJournalOf max_entries bytes store)) }
+    ensures journal { IfOk result (λ store. IfSome (R.unread source.old)
+        (λ bytes. IsJournalOf max_entries bytes store)) }
     ensures end { IfOk result (λ _. IsAtEnd (R.unread source.new)) }
     ensures within { IfOk result (λ store. ¬ Over store SESSIONS OBJECTS SYMBOLS) }
-    ensures fault { IfErr result (IsLoadFault SESSIONS OBJECTS SYMBOLS max_entries (R.unread source.old) (R.unread source.new)) }
-    ensures reads { IfErr result (λ _. (entries : List Fact) × ReadsPart max_entries (R.unread source.old) (R.unread source.new) entries) }
+    ensures fault { IfErr result (IsLoadFault SESSIONS OBJECTS SYMBOLS max_entries
+        (R.unread source.old) (R.unread source.new)) }
+    ensures reads { IfErr result (λ _. (entries : List Fact)
+        × ReadsPart max_entries (R.unread source.old) (R.unread source.new) entries) }
     ensures failures { FailsToLoad (R.failures source.old) (R.failures source.new) result }
 {
     let mut store = Store::new(alloc);
@@ -48,34 +53,41 @@ pub fn read_store<const SESSIONS: u32, const OBJECTS: u32, const SYMBOLS: u32, R
     Ok(store)
 }
 
-/// Reads the journal that the source holds, which may have at most `max_entries` entries, and joins it into the store, entry
-/// by entry as it is read and without a copy of its bytes. The whole source is read where it succeeds.
+/// Reads the journal that the source holds, which may have at most `max_entries` entries, and joins
+/// it into the store, entry by entry as it is read and without a copy of its bytes. The whole
+/// source is read where it succeeds.
 ///
-/// True if the store holds both then. False if both together are over its limits, though the journal alone is within
-/// them: the store holds some of the journal then, and the rest was only looked at.
+/// True if the store holds both then. False if both together are over its limits, though
+/// the journal alone is within them: the store holds some of the journal then, and the
+/// rest was only looked at.
 ///
 /// # Errors
 ///
 /// The first that is met:
 ///
-/// - `Read` with the fault that [`JournalReader::next`] answers: the entries before it are within the limits;
+/// - `Read` with the fault that [`JournalReader::next`] answers: the entries before it are
+///   within the limits;
 /// - `Full` where the entries of the journal alone are over the limits;
 /// - `OutOfMemory` where there is no memory for an entry in the store.
 ///
-/// The store keeps what it held, perhaps with some entries of the journal, and nothing else. Nothing past the entry at
-/// which it ended was read.
+/// The store keeps what it held, perhaps with some entries of the journal, and nothing else.
+/// Nothing past the entry at which it ended was read.
 pub fn join_journal<const SESSIONS: u32, const OBJECTS: u32, const SYMBOLS: u32, R: Source>(
     alloc: Global,
     store: &mut Store<SESSIONS, OBJECTS, SYMBOLS>,
     source: &mut R,
     max_entries: u64,
 ) -> Result<bool, LoadFault>
-    ensures joined { IfOk result (λ fits. IfSome (R.unread source.old) (λ bytes. JoinsJournal SESSIONS OBJECTS SYMBOLS max_entries bytes store.old store.new fits)) }
+    ensures joined { IfOk result (λ fits. IfSome (R.unread source.old) (λ bytes. JoinsJournal
+        SESSIONS OBJECTS SYMBOLS max_entries bytes store.old store.new fits)) }
     ensures end { IfOk result (λ _. IsAtEnd (R.unread source.new)) }
     ensures kept { Below store.old store.new }
-    ensures only { IfSome (R.unread source.old) (λ bytes. AddsOnly max_entries bytes store.old store.new) }
-    ensures fault { IfErr result (IsLoadFault SESSIONS OBJECTS SYMBOLS max_entries (R.unread source.old) (R.unread source.new)) }
-    ensures reads { IfErr result (λ _. (entries : List Fact) × ReadsPart max_entries (R.unread source.old) (R.unread source.new) entries) }
+    ensures only { IfSome (R.unread source.old)
+        (λ bytes. AddsOnly max_entries bytes store.old store.new) }
+    ensures fault { IfErr result (IsLoadFault SESSIONS OBJECTS SYMBOLS max_entries
+        (R.unread source.old) (R.unread source.new)) }
+    ensures reads { IfErr result (λ _. (entries : List Fact)
+        × ReadsPart max_entries (R.unread source.old) (R.unread source.new) entries) }
     ensures failures { FailsToLoad (R.failures source.old) (R.failures source.new) result }
 {
     let mut entries = JournalReader::new(source, max_entries);
@@ -98,7 +110,8 @@ fn put_where_room<const SESSIONS: u32, const OBJECTS: u32, const SYMBOLS: u32>(
     store: &mut Store<SESSIONS, OBJECTS, SYMBOLS>,
     fact: Fact,
 ) -> Result<bool, LoadFault>
-    ensures held { IfOk result (HoldsBoth SESSIONS OBJECTS SYMBOLS store.old (fact ∷ []) store.new) }
+    ensures held { IfOk result
+        (HoldsBoth SESSIONS OBJECTS SYMBOLS store.old (fact ∷ []) store.new) }
     ensures kept { Below store.old store.new }
     ensures only { Below store.new (store.old ++ fact ∷ []) }
     ensures memory { IfErr result (λ fault. fault ≡ LoadFault.OutOfMemory) }

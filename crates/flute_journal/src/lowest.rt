@@ -12,7 +12,8 @@ use crate::streams::Streams;
 use flute_parts::{Address, FactRef, Part};
 use std::cmp::Ordering;
 
-/// What the facts that streams hold come to at the lowest of their addresses. None where none is held.
+/// What the facts that streams hold come to at the lowest of their addresses.
+/// None where none is held.
 #[inline(always)]
 pub fn lowest_held<G: Streams>(streams: &G) -> Option<FactRef<'_>>
     ensures { IsLowest (heads G.Stream.behaviour (G.streams streams.now)) (fact_in result) }
@@ -46,7 +47,8 @@ pub enum Change {
 #[inline(always)]
 fn change_by(lowest: &Option<FactRef<'_>>, fact: &FactRef<'_>) -> Change
     ensures { (facts : List Fact) → IsLowest facts (fact_in lowest.now)
-        → IsLowest (facts ++ fact_of fact.now ∷ []) (changed (fact_in lowest.now) (fact_of fact.now) result) }
+        → IsLowest (facts ++ fact_of fact.now ∷ [])
+        (changed (fact_in lowest.now) (fact_of fact.now) result) }
 {
     match lowest {
         Some(lowest) => change_of(lowest, fact),
@@ -57,7 +59,8 @@ fn change_by(lowest: &Option<FactRef<'_>>, fact: &FactRef<'_>) -> Change
 #[inline(always)]
 fn change_of(lowest: &FactRef<'_>, fact: &FactRef<'_>) -> Change
     ensures { (facts : List Fact) → IsLowest facts (fact_in (Some lowest.now))
-        → IsLowest (facts ++ fact_of fact.now ∷ []) (changed (fact_in (Some lowest.now)) (fact_of fact.now) result) }
+        → IsLowest (facts ++ fact_of fact.now ∷ [])
+        (changed (fact_in (Some lowest.now)) (fact_of fact.now) result) }
 {
     match order_of(fact, lowest) {
         Ordering::Less => Change::Lower,

@@ -36,22 +36,25 @@ pub enum MergeFault {
     Write,
 }
 
-/// Appends the journal of all that two journals tell, and answers the number of its entries. Each may have at most
-/// `max_entries` entries, which are fewer than 2^63.
+/// Appends the journal of all that two journals tell, and answers the number of its entries. Each
+/// may have at most `max_entries` entries, which are fewer than 2^63.
 ///
-/// The first entry of each is read, and then the header written. Each turn writes the entry at the lower address, or at
-/// an equal address what both come to, and then reads the next entry of each input whose entry was used, of `first`
-/// before `second`. One entry of each input is held, and the bytes of its symbol are the only memory that is taken.
+/// The first entry of each is read, and then the header written. Each turn writes the entry at the
+/// lower address, or at an equal address what both come to, and then reads the next entry of each
+/// input whose entry was used, of `first` before `second`. One entry of each input is held, and the
+/// bytes of its symbol are the only memory that is taken.
 ///
 /// # Errors
 ///
-/// - `First` and `Second` with the fault of that input that its reader met: the first fault of its bytes; or `Read` where
-///   the source failed, and `OutOfMemory` where there was no memory for a symbol.
+/// - `First` and `Second` with the fault of that input that its reader met: the first fault
+///   of its bytes; or `Read` where the source failed, and `OutOfMemory` where there was no
+///   memory for a symbol.
 /// - `Write` where the sink failed.
 ///
-/// What was appended is then no journal of anything. Where both inputs are journals it is a first part of the journal of
-/// both, and not all of it; after `First` or `Second` it is whole entries behind the header, or nothing. Of each input,
-/// the entries were read whole that stand at addresses whose entry was appended whole, and at most one more.
+/// What was appended is then no journal of anything. Where both inputs are journals it is a first
+/// part of the journal of both, and not all of it; after `First` or `Second` it is whole entries
+/// behind the header, or nothing. Of each input, the entries were read whole that stand at
+/// addresses whose entry was appended whole, and at most one more.
 pub fn merge_streams<A: Source, B: Source, W: Sink>(
     alloc: Global,
     first: &mut A,
@@ -60,11 +63,15 @@ pub fn merge_streams<A: Source, B: Source, W: Sink>(
     max_entries: u64,
 ) -> Result<u64, MergeFault>
     requires bound { max_entries < 2 ^ 63 }
-    ensures merged { IfOk result (λ n. Merged max_entries n (A.unread first.old) (B.unread second.old) (W.written sink.old) (W.written sink.new)) }
-    ensures short { IfErr result (λ _. StopsShort (A.unread first.old) (B.unread second.old) (W.written sink.old) (W.written sink.new)) }
-    ensures keeps_up { IfErr result (KeepsUp (A.unread first.old) (A.unread first.new) (B.unread second.old) (B.unread second.new)
+    ensures merged { IfOk result (λ n. Merged max_entries n (A.unread first.old)
+        (B.unread second.old) (W.written sink.old) (W.written sink.new)) }
+    ensures short { IfErr result (λ _. StopsShort (A.unread first.old) (B.unread second.old)
         (W.written sink.old) (W.written sink.new)) }
-    ensures fault { IfErr result (NamesFault max_entries (A.unread first.old) (B.unread second.old)) }
+    ensures keeps_up { IfErr result (KeepsUp (A.unread first.old) (A.unread first.new)
+        (B.unread second.old) (B.unread second.new)
+        (W.written sink.old) (W.written sink.new)) }
+    ensures fault { IfErr result
+        (NamesFault max_entries (A.unread first.old) (B.unread second.old)) }
     ensures first_failures { FirstFails (A.failures first.old) (A.failures first.new) result }
     ensures second_failures { SecondFails (B.failures second.old) (B.failures second.new) result }
     ensures sink_failures { W.failures sink.new ≡ W.failures sink.old + sink_failed result }
@@ -87,10 +94,14 @@ fn merge_readers<A: Source, B: Source, W: Sink>(
     requires same_bound { limit_of second.old ≡ limit_of first.old }
     ensures first_source { (source_of first.new).ghost_name ≡ (source_of first.old).ghost_name }
     ensures second_source { (source_of second.new).ghost_name ≡ (source_of second.old).ghost_name }
-    ensures gives { MergeGives (limit_of first.old) (A.unread (source_of first.old).now) (A.unread (source_of first.new).now)
-        (B.unread (source_of second.old).now) (B.unread (source_of second.new).now) (W.written sink.old) (W.written sink.new) result }
-    ensures first_failures { FirstFails (A.failures (source_of first.old).now) (A.failures (source_of first.new).now) result }
-    ensures second_failures { SecondFails (B.failures (source_of second.old).now) (B.failures (source_of second.new).now) result }
+    ensures gives { MergeGives (limit_of first.old) (A.unread (source_of first.old).now)
+        (A.unread (source_of first.new).now)
+        (B.unread (source_of second.old).now) (B.unread (source_of second.new).now)
+        (W.written sink.old) (W.written sink.new) result }
+    ensures first_failures { FirstFails (A.failures (source_of first.old).now)
+        (A.failures (source_of first.new).now) result }
+    ensures second_failures { SecondFails (B.failures (source_of second.old).now)
+        (B.failures (source_of second.new).now) result }
     ensures sink_failures { W.failures sink.new ≡ W.failures sink.old + sink_failed result }
 {
     let mut first_held = None;
@@ -120,11 +131,15 @@ fn merge_new<A: Source, B: Source, W: Sink>(
     requires same_bound { limit_of second.old.reader.now ≡ limit_of first.old.reader.now }
     ensures first_loans { SameLoans first.old first.new }
     ensures second_loans { SameLoans second.old second.new }
-    ensures first_source { (source_of first.new.reader.now).ghost_name ≡ (source_of first.old.reader.now).ghost_name }
-    ensures second_source { (source_of second.new.reader.now).ghost_name ≡ (source_of second.old.reader.now).ghost_name }
+    ensures first_source { (source_of first.new.reader.now).ghost_name
+        ≡ (source_of first.old.reader.now).ghost_name }
+    ensures second_source { (source_of second.new.reader.now).ghost_name
+        ≡ (source_of second.old.reader.now).ghost_name }
     ensures gives { MergeGives (limit_of first.old.reader.now)
-        (A.unread (source_of first.old.reader.now).now) (A.unread (source_of first.new.reader.now).now)
-        (B.unread (source_of second.old.reader.now).now) (B.unread (source_of second.new.reader.now).now)
+        (A.unread (source_of first.old.reader.now).now)
+        (A.unread (source_of first.new.reader.now).now)
+        (B.unread (source_of second.old.reader.now).now)
+        (B.unread (source_of second.new.reader.now).now)
         (W.written sink.old) (W.written sink.new) result }
     ensures first_failures { FirstFails (A.failures (source_of first.old.reader.now).now)
         (A.failures (source_of first.new.reader.now).now) result }
@@ -152,16 +167,23 @@ pub fn merge_two<
     T: Stream,
     W: Sink,
 >(alloc: Global, first: &mut S, second: &mut T, sink: &mut W) -> Result<Joined, StreamsFault>
-    requires new { AreNew (either_behaviour S.behaviour T.behaviour) (Left first.old ∷ Right second.old ∷ []) }
-    requires few { most_of (either_behaviour S.behaviour T.behaviour) (Left first.old ∷ Right second.old ∷ []) < 2 ^ 64 }
-    ensures merged { IfOk result (λ joined. MergedAll (either_behaviour S.behaviour T.behaviour) (Left first.old ∷ Right second.old ∷ [])
+    requires new { AreNew (either_behaviour S.behaviour T.behaviour)
+        (Left first.old ∷ Right second.old ∷ []) }
+    requires few { most_of (either_behaviour S.behaviour T.behaviour)
+        (Left first.old ∷ Right second.old ∷ []) < 2 ^ 64 }
+    ensures merged { IfOk result (λ joined. MergedAll (either_behaviour S.behaviour T.behaviour)
+        (Left first.old ∷ Right second.old ∷ [])
         SESSIONS OBJECTS SYMBOLS joined (W.written sink.old) (W.written sink.new)) }
-    ensures short { IfErr result (λ _. AppendsPartOf (either_behaviour S.behaviour T.behaviour) (Left first.old ∷ Right second.old ∷ [])
+    ensures short { IfErr result (λ _. AppendsPartOf (either_behaviour S.behaviour T.behaviour)
+        (Left first.old ∷ Right second.old ∷ [])
         (W.written sink.old) (W.written sink.new)) }
-    ensures reads_ahead { IfErr result (ReadsAhead (either_behaviour S.behaviour T.behaviour) (Left first.old ∷ Right second.old ∷ [])
+    ensures reads_ahead { IfErr result (ReadsAhead (either_behaviour S.behaviour T.behaviour)
+        (Left first.old ∷ Right second.old ∷ [])
         (Left first.new ∷ Right second.new ∷ []) (W.written sink.old) (W.written sink.new)) }
-    ensures fault { IfErr result (NamesInput (either_behaviour S.behaviour T.behaviour) (Left first.old ∷ Right second.old ∷ [])) }
-    ensures failures { FailAs (either_behaviour S.behaviour T.behaviour) result (Left first.old ∷ Right second.old ∷ []) (Left first.new ∷ Right second.new ∷ []) }
+    ensures fault { IfErr result (NamesInput (either_behaviour S.behaviour T.behaviour)
+        (Left first.old ∷ Right second.old ∷ [])) }
+    ensures failures { FailAs (either_behaviour S.behaviour T.behaviour) result
+        (Left first.old ∷ Right second.old ∷ []) (Left first.new ∷ Right second.new ∷ []) }
     ensures sink_failures { W.failures sink.new ≡ W.failures sink.old + streams_sink_failed result }
 {
     let mut pair = Pair {

@@ -25,20 +25,23 @@ pub struct Joined {
     pub within: bool,
 }
 
-/// Appends the journal of all that streams tell, and answers the number of its entries, and whether they are within the
-/// limits: at most `SESSIONS` sessions, `OBJECTS` objects of each and `SYMBOLS` symbols of each of these.
+/// Appends the journal of all that streams tell, and answers the number of its entries, and whether
+/// they are within the limits: at most `SESSIONS` sessions, `OBJECTS` objects of each and `SYMBOLS`
+/// symbols of each of these.
 ///
-/// The first fact of each stream is taken, and then the header written. Each turn writes what the streams hold at the
-/// lowest address, and then advances each of those that stood there, in their order. It takes no memory of its own.
+/// The first fact of each stream is taken, and then the header written. Each turn writes what the
+/// streams hold at the lowest address, and then advances each of those that stood there, in their
+/// order. It takes no memory of its own.
 ///
 /// # Errors
 ///
 /// - `Input` with the number of the stream, from 0, and the fault that it met;
 /// - `Write` where the sink failed.
 ///
-/// What was appended is then no journal of anything. Where each stream would have come to its end, it is a first part of
-/// the journal of all, and not all of it; after `Input` it is whole entries behind the header, or nothing. Of each
-/// stream, the facts were read that stand at addresses whose entry was appended whole, and at most one more.
+/// What was appended is then no journal of anything. Where each stream would have come to its end,
+/// it is a first part of the journal of all, and not all of it; after `Input` it is whole entries
+/// behind the header, or nothing. Of each stream, the facts were read that stand at addresses whose
+/// entry was appended whole, and at most one more.
 pub fn merge_all<const SESSIONS: u32, const OBJECTS: u32, const SYMBOLS: u32, G: Streams, W: Sink>(
     alloc: Global,
     streams: &mut G,
@@ -46,13 +49,17 @@ pub fn merge_all<const SESSIONS: u32, const OBJECTS: u32, const SYMBOLS: u32, G:
 ) -> Result<Joined, StreamsFault>
     requires new { AreNew G.Stream.behaviour (G.streams streams.old) }
     requires few { most_of G.Stream.behaviour (G.streams streams.old) < 2 ^ 64 }
-    ensures merged { IfOk result (λ joined. MergedAll G.Stream.behaviour (G.streams streams.old) SESSIONS OBJECTS SYMBOLS joined
+    ensures merged { IfOk result (λ joined. MergedAll G.Stream.behaviour
+        (G.streams streams.old) SESSIONS OBJECTS SYMBOLS joined
         (W.written sink.old) (W.written sink.new)) }
-    ensures short { IfErr result (λ _. AppendsPartOf G.Stream.behaviour (G.streams streams.old) (W.written sink.old) (W.written sink.new)) }
-    ensures reads_ahead { IfErr result (ReadsAhead G.Stream.behaviour (G.streams streams.old) (G.streams streams.new)
+    ensures short { IfErr result (λ _. AppendsPartOf G.Stream.behaviour (G.streams streams.old)
+        (W.written sink.old) (W.written sink.new)) }
+    ensures reads_ahead { IfErr result (ReadsAhead G.Stream.behaviour
+        (G.streams streams.old) (G.streams streams.new)
         (W.written sink.old) (W.written sink.new)) }
     ensures fault { IfErr result (NamesInput G.Stream.behaviour (G.streams streams.old)) }
-    ensures failures { FailAs G.Stream.behaviour result (G.streams streams.old) (G.streams streams.new) }
+    ensures failures { FailAs G.Stream.behaviour result (G.streams streams.old)
+        (G.streams streams.new) }
     ensures sink_failures { W.failures sink.new ≡ W.failures sink.old + streams_sink_failed result }
     ensures names { G.names streams.new ≡ G.names streams.old }
 {
@@ -95,9 +102,12 @@ pub fn merge_slice<const SESSIONS: u32, const OBJECTS: u32, const SYMBOLS: u32, 
 ) -> Result<Joined, StreamsFault>
     requires new { AreNew S.behaviour streams.old }
     requires few { most_of S.behaviour streams.old < 2 ^ 64 }
-    ensures merged { IfOk result (λ joined. MergedAll S.behaviour streams.old SESSIONS OBJECTS SYMBOLS joined (W.written sink.old) (W.written sink.new)) }
-    ensures short { IfErr result (λ _. AppendsPartOf S.behaviour streams.old (W.written sink.old) (W.written sink.new)) }
-    ensures reads_ahead { IfErr result (ReadsAhead S.behaviour streams.old streams.new (W.written sink.old) (W.written sink.new)) }
+    ensures merged { IfOk result (λ joined. MergedAll S.behaviour streams.old SESSIONS OBJECTS
+        SYMBOLS joined (W.written sink.old) (W.written sink.new)) }
+    ensures short { IfErr result (λ _. AppendsPartOf S.behaviour streams.old
+        (W.written sink.old) (W.written sink.new)) }
+    ensures reads_ahead { IfErr result
+        (ReadsAhead S.behaviour streams.old streams.new (W.written sink.old) (W.written sink.new)) }
     ensures fault { IfErr result (NamesInput S.behaviour streams.old) }
     ensures failures { FailAs S.behaviour result streams.old streams.new }
     ensures sink_failures { W.failures sink.new ≡ W.failures sink.old + streams_sink_failed result }
@@ -113,7 +123,8 @@ fn count_place<const SESSIONS: u32, const OBJECTS: u32, const SYMBOLS: u32>(
     place: &Address,
 ) -> bool
     ensures { (F : List Fact) (f : Fact) → address f ≡ place.now → IsRising (F ++ f ∷ [])
-        → IsCounted SESSIONS OBJECTS SYMBOLS tally.old within F → IsCounted SESSIONS OBJECTS SYMBOLS tally.new result (F ++ f ∷ []) }
+        → IsCounted SESSIONS OBJECTS SYMBOLS tally.old within F
+        → IsCounted SESSIONS OBJECTS SYMBOLS tally.new result (F ++ f ∷ []) }
 {
     if within { tally.count(place) } else { false }
 }

@@ -36,8 +36,8 @@ pub struct JournalReader<'a, R> {
 }
 
 impl<'a, R: Source> JournalReader<'a, R> {
-    /// A reader of the journal that the source holds, which may have at most `max_entries` entries. It takes no memory,
-    /// and reads nothing yet.
+    /// A reader of the journal that the source holds, which may have at most `max_entries` entries.
+    /// It takes no memory, and reads nothing yet.
     pub fn new(source: &'a mut R, max_entries: u64) -> JournalReader<'a, R>
         ensures source { (source_of result).ghost_name ≡ source.entry.ghost_name }
         ensures unread { (source_of result).now ≡ source.old }
@@ -53,24 +53,30 @@ impl<'a, R: Source> JournalReader<'a, R> {
 
     /// The next entry. None once the end was read and nothing follows it, and from then on.
     ///
-    /// An entry that lies whole in the source's buffer is looked at there, and another is read field by field. No byte past
-    /// it is taken. The bytes of a symbol are the only memory that is asked for.
+    /// An entry that lies whole in the source's buffer is looked at there, and another is
+    /// read field by field. No byte past it is taken. The bytes of a symbol are the only
+    /// memory that is asked for.
     ///
     /// # Errors
     ///
     /// The first fault of what stands there, in the order of the fields:
     ///
     /// - `Magic` and `Version` of the header;
-    /// - `Kind` of the first byte of an entry, and `TooMany` where that is a kind and `max_entries` entries were given;
+    /// - `Kind` of the first byte of an entry, and `TooMany` where that is a kind and `max_entries`
+    ///   entries were given;
     /// - `Key` where the tag or the number of the object is out of range;
     /// - `Order` where the address is not above that of the entry before;
-    /// - `Information` where transmission information is not valid, `EmptySymbol` where a symbol has no byte;
-    /// - `Count` where the number at the end is not that of the entries given, `Trailing` where a byte follows it;
+    /// - `Information` where transmission information is not valid, `EmptySymbol` where a
+    ///   symbol has no byte;
+    /// - `Count` where the number at the end is not that of the entries given, `Trailing` where
+    ///   a byte follows it;
     /// - `Cut` where the input ends within a field;
-    /// - `Read` where the source fails in this call, and `OutOfMemory` where there is no memory for a symbol.
+    /// - `Read` where the source fails in this call, and `OutOfMemory` where there is no
+    ///   memory for a symbol.
     ///
-    /// The fields that came whole before the source failed are looked at first: `Read` stands where the fault would be
-    /// `Cut` if the input ended there, or where the end was read and the source fails behind it.
+    /// The fields that came whole before the source failed are looked at first: `Read` stands
+    /// where the fault would be `Cut` if the input ended there, or where the end was read and the
+    /// source fails behind it.
     ///
     /// Each later call answers the same fault, and reads nothing.
     pub fn next(&mut self, alloc: Global) -> Result<Option<Fact>, ReadFault>
@@ -84,9 +90,9 @@ impl<'a, R: Source> JournalReader<'a, R> {
         self.next_with(alloc, Vec::new(alloc))
     }
 
-    /// The same, but the bytes of a symbol are put into the memory of `spare`, where that serves: a caller that lets go
-    /// of each entry before it reads the next hands its vector on, and no memory is taken but where a symbol is longer
-    /// than all before it.
+    /// The same, but the bytes of a symbol are put into the memory of `spare`, where that serves: a
+    /// caller that lets go of each entry before it reads the next hands its vector on, and no
+    /// memory is taken but where a symbol is longer than all before it.
     #[inline(always)]
     pub fn next_with(&mut self, alloc: Global, spare: Vec<u8>) -> Result<Option<Fact>, ReadFault>
         ensures source { (source_of self.new).ghost_name ≡ (source_of self.old).ghost_name }
@@ -118,7 +124,8 @@ fn read_first<R: Source>(
     max_entries: u64,
     spare: Vec<u8>,
 ) -> Result<Option<Fact>, ReadFault>
-    ensures reads { ReadsFrom max_entries Stage.Header (R.unread source.old) (R.unread source.new) result }
+    ensures reads { ReadsFrom max_entries Stage.Header (R.unread source.old)
+        (R.unread source.new) result }
     ensures failures { Fails (R.failures source.old) (R.failures source.new) result }
 {
     read_header(source)?;

@@ -20,7 +20,8 @@ use std::alloc::Global;
 
 /// Reads the magic number and the version.
 pub fn read_header<R: Source>(source: &mut R) -> Result<(), ReadFault>
-    ensures reads { Reads (λ _. header) (λ _. Unit {0}) header_fault (R.unread source.old) (R.unread source.new) result }
+    ensures reads { Reads (λ _. header) (λ _. Unit {0}) header_fault (R.unread source.old)
+        (R.unread source.new) result }
     ensures advances { Advances (R.unread source.old) (R.unread source.new) 6 }
     ensures memory { IfErr result (λ f. f ≢ OutOfMemory) }
     ensures failures { Fails (R.failures source.old) (R.failures source.new) result }
@@ -30,8 +31,9 @@ pub fn read_header<R: Source>(source: &mut R) -> Result<(), ReadFault>
     front.told(check_opening(&HEADER, front.bytes))
 }
 
-/// Reads the next entry, or the end, behind so many entries, of which the last is at `last`. A journal may have
-/// `max_entries`. The bytes of a symbol are put into the memory of `spare`, where that serves.
+/// Reads the next entry, or the end, behind so many entries, of which the last is at `last`.
+/// A journal may have `max_entries`. The bytes of a symbol are put into the memory of
+/// `spare`, where that serves.
 #[inline(always)]
 pub fn read_entry<R: Source>(
     alloc: Global,
@@ -41,7 +43,8 @@ pub fn read_entry<R: Source>(
     last: Option<Address>,
     spare: Vec<u8>,
 ) -> Result<Option<Fact>, ReadFault>
-    ensures reads { ReadsNext max_entries (at_place count last) (R.unread source.old) (R.unread source.new) result }
+    ensures reads { ReadsNext max_entries (at_place count last) (R.unread source.old)
+        (R.unread source.new) result }
     ensures within { StaysWithin entry IsFact (R.unread source.old) (R.unread source.new) result }
     ensures failures { Fails (R.failures source.old) (R.failures source.new) result }
 {
@@ -63,7 +66,8 @@ fn read_fields<R: Source>(
     count: u64,
     last: Option<Address>,
 ) -> Result<Option<Fact>, ReadFault>
-    ensures reads { ReadsNext max_entries (at_place count last) (R.unread source.old) (R.unread source.new) result }
+    ensures reads { ReadsNext max_entries (at_place count last) (R.unread source.old)
+        (R.unread source.new) result }
     ensures within { StaysWithin entry IsFact (R.unread source.old) (R.unread source.new) result }
     ensures failures { Fails (R.failures source.old) (R.failures source.new) result }
 {
@@ -104,8 +108,10 @@ fn read_body<R: Source>(
     kind: Kind,
     last: Option<Address>,
 ) -> Result<Fact, ReadFault>
-    ensures reads { Reads body (BodyIs last kind) (body_fault last kind) (R.unread source.old) (R.unread source.new) result }
-    ensures within { StaysWithin body (IsBody kind) (R.unread source.old) (R.unread source.new) result }
+    ensures reads { Reads body (BodyIs last kind) (body_fault last kind) (R.unread source.old)
+        (R.unread source.new) result }
+    ensures within { StaysWithin body (IsBody kind) (R.unread source.old)
+        (R.unread source.new) result }
     ensures failures { Fails (R.failures source.old) (R.failures source.new) result }
 {
     match read_fixed(source, kind, last)? {
@@ -123,7 +129,8 @@ fn read_fixed<R: Source>(
     kind: Kind,
     last: Option<Address>,
 ) -> Result<Fixed, ReadFault>
-    ensures reads { Reads fixed_bytes (FixedIs last kind) (body_fault last kind) (R.unread source.old) (R.unread source.new) result }
+    ensures reads { Reads fixed_bytes (FixedIs last kind) (body_fault last kind)
+        (R.unread source.old) (R.unread source.new) result }
     ensures advances { Advances (R.unread source.old) (R.unread source.new) (fixed_size kind) }
     ensures failures { Fails (R.failures source.old) (R.failures source.new) result }
 {
@@ -135,7 +142,8 @@ fn read_fixed<R: Source>(
 // Reads so many bytes of a symbol.
 fn read_bytes<R: Source>(alloc: Global, source: &mut R, length: u16) -> Result<Bytes, ReadFault>
     requires { 0 < length }
-    ensures reads { Reads (λ bytes. bytes) (λ bytes. (length_of bytes ≡ length) × AllByRecursion IsByte bytes) (cut_fault length) (R.unread source.old) (R.unread source.new) result }
+    ensures reads { Reads (λ bytes. bytes) (λ bytes. (length_of bytes ≡ length) × AllByRecursion
+        IsByte bytes) (cut_fault length) (R.unread source.old) (R.unread source.new) result }
     ensures advances { Advances (R.unread source.old) (R.unread source.new) length }
     ensures failures { Fails (R.failures source.old) (R.failures source.new) result }
 {

@@ -9,10 +9,12 @@ use crate::writing::{write_end, write_entry, write_header};
 use flute_parts::Sink;
 use flute_store::Store;
 
-/// Writes the journal of a store, and answers the number of its entries: an entry for each fact that is held, in the
-/// order of their addresses. Stores that hold the same are written as the same bytes.
+/// Writes the journal of a store, and answers the number of its entries: an entry for each
+/// fact that is held, in the order of their addresses. Stores that hold the same are
+/// written as the same bytes.
 ///
-/// The limits allow fewer than 2^64 entries. It takes no memory of its own, and goes once over what is held.
+/// The limits allow fewer than 2^64 entries. It takes no memory of its own, and goes
+/// once over what is held.
 ///
 /// # Errors
 ///

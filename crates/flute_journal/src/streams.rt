@@ -35,7 +35,8 @@ pub trait Streams {
     /// The fault of the stream.
     fn advance(&mut self, number: usize, alloc: Global) -> Result<(), LoadFault>
         requires { number < length (streams self.old) }
-        ensures advances { Advances Self.Stream.behaviour number (streams self.old) (streams self.new) result }
+        ensures advances { Advances Self.Stream.behaviour number (streams self.old)
+            (streams self.new) result }
         ensures names { names self.new ≡ names self.old };
 }
 

@@ -22,9 +22,11 @@ impl<'a, S: HasObjects + 'a> WalkStream<'a, S> {
     /// The stream of what a walk over a store has left. It takes no memory.
     pub fn new(walk: Walk<'a, S>) -> WalkStream<'a, S>
         requires { IsRising walk }
-        ensures new { IsNew (listed_behaviour (λ s. fact_in s.held) (λ s. s.walk) (λ _. Unit {0})) result }
+        ensures new { IsNew (listed_behaviour (λ s. fact_in s.held) (λ s. s.walk)
+            (λ _. Unit {0})) result }
         ensures facts { result.walk ≡ walk.entry }
-        ensures most { (listed_behaviour (λ s. fact_in s.held) (λ s. s.walk) (λ _. Unit {0})).most result ≡ length walk.entry }
+        ensures most { (listed_behaviour (λ s. fact_in s.held) (λ s. s.walk)
+            (λ _. Unit {0})).most result ≡ length walk.entry }
     {
         WalkStream { walk, held: None }
     }

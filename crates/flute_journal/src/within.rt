@@ -12,8 +12,9 @@ use crate::stream::Stream;
 use flute_parts::{FactRef, Tally};
 use std::alloc::Global;
 
-/// A stream that stops with `Full` where its facts alone are over limits: more than `SESSIONS` sessions, `OBJECTS` objects of
-/// one session or `SYMBOLS` symbols of one object. Its other faults are those of the stream that it counts.
+/// A stream that stops with `Full` where its facts alone are over limits: more than `SESSIONS`
+/// sessions, `OBJECTS` objects of one session or `SYMBOLS` symbols of one object. Its other faults
+/// are those of the stream that it counts.
 #[derive(Drop)]
 pub struct Within<const SESSIONS: u32, const OBJECTS: u32, const SYMBOLS: u32, S> {
     pub stream: S,
@@ -65,9 +66,12 @@ fn count_held<const SESSIONS: u32, const OBJECTS: u32, const SYMBOLS: u32>(
     tally: &mut Tally<SESSIONS, OBJECTS, SYMBOLS>,
     head: &Option<FactRef<'_>>,
 ) -> bool
-    ensures within { (F : List Fact) → IsRising (F ++ option_list (fact_in head.now)) → Counts SESSIONS OBJECTS SYMBOLS F tally.old
-        → result ≡ true → Counts SESSIONS OBJECTS SYMBOLS (F ++ option_list (fact_in head.now)) tally.new }
-    ensures over { (F : List Fact) → IsRising (F ++ option_list (fact_in head.now)) → Counts SESSIONS OBJECTS SYMBOLS F tally.old
+    ensures within { (F : List Fact) → IsRising (F ++ option_list (fact_in head.now))
+        → Counts SESSIONS OBJECTS SYMBOLS F tally.old
+        → result ≡ true
+        → Counts SESSIONS OBJECTS SYMBOLS (F ++ option_list (fact_in head.now)) tally.new }
+    ensures over { (F : List Fact) → IsRising (F ++ option_list (fact_in head.now))
+        → Counts SESSIONS OBJECTS SYMBOLS F tally.old
         → result ≡ false → Over (F ++ option_list (fact_in head.now)) SESSIONS OBJECTS SYMBOLS }
 {
     match head {

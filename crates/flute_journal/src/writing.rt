@@ -29,7 +29,8 @@ pub fn write_header<W: Sink>(sink: &mut W) -> Result<(), DeviceFault>
 pub fn write_entry<W: Sink>(sink: &mut W, fact: &FactRef<'_>) -> Result<(), DeviceFault>
     requires sized { IsSized (fact_of fact.now) }
     ensures valid { IsFact (fact_of fact.now) }
-    ensures bytes { Writes (W.written sink.old) (W.written sink.new) (entry (fact_of fact.now)) result }
+    ensures bytes { Writes (W.written sink.old) (W.written sink.new)
+        (entry (fact_of fact.now)) result }
     ensures failures { W.failures sink.new ≡ W.failures sink.old + (if is_ok result then 0 else 1) }
 {
     let head = head_of(fact);

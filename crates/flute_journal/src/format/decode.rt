@@ -1,5 +1,5 @@
-//! From bytes to what they say. Every function takes the bytes that were read: all that its part needs, or fewer where
-//! the input ends.
+//! From bytes to what they say. Every function takes the bytes that were read: all that its part
+//! needs, or fewer where the input ends.
 ghost use Rattle.std.specs.Prelude.{◌≡◌, ◌<◌, ◌≤◌, ◌++◌, IsTrue, MatchOption, MatchResult, length, true, false, Some};
 ghost use Rattle.flute_parts.specs.Information.{info_fault};
 ghost use Rattle.flute_journal.specs.Numbers.{in_bytes};
@@ -36,7 +36,8 @@ pub fn check_opening(opening: &[u8; 6], bytes: &[u8]) -> Result<(), ReadFault>
     Ok(())
 }
 
-/// Looks at what stands behind the byte 255 of a journal of so many entries, and at one byte more if there is one.
+/// Looks at what stands behind the byte 255 of a journal of so many entries, and at one byte
+/// more if there is one.
 pub fn check_end(count: u64, bytes: &[u8]) -> Result<(), ReadFault>
     requires { length bytes.now ≤ 9 }
     ensures { Parses 9 (λ _. bytes.now ≡ in_bytes 8 count) (end_fault count) bytes.now result }
@@ -53,11 +54,13 @@ pub fn check_end(count: u64, bytes: &[u8]) -> Result<(), ReadFault>
     Ok(())
 }
 
-/// What stands behind the kind of an entry, up to the bytes of a symbol. The entry before it is at `last`.
+/// What stands behind the kind of an entry, up to the bytes of a symbol. The entry
+/// before it is at `last`.
 #[inline(always)]
 pub fn parse(kind: Kind, last: Option<Address>, bytes: &[u8]) -> Result<Fixed, ReadFault>
     requires { length bytes.now ≤ fixed_size kind }
-    ensures { Parses (fixed_size kind) (λ x. FixedIs last kind x × (fixed_bytes x ≡ bytes.now)) (body_fault last kind) bytes.now result }
+    ensures { Parses (fixed_size kind) (λ x. FixedIs last kind x × (fixed_bytes x ≡ bytes.now))
+        (body_fault last kind) bytes.now result }
 {
     let Some((field, rest)) = bytes.split_at_checked(21) else {
         return Err(ReadFault::Cut);
@@ -117,7 +120,8 @@ fn is_after(last: Option<Address>, address: Address) -> bool
 fn information_at(last: Option<Address>, key: Key, bytes: &[u8]) -> Result<Fixed, ReadFault>
     requires key { IsKey key }
     requires most { length bytes.now ≤ 12 }
-    ensures { Parses 12 (λ x. FixedIs last kinds.Info x × (fixed_bytes x ≡ key_bytes key ++ bytes.now)) (rest_fault last kinds.Info key) bytes.now result }
+    ensures { Parses 12 (λ x. FixedIs last kinds.Info x × (fixed_bytes x
+        ≡ key_bytes key ++ bytes.now)) (rest_fault last kinds.Info key) bytes.now result }
 {
     in_order(last, &key, Part::Info)?;
     if bytes.len() < 12 {
@@ -150,7 +154,8 @@ fn information_conflict_at(
 ) -> Result<Fixed, ReadFault>
     requires key { IsKey key }
     requires most { length bytes.now ≤ 0 }
-    ensures { Parses 0 (λ x. FixedIs last kinds.InfoConflict x × (fixed_bytes x ≡ key_bytes key ++ bytes.now)) (rest_fault last kinds.InfoConflict key) bytes.now result }
+    ensures { Parses 0 (λ x. FixedIs last kinds.InfoConflict x × (fixed_bytes x
+        ≡ key_bytes key ++ bytes.now)) (rest_fault last kinds.InfoConflict key) bytes.now result }
 {
     in_order(last, &key, Part::Info)?;
     Ok(Fixed::Whole(Fact::InfoConflict { key }))
@@ -160,7 +165,8 @@ fn information_conflict_at(
 fn symbol_at(last: Option<Address>, key: Key, bytes: &[u8]) -> Result<Fixed, ReadFault>
     requires key { IsKey key }
     requires most { length bytes.now ≤ 6 }
-    ensures { Parses 6 (λ x. FixedIs last kinds.Symbol x × (fixed_bytes x ≡ key_bytes key ++ bytes.now)) (rest_fault last kinds.Symbol key) bytes.now result }
+    ensures { Parses 6 (λ x. FixedIs last kinds.Symbol x × (fixed_bytes x
+        ≡ key_bytes key ++ bytes.now)) (rest_fault last kinds.Symbol key) bytes.now result }
 {
     let (id, rest) = id_at(bytes)?;
     in_order(last, &key, Part::Symbol(id))?;
@@ -172,7 +178,8 @@ fn symbol_at(last: Option<Address>, key: Key, bytes: &[u8]) -> Result<Fixed, Rea
 fn symbol_conflict_at(last: Option<Address>, key: Key, bytes: &[u8]) -> Result<Fixed, ReadFault>
     requires key { IsKey key }
     requires most { length bytes.now ≤ 4 }
-    ensures { Parses 4 (λ x. FixedIs last kinds.SymbolConflict x × (fixed_bytes x ≡ key_bytes key ++ bytes.now)) (rest_fault last kinds.SymbolConflict key) bytes.now result }
+    ensures { Parses 4 (λ x. FixedIs last kinds.SymbolConflict x × (fixed_bytes x
+        ≡ key_bytes key ++ bytes.now)) (rest_fault last kinds.SymbolConflict key) bytes.now result }
 {
     let (id, _) = id_at(bytes)?;
     in_order(last, &key, Part::Symbol(id))?;

@@ -17,7 +17,8 @@ pub fn number(bytes: &[u8]) -> u128
     BigEndian::read_uint128(bytes, bytes.len())
 }
 
-/// The number that fourteen bytes spell, read in two halves: to gather them first would take longer.
+/// The number that fourteen bytes spell, read in two halves: to gather them
+/// first would take longer.
 pub fn number_of_14(field: &[u8]) -> u128
     requires { length field.now ≡ 14 }
     ensures value { result ≡ big_endian field.now }
