@@ -1,15 +1,13 @@
 -- What was spelled passes the checks.
-use Rattle.std.proofs.Common.{◌≡◌, ℕ, zero, suc, ◌+◌, ◌*◌, take_all, ◌^◌, ◌<◌, ◌≤◌, Bool, true, false, not, ◌&&◌, ◌||◌, eqb, List, [], ◌∷◌, ◌++◌, length, take, drop, Option, Some, None, refl, sym, ap, ◌∙◌, subst, arith}
+use Rattle.std.proofs.Common.{◌≡◌, ℕ, zero, suc, ◌+◌, ◌*◌, take_all, ◌^◌, ◌<◌, ◌≤◌, Bool, true, false, not, ◌&&◌, ◌||◌, eqb, List, [], ◌∷◌, ◌++◌, length, take, drop, Some, refl, sym, ap, ◌∙◌, subst, arith}
 use Rattle.std.proofs.lemmas.Bool.{lt-ltb, le-ltb, ne_eqb}
 use Rattle.std.proofs.lemmas.List.{take_at, drop_at, length-append, length-take, length-drop, take-append-drop, drop-drop}
 use Rattle.std.specs.List.{AllByRecursion}
-use Rattle.std.specs.Prelude.{if◌then◌else◌}
 use Rattle.flute_parts.specs.ObjectName.{IsObjectName}
 use Rattle.flute_parts.specs.Session.{session}
 use Rattle.flute_parts.specs.declared.object_key.ObjectName.{ObjectName}
 use Rattle.flute_parts.specs.declared.object_key.ObjectName.TheVariants.{Instance, File}
 use Rattle.flute_parts.specs.declared.key.Key.{Key}
-use Rattle.flute_journal.specs.declared.fault.ReadFault.{ReadFault}
 use Rattle.flute_journal.specs.declared.fault.ReadFault.TheVariants as faults
 use Rattle.flute_parts.specs.BigEndian.{big_endian}
 use Rattle.flute_journal.specs.Numbers.{in_bytes}
@@ -145,15 +143,3 @@ not_true false e = refl
 pub not_false : (b : Bool) → false ≡ not b → b ≡ true
 not_false true e = refl
 not_false false e = absurd cc
-
-goes_on : (b : Bool) (c f : ReadFault) (x y : Option ReadFault) → (if b then Some c else x) ≡ Some f → (x ≡ Some f → y ≡ Some f) → (if b then Some c else y) ≡ Some f
-goes_on true c f x y e h = e
-goes_on false c f x y e h = h e
-
-none_some : {f : ReadFault} → None ≡ Some f → ⊥
-none_some e = cc
-
--- further checks change nothing of a fault
-pub first-more : (cs ds : List Check) (f : ReadFault) → first_fault cs ≡ Some f → first_fault (cs ++ ds) ≡ Some f
-first-more [] ds f e = absurd (none_some e)
-first-more (c ∷ cs) ds f e = goes_on c.0 c.1 f (first_fault cs) (first_fault (cs ++ ds)) e (first-more cs ds f)

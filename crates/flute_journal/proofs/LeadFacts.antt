@@ -235,12 +235,12 @@ module _ {S : Type 0} (b : Behaviour S) where
       subst (λ x. StopAt b (Some a) number f streams x) (sym v.now)
       (stops (Some a) number f streams v.before v.after v.was (at v.before v.was) v.stops (elsewhere streams number next a l at))
 
-  set_here : (streams : List S) (k : ℕ) (x y : S) → slice_get streams k ≡ Some x → slice_get (set streams k y) k ≡ Some y
+  pub set_here : (streams : List S) (k : ℕ) (x y : S) → slice_get streams k ≡ Some x → slice_get (set streams k y) k ≡ Some y
   set_here [] k x y e = absurd cc
   set_here (s ∷ streams) zero x y e = refl
   set_here (s ∷ streams) (suc k) x y e = set_here streams k x y e
 
-  set_elsewhere : (streams : List S) (k j : ℕ) (y : S) → j ≢ k → slice_get (set streams k y) j ≡ slice_get streams j
+  pub set_elsewhere : (streams : List S) (k j : ℕ) (y : S) → j ≢ k → slice_get (set streams k y) j ≡ slice_get streams j
   set_elsewhere [] k j y n = refl
   set_elsewhere (s ∷ streams) zero zero y n = absurd (n refl)
   set_elsewhere (s ∷ streams) zero (suc j) y n = refl

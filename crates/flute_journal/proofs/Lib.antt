@@ -30,10 +30,11 @@ pub mod JournalReads
 pub mod GoingOn
 pub mod LowestFacts
 pub mod LeadFacts
+pub mod Finished
 pub mod WithinFacts
+pub mod WrittenSoFar
 pub mod StreamTurns
 pub mod StreamStops
 pub mod StreamStates
 pub mod Twos
-pub mod WriteOutcomes
 pub mod ListedFacts

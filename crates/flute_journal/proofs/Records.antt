@@ -1,23 +1,23 @@
 -- The records of a datagram file.
-use Rattle.std.proofs.Common.{◌≡◌, ℕ, ◌+◌, ◌^◌, ◌<◌, ◌≤◌, Bool, true, false, leb, ◌⊎◌, List, [], ◌∷◌, ◌++◌, length, take, drop, Option, Some, None, Result, Ok, Err, inl, inr, refl, sym, ap, ◌∙◌, subst, append_assoc, arith}
+use Rattle.std.proofs.Common.{◌≡◌, ℕ, ◌+◌, ◌^◌, ◌<◌, ◌≤◌, Bool, true, false, leb, List, [], ◌∷◌, ◌++◌, length, take, drop, Option, Some, None, Result, Ok, Err, inl, inr, refl, sym, ap, ◌∙◌, subst, append_assoc, arith}
 use Rattle.std.proofs.lemmas.Bool.{le-leb, lt-leb, lt-ltb}
 use Rattle.std.proofs.lemmas.List.{take_at, drop_at, length-append, append-nil, flat_map_more}
 use Rattle.std.specs.List.{flat_map, AllByRecursion, IsSplitAt}
-use Rattle.std.specs.Io.KnownBytes.{Consumes, IsAtEnd}
+use Rattle.std.specs.Io.KnownBytes.{Consumes}
 use Rattle.std.proofs.KnownBytes.{Consumes-trans}
 use Rattle.std.specs.Prelude.{IfSome}
 use Rattle.flute_parts.specs.BigEndian.{big_endian}
 use Rattle.flute_journal.specs.declared.fault.ReadFault.{ReadFault}
 use Rattle.flute_journal.specs.declared.fault.ReadFault.TheVariants as faults
 use Rattle.flute_journal.specs.declared.datagram_reader.FileStage.{FileStage}
-use Rattle.flute_journal.specs.declared.datagram_reader.FileStage.TheVariants.{Header, Records, Ended, Failed}
+use Rattle.flute_journal.specs.declared.datagram_reader.FileStage.TheVariants.{Header, Records, Failed}
 use Rattle.flute_journal.specs.Numbers.{in_bytes}
 use Rattle.flute_journal.specs.Faults.{Check, first_fault, cut, opening_fault}
 use Rattle.flute_journal.specs.Input.{Advances, Fronts, IsFaultOf, IsFaultUpTo, IsWithin, StaysWithin, told}
 use Rattle.flute_journal.specs.Journal.{IsByte}
-use Rattle.flute_journal.specs.Parsing.{StopsFront, cut_fault}
+use Rattle.flute_journal.specs.Parsing.{cut_fault}
 use Rattle.flute_journal.specs.Reading.{or_else}
-use Rattle.flute_journal.specs.Records.{file_header, record_of, IsCut, IsDatagram, AreDatagrams, IsFileWithin, FileStops, in_header, behind, HasFileFault, ReadsRecord, record_checks, record_fault, given, opening, file_fault_from, GivesRecord, GivesNone, GivesFileFault}
+use Rattle.flute_journal.specs.Records.{file_header, record_of, IsCut, IsDatagram, AreDatagrams, FileStops, in_header, behind, HasFileFault, ReadsRecord, record_checks, record_fault, given, opening, file_fault_from, GivesRecord, GivesFileFault}
 use Rattle.flute_journal.proofs.Numbers.{octets-drop, in_bytes-injective, length-in_bytes}
 use Rattle.flute_journal.proofs.Decoded.{joined, front_octets}
 use Rattle.flute_journal.proofs.Checks.{first-pass, first-stop, cut-passes, nothing_left}
@@ -125,10 +125,6 @@ read_more : (ds : List (List ℕ)) (d : List ℕ) → file_read_of ds ++ (openin
 read_more [] d = flat_map_more record_of file_header [] d
 read_more (e ∷ ds) d = flat_map_more record_of file_header (e ∷ ds) d
 
-read_all : (ds : List (List ℕ)) → file_read_of ds ++ opening (file_stage_at ds) ≡ file_header ++ flat_map record_of ds
-read_all [] = refl
-read_all (d ∷ ds) = append-nil (file_header ++ flat_map record_of (d ∷ ds))
-
 pub datagrams_all : (ds : List (List ℕ)) (d : List ℕ) → AllByRecursion IsDatagram ds → IsDatagram d → AllByRecursion IsDatagram (ds ++ d ∷ [])
 datagrams_all [] d p v = (v, tt)
 datagrams_all (e ∷ ds) d p v = (p.0, datagrams_all ds d p.1 v)
@@ -149,34 +145,9 @@ pub file_sofar-next : (limit : ℕ) (u v w : Option (List ℕ)) (old new : FileS
 file_sofar-next limit u v w old new ds d s h =
     next_at limit u v w new ds d s.are_datagrams s.read (subst (λ (x : FileStage). GivesRecord limit x new v w d) s.stage_is h)
 
-not_ended : (ds : List (List ℕ)) → file_stage_at ds ≡ Ended → ⊥
-not_ended [] e = cc
-not_ended (d ∷ ds) e = cc
-
 not_failed : (ds : List (List ℕ)) (f : ReadFault) → file_stage_at ds ≡ Failed f → ⊥
 not_failed [] f e = cc
 not_failed (d ∷ ds) f e = cc
-
-whole_file : (limit : ℕ) (u w : Option (List ℕ)) (ds : List (List ℕ)) → AreDatagrams limit ds → Consumes u w (file_header ++ flat_map record_of ds) → IsAtEnd w
-    → IfSome u (λ bytes. IsFileWithin limit bytes ds)
-whole_file limit None w ds a took e = tt
-whole_file limit (Some x) None ds a took e = absurd took
-whole_file limit (Some x) (Some y) ds a took e = record {
-  file = record { valid = a.valid; bytes_are = took ∙ ap (λ (z : List ℕ). (file_header ++ flat_map record_of ds) ++ z) e ∙ append-nil (file_header ++ flat_map record_of ds) };
-  few = a.few;
-}
-
--- the records so far are those of the whole file
-pub file_sofar-end : (limit : ℕ) (u v w : Option (List ℕ)) (old new : FileStage) (ds : List (List ℕ)) → FileSofar limit u v old ds
-    → GivesNone old new v w → IfSome u (λ bytes. IsFileWithin limit bytes ds)
-file_sofar-end limit u v w old new ds s h = elim h.bytes [
-  | inl p ↦ absurd (not_ended ds (sym s.stage_is ∙ p.0))
-  | inr p ↦
-      let took : Consumes v w (opening (file_stage_at ds)) = subst (λ (x : FileStage). Consumes v w (opening x)) s.stage_is p.1 in
-      let all : Consumes u w (file_header ++ flat_map record_of ds) =
-      subst (Consumes u w) (read_all ds) (Consumes-trans u v w (file_read_of ds) (opening (file_stage_at ds)) s.read took) in
-      whole_file limit u w ds s.are_datagrams all p.2
-]
 
 from_header : (limit : ℕ) (y : List ℕ) (f : ReadFault) (o : Option ReadFault) → opening_fault file_header y ≡ o → or_else o (record_fault limit 0 (drop 6 y)) ≡ Some f
     → (datagrams : List (List ℕ)) × FileStops y limit datagrams f
@@ -215,16 +186,6 @@ first_of : (c d : Check) → c.1 ≡ faults.Cut → d.0 ≡ true → d.1 ≡ fau
 first_of (true, f) d e h k = ap Some e
 first_of (false, f) d e h k = first-stop d [] h ∙ ap Some k
 
-opening_fault_found : (limit : ℕ) (file : List ℕ) (f : ReadFault) → opening_fault file_header file ≡ Some f → HasFileFault limit (Some file) f
-opening_fault_found limit file faults.Read e = tt
-opening_fault_found limit file faults.OutOfMemory e = tt
-opening_fault_found limit file f e = ([], in_header refl e)
-
-nothing_behind : (opening rest : List ℕ) (n : ℕ) → length opening ≡ n → (length rest ≡ 0 ⊎ (6 ≤ n)) → length opening < 6 → rest ≡ []
-nothing_behind opening [] n len h short = refl
-nothing_behind opening (b ∷ bs) n len (inl e) short = absurd (omega (arith, e))
-nothing_behind opening (b ∷ bs) n len (inr e) short = absurd (omega (arith, len, e, short))
-
 -- A file that lies in memory, read so far.
 pub record FileRead (limit : ℕ) (file : List ℕ) (datagrams : List (List ℕ)) (rest : List ℕ) : Type 0 where
   pub are_datagrams : AreDatagrams limit datagrams
@@ -248,13 +209,6 @@ cut_passed limit count rest few (inr short) =
 pub cut_at : (limit count : ℕ) (rest : List ℕ) → 0 < length rest → count < limit → IsCut rest → record_fault limit count rest ≡ Some faults.Cut
 cut_at limit count [] some few h = absurd (omega (arith, some))
 cut_at limit count (b ∷ bs) some few h = cut_passed limit count (b ∷ bs) few h
-
--- the header of a file in memory is at fault
-pub opening_stops : (limit : ℕ) (file opening rest : List ℕ) (n : ℕ) (f : ReadFault) → IsSplitAt file n opening rest → (length rest ≡ 0 ⊎ (6 ≤ n)) → StopsFront 6 (opening_fault file_header) opening f
-    → HasFileFault limit (Some file) f
-opening_stops limit file opening rest n f s whole stops =
-    let bytes : file ≡ opening ++ rest = joined file opening rest n s in
-    opening_fault_found limit file f (ap (opening_fault file_header) bytes ∙ stops.whole rest (λ e. nothing_behind opening rest n s.3 whole (stops.short e)))
 
 nothing : (bytes : List ℕ) → length bytes ≡ 0 → bytes ≡ []
 nothing [] e = refl

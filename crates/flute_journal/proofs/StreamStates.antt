@@ -1,5 +1,5 @@
 -- Where a merge of streams stands between two turns, and how it ends.
-use Rattle.std.proofs.Common.{◌≡◌, ℕ, ◌+◌, ◌<◌, ◌≤◌, ◌^◌, true, false, Bool, List, [], ◌∷◌, ◌++◌, length, Option, Some, None, IsTrue, refl, sym, ap, ◌∙◌, subst, inl, inr, append_assoc, append-nil, arith}
+use Rattle.std.proofs.Common.{◌≡◌, ℕ, ◌+◌, ◌<◌, ◌≤◌, ◌^◌, true, false, Bool, List, [], ◌∷◌, ◌++◌, length, Option, Some, None, IsTrue, refl, sym, ap, ◌∙◌, subst, inl, inr, append_assoc, arith}
 use Rattle.std.proofs.lemmas.List.{length-append}
 use Rattle.std.proofs.lemmas.Bool.{cases_Bool}
 use Rattle.std.specs.Prelude.{IfSome}
@@ -26,16 +26,18 @@ use Rattle.flute_journal.specs.declared.streams_fault.StreamsFault.TheVariants.{
 use Rattle.flute_journal.specs.Format.{header, entry, end, spelling}
 use Rattle.flute_journal.specs.Faults.{is_after}
 use Rattle.flute_journal.specs.Journal.{Journal, IsFact, last_of, Collects}
+use Rattle.flute_journal.specs.JournalWriters.{Written, PutsBytes}
 use Rattle.flute_journal.specs.Merges.{front}
 use Rattle.flute_journal.specs.Streams.{Behaviour, option_list, heads, most_of}
 use Rattle.flute_journal.specs.Lowest.{Lowest}
 use Rattle.flute_journal.specs.Advances.{GoOnAt, StopsIn, AreNew}
-use Rattle.flute_journal.specs.StreamMerges.{all_of, IsWithinLimits, IsCounted, NoneFails, OneFails, MergedAll, AppendsPartOf, ReadsAhead, NamesInput}
+use Rattle.flute_journal.specs.StreamMerges.{all_of, IsWithinLimits, IsCounted, NoneFails, OneFails, MergedAll, AppendsPartOf, ReadsAhead, NamesInput, CanGoOn}
 use Rattle.flute_journal.proofs.Orders.{rising-rises, rises-rising}
 use Rattle.flute_journal.proofs.Existence.{all_more, rises_more}
 use Rattle.flute_journal.proofs.LowestFacts.{all_append}
 use Rattle.flute_journal.proofs.MergeBytes.{front-snoc, written-begins, written-snoc}
 use Rattle.flute_journal.proofs.MergeRising.{last_of-snoc}
+use Rattle.flute_journal.proofs.WrittenSoFar.{written-more, written-whole, written-part}
 use Rattle.flute_journal.proofs.StreamTurns.{Run, starts, nows, givens, givens_at, Went, Stays, Turned, turn, new_runs, new_starts, new_nows, new_givens, new_stays, went_stays, given_same, given_length, fewer_all, taken_at, taken_same, taken_some, lowest-sized}
 use Rattle.flute_journal.proofs.StreamStops.{reads_now, none_fails, StoppedAll, stopped_all, short_header, short_entry, short_end, told_whole}
 
@@ -72,25 +74,26 @@ within_same s o y tally false F G e h = Over-below G F s o y (Below-from_Same G 
 
 module _ {S : Type 0} (b : Behaviour S) where
   -- what is said of a merge that stopped
-  pub record Stopping (old new : List S) (w w' : Option (List ℕ)) (fault : StreamsFault) : Type 0 where
+  pub record Stopping (patient : Bool) (old new : List S) (w w' : Option (List ℕ)) (fault : StreamsFault) : Type 0 where
     pub short : AppendsPartOf b old w w'
-    pub reads_ahead : ReadsAhead b old new w w' fault
+    pub reads_ahead : patient ≡ false → ReadsAhead b old new w w' fault
     pub names : NamesInput b old fault
+    pub can_go_on : CanGoOn b old new fault
 
   none_collects : Collects [] []
   none_collects = record { valid = tt; rising = tt; same = Same-itself [] }
 
   -- before the header
 
-  pub stop_first : (old new : List S) (w : Option (List ℕ)) (fault : InputFault) → AreNew b old → StopsIn b None old new fault
-      → Stopping old new w w (Input fault) × OneFails b fault.number fault.fault old new
-  stop_first old new w fault n h =
+  pub stop_first : (patient : Bool) (old new : List S) (w : Option (List ℕ)) (fault : InputFault) → AreNew b old → StopsIn b None old new fault
+      → Stopping patient old new w w (Input fault) × OneFails b fault.number fault.fault old new
+  stop_first patient old new w fault n h =
       let s : StoppedAll b None fault.number fault.fault (new_runs b old) new =
       stopped_all b None fault.number fault.fault (new_runs b old) new (new_stays b old n) (subst (λ (l : List S). StopsIn b None l new fault) (sym (new_nows b old)) h) in
-      subst (λ (l : List S). Stopping l new w w (Input fault) × OneFails b fault.number fault.fault l new) (new_starts b old) (
+      subst (λ (l : List S). Stopping patient l new w w (Input fault) × OneFails b fault.number fault.fault l new) (new_starts b old) (
         record {
           short = short_header b (starts (new_runs b old)) w w [] header (Appends-nil w) refl;
-          reads_ahead = record {
+          reads_ahead = λ p. record {
             read = givens_at b None (new_runs b old);
             reads = s.reads;
             entries = [];
@@ -100,12 +103,13 @@ module _ {S : Type 0} (b : Behaviour S) where
             begins = refl;
           };
           names = s.names;
+          can_go_on = s.before;
         },
         s.fails,
       )
 
   -- What the streams gave was appended, joined, and what they hold stands above it.
-  pub record State (Also : List Fact → Type 0) (old now : List S) (w w' : Option (List ℕ)) (count : ℕ) : Type 0 where
+  pub record State (failed : Bool) (Also : List Fact → Type 0) (old now : List S) (w w' : Option (List ℕ)) (count : ℕ) : Type 0 where
     pub runs : List (Run S)
     pub starts_are : starts runs ≡ old
     pub nows_are : nows runs ≡ now
@@ -113,15 +117,16 @@ module _ {S : Type 0} (b : Behaviour S) where
     pub went : AllByRecursion (Went b (last_of None joined)) runs
     pub collects : Collects (all_of (givens runs)) joined
     pub few : length joined ≤ length (all_of (givens runs))
-    pub appended : Appends w w' (front joined)
+    pub written : Written failed w w' (front joined)
     pub count_is : count ≡ length joined
     pub also : Also joined
 
   first_turn : (old now : List S) → AreNew b old → GoOnAt b None old now → Turned b None (new_runs b old) now
   first_turn old now n h = turn b None (new_runs b old) now (new_stays b old n) (subst (λ (l : List S). GoOnAt b None l now) (sym (new_nows b old)) h)
 
-  pub state-start : (Also : List Fact → Type 0) (old now : List S) (w w' : Option (List ℕ)) → Also [] → AreNew b old → GoOnAt b None old now → Appends w w' header → State Also old now w w' 0
-  state-start Also old now w w' also n h a =
+  pub state-start : (failed : Bool) (Also : List Fact → Type 0) (old now : List S) (w w' : Option (List ℕ)) → Also [] → AreNew b old → GoOnAt b None old now → Written failed w w' header
+      → State failed Also old now w w' 0
+  state-start failed Also old now w w' also n h a =
       let t = first_turn old now n h in
       let e : all_of (givens t.next) ≡ [] = ap all_of t.givens_are ∙ new_givens b old in
       record {
@@ -132,7 +137,7 @@ module _ {S : Type 0} (b : Behaviour S) where
         went = t.went;
         collects = subst (λ (l : List Fact). Collects l []) (sym e) none_collects;
         few = omega arith;
-        appended = a;
+        written = a;
         count_is = refl;
         also = also;
       }
@@ -144,17 +149,17 @@ module _ {S : Type 0} (b : Behaviour S) where
       ((record { passes = g.passes; reads = g.reads; reads_held = g.reads_held; fails = g.fails; fewer = w.0.fewer }, λ e. w.0), stays place runs w.1)
 
   -- a failed write of the header
-  pub stop_header : (old now : List S) (w w' : Option (List ℕ)) → AreNew b old → GoOnAt b None old now → AppendsPart w w' header → Stopping old now w w' Write × NoneFails b old now
-  stop_header old now w w' n h a =
+  pub stop_header : (patient : Bool) (old now : List S) (w w' : Option (List ℕ)) → AreNew b old → GoOnAt b None old now → AppendsPart w w' header → Stopping patient old now w w' Write × NoneFails b old now
+  stop_header patient old now w w' n h a =
       let t = first_turn old now n h in
       let e : all_of (givens t.next) ≡ [] = ap all_of t.givens_are ∙ new_givens b old in
       let s = stays None t.next t.went in
-      let P : List S → Type 0 = λ l. Stopping l now w w' Write × NoneFails b l now in
-      let Q : List S → Type 0 = λ l. Stopping (starts t.next) l w w' Write × NoneFails b (starts t.next) l in
+      let P : List S → Type 0 = λ l. Stopping patient l now w w' Write × NoneFails b l now in
+      let Q : List S → Type 0 = λ l. Stopping patient (starts t.next) l w w' Write × NoneFails b (starts t.next) l in
       subst P (t.starts_are ∙ new_starts b old) (subst Q t.nows_are (
         record {
           short = short_header b (starts t.next) w w' a.part a.rest a.appended (sym a.whole);
-          reads_ahead = record {
+          reads_ahead = λ p. record {
             read = givens t.next;
             reads = reads_now b None t.next s;
             entries = [];
@@ -164,6 +169,7 @@ module _ {S : Type 0} (b : Behaviour S) where
             begins = (a.part, refl);
           };
           names = tt;
+          can_go_on = tt;
         },
         none_fails b None t.next s,
       ))
@@ -184,9 +190,13 @@ module _ {S : Type 0} (b : Behaviour S) where
   most-given place [] w = omega arith
   most-given place (r ∷ runs) w = omega (arith, w.0.fewer, most-given place runs w.1, length-append r.given (all_of (givens runs)))
 
-  module _ {Also : List Fact → Type 0} {old now : List S} {w w' : Option (List ℕ)} {count : ℕ} (state : State Also old now w w' count) where
+  module _ {failed : Bool} {Also : List Fact → Type 0} {old now : List S} {w w' : Option (List ℕ)} {count : ℕ} (state : State failed Also old now w w' count) where
     abbrev last : Option Address
     last = last_of None state.joined
+
+    -- all was written where the sink has not failed
+    whole_yet : failed ≡ false → Appends w w' (front state.joined)
+    whole_yet good = written-whole failed w w' (front state.joined) good state.written
 
     pub few-joined : count ≤ most_of b old
     few-joined = let e = ap (most_of b) state.starts_are in omega (arith, e, state.count_is, state.few, most-given last state.runs state.went)
@@ -223,12 +233,12 @@ module _ {S : Type 0} (b : Behaviour S) where
               (taken_same (heads b (nows state.runs)) g low.comes));
         }
 
-        next_bytes : (w'' : Option (List ℕ)) → Appends w' w'' (entry g) → Appends w w'' (front (state.joined ++ g ∷ []))
-        next_bytes w'' a = subst (Appends w w'') (front-snoc state.joined g) (Appends-trans w w' w'' (front state.joined) (entry g) state.appended a)
+        next_bytes : (next : Bool) (w'' : Option (List ℕ)) → PutsBytes failed next w' w'' (entry g) → Written next w w'' (front (state.joined ++ g ∷ []))
+        next_bytes next w'' a = subst (Written next w w'') (front-snoc state.joined g) (written-more failed next w w' w'' (front state.joined) (entry g) state.written a)
 
-        pub state-turn : (Next : List Fact → Type 0) (new : List S) (w'' : Option (List ℕ)) → ((F : List Fact) → IsRising (F ++ g ∷ []) → Also F → Next (F ++ g ∷ []))
-            → Appends w' w'' (entry g) → GoOnAt b (Some (address g)) now new → State Next old new w w'' (count + 1)
-        state-turn Next new w'' k a h =
+        pub state-turn : (next : Bool) (Next : List Fact → Type 0) (new : List S) (w'' : Option (List ℕ)) → ((F : List Fact) → IsRising (F ++ g ∷ []) → Also F → Next (F ++ g ∷ []))
+            → PutsBytes failed next w' w'' (entry g) → GoOnAt b (Some (address g)) now new → State next Next old new w w'' (count + 1)
+        state-turn next Next new w'' k a h =
             let t = turn b (Some (address g)) state.runs new next_stays (subst (λ (l : List S). GoOnAt b (Some (address g)) l new) (sym state.nows_are) h) in
             record {
               runs = t.next;
@@ -240,21 +250,21 @@ module _ {S : Type 0} (b : Behaviour S) where
               few =
                   let l = ap (λ x. length (all_of x)) t.givens_are in
                   omega (arith, l, state.few, given_length b (address g) state.runs, taken_some (heads b (nows state.runs)) g low.comes, length-append state.joined (g ∷ []));
-              appended = next_bytes w'' a;
+              written = next_bytes next w'' a;
               count_is = omega (arith, state.count_is, length-append state.joined (g ∷ []));
               also = k state.joined rising_next state.also;
             }
 
-        pub stop_entry : (w'' : Option (List ℕ)) → AppendsPart w' w'' (entry g) → Stopping old now w w'' Write
-        stop_entry w'' a =
+        pub stop_entry : (patient : Bool) (w'' : Option (List ℕ)) → failed ≡ false → AppendsPart w' w'' (entry g) → Stopping patient old now w w'' Write
+        stop_entry patient w'' good a =
             let bs : List ℕ = front state.joined ++ a.part in
-            let appended : Appends w w'' bs = Appends-trans w w' w'' (front state.joined) a.part state.appended a.appended in
-            let P : List S → Type 0 = λ l. Stopping l now w w'' Write in
-            let Q : List S → Type 0 = λ l. Stopping (starts state.runs) l w w'' Write in
+            let appended : Appends w w'' bs = Appends-trans w w' w'' (front state.joined) a.part (whole_yet good) a.appended in
+            let P : List S → Type 0 = λ l. Stopping patient l now w w'' Write in
+            let Q : List S → Type 0 = λ l. Stopping patient (starts state.runs) l w w'' Write in
             subst P state.starts_are (subst Q state.nows_are (record {
               short = short_entry b last state.runs state.joined g w w'' bs a.rest state.went low.first collects_next appended
                   (append_assoc (front state.joined) a.part a.rest ∙ ap (λ (l : List ℕ). front state.joined ++ l) (sym a.whole) ∙ front-snoc state.joined g);
-              reads_ahead = record {
+              reads_ahead = λ p. record {
                 read = givens state.runs;
                 reads = reads_now b last state.runs (stays last state.runs state.went);
                 entries = state.joined;
@@ -264,27 +274,30 @@ module _ {S : Type 0} (b : Behaviour S) where
                 begins = written-begins state.joined a.part;
               };
               names = tt;
+              can_go_on = tt;
             }))
 
-        pub stop_input : (new : List S) (w'' : Option (List ℕ)) (fault : InputFault) → Appends w' w'' (entry g) → StopsIn b (Some (address g)) now new fault
-            → Stopping old new w w'' (Input fault) × OneFails b fault.number fault.fault old new
-        stop_input new w'' fault a h =
+        pub stop_input : (patient next : Bool) (new : List S) (w'' : Option (List ℕ)) (fault : InputFault) → PutsBytes failed next w' w'' (entry g) → (patient ≡ false → next ≡ false)
+            → StopsIn b (Some (address g)) now new fault → Stopping patient old new w w'' (Input fault) × OneFails b fault.number fault.fault old new
+        stop_input patient next new w'' fault a eager h =
             let s : StoppedAll b (Some (address g)) fault.number fault.fault state.runs new =
             stopped_all b (Some (address g)) fault.number fault.fault state.runs new next_stays (subst (λ (l : List S). StopsIn b (Some (address g)) l new fault) (sym state.nows_are) h) in
             let bs : List ℕ = front (state.joined ++ g ∷ []) in
-            subst (λ (l : List S). Stopping l new w w'' (Input fault) × OneFails b fault.number fault.fault l new) state.starts_are (
+            let part = written-part next w w'' bs (next_bytes next w'' a) in
+            subst (λ (l : List S). Stopping patient l new w w'' (Input fault) × OneFails b fault.number fault.fault l new) state.starts_are (
               record {
-                short = short_entry b last state.runs state.joined g w w'' bs [] state.went low.first collects_next (next_bytes w'' a) (append-nil bs);
-                reads_ahead = record {
+                short = short_entry b last state.runs state.joined g w w'' part.bytes part.more state.went low.first collects_next part.appended part.whole;
+                reads_ahead = λ p. record {
                   read = givens_at b (Some (address g)) state.runs;
                   reads = s.reads;
                   entries = state.joined ++ g ∷ [];
                   collects = collects_next;
                   bytes = bs;
-                  appended = next_bytes w'' a;
+                  appended = written-whole next w w'' bs (eager p) (next_bytes next w'' a);
                   begins = written-snoc state.joined g;
                 };
                 names = s.names;
+                can_go_on = s.before;
               },
               s.fails,
             )
@@ -298,16 +311,16 @@ module _ {S : Type 0} (b : Behaviour S) where
       none_left : heads b (nows state.runs) ≡ []
       none_left = ap (heads b) state.nows_are ∙ none
 
-      pub stop_end : (w'' : Option (List ℕ)) → AppendsPart w' w'' (end count) → Stopping old now w w'' Write
-      stop_end w'' a =
+      pub stop_end : (patient : Bool) (w'' : Option (List ℕ)) → failed ≡ false → AppendsPart w' w'' (end count) → Stopping patient old now w w'' Write
+      stop_end patient w'' good a =
           let bs : List ℕ = front state.joined ++ a.part in
-          let appended : Appends w w'' bs = Appends-trans w w' w'' (front state.joined) a.part state.appended a.appended in
-          let P : List S → Type 0 = λ l. Stopping l now w w'' Write in
-          let Q : List S → Type 0 = λ l. Stopping (starts state.runs) l w w'' Write in
+          let appended : Appends w w'' bs = Appends-trans w w' w'' (front state.joined) a.part (whole_yet good) a.appended in
+          let P : List S → Type 0 = λ l. Stopping patient l now w w'' Write in
+          let Q : List S → Type 0 = λ l. Stopping patient (starts state.runs) l w w'' Write in
           subst P state.starts_are (subst Q state.nows_are (record {
             short = short_end b last state.runs state.joined w w'' bs a.rest state.went none_left state.collects appended a.cut
                 (append_assoc (front state.joined) a.part a.rest ∙ ap (λ (l : List ℕ). front state.joined ++ l) (sym a.whole) ∙ ap (λ n. front state.joined ++ end n) state.count_is);
-            reads_ahead = record {
+            reads_ahead = λ p. record {
               read = givens state.runs;
               reads = reads_now b last state.runs (stays last state.runs state.went);
               entries = state.joined;
@@ -317,27 +330,28 @@ module _ {S : Type 0} (b : Behaviour S) where
               begins = written-begins state.joined a.part;
             };
             names = tt;
+            can_go_on = tt;
           }))
 
-      whole : (w'' : Option (List ℕ)) → Appends w' w'' (end count) → Appends w w'' (spelling state.joined)
-      whole w'' a = subst (λ n. Appends w w'' (front state.joined ++ end n)) state.count_is (Appends-trans w w' w'' (front state.joined) (end count) state.appended a)
+      whole : (next : Bool) (w'' : Option (List ℕ)) → PutsBytes failed next w' w'' (end count) → Written next w w'' (spelling state.joined)
+      whole next w'' a = subst (λ n. Written next w w'' (front state.joined ++ end n)) state.count_is (written-more failed next w w' w'' (front state.joined) (end count) state.written a)
 
       -- the journal of other facts with the same members is the one that was written
-      others_too : (w'' : Option (List ℕ)) → Appends w' w'' (end count) → (others : List Fact) → SameMembers (all_of (givens state.runs)) others → (bytes : List ℕ) → Journal bytes others
-          → Appends w w'' bytes
-      others_too w'' a others m bytes j =
+      others_too : (next : Bool) (w'' : Option (List ℕ)) → PutsBytes failed next w' w'' (end count) → (others : List Fact) → SameMembers (all_of (givens state.runs)) others → (bytes : List ℕ) → Journal bytes others
+          → Written next w w'' bytes
+      others_too next w'' a others m bytes j =
           let given = all_of (givens state.runs) in
           let same : Same j.0 state.joined =
           Same-trans j.0 others state.joined (Same-sym others j.0 j.1.same)
           (Same-trans others given state.joined (Same-sym given others (Same-members given others m)) state.collects.same) in
           let one : j.0 ≡ state.joined = rising_unique j.0 state.joined j.1.rising state.collects.rising same in
-          subst (Appends w w'') (sym (j.3 ∙ ap spelling one)) (whole w'' a)
+          subst (Written next w w'') (sym (j.3 ∙ ap spelling one)) (whole next w'' a)
 
-  pub finished : (s o y : ℕ) (tally : Tally s o y) (within : Bool) {old now : List S} {w w' : Option (List ℕ)} {count : ℕ} → (state : State (IsCounted s o y tally within) old now w w' count)
-      → (w'' : Option (List ℕ)) → most_of b old < 2 ^ 64 → heads b now ≡ [] → Appends w' w'' (end count)
-      → MergedAll b old s o y (record { entries = count; within = within }) w w''
-  finished s o y tally within {old} {now} {w} {w'} {count} state w'' few none a =
-      subst (λ (l : List S). MergedAll b l s o y (record { entries = count; within = within }) w w'') state.starts_are (record {
+  pub finished : (s o y : ℕ) (tally : Tally s o y) (within next : Bool) {failed : Bool} {old now : List S} {w w' : Option (List ℕ)} {count : ℕ}
+      → (state : State failed (IsCounted s o y tally within) old now w w' count) → (w'' : Option (List ℕ)) → most_of b old < 2 ^ 64 → heads b now ≡ [] → PutsBytes failed next w' w'' (end count)
+      → MergedAll b old s o y (record { entries = count; within = within; failed = next }) w w''
+  finished s o y tally within next {failed} {old} {now} {w} {w'} {count} state w'' few none a =
+      subst (λ (l : List S). MergedAll b l s o y (record { entries = count; within = within; failed = next }) w w'') state.starts_are (record {
         told = givens state.runs;
         tell = told_whole b (last_of None state.joined) state.runs state.went (none_left state none);
         entries = state.joined;
@@ -345,6 +359,6 @@ module _ {S : Type 0} (b : Behaviour S) where
         few = omega (arith, few, state.count_is, few-joined state);
         count = state.count_is;
         limits = within_same s o y tally within (all_of (givens state.runs)) state.joined state.collects.same state.also;
-        appended = whole state none w'' a;
-        as_others = others_too state none w'' a;
+        written = whole state none next w'' a;
+        as_others = others_too state none next w'' a;
       })

@@ -22,12 +22,12 @@ use Rattle.flute_journal.specs.Merges.{front}
 use Rattle.flute_journal.specs.Streams.{Behaviour, Continues, option_list, place_of, heads}
 use Rattle.flute_journal.specs.Lowest.{IsNotBefore}
 use Rattle.flute_journal.specs.Advances.{GoesOnAt, StopAt}
-use Rattle.flute_journal.specs.StreamMerges.{all_of, Each, EachSince, NoneFails, OneFails, AppendsPartOf}
+use Rattle.flute_journal.specs.StreamMerges.{all_of, Each, EachSince, NoneFails, OneFails, GaveBefore, AppendsPartOf}
 use Rattle.flute_journal.proofs.Orders.{Rises, rising-rises}
 use Rattle.flute_journal.proofs.MergeFacts.{fact_at-second_none}
 use Rattle.flute_journal.proofs.MergeBytes.{front-append, no_end, no_whole_end}
 use Rattle.flute_journal.proofs.MergeRising.{rising-none, rising-prefix, last_of-snoc, Rises-second}
-use Rattle.flute_journal.proofs.StreamTurns.{Run, starts, nows, givens, given_at, taken_by, given_here, givens_at, IsAbove, above_other, Ready, Went, Stays}
+use Rattle.flute_journal.proofs.StreamTurns.{Run, starts, nows, givens, given_at, taken_by, given_here, givens_at, IsAbove, above_other, Ready, Went, Stays, went_on}
 
 module _ {S : Type 0} (b : Behaviour S) where
   -- What was read.
@@ -77,6 +77,7 @@ module _ {S : Type 0} (b : Behaviour S) where
     pub reads : EachSince b.reads (starts runs) new (givens_at b p runs)
     pub fails : OneFails b k f (starts runs) new
     pub names : (s : S) × (slice_get (starts runs) k ≡ Some s) × b.stops s f
+    pub before : GaveBefore b k (starts runs) new
 
   pub stopped_all : (p : Option Address) (k : ℕ) (f : LoadFault) (runs : List (Run S)) (new : List S) → AllByRecursion (Stays b p) runs → StopAt b p k f (nows runs) new
       → StoppedAll p k f runs new
@@ -90,11 +91,18 @@ module _ {S : Type 0} (b : Behaviour S) where
         reads = (subst (λ (l : List Fact). b.reads r.start u (r.given ++ l)) (sym (given_here p (b.held r.now) h.0)) s.reads, all_stand p runs new h.2 w.1);
         fails = (s.fails, subst (λ (l : List S). NoneFails b (starts runs) l) (sym h.2) (none_fails p runs w.1));
         names = (r.start, refl, s.stops);
+        before = tt;
       }
   stopped_all p (suc k) f (r ∷ runs) (u ∷ new) w h =
       let t = stopped_all p k f runs new w.1 h.1 in
       let q = passed p r u w.0.0 h.0 in
-      record { reads = (q.reads, t.reads); fails = (q.fails, t.fails); names = t.names }
+      let g = went_on b p r u w.0.0 w.0.1 h.0 in
+      record {
+        reads = (q.reads, t.reads);
+        fails = (q.fails, t.fails);
+        names = t.names;
+        before = ((r.given ++ given_at p (b.held r.now), g.gave), t.before);
+      }
 
   -- What was appended.
 

@@ -202,7 +202,7 @@ module _ {S : Type 0} (b : Behaviour S) where
   ready place r w = record { passes = w.gave.passes; reads = w.gave.reads; reads_held = w.gave.reads_held; fails = w.gave.fails; fewer = w.fewer }
 
   -- it goes on where it stands at a place
-  went_on : (p : Option Address) (r : Run S) (u : S) → Ready r → (place_of (b.held r.now) ≢ p → Went p r) → GoesOnAt b p r.now u
+  pub went_on : (p : Option Address) (r : Run S) (u : S) → Ready r → (place_of (b.held r.now) ≢ p → Went p r) → GoesOnAt b p r.now u
       → Went p (record { start = r.start; now = u; given = r.given ++ given_at p (b.held r.now) })
   went_on p r u w stays (inl h) =
       subst (λ (l : List Fact). Went p (record { start = r.start; now = u; given = r.given ++ l })) (sym (given_here p (b.held r.now) h.0)) (

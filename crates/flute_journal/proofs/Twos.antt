@@ -1,6 +1,6 @@
 -- What a merge of two streams of journals comes to, said of the journals.
-use Rattle.std.proofs.Common.{◌≡◌, ℕ, zero, suc, List, [], ◌∷◌, ◌++◌, Option, Some, None, Err, sym, ap, ◌∙◌, subst, append-nil}
-use Rattle.std.specs.Prelude.{slice_get}
+use Rattle.std.proofs.Common.{◌≡◌, ℕ, zero, suc, false, List, [], ◌∷◌, ◌++◌, Option, Some, None, Err, sym, ap, ◌∙◌, subst, append-nil}
+use Rattle.std.specs.Prelude.{slice_get, IfSome}
 use Rattle.flute_parts.specs.Facts.{Same}
 use Rattle.flute_parts.specs.declared.fact.Fact.{Fact}
 use Rattle.flute_parts.proofs.Facts.{Same-sym, Same-trans, Same-append}
@@ -14,14 +14,16 @@ use Rattle.flute_journal.specs.declared.streams_fault.StreamsFault.TheVariants.{
 use Rattle.flute_journal.specs.declared.journal_stream.LentStream.{LentStream}
 use Rattle.flute_journal.specs.declared.either.Either.{Either}
 use Rattle.flute_journal.specs.declared.either.Either.TheVariants.{First, Second}
-use Rattle.flute_journal.specs.Journal.{Collects, Journal}
+use Rattle.flute_journal.specs.Format.{spelling}
+use Rattle.flute_journal.specs.Journal.{Collects, Journal, IsJournalWithin}
+use Rattle.flute_journal.proofs.WrittenSoFar.{written-whole}
 use Rattle.flute_journal.specs.Whole.{HasFault}
-use Rattle.flute_journal.specs.Merges.{StopsShort, KeepsUp, BeginsWith, NamesFault, FirstFails, SecondFails, MergeGives, written_up_to}
+use Rattle.flute_journal.specs.Merges.{Merged, StopsShort, KeepsUp, BeginsWith, NamesFault, FirstFails, SecondFails, MergeGives, written_up_to}
 use Rattle.flute_journal.specs.Readers.{source_of, limit_of}
 use Rattle.flute_journal.specs.Streams.{Behaviour}
 use Rattle.flute_journal.specs.Eithers.{either_behaviour}
 use Rattle.flute_journal.specs.JournalStreams.{unread_of, lent, lent_behaviour}
-use Rattle.flute_journal.specs.StreamMerges.{all_of, EachSince, AppendsPartOf, ReadsAhead, BeginWith, NamesInput, OneFails, FailAs}
+use Rattle.flute_journal.specs.StreamMerges.{all_of, Each, EachSince, MergedAll, AppendsPartOf, ReadsAhead, BeginWith, NamesInput, OneFails, FailAs}
 use Rattle.flute_journal.specs.Pairs.{fault_at, IsFaultAt, IsFaultOfTwo, IsOfReading}
 
 -- journals of both inputs and of all their facts have entries that come to the same
@@ -65,6 +67,28 @@ module _ {A B : Type 0} (ua : A → Option (List ℕ)) (fa : A → ℕ) (ub : B 
       pub of_first : P first
       pub of_second : Q second
       pub all : all_of told ≡ first ++ second
+
+    each_two : (P : Either (LentStream A) (LentStream B) → List Fact → Type 0) (told : List (List Fact)) → Each P inputs told → Two (P (First s)) (P (Second t)) told
+    each_two P [] h = absurd h
+    each_two P (F ∷ []) h = absurd h.1
+    each_two P (F ∷ G ∷ []) h = record { first = F; second = G; of_first = h.0; of_second = h.1.0; all = ap (λ (l : List Fact). F ++ l) (append-nil G) }
+    each_two P (F ∷ G ∷ H ∷ told) h = absurd h.1.1
+
+    pub merged_two : (x o y : ℕ) (joined : Joined) (w w' : Option (List ℕ)) → limit_of t.reader.now ≡ limit_of s.reader.now → joined.failed ≡ false → MergedAll both inputs x o y joined w w'
+        → Merged (limit_of s.reader.now) joined.entries u v w w'
+    merged_two x o y joined w w' same done m =
+        let two = each_two both.tells m.told m.tell in
+        record {
+          first_entries = two.first;
+          second_entries = two.second;
+          first_is = two.of_first;
+          second_is = subst (λ n. IfSome v (λ ys. IsJournalWithin n ys two.second)) same two.of_second;
+          entries = m.entries;
+          collects = subst (λ (l : List Fact). Collects l m.entries) two.all m.collects;
+          few = m.few;
+          count = m.count;
+          appended = written-whole joined.failed w w' (spelling m.entries) done m.written;
+        }
 
     since_two : (P : Either (LentStream A) (LentStream B) → Either (LentStream A) (LentStream B) → List Fact → Type 0) (told : List (List Fact)) → EachSince P inputs after told
         → Two (P (First s) (First s')) (P (Second t) (Second t')) told

@@ -23,6 +23,8 @@ pub mod Advances
 pub mod Lowest
 pub mod Changes
 pub mod Leads
+pub mod JournalWriters
+pub mod FirstFaults
 pub mod StreamMerges
 pub mod Pairs
 pub mod Listed

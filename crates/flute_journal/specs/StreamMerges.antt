@@ -12,8 +12,9 @@ use Rattle.flute_journal.specs.declared.streams_fault.StreamsFault.{StreamsFault
 use Rattle.flute_journal.specs.declared.streams_fault.StreamsFault.TheVariants.{Input, Write}
 use Rattle.flute_journal.specs.Format.{spelling}
 use Rattle.flute_journal.specs.Journal.{Collects, Journal}
+use Rattle.flute_journal.specs.JournalWriters.{Written}
 use Rattle.flute_journal.specs.Merges.{IsProperPrefix, written_up_to}
-use Rattle.flute_journal.specs.Streams.{Behaviour}
+use Rattle.flute_journal.specs.Streams.{Behaviour, Gave}
 
 -- all the facts of lists of facts
 abbrev pub all_of : List (List Fact) → List Fact
@@ -52,6 +53,12 @@ abbrev pub BeginWith : StreamsFault → List ℕ → List Fact → Type 0
 BeginWith Write bytes entries = (rest : List ℕ) × (bytes ≡ written_up_to entries ++ rest)
 BeginWith (Input fault) bytes entries = bytes ≡ written_up_to entries
 
+-- what was appended is the journal of nothing
+pub record AppendsNoJournal (old new : Option (List ℕ)) : Type 0 where
+  pub bytes : List ℕ
+  pub appended : Appends old new bytes
+  pub no_journal : (facts : List Fact) → Journal bytes facts → ⊥
+
 module _ {S : Type 0} (b : Behaviour S) where
   -- no input failed
   abbrev pub NoneFails : List S → List S → Type 0
@@ -69,8 +76,19 @@ module _ {S : Type 0} (b : Behaviour S) where
   FailAs (Err (Input fault)) old new = OneFails fault.number fault.fault old new
   FailAs _ old new = NoneFails old new
 
-  -- Each input tells some facts. The journal of all of them was appended, with so many entries, and it was told whether they are
-  -- within the limits of a store. Whatever other facts have the same members, in any order, however often and however grouped: that is
+  -- each input before this number has given some facts, and can be read on
+  abbrev pub GaveBefore : ℕ → List S → List S → Type 0
+  GaveBefore zero old new = Unit {0}
+  GaveBefore (suc number) (s ∷ old) (t ∷ new) = ((F : List Fact) × Gave b s t F) × GaveBefore number old new
+  GaveBefore (suc number) _ _ = ⊥
+
+  -- so it is with those before the input that stopped
+  abbrev pub CanGoOn : List S → List S → StreamsFault → Type 0
+  CanGoOn old new (Input fault) = GaveBefore fault.number old new
+  CanGoOn old new Write = Unit {0}
+
+  -- Each input tells some facts. The journal of all of them was appended, or where the sink has failed a part of it, with so many entries,
+  -- and it was told whether they are within the limits of a store. Whatever other facts have the same members, in any order, however often and however grouped: that is
   -- their journal too.
   pub record MergedAll (inputs : List S) (s o y : ℕ) (joined : Joined) (old new : Option (List ℕ)) : Type 0 where
     pub told : List (List Fact)
@@ -80,8 +98,8 @@ module _ {S : Type 0} (b : Behaviour S) where
     pub few : length entries < 2 ^ 64
     pub count : joined.entries ≡ length entries
     pub limits : IsWithinLimits s o y (all_of told) joined.within
-    pub appended : Appends old new (spelling entries)
-    pub as_others : (others : List Fact) → SameMembers (all_of told) others → (bytes : List ℕ) → Journal bytes others → Appends old new bytes
+    pub written : Written joined.failed old new (spelling entries)
+    pub as_others : (others : List Fact) → SameMembers (all_of told) others → (bytes : List ℕ) → Journal bytes others → Written joined.failed old new bytes
 
   -- What was appended is the journal of nothing. Where all the facts of each input are known, it is a first part of the journal of all of
   -- them, and not all of it.

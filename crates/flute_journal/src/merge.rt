@@ -1,12 +1,12 @@
 //! Two journals, merged as streams: nothing is kept of them but the next entry of each.
-ghost use Rattle.std.specs.Prelude.{◌≡◌, ℕ, ◌+◌, ◌<◌, ◌^◌, [], ◌∷◌, IfOk, IfErr};
+ghost use Rattle.std.specs.Prelude.{◌≡◌, false, ℕ, ◌+◌, ◌<◌, ◌^◌, [], ◌∷◌, IfOk, IfErr};
 ghost use Rattle.flute_journal.specs.Readers.{source_of, limit_of, stage_of};
 ghost use Rattle.flute_journal.specs.Merges.{Merged, StopsShort, KeepsUp, NamesFault, MergeGives, FirstFails, SecondFails, sink_failed};
 ghost use Rattle.flute_journal.specs.Streams.{IsNew, most_of};
 ghost use Rattle.flute_journal.specs.Advances.{AreNew};
 ghost use Rattle.flute_journal.specs.Eithers.{either_behaviour};
 ghost use Rattle.flute_journal.specs.JournalStreams.{lent_behaviour, SameLoans};
-ghost use Rattle.flute_journal.specs.StreamMerges.{MergedAll, AppendsPartOf, ReadsAhead, NamesInput, FailAs, streams_sink_failed};
+ghost use Rattle.flute_journal.specs.StreamMerges.{MergedAll, AppendsPartOf, ReadsAhead, NamesInput, CanGoOn, FailAs, streams_sink_failed};
 ghost use Rattle.flute_journal.specs.Pairs.{fault_at, IsOfReading, IsFaultOfTwo};
 ghost use Rattle.flute_journal.specs.declared.reader.Stage.TheVariants as Stage;
 ghost use Rattle.flute_journal.specs.declared.either.Either.TheVariants.{First as Left, Second as Right};
@@ -174,6 +174,7 @@ pub fn merge_two<
     ensures merged { IfOk result (λ joined. MergedAll (either_behaviour S.behaviour T.behaviour)
         (Left first.old ∷ Right second.old ∷ [])
         SESSIONS OBJECTS SYMBOLS joined (W.written sink.old) (W.written sink.new)) }
+    ensures done { IfOk result (λ joined. joined.failed ≡ false) }
     ensures short { IfErr result (λ _. AppendsPartOf (either_behaviour S.behaviour T.behaviour)
         (Left first.old ∷ Right second.old ∷ [])
         (W.written sink.old) (W.written sink.new)) }
@@ -182,6 +183,8 @@ pub fn merge_two<
         (Left first.new ∷ Right second.new ∷ []) (W.written sink.old) (W.written sink.new)) }
     ensures fault { IfErr result (NamesInput (either_behaviour S.behaviour T.behaviour)
         (Left first.old ∷ Right second.old ∷ [])) }
+    ensures can_go_on { IfErr result (CanGoOn (either_behaviour S.behaviour T.behaviour)
+        (Left first.old ∷ Right second.old ∷ []) (Left first.new ∷ Right second.new ∷ [])) }
     ensures failures { FailAs (either_behaviour S.behaviour T.behaviour) result
         (Left first.old ∷ Right second.old ∷ []) (Left first.new ∷ Right second.new ∷ []) }
     ensures sink_failures { W.failures sink.new ≡ W.failures sink.old + streams_sink_failed result }

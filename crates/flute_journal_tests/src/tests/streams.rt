@@ -1,7 +1,7 @@
 //! Streams of each kind, merged.
 
 use super::*;
-use flute_parts::{Fact, MemorySink, MemorySource, SymbolId};
+use flute_parts::{Fact, MemorySink, MemorySource, ShortSink, SymbolId};
 use test_vectors::journals::{END_2, HEADER, JOINED, KEY, OTHERS, WHOLE};
 use test_vectors::{bytes, bytes_of};
 
@@ -66,5 +66,21 @@ fn a_journal_over_limits_stops(rt: HostRuntime) -> Result<(), Fail> {
     let fault = LoadFault::Full;
     let told = StreamsFault::Input(InputFault { number: 1, fault });
     assert!(rt; answer.err() == Some(told));
+    Ok(())
+}
+
+/// The sink fails behind 20 bytes, and all is read and counted.
+#[test]
+fn a_join_goes_on_behind_a_failure(rt: HostRuntime) -> Result<(), Fail> {
+    let key = file().ok_or("a key")?;
+    let id = SymbolId { sbn: 0, esi: 1 };
+    let mut streams = [
+        FactStream::new(Fact::SymbolConflict { key, id }),
+        FactStream::new(Fact::InfoConflict { key }),
+    ];
+    let mut both = Slice::new(&mut streams);
+    let mut sink = ShortSink::new(rt.alloc(), 20);
+    let joined = join_streams::<1, 1, 1, _, _>(rt.alloc(), &mut both, &mut sink)?;
+    assert!(rt; joined.entries == 2 && joined.within && joined.failed);
     Ok(())
 }

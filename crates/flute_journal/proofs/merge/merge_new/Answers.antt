@@ -1,4 +1,4 @@
-use Rattle.flute_journal.proofs.Twos.{reading_two, stopped_two, fail_two}
+use Rattle.flute_journal.proofs.Twos.{merged_two, reading_two, stopped_two, fail_two}
 use Rattle.flute_journal.proofs.merge.merge_new.Goals as goal
 
 pub fault_of_two-requires : goal.fault_of_two-requires
@@ -19,3 +19,8 @@ pub returns-in-Err-clause-second_failures : goal.returns-in-Err-clause-second_fa
 returns-in-Err-clause-second_failures g c =
     (fail_two g.A.Source.unread g.A.Source.failures g.B.Source.unread g.B.Source.failures c.args.first.now c.merge_two.new.first c.args.second.now c.merge_two.new.second c.in-Err.fault
     c.fault_of_two.result c.fault_of_two.ensures c.in-Err.ensures.failures).second
+
+pub returns-in-Ok-clause-gives : goal.returns-in-Ok-clause-gives
+returns-in-Ok-clause-gives g c =
+    merged_two g.A.Source.unread g.A.Source.failures g.B.Source.unread g.B.Source.failures c.args.first.now c.merge_two.new.first c.args.second.now c.merge_two.new.second 0 0 0 c.in-Ok.joined _ _
+    c.requires.same_bound c.in-Ok.ensures.done c.in-Ok.ensures.merged

@@ -1,5 +1,5 @@
 -- The datagrams so far are those of the records that were read.
-use Rattle.std.proofs.Common.{◌≡◌, ◌-◌, ℕ, ◌+◌, length}
+use Rattle.std.proofs.Common.{◌≡◌, ◌-◌, length}
 use Rattle.flute_journal.proofs.Records.{FileSofar}
 use Rattle.flute_journal_tests.proofs.tests.datagram_files.datagrams_of.Given as goal
 

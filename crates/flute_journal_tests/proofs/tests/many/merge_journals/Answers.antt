@@ -1,5 +1,5 @@
 -- Nothing was read of the streams.
-use Rattle.std.proofs.Common.{◌<◌, ◌^◌, ◌≡◌, List, subst, sym, ◌∙◌, arith}
+use Rattle.std.proofs.Common.{◌<◌, ◌^◌, List, subst, sym, ◌∙◌, arith}
 use Rattle.flute_journal.specs.Streams.{most_of}
 use Rattle.flute_journal.specs.Advances.{AreNew}
 use Rattle.flute_journal.specs.JournalStreams.{journal_behaviour}

@@ -1,0 +1,56 @@
+-- What a writer has written, call by call.
+use Rattle.std.proofs.Common.{◌≡◌, ℕ, Bool, true, false, List, [], ◌∷◌, ◌++◌, Option, refl, sym, ap, ◌∙◌, subst, append_assoc, append-nil}
+use Rattle.std.specs.Prelude.{◌≢◌}
+use Rattle.std.specs.Io.KnownBytes.{Appends}
+use Rattle.std.proofs.KnownBytes.{Appends-trans}
+use Rattle.flute_parts.specs.Devices.{AppendsPart}
+use Rattle.flute_journal.specs.JournalWriters.{Written, PutsBytes}
+
+some_more : (xs ys : List ℕ) → xs ≢ [] → xs ++ ys ≢ []
+some_more [] ys n e = n refl
+some_more (x ∷ xs) ys n e = cc
+
+-- behind what was written, more bytes were put
+pub written-more : (f g : Bool) (u v w : Option (List ℕ)) (xs ys : List ℕ) → Written f u v xs → PutsBytes f g v w ys → Written g u w (xs ++ ys)
+written-more false false u v w xs ys a p = Appends-trans u v w xs ys a p
+written-more false true u v w xs ys a p = record {
+  part = xs ++ p.part;
+  rest = p.rest;
+  appended = Appends-trans u v w xs p.part a p.appended;
+  whole = ap (λ (l : List ℕ). xs ++ l) p.whole ∙ sym (append_assoc xs p.part p.rest);
+  cut = p.cut;
+}
+written-more true true u v w xs ys a p = record {
+  part = a.part;
+  rest = a.rest ++ ys;
+  appended = subst (Appends u w) (append-nil a.part) (Appends-trans u v w a.part [] a.appended p);
+  whole = ap (λ (l : List ℕ). l ++ ys) a.whole ∙ append_assoc a.part a.rest ys;
+  cut = some_more a.rest ys a.cut;
+}
+written-more true false u v w xs ys a p = absurd p
+
+pub written-whole : (f : Bool) (u v : Option (List ℕ)) (xs : List ℕ) → f ≡ false → Written f u v xs → Appends u v xs
+written-whole false u v xs e w = w
+written-whole true u v xs e w = absurd cc
+
+-- what was appended, and what is lacking
+pub record WrittenPart (u v : Option (List ℕ)) (xs : List ℕ) : Type 0 where
+  pub bytes : List ℕ
+  pub more : List ℕ
+  pub appended : Appends u v bytes
+  pub whole : bytes ++ more ≡ xs
+
+pub written-part : (f : Bool) (u v : Option (List ℕ)) (xs : List ℕ) → Written f u v xs → WrittenPart u v xs
+written-part false u v xs w = record { bytes = xs; more = []; appended = w; whole = append-nil xs }
+written-part true u v xs w = record { bytes = w.part; more = w.rest; appended = w.appended; whole = sym w.whole }
+
+-- the first call
+pub put-first : (f g : Bool) (u v : Option (List ℕ)) (xs : List ℕ) → f ≡ false → PutsBytes f g u v xs → Written g u v xs
+put-first false g u v xs e p = p
+put-first true g u v xs e p = absurd cc
+
+-- a call behind which the sink has failed, and had not before
+pub puts-part : (f g : Bool) (u v : Option (List ℕ)) (xs : List ℕ) → f ≡ false → g ≡ true → PutsBytes f g u v xs → AppendsPart u v xs
+puts-part false true u v xs e h p = p
+puts-part false false u v xs e h p = absurd cc
+puts-part true g u v xs e h p = absurd cc

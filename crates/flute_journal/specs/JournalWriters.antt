@@ -1,0 +1,27 @@
+-- What is written of a journal, by a writer that goes on behind a failure.
+use Rattle.std.specs.Prelude.{◌≡◌, ℕ, ◌+◌, Bool, true, false, List, [], Option}
+use Rattle.std.specs.Io.KnownBytes.{Appends}
+use Rattle.flute_parts.specs.Devices.{AppendsPart}
+use Rattle.flute_journal.specs.declared.journal_writer.JournalWriter.{JournalWriter}
+
+-- all the bytes were appended; or, where the sink has failed, a part of them
+abbrev pub Written : Bool → Option (List ℕ) → Option (List ℕ) → List ℕ → Type 0
+Written false old new bytes = Appends old new bytes
+Written true old new bytes = AppendsPart old new bytes
+
+-- so it is with these bytes, where the sink had not failed before, and else nothing was appended
+abbrev pub PutsBytes : Bool → Bool → Option (List ℕ) → Option (List ℕ) → List ℕ → Type 0
+PutsBytes false failed old new bytes = Written failed old new bytes
+PutsBytes true true old new bytes = Appends old new []
+PutsBytes true false old new bytes = ⊥
+
+-- how often a sink failed that is known to have failed
+abbrev pub times_failed : Bool → ℕ
+times_failed true = 1
+times_failed false = 0
+
+-- a writer wrote these bytes to its sink, as far as that took them
+pub record Puts {W : Type 0} (written : W → Option (List ℕ)) (failures : W → ℕ) (bytes : List ℕ) (old new : JournalWriter W) : Type 0 where
+  pub same_sink : new.sink.ghost_name ≡ old.sink.ghost_name
+  pub puts : PutsBytes old.failed new.failed (written old.sink.now) (written new.sink.now) bytes
+  pub fails : failures new.sink.now + times_failed old.failed ≡ failures old.sink.now + times_failed new.failed

@@ -1,0 +1,67 @@
+//! A journal that is written as far as its sink takes it.
+ghost use Rattle.std.specs.Prelude.{◌≡◌, ◌+◌, false};
+ghost use Rattle.flute_parts.specs.Addresses.{fact_of};
+ghost use Rattle.flute_store.specs.Walk.{IsSized};
+ghost use Rattle.flute_journal.specs.Format.{header, entry, end};
+ghost use Rattle.flute_journal.specs.Journal.{IsFact};
+ghost use Rattle.flute_journal.specs.JournalWriters.{Puts};
+
+use crate::format::{HEADER, end_of, head_of, symbol_of};
+use flute_parts::{FactRef, Sink};
+
+/// Writes a journal into a sink, until that fails. What is written behind a failure is dropped.
+#[derive(Drop)]
+pub struct JournalWriter<'a, W> {
+    pub sink: &'a mut W,
+    /// Whether the sink has failed.
+    pub failed: bool,
+}
+
+impl<'a, W: Sink> JournalWriter<'a, W> {
+    /// Nothing is written yet.
+    pub fn new(sink: &'a mut W) -> JournalWriter<'a, W>
+        ensures same { result.sink.ghost_name ≡ sink.entry.ghost_name }
+        ensures now { result.sink.now ≡ sink.old }
+        ensures failed { result.failed ≡ false }
+    {
+        JournalWriter {
+            sink,
+            failed: false,
+        }
+    }
+
+    /// Writes the magic number and the version.
+    pub fn header(&mut self)
+        ensures { Puts W.written W.failures header self.old self.new }
+    {
+        self.put(&HEADER);
+    }
+
+    /// Writes an entry.
+    pub fn entry(&mut self, fact: &FactRef<'_>)
+        requires sized { IsSized (fact_of fact.now) }
+        ensures valid { IsFact (fact_of fact.now) }
+        ensures puts { Puts W.written W.failures (entry (fact_of fact.now)) self.old self.new }
+    {
+        let head = head_of(fact);
+        self.put(head.as_slice());
+        self.put(symbol_of(fact));
+    }
+
+    /// Writes the end of a journal of so many entries.
+    pub fn end(&mut self, count: u64)
+        ensures { Puts W.written W.failures (end count) self.old self.new }
+    {
+        self.put(end_of(count).as_slice());
+    }
+
+    // Writes bytes, unless the sink has failed.
+    #[inline(always)]
+    fn put(&mut self, bytes: &[u8])
+        ensures { Puts W.written W.failures bytes.now self.old self.new }
+    {
+        if !self.failed {
+            self.failed = self.sink.write_all(bytes).is_err();
+        }
+    }
+}
