@@ -1,30 +1,9 @@
 -- What is read behind the first byte of an entry.
-use Rattle.std.proofs.Common.{◌≡◌, ℕ, ◌<◌, ◌≤◌, Bool, true, false, List, [], ◌∷◌, ◌++◌, length, Option, Result, Ok, Err, inr, refl, sym, ap, ◌∙◌, subst, arith}
-use Rattle.std.proofs.lemmas.List.{length-append}
-use Rattle.std.specs.Io.KnownBytes.{Consumes}
-use Rattle.std.proofs.KnownBytes.{Consumes-trans}
-use Rattle.flute_parts.specs.declared.key.Key.{Key}
-use Rattle.flute_parts.specs.declared.symbol_id.SymbolId.{SymbolId}
-use Rattle.flute_parts.specs.declared.address.Address.{Address}
-use Rattle.flute_parts.specs.declared.fact.Fact.{Fact}
-use Rattle.flute_parts.specs.declared.fact.Fact.TheVariants as facts
-use Rattle.flute_store.specs.Walk.{IsSized}
-use Rattle.flute_journal.specs.declared.format.Kind.{Kind}
-use Rattle.flute_journal.specs.declared.format.Kind.TheVariants as kinds
-use Rattle.flute_journal.specs.declared.format.Fixed.{Fixed}
-use Rattle.flute_journal.specs.declared.format.Fixed.TheVariants.{Symbol, Whole}
-use Rattle.flute_journal.specs.declared.fault.ReadFault.{ReadFault}
-use Rattle.flute_journal.specs.Format.{body, entry, end, key_bytes, id_bytes}
-use Rattle.flute_journal.specs.Input.{Advances, Fronts, IsFaultOf, IsFaultUpTo, IsWithin, Reads, StaysWithin, told}
-use Rattle.flute_journal.specs.Faults.{next_fault, opening_fault}
-use Rattle.flute_journal.specs.Numbers.{in_bytes}
-use Rattle.flute_journal.specs.Reading.{ReadsEnd}
-use Rattle.flute_journal.specs.Journal.{IsFact}
-use Rattle.flute_journal.specs.Parsing.{byte_of, at_place, BodyIs, FixedIs, IsBody, Parses, SymbolIs, fixed_bytes, fixed_size, body_fault, cut_fault, end_fault}
+use Rattle.flute_journal.proofs.Common.{length-bytes_high_first, ◌≡◌, ℕ, ◌<◌, ◌≤◌, Bool, true, false, List, [], ◌∷◌, ◌++◌, length, Option, Result, Ok, Err, inr, refl, ap, ◌∙◌, subst, arith, length-append, Consumes, Consumes-trans, Key, SymbolId, Address, Fact, IsSized, Kind, Fixed, ReadFault, body, entry, end, Fronts, IsFaultOf, IsFaultUpTo, IsWithin, Reads, StaysWithin, told, next_fault, opening_fault, in_bytes, ReadsEnd, IsFact, byte_of, at_place, BodyIs, FixedIs, IsBody, Parses, SymbolIs, fixed_bytes, fixed_size, body_fault, cut_fault, end_fault}
+use Rattle.flute_journal.specs.declared.format.Fixed.TheVariants.{Symbol}
+use Rattle.flute_journal.specs.Input.{Advances}
 use Rattle.flute_journal.proofs.Fronts.{fault-behind, fault_up_to, fault_up_to-behind, fault_found}
-use Rattle.flute_journal.proofs.Checks.{length-key_bytes}
-use Rattle.flute_journal.proofs.Numbers.{length-in_bytes}
-use Rattle.flute_journal.proofs.Parts.{symbol_cut, symbol_within, body_comes, body_least, entry_within, entry_within-short}
+use Rattle.flute_journal.proofs.Parts.{symbol_cut, symbol_within, body_comes, body_least, entry_within, entry_within-short, length-key_bytes}
 
 -- the first bytes of a file
 pub opening_reads : {T : Type 0} (o : List ℕ) (u v : Option (List ℕ)) (failed : Bool) (front : List ℕ) (r : Result T ReadFault) → length o ≡ 6
@@ -38,7 +17,7 @@ opening_reads {T} o u v false front (Err f) len a p = fault_found T (opening_fau
 pub end_reads : {T : Type 0} (count : ℕ) (u v : Option (List ℕ)) (failed : Bool) (front : List ℕ) (r : Result T ReadFault)
     → Fronts u v 9 failed front → Parses 9 (λ _. front ≡ in_bytes 8 count) (end_fault count) front r → ReadsEnd count u v (told failed r)
 end_reads count u v true front (Ok x) a p = inr (subst (Consumes u v) p a.read)
-end_reads count u v false front (Ok x) a p = (subst (Consumes u v) p a.read, a.fewer (omega (arith, ap length p, length-in_bytes 8 count)) refl)
+end_reads count u v false front (Ok x) a p = (subst (Consumes u v) p a.read, a.fewer (omega (arith, ap length p, length-bytes_high_first 8 count)) refl)
 end_reads {T} count u v true front (Err f) a p = fault_up_to (in_bytes 8 count) (end_fault count) u v _ (fault_found T (end_fault count) u v 9 true front f a p)
 end_reads {T} count u v false front (Err f) a p = fault_up_to (in_bytes 8 count) (end_fault count) u v f (fault_found T (end_fault count) u v 9 false front f a p)
 
@@ -52,35 +31,16 @@ end_stops limit count last u v w front f is took h =
 
 -- the bytes of an entry, up to those of a symbol
 pub fixed_least : (last : Option Address) (k : Kind) (x : Fixed) → FixedIs last k x → fixed_size k ≤ length (fixed_bytes x)
-fixed_least last k (Whole f) h = body_least k f (h.kind_is, h.valid)
-fixed_least last k (Symbol key id n) h =
-    omega (
-      arith,
-      ap fixed_size h.kind_is,
-      length-key_bytes key,
-      length-append (key_bytes key) (id_bytes id ++ in_bytes 2 n),
-      length-append (id_bytes id) (in_bytes 2 n),
-      length-in_bytes 2 n,
-      length-append (in_bytes 2 id.sbn) (in_bytes 2 id.esi),
-      length-in_bytes 2 id.sbn,
-      length-in_bytes 2 id.esi,
-    )
+fixed_least last k x h = grind (arith, body_least, length-key_bytes, length-append, length-bytes_high_first)
 
 -- the input ended within the bytes of a symbol
 pub symbol_stops : (last : Option Address) (k : Kind) (key : Key) (id : SymbolId) (n : ℕ) (u v w : Option (List ℕ)) (f : ReadFault) (r : Result Fact ReadFault) → r ≡ Err f
     → SymbolIs last k key id n → Consumes u v (fixed_bytes (Symbol key id n)) → IsFaultOf (cut_fault n) v w f → Reads body (BodyIs last k) (body_fault last k) u w r
-symbol_stops last k key id n u v w f r e s took h =
-    subst (λ x. Reads body (BodyIs last x) (body_fault last x) u w r) (sym s.kind_is)
-    (subst (Reads body (BodyIs last kinds.Symbol) (body_fault last kinds.Symbol) u w) (sym e)
-    (fault-behind u v w (fixed_bytes (Symbol key id n)) (body_fault last kinds.Symbol) (cut_fault n) f took
-    (λ r. symbol_cut last key id n r s.key_valid s.id_valid s.in_order s.some s.short) h))
+symbol_stops last k key id n u v w f r e s took h = grind (arith, fault-behind, symbol_cut)
 
 pub symbol_ends : (last : Option Address) (k : Kind) (key : Key) (id : SymbolId) (n : ℕ) (u v w : Option (List ℕ)) (f : ReadFault) (r : Result Fact ReadFault) → r ≡ Err f
     → SymbolIs last k key id n → Consumes u v (fixed_bytes (Symbol key id n)) → Advances v w n → StaysWithin body (IsBody k) u w r
-symbol_ends last k key id n u v w f r e s took a =
-    subst (λ x. StaysWithin body (IsBody x) u w r) (sym s.kind_is)
-    (subst (StaysWithin body (IsBody kinds.Symbol) u w) (sym e)
-    (fixed_bytes (Symbol key id n) ++ a.0, Consumes-trans u v w (fixed_bytes (Symbol key id n)) a.0 took a.1, symbol_within key id n a.0 s.key_valid s.id_valid s.short a.2))
+symbol_ends last k key id n u v w f r e s took a = grind (arith, Consumes-trans, symbol_within)
 
 -- An entry or the end could not be read whole behind its first byte.
 
@@ -97,12 +57,8 @@ body_stops limit count last k u v w front f is few took h =
 
 pub body_ends : (k : Kind) (u v w : Option (List ℕ)) (front part : List ℕ) → front ≡ byte_of k ∷ [] → Consumes u v front → Consumes v w part → IsWithin body (IsBody k) part
     → (all : List ℕ) × Consumes u w all × IsWithin entry IsFact all
-body_ends k u v w front part is took rest h =
-    (front ++ part, Consumes-trans u v w front part took rest, subst (λ (x : List ℕ). IsWithin entry IsFact (x ++ part)) (sym is) (entry_within k part h))
+body_ends k u v w front part is took rest h = grind (arith, Consumes-trans, entry_within)
 
 -- a symbol of a fact has as many bytes as one has
 pub fact_sized : (f : Fact) → IsFact f → IsSized f
-fact_sized (facts.Info key info) v = tt
-fact_sized (facts.InfoConflict key) v = tt
-fact_sized (facts.Symbol key id bytes) v = record { some = v.2.some; few = omega (arith, v.2.short) }
-fact_sized (facts.SymbolConflict key id) v = tt
+fact_sized f v = grind (arith)

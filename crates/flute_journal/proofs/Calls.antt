@@ -1,20 +1,7 @@
 -- What the calls of a reader come to.
-use Rattle.std.proofs.Common.{◌≡◌, ℕ, true, List, ◌++◌, drop, Option, Some, None, Result, Ok, Err, inr, refl, sym, ap, ◌∙◌, subst}
-use Rattle.std.specs.Prelude.{IfSome}
-use Rattle.std.specs.Io.KnownBytes.{Consumes}
-use Rattle.std.proofs.KnownBytes.{Consumes-trans}
-use Rattle.flute_parts.specs.declared.address.Address.{Address}
-use Rattle.flute_parts.specs.declared.fact.Fact.{Fact}
-use Rattle.flute_journal.specs.declared.fault.ReadFault.{ReadFault}
+use Rattle.flute_journal.proofs.Common.{◌≡◌, ℕ, true, List, ◌++◌, drop, Option, Some, None, Result, Ok, Err, inr, refl, sym, ap, ◌∙◌, subst, IfSome, Consumes, Consumes-trans, Address, Fact, ReadFault, Stage, Header, Entries, header, entry, end, header_fault, next_fault, at_place, IsFaultOf, StaysWithin, IsFact, ReadsNext, is_open, position, or_else, fault_from, in_opening, in_entry, ReadsFrom, stage_behind, Gives}
 use Rattle.flute_journal.specs.declared.fault.ReadFault.TheVariants as faults
-use Rattle.flute_journal.specs.declared.reader.Stage.{Stage}
-use Rattle.flute_journal.specs.declared.reader.Stage.TheVariants.{Header, Entries}
-use Rattle.flute_journal.specs.Format.{header, entry, end}
-use Rattle.flute_journal.specs.Faults.{header_fault, next_fault}
-use Rattle.flute_journal.specs.Parsing.{at_place}
-use Rattle.flute_journal.specs.Input.{Advances, IsFaultOf, StaysWithin}
-use Rattle.flute_journal.specs.Journal.{IsFact}
-use Rattle.flute_journal.specs.Reading.{ReadsNext, is_open, position, or_else, fault_from, in_opening, in_entry, ReadsFrom, stage_behind, Gives}
+use Rattle.flute_journal.specs.Input.{Advances}
 use Rattle.flute_journal.proofs.Fronts.{fault_up_to, fault_up_to-behind}
 use Rattle.flute_journal.proofs.Parts.{header_passes}
 

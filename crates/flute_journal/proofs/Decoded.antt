@@ -1,30 +1,9 @@
 -- What the functions that decode come to, of plain bytes.
-use Rattle.std.proofs.Common.{◌≡◌, ℕ, ◌-◌, ◌≤◌, true, false, not, List, [], ◌∷◌, ◌++◌, length, take, drop, take_all, Option, Result, Ok, Err, refl, sym, ap, ◌∙◌, subst, append_assoc, arith}
-use Rattle.std.proofs.lemmas.List.{length-drop, take-append-drop, append-nil, take_at}
-use Rattle.std.proofs.lemmas.Slice.Eq.{bytes_eq-Decides}
-use Rattle.std.specs.Prelude.{bytes_eq}
-use Rattle.std.specs.List.{AllByRecursion, IsSplitAt}
-use Rattle.flute_parts.specs.BigEndian.{big_endian}
-use Rattle.flute_parts.specs.Information.{Information}
-use Rattle.flute_parts.specs.declared.key.Key.{Key}
-use Rattle.flute_parts.specs.declared.address.Address.{Address}
-use Rattle.flute_journal.specs.declared.format.Kind.{Kind}
-use Rattle.flute_journal.specs.declared.format.Fixed.{Fixed}
-use Rattle.flute_journal.specs.declared.fault.ReadFault.{ReadFault}
+use Rattle.flute_journal.proofs.Common.{◌≡◌, ℕ, ◌-◌, ◌≤◌, true, false, not, List, ◌∷◌, ◌++◌, length, take, drop, take_all, Option, Result, Ok, Err, sym, ap, ◌∙◌, subst, append_assoc, arith, nil_from_length, length-drop, take-append-drop, append-nil, take_at, bytes_eq-Decides, bytes_eq, AllByRecursion, IsSplitAt, big_endian, Information, Key, Address, Kind, Fixed, ReadFault, in_bytes, key_bytes, info_bytes, cut, is_key, key_in, info_in, opening_fault, rest_checks, IsByte, IsKey, rest_size, fixed_size, byte_of, at_place, fixed_bytes, FixedIs, StopsFront, Parses, rest_fault, body_fault, bytes_fault}
 use Rattle.flute_journal.specs.declared.fault.ReadFault.TheVariants as faults
-use Rattle.flute_journal.specs.Numbers.{in_bytes}
-use Rattle.flute_journal.specs.Format.{key_bytes, info_bytes}
-use Rattle.flute_journal.specs.Faults.{cut, is_key, key_in, info_in, opening_fault, rest_checks}
-use Rattle.flute_journal.specs.Journal.{IsByte, IsKey}
-use Rattle.flute_journal.specs.Parsing.{rest_size, fixed_size, byte_of, at_place, fixed_bytes, FixedIs, StopsFront, Parses, rest_fault, body_fault, bytes_fault}
 use Rattle.flute_journal.proofs.Numbers.{octets-take, spelled, spelled_pair}
-use Rattle.flute_journal.proofs.Checks.{first-pass, first-stop, cut-passes, key_spelled, info_spelled, length_none, length-key_bytes}
 use Rattle.flute_journal.proofs.Fronts.{stops_here, stops_behind}
-use Rattle.flute_journal.proofs.Parts.{version_wrong, key_comes, size_split}
-
-pub nothing : (bs : List ℕ) → length bs ≡ 0 → bs ≡ []
-nothing [] e = refl
-nothing (b ∷ bs) e = absurd (omega (arith, e))
+use Rattle.flute_journal.proofs.Parts.{version_wrong, key_comes, size_split, first-pass, first-stop, cut-passes, key_spelled, info_spelled, length_none, length-key_bytes}
 
 pub joined : (bs a b : List ℕ) (n : ℕ) → IsSplitAt bs n a b → bs ≡ a ++ b
 joined bs a b n s = sym (take-append-drop n bs) ∙ ap (λ (x : List ℕ). x ++ drop n bs) (sym s.1) ∙ ap (λ (x : List ℕ). a ++ x) (sym s.2)
@@ -49,18 +28,11 @@ opening_read o bs a b len most s e some e' =
 
 -- the number at the end was read, and nothing stands behind it
 pub end_read : (bs a b : List ℕ) (n count : ℕ) → IsSplitAt bs 8 a b → AllByRecursion IsByte bs → length b ≡ 0 → n ≡ big_endian a → n ≡ count → bs ≡ in_bytes 8 count
-end_read bs a b n count s h none is told =
-    joined bs a b 8 s ∙ ap (λ (x : List ℕ). a ++ x) (nothing b none) ∙ append-nil a ∙ sym (spelled 8 a s.3 (front_octets bs a b 8 s h)) ∙ ap (in_bytes 8) (sym is ∙ told)
+end_read bs a b n count s h none is told = cc (joined bs a b 8 s, nil_from_length b none, append-nil a, spelled 8 a s.3 (front_octets bs a b 8 s h), is, told)
 
 pub id_read : (bs a b : List ℕ) (m n : ℕ) → IsSplitAt bs 4 a b → AllByRecursion IsByte bs → m ≡ big_endian (take 2 a) → n ≡ big_endian (take (length a - 2) (drop 2 a))
     → bs ≡ (in_bytes 2 m ++ in_bytes 2 n) ++ b
-id_read bs a b m n s h first second =
-    let whole : take (length a - 2) (drop 2 a) ≡ drop 2 a = take_all (length a - 2) (drop 2 a) (omega (arith, length-drop 2 a)) in
-    let pair = spelled_pair 2 2 a s.3 (front_octets bs a b 4 s h) in
-    joined bs a b 4 s
-    ∙ ap (λ (x : List ℕ). x ++ b) (sym pair)
-    ∙ ap (λ k. (in_bytes 2 k ++ in_bytes 2 (big_endian (drop 2 a))) ++ b) (sym first)
-    ∙ ap (λ k. (in_bytes 2 m ++ in_bytes 2 k) ++ b) (ap big_endian (sym whole) ∙ sym second)
+id_read bs a b m n s h first second = grind (arith, take_all, length-drop, spelled_pair, front_octets, joined)
 
 pub length_empty : (bs : List ℕ) (n : ℕ) → length bs ≡ 2 → n ≡ big_endian bs → n ≡ 0 → StopsFront 2 bytes_fault bs faults.EmptySymbol
 length_empty bs n len is none = stops_here 2 bytes_fault bs faults.EmptySymbol (λ h. cc) tt (λ r. length_none bs r len (sym is ∙ none))

@@ -1,17 +1,9 @@
 -- What the calls of a reader of datagrams come to.
-use Rattle.std.proofs.Common.{◌≡◌, ℕ, Bool, true, false, List, [], ◌∷◌, ◌++◌, take, drop, not, Option, Some, None, Result, Ok, Err, inr, refl, sym, ap, ◌∙◌, subst}
-use Rattle.std.specs.Prelude.{IfErr, bytes_eq}
-use Rattle.std.specs.Io.KnownBytes.{Consumes}
-use Rattle.std.proofs.KnownBytes.{Consumes-trans}
-use Rattle.flute_journal.specs.declared.fault.ReadFault.{ReadFault}
+use Rattle.flute_journal.proofs.Common.{◌≡◌, ℕ, Bool, true, false, List, [], ◌∷◌, ◌++◌, take, drop, not, Option, Some, None, Result, Ok, Err, inr, refl, sym, ap, ◌∙◌, subst, IfErr, bytes_eq, Consumes, Consumes-trans, ReadFault, FileStage, Records, cut, first_fault, opening_fault, or_else, Parses, StopsFront, IsFaultOf, StaysWithin, left_by, told, file_header, record_of, record_fault, given, file_fault_from, IsDatagram, IsFileFault, in_record, ReadsRecord, ReadsFileFrom, GivesOfFile, file_stage_behind}
 use Rattle.flute_journal.specs.declared.fault.ReadFault.TheVariants as faults
-use Rattle.flute_journal.specs.declared.datagram_reader.FileStage.{FileStage}
-use Rattle.flute_journal.specs.declared.datagram_reader.FileStage.TheVariants.{Header, Records}
-use Rattle.flute_journal.specs.Faults.{cut, first_fault, opening_fault}
-use Rattle.flute_journal.specs.Reading.{or_else}
-use Rattle.flute_journal.specs.Parsing.{Parses, StopsFront}
-use Rattle.flute_journal.specs.Input.{Advances, IsFaultOf, StaysWithin, left_by, told}
-use Rattle.flute_journal.specs.Records.{file_header, record_of, record_fault, is_open, given, file_fault_from, IsDatagram, IsFileFault, in_opening, in_record, ReadsRecord, ReadsFileFrom, GivesOfFile, file_stage_behind}
+use Rattle.flute_journal.specs.declared.datagram_reader.FileStage.TheVariants.{Header}
+use Rattle.flute_journal.specs.Input.{Advances}
+use Rattle.flute_journal.specs.Records.{is_open, in_opening}
 use Rattle.flute_journal.proofs.Calls.{fault-first}
 use Rattle.flute_journal.proofs.Fronts.{fault_up_to, fault_up_to-behind}
 use Rattle.flute_journal.proofs.Parts.{opening_comes}

@@ -1,20 +1,13 @@
 -- Bytes are a datagram file, of one list of datagrams, or they stop at a fault.
-use Rattle.std.proofs.Common.{◌≡◌, ℕ, zero, suc, ◌+◌, ◌^◌, ◌<◌, ◌≤◌, List, [], ◌∷◌, ◌++◌, length, take, drop, Option, Some, None, inl, inr, ◌⊎◌, refl, sym, ap, ◌∙◌, subst, append_assoc, arith}
-use Rattle.std.specs.List.{flat_map, AllByRecursion}
-use Rattle.std.proofs.lemmas.Bool.{leb-false, ltb-false}
-use Rattle.std.proofs.lemmas.List.{length-append, length-take-le, take_at, drop_at, take-append-drop, append-nil, flat_map_more}
-use Rattle.flute_parts.specs.BigEndian.{big_endian}
-use Rattle.flute_journal.specs.declared.fault.ReadFault.{ReadFault}
-use Rattle.flute_journal.specs.Numbers.{in_bytes}
-use Rattle.flute_journal.specs.Faults.{cut, opening_fault}
-use Rattle.flute_journal.specs.Journal.{IsByte}
-use Rattle.flute_journal.specs.Records.{file_header, record_of, IsDatagram, AreDatagrams, IsFileOf, IsFileWithin, FileStops, in_header, behind, record_fault}
-use Rattle.flute_journal.proofs.Numbers.{length-in_bytes, number-in_bytes, number-below, in_bytes-injective, octets-take, octets-drop, spelled}
-use Rattle.flute_journal.proofs.Checks.{first-pass, cut-passes}
-use Rattle.flute_journal.proofs.Found.{none_some, first-none}
-use Rattle.flute_journal.proofs.Parts.{opening_comes}
-use Rattle.flute_journal.proofs.Existence.{opening_is, octets-behind}
-use Rattle.flute_journal.proofs.Records.{datagrams_more, record_comes}
+use Rattle.flute_journal.proofs.Common.{length-bytes_high_first, none-some, same_Some, ◌≡◌, ℕ, zero, suc, ◌^◌, ◌<◌, ◌≤◌, List, [], ◌∷◌, ◌++◌, length, take, drop, Option, Some, None, inr, ◌⊎◌, refl, sym, ap, ◌∙◌, subst, append_assoc, arith, flat_map, AllByRecursion, leb-false, ltb-false, length-append, length-take-le, take_at, drop_at, take-append-drop, append-nil, flat_map_more, big_endian, ReadFault, in_bytes, opening_fault, IsByte, file_header, record_of, IsDatagram, AreDatagrams, IsFileOf, IsFileWithin, FileStops, record_fault}
+use Rattle.flute_journal.proofs.Sequences.{begins, one_stop, stop_at_bound}
+use Rattle.flute_journal.specs.declared.fault.ReadFault.TheVariants as faults
+use Rattle.flute_journal.proofs.Each.{all_split}
+use Rattle.flute_journal.specs.Records.{in_header, behind}
+use Rattle.flute_journal.proofs.Numbers.{number-in_bytes, number-below, in_bytes-injective, octets-take, octets-drop, spelled}
+use Rattle.flute_journal.proofs.Parts.{opening_comes, first-pass, cut-passes}
+use Rattle.flute_journal.proofs.Existence.{opening_is, first-none}
+use Rattle.flute_journal.proofs.Records.{datagrams_more, record_comes, too_many_records}
 
 -- what a record spells is read in one way, whatever follows it
 pub record-injective : (d e x y : List ℕ) → IsDatagram d → IsDatagram e → record_of d ++ x ≡ record_of e ++ y → (d ≡ e) × (x ≡ y)
@@ -37,42 +30,48 @@ records-injective (d ∷ ds) (c ∷ es) v w e =
     ap (λ (x : List ℕ). x ∷ ds) p.0 ∙ ap (λ (x : List (List ℕ)). c ∷ x) (records-injective ds es v.1 w.1 p.1)
 
 pub one_reading : (bytes : List ℕ) (ds es : List (List ℕ)) → IsFileOf bytes ds → IsFileOf bytes es → ds ≡ es
-one_reading bytes ds es f g =
-    records-injective ds es f.valid g.valid
-    (sym (drop_at file_header (flat_map record_of ds) 6 refl) ∙ ap (drop 6) (sym f.bytes_are ∙ g.bytes_are) ∙ drop_at file_header (flat_map record_of es) 6 refl)
+one_reading bytes ds es f g = grind (arith, records-injective, drop_at)
 
 -- a whole record within the bound is not at fault
 pub record_passes : (limit count : ℕ) (d more : List ℕ) → IsDatagram d → count < limit → record_fault limit count (record_of d ++ more) ≡ None
-record_passes limit count d more v few =
-    let size : length d ≡ big_endian (in_bytes 2 (length d)) = sym (number-in_bytes 2 (length d) (omega (arith, v.short))) in
-    ap (record_fault limit count) (append_assoc (in_bytes 2 (length d)) d more)
-    ∙ record_comes limit count (length d) (in_bytes 2 (length d)) (d ++ more) few (length-in_bytes 2 (length d)) size
-    ∙ first-pass (cut (length d) (d ++ more)) [] (cut-passes (length d) d more (omega arith))
+record_passes limit count d more v few = grind (arith, number-in_bytes, append_assoc, record_comes, length-bytes_high_first, first-pass, cut-passes)
 
-records_pass : (limit count : ℕ) (ds es : List (List ℕ)) (rest : List ℕ) (f : ReadFault) → AllByRecursion IsDatagram ds → AllByRecursion IsDatagram es
-    → flat_map record_of ds ≡ flat_map record_of es ++ rest → count + length ds ≤ limit → record_fault limit (count + length es) rest ≡ Some f → ⊥
-records_pass limit count [] [] rest f v w e few h = none_some (sym (ap (record_fault limit (count + 0)) (sym e)) ∙ h)
-records_pass limit count (d ∷ ds) [] rest f v w e few h =
-    none_some (sym (record_passes limit (count + 0) d (flat_map record_of ds) v.0 (omega (arith, few))) ∙ ap (record_fault limit (count + 0)) e ∙ h)
-records_pass limit count [] (c ∷ es) rest f v w e few h =
-    not_nothing c (flat_map record_of es ++ rest) (sym (append_assoc (record_of c) (flat_map record_of es) rest) ∙ sym e)
-records_pass limit count (d ∷ ds) (c ∷ es) rest f v w e few h =
-    let p = record-injective d c (flat_map record_of ds) (flat_map record_of es ++ rest) v.0 w.0 (e ∙ append_assoc (record_of c) (flat_map record_of es) rest) in
-    let n : suc count + length es ≡ count + length (c ∷ es) = omega arith in
-    records_pass limit (suc count) ds es rest f v.1 w.1 p.1 (omega (arith, few)) (ap (λ k. record_fault limit k rest) n ∙ h)
+behind_header : (x y : List ℕ) → file_header ++ x ≡ file_header ++ y → x ≡ y
+behind_header x y e = ap (drop 6) e
 
-pub opening_passes : (r : List ℕ) → opening_fault file_header (file_header ++ r) ≡ None
-opening_passes r = opening_comes file_header (take 4 file_header) (drop 4 file_header) r refl refl refl
+grouped : (bytes : List ℕ) (ds : List (List ℕ)) (rest : List ℕ) → bytes ≡ file_header ++ flat_map record_of ds ++ rest → bytes ≡ file_header ++ (flat_map record_of ds ++ rest)
+grouped bytes ds rest e = e ∙ append_assoc file_header (flat_map record_of ds) rest
+
+not_in_header : (bytes rest : List ℕ) (f : ReadFault) → bytes ≡ file_header ++ rest → opening_fault file_header bytes ≡ Some f → ⊥
+not_in_header bytes rest f e h = grind (arith, none-some, opening_comes)
+
+pass : (limit : ℕ) (ds : List (List ℕ)) → AllByRecursion IsDatagram ds → (front : List (List ℕ)) (x : List ℕ) (xs : List (List ℕ)) (r : List ℕ) → ds ≡ front ++ x ∷ xs → length front < limit
+    → record_fault limit (length front) (record_of x ++ r) ≡ None
+pass limit ds v front x xs r e few = record_passes limit (length front) x r (all_split IsDatagram front (x ∷ xs) (subst (AllByRecursion IsDatagram) e v)).1.0 few
+
+pass_all : (limit : ℕ) (ds : List (List ℕ)) → AreDatagrams limit ds → (front : List (List ℕ)) (x : List ℕ) (xs : List (List ℕ)) (r : List ℕ) → ds ≡ front ++ x ∷ xs
+    → record_fault limit (length front) (record_of x ++ r) ≡ None
+pass_all limit ds a front x xs r e = pass limit ds a.valid front x xs r e (omega (arith, a.few, ap length e, length-append front (x ∷ xs)))
+
+pub file_stops_once : (bytes : List ℕ) (limit : ℕ) (ds es : List (List ℕ)) (f g : ReadFault) → FileStops bytes limit ds f → FileStops bytes limit es g → (ds ≡ es) × (f ≡ g)
+file_stops_once bytes limit ds es f g (in_header a h) (in_header b k) = (a ∙ sym b, same_Some f g (sym h ∙ k))
+file_stops_once bytes limit ds es f g (in_header a h) (behind t) = absurd (not_in_header bytes (flat_map record_of es ++ t.rest) f (grouped bytes es t.rest t.whole) h)
+file_stops_once bytes limit ds es f g (behind s) (in_header b k) = absurd (not_in_header bytes (flat_map record_of ds ++ s.rest) g (grouped bytes ds s.rest s.whole) k)
+file_stops_once bytes limit ds es f g (behind s) (behind t) =
+    one_stop record_of IsDatagram record-injective (λ l r. record_fault limit (length l) r) ds es s.rest t.rest f g (pass_all limit ds s.are_datagrams) (pass_all limit es t.are_datagrams)
+    s.are_datagrams.valid t.are_datagrams.valid (behind_header _ _ (sym (grouped bytes ds s.rest s.whole) ∙ grouped bytes es t.rest t.whole)) s.first t.first
+
+-- a datagram file stops only beyond the bound
+pub file_stops_at_bound : (bytes : List ℕ) (limit : ℕ) (ds es : List (List ℕ)) (f : ReadFault) → IsFileOf bytes ds → FileStops bytes limit es f → (f ≡ faults.TooMany) × (limit < length ds)
+file_stops_at_bound bytes limit ds es f h (in_header none e) = absurd (not_in_header bytes (flat_map record_of ds) f h.bytes_are e)
+file_stops_at_bound bytes limit ds es f h (behind s) =
+    let e = behind_header _ _ (sym (grouped bytes es s.rest s.whole) ∙ h.bytes_are) ∙ sym (append-nil (flat_map record_of ds)) in
+    stop_at_bound record_of IsDatagram record-injective (λ l r. record_fault limit (length l) r) limit es ds s.rest [] f (pass limit ds h.valid)
+    (λ x y many. too_many_records limit (length es) (record_of x) y (omega arith) many)
+    (begins record_of IsDatagram record-injective es ds s.rest [] (λ x y n. not_nothing x y (sym n)) s.are_datagrams.valid h.valid e) refl s.first
 
 pub no_fault : (bytes : List ℕ) (limit : ℕ) (ds es : List (List ℕ)) (f : ReadFault) → IsFileWithin limit bytes ds → FileStops bytes limit es f → ⊥
-no_fault bytes limit ds es f w (in_header none h) =
-    none_some (sym (opening_passes (flat_map record_of ds)) ∙ ap (opening_fault file_header) (sym w.file.bytes_are) ∙ h)
-no_fault bytes limit ds es f w (behind s) =
-    records_pass limit 0 ds es s.rest f w.file.valid s.are_datagrams.valid
-    (sym (drop_at file_header (flat_map record_of ds) 6 refl)
-    ∙ ap (drop 6) (sym w.file.bytes_are ∙ s.whole ∙ append_assoc file_header (flat_map record_of es) s.rest)
-    ∙ drop_at file_header (flat_map record_of es ++ s.rest) 6 refl)
-    (omega (arith, w.few)) (ap (λ k. record_fault limit k s.rest) (let z : 0 + length es ≡ length es = omega arith in z) ∙ s.first)
+no_fault bytes limit ds es f w s = let b = file_stops_at_bound bytes limit ds es f w.file s in omega (arith, b.1, w.few)
 
 -- what stands where bytes behind so many records have no fault: nothing, or a record
 data Next (limit count : ℕ) (rest : List ℕ) : Type 0 where
@@ -84,12 +83,7 @@ next_record : (limit count : ℕ) (rest : List ℕ) → AllByRecursion IsByte re
 next_record limit count rest oct n is few two whole small =
     let size : length (take n (drop 2 rest)) ≡ n = length-take-le n (drop 2 rest) whole in
     let field : in_bytes 2 n ≡ take 2 rest = ap (in_bytes 2) is ∙ spelled 2 (take 2 rest) (length-take-le 2 rest two) (octets-take 2 rest oct) in
-    let all : rest ≡ record_of (take n (drop 2 rest)) ++ drop n (drop 2 rest) =
-    sym (take-append-drop 2 rest)
-    ∙ ap (λ (x : List ℕ). x ++ drop 2 rest) (sym field)
-    ∙ ap (λ (x : List ℕ). in_bytes 2 n ++ x) (sym (take-append-drop n (drop 2 rest)))
-    ∙ sym (append_assoc (in_bytes 2 n) (take n (drop 2 rest)) (drop n (drop 2 rest)))
-    ∙ ap (λ k. (in_bytes 2 k ++ take n (drop 2 rest)) ++ drop n (drop 2 rest)) (sym size) in
+    let all : rest ≡ record_of (take n (drop 2 rest)) ++ drop n (drop 2 rest) = grind (arith, take-append-drop, append_assoc) in
     at_record (take n (drop 2 rest)) (drop n (drop 2 rest)) all
     (record { short = omega (arith, size, small); octets = octets-take n (drop 2 rest) (octets-drop 2 rest oct) }) few
 
@@ -116,16 +110,13 @@ Again limit bytes ds rest = (d : List ℕ) (more : List ℕ) → length more < l
 
 goes_on : (limit : ℕ) (bytes : List ℕ) (ds : List (List ℕ)) (rest : List ℕ) → Again limit bytes ds rest → AllByRecursion IsByte rest → AreDatagrams limit ds
     → bytes ≡ file_header ++ flat_map record_of ds ++ rest → Next limit (length ds) rest → FileDecided limit bytes
-goes_on limit bytes ds rest again oct a e (at_end is) =
-    let all : bytes ≡ file_header ++ flat_map record_of ds =
-    e ∙ ap (λ (x : List ℕ). file_header ++ flat_map record_of ds ++ x) is ∙ append-nil (file_header ++ flat_map record_of ds) in
-    inl (ds, record { file = record { valid = a.valid; bytes_are = all }; few = a.few })
+goes_on limit bytes ds rest again oct a e (at_end is) = grind (arith, append-nil)
 goes_on limit bytes ds rest again oct a e (at_record d more is v few) =
     let whole : bytes ≡ file_header ++ flat_map record_of (ds ++ d ∷ []) ++ more =
     e ∙ ap (λ (x : List ℕ). file_header ++ flat_map record_of ds ++ x) is
     ∙ sym (append_assoc (file_header ++ flat_map record_of ds) (record_of d) more)
     ∙ ap (λ (x : List ℕ). x ++ more) (flat_map_more record_of file_header ds d) in
-    again d more (omega (arith, length-append (record_of d) more, ap length is)) (octets-behind (record_of d) more (subst (AllByRecursion IsByte) is oct))
+    again d more (omega (arith, length-append (record_of d) more, ap length is)) (all_split IsByte (record_of d) more (subst (AllByRecursion IsByte) is oct)).1
     (datagrams_more limit ds d a v few) whole
 
 stops_or : (limit : ℕ) (bytes : List ℕ) (ds : List (List ℕ)) (rest : List ℕ) → Again limit bytes ds rest → AllByRecursion IsByte rest → AreDatagrams limit ds

@@ -1,35 +1,14 @@
 -- Streams that are read to their ends, one after another.
-use Rattle.std.proofs.Common.{◌≡◌, ℕ, zero, suc, ◌+◌, ◌<◌, ◌≤◌, Bool, true, false, List, [], ◌∷◌, length, Option, Some, None, Ok, Err, refl, sym, ap, ◌∙◌, subst, arith}
-use Rattle.std.proofs.Math.ListN.{set}
-use Rattle.std.proofs.lemmas.List.{length-set}
-use Rattle.std.specs.Prelude.{◌≢◌, slice_get, is_some}
-use Rattle.flute_parts.specs.declared.fact.Fact.{Fact}
-use Rattle.flute_parts.specs.declared.fact.FactRef.{FactRef}
-use Rattle.flute_journal.specs.declared.fault.LoadFault.{LoadFault}
-use Rattle.flute_journal.specs.declared.merging.Joined.{Joined}
-use Rattle.flute_journal.specs.declared.streams_fault.InputFault.{InputFault}
-use Rattle.flute_journal.specs.declared.streams_fault.StreamsFault.{StreamsFault}
-use Rattle.flute_journal.specs.declared.streams_fault.StreamsFault.TheVariants.{Input}
-use Rattle.flute_journal.specs.Streams.{Behaviour, Gave, Advances, fact_in, option_list}
-use Rattle.std.specs.List.{AllByRecursion}
-use Rattle.flute_journal.specs.Format.{spelling}
-use Rattle.flute_journal.specs.Journal.{IsFact}
-use Rattle.flute_journal.specs.JournalWriters.{Written}
-use Rattle.flute_journal.specs.StreamMerges.{GaveBefore, CanGoOn, NamesInput, FailAs, OneFails, AppendsNoJournal}
+use Rattle.flute_journal.proofs.Common.{same_Some, ◌≡◌, ℕ, zero, suc, ◌+◌, ◌<◌, ◌≤◌, Bool, true, false, List, [], ◌∷◌, length, Option, Some, None, Ok, Err, refl, sym, ap, ◌∙◌, subst, arith, set, length-set, ◌≢◌, slice_get, is_some, Fact, FactRef, LoadFault, Joined, InputFault, StreamsFault, Input, Behaviour, Gave, Advances, fact_in, option_list, AllByRecursion, spelling, IsFact, Written, GaveBefore, CanGoOn, NamesInput, FailAs, OneFails, AppendsNoJournal}
 use Rattle.flute_journal.proofs.MergeBytes.{no_whole_end}
 use Rattle.flute_journal.specs.FirstFaults.{IsStopOf, HasStopped, TellBefore}
 use Rattle.flute_journal.proofs.LeadFacts.{set_here, set_elsewhere}
 
-same_stream : {X : Type 0} (x y : X) → Some x ≡ Some y → x ≡ y
-same_stream x y e = cc
-
 pub some_held : (o : Option FactRef) (t : Bool) → t ≡ is_some o → t ≡ true → is_some (fact_in o) ≡ true
-some_held None t e h = absurd cc
-some_held (Some f) t e h = refl
+some_held o t e h = grind (arith)
 
 pub none_held : (o : Option FactRef) (t : Bool) → t ≡ is_some o → t ≡ false → fact_in o ≡ None
-none_held None t e h = refl
-none_held (Some f) t e h = absurd cc
+none_held o t e h = grind (arith)
 
 module _ {S : Type 0} (b : Behaviour S) where
   -- how many facts the stream with this number may still hold
@@ -62,7 +41,7 @@ module _ {S : Type 0} (b : Behaviour S) where
     others = λ j n. others_on k j now new a.after a.now n ∙ r.others j n;
     gave = λ start s F e g.
         let h = r.gave start s F e g in
-        let same = same_stream h.stream a.before (sym h.is ∙ a.was) in
+        let same = same_Some h.stream a.before (sym h.is ∙ a.was) in
         let on = a.goes_on.gave start h.given (subst (λ x. b.passes start x h.given) same h.gave.passes) in
         record { stream = a.after; is = ap (λ l. slice_get l k) a.now ∙ set_here b now k a.before a.after a.was; given = _; gave = on };
   }
@@ -81,7 +60,7 @@ module _ {S : Type 0} (b : Behaviour S) where
       → IsStopOf b start k new f
   read-stops k old now new f r a start s F e g =
       let h = r.gave start s F e g in
-      let same = same_stream h.stream a.before (sym h.is ∙ a.was) in
+      let same = same_Some h.stream a.before (sym h.is ∙ a.was) in
       let on = a.stops start h.given (subst (λ x. b.passes start x h.given) same h.gave.passes) in
       record { stream = a.after; is = ap (λ l. slice_get l k) a.now ∙ set_here b now k a.before a.after a.was; stops = on.stops; fails = on.fails }
 
@@ -104,16 +83,15 @@ module _ {S : Type 0} (b : Behaviour S) where
 
   pub gave_at : (n k : ℕ) (start now : List S) → GaveBefore b n start now → k < n → GaveAt start now k
   gave_at zero k start now g l = absurd (omega (arith, l))
-  gave_at (suc n) k [] now g l = absurd g
-  gave_at (suc n) k (s ∷ start) [] g l = absurd g
   gave_at (suc n) zero (s ∷ start) (t ∷ now) g l = record { new = s; stream = t; was = refl; is = refl; given = g.0.0; gave = g.0.1 }
   gave_at (suc n) (suc k) (s ∷ start) (t ∷ now) g l =
       let r = gave_at n k start now g.1 (omega (arith, l)) in
       record { new = r.new; stream = r.stream; was = r.was; is = r.is; given = r.given; gave = r.gave }
+  gave_at (suc n) k start now g l = absurd g
 
   pub tell-more : (k : ℕ) (start : List S) (s : S) → TellBefore b k start → slice_get start k ≡ Some s → (F : List Fact) × b.tells s F → TellBefore b (suc k) start
   tell-more zero [] s h e t = absurd cc
-  tell-more zero (x ∷ start) s h e t = (subst (λ y. (F : List Fact) × b.tells y F) (sym (same_stream x s e)) t, tt)
+  tell-more zero (x ∷ start) s h e t = (subst (λ y. (F : List Fact) × b.tells y F) (sym (same_Some x s e)) t, tt)
   tell-more (suc k) [] s h e t = absurd h
   tell-more (suc k) (x ∷ start) s h e t = (h.0, tell-more k start s h.1 e t)
 
@@ -146,32 +124,22 @@ module _ {S : Type 0} (b : Behaviour S) where
 
   -- one that stopped in a merge
   pub has-stopped : (k : ℕ) (f : LoadFault) (old now : List S) (s : S) → slice_get old k ≡ Some s → b.stops s f → OneFails b k f old now → HasStopped b old now (record { number = k; fault = f })
-  has-stopped zero f [] now s e h o = absurd o
-  has-stopped zero f (x ∷ old) [] s e h o = absurd o
   has-stopped zero f (x ∷ old) (t ∷ now) s e h o = record {
     new = x;
     was = refl;
-    stop = record { stream = t; is = refl; stops = subst (λ y. b.stops y f) (sym (same_stream x s e)) h; fails = o.0 };
+    stop = record { stream = t; is = refl; stops = subst (λ y. b.stops y f) (sym (same_Some x s e)) h; fails = o.0 };
   }
-  has-stopped (suc k) f [] now s e h o = absurd o
-  has-stopped (suc k) f (x ∷ old) [] s e h o = absurd o
   has-stopped (suc k) f (x ∷ old) (t ∷ now) s e h o =
       let r = has-stopped k f old now s e h o.1 in
       record { new = r.new; was = r.was; stop = record { stream = r.stop.stream; is = r.stop.is; stops = r.stop.stops; fails = r.stop.fails } }
+  has-stopped k f old now s e h o = absurd o
 
   pub stopped-of : (fault : StreamsFault) (i : InputFault) (old now : List S) → fault ≡ Input i → NamesInput b old fault → FailAs b {T = Joined} (Err fault) old now → HasStopped b old now i
-  stopped-of fault i old now e n f =
-      let names = subst (NamesInput b old) e n in
-      has-stopped i.number i.fault old now names.0 names.1 names.2 (subst (λ x. FailAs b {T = Joined} (Err x) old now) e f)
+  stopped-of fault i old now e n f = grind (arith, has-stopped)
 
   pub gave-of : (fault : StreamsFault) (i : InputFault) (old now : List S) → fault ≡ Input i → CanGoOn b old now fault → GaveBefore b i.number old now
   gave-of fault i old now e g = subst (CanGoOn b old now) e g
 
 -- where the sink failed, what was appended is no journal
 pub cut_journal : (u v : Option (List ℕ)) (entries : List Fact) (failed : Bool) → AllByRecursion IsFact entries → failed ≡ true → Written failed u v (spelling entries) → AppendsNoJournal u v
-cut_journal u v entries false valid e w = absurd cc
-cut_journal u v entries true valid e w = record {
-  bytes = w.part;
-  appended = w.appended;
-  no_journal = λ facts j. no_whole_end entries j.0 w.part w.rest valid j.1.valid w.cut (sym w.whole) j.3;
-}
+cut_journal u v entries failed valid e w = grind (arith, no_whole_end)

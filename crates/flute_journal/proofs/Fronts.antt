@@ -1,36 +1,18 @@
 -- Faults of bytes of which a front was read.
-use Rattle.std.proofs.Common.{◌≡◌, ℕ, ◌+◌, ◌≤◌, Bool, true, false, List, [], ◌++◌, length, Option, Some, None, Result, Ok, Err, inl, inr, refl, sym, ap, ◌∙◌, subst, append_assoc, arith}
-use Rattle.std.proofs.lemmas.List.{length-append, append-nil}
-use Rattle.std.specs.Prelude.{IfSome, IfErr}
-use Rattle.std.specs.Io.KnownBytes.{Consumes}
-use Rattle.std.proofs.KnownBytes.{Consumes-trans}
-use Rattle.flute_journal.specs.declared.fault.ReadFault.{ReadFault}
+use Rattle.flute_journal.proofs.Common.{◌≡◌, ℕ, ◌+◌, ◌≤◌, Bool, true, false, List, [], ◌++◌, length, Option, Some, None, Result, Ok, Err, inl, inr, refl, sym, ap, ◌∙◌, subst, append_assoc, arith, length-append, append-nil, IfSome, IfErr, Consumes, Consumes-trans, ReadFault, Fails, Fronts, IsFaultOf, IsFaultUpTo, Reads, failure, left_by, told, IsOfBytes, StopsFront, Parses}
 use Rattle.flute_journal.specs.declared.fault.ReadFault.TheVariants as faults
-use Rattle.flute_journal.specs.Input.{Fails, Fronts, IsFaultOf, IsFaultUpTo, Reads, failure, left_by, told}
-use Rattle.flute_journal.specs.Parsing.{IsOfBytes, StopsFront, Parses}
-
-known-behind : (u v : Option (List ℕ)) (front : List ℕ) (whole part : List ℕ → Option ReadFault) (o : Option ReadFault)
-    → Consumes u v front → ((r : List ℕ) → whole (front ++ r) ≡ part r) → IfSome v (λ r. part r ≡ o) → IfSome u (λ bs. whole bs ≡ o)
-known-behind None v front whole part o took e h = tt
-known-behind (Some x) None front whole part o took e h = absurd took
-known-behind (Some x) (Some y) front whole part o took e h = ap whole took ∙ e y ∙ h
 
 -- what stands behind what was read has the fault of the whole
 pub fault-behind : (u v w : Option (List ℕ)) (front : List ℕ) (whole part : List ℕ → Option ReadFault) (f : ReadFault)
     → Consumes u v front → ((r : List ℕ) → whole (front ++ r) ≡ part r) → IsFaultOf part v w f → IsFaultOf whole u w f
 fault-behind u v w front whole part faults.Read took e h = (front ++ h.0, Consumes-trans u v w front h.0 took h.1, e h.0 ∙ h.2)
-fault-behind u v w front whole part faults.OutOfMemory took e h =
-    let P : Option ReadFault → Type 0 = λ o. IfSome o (λ f. f ≡ faults.Cut) in
-    (front ++ h.0, Consumes-trans u v w front h.0 took h.1, subst P (sym (e h.0)) h.2)
-fault-behind u v w front whole part f took e h = known-behind u v front whole part (Some f) took e h
+fault-behind u v w front whole part faults.OutOfMemory took e h = grind (arith, Consumes-trans)
+fault-behind u v w front whole part f took e h = grind (arith)
 
 -- the same where the source may fail behind the last bytes
 pub fault_up_to-behind : (u v w : Option (List ℕ)) (front last : List ℕ) (whole part : List ℕ → Option ReadFault) (f : ReadFault)
     → Consumes u v front → ((r : List ℕ) → whole (front ++ r) ≡ part r) → IsFaultUpTo last part v w f → IsFaultUpTo (front ++ last) whole u w f
-fault_up_to-behind u v w front last whole part faults.Read took e h = elim h [
-  | inl cut ↦ inl (fault-behind u v w front whole part faults.Read took e cut)
-  | inr all ↦ inr (Consumes-trans u v w front last took all)
-]
+fault_up_to-behind u v w front last whole part faults.Read took e h = grind (arith, fault-behind, Consumes-trans)
 fault_up_to-behind u v w front last whole part f took e h = fault-behind u v w front whole part f took e h
 
 -- a fault of bytes is one of bytes that may end
@@ -55,11 +37,7 @@ stops_here n whole front f other bytes h = record { of_bytes = bytes; short = λ
 -- what stands behind their first part has the fault
 pub stops_behind : (n m : ℕ) (whole part : List ℕ → Option ReadFault) (front a b : List ℕ) (f : ReadFault) → front ≡ a ++ b → length a + m ≤ n
     → ((r : List ℕ) → part r ≡ Some f → whole (a ++ r) ≡ Some f) → StopsFront m part b f → StopsFront n whole front f
-stops_behind n m whole part front a b f is fits h s = record {
-  of_bytes = s.of_bytes;
-  short = λ e. omega (arith, s.short e, fits, ap length is, length-append a b);
-  whole = λ r e. ap (λ (x : List ℕ). whole (x ++ r)) is ∙ ap whole (append_assoc a b r) ∙ h (b ++ r) (s.whole r e);
-}
+stops_behind n m whole part front a b f is fits h s = grind (arith, length-append, append_assoc)
 
 at_front : (fault : List ℕ → Option ReadFault) (u v : Option (List ℕ)) (n : ℕ) (failed : Bool) (front : List ℕ) (f : ReadFault) → Fronts u v n failed front → StopsFront n fault front f
     → (f ≡ faults.Cut → failed ≡ false) → IfSome u (λ bytes. fault bytes ≡ Some f)
@@ -76,17 +54,8 @@ pub fault_found : (T : Type 0) (fault : List ℕ → Option ReadFault) (u v : Op
 fault_found T fault u v n failed front faults.Read a s = absurd s.of_bytes
 fault_found T fault u v n failed front faults.OutOfMemory a s = absurd s.of_bytes
 fault_found T fault u v n true front faults.Cut a s = (front, a.read, cut_there fault n front s)
-fault_found T fault u v n true front (faults.Information i) a s = at_front fault u v n true front (faults.Information i) a s (λ e. absurd cc)
-fault_found T fault u v n true front faults.Magic a s = at_front fault u v n true front faults.Magic a s (λ e. absurd cc)
-fault_found T fault u v n true front faults.Version a s = at_front fault u v n true front faults.Version a s (λ e. absurd cc)
-fault_found T fault u v n true front faults.Kind a s = at_front fault u v n true front faults.Kind a s (λ e. absurd cc)
-fault_found T fault u v n true front faults.Key a s = at_front fault u v n true front faults.Key a s (λ e. absurd cc)
-fault_found T fault u v n true front faults.EmptySymbol a s = at_front fault u v n true front faults.EmptySymbol a s (λ e. absurd cc)
-fault_found T fault u v n true front faults.Order a s = at_front fault u v n true front faults.Order a s (λ e. absurd cc)
-fault_found T fault u v n true front faults.Count a s = at_front fault u v n true front faults.Count a s (λ e. absurd cc)
-fault_found T fault u v n true front faults.TooMany a s = at_front fault u v n true front faults.TooMany a s (λ e. absurd cc)
-fault_found T fault u v n true front faults.Trailing a s = at_front fault u v n true front faults.Trailing a s (λ e. absurd cc)
 fault_found T fault u v n false front f a s = at_front fault u v n false front f a s (λ e. refl)
+fault_found T fault u v n true front f a s = at_front fault u v n true front f a s (λ e. absurd cc)
 
 -- what was read of a source, as it is parsed: a value takes all of the bytes
 pub parsed_reads : {T : Type 0} (spelling : T → List ℕ) (IsIt : T → Type 0) (fault : List ℕ → Option ReadFault) (u v : Option (List ℕ)) (n : ℕ) (failed : Bool) (front : List ℕ)
@@ -117,20 +86,10 @@ parsed_fails IsIt fault n false front (Ok x) old new e p = omega (arith, e)
 parsed_fails {T} IsIt fault n true front (Err f) old new e p = fails_once T f old new p.of_bytes e
 parsed_fails {T} IsIt fault n false front (Err f) old new e p = fails_never T f old new p.of_bytes (omega (arith, e))
 
-no_memory_told : (f : ReadFault) → IsOfBytes f → left_by f ≡ faults.OutOfMemory → ⊥
-no_memory_told faults.Read b e = absurd b
-no_memory_told faults.OutOfMemory b e = absurd b
-no_memory_told faults.Cut b e = cc
-no_memory_told f b e = cc
-
-no_memory_of : (f : ReadFault) → IsOfBytes f → f ≡ faults.OutOfMemory → ⊥
-no_memory_of faults.OutOfMemory b e = absurd b
-no_memory_of f b e = cc
-
 -- parsing takes no memory
 pub parsed_memory : {T : Type 0} (IsIt : T → Type 0) (fault : List ℕ → Option ReadFault) (n : ℕ) (failed : Bool) (front : List ℕ) (r : Result T ReadFault)
     → Parses n IsIt fault front r → IfErr (told failed r) (λ f. f ≡ faults.OutOfMemory → ⊥)
 parsed_memory IsIt fault n true front (Ok x) p = λ e. cc
 parsed_memory IsIt fault n false front (Ok x) p = tt
-parsed_memory IsIt fault n true front (Err f) p = no_memory_told f p.of_bytes
-parsed_memory IsIt fault n false front (Err f) p = no_memory_of f p.of_bytes
+parsed_memory IsIt fault n true front (Err f) p = grind (arith)
+parsed_memory IsIt fault n false front (Err f) p = grind (arith)

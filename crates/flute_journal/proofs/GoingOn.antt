@@ -1,13 +1,5 @@
 -- Streams that go on, one after another.
-use Rattle.std.proofs.Common.{◌≡◌, ℕ, suc, ◌+◌, ◌<◌, ◌≤◌, List, [], ◌∷◌, ◌++◌, length, take, drop, get_or, Option, Some, Ok, Err, refl, sym, ap, ◌∙◌, subst, inl, inr, arith, drop-cons, add-one, zero}
-use Rattle.std.proofs.Math.ListN.{set}
-use Rattle.std.proofs.lemmas.List.{take_more, take_more_set, drop-set-lt, take_all, length-drop, take-append-drop, length-take-le, length-set}
-use Rattle.std.proofs.lemmas.Option.{slice_get_within, get_or_from_slice_get}
-use Rattle.std.specs.Prelude.{◌≢◌, slice_get}
-use Rattle.flute_parts.specs.declared.address.Address.{Address}
-use Rattle.flute_journal.specs.declared.fault.LoadFault.{LoadFault}
-use Rattle.flute_journal.specs.Streams.{Behaviour, StopsAt, Advances, place_of}
-use Rattle.flute_journal.specs.Advances.{GoesOnAt, GoOnAt, StopAt}
+use Rattle.flute_journal.proofs.Common.{◌≡◌, ℕ, suc, ◌+◌, ◌<◌, ◌≤◌, List, [], ◌∷◌, ◌++◌, length, take, drop, get_or, Option, Some, Ok, Err, refl, sym, ap, ◌∙◌, subst, inl, inr, arith, drop-cons, add-one, zero, set, take_more, take_more_set, drop-set-lt, take_all, length-drop, take-append-drop, length-take-le, length-set, slice_get_within, get_or_from_slice_get, ◌≢◌, slice_get, Address, LoadFault, Behaviour, StopsAt, Advances, place_of, GoesOnAt, GoOnAt, StopAt}
 
 -- there is an element at each number below the length
 pub item_at : {X : Type 0} (xs : List X) (k : ℕ) → k < length xs → (x : X) × (slice_get xs k ≡ Some x)
@@ -26,9 +18,8 @@ module _ {S : Type 0} (b : Behaviour S) (place : Option Address) where
 
   go_on_more : (xs ys : List S) (x y : S) → GoOnAt b place xs ys → GoesOnAt b place x y → GoOnAt b place (xs ++ x ∷ []) (ys ++ y ∷ [])
   go_on_more [] [] x y h g = (g, tt)
-  go_on_more [] (z ∷ ys) x y h g = absurd h
-  go_on_more (w ∷ xs) [] x y h g = absurd h
   go_on_more (w ∷ xs) (z ∷ ys) x y h g = (h.0, go_on_more xs ys x y h.1 g)
+  go_on_more xs ys x y h g = absurd h
 
   same_head : (xs ys : List S) (x y : S) → x ∷ xs ≡ y ∷ ys → (x ≡ y) × (xs ≡ ys)
   same_head xs ys x y e = (cc, cc)
@@ -46,8 +37,7 @@ module _ {S : Type 0} (b : Behaviour S) (place : Option Address) where
       (sym r.0 ∙ get_or_from_slice_get now k x x is, rw add-one r.1)
 
   old_more : (k : ℕ) (old now : List S) (x : S) → drop k now ≡ drop k old → slice_get now k ≡ Some x → take (k + 1) old ≡ take k old ++ x ∷ []
-  old_more k old now x e is =
-      take_more old k x (shorter k old now e (slice_get_within now k x is)) ∙ ap (λ y. take k old ++ y ∷ []) (as_it_was k old now x e is).0
+  old_more k old now x e is = cc (take_more old k x (shorter k old now e (slice_get_within now k x is)), (as_it_was k old now x e is).0)
 
   pub one_stays : (k : ℕ) (old now : List S) (x : S) → WentSoFar k old now → slice_get now k ≡ Some x → place_of (b.held x) ≢ place → WentSoFar (k + 1) old now
   one_stays k old now x w is n = record {
@@ -73,9 +63,8 @@ module _ {S : Type 0} (b : Behaviour S) (place : Option Address) where
   stop_at : (xs ys zs : List S) (x y : S) (f : LoadFault) → GoOnAt b place xs ys → place_of (b.held x) ≡ place → StopsAt b x y f
       → StopAt b place (length xs) f ((xs ++ x ∷ []) ++ zs) ((ys ++ y ∷ []) ++ zs)
   stop_at [] [] zs x y f h p s = (p, s, refl)
-  stop_at [] (w ∷ ys) zs x y f h p s = absurd h
-  stop_at (w ∷ xs) [] zs x y f h p s = absurd h
   stop_at (w ∷ xs) (z ∷ ys) zs x y f h p s = (h.0, stop_at xs ys zs x y f h.1 p s)
+  stop_at xs ys zs x y f h p s = absurd h
 
   pub one_stops : (k : ℕ) (old now new : List S) (f : LoadFault) → WentSoFar k old now → (a : Advances b k now new (Err f)) → place_of (b.held a.before) ≡ place → StopAt b place k f old new
   one_stops k old now new f w a p =

@@ -1,22 +1,6 @@
 -- A journal that is joined entry by entry to what a store held.
-use Rattle.std.proofs.Common.{◌≡◌, ℕ, List, [], ◌∷◌, ◌++◌, Bool, true, false, Option, Some, None, Ok, inl, inr, sym, ◌∙◌, subst, append-nil, append_assoc}
-use Rattle.std.specs.Prelude.{IfSome}
-use Rattle.std.specs.Io.KnownBytes.{Consumes, IsAtEnd}
-use Rattle.std.specs.List.{flat_map}
-use Rattle.flute_parts.specs.declared.fact.Fact.{Fact}
-use Rattle.flute_parts.specs.declared.tally.Tally.{Tally}
-use Rattle.flute_parts.specs.Facts.{Same, Below, IsRising}
-use Rattle.flute_parts.specs.Limits.{Over}
-use Rattle.flute_parts.specs.Tally.{Counts}
-use Rattle.flute_parts.proofs.Facts.{Same-itself, Same-sym, Same-trans, Same-append, Below-itself, Below-trans, Below-append, Below-from_Same}
-use Rattle.flute_parts.proofs.Named.{Over-below}
-use Rattle.flute_journal.specs.declared.reader.Stage.{Stage}
-use Rattle.flute_journal.specs.declared.reader.Stage.TheVariants.{Header}
-use Rattle.flute_journal.specs.Reading.{Gives}
-use Rattle.flute_journal.specs.Stores.{AddsOnly, BeginsOver, HoldsBoth, IsJournalOf, JoinsJournal}
-use Rattle.flute_journal.specs.Format.{header, entry}
-use Rattle.flute_journal.specs.Journal.{AreEntries}
-use Rattle.flute_journal.specs.SoFar.{Sofar, read_of}
+use Rattle.flute_journal.proofs.Common.{◌≡◌, ℕ, List, [], ◌∷◌, ◌++◌, Bool, true, false, Option, Some, None, Ok, inl, inr, sym, ◌∙◌, subst, append-nil, append_assoc, IfSome, Consumes, IsAtEnd, flat_map, Fact, Tally, Same, Below, IsRising, Over, Counts, Same-itself, Same-sym, Same-trans, Same-append, Below-itself, Below-trans, Below-append, Below-from_Same, Over-below, Stage, Header, Gives, AddsOnly, BeginsOver, HoldsBoth, IsJournalOf, JoinsJournal, header, entry, AreEntries, Sofar, read_of}
+use Rattle.flute_journal.proofs.Passes.{Below-more}
 use Rattle.flute_journal.proofs.Whole.{sofar-none, sofar-next}
 use Rattle.flute_journal.proofs.Loading.{Loaded, loaded-over, given-entry, loaded-all}
 
@@ -33,11 +17,6 @@ pub record JoinedSofar (s o y limit : ℕ) (first now : Option (List ℕ)) (stag
 pub alone : (s o y limit : ℕ) (u v : Option (List ℕ)) (stage : Stage) (before content : List Fact) (fits : Bool) (tally : Tally s o y)
     → (j : JoinedSofar s o y limit u v stage before content fits tally) → Loaded s o y limit u v stage j.entries
 alone s o y limit u v stage before content fits tally j = record { entries = j.entries; sofar = j.sofar; same = Same-itself j.entries; fits = j.counts.within }
-
-pub Below-more : (F G : List Fact) → Below F (F ++ G)
-Below-more F G =
-    let P : List Fact → Type 0 = λ H. Same H (F ++ G) in
-    subst P (append_assoc F F G) (Same-append (F ++ F) F G G (Below-itself F) (Same-itself G))
 
 pub joined-none : (s o y limit : ℕ) (u v : Option (List ℕ)) (stage : Stage) (before : List Fact) (tally : Tally s o y) → v ≡ u → stage ≡ Header → Counts s o y [] tally
     → JoinedSofar s o y limit u v stage before before true tally

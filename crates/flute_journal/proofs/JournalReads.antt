@@ -1,35 +1,11 @@
 -- A journal that is read on is a stream that goes on.
-use Rattle.std.proofs.Common.{◌≡◌, ℕ, ◌+◌, ◌-◌, ◌≤◌, true, false, Bool, List, [], ◌∷◌, ◌++◌, length, Option, Some, None, Ok, Err, IsTrue, refl, sym, ap, ◌∙◌, subst, inl, inr, append-nil, arith}
-use Rattle.std.specs.Prelude.{IfSome}
-use Rattle.std.specs.List.{AllByRecursion, flat_map}
-use Rattle.std.specs.Io.KnownBytes.{Consumes, Keeps}
-use Rattle.std.proofs.KnownBytes.{Consumes-kept, Consumes-whole}
-use Rattle.flute_parts.specs.Facts.{IsRising}
-use Rattle.flute_parts.specs.declared.fact.Fact.{Fact}
-use Rattle.flute_store.specs.Walk.{IsSized}
-use Rattle.flute_journal.specs.declared.fault.ReadFault.{ReadFault}
-use Rattle.flute_journal.specs.declared.fault.LoadFault.{LoadFault}
+use Rattle.flute_journal.proofs.Common.{◌≡◌, ℕ, ◌+◌, ◌-◌, ◌≤◌, true, false, Bool, List, [], ◌∷◌, ◌++◌, length, Option, Some, None, Ok, Err, IsTrue, refl, sym, ap, ◌∙◌, subst, inl, inr, append-nil, arith, IfSome, AllByRecursion, flat_map, Consumes, Keeps, Consumes-kept, Consumes-whole, IsRising, Fact, IsSized, ReadFault, LoadFault, Stage, Header, Entries, Ended, Failed, LentStream, header, entry, spelling, FailsIf, IsFact, AreEntries, IsJournalWithin, is_open, position, GivesEnd, GivesFault, Gives, source_of, limit_of, stage_of, Sofar, BeginsWith, HasFault, ReadsBehind, Behaviour, option_list, Continues, GoesOn, StopsAt, ReadWhole, ReadAt, room, IsJournalOfAll, FailsSince, unread_of, journal_behaviour, lent, SameLoans, lent_behaviour}
+use Rattle.flute_journal.proofs.Whole.{ahead-sofar, AtEnd, side-from, open_behind, reads-side, reads-sofar, reads-fault, sofar-fault, read_some}
+use Rattle.flute_journal.proofs.Each.{all_split}
 use Rattle.flute_journal.specs.declared.fault.LoadFault.TheVariants as load
-use Rattle.flute_journal.specs.declared.reader.Stage.{Stage}
-use Rattle.flute_journal.specs.declared.reader.Stage.TheVariants.{Header, Entries, Ended, Failed}
 use Rattle.flute_journal.specs.declared.journal_stream.JournalStream.{JournalStream}
-use Rattle.flute_journal.specs.declared.journal_stream.LentStream.{LentStream}
-use Rattle.flute_journal.specs.Format.{header, entry, end, spelling}
-use Rattle.flute_journal.specs.Input.{FailsIf}
-use Rattle.flute_journal.specs.Journal.{IsFact, AreEntries, IsJournalWithin}
-use Rattle.flute_journal.specs.Reading.{is_open, position, GivesEnd, GivesFault, Gives}
-use Rattle.flute_journal.specs.Readers.{source_of, limit_of, stage_of}
-use Rattle.flute_journal.specs.SoFar.{read_of, Sofar}
-use Rattle.flute_journal.specs.Stores.{BeginsWith}
-use Rattle.flute_journal.specs.Whole.{HasFault}
-use Rattle.flute_journal.specs.Merges.{ReadsBehind}
-use Rattle.flute_journal.specs.Streams.{Behaviour, option_list, Continues, GoesOn, StopsAt}
-use Rattle.flute_journal.specs.JournalStreams.{ReadWhole, ReadAt, room, FailsBy, IsJournalOfAll, FailsSince, unread_of, journal_behaviour, lent, SameLoans, lent_behaviour}
 use Rattle.flute_journal.proofs.Bodies.{fact_sized}
-use Rattle.flute_journal.proofs.MergeAhead.{ahead-sofar}
-use Rattle.flute_journal.proofs.MergeBytes.{spelling-of_spelling}
-use Rattle.flute_journal.proofs.MergeSides.{AtEnd, side-from, all-last, open_behind, reads-side, reads-sofar, reads-fault}
-use Rattle.flute_journal.proofs.Whole.{sofar-fault}
+use Rattle.flute_journal.proofs.MergeBytes.{spelling-injective}
 
 -- what was read, once the next entry or the end was
 abbrev Read : ℕ → Option (List ℕ) → Option (List ℕ) → Stage → List Fact → Option Fact → Type 0
@@ -57,13 +33,7 @@ read_from limit u v w old new es None s g = (whole_at limit u w es (side-from li
 
 end_again : (limit : ℕ) (u v w : Option (List ℕ)) (new : Stage) (F : List Fact) (held : Option Fact) → ReadWhole limit u v F → held ≡ None → GivesEnd Ended new v w
     → Read limit u w new (F ++ option_list held) None
-end_again limit u v w new F held r n g =
-    subst (λ o. Read limit u w new (F ++ option_list o) None) (sym n)
-    (subst (λ (l : List Fact). Read limit u w new l None) (sym (append-nil F))
-    (elim g.bytes [
-      | inl p ↦ (whole_kept limit u v w F r p.1, g.ended)
-      | inr p ↦ absurd (let e = p.0 in cc)
-    ]))
+end_again limit u v w new F held r n g = grind (arith, append-nil, whole_kept)
 
 read_on : (limit : ℕ) (u v w : Option (List ℕ)) (old new : Stage) (F : List Fact) (held o : Option Fact) → ReadAt limit u v old F held → Gives limit old new v w (Ok o)
     → Read limit u w new (F ++ option_list held) o
@@ -94,45 +64,33 @@ reads_with limit u w stage F (Some f) r = reads-sofar limit u w stage (F ++ f �
 reads_with limit u w stage F None r = subst (ReadsBehind u w) (sym (append-nil F)) r.0.read
 
 rising_of : (limit : ℕ) (u w : Option (List ℕ)) (stage : Stage) (F : List Fact) (o : Option Fact) → Read limit u w stage F o → IsRising (F ++ option_list o)
-rising_of limit u w stage F (Some f) r = r.are_entries.rising
-rising_of limit u w stage F None r = subst IsRising (sym (append-nil F)) r.0.are_entries.rising
+rising_of limit u w stage F o r = grind (arith, append-nil)
 
 ended_of : (limit : ℕ) (u w : Option (List ℕ)) (stage : Stage) (F : List Fact) (o : Option Fact) → Read limit u w stage F o → o ≡ None → IfSome u (λ xs. IsJournalWithin limit xs F)
-ended_of limit u w stage F (Some f) r e = absurd (let h = e in cc)
-ended_of limit u w stage F None r e = r.0.whole
+ended_of limit u w stage F o r e = grind (arith)
 
 only_entries : (limit : ℕ) (u : Option (List ℕ)) (F K : List Fact) → AllByRecursion IsFact F → IfSome u (λ xs. IsJournalWithin limit xs F) → IsJournalOfAll u K → K ≡ F
 only_entries limit None F K v h k = absurd (let e = k.bytes_are in cc)
 only_entries limit (Some xs) F K v h k =
     let e : xs ≡ spelling K = (let q = k.bytes_are in cc) in
-    (spelling-of_spelling F K [] [] v k.valid (append-nil (spelling F) ∙ sym h.bytes_are ∙ e ∙ sym (append-nil (spelling K)))).0
+    (spelling-injective F K [] [] v k.valid (append-nil (spelling F) ∙ sym h.bytes_are ∙ e ∙ sym (append-nil (spelling K)))).0
 
 known_of : (limit : ℕ) (u w : Option (List ℕ)) (stage : Stage) (F : List Fact) (o : Option Fact) → Read limit u w stage F o → (K : List Fact) → IsJournalOfAll u K
     → Continues K (F ++ option_list o) o
 known_of limit u w stage F (Some f) r K k =
     let a = ahead-sofar limit u w stage (F ++ f ∷ []) r K k.valid k.rising k.bytes_are in
     record { rest = a.0; is = a.1; rising = k.rising; ended = λ e. absurd (let h = e in cc) }
-known_of limit u w stage F None r K k = record {
-  rest = [];
-  is = only_entries limit u F K r.0.are_entries.valid r.0.whole k ∙ sym (append-nil F) ∙ sym (append-nil (F ++ []));
-  rising = k.rising;
-  ended = λ e. refl;
-}
+known_of limit u w stage F None r K k = grind (arith, only_entries, append-nil)
 
 begins_read : (limit : ℕ) (u w : Option (List ℕ)) (es : List Fact) → AreEntries limit es → Consumes u w (header ++ flat_map entry es) → IfSome u (λ bytes. BeginsWith limit bytes es)
 begins_read limit None w es a h = tt
 begins_read limit (Some x) None es a h = absurd h
 begins_read limit (Some x) (Some z) es a h = record { are_entries = a; rest = z; whole = h }
 
-read_some : (es : List Fact) (f : Fact) → read_of (es ++ f ∷ []) ≡ header ++ flat_map entry (es ++ f ∷ [])
-read_some [] f = refl
-read_some (e ∷ es) f = refl
-
 begins_of : (limit : ℕ) (u w : Option (List ℕ)) (stage : Stage) (F : List Fact) (o : Option Fact) → Read limit u w stage F o → IfSome u (λ bytes. BeginsWith limit bytes (F ++ option_list o))
 begins_of limit u w stage F (Some f) r = begins_read limit u w (F ++ f ∷ []) r.are_entries (subst (Consumes u w) (read_some F f) r.read)
 begins_of limit None w stage F None r = tt
-begins_of limit (Some x) w stage F None r =
-    subst (BeginsWith limit x) (sym (append-nil F)) (record { are_entries = r.0.are_entries; rest = end (length F); whole = r.0.whole.bytes_are })
+begins_of limit (Some x) w stage F None r = grind (arith, append-nil)
 
 room_open : (limit : ℕ) (stage : Stage) → IsTrue (is_open stage) → room limit stage ≡ limit - (position stage).count
 room_open limit Header o = omega arith
@@ -140,11 +98,58 @@ room_open limit (Entries count last) o = refl
 room_open limit Ended o = absurd cc
 room_open limit (Failed f) o = absurd cc
 
-fewer : (limit n : ℕ) (v w : Option (List ℕ)) (old new : Stage) (o : Option Fact) → Gives limit old new v w (Ok o) → (length (option_list o) + room limit new) + n ≤ n + room limit old
-fewer limit n v w old new (Some f) g =
-    let e = ap (room limit) g.goes_on in
-    omega (arith, e, room_open limit old g.open_before, g.within)
+pub fewer : (limit n : ℕ) (v w : Option (List ℕ)) (old new : Stage) (o : Option Fact) → Gives limit old new v w (Ok o) → (length (option_list o) + room limit new) + n ≤ n + room limit old
+fewer limit n v w old new (Some f) g = grind (arith, room_open)
 fewer limit n v w old new None g = let e = ap (room limit) g.ended in omega (arith, e)
+
+sized_of : (limit : ℕ) (u w : Option (List ℕ)) (stage : Stage) (F : List Fact) (o : Option Fact) → Read limit u w stage F o → IfSome o IsSized
+sized_of limit u w stage F (Some f) r = fact_sized f (all_split IsFact F (f ∷ []) r.are_entries.valid).1.0
+sized_of limit u w stage F None r = tt
+
+-- what a stream has given by these reads
+pub record GivesOn (limit : ℕ) (u w : Option (List ℕ)) (stage : Stage) (G : List Fact) (held : Option Fact) : Type 0 where
+  pub read : ReadAt limit u w stage G held
+  pub reads : ReadsBehind u w G
+  pub reads_held : ReadsBehind u w (G ++ option_list held)
+  pub rising : IsRising (G ++ option_list held)
+  pub sized : IfSome held IsSized
+  pub ended : held ≡ None → IfSome u (λ bytes. IsJournalWithin limit bytes G)
+  pub begins : IfSome u (λ bytes. BeginsWith limit bytes (G ++ option_list held))
+  pub known : (K : List Fact) → IsJournalOfAll u K → Continues K (G ++ option_list held) held
+
+pub gives_on : (limit limit' : ℕ) (u v w : Option (List ℕ)) (old new : Stage) (F : List Fact) (held o : Option Fact) → limit' ≡ limit → ReadAt limit u v old F held → Gives limit' old new v w (Ok o)
+    → GivesOn limit u w new (F ++ option_list held) o
+gives_on limit limit' u v w old new F held o same p g =
+    let G = F ++ option_list held in
+    let r = read_on limit u v w old new F held o p (subst (λ x. Gives x old new v w (Ok o)) same g) in
+    record {
+      read = read_at limit u w new G o r;
+      reads = reads_of limit u w new G o r;
+      reads_held = reads_with limit u w new G o r;
+      rising = rising_of limit u w new G o r;
+      sized = sized_of limit u w new G o r;
+      ended = ended_of limit u w new G o r;
+      begins = begins_of limit u w new G o r;
+      known = known_of limit u w new G o r;
+    }
+
+-- A reader that stops.
+
+fault_at : (limit : ℕ) (u v w : Option (List ℕ)) (old new : Stage) (F : List Fact) (held : Option Fact) (f : ReadFault) → ReadAt limit u v old F held → GivesFault limit old new v w f
+    → ReadsBehind u w (F ++ option_list held) × HasFault limit u f × IsTrue (is_open old)
+fault_at limit u v w Header new F held f r g = (reads-fault limit u v w Header new _ f r g, sofar-fault limit u v w Header new _ f r g, refl)
+fault_at limit u v w (Entries count last) new F held f r g = (reads-fault limit u v w (Entries count last) new _ f r g, sofar-fault limit u v w (Entries count last) new _ f r g, refl)
+fault_at limit u v w (Failed h) new F held f r g = absurd r
+fault_at limit u v w Ended new F held f r g = grind (arith)
+
+pub stops_on : (limit limit' : ℕ) (u v w : Option (List ℕ)) (old new : Stage) (F : List Fact) (held : Option Fact) (f : ReadFault) → limit' ≡ limit → ReadAt limit u v old F held
+    → Gives limit' old new v w (Err f) → ReadsBehind u w (F ++ option_list held) × HasFault limit u f × IsTrue (is_open old)
+stops_on limit limit' u v w old new F held f same p g = fault_at limit u v w old new F held f p (subst (λ x. Gives x old new v w (Err f)) same g)
+
+-- a call that gave an entry or the end had no failure
+pub never : (b : Bool) (x y : ℕ) (o : Option Fact) → FailsIf {T = Option Fact} b x y (Ok o) → y ≡ x
+never true x y o h = h
+never false x y o h = h
 
 module _ {R : Type 0} (unread : R → Option (List ℕ)) (failures : R → ℕ) where
   abbrev b : Behaviour (JournalStream R)
@@ -152,77 +157,42 @@ module _ {R : Type 0} (unread : R → Option (List ℕ)) (failures : R → ℕ) 
 
   -- the same source goes on to be read
   since : (s t u : JournalStream R) (fault : Option LoadFault) → FailsSince unread failures s t None → FailsSince unread failures t u fault → FailsSince unread failures s u fault
-  since s t u fault h k = record {
-    same_source = k.same_source ∙ h.same_source;
-    failed_as = subst (λ n. FailsBy n (failures (source_of u.reader).now) fault) h.failed_as k.failed_as;
-  }
+  since s t u fault h k = grind (arith)
 
   pub stream_goes_on : (s t : JournalStream R) → FailsSince unread failures s t None → limit_of t.reader ≡ limit_of s.reader
       → Gives (limit_of s.reader) (stage_of s.reader) (stage_of t.reader) (unread_of unread failures s) (unread_of unread failures t) (Ok t.held) → GoesOn b s t
   stream_goes_on s t same limit g = record {
     gave = λ start F p.
-        let l = limit_of start.reader in
-        let u = unread_of unread failures start in
-        let w = unread_of unread failures t in
-        let G = F ++ option_list s.held in
-        let r : Read l u w (stage_of t.reader) G t.held =
-        read_on l u (unread_of unread failures s) w (stage_of s.reader) (stage_of t.reader) F s.held t.held p.read
-        (subst (λ x. Gives x (stage_of s.reader) (stage_of t.reader) (unread_of unread failures s) w (Ok t.held)) p.same_limit g) in
+        let r = gives_on (limit_of start.reader) (limit_of s.reader) (unread_of unread failures start) (unread_of unread failures s) (unread_of unread failures t) (stage_of s.reader) (stage_of t.reader) F s.held t.held p.same_limit p.read g in
+        let fails = since start s t None p.fails same in
         record {
-          passes = record { fails = since start s t None p.fails same; same_limit = limit ∙ p.same_limit; read = read_at l u w (stage_of t.reader) G t.held r };
-          reads = reads_of l u w (stage_of t.reader) G t.held r;
-          reads_held = reads_with l u w (stage_of t.reader) G t.held r;
-          fails = since start s t None p.fails same;
-          rising = rising_of l u w (stage_of t.reader) G t.held r;
-          sized = sized_of l u w (stage_of t.reader) G t.held r;
-          ended = ended_of l u w (stage_of t.reader) G t.held r;
-          begins = begins_of l u w (stage_of t.reader) G t.held r;
-          known = known_of l u w (stage_of t.reader) G t.held r;
+          passes = record { fails = fails; same_limit = limit ∙ p.same_limit; read = r.read };
+          reads = r.reads;
+          reads_held = r.reads_held;
+          fails = fails;
+          rising = r.rising;
+          sized = r.sized;
+          ended = r.ended;
+          begins = r.begins;
+          known = r.known;
         };
-    fewer =
-        let e = ap (λ x. room x (stage_of t.reader)) limit in
-        omega (arith, e, fewer (limit_of s.reader) (length (option_list s.held)) (unread_of unread failures s) (unread_of unread failures t) (stage_of s.reader) (stage_of t.reader) t.held g);
+    fewer = grind (arith);
   }
-    where
-      sized_of : (limit : ℕ) (u w : Option (List ℕ)) (stage : Stage) (F : List Fact) (o : Option Fact) → Read limit u w stage F o → IfSome o IsSized
-      sized_of limit u w stage F (Some f) r = fact_sized f (all-last F f r.are_entries.valid).1
-      sized_of limit u w stage F None r = tt
-
-  -- A reader that stops.
-
-  fault_at : (limit : ℕ) (u v w : Option (List ℕ)) (old new : Stage) (F : List Fact) (held : Option Fact) (f : ReadFault) → ReadAt limit u v old F held → GivesFault limit old new v w f
-      → ReadsBehind u w (F ++ option_list held) × HasFault limit u f × IsTrue (is_open old)
-  fault_at limit u v w Header new F held f r g = (reads-fault limit u v w Header new _ f r g, sofar-fault limit u v w Header new _ f r g, refl)
-  fault_at limit u v w (Entries count last) new F held f r g = (reads-fault limit u v w (Entries count last) new _ f r g, sofar-fault limit u v w (Entries count last) new _ f r g, refl)
-  fault_at limit u v w (Failed h) new F held f r g = absurd r
-  fault_at limit u v w Ended new F held f r g = elim g.found [
-    | inl p ↦ absurd (let e = p.0 in cc)
-    | inr p ↦ absurd (let e = p.0 in cc)
-  ]
 
   pub stream_stops : (s t : JournalStream R) (f : ReadFault) → (IsTrue (is_open (stage_of s.reader)) → FailsSince unread failures s t (Some (load.Read f)))
       → Gives (limit_of s.reader) (stage_of s.reader) (stage_of t.reader) (unread_of unread failures s) (unread_of unread failures t) (Err f) → StopsAt b s t (load.Read f)
   stream_stops s t f same g = λ start F p.
-      let h = fault_at (limit_of start.reader) (unread_of unread failures start) (unread_of unread failures s) (unread_of unread failures t) (stage_of s.reader) (stage_of t.reader) F s.held f p.read
-      (subst (λ x. Gives x (stage_of s.reader) (stage_of t.reader) (unread_of unread failures s) (unread_of unread failures t) (Err f)) p.same_limit g) in
+      let h = stops_on (limit_of start.reader) (limit_of s.reader) (unread_of unread failures start) (unread_of unread failures s) (unread_of unread failures t) (stage_of s.reader) (stage_of t.reader) F s.held f p.same_limit p.read g in
       record { reads = h.0; fails = since start s t (Some (load.Read f)) p.fails (same h.2); stops = h.1 }
 
   pub none_failed : (s t : JournalStream R) → (source_of t.reader).ghost_name ≡ (source_of s.reader).ghost_name
       → FailsIf (is_open (stage_of s.reader)) (failures (source_of s.reader).now) (failures (source_of t.reader).now) (Ok t.held) → FailsSince unread failures s t None
-  none_failed s t e h = record { same_source = e; failed_as = never (is_open (stage_of s.reader)) h }
-    where
-      never : (b : Bool) → FailsIf {T = Option Fact} b (failures (source_of s.reader).now) (failures (source_of t.reader).now) (Ok t.held)
-          → failures (source_of t.reader).now ≡ failures (source_of s.reader).now
-      never true h = h
-      never false h = h
+  none_failed s t e h = record { same_source = e; failed_as = never (is_open (stage_of s.reader)) (failures (source_of s.reader).now) (failures (source_of t.reader).now) t.held h }
 
   pub one_failed : (s t : JournalStream R) (f : ReadFault) → (source_of t.reader).ghost_name ≡ (source_of s.reader).ghost_name
       → FailsIf {T = Option Fact} (is_open (stage_of s.reader)) (failures (source_of s.reader).now) (failures (source_of t.reader).now) (Err f) → IsTrue (is_open (stage_of s.reader))
       → FailsSince unread failures s t (Some (load.Read f))
-  one_failed s t f e h o = record {
-    same_source = e;
-    failed_as = subst (λ (b : Bool). FailsIf {T = Option Fact} b (failures (source_of s.reader).now) (failures (source_of t.reader).now) (Err f)) o h;
-  }
+  one_failed s t f e h o = grind (arith)
 
   -- one whose reader and held entry are lent
   module _ (s t : LentStream R) (same : SameLoans s t) where

@@ -1,29 +1,8 @@
 -- The stream that holds a fact below those of all others.
-use Rattle.std.proofs.Common.{◌≡◌, ℕ, zero, suc, ◌+◌, ◌<◌, ◌≤◌, true, eqb, List, [], ◌∷◌, ◌++◌, length, Option, Some, None, Ok, Err, refl, sym, ap, ◌∙◌, subst, inl, inr, arith}
-use Rattle.std.proofs.Math.ListN.{set}
-use Rattle.std.proofs.lemmas.Bool.{cases_Bool, eqb-true, eqb-false}
-use Rattle.std.proofs.lemmas.Option.{slice_get_within}
-use Rattle.std.specs.Prelude.{◌≢◌, IfSome, slice_get, if◌then◌else◌}
-use Rattle.std.specs.Ordering.{is_lt}
-use Rattle.std.specs.List.{AllByRecursion}
-use Rattle.std.specs.declared.cmp.Ordering.{Ordering}
-use Rattle.std.specs.declared.cmp.Ordering.TheVariants.{Less, Equal, Greater}
-use Rattle.flute_parts.specs.Order.{address_cmp}
-use Rattle.flute_parts.specs.Addresses.{address}
-use Rattle.flute_parts.specs.Facts.{fact_at, StandAfter}
-use Rattle.flute_parts.specs.Totality.{address_total}
-use Rattle.flute_parts.specs.declared.address.Address.{Address}
-use Rattle.flute_parts.specs.declared.fact.Fact.{Fact}
-use Rattle.flute_parts.proofs.Joined.{joined, fact_at-append}
-use Rattle.flute_parts.proofs.Facts.{alone-at, fact_at-cons}
-use Rattle.flute_parts.proofs.Rising.{fact_at-after}
-use Rattle.flute_journal.specs.declared.fault.LoadFault.{LoadFault}
-use Rattle.flute_journal.specs.Streams.{Behaviour, Advances, GoesOn, StopsAt, option_list, place_of, heads}
-use Rattle.flute_journal.specs.Advances.{GoOnAt, StopAt}
-use Rattle.flute_journal.specs.Leads.{IsBelow, NoneBefore, Leads, StandsAt, lower_of, lower_next}
-use Rattle.flute_journal.specs.Lowest.{IsNotBefore, Lowest, IsLowest}
+use Rattle.flute_journal.proofs.Common.{◌≡◌, ℕ, zero, suc, ◌+◌, ◌<◌, ◌≤◌, true, eqb, List, [], ◌∷◌, ◌++◌, length, Option, Some, None, Ok, Err, refl, sym, ap, ◌∙◌, subst, inl, inr, arith, set, cases_Bool, eqb-true, eqb-false, slice_get_within, same_Some, ◌≢◌, IfSome, slice_get, if◌then◌else◌, is_lt, AllByRecursion, Ordering, Less, Greater, address_cmp, address, StandAfter, address_total, Address, Fact, joined, fact_at-append, alone-at, fact_at-cons, fact_at-after, LoadFault, Behaviour, Advances, GoesOn, StopsAt, option_list, place_of, heads, GoOnAt, StopAt, IsBelow, NoneBefore, Leads, StandsAt, lower_of, lower_next, IsNotBefore, Lowest, IsLowest}
+use Rattle.flute_journal.proofs.Each.{all_append}
 use Rattle.flute_journal.proofs.GoingOn.{item_at}
-use Rattle.flute_journal.proofs.LowestFacts.{up_to_itself, up_to_turned, up_to_less, up_to-trans, less_up_to, all_append}
+use Rattle.flute_journal.proofs.LowestFacts.{up_to_itself, up_to_turned, up_to_less, up_to-trans, less_up_to}
 
 -- The next address.
 
@@ -44,8 +23,7 @@ lower-second (Some a) f = elim (cases_Bool (is_lt (address_cmp a (address f)))) 
   where
     less : (o : Ordering) → address_cmp a (address f) ≡ o → is_lt o ≡ true → address_cmp a (address f) ≢ Greater
     less Less e h k = cc
-    less Equal e h k = absurd cc
-    less Greater e h k = absurd cc
+    less o e h k = absurd cc
 
 -- none of the streams but that one, of the first k, holds a fact before that address
 pub record FirstsFrom {S : Type 0} (b : Behaviour S) (number k : ℕ) (streams : List S) (next : Option Address) : Type 0 where
@@ -65,8 +43,7 @@ module _ {S : Type 0} (b : Behaviour S) (number k : ℕ) (streams : List S) (nex
       next-held (Some f) = lower-second next f
 
       lowered : (o x : Option Fact) → NoneBefore next x → NoneBefore (lower_next next o) x
-      lowered None x h = h
-      lowered (Some f) x h = lower-first next (address f) x h
+      lowered o x h = grind (arith, lower-first)
 
   -- once all were looked at
   pub lead-new : (o : Option Fact) → number < length streams → length streams ≤ k → ((s : S) → slice_get streams number ≡ Some s → o ≡ b.held s) → FirstsFrom b number k streams next
@@ -94,18 +71,14 @@ over g None (Some f) l h = absurd h
 over g (Some a) (Some f) l h = less_up_to (address g) a (address f) (address_cmp a (address f)) l refl h
 
 over_list : (g : Fact) (o : Option Fact) → IsOver g o → StandAfter (address g) (option_list o)
-over_list g None h = tt
-over_list g (Some f) h = (h, tt)
+over_list g o h = grind (arith)
 
 over_place : (g : Fact) (o : Option Fact) → IsOver g o → place_of o ≢ Some (address g)
 over_place g None h e = cc
 over_place g (Some f) h e =
-    let p : address f ≡ address g = some_is (address f) (address g) e in
+    let p : address f ≡ address g = same_Some (address f) (address g) e in
     up_not (subst (λ x. address_cmp (address g) x ≡ Less) p h)
   where
-    some_is : (x y : Address) → Some x ≡ Some y → x ≡ y
-    some_is x y e = cc
-
     up_not : address_cmp (address g) (address g) ≡ Less → ⊥
     up_not l = let m = address_total.antisymm (address g) (address g) in absurd cc
 
@@ -117,11 +90,8 @@ not_before : (a : Address) (fs : List Fact) → StandAfter a fs → AllByRecursi
 not_before a [] h = tt
 not_before a (f ∷ fs) h = (up_to_less (address_cmp a (address f)) h.0, not_before a fs h.1)
 
-some_stream : {X : Type 0} (x y : X) → Some x ≡ Some y → x ≡ y
-some_stream x y e = cc
-
-suc_apart : (j k : ℕ) → suc j ≢ suc k → j ≢ k
-suc_apart j k n e = n (ap suc e)
+suc_is : (j k : ℕ) → suc j ≡ suc k → j ≡ k
+suc_is j k e = omega (arith, e)
 
 zero_apart : (k : ℕ) → suc k ≢ zero
 zero_apart k e = absurd (omega (arith, e))
@@ -142,9 +112,6 @@ module _ {S : Type 0} (b : Behaviour S) where
 
   behind_suc : (g : Fact) (k : ℕ) (s : S) (streams : List S) → OthersOver g (suc k) (s ∷ streams) → OthersOver g k streams
   behind_suc g k s streams h j t e n = h (suc j) t e (λ q. n (suc_is j k q))
-    where
-      suc_is : (j k : ℕ) → suc j ≡ suc k → j ≡ k
-      suc_is j k e = omega (arith, e)
 
   all_after : (g : Fact) (streams : List S) → AllOver g streams → StandAfter (address g) (heads b streams)
   all_after g [] h = tt
@@ -153,23 +120,15 @@ module _ {S : Type 0} (b : Behaviour S) where
 
   -- it is the lowest
   lowest_first : (g : Fact) (fs : List Fact) → StandAfter (address g) fs → Lowest (g ∷ fs) g
-  lowest_first g fs h =
-      let a = address g in record {
-        comes = fact_at-cons g fs a ∙ ap (λ x. joined a x (fact_at fs a)) (alone-at g a refl) ∙ ap (joined a (Some g)) (fact_at-after a fs h);
-        first = (up_to_itself a, not_before a fs h);
-      }
+  lowest_first g fs h = grind (arith, fact_at-cons, joined, alone-at, fact_at-after, up_to_itself, not_before)
 
   lowest_behind : (g : Fact) (es fs : List Fact) → StandAfter (address g) es → Lowest fs g → Lowest (es ++ fs) g
-  lowest_behind g es fs h l =
-      let a = address g in record {
-        comes = fact_at-append es fs a ∙ ap (λ x. joined a x (fact_at fs a)) (fact_at-after a es h) ∙ l.comes;
-        first = all_append (IsNotBefore a) es fs (not_before a es h) l.first;
-      }
+  lowest_behind g es fs h l = grind (arith, fact_at-append, joined, fact_at-after, all_append, not_before)
 
   lead_lowest : (g : Fact) (k : ℕ) (s : S) (streams : List S) → slice_get streams k ≡ Some s → b.held s ≡ Some g → OthersOver g k streams → Lowest (heads b streams) g
   lead_lowest g k s [] e held h = absurd cc
   lead_lowest g zero s (t ∷ streams) e held h =
-      let p : option_list (b.held t) ≡ g ∷ [] = ap (λ x. option_list (b.held x)) (some_stream t s e) ∙ ap option_list held in
+      let p : option_list (b.held t) ≡ g ∷ [] = ap (λ x. option_list (b.held x)) (same_Some t s e) ∙ ap option_list held in
       subst (λ (l : List Fact). Lowest (l ++ heads b streams) g) (sym p) (lowest_first g (heads b streams) (all_after g streams (behind_zero g t streams h)))
   lead_lowest g (suc k) s (t ∷ streams) e held h =
       lowest_behind g (option_list (b.held t)) (heads b streams) (over_list g (b.held t) (first_over h)) (lead_lowest g k s streams e held (behind_suc g k t streams h))
@@ -196,24 +155,16 @@ module _ {S : Type 0} (b : Behaviour S) where
   goes : (a : Option Address) (k : ℕ) (streams : List S) (x y : S) → slice_get streams k ≡ Some x → place_of (b.held x) ≡ a → GoesOn b x y → OthersElsewhere a k streams → GoOnAt b a streams (set streams k y)
   goes a k [] x y e p g h = absurd cc
   goes a zero (s ∷ streams) x y e p g h =
-      let q = some_stream s x e in
+      let q = same_Some s x e in
       (inl (ap (λ t. place_of (b.held t)) q ∙ p, subst (λ t. GoesOn b t y) (sym q) g), all_stay a streams (λ j t i. h (suc j) t i (zero_apart j)))
   goes a (suc k) (s ∷ streams) x y e p g h = (inr (h 0 s refl (apart_zero k), refl), goes a k streams x y e p g (λ j t i n. h (suc j) t i (λ q. n (suc_is j k q))))
-    where
-      suc_is : (j k : ℕ) → suc j ≡ suc k → j ≡ k
-      suc_is j k e = omega (arith, e)
 
   stops : (a : Option Address) (k : ℕ) (f : LoadFault) (streams : List S) (x y : S) → slice_get streams k ≡ Some x → place_of (b.held x) ≡ a → StopsAt b x y f → OthersElsewhere a k streams
       → StopAt b a k f streams (set streams k y)
   stops a k f [] x y e p g h = absurd cc
-  stops a zero f (s ∷ streams) x y e p g h =
-      let q = some_stream s x e in
-      (ap (λ t. place_of (b.held t)) q ∙ p, subst (λ t. StopsAt b t y f) (sym q) g, refl)
+  stops a zero f (s ∷ streams) x y e p g h = grind (arith, same_Some)
   stops a (suc k) f (s ∷ streams) x y e p g h =
       (inr (h 0 s refl (apart_zero k), refl), stops a k f streams x y e p g (λ j t i n. h (suc j) t i (λ q. n (suc_is j k q))))
-    where
-      suc_is : (j k : ℕ) → suc j ≡ suc k → j ≡ k
-      suc_is j k e = omega (arith, e)
 
   elsewhere : (streams : List S) (number : ℕ) (next : Option Address) (a : Address) → Leads b streams number next → StandsAt b (Some a) streams number → OthersElsewhere (Some a) number streams
   elsewhere streams number next a l at = by_held (b.held l.stream) refl
@@ -243,18 +194,10 @@ module _ {S : Type 0} (b : Behaviour S) where
   pub set_elsewhere : (streams : List S) (k j : ℕ) (y : S) → j ≢ k → slice_get (set streams k y) j ≡ slice_get streams j
   set_elsewhere [] k j y n = refl
   set_elsewhere (s ∷ streams) zero zero y n = absurd (n refl)
-  set_elsewhere (s ∷ streams) zero (suc j) y n = refl
-  set_elsewhere (s ∷ streams) (suc k) zero y n = refl
-  set_elsewhere (s ∷ streams) (suc k) (suc j) y n = set_elsewhere streams k j y (suc_apart j k (λ e. n (omega (arith, e))))
+  set_elsewhere (s ∷ streams) (suc k) (suc j) y n = set_elsewhere streams k j y (λ e. n (ap suc e))
+  set_elsewhere (s ∷ streams) k j y n = refl
 
   -- it still leads, where what it holds is below the next address
   pub still-leads : (streams new : List S) (number : ℕ) (next : Option Address) (o : Option Fact) → Leads b streams number next → Advances b number streams new (Ok tt)
       → ((s : S) → slice_get new number ≡ Some s → o ≡ b.held s) → IsBelow o next → Leads b new number next
-  still-leads streams new number next o l v held below =
-      let here : slice_get new number ≡ Some v.after = ap (λ x. slice_get x number) v.now ∙ set_here streams number v.before v.after v.was in
-      record {
-        stream = v.after;
-        is = here;
-        below = subst (λ x. IsBelow x next) (held v.after here) below;
-        others = λ k s i n. l.others k s (sym (set_elsewhere streams number k v.after n) ∙ sym (ap (λ x. slice_get x k) v.now) ∙ i) n;
-      }
+  still-leads streams new number next o l v held below = grind (arith, set_here, set_elsewhere)

@@ -1,15 +1,15 @@
+pub mod Common
+pub mod Each
+pub mod Sequences
 pub mod Numbers
 pub mod Entries
-pub mod Checks
 pub mod Fronts
 pub mod Parts
 pub mod Written
 pub mod Decoded
 pub mod Calls
 pub mod Bodies
-pub mod Orders
 pub mod Passes
-pub mod Found
 pub mod Existence
 pub mod Whole
 pub mod Saving
@@ -19,14 +19,13 @@ pub mod Records
 pub mod FileCalls
 pub mod Files
 pub mod Sending
-pub mod MergeFacts
 pub mod MergeRising
 pub mod MergeBytes
-pub mod MergeSides
-pub mod MergeAhead
-pub mod FileEnds
 pub mod Pairs
+pub mod BesideFacts
+mod Replacements
 pub mod JournalReads
+pub mod OwnedReads
 pub mod GoingOn
 pub mod LowestFacts
 pub mod LeadFacts

@@ -1,17 +1,8 @@
 -- Facts in memory are a stream.
-use Rattle.std.proofs.Common.{◌≡◌, List, [], ◌∷◌, ◌++◌, length, Option, Some, None, refl, sym, ap, ◌∙◌, subst, inl, inr, append_assoc, append-nil, arith}
-use Rattle.std.proofs.lemmas.List.{length-append}
-use Rattle.std.specs.Prelude.{IfSome, ◌⊎◌}
-use Rattle.std.specs.List.{AllByRecursion}
-use Rattle.flute_parts.specs.Addresses.{address, fact_of}
-use Rattle.flute_parts.specs.Facts.{IsRising}
-use Rattle.flute_parts.specs.declared.address.Address.{Address}
-use Rattle.flute_parts.specs.declared.fact.Fact.{Fact}
-use Rattle.flute_parts.specs.declared.fact.FactRef.{FactRef}
-use Rattle.flute_store.specs.Walk.{IsSized, YieldsFact}
-use Rattle.flute_journal.specs.Streams.{fact_in, option_list, GoesOn}
+use Rattle.flute_journal.proofs.Common.{◌≡◌, List, [], ◌∷◌, ◌++◌, length, Option, Some, None, refl, sym, ap, ◌∙◌, subst, inl, inr, append_assoc, append-nil, arith, length-append, IfSome, ◌⊎◌, AllByRecursion, address, IsRising, Address, Fact, FactRef, IsSized, YieldsFact, fact_in, option_list, GoesOn}
+use Rattle.flute_journal.proofs.Each.{all_split}
 use Rattle.flute_journal.specs.Listed.{listed_behaviour}
-use Rattle.flute_journal.proofs.Orders.{Rises, rising-rises, rises-rising}
+use Rattle.flute_journal.proofs.MergeRising.{Rises, rising-rises, rises-rising}
 
 rises_front : (l : Option Address) (xs ys : List Fact) → Rises l (xs ++ ys) → Rises l xs
 rises_front l [] ys r = tt
@@ -20,18 +11,12 @@ rises_front l (x ∷ xs) ys r = (r.0, rises_front (Some (address x)) xs ys r.1)
 rising_front : (xs ys : List Fact) → IsRising (xs ++ ys) → IsRising xs
 rising_front xs ys r = rises-rising xs (rises_front None xs ys (rising-rises (xs ++ ys) r))
 
-all_split : (P : Fact → Type 0) (xs ys : List Fact) → AllByRecursion P (xs ++ ys) → AllByRecursion P xs × AllByRecursion P ys
-all_split P [] ys h = (tt, h)
-all_split P (x ∷ xs) ys h = let r = all_split P xs ys h.1 in ((h.0, r.0), r.1)
-
 some_of : (P : Fact → Type 0) (o : Option Fact) → AllByRecursion P (option_list o) → IfSome o P
-some_of P None h = tt
-some_of P (Some f) h = h.0
+some_of P o h = grind (arith)
 
 -- the next fact of a walk
 pub walked : (r : Option FactRef) (xs ys : List Fact) → YieldsFact (λ (l : List Fact). l) xs r ys → (xs ≡ option_list (fact_in r) ++ ys) × (fact_in r ≡ None → ys ≡ []) × IfSome (fact_in r) IsSized
-walked None xs ys h = (h.0.0 ∙ sym h.0.1, (λ e. h.0.1), tt)
-walked (Some fact) xs ys h = (h.0, (λ e. absurd (let p : Some (fact_of fact) ≡ None = e in cc)), h.1)
+walked r xs ys h = grind (arith)
 
 module _ {S : Type 0} (held : S → Option Fact) (rest : S → List Fact) (is_sound : S → Type 0) where
   -- it holds the next fact, or none is left
@@ -39,9 +24,7 @@ module _ {S : Type 0} (held : S → Option Fact) (rest : S → List Fact) (is_so
   listed_goes_on s t e n v = record {
     gave = λ start F p.
         let G = F ++ option_list (held s) in
-        let all : rest start ≡ (G ++ option_list (held t)) ++ rest t =
-        p.all ∙ ap (λ (l : List Fact). F ++ (option_list (held s) ++ l)) e ∙ sym (append_assoc F (option_list (held s)) (option_list (held t) ++ rest t))
-        ∙ sym (append_assoc G (option_list (held t)) (rest t)) in
+        let all : rest start ≡ (G ++ option_list (held t)) ++ rest t = grind (arith, append_assoc) in
         record {
           passes = record { all = all ∙ append_assoc G (option_list (held t)) (rest t); rising = p.rising; sound = p.sound };
           reads = (option_list (held t) ++ rest t, all ∙ append_assoc G (option_list (held t)) (rest t));

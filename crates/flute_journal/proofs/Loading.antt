@@ -1,30 +1,10 @@
 -- A store that is read entry by entry.
-use Rattle.std.proofs.Common.{◌≡◌, ℕ, List, [], ◌∷◌, ◌++◌, Bool, true, false, Option, Some, None, Ok, Err, inl, inr, refl, sym, ap, ◌∙◌, subst, append-nil, arith}
-use Rattle.std.specs.Prelude.{IfSome, MatchBool}
-use Rattle.std.specs.List.{flat_map}
-use Rattle.std.specs.Io.KnownBytes.{Consumes, IsAtEnd}
-use Rattle.std.proofs.KnownBytes.{Consumes-trans}
+use Rattle.flute_journal.proofs.Common.{◌≡◌, ℕ, List, [], ◌∷◌, ◌++◌, Bool, Option, Some, None, Ok, Err, refl, sym, ◌∙◌, subst, append-nil, arith, IfSome, MatchBool, flat_map, Consumes, IsAtEnd, Consumes-trans, Fact, Same, Over, more_sessions, more_objects, more_symbols, Same-itself, Same-sym, Same-trans, Same-append, Below-from_Same, Over-below, ReadFault, Read, FailsIf, Stage, Header, header, entry, AreEntries, is_open, position, GivesEntry, GivesFault, Gives, ReadsPart, IsJournalOf, BeginsOver, FailsToLoad, IsLoadFault, refused, Sofar}
 use Rattle.flute_join.specs.declared.refusal.JoinRefusal.{JoinRefusal}
 use Rattle.flute_join.specs.declared.refusal.JoinRefusal.TheVariants as join
-use Rattle.flute_parts.specs.declared.fact.Fact.{Fact}
-use Rattle.flute_parts.specs.Facts.{Same}
-use Rattle.flute_parts.specs.Limits.{Over, more_sessions, more_objects, more_symbols}
-use Rattle.flute_parts.proofs.Facts.{Same-itself, Same-sym, Same-trans, Same-append, Below-from_Same}
-use Rattle.flute_parts.proofs.Named.{Over-below}
-use Rattle.flute_journal.specs.declared.fault.ReadFault.{ReadFault}
-use Rattle.flute_journal.specs.declared.fault.ReadFault.TheVariants as faults
-use Rattle.flute_journal.specs.declared.fault.LoadFault.TheVariants.{Read}
-use Rattle.flute_journal.specs.Input.{Fails, FailsIf}
-use Rattle.flute_journal.specs.declared.reader.Stage.{Stage}
-use Rattle.flute_journal.specs.declared.reader.Stage.TheVariants.{Header, Ended}
-use Rattle.flute_journal.specs.Format.{header, entry, end, spelling}
-use Rattle.flute_journal.specs.Journal.{AreEntries}
-use Rattle.flute_journal.specs.Reading.{is_open, position, opening, GivesEntry, GivesEnd, GivesFault, Gives}
-use Rattle.flute_journal.specs.Whole.{ReadsPart, behind}
-use Rattle.flute_journal.specs.Stores.{IsJournalOf, BeginsWith, BeginsOver, FailsToLoad, IsLoadFault, refused}
+use Rattle.flute_journal.specs.Whole.{behind}
 use Rattle.flute_journal.proofs.Parts.{entry_within-short}
-use Rattle.flute_journal.specs.SoFar.{stage_at, read_of, Sofar}
-use Rattle.flute_journal.proofs.Whole.{all_read, sofar-none, sofar-next, sofar-stops}
+use Rattle.flute_journal.proofs.Whole.{all_read, read_some, not_ended, open_at, sofar-none, sofar-next, sofar-stops}
 
 -- these entries were read, and what they come to is held within the limits
 pub record Loaded (s o y limit : ℕ) (first now : Option (List ℕ)) (stage : Stage) (content : List Fact) : Type 0 where
@@ -68,18 +48,11 @@ loaded-next s o y limit u v w old new F G f l h same fits =
 pub loaded-fits : (s o y limit : ℕ) (u v : Option (List ℕ)) (stage : Stage) (F : List Fact) → Loaded s o y limit u v stage F → Over F s o y → ⊥
 loaded-fits s o y limit u v stage F l over = l.fits (over-same F l.entries s o y l.same over)
 
-begins : (limit : ℕ) (x y : List ℕ) (es : List Fact) → AreEntries limit es → x ≡ header ++ flat_map entry es ++ y → BeginsWith limit x es
-begins limit x y es a e = record { are_entries = a; rest = y; whole = e }
-
 begins-over : (s o y limit : ℕ) (u w : Option (List ℕ)) (es : List Fact) (f : Fact) → AreEntries limit (es ++ f ∷ []) → Consumes u w (header ++ flat_map entry (es ++ f ∷ []))
     → Over (es ++ f ∷ []) s o y → IfSome u (BeginsOver s o y limit)
 begins-over s o y limit None w es f a h over = tt
 begins-over s o y limit (Some x) None es f a h over = absurd h
-begins-over s o y limit (Some x) (Some z) es f a h over = (es ++ f ∷ [], begins limit x z (es ++ f ∷ []) a h, over)
-
-pub read_some : (es : List Fact) (f : Fact) → read_of (es ++ f ∷ []) ≡ header ++ flat_map entry (es ++ f ∷ [])
-read_some [] f = refl
-read_some (e ∷ es) f = refl
+begins-over s o y limit (Some x) (Some z) es f a h over = (es ++ f ∷ [], record { are_entries = a; rest = z; whole = h }, over)
 
 pub loaded-over : (s o y limit : ℕ) (u v w : Option (List ℕ)) (old new : Stage) (F : List Fact) (f : Fact) → Loaded s o y limit u v old F
     → GivesEntry limit old new v w f → Over (F ++ f ∷ []) s o y → IfSome u (BeginsOver s o y limit)
@@ -89,35 +62,10 @@ loaded-over s o y limit u v w old new F f l h over =
     begins-over s o y limit u w es f next.are_entries (subst (Consumes u w) (read_some es f) next.read)
     (over-same (F ++ f ∷ []) (es ++ f ∷ []) s o y (one_more F es f l.same) over)
 
-not_ended : (es : List Fact) → stage_at es ≡ Ended → ⊥
-not_ended [] e = cc
-not_ended (x ∷ es) e = cc
-
-journal-of : (limit : ℕ) (u w : Option (List ℕ)) (content es : List Fact) → AreEntries limit es → Same content es → Consumes u w (spelling es) → IsAtEnd w
-    → IfSome u (λ bytes. IsJournalOf limit bytes content)
-journal-of limit None w content es a same took ended = tt
-journal-of limit (Some x) None content es a same took ended = absurd took
-journal-of limit (Some x) (Some z) content es a same took ended =
-    (es, record { are_entries = a; bytes_are = took ∙ ap (λ (l : List ℕ). spelling es ++ l) ended ∙ append-nil (spelling es) }, same)
-
 -- what the end tells
 pub record IsLoaded (limit : ℕ) (first last : Option (List ℕ)) (content : List Fact) : Type 0 where
   pub journal : IfSome first (λ bytes. IsJournalOf limit bytes content)
   pub at_end : IsAtEnd last
-
-ended-at : (limit : ℕ) (u v w : Option (List ℕ)) (new : Stage) (content es : List Fact) → AreEntries limit es → Same content es → Consumes u v (read_of es)
-    → GivesEnd (stage_at es) new v w → IsLoaded limit u w content
-ended-at limit u v w new content es a same took h = elim h.bytes [
-  | inl p ↦ absurd (not_ended es p.0)
-  | inr p ↦
-      let whole : Consumes u w (spelling es) =
-      subst (Consumes u w) (all_read es) (Consumes-trans u v w (read_of es) (opening (stage_at es) ++ end (position (stage_at es)).count) took p.1) in
-      record { journal = journal-of limit u w content es a same whole p.2; at_end = p.2 }
-]
-
-pub loaded-end : (s o y limit : ℕ) (u v w : Option (List ℕ)) (old new : Stage) (F : List Fact) → Loaded s o y limit u v old F → GivesEnd old new v w → IsLoaded limit u w F
-loaded-end s o y limit u v w old new F l h =
-    ended-at limit u v w new F l.entries l.sofar.are_entries l.same l.sofar.read (subst (λ (x : Stage). GivesEnd x new v w) l.sofar.stage_is h)
 
 -- how many entries were read
 abbrev pub entries_at : Stage → ℕ
@@ -125,38 +73,19 @@ entries_at stage = (position stage).count
 
 -- and how often the source failed
 
-pub open_at : (es : List Fact) → is_open (stage_at es) ≡ true
-open_at [] = refl
-open_at (e ∷ es) = refl
-
-pub fails_same : (T X : Type 0) (f : ReadFault) (n m : ℕ) → Fails {T = T} n m (Err f) → Fails {T = X} n m (Err f)
-fails_same T X faults.Read n m h = h
-fails_same T X faults.Cut n m h = h
-fails_same T X faults.OutOfMemory n m h = h
-fails_same T X f n m h = h
-
-load_fails : (T X : Type 0) (f : ReadFault) (n m k : ℕ) → m ≡ n → Fails {T = T} m k (Err f) → FailsToLoad {T = X} n k (Err (Read f))
-load_fails T X f n m k e h =
-    let P : ℕ → Type 0 = λ i. Fails {T = X} i k (Err f) in
-    subst P e (fails_same T X f m k h)
-
 pub loaded-failed : (T X : Type 0) (s o y limit : ℕ) (u v : Option (List ℕ)) (stage : Stage) (F : List Fact) (f : ReadFault) (n m k : ℕ) → Loaded s o y limit u v stage F
     → m ≡ n → FailsIf {T = T} (is_open stage) m k (Err f) → FailsToLoad {T = X} n k (Err (Read f))
-loaded-failed T X s o y limit u v stage F f n m k l e h =
-    let P : Bool → Type 0 = λ b. FailsIf {T = T} b m k (Err f) in
-    load_fails T X f n m k e (subst P (ap is_open l.sofar.stage_is ∙ open_at l.entries) h)
+loaded-failed T X s o y limit u v stage F f n m k l e h = grind (arith, open_at)
 
 -- no failure is counted where something was given
 pub loaded-read : (b : Bool) (n m k : ℕ) → m ≡ n → MatchBool b (k ≡ m) (k ≡ m) → k ≡ n
-loaded-read true n m k e h = omega (arith, e, h)
-loaded-read false n m k e h = omega (arith, e, h)
+loaded-read b n m k e h = grind (arith)
 
 -- What a reader gave, and what became of it in the store.
 
 pub given-entry : (limit bound : ℕ) (v w : Option (List ℕ)) (old new : Stage) (given : Option Fact) (f : Fact) → bound ≡ limit → given ≡ Some f → Gives bound old new v w (Ok given)
     → GivesEntry limit old new v w f
-given-entry limit bound v w old new given f b e h =
-    subst (λ (n : ℕ). GivesEntry n old new v w f) b (subst (λ (o : Option Fact). Gives bound old new v w (Ok o)) e h)
+given-entry limit bound v w old new given f b e h = grind (arith)
 
 pub loaded-given : {X : Type 0} (s o y limit bound : ℕ) (u v w : Option (List ℕ)) (old new : Stage) (F G : List Fact) (given : Option Fact) (f : Fact) (x : X)
     → Loaded s o y limit u v old F → bound ≡ limit → given ≡ Some f → Gives bound old new v w (Ok given) → Same G (F ++ f ∷ [])
@@ -173,7 +102,7 @@ loaded-full s o y limit bound u v w z old new F given f join.OutOfMemory l b e h
 
 pub loaded-all : (s o y limit bound : ℕ) (u v w : Option (List ℕ)) (old new : Stage) (F : List Fact) (given : Option Fact) → Loaded s o y limit u v old F
     → bound ≡ limit → given ≡ None → Gives bound old new v w (Ok given) → IsLoaded limit u w F
-loaded-all s o y limit bound u v w old new F None l b e h = loaded-end s o y limit u v w old new F l h
+loaded-all s o y limit bound u v w old new F None l b e h = grind (arith, not_ended, all_read, Consumes-trans, append-nil)
 loaded-all s o y limit bound u v w old new F (Some f) l b e h = absurd cc
 
 pub loaded-stops : (s o y limit bound : ℕ) (u v w : Option (List ℕ)) (old new : Stage) (F : List Fact) (f : ReadFault) → Loaded s o y limit u v old F

@@ -1,28 +1,8 @@
 -- The lowest address of facts, and what they come to there, fact by fact.
-use Rattle.std.proofs.Common.{◌≡◌, ℕ, ◌+◌, ◌<◌, true, false, List, [], ◌∷◌, ◌++◌, length, take, get_or, Option, Some, refl, sym, ap, ◌∙◌, subst, append_assoc, append-nil}
-use Rattle.std.proofs.lemmas.List.{take_more}
-use Rattle.std.proofs.lemmas.Option.{get_or_from_slice_get}
-use Rattle.std.specs.Prelude.{◌≢◌, slice_get}
-use Rattle.std.specs.List.{AllByRecursion}
-use Rattle.std.specs.Ordering.{is_lt, is_eq}
-use Rattle.std.specs.declared.cmp.Ordering.{Ordering}
-use Rattle.std.specs.declared.cmp.Ordering.TheVariants.{Less, Equal, Greater}
-use Rattle.flute_parts.specs.Order.{address_cmp}
-use Rattle.flute_parts.specs.Addresses.{address}
-use Rattle.flute_parts.specs.Facts.{fact_at, conflict_in, conflict_at, same_fact, StandAfter}
-use Rattle.flute_parts.specs.Equality.{address_same, address_itself, fact_same}
-use Rattle.flute_parts.specs.Totality.{address_total}
-use Rattle.flute_parts.specs.declared.key.Key.{Key}
-use Rattle.flute_parts.specs.declared.address.Part.{Part}
+use Rattle.flute_journal.proofs.Common.{◌≡◌, ℕ, ◌+◌, ◌<◌, true, false, List, [], ◌∷◌, ◌++◌, length, take, get_or, Option, Some, refl, sym, ap, ◌∙◌, subst, append_assoc, append-nil, take_more, get_or_from_slice_get, ◌≢◌, slice_get, AllByRecursion, is_lt, is_eq, Ordering, Less, Equal, Greater, address_cmp, address, fact_at, conflict_in, conflict_at, same_fact, StandAfter, address_same, address_itself, fact_same, address_total, Key, Part, Address, Fact, joined, joined-same, joined-apart, joined-none, fact_at-append, alone-at, alone-elsewhere, fact_at-after, Behaviour, option_list, heads, IsNotBefore, Lowest}
+use Rattle.flute_journal.proofs.Each.{all_append, all_map}
 use Rattle.flute_parts.specs.declared.address.Part.TheVariants.{Info as InfoPart, Symbol as SymbolPart}
-use Rattle.flute_parts.specs.declared.address.Address.{Address}
-use Rattle.flute_parts.specs.declared.fact.Fact.{Fact}
-use Rattle.flute_parts.proofs.Joined.{joined, joined-same, joined-apart, joined-none, fact_at-append}
-use Rattle.flute_parts.proofs.Facts.{alone-at, alone-elsewhere}
-use Rattle.flute_parts.proofs.Rising.{fact_at-after}
-use Rattle.flute_journal.specs.Streams.{Behaviour, option_list, heads}
 use Rattle.flute_journal.proofs.GoingOn.{item_at}
-use Rattle.flute_journal.specs.Lowest.{IsNotBefore, Lowest}
 
 -- addresses
 
@@ -49,23 +29,11 @@ up_to_turned a b Less e h = absurd cc
 up_to_turned a b Equal e h = λ k. let r = address_total.antisymm b a in absurd cc
 up_to_turned a b Greater e h = λ k. let r = address_total.antisymm b a in absurd cc
 
--- lists
-
-pub all_append : {X : Type 0} (P : X → Type 0) (xs ys : List X) → AllByRecursion P xs → AllByRecursion P ys → AllByRecursion P (xs ++ ys)
-all_append P [] ys p q = q
-all_append P (x ∷ xs) ys p q = (p.0, all_append P xs ys p.1 q)
-
-pub all_map : {X : Type 0} (P Q : X → Type 0) (xs : List X) → ((x : X) → P x → Q x) → AllByRecursion P xs → AllByRecursion Q xs
-all_map P Q [] h p = tt
-all_map P Q (x ∷ xs) h p = (h x p.0, all_map P Q xs h p.1)
-
 -- what is held, stream by stream
 
 pub heads-append : {S : Type 0} (b : Behaviour S) (xs ys : List S) → heads b (xs ++ ys) ≡ heads b xs ++ heads b ys
 heads-append b [] ys = refl
-heads-append b (x ∷ xs) ys =
-    ap (λ (l : List Fact). option_list (b.held x) ++ l) (heads-append b xs ys)
-    ∙ sym (append_assoc (option_list (b.held x)) (heads b xs) (heads b ys))
+heads-append b (x ∷ xs) ys = cc (heads-append b xs ys, append_assoc (option_list (b.held x)) (heads b xs) (heads b ys))
 
 -- one stream more
 pub heads-more : {S : Type 0} (b : Behaviour S) (xs : List S) (k : ℕ) (o : Option Fact) → k < length xs → ((x : S) → slice_get xs k ≡ Some x → o ≡ b.held x)

@@ -1,31 +1,40 @@
--- Rising lists, of which one begins another.
-use Rattle.std.proofs.Common.{◌≡◌, false, true, List, [], ◌∷◌, ◌++◌, Option, Some, None, IsTrue, refl, sym, ap, ◌∙◌, subst, inl, inr}
-use Rattle.std.proofs.lemmas.Bool.{false≢true, cases_Bool}
+-- Rising facts, and lists of them, of which one begins another.
+use Rattle.flute_journal.proofs.Common.{none-some, same_Some, ◌≡◌, false, true, List, [], ◌∷◌, ◌++◌, Option, Some, None, IsTrue, refl, sym, ap, ◌∙◌, subst, inl, inr, false≢true, cases_Bool, Ordering, Less, Equal, Greater, is_lt, is_eq, address_cmp, same_address, address, fact_at, address_same, address_total, Address, Fact, fact_at-nil, fact_at-here, fact_at-elsewhere, is_after, last_of, Same, joined, joined-comm, joined-assoc, joined-none, fact_at-append, StandAfter, IsRising, StandAfter-before}
 use Rattle.std.proofs.lemmas.Cmp.{tied_itself}
-use Rattle.std.specs.declared.cmp.Ordering.{Ordering}
-use Rattle.std.specs.declared.cmp.Ordering.TheVariants.{Less, Equal, Greater}
-use Rattle.std.specs.Ordering.{is_lt, is_eq, ordering_reverse}
-use Rattle.flute_parts.specs.Order.{address_cmp, same_address}
-use Rattle.flute_parts.specs.Addresses.{address}
-use Rattle.flute_parts.specs.Facts.{fact_at}
-use Rattle.flute_parts.specs.Equality.{address_same}
-use Rattle.flute_parts.specs.Totality.{address_total}
-use Rattle.flute_parts.specs.declared.address.Address.{Address}
-use Rattle.flute_parts.specs.declared.fact.Fact.{Fact}
-use Rattle.flute_parts.proofs.Facts.{fact_at-nil, fact_at-here, fact_at-elsewhere}
-use Rattle.flute_journal.specs.Faults.{is_after}
-use Rattle.flute_journal.specs.Journal.{last_of}
-use Rattle.flute_journal.proofs.Orders.{Rises}
+use Rattle.std.specs.Ordering.{ordering_reverse}
+
+-- each address is above the one before it, the first above the last one
+abbrev pub Rises : Option Address → List Fact → Type 0
+Rises last [] = Unit {0}
+Rises last (f ∷ fs) = IsTrue (is_after last (address f)) × Rises (Some (address f)) fs
+
+pub less_is : (o : Ordering) → is_lt o ≡ true → o ≡ Less
+less_is Less e = refl
+less_is o e = absurd cc
+
+after-rises : (a : Address) (fs : List Fact) → StandAfter a fs → IsRising fs → Rises (Some a) fs
+after-rises a [] s r = tt
+after-rises a (f ∷ fs) s r = (ap is_lt s.0, after-rises (address f) fs r.0 r.1)
+
+pub rising-rises : (fs : List Fact) → IsRising fs → Rises None fs
+rising-rises [] r = tt
+rising-rises (f ∷ fs) r = (refl, after-rises (address f) fs r.0 r.1)
+
+rises-after : (a : Address) (fs : List Fact) → Rises (Some a) fs → StandAfter a fs × IsRising fs
+rises-after a [] r = (tt, tt)
+rises-after a (f ∷ fs) r =
+    let rest = rises-after (address f) fs r.1 in
+    let less = less_is (address_cmp a (address f)) r.0 in
+    ((less, StandAfter-before a (address f) fs less rest.0), (rest.0, rest.1))
+
+pub rises-rising : (fs : List Fact) → Rises None fs → IsRising fs
+rises-rising [] r = tt
+rises-rising (f ∷ fs) r = rises-after (address f) fs r.1
 
 -- addresses, one after another
 
-is_less : (o : Ordering) → is_lt o ≡ true → o ≡ Less
-is_less Less e = refl
-is_less Equal e = absurd (false≢true e)
-is_less Greater e = absurd (false≢true e)
-
 less : (a b : Address) → IsTrue (is_after (Some a) b) → address_cmp a b ≡ Less
-less a b h = is_less (address_cmp a b) h
+less a b h = less_is (address_cmp a b) h
 
 pub after : (a b : Address) → address_cmp a b ≡ Less → IsTrue (is_after (Some a) b)
 after a b h = ap is_lt h
@@ -61,9 +70,7 @@ not_same-after l a b h n = elim (cases_Bool (same_address a b)) [
 -- nothing stands at an address that a rising list has left behind
 pub rising-none : (l : Option Address) (es : List Fact) (a : Address) → Rises l es → is_after l a ≡ false → fact_at es a ≡ None
 rising-none l [] a r n = fact_at-nil a
-rising-none l (f ∷ fs) a r n =
-    fact_at-elsewhere f fs a (not_same-after l (address f) a r.0 n)
-    ∙ rising-none (Some (address f)) fs a r.1 (not_after-later l (address f) a r.0 n)
+rising-none l (f ∷ fs) a r n = cc (fact_at-elsewhere f fs a (not_same-after l (address f) a r.0 n), rising-none (Some (address f)) fs a r.1 (not_after-later l (address f) a r.0 n))
 
 rising-head : (l : Option Address) (f : Fact) (fs : List Fact) → Rises l (f ∷ fs) → fact_at (f ∷ fs) (address f) ≡ Some f
 rising-head l f fs r = fact_at-here f fs (rising-none (Some (address f)) fs (address f) r.1 (not_after_itself (address f)))
@@ -73,18 +80,12 @@ not_after-last : (l : Address) (es : List Fact) (a : Address) → Rises (Some l)
 not_after-last l [] a r n = n
 not_after-last l (f ∷ fs) a r n = not_after-last (address f) fs a r.1 (not_after-later (Some l) (address f) a r.0 n)
 
-some_is : (f g : Fact) → Some f ≡ Some g → f ≡ g
-some_is f g e = cc
-
-none_is_not : (f : Fact) → None ≡ Some f → ⊥
-none_is_not f e = cc
-
 -- a rising list begins with another if they come to the same up to the other's last address
 pub rising-prefix : (l : Option Address) (M E : List Fact) → Rises l M → Rises l E
     → ((a : Address) → is_after (last_of l M) a ≡ false → fact_at M a ≡ fact_at E a) → (rest : List Fact) × (E ≡ M ++ rest)
 rising-prefix l [] E r s h = (E, refl)
 rising-prefix l (m ∷ M) [] r s h =
-    absurd (none_is_not m (sym (fact_at-nil (address m))
+    absurd (none-some m (sym (fact_at-nil (address m))
     ∙ sym (h (address m) (not_after-last (address m) M (address m) r.1 (not_after_itself (address m))))
     ∙ rising-head l m M r))
 rising-prefix l (m ∷ M) (e ∷ E) r s h =
@@ -105,19 +106,19 @@ rising-prefix l (m ∷ M) (e ∷ E) r s h =
     ]
 
     by_order : (address m ≡ address e → (rest : List Fact) × (E ≡ M ++ rest)) → (o : Ordering) → address_cmp (address m) (address e) ≡ o → (rest : List Fact) × (e ∷ E ≡ (m ∷ M) ++ rest)
-    by_order tail Less o = absurd (none_is_not m (
+    by_order tail Less o = absurd (none-some m (
         sym (rising-none (Some (address m)) (e ∷ E) (address m) (after (address m) (address e) o, s.1) (not_after_itself (address m)))
         ∙ sym here ∙ rising-head l m M r))
     by_order tail Greater o =
         let lower = turned_less (address m) (address e) o in
         let out = not_after-later (Some (address e)) (address m) (address e) (after (address e) (address m) lower) (not_after_itself (address e)) in
-        absurd (none_is_not e (
+        absurd (none-some e (
         sym (rising-none (Some (address e)) (m ∷ M) (address e) (after (address e) (address m) lower, r.1) (not_after_itself (address e)))
         ∙ h (address e) (not_after-last (address m) M (address e) r.1 out)
         ∙ rising-head l e E s))
     by_order tail Equal o =
         let p = address_same (address m) (address e) (ap is_eq o) in
-        let q : m ≡ e = some_is m e (sym (rising-head l m M r) ∙ here ∙ ap (fact_at (e ∷ E)) p ∙ rising-head l e E s) in
+        let q : m ≡ e = same_Some m e (sym (rising-head l m M r) ∙ here ∙ ap (fact_at (e ∷ E)) p ∙ rising-head l e E s) in
         let rest = tail p in
         (rest.0, ap (λ (z : Fact). z ∷ E) (sym q) ∙ ap (λ (zs : List Fact). m ∷ zs) rest.1)
 
@@ -130,3 +131,24 @@ last_of-snoc l (e ∷ es) f = last_of-snoc (Some (address e)) es f
 pub Rises-second : (l : Option Address) (es fs : List Fact) → Rises l (es ++ fs) → Rises (last_of l es) fs
 Rises-second l [] fs r = r
 Rises-second l (e ∷ es) fs r = Rises-second (Some (address e)) es fs r.1
+
+-- two lists, of which the second has nothing at an address
+
+pub fact_at-second_none : (F G : List Fact) (a : Address) → fact_at G a ≡ None → fact_at (F ++ G) a ≡ fact_at F a
+fact_at-second_none F G a q = fact_at-append F G a ∙ ap (joined a (fact_at F a)) q ∙ joined-none a (fact_at F a)
+
+-- what stands in the middle may change places
+pub Same-crossed : (F G H K : List Fact) → Same ((F ++ G) ++ (H ++ K)) ((F ++ H) ++ (G ++ K))
+Same-crossed F G H K = record {
+  each = λ a.
+      fact_at-append (F ++ G) (H ++ K) a
+      ∙ ap (λ x. joined a x (fact_at (H ++ K) a)) (fact_at-append F G a)
+      ∙ ap (joined a (joined a (fact_at F a) (fact_at G a))) (fact_at-append H K a)
+      ∙ crossed a (fact_at F a) (fact_at G a) (fact_at H a) (fact_at K a)
+      ∙ ap (λ x. joined a x (joined a (fact_at G a) (fact_at K a))) (sym (fact_at-append F H a))
+      ∙ ap (joined a (fact_at (F ++ H) a)) (sym (fact_at-append G K a))
+      ∙ sym (fact_at-append (F ++ H) (G ++ K) a);
+}
+  where
+    crossed : (a : Address) (w x y z : Option Fact) → joined a (joined a w x) (joined a y z) ≡ joined a (joined a w y) (joined a x z)
+    crossed a w x y z = cc (joined-assoc a w x (joined a y z), joined-assoc a x y z, joined-comm a x y, joined-assoc a y x z, joined-assoc a w y (joined a x z))

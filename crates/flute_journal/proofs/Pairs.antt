@@ -1,12 +1,5 @@
 -- A stream of two kinds goes on as its kind does.
-use Rattle.std.proofs.Common.{◌≡◌, ℕ, List, [], ◌∷◌, ◌++◌, Result, Ok, Err, sym, ap}
-use Rattle.std.specs.Prelude.{OnOk, IfErr, slice_get, slice_set}
-use Rattle.flute_parts.specs.declared.fact.Fact.{Fact}
-use Rattle.flute_journal.specs.declared.fault.LoadFault.{LoadFault}
-use Rattle.flute_journal.specs.declared.either.Either.{Either}
-use Rattle.flute_journal.specs.declared.either.Either.TheVariants.{First, Second}
-use Rattle.flute_journal.specs.Streams.{Behaviour, Gave, GoesOn, Stopped, StopsAt, Advances, option_list}
-use Rattle.flute_journal.specs.Eithers.{either_behaviour}
+use Rattle.flute_journal.proofs.Common.{◌≡◌, ℕ, List, [], ◌∷◌, ◌++◌, Some, Result, Ok, Err, sym, ap, OnOk, IfErr, slice_get, slice_set, Fact, LoadFault, Either, First, Second, Behaviour, Gave, GoesOn, Stopped, StopsAt, Advances, option_list, either_behaviour}
 
 module _ {A B : Type 0} (a : Behaviour A) (b : Behaviour B) where
   abbrev e : Behaviour (Either A B)
@@ -54,40 +47,23 @@ module _ {A B : Type 0} (a : Behaviour A) (b : Behaviour B) where
   second_stops x y f h (First s) F p = absurd p
   second_stops x y f h (Second s) F p = let r = h s F p in record { reads = r.reads; fails = r.fails; stops = r.stops }
 
+  -- the stream at a place, of the one kind or of the other, was advanced
+  pub first_at : (x y : A) (n : ℕ) (old new : List (Either A B)) (r : Result (Unit {0}) LoadFault) → slice_get old n ≡ Some (First x) → new ≡ slice_set old n (First y)
+      → OnOk r (GoesOn a x y) → IfErr r (StopsAt a x y) → Advances e n old new r
+  first_at x y n old new (Ok t) w m g s = record { before = First x; after = First y; was = w; now = m; goes_on = record { gave = first_on x y g; fewer = g.fewer }; stops = tt }
+  first_at x y n old new (Err f) w m g s = record { before = First x; after = First y; was = w; now = m; goes_on = tt; stops = first_stops x y f s }
+
+  pub second_at : (x y : B) (n : ℕ) (old new : List (Either A B)) (r : Result (Unit {0}) LoadFault) → slice_get old n ≡ Some (Second x) → new ≡ slice_set old n (Second y)
+      → OnOk r (GoesOn b x y) → IfErr r (StopsAt b x y) → Advances e n old new r
+  second_at x y n old new (Ok t) w m g s = record { before = Second x; after = Second y; was = w; now = m; goes_on = record { gave = second_on x y g; fewer = g.fewer }; stops = tt }
+  second_at x y n old new (Err f) w m g s = record { before = Second x; after = Second y; was = w; now = m; goes_on = tt; stops = second_stops x y f s }
+
   pub first_advances : (x y : A) (z : B) (n : ℕ) (r : Result (Unit {0}) LoadFault) → n ≡ 0 → OnOk r (GoesOn a x y) → IfErr r (StopsAt a x y)
       → Advances e n (First x ∷ Second z ∷ []) (First y ∷ Second z ∷ []) r
-  first_advances x y z n (Ok t) h g s = record {
-    before = First x;
-    after = First y;
-    was = ap (slice_get (First x ∷ Second z ∷ [])) h;
-    now = sym (ap (λ k. slice_set (First x ∷ Second z ∷ []) k (First y)) h);
-    goes_on = record { gave = first_on x y g; fewer = g.fewer };
-    stops = tt;
-  }
-  first_advances x y z n (Err f) h g s = record {
-    before = First x;
-    after = First y;
-    was = ap (slice_get (First x ∷ Second z ∷ [])) h;
-    now = sym (ap (λ k. slice_set (First x ∷ Second z ∷ []) k (First y)) h);
-    goes_on = tt;
-    stops = first_stops x y f s;
-  }
+  first_advances x y z n r h g s =
+      first_at x y n (First x ∷ Second z ∷ []) (First y ∷ Second z ∷ []) r (ap (slice_get (First x ∷ Second z ∷ [])) h) (sym (ap (λ k. slice_set (First x ∷ Second z ∷ []) k (First y)) h)) g s
 
   pub second_advances : (x y : B) (z : A) (n : ℕ) (r : Result (Unit {0}) LoadFault) → n ≡ 1 → OnOk r (GoesOn b x y) → IfErr r (StopsAt b x y)
       → Advances e n (First z ∷ Second x ∷ []) (First z ∷ Second y ∷ []) r
-  second_advances x y z n (Ok t) h g s = record {
-    before = Second x;
-    after = Second y;
-    was = ap (slice_get (First z ∷ Second x ∷ [])) h;
-    now = sym (ap (λ k. slice_set (First z ∷ Second x ∷ []) k (Second y)) h);
-    goes_on = record { gave = second_on x y g; fewer = g.fewer };
-    stops = tt;
-  }
-  second_advances x y z n (Err f) h g s = record {
-    before = Second x;
-    after = Second y;
-    was = ap (slice_get (First z ∷ Second x ∷ [])) h;
-    now = sym (ap (λ k. slice_set (First z ∷ Second x ∷ []) k (Second y)) h);
-    goes_on = tt;
-    stops = second_stops x y f s;
-  }
+  second_advances x y z n r h g s =
+      second_at x y n (First z ∷ Second x ∷ []) (First z ∷ Second y ∷ []) r (ap (slice_get (First z ∷ Second x ∷ [])) h) (sym (ap (λ k. slice_set (First z ∷ Second x ∷ []) k (Second y)) h)) g s

@@ -1,35 +1,21 @@
 -- The records of a datagram file.
-use Rattle.std.proofs.Common.{◌≡◌, ℕ, ◌+◌, ◌^◌, ◌<◌, ◌≤◌, Bool, true, false, leb, List, [], ◌∷◌, ◌++◌, length, take, drop, Option, Some, None, Result, Ok, Err, inl, inr, refl, sym, ap, ◌∙◌, subst, append_assoc, arith}
-use Rattle.std.proofs.lemmas.Bool.{le-leb, lt-leb, lt-ltb}
-use Rattle.std.proofs.lemmas.List.{take_at, drop_at, length-append, append-nil, flat_map_more}
-use Rattle.std.specs.List.{flat_map, AllByRecursion, IsSplitAt}
-use Rattle.std.specs.Io.KnownBytes.{Consumes}
-use Rattle.std.proofs.KnownBytes.{Consumes-trans}
-use Rattle.std.specs.Prelude.{IfSome}
-use Rattle.flute_parts.specs.BigEndian.{big_endian}
-use Rattle.flute_journal.specs.declared.fault.ReadFault.{ReadFault}
+use Rattle.flute_journal.proofs.Common.{◌≡◌, ℕ, ◌+◌, ◌^◌, ◌<◌, ◌≤◌, Bool, true, false, leb, List, [], ◌∷◌, ◌++◌, length, take, drop, Option, Some, None, Result, Ok, Err, inl, inr, refl, sym, ap, ◌∙◌, subst, append_assoc, arith, le-leb, lt-leb, lt-ltb, nil_from_length, take_at, drop_at, length-append, append-nil, flat_map_more, flat_map, AllByRecursion, IsSplitAt, Consumes, IsAtEnd, Consumes-trans, Consumes-nil, IfSome, big_endian, ReadFault, FileStage, Records, in_bytes, Check, first_fault, cut, opening_fault, Fronts, IsFaultOf, IsFaultUpTo, IsWithin, StaysWithin, told, IsByte, cut_fault, or_else, file_header, record_of, IsCut, IsDatagram, AreDatagrams, FileStops, HasFileFault, ReadsRecord, record_checks, record_fault, given, file_fault_from, GivesRecord, GivesFileFault, IsFileWithin, length-bytes_high_first}
+use Rattle.flute_journal.proofs.Parts.{first-pass, first-stop, cut-passes, nothing_left, within-short}
+use Rattle.flute_journal.proofs.Each.{all_more}
 use Rattle.flute_journal.specs.declared.fault.ReadFault.TheVariants as faults
-use Rattle.flute_journal.specs.declared.datagram_reader.FileStage.{FileStage}
-use Rattle.flute_journal.specs.declared.datagram_reader.FileStage.TheVariants.{Header, Records, Failed}
-use Rattle.flute_journal.specs.Numbers.{in_bytes}
-use Rattle.flute_journal.specs.Faults.{Check, first_fault, cut, opening_fault}
-use Rattle.flute_journal.specs.Input.{Advances, Fronts, IsFaultOf, IsFaultUpTo, IsWithin, StaysWithin, told}
-use Rattle.flute_journal.specs.Journal.{IsByte}
-use Rattle.flute_journal.specs.Parsing.{cut_fault}
-use Rattle.flute_journal.specs.Reading.{or_else}
-use Rattle.flute_journal.specs.Records.{file_header, record_of, IsCut, IsDatagram, AreDatagrams, FileStops, in_header, behind, HasFileFault, ReadsRecord, record_checks, record_fault, given, opening, file_fault_from, GivesRecord, GivesFileFault}
-use Rattle.flute_journal.proofs.Numbers.{octets-drop, in_bytes-injective, length-in_bytes}
+use Rattle.flute_journal.specs.declared.datagram_reader.FileStage.TheVariants.{Header, Ended, Failed}
+use Rattle.flute_journal.specs.Input.{Advances}
+use Rattle.flute_journal.specs.Records.{in_header, behind, opening, GivesNone}
+use Rattle.flute_journal.specs.FilesSoFar.{file_stage_at, file_read_of, FileSofar}
+use Rattle.flute_journal.proofs.Numbers.{octets-drop, in_bytes-injective}
 use Rattle.flute_journal.proofs.Decoded.{joined, front_octets}
-use Rattle.flute_journal.proofs.Checks.{first-pass, first-stop, cut-passes, nothing_left}
-use Rattle.flute_journal.proofs.Parts.{within-short}
 use Rattle.flute_journal.proofs.Fronts.{fault-behind, fault_up_to}
 use Rattle.flute_journal.proofs.Existence.{opening_is}
 
 -- a byte follows as many records as there may be
 pub too_many_records : (limit count : ℕ) (front r : List ℕ) → 0 < length front → limit ≤ count → record_fault limit count (front ++ r) ≡ Some faults.TooMany
 too_many_records limit count [] r some le = absurd (omega (arith, some))
-too_many_records limit count (b ∷ bs) r some le =
-    first-stop (leb limit count, faults.TooMany) (cut 2 (b ∷ bs ++ r) ∷ cut (big_endian (take 2 (b ∷ bs ++ r))) (drop 2 (b ∷ bs ++ r)) ∷ []) (le-leb limit count le)
+too_many_records limit count (b ∷ bs) r some le = grind (arith, first-stop, le-leb)
 
 -- a record within the bound is cut within its bytes, or not at all
 record_checked : (limit count : ℕ) (front r : List ℕ) → count < limit → length front ≡ 2 → first_fault (record_checks limit count (front ++ r)) ≡ cut_fault (big_endian front) r
@@ -47,14 +33,12 @@ record_comes limit count n (b ∷ bs) r few len is = record_checked limit count 
 -- the bytes of a record could not be read
 pub record_stops : (limit count n : ℕ) (u v w : Option (List ℕ)) (front : List ℕ) (f : ReadFault) → count < limit → length front ≡ 2 → n ≡ big_endian front
     → Consumes u v front → IsFaultOf (cut_fault n) v w f → IsFaultUpTo [] (record_fault limit count) u w f
-record_stops limit count n u v w front f few len is took h =
-    fault_up_to [] (record_fault limit count) u w f
-    (fault-behind u v w front (record_fault limit count) (cut_fault n) f took (λ r. record_comes limit count n front r few len is) h)
+record_stops limit count n u v w front f few len is took h = grind (arith, fault_up_to, fault-behind, record_comes)
 
 -- What holds nothing behind a whole record.
 
 record_within-short : (part : List ℕ) → length part ≤ 2 → IsWithin record_of IsDatagram part
-record_within-short part few = within-short record_of IsDatagram 2 part (λ d v. omega (arith, length-append (in_bytes 2 (length d)) d, length-in_bytes 2 (length d))) few
+record_within-short part few = within-short record_of IsDatagram 2 part (λ d v. omega (arith, length-append (in_bytes 2 (length d)) d, length-bytes_high_first 2 (length d))) few
 
 -- no more bytes than the length of a record says
 record_within : (n : ℕ) (front part : List ℕ) → in_bytes 2 n ≡ front → n < 2 ^ 16 → length part ≤ n → IsWithin record_of IsDatagram (front ++ part)
@@ -75,43 +59,14 @@ record_ends n u v w front (Err f) is small took a = (front ++ a.0, Consumes-tran
 -- a record was read whole
 pub record_read : (limit count n : ℕ) (u v w : Option (List ℕ)) (front d : List ℕ) → count < limit → in_bytes 2 n ≡ front → n < 2 ^ 16
     → Consumes u v front → length d ≡ n → AllByRecursion IsByte d → Consumes v w d → IsDatagram d × (count < limit) × Consumes u w (record_of d)
-record_read limit count n u v w front d few spells small took size octs rest = (
-  record { short = omega (arith, size, small); octets = octs },
-  few,
-  subst (λ (x : List ℕ). Consumes u w (x ++ d)) (sym (ap (in_bytes 2) size ∙ spells)) (Consumes-trans u v w front d took rest),
-)
+record_read limit count n u v w front d few spells small took size octs rest = grind (arith, Consumes-trans)
 
 -- a record at the front of bytes in memory
 pub record_split : (bs field rest d later : List ℕ) (n : ℕ) → IsSplitAt bs 2 field rest → IsSplitAt rest n d later → in_bytes 2 n ≡ field → n < 2 ^ 16 → AllByRecursion IsByte bs
     → IsDatagram d × (bs ≡ record_of d ++ later)
-record_split bs field rest d later n s t spells small oct = (
-  record {
-    short = omega (arith, t.3, small);
-    octets = front_octets rest d later n t (subst (AllByRecursion IsByte) (sym s.2) (octets-drop 2 bs oct));
-  },
-  joined bs field rest 2 s
-      ∙ ap (λ (x : List ℕ). x ++ rest) (sym spells ∙ ap (in_bytes 2) (sym t.3))
-      ∙ ap (λ (x : List ℕ). in_bytes 2 (length d) ++ x) (joined rest d later n t)
-      ∙ sym (append_assoc (in_bytes 2 (length d)) d later),
-)
+record_split bs field rest d later n s t spells small oct = grind (arith, front_octets, octets-drop, joined, append_assoc)
 
 -- A file that is read record by record.
-
--- where a reader stands behind these records
-abbrev pub file_stage_at : List (List ℕ) → FileStage
-file_stage_at [] = Header
-file_stage_at (d ∷ ds) = Records (length (d ∷ ds))
-
--- what was read up to the next record, without what stands before it
-abbrev pub file_read_of : List (List ℕ) → List ℕ
-file_read_of [] = []
-file_read_of (d ∷ ds) = file_header ++ flat_map record_of (d ∷ ds)
-
--- these records were read, and nothing else
-pub record FileSofar (limit : ℕ) (first now : Option (List ℕ)) (stage : FileStage) (datagrams : List (List ℕ)) : Type 0 where
-  pub are_datagrams : AreDatagrams limit datagrams
-  pub stage_is : stage ≡ file_stage_at datagrams
-  pub read : Consumes first now (file_read_of datagrams)
 
 given_is : (ds : List (List ℕ)) → given (file_stage_at ds) ≡ length ds
 given_is [] = refl
@@ -125,25 +80,44 @@ read_more : (ds : List (List ℕ)) (d : List ℕ) → file_read_of ds ++ (openin
 read_more [] d = flat_map_more record_of file_header [] d
 read_more (e ∷ ds) d = flat_map_more record_of file_header (e ∷ ds) d
 
-pub datagrams_all : (ds : List (List ℕ)) (d : List ℕ) → AllByRecursion IsDatagram ds → IsDatagram d → AllByRecursion IsDatagram (ds ++ d ∷ [])
-datagrams_all [] d p v = (v, tt)
-datagrams_all (e ∷ ds) d p v = (p.0, datagrams_all ds d p.1 v)
-
 pub datagrams_more : (limit : ℕ) (ds : List (List ℕ)) (d : List ℕ) → AreDatagrams limit ds → IsDatagram d → length ds < limit → AreDatagrams limit (ds ++ d ∷ [])
-datagrams_more limit ds d a v few = record { valid = datagrams_all ds d a.valid v; few = omega (arith, few, length-append ds (d ∷ [])) }
+datagrams_more limit ds d a v few = record { valid = all_more IsDatagram ds d a.valid v; few = omega (arith, few, length-append ds (d ∷ [])) }
 
-next_at : (limit : ℕ) (u v w : Option (List ℕ)) (new : FileStage) (ds : List (List ℕ)) (d : List ℕ) → AreDatagrams limit ds → Consumes u v (file_read_of ds)
-    → GivesRecord limit (file_stage_at ds) new v w d → FileSofar limit u w new (ds ++ d ∷ [])
-next_at limit u v w new ds d a took h = record {
-  are_datagrams = datagrams_more limit ds d a h.valid (omega (arith, h.within, given_is ds));
-  stage_is = h.goes_on ∙ ap (λ k. Records (k + 1)) (given_is ds) ∙ stage_more ds d;
-  read = subst (Consumes u w) (read_more ds d) (Consumes-trans u v w (file_read_of ds) (opening (file_stage_at ds) ++ record_of d) took h.bytes);
+pub file_sofar-none : (limit : ℕ) (u : Option (List ℕ)) → FileSofar limit u u Header []
+file_sofar-none limit u = record {
+  are_datagrams = record { valid = tt; few = omega arith };
+  stage_is = refl;
+  read = Consumes-nil u;
 }
 
 pub file_sofar-next : (limit : ℕ) (u v w : Option (List ℕ)) (old new : FileStage) (ds : List (List ℕ)) (d : List ℕ) → FileSofar limit u v old ds
     → GivesRecord limit old new v w d → FileSofar limit u w new (ds ++ d ∷ [])
 file_sofar-next limit u v w old new ds d s h =
-    next_at limit u v w new ds d s.are_datagrams s.read (subst (λ (x : FileStage). GivesRecord limit x new v w d) s.stage_is h)
+    let g = subst (λ (x : FileStage). GivesRecord limit x new v w d) s.stage_is h in record {
+      are_datagrams = datagrams_more limit ds d s.are_datagrams g.valid (omega (arith, g.within, given_is ds));
+      stage_is = g.goes_on ∙ ap (λ k. Records (k + 1)) (given_is ds) ∙ stage_more ds d;
+      read = subst (Consumes u w) (read_more ds d) (Consumes-trans u v w (file_read_of ds) (opening (file_stage_at ds) ++ record_of d) s.read g.bytes);
+    }
+
+file_whole : (limit : ℕ) (u w : Option (List ℕ)) (ds : List (List ℕ)) → AreDatagrams limit ds → Consumes u w (file_header ++ flat_map record_of ds) → IsAtEnd w
+    → IfSome u (λ bytes. IsFileWithin limit bytes ds)
+file_whole limit None w ds a took ended = tt
+file_whole limit (Some x) None ds a took ended = absurd took
+file_whole limit (Some x) (Some z) ds a took ended =
+    let whole = took ∙ ap (λ (l : List ℕ). (file_header ++ flat_map record_of ds) ++ l) ended ∙ append-nil (file_header ++ flat_map record_of ds) in
+    record { file = record { valid = a.valid; bytes_are = whole }; few = a.few }
+
+not_ended : (ds : List (List ℕ)) → file_stage_at ds ≡ Ended → ⊥
+not_ended [] e = cc
+not_ended (d ∷ ds) e = cc
+
+read_all : (ds : List (List ℕ)) → file_read_of ds ++ opening (file_stage_at ds) ≡ file_header ++ flat_map record_of ds
+read_all [] = sym (append-nil file_header)
+read_all (d ∷ ds) = append-nil (file_header ++ flat_map record_of (d ∷ ds))
+
+pub file_sofar-end : (limit : ℕ) (u v w : Option (List ℕ)) (old new : FileStage) (ds : List (List ℕ)) → FileSofar limit u v old ds → GivesNone old new v w
+    → IfSome u (λ bytes. IsFileWithin limit bytes ds)
+file_sofar-end limit u v w old new ds s h = grind (arith, not_ended, file_whole, read_all, Consumes-trans)
 
 not_failed : (ds : List (List ℕ)) (f : ReadFault) → file_stage_at ds ≡ Failed f → ⊥
 not_failed [] f e = cc
@@ -199,23 +173,13 @@ pub many_at : (limit count : ℕ) (rest : List ℕ) → 0 < length rest → limi
 many_at limit count rest some le = ap (record_fault limit count) (sym (append-nil rest)) ∙ too_many_records limit count rest [] some le
 
 cut_passed : (limit count : ℕ) (rest : List ℕ) → count < limit → IsCut rest → first_fault (record_checks limit count rest) ≡ Some faults.Cut
-cut_passed limit count rest few (inl short) =
-    first-pass (leb limit count, faults.TooMany) (cut 2 rest ∷ cut (big_endian (take 2 rest)) (drop 2 rest) ∷ []) (lt-leb limit count few)
-    ∙ first-stop (cut 2 rest) (cut (big_endian (take 2 rest)) (drop 2 rest) ∷ []) (lt-ltb (length rest) 2 short)
-cut_passed limit count rest few (inr short) =
-    first-pass (leb limit count, faults.TooMany) (cut 2 rest ∷ cut (big_endian (take 2 rest)) (drop 2 rest) ∷ []) (lt-leb limit count few)
-    ∙ first_of (cut 2 rest) (cut (big_endian (take 2 rest)) (drop 2 rest)) refl (lt-ltb (length (drop 2 rest)) (big_endian (take 2 rest)) short) refl
+cut_passed limit count rest few (inl short) = simp (first-pass, lt-leb, first-stop, lt-ltb)
+cut_passed limit count rest few (inr short) = grind (arith, first-pass, lt-leb, first_of, lt-ltb)
 
 pub cut_at : (limit count : ℕ) (rest : List ℕ) → 0 < length rest → count < limit → IsCut rest → record_fault limit count rest ≡ Some faults.Cut
-cut_at limit count [] some few h = absurd (omega (arith, some))
-cut_at limit count (b ∷ bs) some few h = cut_passed limit count (b ∷ bs) few h
-
-nothing : (bytes : List ℕ) → length bytes ≡ 0 → bytes ≡ []
-nothing [] e = refl
-nothing (b ∷ bs) e = absurd (omega (arith, e))
+cut_at limit count rest some few h = grind (arith, cut_passed)
 
 -- no record: the end of the input, or a source that failed
 pub no_record : (limit count : ℕ) (failed : Bool) (u v : Option (List ℕ)) (front : List ℕ) → Fronts u v 2 failed front → length front ≡ 0
     → ReadsRecord limit count u v (told failed (Ok None))
-no_record limit count true u v front a none = inr (subst (Consumes u v) (nothing front none) a.read)
-no_record limit count false u v front a none = (subst (Consumes u v) (nothing front none) a.read, a.fewer (omega (arith, none)) refl)
+no_record limit count failed u v front a none = grind (arith, nil_from_length)

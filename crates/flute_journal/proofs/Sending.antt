@@ -1,17 +1,7 @@
 -- Datagrams that are written record by record.
-use Rattle.std.proofs.Common.{◌≡◌, ℕ, zero, suc, ◌+◌, ◌≤◌, List, [], ◌∷◌, ◌++◌, length, drop, Option, Some, None, refl, sym, ap, ◌∙◌, subst, append_assoc, append-nil, arith}
-use Rattle.std.specs.Prelude.{slice_get}
-use Rattle.std.specs.List.{flat_map, AllByRecursion}
-use Rattle.std.specs.Io.KnownBytes.{Appends}
-use Rattle.std.proofs.KnownBytes.{Appends-trans}
+use Rattle.flute_journal.proofs.Common.{◌≡◌, ℕ, zero, suc, ◌+◌, ◌≤◌, List, [], ◌∷◌, ◌++◌, length, drop, Option, Some, None, refl, sym, ap, ◌∙◌, subst, append_assoc, append-nil, arith, slice_get, flat_map, AllByRecursion, Appends, Appends-trans, flat_map-append, nil_from_length, length-append, length-drop, flat_map_more, slice_get_within, get_or_from_slice_get, AppendsPart, AppendsPart-first, AppendsPart-second, file_header, record_of, IsDatagram, IsFileOf}
 use Rattle.std.proofs.Math.Seq.{drop-cons}
-use Rattle.std.proofs.lemmas.Grind.{flat_map-append}
-use Rattle.std.proofs.lemmas.List.{length-append, length-drop, flat_map_more}
-use Rattle.std.proofs.lemmas.Option.{slice_get_within, get_or_from_slice_get}
-use Rattle.flute_parts.specs.Devices.{AppendsPart}
-use Rattle.flute_parts.proofs.Appended.{AppendsPart-first, AppendsPart-second}
-use Rattle.flute_journal.specs.Records.{file_header, record_of, IsDatagram, IsFileOf}
-use Rattle.flute_journal.proofs.Records.{datagrams_all}
+use Rattle.flute_journal.proofs.Each.{all_more}
 
 -- the records before a place were written, and nothing else
 pub record Sent (all : List (List ℕ)) (place : ℕ) (old now : Option (List ℕ)) : Type 0 where
@@ -22,8 +12,7 @@ pub record Sent (all : List (List ℕ)) (place : ℕ) (old now : Option (List �
   pub written : Appends old now (file_header ++ flat_map record_of done)
 
 next_one : (all : List (List ℕ)) (place : ℕ) (d : List ℕ) → slice_get all place ≡ Some d → drop place all ≡ d ∷ drop (suc place) all
-next_one all place d e =
-    drop-cons all place d (slice_get_within all place d e) ∙ ap (λ (x : List ℕ). x ∷ drop (suc place) all) (get_or_from_slice_get all place d d e)
+next_one all place d e = cc (drop-cons all place d (slice_get_within all place d e), get_or_from_slice_get all place d d e)
 
 pub sent-next : (all : List (List ℕ)) (place : ℕ) (u v w : Option (List ℕ)) (d : List ℕ) → Sent all place u v → slice_get all place ≡ Some d → IsDatagram d
     → Appends v w (record_of d) → Sent all (place + 1) u w
@@ -31,10 +20,8 @@ sent-next all place u v w d s e valid h =
     let n : suc place ≡ place + 1 = omega arith in
     record {
       done = s.done ++ d ∷ [];
-      parts =
-          s.parts ∙ ap (λ (x : List (List ℕ)). s.done ++ x) (next_one all place d e ∙ ap (λ k. d ∷ drop k all) n)
-          ∙ sym (append_assoc s.done (d ∷ []) (drop (place + 1) all));
-      valid = datagrams_all s.done d s.valid valid;
+      parts = grind (arith, next_one, append_assoc);
+      valid = all_more IsDatagram s.done d s.valid valid;
       counted = omega (arith, s.counted, length-append s.done (d ∷ []));
       written = subst (Appends u w) (flat_map_more record_of file_header s.done d) (Appends-trans u v w (file_header ++ flat_map record_of s.done) (record_of d) s.written h);
     }
@@ -44,17 +31,10 @@ pub sent-part : (all : List (List ℕ)) (place : ℕ) (u v w : Option (List ℕ)
 sent-part all place u v w d s e h =
     let rest = drop (suc place) all in
     let whole : all ≡ s.done ++ d ∷ rest = s.parts ∙ ap (λ (x : List (List ℕ)). s.done ++ x) (next_one all place d e) in
-    let spelled : ((file_header ++ flat_map record_of s.done) ++ record_of d) ++ flat_map record_of rest ≡ file_header ++ flat_map record_of (s.done ++ d ∷ rest) =
-    append_assoc (file_header ++ flat_map record_of s.done) (record_of d) (flat_map record_of rest)
-    ∙ append_assoc file_header (flat_map record_of s.done) (flat_map record_of (d ∷ rest))
-    ∙ ap (λ (x : List ℕ). file_header ++ x) (sym (flat_map-append record_of s.done (d ∷ rest))) in
+    let spelled : ((file_header ++ flat_map record_of s.done) ++ record_of d) ++ flat_map record_of rest ≡ file_header ++ flat_map record_of (s.done ++ d ∷ rest) = grind (arith, append_assoc, flat_map-append) in
     subst (AppendsPart u w) (spelled ∙ ap (λ (x : List (List ℕ)). file_header ++ flat_map record_of x) (sym whole))
     (AppendsPart-first u w ((file_header ++ flat_map record_of s.done) ++ record_of d) (flat_map record_of rest)
     (AppendsPart-second u v w (file_header ++ flat_map record_of s.done) (record_of d) s.written h))
-
-nothing_left : (l : List (List ℕ)) → length l ≡ 0 → l ≡ []
-nothing_left [] e = refl
-nothing_left (d ∷ l) e = absurd (omega (arith, e))
 
 past : (all : List (List ℕ)) (place : ℕ) → slice_get all place ≡ None → length all ≤ place
 past [] place e = omega arith
@@ -63,7 +43,7 @@ past (d ∷ all) (suc place) e = omega (arith, past all place e)
 
 done_all : (all : List (List ℕ)) (place : ℕ) (u v : Option (List ℕ)) → (s : Sent all place u v) → slice_get all place ≡ None → s.done ≡ all
 done_all all place u v s e =
-    let none : drop place all ≡ [] = nothing_left (drop place all) (omega (arith, length-drop place all, past all place e)) in
+    let none : drop place all ≡ [] = nil_from_length (drop place all) (omega (arith, length-drop place all, past all place e)) in
     sym (append-nil s.done) ∙ ap (λ (x : List (List ℕ)). s.done ++ x) (sym none) ∙ sym s.parts
 
 pub sent-all : (all : List (List ℕ)) (place : ℕ) (u v : Option (List ℕ)) → Sent all place u v → slice_get all place ≡ None

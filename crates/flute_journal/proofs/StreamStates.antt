@@ -1,68 +1,26 @@
 -- Where a merge of streams stands between two turns, and how it ends.
-use Rattle.std.proofs.Common.{◌≡◌, ℕ, ◌+◌, ◌<◌, ◌≤◌, ◌^◌, true, false, Bool, List, [], ◌∷◌, ◌++◌, length, Option, Some, None, IsTrue, refl, sym, ap, ◌∙◌, subst, inl, inr, append_assoc, arith}
-use Rattle.std.proofs.lemmas.List.{length-append}
-use Rattle.std.proofs.lemmas.Bool.{cases_Bool}
-use Rattle.std.specs.Prelude.{IfSome}
-use Rattle.std.specs.List.{AllByRecursion}
-use Rattle.std.specs.Io.KnownBytes.{Appends}
-use Rattle.std.proofs.KnownBytes.{Appends-nil, Appends-trans}
-use Rattle.flute_parts.specs.Order.{same_address}
-use Rattle.flute_parts.specs.Addresses.{address}
-use Rattle.flute_parts.specs.Facts.{SameMembers, fact_at, Same, Below, IsRising}
-use Rattle.flute_parts.specs.declared.tally.Tally.{Tally}
-use Rattle.flute_parts.specs.Limits.{Over}
-use Rattle.flute_parts.specs.Tally.{Counts}
-use Rattle.flute_parts.proofs.Named.{Over-below}
-use Rattle.flute_parts.specs.Equality.{address_same}
-use Rattle.flute_parts.specs.Devices.{AppendsPart}
-use Rattle.flute_parts.specs.declared.address.Address.{Address}
-use Rattle.flute_parts.specs.declared.fact.Fact.{Fact}
-use Rattle.flute_parts.proofs.Facts.{fact_at-nil, fact_at-elsewhere, Same-itself, Same-sym, Same-trans, Same-append, Same-members, Same-twice, Below-from_Same}
-use Rattle.flute_parts.proofs.Rising.{rising_unique}
-use Rattle.flute_store.specs.Walk.{IsSized}
-use Rattle.flute_journal.specs.declared.streams_fault.InputFault.{InputFault}
-use Rattle.flute_journal.specs.declared.streams_fault.StreamsFault.{StreamsFault}
-use Rattle.flute_journal.specs.declared.streams_fault.StreamsFault.TheVariants.{Input, Write}
-use Rattle.flute_journal.specs.Format.{header, entry, end, spelling}
-use Rattle.flute_journal.specs.Faults.{is_after}
-use Rattle.flute_journal.specs.Journal.{Journal, IsFact, last_of, Collects}
-use Rattle.flute_journal.specs.JournalWriters.{Written, PutsBytes}
-use Rattle.flute_journal.specs.Merges.{front}
-use Rattle.flute_journal.specs.Streams.{Behaviour, option_list, heads, most_of}
-use Rattle.flute_journal.specs.Lowest.{Lowest}
-use Rattle.flute_journal.specs.Advances.{GoOnAt, StopsIn, AreNew}
-use Rattle.flute_journal.specs.StreamMerges.{all_of, IsWithinLimits, IsCounted, NoneFails, OneFails, MergedAll, AppendsPartOf, ReadsAhead, NamesInput, CanGoOn}
-use Rattle.flute_journal.proofs.Orders.{rising-rises, rises-rising}
-use Rattle.flute_journal.proofs.Existence.{all_more, rises_more}
-use Rattle.flute_journal.proofs.LowestFacts.{all_append}
+use Rattle.flute_journal.proofs.Common.{EachSince, written_up_to, none-some, ◌≡◌, ℕ, ◌+◌, ◌<◌, ◌≤◌, ◌^◌, true, false, Bool, List, [], ◌∷◌, ◌++◌, length, Option, Some, None, IsTrue, refl, sym, ap, ◌∙◌, subst, inl, inr, append_assoc, arith, length-append, cases_Bool, AllByRecursion, Appends, Appends-nil, Appends-trans, same_address, address, SameMembers, fact_at, Same, IsRising, Tally, Over, Counts, Over-below, address_same, AppendsPart, Address, Fact, fact_at-nil, fact_at-elsewhere, Same-itself, Same-sym, Same-trans, Same-append, Same-members, Below-from_Same, rising_unique, IsSized, InputFault, StreamsFault, Input, Write, header, entry, end, spelling, is_after, Journal, IsFact, last_of, Collects, Written, PutsBytes, front, Behaviour, heads, most_of, Lowest, GoOnAt, StopsIn, AreNew, all_of, IsWithinLimits, IsCounted, NoneFails, OneFails, MergedAll, AppendsPartOf, ReadsAhead, NamesInput, CanGoOn}
+use Rattle.flute_journal.proofs.Passes.{Below-more}
+use Rattle.flute_journal.proofs.Existence.{rises_more}
+use Rattle.flute_journal.proofs.Each.{all_append, all_more}
 use Rattle.flute_journal.proofs.MergeBytes.{front-snoc, written-begins, written-snoc}
-use Rattle.flute_journal.proofs.MergeRising.{last_of-snoc}
+use Rattle.flute_journal.proofs.MergeRising.{last_of-snoc, rising-rises, rises-rising}
 use Rattle.flute_journal.proofs.WrittenSoFar.{written-more, written-whole, written-part}
 use Rattle.flute_journal.proofs.StreamTurns.{Run, starts, nows, givens, givens_at, Went, Stays, Turned, turn, new_runs, new_starts, new_nows, new_givens, new_stays, went_stays, given_same, given_length, fewer_all, taken_at, taken_same, taken_some, lowest-sized}
 use Rattle.flute_journal.proofs.StreamStops.{reads_now, none_fails, StoppedAll, stopped_all, short_header, short_entry, short_end, told_whole}
 
 -- what holds of the addresses of all facts holds where one stands
 named_all : (P : Address → Type 0) (fs : List Fact) (a : Address) (g : Fact) → AllByRecursion (λ f. P (address f)) fs → fact_at fs a ≡ Some g → P a
-named_all P [] a g h e = absurd (no_some g (sym (fact_at-nil a) ∙ e))
-  where
-    no_some : (g : Fact) → None ≡ Some g → ⊥
-    no_some g e = cc
+named_all P [] a g h e = absurd (none-some g (sym (fact_at-nil a) ∙ e))
 named_all P (f ∷ fs) a g h e = elim (cases_Bool (same_address (address f) a)) [
   | inl s ↦ subst P (address_same (address f) a s) h.0
   | inr s ↦ named_all P fs a g h.1 (sym (fact_at-elsewhere f fs a s) ∙ e)
 ]
 
-all_held : (P : Fact → Type 0) (o : Option Fact) → IfSome o P → AllByRecursion P (option_list o)
-all_held P None h = tt
-all_held P (Some f) h = (h, tt)
-
 -- The limits.
 
-below_more : (F G : List Fact) → Below F (F ++ G)
-below_more F G = subst (λ (l : List Fact). Same l (F ++ G)) (append_assoc F F G) (Same-append (F ++ F) F G G (Same-twice F) (Same-itself G))
-
 pub over_more : (F : List Fact) (f : Fact) (s o y : ℕ) → Over F s o y → Over (F ++ f ∷ []) s o y
-over_more F f s o y h = Over-below F (F ++ f ∷ []) s o y (below_more F (f ∷ [])) h
+over_more F f s o y h = Over-below F (F ++ f ∷ []) s o y (Below-more F (f ∷ [])) h
 
 pub counted : (s o y : ℕ) (tally : Tally s o y) (b : Bool) (F : List Fact) → (b ≡ true → Counts s o y F tally) → (b ≡ false → Over F s o y) → IsCounted s o y tally b F
 counted s o y tally true F h k = h refl
@@ -80,6 +38,26 @@ module _ {S : Type 0} (b : Behaviour S) where
     pub names : NamesInput b old fault
     pub can_go_on : CanGoOn b old new fault
 
+  -- where a write failed, behind these entries
+  at_write : (patient : Bool) (old now : List S) (w w' : Option (List ℕ)) (read : List (List Fact)) (entries : List Fact) (bytes : List ℕ) → AppendsPartOf b old w w' → EachSince b.reads old now read
+      → Collects (all_of read) entries → Appends w w' bytes → (rest : List ℕ) × (bytes ≡ written_up_to entries ++ rest) → Stopping patient old now w w' Write
+  at_write patient old now w w' read entries bytes short reads c a begins =
+      record { short = short; reads_ahead = λ p. record { read = read; reads = reads; entries = entries; collects = c; bytes = bytes; appended = a; begins = begins }; names = tt; can_go_on = tt }
+
+  -- and where an input stopped
+  at_input : (patient : Bool) (p : Option Address) (runs : List (Run S)) (new : List S) (w w' : Option (List ℕ)) (fault : InputFault) (entries : List Fact) → StoppedAll b p fault.number fault.fault runs new
+      → AppendsPartOf b (starts runs) w w' → Collects (all_of (givens_at b p runs)) entries → (patient ≡ false → Appends w w' (written_up_to entries))
+      → Stopping patient (starts runs) new w w' (Input fault) × OneFails b fault.number fault.fault (starts runs) new
+  at_input patient p runs new w w' fault entries s short c a = (
+    record {
+      short = short;
+      reads_ahead = λ e. record { read = givens_at b p runs; reads = s.reads; entries = entries; collects = c; bytes = written_up_to entries; appended = a e; begins = refl };
+      names = s.names;
+      can_go_on = s.before;
+    },
+    s.fails,
+  )
+
   none_collects : Collects [] []
   none_collects = record { valid = tt; rising = tt; same = Same-itself [] }
 
@@ -90,23 +68,9 @@ module _ {S : Type 0} (b : Behaviour S) where
   stop_first patient old new w fault n h =
       let s : StoppedAll b None fault.number fault.fault (new_runs b old) new =
       stopped_all b None fault.number fault.fault (new_runs b old) new (new_stays b old n) (subst (λ (l : List S). StopsIn b None l new fault) (sym (new_nows b old)) h) in
-      subst (λ (l : List S). Stopping patient l new w w (Input fault) × OneFails b fault.number fault.fault l new) (new_starts b old) (
-        record {
-          short = short_header b (starts (new_runs b old)) w w [] header (Appends-nil w) refl;
-          reads_ahead = λ p. record {
-            read = givens_at b None (new_runs b old);
-            reads = s.reads;
-            entries = [];
-            collects = subst (λ (l : List Fact). Collects l []) (sym (new_givens b old)) none_collects;
-            bytes = [];
-            appended = Appends-nil w;
-            begins = refl;
-          };
-          names = s.names;
-          can_go_on = s.before;
-        },
-        s.fails,
-      )
+      subst (λ (l : List S). Stopping patient l new w w (Input fault) × OneFails b fault.number fault.fault l new) (new_starts b old)
+      (at_input patient None (new_runs b old) new w w fault [] s (short_header b (starts (new_runs b old)) w w [] header (Appends-nil w) refl)
+      (subst (λ (l : List Fact). Collects l []) (sym (new_givens b old)) none_collects) (λ p. Appends-nil w))
 
   -- What the streams gave was appended, joined, and what they hold stands above it.
   pub record State (failed : Bool) (Also : List Fact → Type 0) (old now : List S) (w w' : Option (List ℕ)) (count : ℕ) : Type 0 where
@@ -144,9 +108,7 @@ module _ {S : Type 0} (b : Behaviour S) where
 
   stays : (place : Option Address) (runs : List (Run S)) → AllByRecursion (Went b place) runs → AllByRecursion (Stays b place) runs
   stays place [] w = tt
-  stays place (r ∷ runs) w =
-      let g = w.0.gave in
-      ((record { passes = g.passes; reads = g.reads; reads_held = g.reads_held; fails = g.fails; fewer = w.0.fewer }, λ e. w.0), stays place runs w.1)
+  stays place (r ∷ runs) w = grind (arith, stays place runs w.1)
 
   -- a failed write of the header
   pub stop_header : (patient : Bool) (old now : List S) (w w' : Option (List ℕ)) → AreNew b old → GoOnAt b None old now → AppendsPart w w' header → Stopping patient old now w w' Write × NoneFails b old now
@@ -157,33 +119,18 @@ module _ {S : Type 0} (b : Behaviour S) where
       let P : List S → Type 0 = λ l. Stopping patient l now w w' Write × NoneFails b l now in
       let Q : List S → Type 0 = λ l. Stopping patient (starts t.next) l w w' Write × NoneFails b (starts t.next) l in
       subst P (t.starts_are ∙ new_starts b old) (subst Q t.nows_are (
-        record {
-          short = short_header b (starts t.next) w w' a.part a.rest a.appended (sym a.whole);
-          reads_ahead = λ p. record {
-            read = givens t.next;
-            reads = reads_now b None t.next s;
-            entries = [];
-            collects = subst (λ (l : List Fact). Collects l []) (sym e) none_collects;
-            bytes = a.part;
-            appended = a.appended;
-            begins = (a.part, refl);
-          };
-          names = tt;
-          can_go_on = tt;
-        },
+        at_write patient (starts t.next) (nows t.next) w w' (givens t.next) [] a.part (short_header b (starts t.next) w w' a.part a.rest a.appended (sym a.whole)) (reads_now b None t.next s)
+            (subst (λ (l : List Fact). Collects l []) (sym e) none_collects) a.appended (a.part, refl),
         none_fails b None t.next s,
       ))
 
   heads-above : (place : Option Address) (runs : List (Run S)) → AllByRecursion (Went b place) runs → AllByRecursion (λ f. IsTrue (is_after place (address f))) (heads b (nows runs))
   heads-above place [] w = tt
-  heads-above place (r ∷ runs) w =
-      all_append (λ f. IsTrue (is_after place (address f))) (option_list (b.held r.now)) (heads b (nows runs))
-      (all_held (λ f. IsTrue (is_after place (address f))) (b.held r.now) w.0.above) (heads-above place runs w.1)
+  heads-above place (r ∷ runs) w = grind (arith, all_append, nows, heads-above place runs w.1)
 
   heads-sized : (place : Option Address) (runs : List (Run S)) → AllByRecursion (Went b place) runs → AllByRecursion IsSized (heads b (nows runs))
   heads-sized place [] w = tt
-  heads-sized place (r ∷ runs) w =
-      all_append IsSized (option_list (b.held r.now)) (heads b (nows runs)) (all_held IsSized (b.held r.now) w.0.gave.sized) (heads-sized place runs w.1)
+  heads-sized place (r ∷ runs) w = grind (arith, all_append, nows, heads-sized place runs w.1)
 
   -- as many facts as were given, and may still be
   most-given : (place : Option Address) (runs : List (Run S)) → AllByRecursion (Went b place) runs → most_of b (nows runs) + length (all_of (givens runs)) ≤ most_of b (starts runs)
@@ -201,10 +148,15 @@ module _ {S : Type 0} (b : Behaviour S) where
     pub few-joined : count ≤ most_of b old
     few-joined = let e = ap (most_of b) state.starts_are in omega (arith, e, state.count_is, state.few, most-given last state.runs state.went)
 
+    moved : (P : List S → List S → Type 0) → P (starts state.runs) (nows state.runs) → P old now
+    moved P h = subst (λ l. P l now) state.starts_are (subst (P (starts state.runs)) state.nows_are h)
+
+    stopped_here : (patient : Bool) (w'' : Option (List ℕ)) (bytes : List ℕ) → Appends w w'' bytes → (rest : List ℕ) × (bytes ≡ written_up_to state.joined ++ rest) → AppendsPartOf b (starts state.runs) w w''
+        → Stopping patient old now w w'' Write
+    stopped_here patient w'' bytes a begins short = grind (arith, moved, at_write, starts, nows, givens, reads_now, stays)
+
     pub no_failure : NoneFails b old now
-    no_failure =
-        subst (λ (l : List S). NoneFails b l now) state.starts_are
-        (subst (λ (l : List S). NoneFails b (starts state.runs) l) state.nows_are (none_fails b last state.runs (stays last state.runs state.went)))
+    no_failure = moved (NoneFails b) (none_fails b last state.runs (stays last state.runs state.went))
 
     module _ (g : Fact) (lowest : Lowest (heads b now) g) where
       low : Lowest (heads b (nows state.runs)) g
@@ -225,7 +177,7 @@ module _ {S : Type 0} (b : Behaviour S) where
       module _ (valid : IsFact g) where
         collects_next : Collects (all_of (givens_at b (Some (address g)) state.runs)) (state.joined ++ g ∷ [])
         collects_next = record {
-          valid = all_more state.joined g state.collects.valid valid;
+          valid = all_more IsFact state.joined g state.collects.valid valid;
           rising = rising_next;
           same = Same-trans (all_of (givens_at b (Some (address g)) state.runs)) (all_of (givens state.runs) ++ taken_at (address g) (heads b (nows state.runs))) (state.joined ++ g ∷ [])
               (given_same b (address g) state.runs)
@@ -247,9 +199,7 @@ module _ {S : Type 0} (b : Behaviour S) where
               joined = state.joined ++ g ∷ [];
               went = subst (λ p. AllByRecursion (Went b p) t.next) (sym (last_of-snoc None state.joined g)) t.went;
               collects = subst (λ l. Collects (all_of l) (state.joined ++ g ∷ [])) (sym t.givens_are) collects_next;
-              few =
-                  let l = ap (λ x. length (all_of x)) t.givens_are in
-                  omega (arith, l, state.few, given_length b (address g) state.runs, taken_some (heads b (nows state.runs)) g low.comes, length-append state.joined (g ∷ []));
+              few = grind (arith, given_length, taken_some, nows, length-append);
               written = next_bytes next w'' a;
               count_is = omega (arith, state.count_is, length-append state.joined (g ∷ []));
               also = k state.joined rising_next state.also;
@@ -259,48 +209,20 @@ module _ {S : Type 0} (b : Behaviour S) where
         stop_entry patient w'' good a =
             let bs : List ℕ = front state.joined ++ a.part in
             let appended : Appends w w'' bs = Appends-trans w w' w'' (front state.joined) a.part (whole_yet good) a.appended in
-            let P : List S → Type 0 = λ l. Stopping patient l now w w'' Write in
-            let Q : List S → Type 0 = λ l. Stopping patient (starts state.runs) l w w'' Write in
-            subst P state.starts_are (subst Q state.nows_are (record {
-              short = short_entry b last state.runs state.joined g w w'' bs a.rest state.went low.first collects_next appended
-                  (append_assoc (front state.joined) a.part a.rest ∙ ap (λ (l : List ℕ). front state.joined ++ l) (sym a.whole) ∙ front-snoc state.joined g);
-              reads_ahead = λ p. record {
-                read = givens state.runs;
-                reads = reads_now b last state.runs (stays last state.runs state.went);
-                entries = state.joined;
-                collects = state.collects;
-                bytes = bs;
-                appended = appended;
-                begins = written-begins state.joined a.part;
-              };
-              names = tt;
-              can_go_on = tt;
-            }))
+            stopped_here patient w'' bs appended (written-begins state.joined a.part)
+            (short_entry b last state.runs state.joined g w w'' bs a.rest state.went low.first collects_next appended
+            (append_assoc (front state.joined) a.part a.rest ∙ ap (λ (l : List ℕ). front state.joined ++ l) (sym a.whole) ∙ front-snoc state.joined g))
 
         pub stop_input : (patient next : Bool) (new : List S) (w'' : Option (List ℕ)) (fault : InputFault) → PutsBytes failed next w' w'' (entry g) → (patient ≡ false → next ≡ false)
             → StopsIn b (Some (address g)) now new fault → Stopping patient old new w w'' (Input fault) × OneFails b fault.number fault.fault old new
         stop_input patient next new w'' fault a eager h =
-            let s : StoppedAll b (Some (address g)) fault.number fault.fault state.runs new =
-            stopped_all b (Some (address g)) fault.number fault.fault state.runs new next_stays (subst (λ (l : List S). StopsIn b (Some (address g)) l new fault) (sym state.nows_are) h) in
+            let s : StoppedAll b (Some (address g)) fault.number fault.fault state.runs new = grind (arith, stopped_all, next_stays) in
             let bs : List ℕ = front (state.joined ++ g ∷ []) in
             let part = written-part next w w'' bs (next_bytes next w'' a) in
-            subst (λ (l : List S). Stopping patient l new w w'' (Input fault) × OneFails b fault.number fault.fault l new) state.starts_are (
-              record {
-                short = short_entry b last state.runs state.joined g w w'' part.bytes part.more state.went low.first collects_next part.appended part.whole;
-                reads_ahead = λ p. record {
-                  read = givens_at b (Some (address g)) state.runs;
-                  reads = s.reads;
-                  entries = state.joined ++ g ∷ [];
-                  collects = collects_next;
-                  bytes = bs;
-                  appended = written-whole next w w'' bs (eager p) (next_bytes next w'' a);
-                  begins = written-snoc state.joined g;
-                };
-                names = s.names;
-                can_go_on = s.before;
-              },
-              s.fails,
-            )
+            subst (λ (l : List S). Stopping patient l new w w'' (Input fault) × OneFails b fault.number fault.fault l new) state.starts_are
+            (at_input patient (Some (address g)) state.runs new w w'' fault (state.joined ++ g ∷ []) s
+            (short_entry b last state.runs state.joined g w w'' part.bytes part.more state.went low.first collects_next part.appended part.whole) collects_next
+            (λ p. subst (Appends w w'') (written-snoc state.joined g) (written-whole next w w'' bs (eager p) (next_bytes next w'' a))))
 
       pub turn-falls : (new : List S) → GoOnAt b (Some (address g)) now new → most_of b new < most_of b now
       turn-falls new h = omega (arith, fewer_all b (address g) now new h, taken_some (heads b now) g lowest.comes)
@@ -315,23 +237,9 @@ module _ {S : Type 0} (b : Behaviour S) where
       stop_end patient w'' good a =
           let bs : List ℕ = front state.joined ++ a.part in
           let appended : Appends w w'' bs = Appends-trans w w' w'' (front state.joined) a.part (whole_yet good) a.appended in
-          let P : List S → Type 0 = λ l. Stopping patient l now w w'' Write in
-          let Q : List S → Type 0 = λ l. Stopping patient (starts state.runs) l w w'' Write in
-          subst P state.starts_are (subst Q state.nows_are (record {
-            short = short_end b last state.runs state.joined w w'' bs a.rest state.went none_left state.collects appended a.cut
-                (append_assoc (front state.joined) a.part a.rest ∙ ap (λ (l : List ℕ). front state.joined ++ l) (sym a.whole) ∙ ap (λ n. front state.joined ++ end n) state.count_is);
-            reads_ahead = λ p. record {
-              read = givens state.runs;
-              reads = reads_now b last state.runs (stays last state.runs state.went);
-              entries = state.joined;
-              collects = state.collects;
-              bytes = bs;
-              appended = appended;
-              begins = written-begins state.joined a.part;
-            };
-            names = tt;
-            can_go_on = tt;
-          }))
+          stopped_here patient w'' bs appended (written-begins state.joined a.part)
+          (short_end b last state.runs state.joined w w'' bs a.rest state.went none_left state.collects appended a.cut
+          (append_assoc (front state.joined) a.part a.rest ∙ ap (λ (l : List ℕ). front state.joined ++ l) (sym a.whole) ∙ ap (λ n. front state.joined ++ end n) state.count_is))
 
       whole : (next : Bool) (w'' : Option (List ℕ)) → PutsBytes failed next w' w'' (end count) → Written next w w'' (spelling state.joined)
       whole next w'' a = subst (λ n. Written next w w'' (front state.joined ++ end n)) state.count_is (written-more failed next w w' w'' (front state.joined) (end count) state.written a)
@@ -341,17 +249,15 @@ module _ {S : Type 0} (b : Behaviour S) where
           → Written next w w'' bytes
       others_too next w'' a others m bytes j =
           let given = all_of (givens state.runs) in
-          let same : Same j.0 state.joined =
-          Same-trans j.0 others state.joined (Same-sym others j.0 j.1.same)
-          (Same-trans others given state.joined (Same-sym given others (Same-members given others m)) state.collects.same) in
+          let same : Same j.0 state.joined = grind (arith, Same-trans, Same-sym, Same-members) in
           let one : j.0 ≡ state.joined = rising_unique j.0 state.joined j.1.rising state.collects.rising same in
           subst (Written next w w'') (sym (j.3 ∙ ap spelling one)) (whole next w'' a)
 
   pub finished : (s o y : ℕ) (tally : Tally s o y) (within next : Bool) {failed : Bool} {old now : List S} {w w' : Option (List ℕ)} {count : ℕ}
       → (state : State failed (IsCounted s o y tally within) old now w w' count) → (w'' : Option (List ℕ)) → most_of b old < 2 ^ 64 → heads b now ≡ [] → PutsBytes failed next w' w'' (end count)
-      → MergedAll b old s o y (record { entries = count; within = within; failed = next }) w w''
+      → MergedAll b old s o y (record { entries = count; within = within; cut = next }) w w''
   finished s o y tally within next {failed} {old} {now} {w} {w'} {count} state w'' few none a =
-      subst (λ (l : List S). MergedAll b l s o y (record { entries = count; within = within; failed = next }) w w'') state.starts_are (record {
+      subst (λ (l : List S). MergedAll b l s o y (record { entries = count; within = within; cut = next }) w w'') state.starts_are (record {
         told = givens state.runs;
         tell = told_whole b (last_of None state.joined) state.runs state.went (none_left state none);
         entries = state.joined;

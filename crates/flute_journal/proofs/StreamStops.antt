@@ -1,32 +1,8 @@
 -- A merge that stops: what was read of each stream, and what was appended.
-use Rattle.std.proofs.Common.{◌≡◌, ℕ, zero, suc, false, true, List, [], ◌∷◌, ◌++◌, length, Option, Some, None, refl, sym, ap, ◌∙◌, subst, inl, inr, append_assoc, append-nil, arith}
-use Rattle.std.proofs.lemmas.Bool.{cases_Bool}
-use Rattle.std.proofs.lemmas.List.{length-append}
-use Rattle.std.specs.Prelude.{◌≢◌, slice_get}
-use Rattle.std.specs.List.{flat_map, AllByRecursion}
-use Rattle.std.specs.Io.KnownBytes.{Appends}
-use Rattle.flute_parts.specs.Order.{same_address}
-use Rattle.flute_parts.specs.Addresses.{address}
-use Rattle.flute_parts.specs.Facts.{fact_at, Same}
-use Rattle.flute_parts.specs.Equality.{address_same, address_itself}
-use Rattle.flute_parts.specs.declared.address.Address.{Address}
-use Rattle.flute_parts.specs.declared.fact.Fact.{Fact}
-use Rattle.flute_parts.proofs.Facts.{Same-sym, Same-trans}
-use Rattle.flute_parts.proofs.Joined.{joined, fact_at-append}
-use Rattle.flute_parts.proofs.Rising.{rising_unique}
-use Rattle.flute_journal.specs.declared.fault.LoadFault.{LoadFault}
-use Rattle.flute_journal.specs.Faults.{is_after}
-use Rattle.flute_journal.specs.Format.{header, entry, end, spelling}
-use Rattle.flute_journal.specs.Journal.{IsFact, Collects}
-use Rattle.flute_journal.specs.Merges.{front}
-use Rattle.flute_journal.specs.Streams.{Behaviour, Continues, option_list, place_of, heads}
-use Rattle.flute_journal.specs.Lowest.{IsNotBefore}
-use Rattle.flute_journal.specs.Advances.{GoesOnAt, StopAt}
-use Rattle.flute_journal.specs.StreamMerges.{all_of, Each, EachSince, NoneFails, OneFails, GaveBefore, AppendsPartOf}
-use Rattle.flute_journal.proofs.Orders.{Rises, rising-rises}
-use Rattle.flute_journal.proofs.MergeFacts.{fact_at-second_none}
+use Rattle.flute_journal.proofs.Common.{same_Some, ◌≡◌, ℕ, zero, suc, false, List, [], ◌∷◌, ◌++◌, length, Option, Some, None, refl, sym, ap, ◌∙◌, subst, inl, inr, append_assoc, append-nil, arith, cases_Bool, length-append, ◌≢◌, slice_get, flat_map, AllByRecursion, Appends, same_address, address, fact_at, address_same, Address, Fact, Same-sym, Same-trans, joined, fact_at-append, rising_unique, LoadFault, is_after, header, entry, end, spelling, IsFact, Collects, front, Behaviour, Continues, option_list, place_of, heads, IsNotBefore, GoesOnAt, StopAt, all_of, Each, EachSince, NoneFails, OneFails, GaveBefore, AppendsPartOf}
+use Rattle.flute_journal.proofs.Each.{all_split}
 use Rattle.flute_journal.proofs.MergeBytes.{front-append, no_end, no_whole_end}
-use Rattle.flute_journal.proofs.MergeRising.{rising-none, rising-prefix, last_of-snoc, Rises-second}
+use Rattle.flute_journal.proofs.MergeRising.{rising-none, rising-prefix, last_of-snoc, Rises-second, fact_at-second_none, Rises, rising-rises}
 use Rattle.flute_journal.proofs.StreamTurns.{Run, starts, nows, givens, given_at, taken_by, given_here, givens_at, IsAbove, above_other, Ready, Went, Stays, went_on}
 
 module _ {S : Type 0} (b : Behaviour S) where
@@ -68,10 +44,7 @@ module _ {S : Type 0} (b : Behaviour S) where
     pub fails : b.fails r.start u None
 
   passed : (p : Option Address) (r : Run S) (u : S) → Ready b r → GoesOnAt b p r.now u → Passed p r u
-  passed p r u w (inl h) =
-      let g = h.1.gave r.start r.given w.passes in
-      record { reads = subst (λ (l : List Fact). b.reads r.start u (r.given ++ l)) (sym (given_here p (b.held r.now) h.0)) g.reads; fails = g.fails }
-  passed p r u w (inr h) = subst (λ (x : S). Passed p r x) (sym h.1) (record { reads = stands p r w; fails = w.fails })
+  passed p r u w goes = grind (arith, given_here, stands)
 
   pub record StoppedAll (p : Option Address) (k : ℕ) (f : LoadFault) (runs : List (Run S)) (new : List S) : Type 0 where
     pub reads : EachSince b.reads (starts runs) new (givens_at b p runs)
@@ -81,10 +54,6 @@ module _ {S : Type 0} (b : Behaviour S) where
 
   pub stopped_all : (p : Option Address) (k : ℕ) (f : LoadFault) (runs : List (Run S)) (new : List S) → AllByRecursion (Stays b p) runs → StopAt b p k f (nows runs) new
       → StoppedAll p k f runs new
-  stopped_all p zero f [] new w h = absurd h
-  stopped_all p (suc k) f [] new w h = absurd h
-  stopped_all p zero f (r ∷ runs) [] w h = absurd h
-  stopped_all p (suc k) f (r ∷ runs) [] w h = absurd h
   stopped_all p zero f (r ∷ runs) (u ∷ new) w h =
       let s = h.1 r.start r.given w.0.0.passes in
       record {
@@ -103,6 +72,7 @@ module _ {S : Type 0} (b : Behaviour S) where
         names = t.names;
         before = ((r.given ++ given_at p (b.held r.now), g.gave), t.before);
       }
+  stopped_all p k f runs new w h = absurd h
 
   -- What was appended.
 
@@ -116,13 +86,7 @@ module _ {S : Type 0} (b : Behaviour S) where
   behind F K f c = subst (λ x. Rises x c.rest) (last_of-snoc None F f) (Rises-second None (F ++ f ∷ []) c.rest (subst (Rises None) c.is (rising-rises K c.rising)))
 
   apart : (f : Fact) (a : Address) → same_address (address f) a ≡ false → Some (address f) ≡ Some a → ⊥
-  apart f a e q =
-      let p : address f ≡ a = some_is (address f) a q in
-      let t : same_address (address f) a ≡ true = subst (λ x. same_address (address f) x ≡ true) p (address_itself (address f)) in
-      cc
-    where
-      some_is : (x y : Address) → Some x ≡ Some y → x ≡ y
-      some_is x y e = cc
+  apart f a e q = grind (arith, same_Some)
 
   above_held : (a : Address) (F K : List Fact) (held : Option Fact) → Continues K (F ++ option_list held) held → (place_of held ≢ Some a → IsAbove (Some a) held)
       → Above (Some a) K (F ++ given_at (Some a) held)
@@ -142,16 +106,10 @@ module _ {S : Type 0} (b : Behaviour S) where
         })
   ]
 
-  all_split : (P : Fact → Type 0) (xs ys : List Fact) → AllByRecursion P (xs ++ ys) → AllByRecursion P xs × AllByRecursion P ys
-  all_split P [] ys h = (tt, h)
-  all_split P (x ∷ xs) ys h = let r = all_split P xs ys h.1 in ((h.0, r.0), r.1)
-
   -- up to an address all the facts come to what was given there
   known_at : (place : Option Address) (a z : Address) (runs : List (Run S)) (known : List (List Fact)) → AllByRecursion (Went b place) runs → AllByRecursion (IsNotBefore a) (heads b (nows runs))
       → is_after (Some a) z ≡ false → Each b.knows (starts runs) known → fact_at (all_of known) z ≡ fact_at (all_of (givens_at b (Some a) runs)) z
   known_at place a z [] [] w n h k = refl
-  known_at place a z [] (K ∷ known) w n h k = absurd k
-  known_at place a z (r ∷ runs) [] w n h k = absurd k
   known_at place a z (r ∷ runs) (K ∷ known) w n h k =
       let both = all_split (IsNotBefore a) (option_list (b.held r.now)) (heads b (nows runs)) n in
       let F = r.given ++ given_at (Some a) (b.held r.now) in
@@ -161,25 +119,23 @@ module _ {S : Type 0} (b : Behaviour S) where
       ∙ ap (λ x. joined z x (fact_at (all_of known) z)) (fact_at-second_none F c.rest z (rising-none (Some a) c.rest z c.rises h))
       ∙ ap (joined z (fact_at F z)) (known_at place a z runs known w.1 both.1 h k.1)
       ∙ sym (fact_at-append F (all_of (givens_at b (Some a) runs)) z)
+  known_at place a z runs known w n h k = absurd k
 
   -- and all of them, once nothing is held
   only : (F K : List Fact) (held : Option Fact) → held ≡ None → Continues K (F ++ option_list held) held → K ≡ F
-  only F K None e c = c.is ∙ ap (λ (l : List Fact). (F ++ []) ++ l) (c.ended refl) ∙ append-nil (F ++ []) ∙ append-nil F
-  only F K (Some f) e c = absurd (let h : Some f ≡ None = e in cc)
+  only F K held e c = grind (arith, append-nil)
 
   none_held : (o : Option Fact) (fs : List Fact) → option_list o ++ fs ≡ [] → (o ≡ None) × (fs ≡ [])
-  none_held None fs e = (refl, e)
-  none_held (Some f) fs e = absurd cc
+  none_held o fs e = grind (arith)
 
   known_whole : (place : Option Address) (runs : List (Run S)) (known : List (List Fact)) → AllByRecursion (Went b place) runs → heads b (nows runs) ≡ [] → Each b.knows (starts runs) known
       → all_of known ≡ all_of (givens runs)
   known_whole place [] [] w e k = refl
-  known_whole place [] (K ∷ known) w e k = absurd k
-  known_whole place (r ∷ runs) [] w e k = absurd k
   known_whole place (r ∷ runs) (K ∷ known) w e k =
       let n = none_held (b.held r.now) (heads b (nows runs)) e in
       ap (λ (l : List Fact). l ++ all_of known) (only r.given K (b.held r.now) n.0 (w.0.gave.known K k.0))
       ∙ ap (λ (l : List Fact). r.given ++ l) (known_whole place runs known w.1 n.1 k.1)
+  known_whole place runs known w e k = absurd k
 
   -- each has told what it gave, once nothing is held
   pub told_whole : (place : Option Address) (runs : List (Run S)) → AllByRecursion (Went b place) runs → heads b (nows runs) ≡ [] → Each b.tells (starts runs) (givens runs)
@@ -194,11 +150,7 @@ module _ {S : Type 0} (b : Behaviour S) where
       absurd (omega (arith, l, length-append x (y ++ end n), length-append y (end n)))
 
   goes_on : (M rest : List Fact) (bs more : List ℕ) (n : ℕ) → bs ++ more ≡ front M → bs ++ (more ++ (flat_map entry rest ++ end n)) ≡ front (M ++ rest) ++ end n
-  goes_on M rest bs more n e =
-      sym (append_assoc bs more (flat_map entry rest ++ end n))
-      ∙ ap (λ (x : List ℕ). x ++ (flat_map entry rest ++ end n)) e
-      ∙ sym (append_assoc (front M) (flat_map entry rest) (end n))
-      ∙ ap (λ (x : List ℕ). x ++ end n) (sym (front-append M rest))
+  goes_on M rest bs more n e = cc (append_assoc bs more (flat_map entry rest ++ end n), e, append_assoc (front M) (flat_map entry rest) (end n), front-append M rest)
 
   -- a part of the header and of entries that begin those of all facts
   short : (inputs : List S) (w w' : Option (List ℕ)) (bs more : List ℕ) (M : List Fact) → AllByRecursion IsFact M → Appends w w' bs → bs ++ more ≡ front M
@@ -230,14 +182,4 @@ module _ {S : Type 0} (b : Behaviour S) where
 
   pub short_end : (place : Option Address) (runs : List (Run S)) (M : List Fact) (w w' : Option (List ℕ)) (bs more : List ℕ) → AllByRecursion (Went b place) runs → heads b (nows runs) ≡ []
       → Collects (all_of (givens runs)) M → Appends w w' bs → more ≢ [] → bs ++ more ≡ spelling M → AppendsPartOf b (starts runs) w w'
-  short_end place runs M w w' bs more went n c a s e = record {
-    bytes = bs;
-    appended = a;
-    no_journal = λ facts j. no_whole_end M j.0 bs more c.valid j.1.valid s e j.3;
-    prefix = λ known k whole j.
-        let same : Same j.0 M =
-        Same-trans j.0 (all_of known) M (Same-sym (all_of known) j.0 j.1.same)
-        (subst (λ (l : List Fact). Same l M) (sym (known_whole place runs known went n k)) c.same) in
-        let one : j.0 ≡ M = rising_unique j.0 M j.1.rising c.rising same in
-        (more, s, e ∙ ap spelling (sym one) ∙ sym j.3);
-  }
+  short_end place runs M w w' bs more went n c a s e = grind (arith, no_whole_end, Same-trans, Same-sym, known_whole, rising_unique)

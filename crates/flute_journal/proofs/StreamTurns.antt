@@ -1,38 +1,12 @@
 -- A turn of a merge: each stream that stands at the lowest address goes on.
-use Rattle.std.proofs.Common.{◌≡◌, ◌+◌, ◌≤◌, true, false, Bool, List, [], ◌∷◌, ◌++◌, length, Option, Some, None, IsTrue, refl, sym, ap, ◌∙◌, subst, inl, inr, append-nil, arith}
-use Rattle.std.proofs.lemmas.List.{length-append}
-use Rattle.std.proofs.lemmas.Bool.{cases_Bool}
-use Rattle.std.specs.Prelude.{◌≢◌, IfSome}
-use Rattle.std.specs.List.{AllByRecursion}
-use Rattle.std.specs.Ordering.{is_eq}
-use Rattle.std.specs.declared.cmp.Ordering.{Ordering}
-use Rattle.std.specs.declared.cmp.Ordering.TheVariants.{Less, Equal, Greater}
-use Rattle.flute_parts.specs.Order.{address_cmp, same_address}
-use Rattle.flute_parts.specs.Addresses.{address}
-use Rattle.flute_parts.specs.Facts.{conflict_in, same_fact, fact_at, Same, IsRising}
-use Rattle.flute_parts.specs.Equality.{address_same, address_itself, fact_same}
-use Rattle.flute_parts.specs.declared.key.Key.{Key}
-use Rattle.flute_parts.specs.declared.address.Part.{Part}
-use Rattle.flute_parts.specs.declared.address.Part.TheVariants.{Info as InfoPart, Symbol as SymbolPart}
-use Rattle.flute_parts.specs.declared.address.Address.{Address}
-use Rattle.flute_parts.specs.declared.fact.Fact.{Fact}
-use Rattle.flute_parts.proofs.Joined.{joined, joined-same, joined-apart}
-use Rattle.flute_parts.proofs.Facts.{alone, alone-at, alone-elsewhere, fact_at-cons, fact_at-nil, fact_at-elsewhere, Same-itself, Same-trans, Same-append}
-use Rattle.flute_store.specs.Walk.{IsSized}
-use Rattle.flute_journal.specs.Faults.{is_after}
-use Rattle.flute_journal.specs.Streams.{Behaviour, option_list, place_of, heads, most_of, Gave}
-use Rattle.flute_journal.specs.Lowest.{IsNotBefore, Lowest}
-use Rattle.flute_journal.specs.Advances.{GoesOnAt, GoOnAt, AreNew}
-use Rattle.flute_journal.specs.StreamMerges.{all_of}
-use Rattle.flute_journal.proofs.MergeFacts.{Same-crossed}
-use Rattle.flute_journal.proofs.MergeRising.{after, last_of-snoc, Rises-second}
-use Rattle.flute_journal.proofs.Orders.{rising-rises}
+use Rattle.flute_journal.proofs.Common.{none-some, same_Some, ◌≡◌, ◌+◌, ◌≤◌, true, false, Bool, List, [], ◌∷◌, ◌++◌, length, Option, Some, None, IsTrue, refl, sym, ap, ◌∙◌, subst, inl, inr, append-nil, arith, length-append, cases_Bool, ◌≢◌, IfSome, AllByRecursion, is_eq, Ordering, Less, Equal, Greater, address_cmp, same_address, address, conflict_in, same_fact, fact_at, Same, IsRising, address_same, fact_same, Key, Part, Address, Fact, joined, joined-same, joined-apart, alone, alone-at, alone-elsewhere, fact_at-cons, fact_at-nil, fact_at-elsewhere, Same-itself, Same-trans, Same-append, IsSized, is_after, Behaviour, option_list, place_of, heads, most_of, Gave, IsNotBefore, Lowest, GoesOnAt, GoOnAt, AreNew, all_of}
+use Rattle.flute_journal.proofs.Each.{all_split}
+use Rattle.flute_journal.proofs.MergeRising.{after, last_of-snoc, Rises-second, Same-crossed, rising-rises}
 
 -- what sized facts come to is sized
 
 sized_conflict : (key : Key) (part : Part) → IsSized (conflict_in key part)
-sized_conflict key InfoPart = tt
-sized_conflict key (SymbolPart id) = tt
+sized_conflict key part = grind (arith)
 
 sized_joined : (a : Address) (f : Fact) (o : Option Fact) → IsSized f → IfSome (joined a (Some f) o) IsSized
 sized_joined a f None v = v
@@ -99,15 +73,12 @@ taken_same fs g h = record {
   ];
 }
 
-no_some : (g : Fact) → None ≡ Some g → ⊥
-no_some g e = cc
-
 -- and there is one at least
 pub taken_some : (fs : List Fact) (g : Fact) → fact_at fs (address g) ≡ Some g → 1 ≤ length (taken_at (address g) fs)
 taken_some fs g h = some (taken_at (address g) fs) refl
   where
     some : (t : List Fact) → taken_at (address g) fs ≡ t → 1 ≤ length t
-    some [] e = absurd (no_some g (sym (fact_at-nil (address g)) ∙ sym (ap (λ (l : List Fact). fact_at l (address g)) e) ∙ taken_here (address g) fs ∙ h))
+    some [] e = absurd (none-some g (sym (fact_at-nil (address g)) ∙ sym (ap (λ (l : List Fact). fact_at l (address g)) e) ∙ taken_here (address g) fs ∙ h))
     some (f ∷ t) e = omega arith
 
 -- A stream that was merged up to some place.
@@ -140,14 +111,8 @@ abbrev pub given_at : Option Address → Option Fact → List Fact
 given_at None o = []
 given_at (Some a) o = taken_from a o
 
-some_place : (f : Fact) (a : Address) → Some (address f) ≡ Some a → address f ≡ a
-some_place f a e = cc
-
 pub given_here : (p : Option Address) (o : Option Fact) → place_of o ≡ p → given_at p o ≡ option_list o
-given_here None None e = refl
-given_here None (Some f) e = absurd (let h : Some (address f) ≡ None = e in cc)
-given_here (Some a) None e = absurd (let h : None ≡ Some a = e in cc)
-given_here (Some a) (Some f) e = ap (λ b. taken_by b f) (subst (λ x. same_address (address f) x ≡ true) (some_place f a e) (address_itself (address f)))
+given_here p o e = grind (arith, taken_by, same_Some)
 
 pub given_elsewhere : (p : Option Address) (o : Option Fact) → place_of o ≢ p → given_at p o ≡ []
 given_elsewhere None o n = refl
@@ -170,13 +135,9 @@ above_other a (Some f) n h = by_order (address_cmp a (address f)) refl
     by_order Equal e = absurd (n (ap Some (sym (address_same a (address f) (ap is_eq e)))))
     by_order Greater e = absurd (h.0 e)
 
-above_none : (o : Option Fact) → IsAbove None o
-above_none None = tt
-above_none (Some f) = refl
-
 -- what comes behind a fact of a rising list stands above its address
 above_next : (F : List Fact) (held o : Option Fact) (p : Option Address) → place_of held ≡ p → IsRising ((F ++ option_list held) ++ option_list o) → IsAbove p o
-above_next F held o None e r = above_none o
+above_next F held o None e r = grind (arith)
 above_next F held None (Some a) e r = tt
 above_next F None (Some h) (Some a) e r = absurd (let q : None ≡ Some a = e in cc)
 above_next F (Some f) (Some h) (Some a) e r =
@@ -204,18 +165,7 @@ module _ {S : Type 0} (b : Behaviour S) where
   -- it goes on where it stands at a place
   pub went_on : (p : Option Address) (r : Run S) (u : S) → Ready r → (place_of (b.held r.now) ≢ p → Went p r) → GoesOnAt b p r.now u
       → Went p (record { start = r.start; now = u; given = r.given ++ given_at p (b.held r.now) })
-  went_on p r u w stays (inl h) =
-      subst (λ (l : List Fact). Went p (record { start = r.start; now = u; given = r.given ++ l })) (sym (given_here p (b.held r.now) h.0)) (
-      let g = h.1.gave r.start r.given w.passes in
-      record {
-        gave = g;
-        fewer = omega (arith, w.fewer, h.1.fewer, length-append r.given (option_list (b.held r.now)));
-        above = above_next r.given (b.held r.now) (b.held u) p h.0 g.rising;
-      })
-  went_on p r u w stays (inr h) =
-      subst (λ (x : S). Went p (record { start = r.start; now = x; given = r.given ++ given_at p (b.held r.now) })) (sym h.1)
-      (subst (λ (l : List Fact). Went p (record { start = r.start; now = r.now; given = r.given ++ l })) (sym (given_elsewhere p (b.held r.now) h.0))
-      (subst (λ (l : List Fact). Went p (record { start = r.start; now = r.now; given = l })) (sym (append-nil r.given)) (stays h.0)))
+  went_on p r u w stays goes = grind (arith, given_here, length-append, above_next, given_at, given_elsewhere, append-nil)
 
   -- what streams will have given
   abbrev pub givens_at : Option Address → List (Run S) → List (List Fact)
@@ -235,8 +185,6 @@ module _ {S : Type 0} (b : Behaviour S) where
 
   pub turn : (p : Option Address) (runs : List (Run S)) (new : List S) → AllByRecursion (Stays p) runs → GoOnAt b p (nows runs) new → Turned p runs new
   turn p [] [] w h = record { next = []; starts_are = refl; nows_are = refl; givens_are = refl; went = tt }
-  turn p [] (u ∷ new) w h = absurd h
-  turn p (r ∷ runs) [] w h = absurd h
   turn p (r ∷ runs) (u ∷ new) w h =
       let t = turn p runs new w.1 h.1 in
       record {
@@ -246,6 +194,7 @@ module _ {S : Type 0} (b : Behaviour S) where
         givens_are = ap (λ l. (r.given ++ given_at p (b.held r.now)) ∷ l) t.givens_are;
         went = (went_on p r u w.0.0 w.0.1 h.0, t.went);
       }
+  turn p runs new w h = absurd h
 
   -- before the first turn
 
@@ -283,10 +232,6 @@ module _ {S : Type 0} (b : Behaviour S) where
 
   -- in a turn
 
-  all_split : (P : Fact → Type 0) (xs ys : List Fact) → AllByRecursion P (xs ++ ys) → AllByRecursion P xs × AllByRecursion P ys
-  all_split P [] ys h = (tt, h)
-  all_split P (x ∷ xs) ys h = let r = all_split P xs ys h.1 in ((h.0, r.0), r.1)
-
   pub went_stays : (place : Option Address) (a : Address) (runs : List (Run S)) → AllByRecursion (Went place) runs → AllByRecursion (IsNotBefore a) (heads b (nows runs))
       → AllByRecursion (Stays (Some a)) runs
   went_stays place a [] w n = tt
@@ -297,8 +242,7 @@ module _ {S : Type 0} (b : Behaviour S) where
       )
 
   taken_split : (a : Address) (o : Option Fact) (fs : List Fact) → taken_at a (option_list o ++ fs) ≡ taken_from a o ++ taken_at a fs
-  taken_split a None fs = refl
-  taken_split a (Some f) fs = refl
+  taken_split a o fs = grind (arith)
 
   -- what they give together
   pub given_same : (a : Address) (runs : List (Run S)) → Same (all_of (givens_at (Some a) runs)) (all_of (givens runs) ++ taken_at a (heads b (nows runs)))
@@ -314,18 +258,7 @@ module _ {S : Type 0} (b : Behaviour S) where
 
   pub given_length : (a : Address) (runs : List (Run S)) → length (all_of (givens_at (Some a) runs)) ≡ length (all_of (givens runs)) + length (taken_at a (heads b (nows runs)))
   given_length a [] = refl
-  given_length a (r ∷ runs) =
-      let l = ap length (taken_split a (b.held r.now) (heads b (nows runs))) in
-      let here = taken_from a (b.held r.now) in
-      omega (
-        arith,
-        l,
-        given_length a runs,
-        length-append r.given here,
-        length-append (r.given ++ here) (all_of (givens_at (Some a) runs)),
-        length-append r.given (all_of (givens runs)),
-        length-append here (taken_at a (heads b (nows runs))),
-      )
+  given_length a (r ∷ runs) = grind (arith, taken_split, length-append, given_length a runs)
 
   fewer_one : (a : Address) (t u : S) → GoesOnAt b (Some a) t u → b.most u + length (taken_from a (b.held t)) ≤ b.most t
   fewer_one a t u (inl h) = subst (λ (l : List Fact). b.most u + length l ≤ b.most t) (sym (given_here (Some a) (b.held t) h.0)) h.1.fewer
@@ -336,8 +269,5 @@ module _ {S : Type 0} (b : Behaviour S) where
   -- how many facts they may still hold
   pub fewer_all : (a : Address) (now new : List S) → GoOnAt b (Some a) now new → most_of b new + length (taken_at a (heads b now)) ≤ most_of b now
   fewer_all a [] [] h = omega arith
-  fewer_all a [] (u ∷ new) h = absurd h
-  fewer_all a (t ∷ now) [] h = absurd h
-  fewer_all a (t ∷ now) (u ∷ new) h =
-      let l = ap length (taken_split a (b.held t) (heads b now)) in
-      omega (arith, l, fewer_one a t u h.0, fewer_all a now new h.1, length-append (taken_from a (b.held t)) (taken_at a (heads b now)))
+  fewer_all a (t ∷ now) (u ∷ new) h = grind (arith, taken_split, fewer_one, length-append, fewer_all a now new h.1)
+  fewer_all a now new h = absurd h

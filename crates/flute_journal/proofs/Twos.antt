@@ -1,29 +1,8 @@
 -- What a merge of two streams of journals comes to, said of the journals.
-use Rattle.std.proofs.Common.{◌≡◌, ℕ, zero, suc, false, List, [], ◌∷◌, ◌++◌, Option, Some, None, Err, sym, ap, ◌∙◌, subst, append-nil}
-use Rattle.std.specs.Prelude.{slice_get, IfSome}
-use Rattle.flute_parts.specs.Facts.{Same}
-use Rattle.flute_parts.specs.declared.fact.Fact.{Fact}
-use Rattle.flute_parts.proofs.Facts.{Same-sym, Same-trans, Same-append}
-use Rattle.flute_journal.specs.declared.fault.ReadFault.{ReadFault}
-use Rattle.flute_journal.specs.declared.fault.LoadFault.{LoadFault}
-use Rattle.flute_journal.specs.declared.fault.LoadFault.TheVariants.{Read, Full, OutOfMemory}
+use Rattle.flute_journal.proofs.Common.{◌≡◌, ℕ, zero, suc, false, List, [], ◌∷◌, ◌++◌, Option, Some, None, Err, sym, ap, ◌∙◌, subst, append-nil, slice_get, IfSome, Same, Fact, Same-sym, Same-trans, Same-append, ReadFault, LoadFault, Read, Joined, StreamsFault, Input, Write, LentStream, Either, First, Second, spelling, Collects, Journal, IsJournalWithin, HasFault, Merged, StopsShort, KeepsUp, NamesFault, FirstFails, SecondFails, MergeGives, written_up_to, source_of, limit_of, Behaviour, either_behaviour, unread_of, lent, lent_behaviour, all_of, Each, EachSince, MergedAll, AppendsPartOf, ReadsAhead, BeginWith, NamesInput, OneFails, FailAs}
 use Rattle.flute_journal.specs.declared.merge.MergeFault.{MergeFault}
-use Rattle.flute_journal.specs.declared.merging.Joined.{Joined}
-use Rattle.flute_journal.specs.declared.streams_fault.StreamsFault.{StreamsFault}
-use Rattle.flute_journal.specs.declared.streams_fault.StreamsFault.TheVariants.{Input, Write}
-use Rattle.flute_journal.specs.declared.journal_stream.LentStream.{LentStream}
-use Rattle.flute_journal.specs.declared.either.Either.{Either}
-use Rattle.flute_journal.specs.declared.either.Either.TheVariants.{First, Second}
-use Rattle.flute_journal.specs.Format.{spelling}
-use Rattle.flute_journal.specs.Journal.{Collects, Journal, IsJournalWithin}
 use Rattle.flute_journal.proofs.WrittenSoFar.{written-whole}
-use Rattle.flute_journal.specs.Whole.{HasFault}
-use Rattle.flute_journal.specs.Merges.{Merged, StopsShort, KeepsUp, BeginsWith, NamesFault, FirstFails, SecondFails, MergeGives, written_up_to}
-use Rattle.flute_journal.specs.Readers.{source_of, limit_of}
-use Rattle.flute_journal.specs.Streams.{Behaviour}
-use Rattle.flute_journal.specs.Eithers.{either_behaviour}
-use Rattle.flute_journal.specs.JournalStreams.{unread_of, lent, lent_behaviour}
-use Rattle.flute_journal.specs.StreamMerges.{all_of, Each, EachSince, MergedAll, AppendsPartOf, ReadsAhead, BeginWith, NamesInput, OneFails, FailAs}
+use Rattle.flute_journal.specs.Merges.{BeginsWith}
 use Rattle.flute_journal.specs.Pairs.{fault_at, IsFaultAt, IsFaultOfTwo, IsOfReading}
 
 -- journals of both inputs and of all their facts have entries that come to the same
@@ -36,8 +15,7 @@ begins_at (suc k) f bytes entries e = e
 
 begins : (k : ℕ) (f : LoadFault) (merge : MergeFault) (bytes : List ℕ) (entries : List Fact) → IsFaultAt k f merge → bytes ≡ written_up_to entries → BeginsWith merge bytes entries
 begins k (Read f) merge bytes entries is e = subst (λ x. BeginsWith x bytes entries) (sym is) (begins_at k f bytes entries e)
-begins k Full merge bytes entries is e = absurd is
-begins k OutOfMemory merge bytes entries is e = absurd is
+begins k f merge bytes entries is e = absurd is
 
 begins_two : (fault : StreamsFault) (merge : MergeFault) (bytes : List ℕ) (entries : List Fact) → IsFaultOfTwo fault merge → BeginWith fault bytes entries → BeginsWith merge bytes entries
 begins_two Write merge bytes entries is h = subst (λ x. BeginsWith x bytes entries) (sym is) h
@@ -74,7 +52,7 @@ module _ {A B : Type 0} (ua : A → Option (List ℕ)) (fa : A → ℕ) (ub : B 
     each_two P (F ∷ G ∷ []) h = record { first = F; second = G; of_first = h.0; of_second = h.1.0; all = ap (λ (l : List Fact). F ++ l) (append-nil G) }
     each_two P (F ∷ G ∷ H ∷ told) h = absurd h.1.1
 
-    pub merged_two : (x o y : ℕ) (joined : Joined) (w w' : Option (List ℕ)) → limit_of t.reader.now ≡ limit_of s.reader.now → joined.failed ≡ false → MergedAll both inputs x o y joined w w'
+    pub merged_two : (x o y : ℕ) (joined : Joined) (w w' : Option (List ℕ)) → limit_of t.reader.now ≡ limit_of s.reader.now → joined.cut ≡ false → MergedAll both inputs x o y joined w w'
         → Merged (limit_of s.reader.now) joined.entries u v w w'
     merged_two x o y joined w w' same done m =
         let two = each_two both.tells m.told m.tell in
@@ -87,7 +65,7 @@ module _ {A B : Type 0} (ua : A → Option (List ℕ)) (fa : A → ℕ) (ub : B 
           collects = subst (λ (l : List Fact). Collects l m.entries) two.all m.collects;
           few = m.few;
           count = m.count;
-          appended = written-whole joined.failed w w' (spelling m.entries) done m.written;
+          appended = written-whole joined.cut w w' (spelling m.entries) done m.written;
         }
 
     since_two : (P : Either (LentStream A) (LentStream B) → Either (LentStream A) (LentStream B) → List Fact → Type 0) (told : List (List Fact)) → EachSince P inputs after told
@@ -146,8 +124,7 @@ module _ {A B : Type 0} (ua : A → Option (List ℕ)) (fa : A → ℕ) (ub : B 
     names_of : (k : ℕ) (f : LoadFault) (merge : MergeFault) → IsFaultAt k f merge → limit_of t.reader.now ≡ limit_of s.reader.now → (x : Either (LentStream A) (LentStream B))
         → slice_get inputs k ≡ Some x → both.stops x f → NamesFault (limit_of s.reader.now) u v merge
     names_of k (Read f) merge is same x e h = subst (λ m. NamesFault (limit_of s.reader.now) u v m) (sym is) (names_at k f same x e h)
-    names_of k Full merge is same x e h = absurd is
-    names_of k OutOfMemory merge is same x e h = absurd is
+    names_of k f merge is same x e h = absurd is
 
     names_two : (fault : StreamsFault) (merge : MergeFault) → IsFaultOfTwo fault merge → limit_of t.reader.now ≡ limit_of s.reader.now → NamesInput both inputs fault
         → NamesFault (limit_of s.reader.now) u v merge
@@ -157,10 +134,8 @@ module _ {A B : Type 0} (ua : A → Option (List ℕ)) (fa : A → ℕ) (ub : B 
     -- an input stopped where it could not be read
     reading_of : (x : Either (LentStream A) (LentStream B)) (number : ℕ) (f : LoadFault) → both.stops x f → IsOfReading (Input (record { number = number; fault = f }))
     reading_of x number (Read f) h = tt
-    reading_of (First x) number Full h = absurd h
-    reading_of (Second x) number Full h = absurd h
-    reading_of (First x) number OutOfMemory h = absurd h
-    reading_of (Second x) number OutOfMemory h = absurd h
+    reading_of (First x) number f h = absurd h
+    reading_of (Second x) number f h = absurd h
 
     pub reading_two : (fault : StreamsFault) → NamesInput both inputs fault → IsOfReading fault
     reading_two Write n = tt
@@ -187,8 +162,7 @@ module _ {A B : Type 0} (ua : A → Option (List ℕ)) (fa : A → ℕ) (ub : B 
 
     fail_of : (k : ℕ) (f : LoadFault) (merge : MergeFault) → IsFaultAt k f merge → OneFails both k f inputs after → FailTwo merge
     fail_of k (Read f) merge is h = subst FailTwo (sym is) (fail_at k f h)
-    fail_of k Full merge is h = absurd is
-    fail_of k OutOfMemory merge is h = absurd is
+    fail_of k f merge is h = absurd is
 
     pub fail_two : (fault : StreamsFault) (merge : MergeFault) → IsFaultOfTwo fault merge → FailAs both {T = Joined} (Err fault) inputs after → FailTwo merge
     fail_two Write merge is h = subst FailTwo (sym is) (record { first = h.0.0.failed_as; second = h.1.0.0.failed_as })

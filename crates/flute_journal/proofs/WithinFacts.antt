@@ -1,13 +1,6 @@
 -- A stream whose facts are counted goes on as the stream does.
-use Rattle.std.proofs.Common.{◌≡◌, ℕ, List, ◌++◌, Option, None, refl, sym, ap, ◌∙◌, subst, inl, inr, append-nil}
-use Rattle.flute_parts.specs.Facts.{IsRising}
-use Rattle.flute_parts.specs.Limits.{Over}
-use Rattle.flute_parts.specs.Tally.{Counts}
-use Rattle.flute_parts.specs.declared.fact.Fact.{Fact}
-use Rattle.flute_parts.specs.declared.tally.Tally.{Tally}
-use Rattle.flute_journal.specs.declared.fault.LoadFault.TheVariants.{Full}
+use Rattle.flute_journal.proofs.Common.{◌≡◌, ℕ, List, ◌++◌, Option, None, refl, sym, ap, ◌∙◌, subst, inl, inr, append-nil, IsRising, Over, Counts, Fact, Tally, Full, Behaviour, option_list, GoesOn, StopsAt}
 use Rattle.flute_journal.specs.declared.within.Within.{Within}
-use Rattle.flute_journal.specs.Streams.{Behaviour, option_list, GoesOn, StopsAt}
 use Rattle.flute_journal.specs.Withins.{within_behaviour}
 
 module _ (s o y : ℕ) {S : Type 0} (b : Behaviour S) where

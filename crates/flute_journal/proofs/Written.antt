@@ -1,10 +1,5 @@
 -- The bytes of an entry, written part by part.
-use Rattle.std.proofs.Common.{◌≡◌, ℕ, List, ◌∷◌, ◌++◌, Some, None, ap, ◌∙◌, append_assoc}
-use Rattle.flute_parts.specs.ObjectName.{toi_of, instance_of}
-use Rattle.flute_parts.specs.declared.object_key.ObjectName.{ObjectName}
-use Rattle.flute_parts.specs.declared.object_key.ObjectName.TheVariants.{Instance, File}
-use Rattle.flute_journal.specs.Numbers.{in_bytes}
-use Rattle.flute_journal.specs.Format.{object_bytes}
+use Rattle.flute_journal.proofs.Common.{◌≡◌, ℕ, List, ◌∷◌, ◌++◌, Some, None, ap, ◌∙◌, append_assoc, toi_of, instance_of, ObjectName, Instance, File, in_bytes, object_bytes}
 
 pub regroup : (h a b c : List ℕ) → ((h ++ a) ++ b) ++ c ≡ h ++ (a ++ (b ++ c))
 regroup h a b c = append_assoc (h ++ a) b c ∙ append_assoc h a (b ++ c)

@@ -1,10 +1,5 @@
 -- What a writer has written, call by call.
-use Rattle.std.proofs.Common.{◌≡◌, ℕ, Bool, true, false, List, [], ◌∷◌, ◌++◌, Option, refl, sym, ap, ◌∙◌, subst, append_assoc, append-nil}
-use Rattle.std.specs.Prelude.{◌≢◌}
-use Rattle.std.specs.Io.KnownBytes.{Appends}
-use Rattle.std.proofs.KnownBytes.{Appends-trans}
-use Rattle.flute_parts.specs.Devices.{AppendsPart}
-use Rattle.flute_journal.specs.JournalWriters.{Written, PutsBytes}
+use Rattle.flute_journal.proofs.Common.{Appends-nil, ◌≡◌, ℕ, Bool, true, false, List, [], ◌∷◌, ◌++◌, Option, refl, sym, ap, ◌∙◌, subst, append_assoc, append-nil, ◌≢◌, Appends, Appends-trans, AppendsPart, Written, PutsBytes}
 
 some_more : (xs ys : List ℕ) → xs ≢ [] → xs ++ ys ≢ []
 some_more [] ys n e = n refl
@@ -54,3 +49,8 @@ pub puts-part : (f g : Bool) (u v : Option (List ℕ)) (xs : List ℕ) → f ≡
 puts-part false true u v xs e h p = p
 puts-part false false u v xs e h p = absurd cc
 puts-part true g u v xs e h p = absurd cc
+
+-- bytes that were left out are as bytes that a sink did not take
+pub left_out : (f : Bool) (u : Option (List ℕ)) (xs : List ℕ) → xs ≢ [] → PutsBytes f true u u xs
+left_out false u xs some = record { part = []; rest = xs; appended = Appends-nil u; whole = refl; cut = some }
+left_out true u xs some = Appends-nil u

@@ -30,3 +30,9 @@ pub mod Pairs
 pub mod Listed
 pub mod FactStreams
 pub mod Withins
+pub mod Kinds
+pub mod OwnedStreams
+pub mod OrFulls
+pub mod Besides
+pub mod Replacing
+pub mod FilesSoFar

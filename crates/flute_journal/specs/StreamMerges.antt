@@ -87,7 +87,7 @@ module _ {S : Type 0} (b : Behaviour S) where
   CanGoOn old new (Input fault) = GaveBefore fault.number old new
   CanGoOn old new Write = Unit {0}
 
-  -- Each input tells some facts. The journal of all of them was appended, or where the sink has failed a part of it, with so many entries,
+  -- Each input tells some facts. The journal of all of them was appended, or a part of it, with so many entries,
   -- and it was told whether they are within the limits of a store. Whatever other facts have the same members, in any order, however often and however grouped: that is
   -- their journal too.
   pub record MergedAll (inputs : List S) (s o y : ℕ) (joined : Joined) (old new : Option (List ℕ)) : Type 0 where
@@ -98,8 +98,8 @@ module _ {S : Type 0} (b : Behaviour S) where
     pub few : length entries < 2 ^ 64
     pub count : joined.entries ≡ length entries
     pub limits : IsWithinLimits s o y (all_of told) joined.within
-    pub written : Written joined.failed old new (spelling entries)
-    pub as_others : (others : List Fact) → SameMembers (all_of told) others → (bytes : List ℕ) → Journal bytes others → Written joined.failed old new bytes
+    pub written : Written joined.cut old new (spelling entries)
+    pub as_others : (others : List Fact) → SameMembers (all_of told) others → (bytes : List ℕ) → Journal bytes others → Written joined.cut old new bytes
 
   -- What was appended is the journal of nothing. Where all the facts of each input are known, it is a first part of the journal of all of
   -- them, and not all of it.

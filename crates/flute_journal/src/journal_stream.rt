@@ -85,7 +85,7 @@ impl<'r, 'a, R: Source> Stream for LentStream<'r, 'a, R> {
 
 // The memory of an entry that is let go of, for the next one.
 #[inline(always)]
-fn spare_of(alloc: Global, held: Option<Fact>) -> Vec<u8> {
+pub(crate) fn spare_of(alloc: Global, held: Option<Fact>) -> Vec<u8> {
     match held {
         Some(fact) => fact.into_vec(alloc),
         None => Vec::new(alloc),

@@ -1,5 +1,5 @@
 //! Laws of the definitions: each is the contract of a function that does nothing.
-ghost use Rattle.std.specs.Prelude.{◌≡◌, ◌≢◌, ℕ, ◌+◌, ◌<◌, ◌≤◌, ◌^◌, ◌↔◌, ◌⊎◌, List, [], ◌++◌, length};
+ghost use Rattle.std.specs.Prelude.{◌≡◌, ◌≢◌, ℕ, ◌+◌, ◌<◌, ◌≤◌, ◌^◌, ◌↔◌, ◌⊎◌, List, [], ◌∷◌, ◌++◌, length, Option, IfSome};
 ghost use Rattle.std.specs.List.{flat_map, AllByRecursion};
 ghost use Rattle.flute_parts.specs.Facts.{Same, Below, IsRising};
 ghost use Rattle.flute_parts.specs.declared.fact.Fact.{Fact};
@@ -9,7 +9,10 @@ ghost use Rattle.flute_journal.specs.Journal.{IsByte, IsFact, Collects, Journal,
 ghost use Rattle.flute_journal.specs.StreamMerges.{Each, all_of};
 ghost use Rattle.flute_journal.specs.Stores.{IsJournalOf};
 ghost use Rattle.flute_journal.specs.declared.fault.ReadFault.TheVariants as faults;
-ghost use Rattle.flute_journal.specs.Records.{IsFileOf, IsFileWithin, FileStops};
+ghost use Rattle.flute_journal.specs.Records.{IsFileOf, IsFileWithin, FileStops, GivesRecord, GivesNone, GivesFileFault, HasFileFault};
+ghost use Rattle.flute_journal.specs.FilesSoFar.{FileSofar};
+ghost use Rattle.flute_journal.specs.declared.datagram_reader.FileStage.{FileStage};
+ghost use Rattle.flute_journal.specs.declared.datagram_reader.FileStage.TheVariants as FileStages;
 
 /// What an entry spells is read in one way, whatever follows it.
 pub fn entry_has_one_reading()
@@ -115,4 +118,21 @@ pub fn a_file_stops_at_the_bound()
     ensures { (bs : List ℕ) (limit : ℕ) (ds es : List (List ℕ)) (f : Fault) → IsFileOf bs ds
         → FileStops bs limit es f
         → (f ≡ faults.TooMany) × (limit < length ds) }
+{}
+
+/// A datagram file is told by what its reader gives record by record: behind these records it
+/// stands where they end; at the end the file was that of all of them, and at a fault the file has
+/// this fault.
+pub fn a_file_is_read_record_by_record()
+    ensures begins { (limit : ℕ) (first : Option (List ℕ)) → FileSofar limit first first
+        FileStages.Header [] }
+    ensures goes_on { (limit : ℕ) (first now next : Option (List ℕ)) (old new : FileStage)
+        (ds : List (List ℕ)) (d : List ℕ) → FileSofar limit first now old ds
+        → GivesRecord limit old new now next d → FileSofar limit first next new (ds ++ d ∷ []) }
+    ensures ends { (limit : ℕ) (first now next : Option (List ℕ)) (old new : FileStage)
+        (ds : List (List ℕ)) → FileSofar limit first now old ds
+        → GivesNone old new now next → IfSome first (λ bytes. IsFileWithin limit bytes ds) }
+    ensures stops { (limit : ℕ) (first now next : Option (List ℕ)) (old new : FileStage)
+        (ds : List (List ℕ)) (f : Fault) → FileSofar limit first now old ds
+        → GivesFileFault limit old new now next f → HasFileFault limit first f }
 {}

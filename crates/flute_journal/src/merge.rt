@@ -174,7 +174,7 @@ pub fn merge_two<
     ensures merged { IfOk result (λ joined. MergedAll (either_behaviour S.behaviour T.behaviour)
         (Left first.old ∷ Right second.old ∷ [])
         SESSIONS OBJECTS SYMBOLS joined (W.written sink.old) (W.written sink.new)) }
-    ensures done { IfOk result (λ joined. joined.failed ≡ false) }
+    ensures done { IfOk result (λ joined. joined.cut ≡ false) }
     ensures short { IfErr result (λ _. AppendsPartOf (either_behaviour S.behaviour T.behaviour)
         (Left first.old ∷ Right second.old ∷ [])
         (W.written sink.old) (W.written sink.new)) }

@@ -27,8 +27,9 @@ pub struct Joined {
     pub entries: u64,
     /// Whether its facts are within the limits of a store.
     pub within: bool,
-    /// Whether the sink has failed: it took a part of the journal then, and not all.
-    pub failed: bool,
+    /// Whether only a part of the journal was written: the sink has failed, or the end was left
+    /// out.
+    pub cut: bool,
 }
 
 /// Appends the journal of all that streams tell, and answers the number of its entries, and whether
@@ -58,7 +59,7 @@ pub fn merge_all<const SESSIONS: u32, const OBJECTS: u32, const SYMBOLS: u32, G:
     ensures merged { IfOk result (λ joined. MergedAll G.Stream.behaviour
         (G.streams streams.old) SESSIONS OBJECTS SYMBOLS joined
         (W.written sink.old) (W.written sink.new)) }
-    ensures done { IfOk result (λ joined. joined.failed ≡ false) }
+    ensures done { IfOk result (λ joined. joined.cut ≡ false) }
     ensures short { IfErr result (λ _. AppendsPartOf G.Stream.behaviour (G.streams streams.old)
         (W.written sink.old) (W.written sink.new)) }
     ensures reads_ahead { IfErr result (ReadsAhead G.Stream.behaviour
@@ -78,7 +79,8 @@ pub fn merge_all<const SESSIONS: u32, const OBJECTS: u32, const SYMBOLS: u32, G:
 
 /// Appends the journal of all that streams tell, as `merge_all` does, but goes on where the sink has
 /// failed: each stream is read to its end all the same, and what is told of them is told whatever
-/// became of the sink. `failed` says that it took a part of the journal only.
+/// became of the sink. The end is left out where all the streams together are over the limits:
+/// what was appended is then no journal of anything.
 ///
 /// # Errors
 ///
@@ -96,7 +98,7 @@ pub fn join_streams<
     ensures merged { IfOk result (λ joined. MergedAll G.Stream.behaviour
         (G.streams streams.old) SESSIONS OBJECTS SYMBOLS joined
         (W.written sink.old) (W.written sink.new)) }
-    ensures cut { IfOk result (λ joined. joined.failed ≡ true
+    ensures cut { IfOk result (λ joined. joined.cut ≡ true
         → AppendsNoJournal (W.written sink.old) (W.written sink.new)) }
     ensures short { IfErr result (λ _. AppendsPartOf G.Stream.behaviour (G.streams streams.old)
         (W.written sink.old) (W.written sink.new)) }
@@ -104,8 +106,9 @@ pub fn join_streams<
         (FirstFault G.Stream.behaviour (G.streams streams.old) (G.streams streams.new)) }
     ensures failures { IfOk result
         (λ _. NoneFails G.Stream.behaviour (G.streams streams.old) (G.streams streams.new)) }
-    ensures sink_failures { IfOk result
-        (λ joined. W.failures sink.new ≡ W.failures sink.old + times_failed joined.failed) }
+    ensures over { IfOk result (λ joined. joined.within ≡ false → joined.cut ≡ true) }
+    ensures sink_failures { IfOk result (λ joined. joined.within ≡ true
+        → W.failures sink.new ≡ W.failures sink.old + times_failed joined.cut) }
     ensures sink_fails { W.failures sink.new ≤ W.failures sink.old + 1 }
     ensures names { G.names streams.new ≡ G.names streams.old }
 {
@@ -117,7 +120,8 @@ pub fn join_streams<
     }
 }
 
-// Merges streams into what a writer writes. It stops where that has failed, unless it is patient.
+// Merges streams into what a writer writes. It stops where that has failed, unless it is patient: it then leaves out the end where
+// the streams together are over the limits.
 fn merge_into<const SESSIONS: u32, const OBJECTS: u32, const SYMBOLS: u32, G: Streams, W: Sink>(
     alloc: Global,
     streams: &mut G,
@@ -130,8 +134,13 @@ fn merge_into<const SESSIONS: u32, const OBJECTS: u32, const SYMBOLS: u32, G: St
     ensures merged { IfOk result (λ joined. MergedAll G.Stream.behaviour
         (G.streams streams.old) SESSIONS OBJECTS SYMBOLS joined
         (W.written writer.old.sink.now) (W.written writer.new.sink.now)) }
-    ensures told { IfOk result (λ joined. joined.failed ≡ writer.new.failed) }
-    ensures cut { IfOk result (λ joined. joined.failed ≡ true → AppendsNoJournal
+    ensures told { IfOk result
+        (λ joined. joined.within ≡ true → joined.cut ≡ writer.new.failed) }
+    ensures told_all { IfOk result
+        (λ joined. patient ≡ false → joined.cut ≡ writer.new.failed) }
+    ensures over { IfOk result
+        (λ joined. patient ≡ true → joined.within ≡ false → joined.cut ≡ true) }
+    ensures cut { IfOk result (λ joined. joined.cut ≡ true → AppendsNoJournal
         (W.written writer.old.sink.now) (W.written writer.new.sink.now)) }
     ensures short { IfErr result (λ _. AppendsPartOf G.Stream.behaviour (G.streams streams.old)
         (W.written writer.old.sink.now) (W.written writer.new.sink.now)) }
@@ -174,15 +183,22 @@ fn merge_into<const SESSIONS: u32, const OBJECTS: u32, const SYMBOLS: u32, G: St
         }
         entries += 1;
     }
+    if patient && !within {
+        return Ok(Joined {
+            entries,
+            within,
+            cut: true,
+        });
+    }
     writer.end(entries);
     if stops(writer, patient) {
         return Err(StreamsFault::Write);
     }
-    let failed = writer.failed;
+    let cut = writer.failed;
     Ok(Joined {
         entries,
         within,
-        failed,
+        cut,
     })
 }
 
@@ -209,7 +225,7 @@ pub fn merge_slice<const SESSIONS: u32, const OBJECTS: u32, const SYMBOLS: u32, 
     requires few { most_of S.behaviour streams.old < 2 ^ 64 }
     ensures merged { IfOk result (λ joined. MergedAll S.behaviour streams.old SESSIONS OBJECTS
         SYMBOLS joined (W.written sink.old) (W.written sink.new)) }
-    ensures done { IfOk result (λ joined. joined.failed ≡ false) }
+    ensures done { IfOk result (λ joined. joined.cut ≡ false) }
     ensures short { IfErr result (λ _. AppendsPartOf S.behaviour streams.old
         (W.written sink.old) (W.written sink.new)) }
     ensures reads_ahead { IfErr result

@@ -102,18 +102,35 @@ impl<'a, R: Source> JournalReader<'a, R> {
         ensures failures { FailsIf (is_open (stage_of self.old))
             (R.failures (source_of self.old).now) (R.failures (source_of self.new).now) result }
     {
-        let (count, given) = match self.stage {
-            Stage::Ended => return Ok(None),
-            Stage::Failed(fault) => return Err(fault),
-            Stage::Header => (0, read_first(alloc, self.source, self.max_entries, spare)),
-            Stage::Entries { count, last } => (
-                count,
-                read_entry(alloc, self.source, self.max_entries, count, last, spare),
-            ),
-        };
-        self.stage = stage_behind(count, &given);
-        given
+        read_at(alloc, self.source, self.max_entries, &mut self.stage, spare)
     }
+}
+
+// The next entry of a journal whose reader stands there, and where it stands behind it.
+#[inline(always)]
+pub(crate) fn read_at<R: Source>(
+    alloc: Global,
+    source: &mut R,
+    max_entries: u64,
+    stage: &mut Stage,
+    spare: Vec<u8>,
+) -> Result<Option<Fact>, ReadFault>
+    ensures gives { Gives max_entries stage.old stage.new
+        (R.unread source.old) (R.unread source.new) result }
+    ensures failures { FailsIf (is_open stage.old)
+        (R.failures source.old) (R.failures source.new) result }
+{
+    let (count, given) = match *stage {
+        Stage::Ended => return Ok(None),
+        Stage::Failed(fault) => return Err(fault),
+        Stage::Header => (0, read_first(alloc, source, max_entries, spare)),
+        Stage::Entries { count, last } => (
+            count,
+            read_entry(alloc, source, max_entries, count, last, spare),
+        ),
+    };
+    *stage = stage_behind(count, &given);
+    given
 }
 
 // Reads the header, and then the first entry or the end.

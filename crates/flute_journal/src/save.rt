@@ -5,7 +5,7 @@ ghost use Rattle.flute_journal.specs.Format.{spelling};
 ghost use Rattle.flute_journal.specs.Journal.{Journal};
 
 use crate::fault::SaveFault;
-use crate::writing::{write_end, write_entry, write_header};
+use crate::journal_writer::JournalWriter;
 use flute_parts::Sink;
 use flute_store::Store;
 
@@ -31,12 +31,19 @@ pub fn write_store<const SESSIONS: u32, const OBJECTS: u32, const SYMBOLS: u32, 
     ensures failures { W.failures sink.new ≡ W.failures sink.old + (if is_ok result then 0 else 1) }
 {
     let facts = store.walk();
-    write_header(sink)?;
+    let mut writer = JournalWriter::new(&mut *sink);
+    writer.header();
     let mut count = 0;
     for fact in facts {
-        write_entry(sink, &fact)?;
+        writer.entry(&fact);
+        if writer.failed {
+            return Err(SaveFault::Write);
+        }
         count += 1;
     }
-    write_end(sink, count)?;
+    writer.end(count);
+    if writer.failed {
+        return Err(SaveFault::Write);
+    }
     Ok(count)
 }

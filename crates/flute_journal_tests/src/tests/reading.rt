@@ -38,3 +38,11 @@ fn a_fault_stays(rt: HostRuntime) -> Result<(), Fail> {
     }
     Ok(())
 }
+
+#[test]
+fn kinds_are_told_by_first_bytes(rt: HostRuntime) -> Result<(), Fail> {
+    assert!(rt; kind_of(&bytes(rt.alloc(), journals::WHOLE)?) == Some(Kind::Journal));
+    assert!(rt; kind_of(b"FLDG") == Some(Kind::Datagrams));
+    assert!(rt; kind_of(b"FLJ") == None);
+    Ok(())
+}

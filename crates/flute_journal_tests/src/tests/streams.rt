@@ -2,7 +2,7 @@
 
 use super::*;
 use flute_parts::{Fact, MemorySink, MemorySource, ShortSink, SymbolId};
-use test_vectors::journals::{END_2, HEADER, JOINED, KEY, OTHERS, WHOLE};
+use test_vectors::journals::{END_2, HEADER, JOINED, KEY, LAST_IN_CONFLICT, OTHERS, WHOLE};
 use test_vectors::{bytes, bytes_of};
 
 #[test]
@@ -81,6 +81,40 @@ fn a_join_goes_on_behind_a_failure(rt: HostRuntime) -> Result<(), Fail> {
     let mut both = Slice::new(&mut streams);
     let mut sink = ShortSink::new(rt.alloc(), 20);
     let joined = join_streams::<1, 1, 1, _, _>(rt.alloc(), &mut both, &mut sink)?;
-    assert!(rt; joined.entries == 2 && joined.within && joined.failed);
+    assert!(rt; joined.entries == 2 && joined.within && joined.cut);
+    Ok(())
+}
+
+/// Two journals with their sources, and in the place of the second a fact: that a symbol of the first is in conflict.
+#[test]
+fn a_fact_in_the_place_of_a_journal_is_joined(rt: HostRuntime) -> Result<(), Fail> {
+    let key = file().ok_or("a key")?;
+    let whole = bytes(rt.alloc(), WHOLE)?;
+    let mut journals = [
+        OwnedJournalStream::new(MemorySource::new(&whole), MANY),
+        OwnedJournalStream::new(MemorySource::new(&[]), MANY),
+    ];
+    let id = SymbolId { sbn: 0, esi: 1 };
+    let fact = FactStream::new(Fact::SymbolConflict { key, id });
+    let mut facts = [None, Some(fact)];
+    let mut both = Replaced::new(&mut journals, &mut facts);
+    let mut sink = MemorySink::new(rt.alloc());
+    let joined = join_streams::<4, 4, 4, _, _>(rt.alloc(), &mut both, &mut sink)?;
+    assert!(rt; joined.entries == 3 && joined.within);
+    assert!(rt; sink.as_slice() == bytes(rt.alloc(), LAST_IN_CONFLICT)?.as_slice());
+    Ok(())
+}
+
+/// Behind one that ends.
+#[test]
+fn a_full_stream_is_told(rt: HostRuntime) -> Result<(), Fail> {
+    let key = file().ok_or("a key")?;
+    let fact = FactStream::new(Fact::InfoConflict { key });
+    let mut streams = [OrFull::of(fact), OrFull::full()];
+    let mut all = Slice::new(&mut streams);
+    let mut sink = MemorySink::new(rt.alloc());
+    let answer = join_streams::<1, 1, 1, _, _>(rt.alloc(), &mut all, &mut sink);
+    let fault = LoadFault::Full;
+    assert!(rt; answer.err() == Some(InputFault { number: 1, fault }));
     Ok(())
 }

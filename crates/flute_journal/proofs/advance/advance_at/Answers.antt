@@ -1,7 +1,5 @@
 -- One stream more, by whether it stands there.
-use Rattle.std.proofs.Common.{◌≡◌, ℕ, ◌+◌, ◌<◌, length, Option, Some, None, refl, subst, sym, ap, ◌∙◌, arith}
-use Rattle.std.specs.Prelude.{IfSome}
-use Rattle.flute_journal.specs.Streams.{place_of}
+use Rattle.flute_journal.proofs.Common.{◌≡◌, ℕ, ◌+◌, ◌<◌, length, Option, Some, None, refl, subst, sym, ap, ◌∙◌, arith, IfSome, place_of}
 use Rattle.flute_journal.proofs.GoingOn.{WentSoFar, item_at, none_went, one_stays, one_goes, one_stops, all_went, same_length}
 use Rattle.flute_journal.proofs.advance.advance_at.Goals.{then-is_at+in_default, else-is_at}
 use Rattle.flute_journal.proofs.advance.advance_at.Goals as goal
@@ -13,21 +11,8 @@ below_more P k (Some n) h m = m n h
 pub loop-number-init : goal.loop-number-init
 loop-number-init g c = record { went = none_went g.G.Stream.Stream.behaviour c.args.place (g.G.Streams.streams c.args.streams.now); all = sym c.count-number-end.ensures; names = refl; one = tt }
 
-pub head-requires : goal.head-requires
-head-requires g c = omega (arith, c.loop-number.invariant.all, c.loop-number-test.true)
-
-pub advance-requires : goal.advance-requires
-advance-requires g c = omega (arith, c.loop-number.invariant.all, c.loop-number-test.true)
-
 pub returns-in-Err-clause-stops : goal.returns-in-Err-clause-stops
-returns-in-Err-clause-stops g c =
-    let a = c.in-Err.ensures.advances in
-    one_stops g.G.Stream.Stream.behaviour c.args.place c.loop-number.number (g.G.Streams.streams c.args.streams.now) (g.G.Streams.streams c.loop-number.streams)
-    (g.G.Streams.streams c.advance.new.self) c.in-Err.fault c.loop-number.invariant.went a
-    (sym (ap place_of (c.head.ensures a.before a.was)) ∙ c.is_at.ensures.at c.if-is_at.true)
-
-pub returns-in-Err-clause-names : goal.returns-in-Err-clause-names
-returns-in-Err-clause-names g c = c.advance.ensures.names ∙ c.loop-number.invariant.names
+returns-in-Err-clause-stops g c = grind (arith, one_stops)
 
 pub loop-number-preserved : goal.loop-number-preserved
 loop-number-preserved g c =
@@ -64,12 +49,7 @@ loop-number-preserved g c =
     ]
 
 pub returns-clause-go_on : goal.returns-clause-go_on
-returns-clause-go_on g c =
-    all_went g.G.Stream.Stream.behaviour c.args.place c.loop-number.number (g.G.Streams.streams c.args.streams.now) (g.G.Streams.streams c.loop-number.streams)
-    c.loop-number.invariant.went (omega (arith, c.loop-number.invariant.all, c.loop-number-test.false))
-
-pub returns-clause-names : goal.returns-clause-names
-returns-clause-names g c = c.loop-number.invariant.names
+returns-clause-go_on g c = grind (arith, all_went)
 
 pub returns-clause-number : goal.returns-clause-number
 returns-clause-number g c = below_end c.loop-number.one c.loop-number.invariant.one

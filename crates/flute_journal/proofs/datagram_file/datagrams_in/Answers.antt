@@ -1,6 +1,4 @@
-use Rattle.std.proofs.Common.{◌≡◌, ◌<◌, ◌≤◌, ℕ, List, length, map, rules, Err, ap, ◌∙◌}
-use Rattle.std.proofs.lemmas.List.{length-map}
-use Rattle.std.proofs.lemmas.Result.{err_from_is_err_and}
+use Rattle.flute_journal.proofs.Common.{◌≡◌, ◌<◌, ◌≤◌, ℕ, List, length, map, rules, Err, ap, ◌∙◌, length-map, err_from_is_err_and}
 use Rattle.flute_journal.specs.declared.fault.ReadFault.TheVariants as faults
 use Rattle.flute_journal.proofs.Records.{file_read-stops, many_at, cut_at}
 use Rattle.flute_journal.proofs.datagram_file.datagrams_in.Goals as goal

@@ -1,5 +1,4 @@
-use Rattle.std.proofs.Common.{rules, subst}
-use Rattle.std.specs.List.{IsSplitAt}
+use Rattle.flute_journal.proofs.Common.{rules, subst, IsSplitAt}
 use Rattle.flute_journal.proofs.Numbers.{octets}
 use Rattle.flute_journal.proofs.Records.{record_split}
 use Rattle.flute_journal.proofs.datagram_file.split_record.Goals as goal

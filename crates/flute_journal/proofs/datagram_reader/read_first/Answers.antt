@@ -1,7 +1,5 @@
-use Rattle.std.proofs.Common.{Err, sym, ap, ◌∙◌, subst}
-use Rattle.std.proofs.lemmas.Result.{err_from_is_err_and}
+use Rattle.flute_journal.proofs.Common.{Err, sym, ap, ◌∙◌, subst, err_from_is_err_and, ReadsFileFrom}
 use Rattle.flute_journal.specs.declared.datagram_reader.FileStage.TheVariants.{Header}
-use Rattle.flute_journal.specs.Records.{ReadsFileFrom}
 use Rattle.flute_journal.proofs.FileCalls.{reads_file_header, reads_file_first}
 use Rattle.flute_journal.proofs.datagram_reader.read_first.Goals as goal
 

@@ -1,7 +1,4 @@
-use Rattle.std.proofs.Common.{◌≡◌, ◌<◌, length, rules, Err, Some, sym, ap, ◌∙◌, subst}
-use Rattle.std.proofs.lemmas.Result.{err_from_is_err_and}
-use Rattle.flute_journal.specs.declared.fault.ReadFault.TheVariants as faults
-use Rattle.flute_journal.specs.Records.{record_fault, ReadsRecord}
+use Rattle.flute_journal.proofs.Common.{◌≡◌, length, rules, Err, sym, ap, ◌∙◌, subst, err_from_is_err_and, ReadsRecord}
 use Rattle.flute_journal.proofs.Fronts.{fault-here}
 use Rattle.flute_journal.proofs.Records.{too_many_records, record_stops, record_read, no_record, length_ends, record_ends}
 use Rattle.flute_journal.proofs.datagram_reader.read_record.Goals as goal
@@ -12,17 +9,10 @@ returns-then-is_empty-clause-reads g c =
     rw c.told.ensures (no_record c.args.max_records c.args.count front.failed _ _ front.bytes.now c.read_front-front.ensures.filled (search rules))
 
 pub returns-then-is_empty-clause-within : goal.returns-then-is_empty-clause-within
-returns-then-is_empty-clause-within g c =
-    let filled = c.read_front-front.ensures.filled in
-    length_ends _ _ c.read_front-front.result.bytes.now c.told.result filled.read filled.most
+returns-then-is_empty-clause-within g c = search (rules, length_ends)
 
 pub returns-then-count-max_records-clause-reads : goal.returns-then-count-max_records-clause-reads
-returns-then-count-max_records-clause-reads g c =
-    let front = c.read_front-front.result.bytes.now in
-    let some : 0 < length front = search rules in
-    fault-here (g.R.Source.unread c.args.source.now) (g.R.Source.unread c.read_front-front.new.source) front (record_fault c.args.max_records c.args.count) (Some faults.TooMany)
-    c.read_front-front.ensures.filled.read
-    (λ r. too_many_records c.args.max_records c.args.count front r some c.if-count-max_records.true)
+returns-then-count-max_records-clause-reads g c = search (rules, fault-here, too_many_records)
 
 pub returns-in_err-datagram-clause-reads : goal.returns-in_err-datagram-clause-reads
 returns-in_err-datagram-clause-reads g c =
@@ -34,13 +24,7 @@ returns-in_err-datagram-clause-reads g c =
     c.if-count-max_records.false two c.length_in.ensures.value c.read_front-front.ensures.filled.read c.in_err-datagram.ensures.reads)
 
 pub returns-in_err-datagram-clause-within : goal.returns-in_err-datagram-clause-within
-returns-in_err-datagram-clause-within g c =
-    let front = c.read_front-front.result.bytes.now in
-    record_ends c.length_in.result (g.R.Source.unread c.args.source.now) (g.R.Source.unread c.read_front-front.new.source) _ front c.from_residual.result
-    c.length_in.ensures.spelled (search rules) c.read_front-front.ensures.filled.read c.in_err-datagram.ensures.advances
+returns-in_err-datagram-clause-within g c = search (rules, record_ends)
 
 pub returns-clause-reads : goal.returns-clause-reads
-returns-clause-reads g c =
-    record_read c.args.max_records c.args.count c.length_in.result (g.R.Source.unread c.args.source.now) (g.R.Source.unread c.read_front-front.new.source) (g.R.Source.unread c.read_datagram.new.source)
-    c.read_front-front.result.bytes.now c.in_ok-datagram.datagram c.if-count-max_records.false c.length_in.ensures.spelled (search rules)
-    c.read_front-front.ensures.filled.read c.in_ok-datagram.ensures.reads.0.0 c.in_ok-datagram.ensures.reads.0.1 c.in_ok-datagram.ensures.reads.1
+returns-clause-reads g c = search (rules, record_read)

@@ -1,10 +1,4 @@
-use Rattle.std.proofs.Common.{◌≡◌, ◌<◌, Some, length, rules, arith}
-use Rattle.std.specs.Prelude.{slice_get}
-use Rattle.std.specs.List.{flat_map}
-use Rattle.std.proofs.lemmas.Option.{slice_get_within}
-use Rattle.std.proofs.lemmas.Result.{err_from_is_err_and}
-use Rattle.flute_parts.proofs.Appended.{AppendsPart-first}
-use Rattle.flute_journal.specs.Records.{file_header, record_of}
+use Rattle.flute_journal.proofs.Common.{◌≡◌, Some, rules, arith, slice_get, flat_map, slice_get_within, err_from_is_err_and, AppendsPart-first, file_header, record_of}
 use Rattle.flute_journal.proofs.Sending.{sent-next, sent-part, sent-all, sent-file}
 use Rattle.flute_journal.proofs.datagram_writing.write_datagrams.Goals as goal
 
@@ -21,24 +15,13 @@ returns-in_err-write_record-clause-bytes g c =
     c.in-Some.datagram.now c.loop-datagram.invariant.0 here c.in_err-write_record.ensures.bytes)
 
 pub overflow_add-place : goal.overflow_add-place
-overflow_add-place g c =
-    let here : slice_get c.args.datagrams.now c.loop-datagram.place ≡ Some c.in-Some.datagram.now = search rules in
-    let within : c.loop-datagram.place < length c.args.datagrams.now = slice_get_within c.args.datagrams.now c.loop-datagram.place c.in-Some.datagram.now here in
-    omega (arith, within, c.len-count.ensures, c.len-count.type_inv)
+overflow_add-place g c = grind (arith, slice_get_within)
 
 pub loop-datagram-smaller : goal.loop-datagram-smaller
-loop-datagram-smaller g c =
-    let here : slice_get c.args.datagrams.now c.loop-datagram.place ≡ Some c.in-Some.datagram.now = search rules in
-    let within : c.loop-datagram.place < length c.args.datagrams.now = slice_get_within c.args.datagrams.now c.loop-datagram.place c.in-Some.datagram.now here in
-    omega (arith, within)
+loop-datagram-smaller g c = grind (arith, slice_get_within)
 
 pub loop-datagram-preserved : goal.loop-datagram-preserved
-loop-datagram-preserved g c =
-    let here : slice_get c.args.datagrams.now c.loop-datagram.place ≡ Some c.in-Some.datagram.now = search rules in (
-      sent-next c.args.datagrams.now c.loop-datagram.place (g.W.Sink.written c.args.sink.now) (g.W.Sink.written c.loop-datagram.sink) (g.W.Sink.written c.write_record.new.sink)
-          c.in-Some.datagram.now c.loop-datagram.invariant.0 here c.write_record.ensures.valid c.in_ok-write_record.ensures.bytes,
-      search rules,
-    )
+loop-datagram-preserved g c = grind (arith, sent-next)
 
 pub returns-clause-bytes : goal.returns-clause-bytes
 returns-clause-bytes g c =

@@ -1,7 +1,4 @@
-use Rattle.std.proofs.Common.{length, rules, arith}
-use Rattle.std.proofs.lemmas.Result.{err_from_is_err_and}
-use Rattle.flute_parts.proofs.Appended.{AppendsPart-first, Writes-behind}
-use Rattle.flute_journal.specs.Numbers.{in_bytes}
+use Rattle.flute_journal.proofs.Common.{length, rules, arith, err_from_is_err_and, AppendsPart-first, Writes-behind, in_bytes}
 use Rattle.flute_journal.proofs.datagram_writing.write_record.Goals as goal
 
 pub returns-in_err-write_all-clause-bytes : goal.returns-in_err-write_all-clause-bytes

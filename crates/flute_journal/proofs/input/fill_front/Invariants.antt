@@ -1,6 +1,5 @@
 -- What was filled so far is what was read so far.
-use Rattle.std.proofs.Common.{◌≡◌, ℕ, ◌-◌, ◌<◌, ◌≤◌, length, take, get_or}
-use Rattle.std.specs.Io.KnownBytes.{Consumes}
+use Rattle.flute_journal.proofs.Common.{◌≡◌, ℕ, ◌-◌, ◌<◌, ◌≤◌, length, take, get_or, Consumes}
 use Rattle.flute_journal.proofs.input.fill_front.Given as goal
 
 abbrev pub invariant-loop-filled : goal.invariant-loop-filled

@@ -1,7 +1,6 @@
-use Rattle.std.proofs.Common.{length, arith}
+use Rattle.flute_journal.proofs.Common.{length, arith, AreEntries}
 use Rattle.flute_journal.proofs.Passes.{beyond}
 use Rattle.flute_journal.proofs.laws.a_journal_stops_at_the_bound.Goals as goal
-use Rattle.flute_journal.specs.Journal.{AreEntries}
 
 pub returns : goal.returns
 returns c bs F es limit f j s =

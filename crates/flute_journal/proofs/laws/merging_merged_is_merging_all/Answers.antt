@@ -1,9 +1,4 @@
-use Rattle.std.proofs.Common.{List, [], ◌∷◌}
-use Rattle.flute_parts.specs.Facts.{Same}
-use Rattle.flute_parts.specs.declared.fact.Fact.{Fact}
-use Rattle.flute_parts.proofs.Facts.{Same-itself, Same-sym, Same-trans, Same-append}
-use Rattle.flute_journal.specs.Journal.{Collects}
-use Rattle.flute_journal.specs.StreamMerges.{Each, all_of}
+use Rattle.flute_journal.proofs.Common.{List, [], ◌∷◌, Same, Fact, Same-itself, Same-sym, Same-trans, Same-append, Collects, Each, all_of}
 use Rattle.flute_journal.proofs.laws.merging_merged_is_merging_all.Goals as goal
 
 all_same : (groups joined : List (List Fact)) → Each Collects groups joined → Same (all_of groups) (all_of joined)

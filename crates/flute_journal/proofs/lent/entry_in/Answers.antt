@@ -1,19 +1,9 @@
-use Rattle.std.proofs.Common.{◌≡◌, ℕ, ◌+◌, false, if◌then◌else◌, Result, Ok, Err, List, [], ◌∷◌, ◌++◌, length, take, drop, Option, sym, ap, ◌∙◌, subst, arith, append_assoc}
-use Rattle.std.proofs.lemmas.List.{take-append-drop, length-append}
+use Rattle.flute_journal.proofs.Common.{◌≡◌, ℕ, ◌+◌, false, if◌then◌else◌, Result, Ok, Err, List, [], ◌∷◌, ◌++◌, length, take, drop, Option, sym, ap, ◌∙◌, subst, arith, append_assoc, take-append-drop, length-append, AllByRecursion, Key, SymbolId, Address, Kind, entry, IsByte, byte_of, SymbolIs, fixed_bytes}
 use Rattle.std.proofs.Math.Seq.{take-append_seam}
 use Rattle.std.specs.Result.{is_ok, is_err}
-use Rattle.std.specs.List.{AllByRecursion}
-use Rattle.flute_parts.specs.declared.key.Key.{Key}
-use Rattle.flute_parts.specs.declared.symbol_id.SymbolId.{SymbolId}
-use Rattle.flute_parts.specs.declared.address.Address.{Address}
 use Rattle.flute_parts.specs.declared.fact.Fact.TheVariants as facts
-use Rattle.flute_journal.specs.declared.format.Kind.{Kind}
 use Rattle.flute_journal.specs.declared.format.Fixed.TheVariants.{Symbol}
-use Rattle.flute_journal.specs.Numbers.{in_bytes}
-use Rattle.flute_journal.specs.Format.{key_bytes, id_bytes, entry}
-use Rattle.flute_journal.specs.Journal.{IsByte}
 use Rattle.flute_journal.specs.Lent.{BeginsWithEntry}
-use Rattle.flute_journal.specs.Parsing.{byte_of, SymbolIs, fixed_bytes}
 use Rattle.flute_journal.proofs.Numbers.{octets, octets-take, octets-drop}
 use Rattle.flute_journal.proofs.Decoded.{joined}
 use Rattle.flute_journal.proofs.lent.entry_in.Goals as goal
@@ -28,13 +18,7 @@ symbol_begins last k key id n byte fixed rest symbol kind_is s fixed_is symbol_i
     let whole : List ℕ = byte ∷ (fixed ++ symbol) in
     let bytes : byte ∷ (fixed ++ rest) ≡ whole ++ drop n rest = ap (λ xs. byte ∷ (fixed ++ xs)) split ∙ ap (λ xs. byte ∷ xs) (sym (append_assoc fixed symbol (drop n rest))) in
     let long : length whole ≡ 1 + length fixed + length symbol = omega (arith, length-append fixed symbol) in
-    let spelled : whole ≡ entry (facts.Symbol key id symbol) =
-    ap (λ b. b ∷ (fixed ++ symbol)) first
-    ∙ ap (λ front. 3 ∷ (front ++ symbol)) (sym fixed_is)
-    ∙ ap (λ back. 3 ∷ back) (append_assoc (key_bytes key) (id_bytes id ++ in_bytes 2 n) symbol)
-    ∙ ap (λ back. 3 ∷ (key_bytes key ++ back)) (append_assoc (id_bytes id) (in_bytes 2 n) symbol)
-    ∙ ap (λ m. 3 ∷ (key_bytes key ++ (id_bytes id ++ (in_bytes 2 m ++ symbol)))) (sym size)
-    in
+    let spelled : whole ≡ entry (facts.Symbol key id symbol) = grind (arith, append_assoc) in
     record {
       valid = (s.key_valid, s.id_valid, record { some = omega (arith, s.some, size); short = omega (arith, s.short, size); octets = octets });
       in_order = s.in_order;
@@ -60,12 +44,8 @@ returns-in-Ok-clause-begins c =
     let behind : AllByRecursion IsByte back = (subst (AllByRecursion IsByte) is all).1 in
     let size : length c.in-Some-get.symbol.now ≡ x.length = omega (arith, found.3, c.from.ensures) in
     let symbol_is : c.in-Some-get.symbol.now ≡ take x.length rest = found.2 ∙ ap (λ n. take n rest) (omega (arith, c.from.ensures)) in
-    let own : AllByRecursion IsByte c.in-Some-get.symbol.now =
-    subst (AllByRecursion IsByte) (sym symbol_is) (octets-take x.length rest (subst (AllByRecursion IsByte) (sym split.2) (octets-drop c.fixed_size.result back behind))) in
-    let kept : c.in-Some-get.symbol.now ≡ c.in-Ok.bytes =
-    sym (c.in-Ok.ensures.0 ∙ appended c.extend_from_slice.result c.extend_from_slice.new.self.items c.clear.new.self.items c.in-Some-get.symbol.now
-    c.clear.ensures.items c.if-is_err.ensures.value c.extend_from_slice.ensures.items)
-    in
+    let own : AllByRecursion IsByte c.in-Some-get.symbol.now = grind (arith, octets-take, octets-drop) in
+    let kept : c.in-Some-get.symbol.now ≡ c.in-Ok.bytes = grind (arith, appended) in
     let begins =
     symbol_begins c.args.last.now c.in-Some-from_byte.kind x.key x.id x.length c.in-Some.field-0-0.now c.in-Some-split_at_checked.fixed.now rest c.in-Some-get.symbol.now
     c.in-Some-from_byte.ensures (rw x.field-0-is at x.ensures.0) (ap fixed_bytes (sym x.field-0-is) ∙ x.ensures.1) symbol_is size own

@@ -1,13 +1,6 @@
 -- The entries, joined to what the store held.
-use Rattle.std.proofs.Common.{◌≡◌, ap, sym, ◌∙◌, subst, Bool, List, Err, rules}
-use Rattle.flute_parts.specs.declared.fact.Fact.{Fact}
-use Rattle.std.proofs.lemmas.Result.{err_from_is_err_and}
-use Rattle.flute_parts.proofs.Facts.{Below-trans}
-use Rattle.flute_journal.specs.Whole.{ReadsPart}
-use Rattle.flute_journal.specs.Stores.{IsLoadFault}
-use Rattle.flute_journal.specs.declared.fault.LoadFault.TheVariants.{Read}
+use Rattle.flute_journal.proofs.Common.{◌≡◌, ap, sym, ◌∙◌, subst, Bool, List, Err, rules, Fact, err_from_is_err_and, Below-trans, ReadsPart, IsLoadFault, Read, is_open}
 use Rattle.flute_journal.proofs.Loading.{loaded-stops, fault-part, refused-part, loaded-read}
-use Rattle.flute_journal.specs.Reading.{is_open}
 use Rattle.flute_journal.proofs.Joining.{JoinedSofar, alone, joined-none, rising-next, joined-put, joined-counted, adds-only, adds-one, alone-over, joined-all}
 use Rattle.flute_journal.proofs.load.join_journal.Goals as goal
 

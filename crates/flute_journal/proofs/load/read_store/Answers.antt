@@ -1,22 +1,9 @@
-use Rattle.std.proofs.Common.{◌≡◌, List, rules, ap, ◌∙◌, subst, Option, Err}
-use Rattle.std.proofs.lemmas.Result.{err_from_is_err_and}
-use Rattle.std.specs.Io.KnownBytes.{IsAtEnd}
-use Rattle.flute_parts.specs.declared.fact.Fact.{Fact}
-use Rattle.flute_store.specs.declared.store.Store.{Store}
-use Rattle.flute_journal.specs.Reading.{is_open}
-use Rattle.flute_journal.specs.Stores.{FailsToLoad, IsLoadFault}
-use Rattle.flute_journal.specs.declared.fault.LoadFault.TheVariants.{Read}
-use Rattle.flute_journal.specs.Whole.{ReadsPart}
+use Rattle.flute_journal.proofs.Common.{◌≡◌, List, rules, ap, ◌∙◌, subst, Err, err_from_is_err_and, Fact, is_open, IsLoadFault, Read, ReadsPart}
 use Rattle.flute_journal.proofs.Loading.{loaded-none, loaded-given, loaded-fits, loaded-full, loaded-all, loaded-stops, loaded-failed, loaded-read, fault-part, refused-part}
 use Rattle.flute_journal.proofs.load.read_store.Goals as goal
 
 pub loop-store-init : goal.loop-store-init
-loop-store-init g c = (
-  loaded-none _ _ _ _ _ _ _ _ (ap g.R.Source.unread c.new-reader.ensures.unread) c.new-reader.ensures.stage c.new-store.ensures,
-  c.new-reader.ensures.limit,
-  cc,
-  ap g.R.Source.failures c.new-reader.ensures.unread,
-)
+loop-store-init g c = search (rules, loaded-none)
 
 pub returns-in_err-fact-clause-fault : goal.returns-in_err-fact-clause-fault
 returns-in_err-fact-clause-fault g c =
@@ -29,11 +16,7 @@ returns-in_err-fact-clause-fault g c =
     rw (e.1 ∙ ap Err e.2) (at _ (search rules))
 
 pub returns-in_err-fact-clause-failures : goal.returns-in_err-fact-clause-failures
-returns-in_err-fact-clause-failures g c =
-    let e = err_from_is_err_and c.from_residual.result c.from_residual.ensures.1 in
-    let total : FailsToLoad (g.R.Source.failures c.args.source.now) (g.R.Source.failures c.next.new.self.source.now) c.from_residual.result =
-    rw (e.1 ∙ ap Err e.2) (loaded-failed (Option Fact) (Store g.row.SESSIONS g.row.OBJECTS g.row.SYMBOLS) _ _ _ _ _ _ _ _ _ _ _ _ c.loop-store.invariant.0 c.loop-store.invariant.3 c.in_err-fact.ensures.failures) in
-    search (rules, total)
+returns-in_err-fact-clause-failures g c = search (rules, err_from_is_err_and, loaded-failed)
 
 pub returns-in_err-fact-clause-reads : goal.returns-in_err-fact-clause-reads
 returns-in_err-fact-clause-reads g c =
@@ -71,10 +54,7 @@ pub returns-clause-journal : goal.returns-clause-journal
 returns-clause-journal g c = (loaded-all _ _ _ _ _ _ _ _ _ _ _ _ c.loop-store.invariant.0 c.loop-store.invariant.1 c.in_default.is c.in_ok-fact.ensures.gives).journal
 
 pub returns-clause-end : goal.returns-clause-end
-returns-clause-end g c =
-    let end : IsAtEnd (g.R.Source.unread c.next.new.self.source.now) =
-    (loaded-all _ _ _ _ _ _ _ _ _ _ _ _ c.loop-store.invariant.0 c.loop-store.invariant.1 c.in_default.is c.in_ok-fact.ensures.gives).at_end in
-    search (rules, end)
+returns-clause-end g c = search (rules, loaded-all)
 
 pub returns-clause-within : goal.returns-clause-within
 returns-clause-within g c = loaded-fits _ _ _ _ _ _ _ _ c.loop-store.invariant.0

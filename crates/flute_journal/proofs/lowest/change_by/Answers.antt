@@ -1,7 +1,4 @@
-use Rattle.std.proofs.Common.{subst}
-use Rattle.flute_parts.specs.Addresses.{fact_of}
-use Rattle.flute_journal.specs.Streams.{fact_in}
-use Rattle.flute_journal.specs.Lowest.{IsLowest}
+use Rattle.flute_journal.proofs.Common.{subst, fact_of, fact_in, IsLowest}
 use Rattle.flute_journal.proofs.LowestFacts.{lowest_alone}
 use Rattle.flute_journal.proofs.lowest.change_by.Goals as goal
 

@@ -1,5 +1,4 @@
-use Rattle.std.proofs.Common.{sym, ◌∙◌}
-use Rattle.flute_parts.specs.Addresses.{fact_of}
+use Rattle.flute_journal.proofs.Common.{sym, ◌∙◌, fact_of}
 use Rattle.flute_journal.proofs.LowestFacts.{lowest_turns, lowest_stays, lowest_same, lowest_apart}
 use Rattle.flute_journal.proofs.lowest.change_of.Goals as goal
 

@@ -1,12 +1,6 @@
 -- One stream more.
-use Rattle.std.proofs.Common.{◌<◌, ◌≤◌, length, arith, List, [], ◌++◌, Option, Some, take, sym, ap, subst, append-nil, ◌∷◌, ◌∙◌}
-use Rattle.std.proofs.lemmas.List.{take_all}
-use Rattle.flute_parts.specs.Addresses.{fact_of}
-use Rattle.flute_parts.specs.Facts.{conflict_at}
-use Rattle.flute_parts.specs.declared.fact.Fact.{Fact}
+use Rattle.flute_journal.proofs.Common.{◌<◌, length, arith, List, [], ◌++◌, Option, Some, take, sym, ap, subst, append-nil, ◌∷◌, ◌∙◌, take_all, fact_of, conflict_at, Fact, fact_in, option_list, heads, IsLowest}
 use Rattle.flute_journal.specs.Changes.{changed}
-use Rattle.flute_journal.specs.Streams.{fact_in, option_list, heads}
-use Rattle.flute_journal.specs.Lowest.{IsLowest}
 use Rattle.flute_journal.proofs.LowestFacts.{heads-more}
 use Rattle.flute_journal.proofs.lowest.lowest_held.Goals.{in-Some+in-Lower, in-Some+in-Conflict, in-Some+in-Nothing, in_default}
 use Rattle.flute_journal.proofs.lowest.lowest_held.Goals as goal
@@ -41,8 +35,4 @@ loop-number-preserved g c =
     subst P (sym more) next
 
 pub returns : goal.returns
-returns g c =
-    let xs = g.G.Streams.streams c.args.streams.now in
-    let all : length xs ≤ c.loop-number.number = omega (arith, c.loop-number-test.false, c.count-all.ensures) in
-    let P = λ (l : List g.row.G-Stream.Denot). IsLowest (heads g.G.Stream.Stream.behaviour l) (fact_in c.loop-number.lowest) in
-    subst P (take_all c.loop-number.number xs all) c.loop-number.invariant
+returns g c = grind (arith, take_all)

@@ -1,7 +1,5 @@
 -- The lowest of the first streams.
-use Rattle.std.proofs.Common.{take}
-use Rattle.flute_journal.specs.Streams.{fact_in, heads}
-use Rattle.flute_journal.specs.Lowest.{IsLowest}
+use Rattle.flute_journal.proofs.Common.{take, fact_in, heads, IsLowest}
 use Rattle.flute_journal.proofs.lowest.lowest_held.Given as goal
 
 abbrev pub invariant-loop-number : goal.invariant-loop-number

@@ -1,5 +1,4 @@
-use Rattle.std.proofs.Common.{Bool, subst, [], ◌∷◌, ◌++◌}
-use Rattle.flute_journal.specs.StreamMerges.{IsCounted}
+use Rattle.flute_journal.proofs.Common.{Bool, subst, [], ◌∷◌, ◌++◌, IsCounted}
 use Rattle.flute_journal.proofs.StreamStates.{counted, over_more}
 use Rattle.flute_journal.proofs.merging.count_place.Goals as goal
 

@@ -1,5 +1,5 @@
 -- The first fault.
-use Rattle.std.proofs.lemmas.Option.{slice_get_within}
+use Rattle.flute_journal.proofs.Common.{slice_get_within}
 use Rattle.flute_journal.proofs.Finished.{stopped-of, gave-of}
 use Rattle.flute_journal.proofs.merging.join_streams.Goals as goal
 

@@ -1,11 +1,6 @@
 -- Each exit is a lemma on where the merge stood.
-use Rattle.std.proofs.Common.{◌≡◌, Bool, false, true, Some, sym, ap, subst, ◌∙◌, arith}
-use Rattle.flute_parts.specs.Addresses.{fact_of}
-use Rattle.flute_journal.specs.Format.{header, entry, end}
-use Rattle.flute_journal.specs.Advances.{GoOnAt, StopsIn}
-use Rattle.flute_journal.specs.JournalWriters.{times_failed}
-use Rattle.flute_journal.specs.StreamMerges.{IsCounted}
-use Rattle.flute_journal.proofs.WrittenSoFar.{put-first, puts-part}
+use Rattle.flute_journal.proofs.Common.{◌≢◌, ℕ, [], true, Some, sym, subst, arith, fact_of, header, entry, end, GoOnAt, StopsIn, IsCounted}
+use Rattle.flute_journal.proofs.WrittenSoFar.{put-first, puts-part, left_out}
 use Rattle.flute_journal.proofs.Finished.{cut_journal}
 use Rattle.flute_journal.proofs.StreamStates.{stop_first, stop_header, state-start, state-turn, turn-falls, sized-lowest, few-joined, no_failure, stop_entry, stop_input, stop_end, finished}
 use Rattle.flute_journal.proofs.merging.merge_into.Goals as goal
@@ -34,19 +29,8 @@ returns-then-stops-clause-reads_ahead g c = (stop_header g.G.Stream.Stream.behav
 pub returns-then-stops-clause-failures : goal.returns-then-stops-clause-failures
 returns-then-stops-clause-failures g c = (stop_header g.G.Stream.Stream.behaviour c.args.patient (g.G.Streams.streams c.args.streams.now) (g.G.Streams.streams c.advance_at.new.streams) _ _ c.requires.new c.in_default.ensures.go_on (puts-part c.args.writer.now.failed c.header.new.self.failed _ _ header c.requires.good (c.stops.ensures.stops c.if-stops.true).0 c.header.ensures.puts)).1
 
-known : (b : Bool) → b ≡ false → b ≡ true → ⊥
-known b e h = cc
-
 pub loop-fact-init : goal.loop-fact-init
-loop-fact-init g c = record {
-  state = state-start g.G.Stream.Stream.behaviour c.header.new.self.failed (IsCounted g.row.SESSIONS g.row.OBJECTS g.row.SYMBOLS c.new-tally.result true) (g.G.Streams.streams c.args.streams.now) (g.G.Streams.streams c.advance_at.new.streams) _ _ c.new-tally.ensures c.requires.new c.in_default.ensures.go_on
-      (put-first c.args.writer.now.failed c.header.new.self.failed _ _ header c.requires.good c.header.ensures.puts);
-  sink_failures = omega (arith, c.header.ensures.fails, ap times_failed c.requires.good);
-  eager = c.stops.ensures.goes_on c.if-stops.false;
-  same_sink = c.header.ensures.same_sink;
-  lead = λ e. absurd (known c.new-lead.result.known c.new-lead.ensures e);
-  names = c.advance_at.ensures.names;
-}
+loop-fact-init g c = grind (arith, state-start, put-first)
 
 pub entry-requires : goal.entry-requires
 entry-requires g c = record { sized = sized-lowest g.G.Stream.Stream.behaviour c.loop-fact.invariant.state (fact_of c.in-Some.fact) c.in-Some.ensures.lowest }
@@ -84,14 +68,7 @@ pub loop-fact-smaller : goal.loop-fact-smaller
 loop-fact-smaller g c = turn-falls g.G.Stream.Stream.behaviour c.loop-fact.invariant.state (fact_of c.in-Some.fact) c.in-Some.ensures.lowest (g.G.Streams.streams c.advance.new.streams) (subst (λ a. GoOnAt g.G.Stream.Stream.behaviour (Some a) (g.G.Streams.streams c.loop-fact.streams) (g.G.Streams.streams c.advance.new.streams)) c.address-place.ensures c.in_default-advance.ensures.go_on)
 
 pub loop-fact-preserved : goal.loop-fact-preserved
-loop-fact-preserved g c = record {
-  state = state-turn g.G.Stream.Stream.behaviour c.loop-fact.invariant.state (fact_of c.in-Some.fact) c.in-Some.ensures.lowest c.entry.ensures.valid c.entry.new.self.failed (IsCounted g.row.SESSIONS g.row.OBJECTS g.row.SYMBOLS c.count_place-within.new.tally c.count_place-within.result) (g.G.Streams.streams c.advance.new.streams) _ (λ F r k. c.count_place-within.ensures F (fact_of c.in-Some.fact) (sym c.address-place.ensures) r k) c.entry.ensures.puts.puts (subst (λ a. GoOnAt g.G.Stream.Stream.behaviour (Some a) (g.G.Streams.streams c.loop-fact.streams) (g.G.Streams.streams c.advance.new.streams)) c.address-place.ensures c.in_default-advance.ensures.go_on);
-  sink_failures = omega (arith, c.entry.ensures.puts.fails, c.loop-fact.invariant.sink_failures);
-  eager = c.stops-in-Some.ensures.goes_on c.if-stops-2.false;
-  same_sink = c.entry.ensures.puts.same_sink ∙ c.loop-fact.invariant.same_sink;
-  lead = c.in_default-advance.ensures.leads;
-  names = c.advance.ensures.names ∙ c.loop-fact.invariant.names;
-}
+loop-fact-preserved g c = grind (arith, state-turn)
 
 pub returns-then-stops-3-clause-short : goal.returns-then-stops-3-clause-short
 returns-then-stops-3-clause-short g c = (stop_end g.G.Stream.Stream.behaviour c.loop-fact.invariant.state c.in_default-lowest.ensures.lowest c.args.patient _ (c.loop-fact.invariant.eager (c.stops-2.ensures.stops c.if-stops-3.true).1) (puts-part c.loop-fact.writer.failed c.end.new.self.failed _ _ (end c.loop-fact.entries) (c.loop-fact.invariant.eager (c.stops-2.ensures.stops c.if-stops-3.true).1) (c.stops-2.ensures.stops c.if-stops-3.true).0 c.end.ensures.puts)).short
@@ -112,3 +89,22 @@ pub returns-clause-cut : goal.returns-clause-cut
 returns-clause-cut g c = λ e.
     let m = finished g.G.Stream.Stream.behaviour g.row.SESSIONS g.row.OBJECTS g.row.SYMBOLS c.loop-fact.tally c.loop-fact.within c.end.new.self.failed c.loop-fact.invariant.state _ c.requires.few c.in_default-lowest.ensures.lowest c.end.ensures.puts in
     cut_journal _ _ m.entries c.end.new.self.failed m.collects.valid e m.written
+
+-- the end was left out
+
+some_end : (n : ℕ) → end n ≢ []
+some_end n e = cc
+
+pub returns-then-not-within-clause-merged : goal.returns-then-not-within-clause-merged
+returns-then-not-within-clause-merged g c =
+    finished g.G.Stream.Stream.behaviour g.row.SESSIONS g.row.OBJECTS g.row.SYMBOLS c.loop-fact.tally c.loop-fact.within true c.loop-fact.invariant.state _ c.requires.few c.in_default-lowest.ensures.lowest
+    (left_out c.loop-fact.writer.failed _ (end c.loop-fact.entries) (some_end c.loop-fact.entries))
+
+pub returns-then-not-within-clause-failures : goal.returns-then-not-within-clause-failures
+returns-then-not-within-clause-failures g c = no_failure g.G.Stream.Stream.behaviour c.loop-fact.invariant.state
+
+pub returns-then-not-within-clause-cut : goal.returns-then-not-within-clause-cut
+returns-then-not-within-clause-cut g c = λ e.
+    let m = finished g.G.Stream.Stream.behaviour g.row.SESSIONS g.row.OBJECTS g.row.SYMBOLS c.loop-fact.tally c.loop-fact.within true c.loop-fact.invariant.state _ c.requires.few c.in_default-lowest.ensures.lowest
+    (left_out c.loop-fact.writer.failed _ (end c.loop-fact.entries) (some_end c.loop-fact.entries)) in
+    cut_journal _ _ m.entries true m.collects.valid e m.written

@@ -1,9 +1,5 @@
 -- Between two turns, the sink has not failed, or the merge is patient.
-use Rattle.std.proofs.Common.{◌≡◌, ◌+◌, true, false}
-use Rattle.flute_journal.specs.Streams.{most_of}
-use Rattle.flute_journal.specs.JournalWriters.{times_failed}
-use Rattle.flute_journal.specs.Leads.{Leads}
-use Rattle.flute_journal.specs.StreamMerges.{IsCounted}
+use Rattle.flute_journal.proofs.Common.{◌≡◌, ◌+◌, true, false, most_of, times_failed, Leads, IsCounted}
 use Rattle.flute_journal.proofs.StreamStates.{State}
 use Rattle.flute_journal.proofs.merging.merge_into.Given as goal
 

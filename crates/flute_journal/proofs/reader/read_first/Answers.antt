@@ -1,7 +1,4 @@
-use Rattle.std.proofs.Common.{Err, sym, ap, ◌∙◌, subst}
-use Rattle.std.proofs.lemmas.Result.{err_from_is_err_and}
-use Rattle.flute_journal.specs.declared.reader.Stage.TheVariants.{Header}
-use Rattle.flute_journal.specs.Reading.{ReadsFrom}
+use Rattle.flute_journal.proofs.Common.{Err, sym, ap, ◌∙◌, subst, err_from_is_err_and, Header, ReadsFrom}
 use Rattle.flute_journal.proofs.Calls.{reads_header, reads_first}
 use Rattle.flute_journal.proofs.reader.read_first.Goals as goal
 

@@ -1,8 +1,4 @@
-use Rattle.std.proofs.Common.{Err, sym, ap, ◌∙◌, subst}
-use Rattle.std.proofs.lemmas.Result.{err_from_is_err_and}
-use Rattle.flute_journal.specs.Format.{body}
-use Rattle.flute_journal.specs.Input.{StaysWithin}
-use Rattle.flute_journal.specs.Parsing.{IsBody}
+use Rattle.flute_journal.proofs.Common.{Err, sym, ap, ◌∙◌, subst, err_from_is_err_and, body, StaysWithin, IsBody}
 use Rattle.flute_journal.proofs.Parts.{body_within-short}
 use Rattle.flute_journal.proofs.Bodies.{symbol_stops, symbol_ends}
 use Rattle.flute_journal.proofs.reading.read_body.Goals as goal

@@ -1,12 +1,5 @@
-use Rattle.std.proofs.Common.{◌≡◌, [], ◌∷◌, Some, Err, sym, ap, ◌∙◌, subst}
-use Rattle.std.proofs.lemmas.Result.{err_from_is_err_and}
+use Rattle.flute_journal.proofs.Common.{◌≡◌, [], ◌∷◌, Some, Err, sym, ap, ◌∙◌, subst, err_from_is_err_and, entry, next_fault, StaysWithin, IsFact, at_place, ReadsNext}
 use Rattle.flute_journal.specs.declared.fault.ReadFault.TheVariants as faults
-use Rattle.flute_journal.specs.Format.{entry}
-use Rattle.flute_journal.specs.Faults.{next_fault}
-use Rattle.flute_journal.specs.Input.{StaysWithin}
-use Rattle.flute_journal.specs.Journal.{IsFact}
-use Rattle.flute_journal.specs.Parsing.{at_place}
-use Rattle.flute_journal.specs.Reading.{ReadsNext}
 use Rattle.flute_journal.proofs.Fronts.{fault-here}
 use Rattle.flute_journal.proofs.Parts.{one_byte, kind_wrong, too_many}
 use Rattle.flute_journal.proofs.Bodies.{end_ends, end_stops, body_stops, body_ends}

@@ -1,6 +1,4 @@
-use Rattle.std.proofs.Common.{rules}
-use Rattle.flute_journal.specs.Input.{Fronts}
-use Rattle.flute_journal.specs.Parsing.{FixedIs, fixed_bytes, fixed_size, body_fault}
+use Rattle.flute_journal.proofs.Common.{rules, Fronts, FixedIs, fixed_bytes, fixed_size, body_fault}
 use Rattle.flute_journal.proofs.Fronts.{parsed_reads, parsed_fails}
 use Rattle.flute_journal.proofs.Bodies.{fixed_least}
 use Rattle.flute_journal.proofs.reading.read_fixed.Goals as goal
@@ -16,6 +14,4 @@ returns-clause-reads g c =
     (parsed_reads fixed_bytes (FixedIs c.args.last k) (body_fault c.args.last k) u v (fixed_size k) front.failed front.bytes.now c.parse.result filled (fixed_least c.args.last k) c.parse.ensures)
 
 pub returns-clause-failures : goal.returns-clause-failures
-returns-clause-failures g c =
-    let front = c.read_front-front.result in
-    rw c.told.ensures (parsed_fails _ _ _ front.failed front.bytes.now c.parse.result _ _ c.read_front-front.ensures.failures c.parse.ensures)
+returns-clause-failures g c = search (rules, parsed_fails)

@@ -1,5 +1,4 @@
-use Rattle.std.proofs.Common.{refl}
-use Rattle.flute_journal.specs.Format.{header}
+use Rattle.flute_journal.proofs.Common.{refl, header}
 use Rattle.flute_journal.proofs.Fronts.{parsed_fails, parsed_memory}
 use Rattle.flute_journal.proofs.Bodies.{opening_reads}
 use Rattle.flute_journal.proofs.reading.read_header.Goals as goal

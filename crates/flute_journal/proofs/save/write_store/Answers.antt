@@ -1,40 +1,41 @@
-use Rattle.std.proofs.Common.{rules}
-use Rattle.std.proofs.lemmas.Result.{err_from_is_err_and}
-use Rattle.flute_journal.proofs.Saving.{header-part, saved-next, saved-part, saved-whole, saved-cut, only-spelling}
+use Rattle.flute_journal.proofs.Common.{rules, subst, AppendsPart, Same-itself, spelling, Written}
+use Rattle.flute_journal.proofs.Saving.{saved-next, saved-cut, saved-all, only-spelling}
 use Rattle.flute_journal.proofs.save.write_store.Goals as goal
 
-pub returns-in_err-write_header-clause-bytes : goal.returns-in_err-write_header-clause-bytes
-returns-in_err-write_header-clause-bytes g c =
-    let e = err_from_is_err_and c.from_residual.result c.from_residual.ensures.1 in
-    rw e.1 (header-part c.args.store.now _ _ c.in_err-write_header.ensures.bytes)
-
-pub returns-in_err-write_header-clause-only : goal.returns-in_err-write_header-clause-only
-returns-in_err-write_header-clause-only g c = only-spelling c.args.store.now c.walk-facts.ensures.rising
-
-pub returns-in_err-write_entry-clause-bytes : goal.returns-in_err-write_entry-clause-bytes
-returns-in_err-write_entry-clause-bytes g c =
-    let e = err_from_is_err_and c.from_residual-in_err-write_entry.result c.from_residual-in_err-write_entry.ensures.1 in
-    rw e.1 (saved-part _ _ _ _ _ _ _ _ c.loop-fact.invariant.0 c.in-Some.ensures.steps.0 c.in_err-write_entry.ensures.bytes)
-
-pub returns-in_err-write_entry-clause-only : goal.returns-in_err-write_entry-clause-only
-returns-in_err-write_entry-clause-only g c = only-spelling c.args.store.now c.walk-facts.ensures.rising
-
 pub loop-fact-preserved : goal.loop-fact-preserved
-loop-fact-preserved g c = (
-  saved-next _ _ _ _ _ _ _ _ c.loop-fact.invariant.0 c.in-Some.ensures.steps.0 c.write_entry.ensures.valid c.in_ok-write_entry.ensures.bytes,
-  search rules,
-)
+loop-fact-preserved g c = record {
+  saved = saved-next _ _ _ _ _ _ _ _ _ _ c.loop-fact.invariant.saved c.in-Some.ensures.steps.0 c.entry.ensures.valid c.entry.ensures.puts.puts;
+  failures = search rules;
+  same_sink = search rules;
+}
 
-pub returns-in_err-write_end-clause-bytes : goal.returns-in_err-write_end-clause-bytes
-returns-in_err-write_end-clause-bytes g c =
-    let e = err_from_is_err_and c.from_residual-in_err-write_end.result c.from_residual-in_err-write_end.ensures.1 in
-    rw e.1 (saved-cut _ _ _ _ _ _ c.loop-fact.invariant.0 c.in-None.ensures.steps.0.0 c.in_err-write_end.ensures.bytes)
+pub returns-then-writer-clause-bytes : goal.returns-then-writer-clause-bytes
+returns-then-writer-clause-bytes g c =
+    let next = saved-next _ _ _ _ _ _ _ _ _ _ c.loop-fact.invariant.saved c.in-Some.ensures.steps.0 c.entry.ensures.valid c.entry.ensures.puts.puts in
+    let part : AppendsPart (g.W.Sink.written c.args.sink.now) (g.W.Sink.written c.entry.new.self.sink.now) (spelling c.args.store.now) = saved-cut _ _ _ _ _ _ next c.if-writer.true in
+    search (rules, part)
 
-pub returns-in_err-write_end-clause-only : goal.returns-in_err-write_end-clause-only
-returns-in_err-write_end-clause-only g c = only-spelling c.args.store.now c.walk-facts.ensures.rising
+pub returns-then-writer-clause-only : goal.returns-then-writer-clause-only
+returns-then-writer-clause-only g c = only-spelling c.args.store.now c.walk-facts.ensures.rising
+
+pub returns-then-writer-2-clause-bytes : goal.returns-then-writer-2-clause-bytes
+returns-then-writer-2-clause-bytes g c =
+    let all = saved-all _ _ _ _ _ _ _ _ c.loop-fact.invariant.saved c.in-None.ensures.steps.0.0 c.end.ensures.puts in
+    let part : AppendsPart (g.W.Sink.written c.args.sink.now) (g.W.Sink.written c.end.new.self.sink.now) (spelling c.args.store.now) =
+    subst (λ b. Written b (g.W.Sink.written c.args.sink.now) (g.W.Sink.written c.end.new.self.sink.now) (spelling c.args.store.now)) c.if-writer-2.true all.0 in
+    search (rules, part)
+
+pub returns-then-writer-2-clause-only : goal.returns-then-writer-2-clause-only
+returns-then-writer-2-clause-only g c = only-spelling c.args.store.now c.walk-facts.ensures.rising
 
 pub returns-clause-bytes : goal.returns-clause-bytes
-returns-clause-bytes g c = saved-whole _ _ _ _ _ _ c.loop-fact.invariant.0 c.in-None.ensures.steps.0.0 c.in_ok-write_end.ensures.bytes
+returns-clause-bytes g c =
+    let all = saved-all _ _ _ _ _ _ _ _ c.loop-fact.invariant.saved c.in-None.ensures.steps.0.0 c.end.ensures.puts in
+    let whole = subst (λ b. Written b (g.W.Sink.written c.args.sink.now) (g.W.Sink.written c.end.new.self.sink.now) (spelling c.args.store.now)) c.if-writer-2.false all.0 in
+    search (rules, whole)
+
+pub returns-clause-journal : goal.returns-clause-journal
+returns-clause-journal g c = search (rules, saved-all, Same-itself)
 
 pub returns-clause-only : goal.returns-clause-only
 returns-clause-only g c = only-spelling c.args.store.now c.walk-facts.ensures.rising

@@ -1,6 +1,4 @@
-use Rattle.std.proofs.Common.{◌∙◌}
-use Rattle.std.proofs.lemmas.Result.{err_from_is_err_and}
-use Rattle.flute_journal.specs.Streams.{fact_in}
+use Rattle.flute_journal.proofs.Common.{◌∙◌, err_from_is_err_and, fact_in}
 use Rattle.flute_journal.proofs.Finished.{read-more, read-falls, read-stops, read-told, others_on, some_held, none_held}
 use Rattle.flute_journal.proofs.stopped.finish.Goals as goal
 

@@ -1,9 +1,4 @@
-use Rattle.std.proofs.Common.{◌++◌, Option, sym, subst}
-use Rattle.flute_parts.specs.declared.fact.FactRef.{FactRef}
-use Rattle.flute_parts.specs.Facts.{IsRising}
-use Rattle.flute_parts.specs.Limits.{Over}
-use Rattle.flute_parts.specs.Addresses.{fact_of}
-use Rattle.flute_journal.specs.Streams.{fact_in, option_list}
+use Rattle.flute_journal.proofs.Common.{◌++◌, Option, sym, subst, FactRef, IsRising, Over, fact_of, fact_in, option_list}
 use Rattle.flute_journal.proofs.within.count_held.Goals as goal
 
 pub returns-in-Some-clause-over : goal.returns-in-Some-clause-over

@@ -1,5 +1,5 @@
-use Rattle.std.proofs.Common.{◌≡◌, refl}
-use Rattle.flute_journal.specs.declared.datagram_reader.FileStage.TheVariants.{Header, Records}
+use Rattle.flute_journal.proofs.Common.{◌≡◌, refl, Records}
+use Rattle.flute_journal.specs.declared.datagram_reader.FileStage.TheVariants.{Header}
 use Rattle.flute_journal.proofs.FileCalls.{reads_record, gives_of_file_at}
 use Rattle.flute_journal.proofs.datagram_reader.DatagramReader.next.Goals as goal
 use Rattle.flute_journal.proofs.datagram_reader.DatagramReader.next.Goals.{in-Header, in-Records}

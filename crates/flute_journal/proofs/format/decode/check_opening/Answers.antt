@@ -1,5 +1,5 @@
-use Rattle.std.proofs.Common.{◌≡◌, length, rules}
-use Rattle.flute_journal.proofs.Checks.{not_true, not_false}
+use Rattle.std.proofs.Common.{rules}
+use Rattle.flute_journal.proofs.Parts.{not_true, not_false}
 use Rattle.flute_journal.proofs.Decoded.{opening_version, opening_read}
 use Rattle.flute_journal.proofs.format.decode.check_opening.Goals as goal
 
@@ -9,7 +9,4 @@ returns-then-ne-2 c =
     (not_false _ c.if-ne.ensures) c.if-rest-lt2.false (not_true _ c.if-ne-2.ensures)
 
 pub returns : goal.returns
-returns c =
-    let six : length c.args.opening.now ≡ 6 = search rules in
-    opening_read c.args.opening.now c.args.bytes.now c.in-Some.magic.now c.in-Some.rest.now six c.requires c.in-Some.ensures.cases
-    (not_false _ c.if-ne.ensures) c.if-rest-lt2.false (not_false _ c.if-ne-2.ensures)
+returns c = search (rules, opening_read, not_false)

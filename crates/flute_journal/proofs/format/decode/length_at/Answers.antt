@@ -1,5 +1,4 @@
-use Rattle.std.proofs.Common.{◌≡◌, length, arith, ◌∙◌}
-use Rattle.flute_wire.proofs.BigEndian.{big_from-whole}
+use Rattle.flute_journal.proofs.Common.{◌≡◌, length, arith, ◌∙◌, big_from-whole}
 use Rattle.flute_journal.proofs.Numbers.{octets}
 use Rattle.flute_journal.proofs.Decoded.{length_empty, length_read}
 use Rattle.flute_journal.proofs.format.decode.length_at.Goals as goal

@@ -1,4 +1,4 @@
-use Rattle.flute_journal.specs.Numbers.{in_bytes}
+use Rattle.flute_journal.proofs.Common.{in_bytes}
 use Rattle.flute_journal.proofs.Written.{regroup}
 use Rattle.flute_journal.proofs.format.encode.put_info.Goals as goal
 

@@ -1,6 +1,4 @@
-use Rattle.std.proofs.Common.{◌≡◌, ℕ, [], ◌∷◌, ◌++◌, List, ap, ◌∙◌}
-use Rattle.flute_journal.specs.Numbers.{in_bytes}
-use Rattle.flute_journal.specs.Format.{object_bytes}
+use Rattle.flute_journal.proofs.Common.{◌≡◌, ℕ, [], ◌∷◌, ◌++◌, List, ap, ◌∙◌, in_bytes, object_bytes}
 use Rattle.flute_journal.proofs.Written.{regroup, instance_bytes, file_bytes}
 use Rattle.flute_journal.proofs.format.encode.put_key.Goals as goal
 use Rattle.flute_journal.proofs.format.encode.put_key.Goals.{in-Some, in-None}

@@ -1,6 +1,4 @@
-use Rattle.std.proofs.Common.{ap, sym, ◌∙◌}
-use Rattle.flute_wire.proofs.BigEndian.{big_from-whole}
-use Rattle.flute_journal.specs.Numbers.{in_bytes}
+use Rattle.flute_journal.proofs.Common.{ap, sym, ◌∙◌, big_from-whole, in_bytes}
 use Rattle.flute_journal.proofs.Numbers.{octets, spelled}
 use Rattle.flute_journal.proofs.format.number.length_in.Goals as goal
 

@@ -1,6 +1,5 @@
 -- A number, read as byteorder reads it.
-use Rattle.std.proofs.Common.{length, refl, ◌∙◌}
-use Rattle.flute_wire.proofs.BigEndian.{big_from-whole}
+use Rattle.flute_journal.proofs.Common.{length, refl, ◌∙◌, big_from-whole}
 use Rattle.flute_journal.proofs.Numbers.{octets, number-below}
 use Rattle.flute_journal.proofs.format.number.number.Goals as goal
 

@@ -1,4 +1,4 @@
-use Rattle.std.proofs.lemmas.Result.{err_from_is_err_and}
+use Rattle.flute_journal.proofs.Common.{err_from_is_err_and}
 use Rattle.flute_journal.proofs.JournalReads.{stream_goes_on, stream_stops, none_failed, one_failed}
 use Rattle.flute_journal.proofs.journal_stream.JournalStreamStream.advance.Goals as goal
 

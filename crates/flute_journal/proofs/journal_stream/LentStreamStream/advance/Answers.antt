@@ -1,6 +1,4 @@
-use Rattle.std.proofs.Common.{refl}
-use Rattle.std.proofs.lemmas.Result.{err_from_is_err_and}
-use Rattle.flute_journal.specs.declared.fault.LoadFault.TheVariants.{Read}
+use Rattle.flute_journal.proofs.Common.{refl, err_from_is_err_and, Read}
 use Rattle.flute_journal.proofs.JournalReads.{stream_goes_on, stream_stops, none_failed, one_failed, lent_goes_on, lent_stops}
 use Rattle.flute_journal.proofs.journal_stream.LentStreamStream.advance.Goals as goal
 

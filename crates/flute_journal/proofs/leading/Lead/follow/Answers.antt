@@ -1,6 +1,4 @@
-use Rattle.std.proofs.Common.{arith}
-use Rattle.std.proofs.lemmas.Option.{slice_get_within}
-use Rattle.flute_journal.specs.Streams.{fact_in}
+use Rattle.flute_journal.proofs.Common.{arith, slice_get_within, fact_in}
 use Rattle.flute_journal.proofs.GoingOn.{same_length}
 use Rattle.flute_journal.proofs.LeadFacts.{lead-goes, lead-stops, still-leads}
 use Rattle.flute_journal.proofs.leading.Lead.follow.Goals as goal

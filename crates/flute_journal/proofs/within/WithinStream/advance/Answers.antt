@@ -1,9 +1,4 @@
-use Rattle.std.proofs.Common.{◌++◌, List, Option, subst}
-use Rattle.flute_parts.specs.Facts.{IsRising}
-use Rattle.flute_parts.specs.Limits.{Over}
-use Rattle.flute_parts.specs.Tally.{Counts}
-use Rattle.flute_parts.specs.declared.fact.Fact.{Fact}
-use Rattle.flute_journal.specs.Streams.{option_list}
+use Rattle.flute_journal.proofs.Common.{◌++◌, List, Option, subst, IsRising, Over, Counts, Fact, option_list}
 use Rattle.flute_journal.proofs.WithinFacts.{within_goes_on, within_full}
 use Rattle.flute_journal.proofs.within.WithinStream.advance.Goals as goal
 

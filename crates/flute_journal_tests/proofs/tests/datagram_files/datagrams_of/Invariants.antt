@@ -1,6 +1,6 @@
 -- The datagrams so far are those of the records that were read.
 use Rattle.std.proofs.Common.{◌≡◌, ◌-◌, length}
-use Rattle.flute_journal.proofs.Records.{FileSofar}
+use Rattle.flute_journal.specs.FilesSoFar.{FileSofar}
 use Rattle.flute_journal_tests.proofs.tests.datagram_files.datagrams_of.Given as goal
 
 abbrev pub invariant-loop-datagrams : goal.invariant-loop-datagrams

@@ -1,0 +1,78 @@
+//! A journal as a stream, with its source.
+ghost use Rattle.std.specs.Prelude.{◌≡◌, None};
+ghost use Rattle.flute_journal.specs.Streams.{IsNew};
+ghost use Rattle.flute_journal.specs.OwnedStreams.{limit_of, stage_of, held_of, owned_behaviour};
+ghost use Rattle.flute_journal.specs.declared.reader.Stage.TheVariants as Stage;
+
+use crate::fault::LoadFault;
+use crate::journal_stream::spare_of;
+use crate::reader::{Stage, read_at};
+use crate::stream::Stream;
+use flute_parts::{Fact, FactRef, Source};
+use std::alloc::Global;
+
+/// A journal that is read as a stream, with its source. One entry of it is held.
+#[derive(Drop)]
+pub struct OwnedJournalStream<R> {
+    pub source: R,
+    max_entries: u64,
+    stage: Stage,
+    held: Option<Fact>,
+}
+
+impl<R: Source> OwnedJournalStream<R> {
+    /// The stream of the journal that the source holds, which may have at most `max_entries`
+    /// entries. It takes no memory, and reads nothing yet.
+    pub fn new(source: R, max_entries: u64) -> Self
+        ensures source { result.source ≡ source }
+        ensures limit { limit_of result ≡ max_entries }
+        ensures stage { stage_of result ≡ Stage.Header }
+        ensures held { held_of result ≡ None }
+        ensures new { IsNew (owned_behaviour R.unread R.failures) result }
+        ensures most { (owned_behaviour R.unread R.failures).most result ≡ max_entries }
+    {
+        OwnedJournalStream {
+            source,
+            max_entries,
+            stage: Stage::Header,
+            held: None,
+        }
+    }
+
+    /// Begins anew: the stream of the journal that is left in the source.
+    pub fn restart(&mut self, max_entries: u64)
+        ensures source { self.new.source ≡ self.old.source }
+        ensures limit { self.new.max_entries ≡ max_entries }
+        ensures new { IsNew (owned_behaviour R.unread R.failures) self.new }
+        ensures most { (owned_behaviour R.unread R.failures).most self.new ≡ max_entries }
+    {
+        self.max_entries = max_entries;
+        self.stage = Stage::Header;
+        self.held = None;
+    }
+}
+
+impl<R: Source> Stream for OwnedJournalStream<R> {
+    ghost behaviour = { owned_behaviour R.unread R.failures };
+
+    #[inline(always)]
+    fn head(&self) -> Option<FactRef<'_>> {
+        match &self.held {
+            Some(fact) => Some(fact.as_ref()),
+            None => None,
+        }
+    }
+
+    #[inline(always)]
+    fn advance(&mut self, alloc: Global) -> Result<(), LoadFault> {
+        let spare = spare_of(alloc, self.held.take());
+        self.held = read_at(
+            alloc,
+            &mut self.source,
+            self.max_entries,
+            &mut self.stage,
+            spare,
+        )?;
+        Ok(())
+    }
+}
