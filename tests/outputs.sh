@@ -168,6 +168,11 @@ cp one in.partial
 run join -o in in.partial two
 check 'an input beside the output' 3 '' 'cannot create output'
 same 'the input beside the output stays' in.partial one
+run join -o in in.partial other
+check 'the kind of an input before an output that cannot be created' 1 '' 'input 2: unknown kind'
+run info -o in --tsi 7 --toi 3 --length 5 --symbol 4 --block 2 in.partial
+check 'an input of info beside the output' 3 '' 'cannot create output'
+same 'the input of info beside the output stays' in.partial one
 run merge -o in two in.partial
 check 'an input of merge beside the output' 3 '' 'cannot create output'
 same 'the input of merge stays' in.partial one
@@ -190,6 +195,18 @@ for target in all fresh; do
 done
 same 'after a fault of merge the output is what it was' all one
 holds 'after a fault of merge there is no new output' [ ! -e fresh ]
+head -c $(($(wc -c < one) - 1)) one > cut_end
+for target in all fresh; do
+    cp one all
+    run join -o $target two sent2 cut_end
+    check "join with a journal that is cut at its end, to $target" 1 '' 'input 3: Cut'
+    alone "a fault of join leaves nothing beside $target" $target
+    run info -o $target --tsi 7 --toi 3 --length 5 --symbol 4 --block 2 cut_end
+    check "info of a journal that is cut at its end, to $target" 1 '' 'input 1: Cut'
+    alone "a fault of info leaves nothing beside $target" $target
+done
+same 'after a fault of join the output is what it was' all one
+holds 'after a fault of join there is no new output' [ ! -e fresh ]
 
 # A file that may not grow: a write fails in the middle.
 head -c 3000000 /dev/urandom > large
@@ -258,6 +275,43 @@ run join -o fresh two
 check 'the run after a killed one' 0 - ''
 same 'its output' fresh two
 alone 'the leftover of a killed run is gone' fresh
+# The same of join, which reads the first bytes of its inputs before, and of info.
+cp one all
+{ "$program" join -o all sent2 pipe; echo $? > ended; } > out2 2> err2 &
+first=$!
+exec 3> pipe
+head -c 100 one >&3
+until_there all.partial
+run join -o all one two
+check 'a second join on one output' 3 '' 'cannot create output'
+same 'the output stays while inputs are joined' all one
+tail -c +101 one >&3
+exec 3>&-
+wait $first
+holds 'the first join ends well' [ "$(cat ended)" = 0 ]
+same 'what the first join wrote' all both
+alone 'nothing beside after two joins' all
+"$program" join -o fresh2 two pipe > out2 2> err2 &
+first=$!
+exec 3> pipe
+head -c 100 one >&3
+until_there fresh2.partial
+kill -9 $first
+wait $first 2> err
+exec 3>&-
+holds 'a killed join leaves no output' [ ! -e fresh2 ]
+run show fresh2.partial
+check 'what a killed join leaves is no journal' 1 - -
+"$program" info -o fresh2 --tsi 7 --toi 3 --length 5 --symbol 4 --block 2 pipe > out2 2> err2 &
+first=$!
+exec 3> pipe
+until_there fresh2.partial
+cat two >&3
+exec 3>&-
+wait $first
+"$program" info -o informed2 --tsi 7 --toi 3 --length 5 --symbol 4 --block 2 two > out
+same 'what was added to a journal out of a pipe' fresh2 informed2
+alone 'the leftover of a killed join is gone' fresh2
 "$program" merge -o taken pipe two > out 2> err &
 first=$!
 exec 3> pipe
@@ -451,22 +505,31 @@ else
     echo 'outputs: skipped: a user without leave (no other user can be had here)'
 fi
 
-# Inputs of more than 4,294,967,295 bytes are told by their length, before they are read.
+# A content of more than 4,294,967,295 bytes is told by its length, before it is read; the inputs of join have no such bound.
 printf 'FLDG\000\001' > huge
 truncate -s 4294967296 huge
-"$program" join -o got huge > out 2> err &
+"$program" carousel -o got --tsi 7 --toi 2 --symbol 1400 --block 64 huge > out 2> err &
 first=$!
 (sleep 10; kill -9 $first 2> /dev/null) &
 wait $first
 status=$?
-check 'a datagram file of 4 GiB' 1 '' 'input 1: TooLarge'
+check 'a content of 4 GiB' 1 '' 'input 1: TooLarge'
 run join -o got other huge
 check 'the kind of the input before it' 1 '' 'input 1: unknown kind'
-run join -o got two huge
-check 'a datagram file of 4 GiB behind a journal' 1 '' 'input 2: TooLarge'
-run carousel -o got --tsi 7 --toi 2 --symbol 1400 --block 64 huge
-check 'a content of 4 GiB' 1 '' 'input 1: TooLarge'
-truncate -s 4294967295 huge
+run join -o got huge two
+check 'a datagram file of too many records' 1 '' 'input 1: TooMany'
+head -c 65535 /dev/zero > zeros
+for _ in $(seq 256); do
+    printf '\377\377'
+    cat zeros
+done > chunk
+{ printf 'FLDG\000\001'; for _ in $(seq 257); do cat chunk; done; } | "$program" join -o got two - > out 2> err
+status=$?
+check 'a datagram file of more than 4 GiB' 0 'datagrams 65792
+refused 65792
+entries 3' ''
+same 'the journal beside it' got two
+rm -f zeros chunk
 printf 'FLJN\000\001' | dd of=huge conv=notrunc 2> /dev/null
 run join -o got huge
 check 'a journal of any length is read' 1 '' 'input 1: Kind'

@@ -338,6 +338,76 @@ run join -o /dev/full whole
 check 'join to a full output' 3 '' 'cannot write'
 run_to /dev/full join -o got whole
 check 'join to a full standard output' 3 '' 'cannot write'
+cat sent | "$program" join -o got others - > out 2> err
+status=$?
+check 'join of a journal and of a datagram file from standard input' 0 'datagrams 2
+refused 0
+entries 4' ''
+same 'the journal joined with standard input' got joined
+mkfifo pipe
+cat sent > pipe &
+run join -o got pipe others
+wait
+check 'join of a datagram file from a pipe with a name and of a journal' 0 'datagrams 2
+refused 0
+entries 4' ''
+same 'the journal joined with a pipe' got joined
+cat others > pipe &
+run join -o got sent pipe sent
+wait
+check 'join of a journal from a pipe with a name' 0 'datagrams 4
+refused 0
+entries 4' ''
+same 'the journal joined from a pipe' got joined
+file nothing_sent 464C44470001
+run join -o got nothing_sent empty
+check 'join of inputs that tell nothing' 0 'datagrams 0
+refused 0
+entries 0' ''
+same 'the journal of inputs that tell nothing' got empty
+run join -o got $(yes whole | head -n 63) others
+check 'join of as many inputs as may be' 0 'datagrams 0
+refused 0
+entries 4' ''
+same 'the journal of as many inputs as may be' got joined
+
+# Where OUT cannot be created or written, a fault of the inputs is told first.
+for output in no/got /dev/full; do
+    run join -o $output whole bad
+    check "join with a bad journal to $output" 1 '' 'input 2: Trailing'
+    run join -o $output whole cut
+    check "join with a datagram file that is cut to $output" 1 '' 'input 2: Cut'
+    run join -o $output bad content
+    check "join with an input of no known kind to $output" 1 '' 'input 2: unknown kind'
+    run info -o $output --tsi 7 --toi 1 --length 5 --symbol 4 --block 2 bad
+    check "info of a bad journal to $output" 1 '' 'input 1: Trailing'
+    run info -o $output --tsi 64 --toi 1 --length 5 --symbol 4 --block 2 many
+    check "info of one session too many to $output" 1 '' 'full'
+done
+run info -o no/got --tsi 7 --toi 1 --length 5 --symbol 4 --block 2 whole
+check 'info to a folder that is not there' 3 '' 'cannot create output'
+
+# The limits: alone before a later fault, together behind each fault.
+sessions=
+for session in $(seq 40 64); do
+    sessions="$sessions 02 $(printf %012x "$session") 01 0000000000000000000000000001"
+done
+file more "$header $sessions FF 0000000000000019"
+for output in kept got5 no/got /dev/full; do
+    printf before > kept
+    run join -o $output many more
+    check "join of one session too many to $output" 1 '' 'full'
+    [ "$(cat kept)" = before ] || check 'the output that was there before inputs over the limits' x - -
+    [ ! -e kept.partial ] && [ ! -e got5 ] && [ ! -e got5.partial ] || check 'nothing is left of inputs over the limits' x - -
+done
+run join -o got5 many more bad
+check 'a fault before too many sessions together' 1 '' 'input 3: Trailing'
+head -c 100 more > cut_more
+run join -o got5 many cut_more
+check 'a cut journal before too many sessions together' 1 '' 'input 2: Cut'
+run join -o got5 many cut
+check 'a cut datagram file beside a journal' 1 '' 'input 2: Cut'
+[ ! -e got5 ] && [ ! -e got5.partial ] || check 'nothing is left after a fault of join' x - -
 run join -o got
 check 'join of nothing' 2 '' -
 run join -o got $(yes whole | head -n 65)

@@ -15,5 +15,12 @@ mod Given
 mod Running
 mod Driving
 mod Refused
-mod Inputs
-mod Openings
+mod Held
+mod Firsts
+mod Looks
+mod Replacing
+mod JoinStreams
+mod JoinStops
+mod Begun
+mod MemoryFacts
+mod Infos

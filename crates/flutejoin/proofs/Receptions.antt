@@ -15,7 +15,7 @@ use Rattle.flute_store.specs.Held.{HasCell}
 use Rattle.flute_journal.specs.declared.fault.ReadFault.{ReadFault}
 use Rattle.flute_journal.specs.Format.{spelling}
 use Rattle.flute_journal.specs.Journal.{Journal, IsJournalWithin, Stops}
-use Rattle.flute_journal.proofs.Entries.{spelling-injective}
+use Rattle.flute_journal.proofs.MergeBytes.{spelling-injective}
 use Rattle.flute_journal.proofs.Passes.{beyond, front-below}
 use Rattle.flutejoin.specs.Held.{Capacity, IsOver}
 use Rattle.flute_journal.specs.Stores.{BeginsWith}
@@ -53,8 +53,8 @@ HasCells-below F G (f ∷ fs) below h = (HasCell-below F G f below h.0, HasCells
 
 pub Same-from_journals : (bs : List ℕ) (F G : List Fact) → Journal bs F → Journal bs G → Same F G
 Same-from_journals bs F G j k =
-    let one = spelling-injective j.0 k.0 [] [] j.1.valid k.1.valid j.2 k.2 (append-nil (spelling j.0) ∙ sym j.3 ∙ k.3 ∙ sym (append-nil (spelling k.0))) in
-    record { each = λ a. j.1.same.each a ∙ ap (λ z. fact_at z a) one.0 ∙ sym (k.1.same.each a) }
+    let one = spelling-injective j.0 k.0 [] [] j.1.valid k.1.valid (append-nil (spelling j.0) ∙ sym j.3 ∙ k.3 ∙ sym (append-nil (spelling k.0))) in
+    record { each = λ a. j.1.same.each a ∙ ap (λ z. fact_at z a) (sym one.0) ∙ sym (k.1.same.each a) }
 
 pub Journal-of_same : (bs : List ℕ) (F G : List Fact) → Same F G → Journal bs F → Journal bs G
 Journal-of_same bs F G same j =

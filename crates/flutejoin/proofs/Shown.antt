@@ -8,6 +8,7 @@ use Rattle.flute_parts.specs.Devices.{AppendsPart}
 use Rattle.flute_parts.proofs.Appended.{AppendsPart-second}
 use Rattle.flute_parts.specs.declared.fact.Fact.{Fact}
 use Rattle.flute_journal.specs.declared.fault.ReadFault.{ReadFault}
+use Rattle.flute_journal.specs.declared.fault.ReadFault.TheVariants as faults
 use Rattle.flute_journal.specs.declared.reader.Stage.{Stage}
 use Rattle.flute_journal.specs.declared.reader.Stage.TheVariants.{Ended}
 use Rattle.flute_journal.specs.Format.{end, spelling}
@@ -15,8 +16,7 @@ use Rattle.flute_journal.specs.Input.{Fails, FailsIf}
 use Rattle.flute_journal.specs.Journal.{AreEntries, IsJournalWithin}
 use Rattle.flute_journal.specs.Reading.{is_open, position, opening, GivesEntry, GivesEnd, GivesFault, Gives}
 use Rattle.flute_journal.specs.SoFar.{Sofar, stage_at, read_of}
-use Rattle.flute_journal.proofs.Whole.{sofar-next, sofar-stops}
-use Rattle.flute_journal.proofs.Loading.{fails_same, open_at, read_some}
+use Rattle.flute_journal.proofs.Whole.{sofar-next, sofar-stops, open_at, read_some}
 use Rattle.flutejoin.specs.Lines.{fact_line, entries_line}
 use Rattle.flutejoin.specs.Show.{entry_lines, FailsToRead, ShowsAll, ShowsUntil, ShowsPart, of_entries, of_journal}
 use Rattle.flutejoin.specs.declared.command_fault.CommandFault.TheVariants.{Input}
@@ -113,6 +113,10 @@ pub no_read_failure : (r : Result (Option Fact) ReadFault) (o : Option Fact) (b 
 no_read_failure (Ok x) o true n m k e h i = omega (arith, h, i)
 no_read_failure (Ok x) o false n m k e h i = omega (arith, h, i)
 no_read_failure (Err x) o b n m k e h i = absurd cc
+
+fails_same : (T X : Type 0) (f : ReadFault) (n m : ℕ) → Fails {T = T} n m (Err f) → Fails {T = X} n m (Err f)
+fails_same T X faults.Read n m h = h
+fails_same T X f n m h = h
 
 -- a fault that the reader met now
 pub read_failures : (T : Type 0) (u v : Option (List ℕ)) (stage : Stage) (s t : Option (List ℕ)) (count : ℕ) (r : Result (Option Fact) ReadFault) (f : ReadFault) (number n m k : ℕ)

@@ -1,5 +1,5 @@
 -- What the inputs of several stations come to.
-use Rattle.std.specs.Prelude.{◌≡◌, ◌≢◌, ℕ, ◌+◌, List, [], ◌∷◌, ◌++◌, length, take, Some, Bool, true, false, if◌then◌else◌, ⊤, ◌⊎◌}
+use Rattle.std.specs.Prelude.{◌≡◌, ◌≢◌, ℕ, ◌+◌, List, [], ◌∷◌, ◌++◌, ◌≤◌, length, Option, Some, Bool, true, false, if◌then◌else◌, ⊤, ◌⊎◌}
 use Rattle.std.specs.List.{flat_map, count_by, AllByRecursion}
 use Rattle.flute_parts.specs.Facts.{Same}
 use Rattle.flute_parts.specs.declared.fact.Fact.{Fact}
@@ -12,26 +12,12 @@ use Rattle.flute_journal.specs.declared.fault.ReadFault.TheVariants.{Read}
 use Rattle.flutejoin.specs.Shelves.{IsOverShelf, BeginsOverShelf}
 use Rattle.flutejoin.specs.Refused.{is_refused}
 use Rattle.flutejoin.specs.declared.limits.TheConstants.{MAX_ENTRIES}
-use Rattle.flutejoin.specs.declared.joining.Joined.{Joined}
-use Rattle.flutejoin.specs.declared.joining.Kind.{Kind}
-use Rattle.flutejoin.specs.declared.joining.Kind.TheVariants.{Journal, Datagrams}
+use Rattle.flutejoin.specs.declared.joined.Joined.{Joined}
+use Rattle.flutejoin.specs.declared.held_file.HeldFile.{HeldFile}
+use Rattle.flute_journal.specs.Kinds.{HasKind, IsNeither}
+use Rattle.flute_journal.specs.declared.kind.Kind.TheVariants.{Journal, Datagrams}
 use Rattle.flutejoin.specs.declared.command_fault.CommandFault.{CommandFault}
 use Rattle.flutejoin.specs.declared.command_fault.CommandFault.TheVariants.{UnknownKind, Input, Full, OutOfMemory}
-
--- `FLJN`, and `FLDG`
-abbrev pub journal_magic : List ℕ
-journal_magic = 0x46 ∷ 0x4C ∷ 0x4A ∷ 0x4E ∷ []
-
-abbrev pub file_magic : List ℕ
-file_magic = 0x46 ∷ 0x4C ∷ 0x44 ∷ 0x47 ∷ []
-
--- what an input is, by its first four bytes
-abbrev pub HasKind : Kind → List ℕ → Type 0
-HasKind Journal bytes = take 4 bytes ≡ journal_magic
-HasKind Datagrams bytes = take 4 bytes ≡ file_magic
-
-abbrev pub IsNeither : List ℕ → Type 0
-IsNeither bytes = (kind : Kind) → ¬ HasKind kind bytes
 
 -- what an input tells: the facts of a journal, or the datagrams of a file
 pub data Told : Type 0 where
@@ -111,22 +97,6 @@ JoinFails inputs _ = ⊥
 
 -- What the parts of a join answer.
 
--- the kind of an input is not known, or its records are at fault
-pub data CheckFails (number : ℕ) (bytes : List ℕ) (fault : CommandFault) : Type 0 where
-  of_kind : fault ≡ UnknownKind number → IsNeither bytes → CheckFails number bytes fault
-  of_records : (why : ReadFault) → fault ≡ Input number why → IsFileAt why bytes → CheckFails number bytes fault
-
--- so it is with an input, and those before it are known
-abbrev pub SomeCheckFails : List (List ℕ) → CommandFault → Type 0
-SomeCheckFails inputs fault = (number : ℕ) × FirstInput IsKnown (λ bytes. CheckFails number bytes fault) number inputs
-
--- an input alone is not read, or is over the limits of a store
-pub data InputFails (number : ℕ) (bytes : List ℕ) (fault : CommandFault) : Type 0 where
-  unchecked : CheckFails number bytes fault → InputFails number bytes fault
-  of_entries : (why : ReadFault) → fault ≡ Input number why → IsJournalAt why bytes → InputFails number bytes fault
-  alone_over : fault ≡ Full → IsOverAlone bytes → InputFails number bytes fault
-  no_memory : fault ≡ OutOfMemory → InputFails number bytes fault
-
 -- facts are over the limits, or there is no memory for them
 abbrev pub StoreFails : List Fact → CommandFault → Type 0
 StoreFails told fault = ((fault ≡ Full) × IsOverShelf told) ⊎ (fault ≡ OutOfMemory)
@@ -143,20 +113,19 @@ pub record TakesDatagrams (before : Joined) (datagrams : List (List ℕ)) (now :
   pub count : now.datagrams ≡ before.datagrams + length datagrams
   pub refused : now.refused ≡ before.refused + count_by is_refused datagrams
 
--- the facts and the numbers of both
-pub record JoinsBoth (before own now : Joined) : Type 0 where
-  pub content : Same now.store (before.store ++ own.store)
-  pub datagrams : now.datagrams ≡ before.datagrams + own.datagrams
-  pub refused : now.refused ≡ before.refused + own.refused
+-- a store of these datagrams; or their facts alone are over its limits
+abbrev pub HoldsAll : Bool → Joined → List (List ℕ) → Type 0
+HoldsAll true told datagrams = TakesDatagrams (record { store = []; datagrams = 0; refused = 0 }) datagrams told
+HoldsAll false told datagrams = IsOverShelf (flat_map facts datagrams)
 
--- whether both are within the limits together
-abbrev pub JoinAnswers : Joined → Joined → Joined → Bool → Type 0
-JoinAnswers before own now true = JoinsBoth before own now
-JoinAnswers before own now false = IsOverShelf (before.store ++ own.store)
+-- the datagrams of a file are held as what they tell
+pub record HoldsDatagrams (file : HeldFile) (datagrams : List (List ℕ)) : Type 0 where
+  pub few : file.told.datagrams ≤ length datagrams
+  pub few_refused : file.told.refused ≤ file.told.datagrams
+  pub holds : HoldsAll file.fits file.told datagrams
 
--- an input that is within the limits alone was joined to what came before, or is over them together with it
-pub record Adds (bytes : List ℕ) (before now : Joined) (fits : Bool) : Type 0 where
-  pub own : Joined
-  pub joins : Joins (bytes ∷ []) own
-  pub within : TellsWithin bytes
-  pub answers : JoinAnswers before own now fits
+-- why a datagram file was not held
+abbrev pub FileFails : ℕ → Option (List ℕ) → CommandFault → Type 0
+FileFails number input (Input told fault) = (told ≡ number) × HasFileFault MAX_ENTRIES input fault
+FileFails number input OutOfMemory = ⊤
+FileFails number input _ = ⊥

@@ -22,4 +22,9 @@ pub mod Examples
 pub mod Merge
 pub mod Carousel
 pub mod Joined
-pub mod Opened
+pub mod Begins
+pub mod JoinInputs
+pub mod Joining
+pub mod Sources
+pub mod Memory
+pub mod Info

@@ -1,5 +1,7 @@
 -- Why two journals are not merged.
-use Rattle.std.specs.Prelude.{◌≡◌, ℕ, ◌⊎◌, List, Option, ⊤}
+use Rattle.std.specs.Prelude.{◌≡◌, ℕ, zero, suc, ◌⊎◌, List, Option, ⊤, Result, Err}
+use Rattle.flute_parts.specs.declared.fact.Fact.{Fact}
+use Rattle.flute_journal.specs.Input.{Fails}
 use Rattle.flute_journal.specs.Whole.{HasFault}
 use Rattle.flutejoin.specs.declared.limits.TheConstants.{MAX_ENTRIES}
 use Rattle.flutejoin.specs.declared.command_fault.CommandFault.{CommandFault}
@@ -10,3 +12,12 @@ abbrev pub MergeFails : Option (List ℕ) → Option (List ℕ) → CommandFault
 MergeFails first second (Input number fault) = ((number ≡ 1) × HasFault MAX_ENTRIES first fault) ⊎ ((number ≡ 2) × HasFault MAX_ENTRIES second fault)
 MergeFails first second CannotWrite = ⊤
 MergeFails first second _ = ⊥
+
+-- how often each source failed in a merge that gave this: only where its input was at fault
+abbrev pub FirstFails : ℕ → ℕ → Result ℕ CommandFault → Type 0
+FirstFails old new (Err (Input (suc zero) fault)) = Fails {T = Option Fact} old new (Err fault)
+FirstFails old new _ = new ≡ old
+
+abbrev pub SecondFails : ℕ → ℕ → Result ℕ CommandFault → Type 0
+SecondFails old new (Err (Input (suc (suc zero)) fault)) = Fails {T = Option Fact} old new (Err fault)
+SecondFails old new _ = new ≡ old

@@ -1,33 +1,128 @@
 //! The command `info`: information that is entered by hand.
-ghost use Rattle.std.specs.Prelude.{◌≡◌, ◌↔◌, [], ◌∷◌, ◌++◌, OnOk, OnErr, IfErr};
-ghost use Rattle.flute_parts.specs.Facts.{Same};
-ghost use Rattle.flutejoin.specs.Shelves.{IsOverShelf};
+ghost use Rattle.std.specs.Prelude.{◌≡◌, true, false, ◌+◌, ◌<◌, ◌^◌, [], ◌∷◌, OnOk, IfOk, IfErr};
 ghost use Rattle.flute_parts.specs.declared.fact.Fact.TheVariants.{Info as InfoFact};
-ghost use Rattle.flutejoin.specs.Load.{IsRefusal};
+ghost use Rattle.flute_journal.specs.Readers.{source_of, limit_of};
+ghost use Rattle.flute_journal.specs.Streams.{IsNew, most_of, option_list};
+ghost use Rattle.flute_journal.specs.Advances.{AreNew};
+ghost use Rattle.flute_journal.specs.Eithers.{either_behaviour};
+ghost use Rattle.flute_journal.specs.FactStreams.{fact_behaviour};
+ghost use Rattle.flute_journal.specs.FirstFaults.{FirstFault};
+ghost use Rattle.flute_journal.specs.JournalStreams.{journal_behaviour};
+ghost use Rattle.flute_journal.specs.JournalWriters.{times_failed};
+ghost use Rattle.flute_journal.specs.StreamMerges.{MergedAll, AppendsNoJournal, NoneFails};
+ghost use Rattle.flute_journal.specs.Withins.{within_behaviour};
+ghost use Rattle.flute_journal.specs.declared.either.Either.TheVariants.{First as Left, Second as Right};
+ghost use Rattle.flutejoin.specs.declared.command_fault.CommandFault.TheVariants.{CannotWrite};
+ghost use Rattle.flutejoin.specs.declared.limits.TheConstants.{MAX_ENTRIES};
+ghost use Rattle.flutejoin.specs.Info.{AddsFacts, InfoFails};
+ghost use Rattle.flutejoin.specs.Show.{FailsToRead};
 
-use crate::command_fault::CommandFault;
-use flute_join::JoinRefusal;
-use flute_parts::{Fact, Info, Key};
-use flute_store::Shelf;
+use crate::command_fault::{CommandFault, load_fault};
+use crate::limits::MAX_ENTRIES;
+use flute_journal::{
+    FactStream, InputFault, Joined as Merged, JournalStream, Pair, Stream, Within, join_streams,
+};
+use flute_parts::{Fact, Info, Key, Sink, Source};
 use std::alloc::Global;
 
-/// Adds the information of an object to the store. Where other information of it is held, the two
-/// are in conflict from then on.
+/// Writes the journal of all that a journal tells, of at most 16,777,216 entries, and the information
+/// of an object with it, and answers the number of its entries. Where the journal tells other
+/// information of that object, the two are in conflict from then on. One entry is held.
 ///
 /// # Errors
 ///
-/// `Full` exactly where the object is a new one beyond the limits of the store, and else
-/// `OutOfMemory`. After each the store is unchanged.
-pub fn add_info(alloc: Global, shelf: &mut Shelf, key: Key, info: Info) -> Result<(), CommandFault>
-    ensures added { OnOk result (Same shelf.new (shelf.old ++ InfoFact key info ∷ [])) }
-    ensures unchanged { OnErr result (shelf.new ≡ shelf.old) }
-    ensures fault { IfErr result IsRefusal }
-    ensures full { (result ≡ Err CommandFault.Full)
-        ↔ IsOverShelf (shelf.old ++ InfoFact key info ∷ []) }
+/// The first that is met: `Input` with the fault of the journal, as input 1, or `Full` where it alone
+/// has more sessions, objects or symbols than a store holds; `Full` where both together do;
+/// `CannotWrite` where the sink failed. What was written is then no journal.
+pub fn info_to<R: Source, W: Sink>(
+    alloc: Global,
+    source: &mut R,
+    key: Key,
+    info: Info,
+    sink: &mut W,
+) -> Result<u64, CommandFault>
+    ensures added { IfOk result (AddsFacts (R.unread source.old) (InfoFact key info ∷ [])
+        (W.written sink.old) (W.written sink.new)) }
+    ensures failed { IfErr result (InfoFails (R.unread source.old) (InfoFact key info ∷ [])) }
+    ensures short { IfErr result
+        (λ _. AppendsNoJournal (W.written sink.old) (W.written sink.new)) }
+    ensures sink_failures { OnOk result (W.failures sink.new ≡ W.failures sink.old) }
+    ensures write_failed { IfErr result
+        (λ fault. fault ≡ CannotWrite → W.failures sink.new ≡ W.failures sink.old + 1) }
 {
-    match shelf.add(alloc, &Fact::Info { key, info }) {
-        Ok(()) => Ok(()),
-        Err(JoinRefusal::Full) => Err(CommandFault::Full),
-        Err(JoinRefusal::OutOfMemory) => Err(CommandFault::OutOfMemory),
+    let mut journal = Within::<64, 4096, 1_048_576, _>::new(JournalStream::new(
+        source,
+        MAX_ENTRIES,
+    ));
+    let mut fact = FactStream::new(Fact::Info { key, info });
+    join_fact(alloc, &mut journal, &mut fact, sink)
+}
+
+// Joins a new stream of a journal and that of a fact.
+fn join_fact<R: Source, W: Sink>(
+    alloc: Global,
+    journal: &mut Within<64, 4096, 1_048_576, JournalStream<'_, R>>,
+    fact: &mut FactStream,
+    sink: &mut W,
+) -> Result<u64, CommandFault>
+    requires journal_new { IsNew (within_behaviour 64 4096 1048576
+        (journal_behaviour R.unread R.failures)) journal.old }
+    requires journal_most { (journal_behaviour R.unread R.failures).most journal.old.stream
+        ≡ MAX_ENTRIES }
+    requires limit { limit_of journal.old.stream.reader ≡ MAX_ENTRIES }
+    requires fact_new { IsNew fact_behaviour fact.old }
+    requires fact_most { fact_behaviour.most fact.old ≡ 1 }
+    ensures same_source { (source_of journal.new.stream.reader).ghost_name
+        ≡ (source_of journal.old.stream.reader).ghost_name }
+    ensures added { IfOk result (AddsFacts (R.unread (source_of journal.old.stream.reader).now)
+        (option_list fact.old.next) (W.written sink.old) (W.written sink.new)) }
+    ensures failed { IfErr result (InfoFails (R.unread (source_of journal.old.stream.reader).now)
+        (option_list fact.old.next)) }
+    ensures short { IfErr result
+        (λ _. AppendsNoJournal (W.written sink.old) (W.written sink.new)) }
+    ensures failures { FailsToRead (R.failures (source_of journal.old.stream.reader).now)
+        (R.failures (source_of journal.new.stream.reader).now) result }
+    ensures sink_failures { OnOk result (W.failures sink.new ≡ W.failures sink.old) }
+    ensures write_failed { IfErr result
+        (λ fault. fault ≡ CannotWrite → W.failures sink.new ≡ W.failures sink.old + 1) }
+{
+    match join_two(alloc, journal, fact, sink) {
+        Err(fault) => Err(load_fault(fault.number + 1, fault.fault)),
+        Ok(joined) if !joined.within => Err(CommandFault::Full),
+        Ok(joined) if joined.cut => Err(CommandFault::CannotWrite),
+        Ok(joined) => Ok(joined.entries),
     }
+}
+
+// Joins two streams.
+fn join_two<S: Stream, T: Stream, W: Sink>(
+    alloc: Global,
+    first: &mut S,
+    second: &mut T,
+    sink: &mut W,
+) -> Result<Merged, InputFault>
+    requires new { AreNew (either_behaviour S.behaviour T.behaviour)
+        (Left first.old ∷ Right second.old ∷ []) }
+    requires few { most_of (either_behaviour S.behaviour T.behaviour)
+        (Left first.old ∷ Right second.old ∷ []) < 2 ^ 64 }
+    ensures merged { IfOk result (λ joined. MergedAll (either_behaviour S.behaviour T.behaviour)
+        (Left first.old ∷ Right second.old ∷ [])
+        64 4096 1048576 joined (W.written sink.old) (W.written sink.new)) }
+    ensures cut { IfOk result (λ joined. joined.cut ≡ true
+        → AppendsNoJournal (W.written sink.old) (W.written sink.new)) }
+    ensures over { IfOk result (λ joined. joined.within ≡ false → joined.cut ≡ true) }
+    ensures short { IfErr result
+        (λ _. AppendsNoJournal (W.written sink.old) (W.written sink.new)) }
+    ensures first { IfErr result (FirstFault (either_behaviour S.behaviour T.behaviour)
+        (Left first.old ∷ Right second.old ∷ []) (Left first.new ∷ Right second.new ∷ [])) }
+    ensures failures { IfOk result (λ _. NoneFails (either_behaviour S.behaviour T.behaviour)
+        (Left first.old ∷ Right second.old ∷ []) (Left first.new ∷ Right second.new ∷ [])) }
+    ensures sink_failures { IfOk result (λ joined. joined.within ≡ true
+        → W.failures sink.new ≡ W.failures sink.old + times_failed joined.cut) }
+{
+    let mut pair = Pair {
+        first: &mut *first,
+        second: &mut *second,
+    };
+    join_streams::<64, 4096, 1_048_576, _, _>(alloc, &mut pair, sink)
 }

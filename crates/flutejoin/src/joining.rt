@@ -1,240 +1,169 @@
-//! The inputs of several stations, joined.
-ghost use Rattle.std.specs.Prelude.{◌≡◌, ◌≢◌, ◌≤◌, ◌<◌, ◌+◌, ◌^◌, [], ◌∷◌, ◌++◌, length, map, Some, IfSome, IfOk, IfErr, OnOk, MatchOption};
-ghost use Rattle.std.specs.List.{AllByRecursion, flat_map};
-ghost use Rattle.flutejoin.specs.Shelves.{IsOverShelf};
-ghost use Rattle.flute_wire.specs.Reading.{facts};
-ghost use Rattle.flutejoin.specs.declared.limits.TheConstants.{MAX_ENTRIES};
-ghost use Rattle.flutejoin.specs.Load.{LoadFails};
-ghost use Rattle.flutejoin.specs.Show.{FailsToRead};
-ghost use Rattle.flutejoin.specs.Joined.{HasKind, IsNeither, IsKnown, TakesDatagrams, TakesDatagram, StoreFails, Adds, Joins, SomeCheckFails, CheckFails, InputFails, JoinFails};
+//! The command `join`: inputs, joined as streams.
+ghost use Rattle.std.specs.Prelude.{◌≡◌, true, false, ◌≤◌, ◌<◌, ◌+◌, ◌^◌, List, ℕ, length, map, OnOk, IfOk, IfErr};
+ghost use Rattle.flute_journal.specs.declared.fault.ReadFault.TheVariants.{Read};
+ghost use Rattle.flute_journal.specs.Streams.{fact_in, most_of};
+ghost use Rattle.flute_journal.specs.Advances.{AreNew};
+ghost use Rattle.flute_journal.specs.FirstFaults.{FirstFault};
+ghost use Rattle.flute_journal.specs.JournalWriters.{times_failed};
+ghost use Rattle.flute_journal.specs.Listed.{listed_behaviour};
+ghost use Rattle.flute_journal.specs.Replacing.{replaced};
+ghost use Rattle.flute_journal.specs.StreamMerges.{MergedAll, AppendsNoJournal, NoneFails};
+ghost use Rattle.flutejoin.specs.declared.command_fault.CommandFault.TheVariants.{Input, CannotWrite};
+ghost use Rattle.flutejoin.specs.JoinInputs.{AreInputs, NoneFailed, OneFailed};
+ghost use Rattle.flutejoin.specs.Joining.{JoinsTo, JoinToFails, NamesOneOf, AreLooked, AreReady, JoinsLooked, IsStreamOf, joined_behaviour};
 
-use crate::blob::Blob;
-use crate::command_fault::{CommandFault, at_input, load_fault};
-use crate::limits::MAX_ENTRIES;
-use flute_journal::{datagrams_in, join_journal};
-use flute_parts::{MemorySource, Source};
-use flute_store::{Shelf, Store, TakeFault};
-use flute_wire::one_reading;
+use crate::command_fault::{CommandFault, load_fault};
+use crate::held_file::HeldFile;
+use crate::join_counts::JoinCounts;
+use crate::join_input::JoinInput;
+use crate::looking::look_at_all;
+use flute_journal::{
+    InputFault, Joined as Merged, OrFull, Replaced, Stream, WalkStream, join_streams,
+};
+use flute_parts::{Sink, Source};
+use flute_store::Objects;
 use std::alloc::Global;
 
-/// What inputs come to together.
-#[derive(Drop)]
-pub struct Joined {
-    /// The facts of all of them.
-    pub store: Shelf,
-    /// How many datagrams the datagram files among them have.
-    pub datagrams: u64,
-    /// How many of these datagrams are refused. They tell nothing.
-    pub refused: u64,
-}
-
-impl Joined {
-    // What no input comes to.
-    pub(crate) fn new(alloc: Global) -> Joined
-        ensures store { result.store ≡ [] }
-        ensures datagrams { result.datagrams ≡ 0 }
-        ensures refused { result.refused ≡ 0 }
-    {
-        Joined {
-            store: Store::new(alloc),
-            datagrams: 0,
-            refused: 0,
-        }
-    }
-
-    // Takes a datagram, and counts it.
-    fn take(&mut self, alloc: Global, datagram: &[u8]) -> Result<(), CommandFault>
-        requires datagrams { self.now.datagrams + 1 < 2 ^ 64 }
-        requires refused { self.now.refused ≤ self.now.datagrams }
-        ensures taken { OnOk result (TakesDatagram self.old datagram.now self.new) }
-        ensures failed { IfErr result (StoreFails (self.old.store ++ facts datagram.now)) }
-    {
-        // By this the proof knows that a datagram is a packet or refused.
-        one_reading();
-        match self.store.take(alloc, datagram) {
-            Ok(_) => {}
-            Err(TakeFault::Datagram(_)) => self.refused += 1,
-            Err(TakeFault::Full) => return Err(CommandFault::Full),
-            Err(TakeFault::OutOfMemory) => return Err(CommandFault::OutOfMemory),
-        }
-        self.datagrams += 1;
-        Ok(())
-    }
-
-    // Takes datagrams, and counts them.
-    fn take_all(&mut self, alloc: Global, datagrams: &[&[u8]]) -> Result<(), CommandFault>
-        requires few { length datagrams.now ≤ MAX_ENTRIES }
-        requires room { self.now.datagrams + MAX_ENTRIES < 2 ^ 64 }
-        requires refused { self.now.refused ≤ self.now.datagrams }
-        ensures taken { OnOk result
-            (TakesDatagrams self.old (map (λ d. d.now) datagrams.now) self.new) }
-        ensures within { OnOk result (¬ IsOverShelf self.new.store) }
-        ensures failed { IfErr result
-            (StoreFails (self.old.store ++ flat_map facts (map (λ d. d.now) datagrams.now))) }
-    {
-        for datagram in datagrams {
-            self.take(alloc, datagram)?;
-        }
-        self.store.keeps_order_and_limits();
-        Ok(())
-    }
-
-    // Takes the datagrams of a file, and answers whether the store holds all. If not, the file is within the limits alone.
-    fn add_file(&mut self, alloc: Global, number: usize, bytes: &[u8]) -> Result<bool, CommandFault>
-        requires kind { HasKind Kind.Datagrams bytes.now }
-        requires room { self.now.datagrams + MAX_ENTRIES < 2 ^ 64 }
-        requires refused { self.now.refused ≤ self.now.datagrams }
-        ensures added { IfOk result (Adds bytes.now self.old self.new) }
-        ensures failed { IfErr result (InputFails number bytes.now) }
-    {
-        let datagrams = at_input(number, datagrams_in(alloc, bytes, MAX_ENTRIES))?;
-        match self.take_all(alloc, &datagrams) {
-            Ok(()) => Ok(true),
-            Err(CommandFault::Full) => {
-                Joined::new(alloc).take_all(alloc, &datagrams)?;
-                Ok(false)
-            }
-            Err(fault) => Err(fault),
-        }
-    }
-
-    // Joins a journal as it is read, and answers whether the store holds all. If not, the journal is within the limits alone.
-    pub(crate) fn add_journal<R: Source>(
-        &mut self,
-        alloc: Global,
-        number: usize,
-        source: &mut R,
-    ) -> Result<bool, CommandFault>
-        ensures added { IfOk result (λ fits. IfSome (R.unread source.old)
-            (λ bytes. Adds bytes self.old self.new fits)) }
-        ensures failed { IfErr result
-            (LoadFails number (R.unread source.old) (R.unread source.new)) }
-        ensures datagrams { self.new.datagrams ≡ self.old.datagrams }
-        ensures refused { self.new.refused ≡ self.old.refused }
-        ensures failures { FailsToRead (R.failures source.old) (R.failures source.new) result }
-    {
-        match join_journal(alloc, &mut self.store, source, MAX_ENTRIES) {
-            Ok(fits) => Ok(fits),
-            Err(fault) => Err(load_fault(number, fault)),
-        }
-    }
-
-    // Joins what an input tells, as its kind is, and answers whether the store holds all.
-    pub(crate) fn add(
-        &mut self,
-        alloc: Global,
-        number: usize,
-        bytes: &[u8],
-    ) -> Result<bool, CommandFault>
-        requires room { self.now.datagrams + MAX_ENTRIES < 2 ^ 64 }
-        requires refused { self.now.refused ≤ self.now.datagrams }
-        ensures added { IfOk result (Adds bytes.now self.old self.new) }
-        ensures failed { IfErr result (InputFails number bytes.now) }
-    {
-        match kind_of(bytes) {
-            Some(Kind::Journal) => self.add_journal(alloc, number, &mut MemorySource::new(bytes)),
-            Some(Kind::Datagrams) => self.add_file(alloc, number, bytes),
-            None => Err(CommandFault::UnknownKind(number)),
-        }
-    }
-}
-
-/// What an input is.
-#[derive(Clone, Copy)]
-pub(crate) enum Kind {
-    Journal,
-    Datagrams,
-}
-
-// What an input is by its first four bytes, if it is either.
-pub(crate) fn kind_of(bytes: &[u8]) -> Option<Kind>
-    ensures { MatchOption result (IsNeither bytes.now) (λ kind. HasKind kind bytes.now) }
-{
-    if bytes.starts_with(b"FLJN") {
-        Some(Kind::Journal)
-    } else if bytes.starts_with(b"FLDG") {
-        Some(Kind::Datagrams)
-    } else {
-        None
-    }
-}
-
-/// What all the inputs come to together, each a journal or a datagram file, as its first four bytes
-/// say. There may be up to 64, and none comes to the empty store. A datagram that is refused tells
-/// nothing, and is counted.
+/// Writes the journal of all that the inputs tell together, each a journal or a datagram file, as
+/// its first four bytes say. There may be up to 64, and none tells nothing. A datagram that is
+/// refused tells nothing, and is counted. Whatever else tells the same facts, in any order, number
+/// and grouping: its journal is the same, byte for byte.
 ///
-/// A journal is joined entry by entry as it is read, and a datagram where it lies: of an input's
-/// bytes it copies only those of symbols, once.
+/// First the datagram files are read, record by record, and held as what they tell. Then the journals
+/// are read, and the journal of all is written meanwhile: one entry of each is held.
 ///
 /// # Errors
 ///
 /// Inputs are numbered from 1. The first that is met:
 ///
-/// - first, input by input: `UnknownKind` where it is neither, and `Input` with the fault of a
-///   datagram file that does not hold whole records alone, at most 16,777,216;
-/// - then, input by input: `Input` with the fault of a journal, which may have at most
-///   16,777,216 entries, and `Full` where the input alone has more sessions, objects or symbols
-///   than a store holds;
-/// - last, `Full` where all of them together do.
+/// - first, input by input: `UnknownKind` where it is neither; `Input` with the fault of a datagram
+///   file, which may have at most 16,777,216 records, or with `Read` where its source fails;
+/// - then, input by input: `Input` with the fault of a journal, which may have at most 16,777,216
+///   entries, or with `Read` where its source fails, and `Full` where the input alone has more
+///   sessions, objects or symbols than a store holds;
+/// - then `Full` where all of them together do;
+/// - last, `CannotWrite` where the sink failed. The inputs are read to their ends all the same.
 ///
-/// `OutOfMemory`, or `Input` with it, where a request for memory was refused. Nothing is handed
-/// out after any of these.
-pub fn join_inputs(alloc: Global, inputs: &[Blob]) -> Result<Joined, CommandFault>
-    requires { length inputs.now ≤ 64 }
-    ensures joined { IfOk result (Joins inputs.now) }
-    ensures failed { IfErr result (JoinFails inputs.now) }
+/// `OutOfMemory`, or `Input` with it, where a request for memory was refused. What was written is
+/// then no journal. The inputs were read in part, and are of no further use.
+pub fn join_to<R: Source, W: Sink>(
+    alloc: Global,
+    inputs: &mut [JoinInput<'_, R>],
+    sink: &mut W,
+) -> Result<JoinCounts, CommandFault>
+    requires few { length inputs.old ≤ 64 }
+    ensures joined { (contents : List (List ℕ)) → AreInputs R.unread inputs.old contents
+        → IfOk result
+        (λ counts. JoinsTo contents counts (W.written sink.old) (W.written sink.new)) }
+    ensures failed { (contents : List (List ℕ)) → AreInputs R.unread inputs.old contents
+        → IfErr result (JoinToFails contents) }
+    ensures short { IfErr result
+        (λ _. AppendsNoJournal (W.written sink.old) (W.written sink.new)) }
+    ensures names { IfErr result (NamesOneOf (length inputs.old)) }
+    ensures none_failed { OnOk result (NoneFailed R.failures inputs.old inputs.new) }
+    ensures read_failed { IfErr result (λ fault. (number : ℕ) → fault ≡ Input number Read
+        → OneFailed R.failures number inputs.old inputs.new) }
+    ensures sink_failures { OnOk result (W.failures sink.new ≡ W.failures sink.old) }
+    ensures write_failed { IfErr result
+        (λ fault. fault ≡ CannotWrite → W.failures sink.new ≡ W.failures sink.old + 1) }
 {
-    check_inputs(alloc, inputs)?;
-    join_all(alloc, inputs)
-}
-
-// Looks at the kind of each input, and at the records of each datagram file.
-fn check_inputs(alloc: Global, inputs: &[Blob]) -> Result<(), CommandFault>
-    requires { length inputs.now ≤ 64 }
-    ensures known { OnOk result (AllByRecursion IsKnown inputs.now) }
-    ensures failed { IfErr result (SomeCheckFails inputs.now) }
-{
-    for (k, input) in inputs.iter().enumerate() {
-        check_input(alloc, k + 1, input.as_slice())?;
+    let looked = look_at_all(alloc, inputs)?;
+    let joined = join_looked(alloc, inputs, &looked.files, sink)?;
+    if !joined.within {
+        return Err(CommandFault::Full);
     }
-    Ok(())
+    if joined.cut {
+        return Err(CommandFault::CannotWrite);
+    }
+    Ok(JoinCounts {
+        datagrams: looked.datagrams,
+        refused: looked.refused,
+        entries: joined.entries,
+    })
 }
 
-// Looks at the kind of an input and, if it is a datagram file, at its records.
-pub(crate) fn check_input(alloc: Global, number: usize, bytes: &[u8]) -> Result<(), CommandFault>
-    ensures known { OnOk result (IsKnown bytes.now) }
-    ensures failed { IfErr result (CheckFails number bytes.now) }
+// Joins inputs that were looked at.
+fn join_looked<R: Source, W: Sink>(
+    alloc: Global,
+    inputs: &mut [JoinInput<'_, R>],
+    files: &[Option<HeldFile>],
+    sink: &mut W,
+) -> Result<Merged, CommandFault>
+    requires few { length inputs.old ≤ 64 }
+    requires ready { AreReady R.unread R.failures inputs.old files.now }
+    ensures joined { (contents : List (List ℕ)) → AreLooked R.unread inputs.old files.now contents
+        → IfOk result (λ joined. JoinsLooked contents files.now joined
+        (W.written sink.old) (W.written sink.new)) }
+    ensures failed { (contents : List (List ℕ)) → AreLooked R.unread inputs.old files.now contents
+        → IfErr result (JoinToFails contents) }
+    ensures cut { IfOk result (λ joined. joined.cut ≡ true
+        → AppendsNoJournal (W.written sink.old) (W.written sink.new)) }
+    ensures over { IfOk result (λ joined. joined.within ≡ false → joined.cut ≡ true) }
+    ensures short { IfErr result
+        (λ _. AppendsNoJournal (W.written sink.old) (W.written sink.new)) }
+    ensures names { IfErr result (NamesOneOf (length inputs.old)) }
+    ensures no_sink { IfErr result (λ fault. fault ≡ CannotWrite → ⊥) }
+    ensures none_failed { OnOk result (NoneFailed R.failures inputs.old inputs.new) }
+    ensures read_failed { IfErr result (λ fault. (number : ℕ) → fault ≡ Input number Read
+        → OneFailed R.failures number inputs.old inputs.new) }
+    ensures sink_failures { IfOk result (λ joined. joined.within ≡ true
+        → W.failures sink.new ≡ W.failures sink.old + times_failed joined.cut) }
 {
-    match kind_of(bytes) {
-        Some(Kind::Journal) => Ok(()),
-        Some(Kind::Datagrams) => {
-            at_input(number, datagrams_in(alloc, bytes, MAX_ENTRIES))?;
-            Ok(())
+    let mut others = Vec::new(alloc);
+    for file in files {
+        if others.push(stream_of(file)).is_err() {
+            return Err(CommandFault::OutOfMemory);
         }
-        None => Err(CommandFault::UnknownKind(number)),
+    }
+    match join_replaced(alloc, inputs, &mut others, sink) {
+        Ok(joined) => Ok(joined),
+        Err(fault) => Err(load_fault(fault.number + 1, fault.fault)),
     }
 }
 
-// Joins inputs whose kinds and records were looked at. That they are over the limits together is told only once each of
-// them was read: then those that follow are each looked at alone.
-fn join_all(alloc: Global, inputs: &[Blob]) -> Result<Joined, CommandFault>
-    requires few { length inputs.now ≤ 64 }
-    requires known { AllByRecursion IsKnown inputs.now }
-    ensures joined { IfOk result (Joins inputs.now) }
-    ensures failed { IfErr result (JoinFails inputs.now) }
+// The stream of what a datagram file tells, if the input is one.
+fn stream_of(file: &Option<HeldFile>) -> Option<OrFull<WalkStream<'_, Objects<4096, 1_048_576>>>>
+    ensures { IsStreamOf (listed_behaviour (λ s. fact_in s.held) (λ s. s.walk) (λ _. Unit {0}))
+        file.now result }
 {
-    let mut joined = Joined::new(alloc);
-    let mut fits = true;
-    for (k, input) in inputs.iter().enumerate() {
-        if fits {
-            fits = joined.add(alloc, k + 1, input.as_slice())?;
-        } else {
-            Joined::new(alloc).add(alloc, k + 1, input.as_slice())?;
-        }
+    match file {
+        None => None,
+        Some(file) if file.fits => Some(OrFull::of(WalkStream::new(file.told.store.walk()))),
+        Some(_) => Some(OrFull::full()),
     }
-    if fits {
-        Ok(joined)
-    } else {
-        Err(CommandFault::Full)
-    }
+}
+
+// Joins inputs as journals, but for others in the places of some.
+fn join_replaced<R: Source, S: Stream, W: Sink>(
+    alloc: Global,
+    inputs: &mut [JoinInput<'_, R>],
+    others: &mut [Option<S>],
+    sink: &mut W,
+) -> Result<Merged, InputFault>
+    requires new { AreNew (joined_behaviour R.unread R.failures S.behaviour)
+        (replaced inputs.old others.old) }
+    requires few { most_of (joined_behaviour R.unread R.failures S.behaviour)
+        (replaced inputs.old others.old) < 2 ^ 64 }
+    ensures merged { IfOk result (λ joined. MergedAll
+        (joined_behaviour R.unread R.failures S.behaviour) (replaced inputs.old others.old)
+        64 4096 1048576 joined (W.written sink.old) (W.written sink.new)) }
+    ensures cut { IfOk result (λ joined. joined.cut ≡ true
+        → AppendsNoJournal (W.written sink.old) (W.written sink.new)) }
+    ensures over { IfOk result (λ joined. joined.within ≡ false → joined.cut ≡ true) }
+    ensures short { IfErr result
+        (λ _. AppendsNoJournal (W.written sink.old) (W.written sink.new)) }
+    ensures first { IfErr result
+        (FirstFault (joined_behaviour R.unread R.failures S.behaviour)
+        (replaced inputs.old others.old) (replaced inputs.new others.new)) }
+    ensures failures { IfOk result (λ _. NoneFails
+        (joined_behaviour R.unread R.failures S.behaviour)
+        (replaced inputs.old others.old) (replaced inputs.new others.new)) }
+    ensures sink_failures { IfOk result (λ joined. joined.within ≡ true
+        → W.failures sink.new ≡ W.failures sink.old + times_failed joined.cut) }
+{
+    let mut streams = Replaced {
+        streams: &mut *inputs,
+        others: &mut *others,
+    };
+    join_streams::<64, 4096, 1_048_576, _, _>(alloc, &mut streams, sink)
 }

@@ -2,21 +2,28 @@
 //! over any source and sink, and its command line.
 #![tactic(auto)]
 
+mod begun_source;
 mod blob;
 mod command_fault;
 mod extract;
+mod first_bytes;
 mod gaps;
+mod held_file;
 mod hex_digits;
 mod info;
+mod join_counts;
+mod join_input;
+mod joined;
 mod joining;
 pub mod laws;
 mod limits;
 mod line;
 mod lines;
 mod loading;
+mod looking;
+mod memory_inputs;
 mod merging;
 mod numbers;
-mod opened;
 mod outputs;
 mod packet;
 mod parser;
@@ -30,17 +37,22 @@ mod steps;
 mod text;
 mod writing;
 
+pub use begun_source::{BegunSource, join_sources};
 pub use blob::{Blob, BlobFault, is_too_large};
 pub use command_fault::{CommandFault, at_input, blob_fault};
 pub use extract::{check_whole, extract_to};
+pub use first_bytes::FirstBytes;
 pub use gaps::gaps_to;
-pub use info::add_info;
-pub use joining::{Joined, join_inputs};
+pub use info::info_to;
+pub use join_counts::JoinCounts;
+pub use join_input::{JoinInput, input_of};
+pub use joined::Joined;
+pub use joining::join_to;
 pub use limits::{MAX_ENTRIES, MAX_INPUTS};
 pub use line::{Line, line_of};
 pub use loading::load;
+pub use memory_inputs::join_inputs;
 pub use merging::merge_to;
-pub use opened::{Opened, join_opened};
 pub use outputs::{OutputFault, journal_after, object_after};
 pub use packet::packet_to;
 pub use replicas::Replicas;

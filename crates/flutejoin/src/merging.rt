@@ -1,7 +1,7 @@
 //! The command `merge`: two journals, merged as streams.
 ghost use Rattle.std.specs.Prelude.{◌≡◌, ◌+◌, IfOk, IfErr, OnErr};
 ghost use Rattle.flute_journal.specs.Merges.{Merged, StopsShort};
-ghost use Rattle.flutejoin.specs.Merge.{MergeFails};
+ghost use Rattle.flutejoin.specs.Merge.{MergeFails, FirstFails, SecondFails};
 ghost use Rattle.flutejoin.specs.declared.limits.TheConstants.{MAX_ENTRIES};
 ghost use Rattle.flutejoin.specs.Packet.{write_failures};
 
@@ -29,6 +29,8 @@ pub fn merge_to<A: Source, B: Source, W: Sink>(
     ensures short { OnErr result (StopsShort (A.unread first.old) (B.unread second.old)
         (W.written sink.old) (W.written sink.new)) }
     ensures failed { IfErr result (MergeFails (A.unread first.old) (B.unread second.old)) }
+    ensures first_failures { FirstFails (A.failures first.old) (A.failures first.new) result }
+    ensures second_failures { SecondFails (B.failures second.old) (B.failures second.new) result }
     ensures failures { W.failures sink.new ≡ W.failures sink.old + write_failures result }
 {
     match merge_streams(alloc, first, second, sink, MAX_ENTRIES) {

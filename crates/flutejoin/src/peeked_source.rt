@@ -1,43 +1,64 @@
 //! A source of which the first bytes were read ahead.
-ghost use Rattle.std.specs.Prelude.{◌≡◌, ◌≤◌, ◌==◌, [], drop, if◌then◌else◌};
-ghost use Rattle.std.specs.Io.KnownBytes.{prepend_known};
+ghost use Rattle.std.specs.Prelude.{◌≡◌, take, drop};
 
+use crate::first_bytes::FirstBytes;
 use flute_parts::{DeviceFault, Source};
 
-/// A source that gives four bytes that were read ahead, and then those that another source has
-/// left. It takes no memory.
+/// A source that gives the first bytes of an input, which were read ahead, and then those that
+/// another source has left. It takes no memory.
 #[derive(Drop)]
-pub(crate) struct PeekedSource<R> {
-    front: [u8; 4],
-    /// How many of these were given.
+pub struct PeekedSource<'a, R> {
+    first: FirstBytes,
+    /// How many of the first bytes were given.
     given: usize,
-    source: R,
-    ghost within: { given ≤ 4 },
+    source: &'a mut R,
 }
 
-impl<R: Source> PeekedSource<R> {
-    // A source of the bytes of `front`, and then of those of `source`.
-    pub(crate) fn new(front: [u8; 4], source: R) -> PeekedSource<R>
-        ensures { ⟦<PeekedSource<R> as Source>⟧.unread result
-            ≡ prepend_known front (R.unread source) }
+impl<'a, R: Source> PeekedSource<'a, R> {
+    // A source of the first bytes, and then of those of `source`.
+    pub(crate) fn new(first: FirstBytes, source: &'a mut R) -> PeekedSource<'a, R>
+        ensures first { result.first ≡ first }
+        ensures given { result.given ≡ 0 }
+        ensures same_source { result.source.ghost_name ≡ source.entry.ghost_name }
+        ensures source { result.source.now ≡ source.old }
     {
         PeekedSource {
-            front,
+            first,
             given: 0,
             source,
         }
     }
+
+    // The first bytes, whether or not they were given.
+    pub(crate) fn front(&self) -> &[u8]
+        ensures { result.now ≡ take self.now.first.count self.now.first.bytes }
+    {
+        self.first.as_slice()
+    }
+
+    // Those of them that were not given.
+    #[inline(always)]
+    fn left(&self) -> &[u8]
+        ensures { result.now
+            ≡ drop self.now.given (take self.now.first.count self.now.first.bytes) }
+    {
+        let front = self.first.as_slice();
+        &front[self.given.min(front.len())..]
+    }
 }
 
-impl<R: Source> Source for PeekedSource<R> {
-    ghost failures = { λ s. R.failures s.source };
+impl<'a, R: Source> Source for PeekedSource<'a, R> {
+    ghost use Rattle.std.specs.Prelude.{take, drop, length, ◌==◌, [], if◌then◌else◌};
+    ghost use Rattle.std.specs.Io.KnownBytes.{prepend_known};
 
-    ghost unread = { λ s. prepend_known (drop s.given s.front) (R.unread s.source) };
+    ghost failures = { λ s. R.failures s.source.now };
 
-    ghost buffered = { λ s. if s.given == 4 then R.buffered s.source else [] };
+    ghost unread = { λ s. prepend_known (drop s.given (take s.first.count s.first.bytes)) (R.unread s.source.now) };
+
+    ghost buffered = { λ s. if length (drop s.given (take s.first.count s.first.bytes)) == 0 then R.buffered s.source.now else [] };
 
     fn read(&mut self, buffer: &mut [u8]) -> Result<usize, DeviceFault> {
-        let front = &self.front[self.given..];
+        let front = self.left();
         if front.is_empty() {
             return self.source.read(buffer);
         }
@@ -48,15 +69,16 @@ impl<R: Source> Source for PeekedSource<R> {
     }
 
     fn buffer(&self) -> &[u8] {
-        if self.given == 4 {
-            self.source.buffer()
+        if self.left().is_empty() {
+            let source = &*self.source;
+            source.buffer()
         } else {
             &[]
         }
     }
 
     fn consume(&mut self, count: usize) {
-        if self.given == 4 {
+        if self.left().is_empty() {
             self.source.consume(count);
         }
     }

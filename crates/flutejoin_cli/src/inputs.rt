@@ -1,8 +1,9 @@
 //! The inputs of a command.
+ghost use Rattle.std.specs.Prelude.{◌≡◌, length, IfOk};
 
 use flute_output::FileId;
 use flute_parts::BufferedSource;
-use flutejoin::CommandFault;
+use flutejoin::{BegunSource, CommandFault, FirstBytes, at_input};
 use std::alloc::Global;
 use std::fs::{self, File, Metadata};
 use std::io::{self, BufReader, ErrorKind, Read};
@@ -61,6 +62,30 @@ pub fn open_input(rt: &HostRuntime, number: usize, path: &str) -> Result<OpenInp
         },
         file: found.as_ref().map(FileId::of),
     })
+}
+
+/// Opens inputs, and reads the first bytes of each before the next is opened. The files among them
+/// are added to `files`.
+pub fn open_inputs(
+    rt: &HostRuntime,
+    paths: &[&str],
+    files: &mut Vec<FileId>,
+) -> Result<Vec<BegunSource<Input>>, CommandFault>
+    ensures { IfOk result (λ opened. length opened.items ≡ length paths.now) }
+{
+    let mut opened = Vec::new(rt.alloc());
+    for (k, path) in paths.iter().enumerate() {
+        let mut input = open_input(rt, k + 1, path)?;
+        if let Some(file) = input.file {
+            files.push(file).map_err(|_| CommandFault::OutOfMemory)?;
+        }
+        let first = at_input(k + 1, FirstBytes::read(&mut input.source))?;
+        let source = input.source;
+        opened
+            .push(BegunSource { first, source })
+            .map_err(|_| CommandFault::OutOfMemory)?;
+    }
+    Ok(opened)
 }
 
 fn reader_at(rt: &HostRuntime, path: &str) -> io::Result<(Reader, Option<Metadata>)> {

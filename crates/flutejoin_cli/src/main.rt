@@ -6,16 +6,15 @@ ghost use Rattle.std.specs.Prelude.{◌≤◌, length};
 mod inputs;
 mod outputs;
 
-use crate::inputs::{OpenInput, open_input};
-use crate::outputs::{Report, create_output, finish, standard_output};
+use crate::inputs::{OpenInput, open_input, open_inputs};
+use crate::outputs::{Report, create_output, finish, nothing, standard_output};
 use flute_output::{FileId, take_standard_streams};
 use flute_parts::{Info, Key, StdSink};
 use flute_store::Shelf;
 use flute_wire::Datagrams;
 use flutejoin::{
-    Blob, CommandFault, Joined, Line, Opened, add_info, at_input, blob_fault, check_whole,
-    count_to, datagrams_of, extract_to, gaps_to, is_too_large, join_opened, line_of, load,
-    merge_to, packet_to, save_to, send_to, show_to,
+    Blob, CommandFault, Line, blob_fault, check_whole, count_to, datagrams_of, extract_to, gaps_to,
+    info_to, is_too_large, join_sources, line_of, load, merge_to, packet_to, send_to, show_to,
 };
 use std::env;
 use std::io::{self, ErrorKind};
@@ -119,6 +118,8 @@ fn extract(rt: &HostRuntime, out: &str, key: &Key, j: &str) -> Result<(), Comman
     tell_count(rt, report, "bytes", bytes)
 }
 
+/// Creates the output once the input is open, and before it is read. Where that cannot be, the input's
+/// fault is told first.
 fn add_information(
     rt: &HostRuntime,
     out: &str,
@@ -126,43 +127,39 @@ fn add_information(
     info: Info,
     j: &str,
 ) -> Result<(), CommandFault> {
-    let (mut shelf, file) = loaded(rt, j)?;
-    add_info(rt.alloc(), &mut shelf, key, info)?;
-    let mut output = create_output(rt, out, &file)?;
-    let saved = save_to(&shelf, &mut output);
-    let (entries, report) = finish(output, saved)?;
+    let mut input = open_input(rt, 1, j)?;
+    let file = files_of(rt, &input)?;
+    let mut output = match create_output(rt, out, &file) {
+        Ok(output) => output,
+        Err(fault) => {
+            info_to(rt.alloc(), &mut input.source, key, info, &mut nothing())?;
+            return Err(fault);
+        }
+    };
+    let added = info_to(rt.alloc(), &mut input.source, key, info, &mut output);
+    let (entries, report) = finish(output, added)?;
     tell_count(rt, report, "entries", entries)
 }
 
-/// Creates the output once all inputs were read and joined.
+/// Creates the output once all inputs are open and their first bytes were read, and before they are
+/// read further. Where that cannot be, a fault of the inputs is told first.
 fn join(rt: &HostRuntime, out: &str, paths: &[&str]) -> Result<(), CommandFault>
     requires { length paths.now ≤ 64 }
 {
     let mut files = Vec::new(rt.alloc());
-    let joined = joined(rt, paths, &mut files)?;
-    let mut output = create_output(rt, out, &files)?;
-    let saved = save_to(&joined.store, &mut output);
-    let (entries, report) = finish(output, saved)?;
-    tell_count(rt, report, "datagrams", joined.datagrams)?;
-    tell_count(rt, report, "refused", joined.refused)?;
-    tell_count(rt, report, "entries", entries)
-}
-
-/// What the inputs come to, and which files they are. Each is opened and its first bytes are read,
-/// one after the other, before any is looked at.
-fn joined(rt: &HostRuntime, paths: &[&str], files: &mut Vec<FileId>) -> Result<Joined, CommandFault>
-    requires { length paths.now ≤ 64 }
-{
-    let mut inputs = Vec::new(rt.alloc());
-    for (k, path) in paths.iter().enumerate() {
-        let input = open_input(rt, k + 1, path)?;
-        if let Some(file) = input.file {
-            files.push(file).map_err(|_| CommandFault::OutOfMemory)?;
+    let inputs = open_inputs(rt, paths, &mut files)?;
+    let mut output = match create_output(rt, out, &files) {
+        Ok(output) => output,
+        Err(fault) => {
+            join_sources(rt.alloc(), inputs, &mut nothing())?;
+            return Err(fault);
         }
-        let opened = at_input(k + 1, Opened::read_sized(input.source, input.size))?;
-        inputs.push(opened).map_err(|_| CommandFault::OutOfMemory)?;
-    }
-    join_opened(rt.alloc(), &mut inputs)
+    };
+    let joined = join_sources(rt.alloc(), inputs, &mut output);
+    let (counts, report) = finish(output, joined)?;
+    tell_count(rt, report, "datagrams", counts.datagrams)?;
+    tell_count(rt, report, "refused", counts.refused)?;
+    tell_count(rt, report, "entries", counts.entries)
 }
 
 /// Creates the output once both inputs are open, and before they are read.

@@ -3,7 +3,7 @@
 use flute_output::{DiskFolder, FileId, OpenFault, Output};
 use flute_parts::StdSink;
 use flutejoin::CommandFault;
-use std::io::{self, BufWriter, Printer};
+use std::io::{self, BufWriter, Printer, Sink as Nothing};
 
 /// How many bytes of lines are written at once.
 const BUFFER: usize = 131_072;
@@ -58,4 +58,9 @@ pub fn standard_output(rt: &HostRuntime) -> Result<Lines<'_>, CommandFault> {
         |_| CommandFault::OutOfMemory,
     )?;
     Ok(StdSink::new(writer))
+}
+
+/// What stands for an output that could not be created, where the inputs are read all the same.
+pub fn nothing() -> StdSink<Nothing> {
+    StdSink::new(io::sink())
 }

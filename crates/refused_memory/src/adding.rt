@@ -9,18 +9,8 @@ use anyhow::Result;
 use flute_join::JoinRefusal;
 use flute_parts::{Bytes, Fact, Info, Key, SymbolId};
 use flute_store::{Shelf, Status};
-use flutejoin::{CommandFault, add_info};
 use std::alloc::Global;
 use std::io::Print;
-
-/// How a fact is added.
-#[derive(Clone, Copy)]
-pub enum Way {
-    /// By the store.
-    Store,
-    /// As information that is entered by hand.
-    Hand,
-}
 
 /// What is added behind datagrams, how much of the object is held before and then, and the journal of the store then.
 #[derive(Clone, Copy)]
@@ -28,25 +18,9 @@ pub struct Add<'a> {
     key: &'a Key,
     before: &'a [&'a [u8]],
     fact: &'a Fact,
-    way: Way,
     old_status: Option<Status>,
     new_status: Status,
     journal: &'a [u8],
-}
-
-impl Add<'_> {
-    fn add(&self, alloc: Global, store: &mut Shelf) -> Result<(), JoinRefusal> {
-        match (self.way, self.fact) {
-            (Way::Hand, Fact::Info { key, info }) => {
-                let entered = add_info(alloc, store, *key, *info);
-                entered.map_err(|fault| match fault {
-                    CommandFault::OutOfMemory => JoinRefusal::OutOfMemory,
-                    _ => JoinRefusal::Full,
-                })
-            }
-            _ => store.add(alloc, self.fact),
-        }
-    }
 }
 
 impl Case for Add<'_> {
@@ -58,7 +32,7 @@ impl Case for Add<'_> {
             "another status is told before",
         );
         refuse_after(alloc, granted);
-        let mut answer = self.add(alloc, &mut store);
+        let mut answer = store.add(alloc, self.fact);
         let refused = was_refused(alloc);
         if refused {
             findings.expect(
@@ -67,7 +41,7 @@ impl Case for Add<'_> {
             );
             findings.expect(are_same(&store, &old), "a refused add changed the store");
             expect_quiet(alloc, &store, self.key, findings);
-            answer = self.add(alloc, &mut store);
+            answer = store.add(alloc, self.fact);
         }
         findings.expect(answer == Ok(()), "an add answers otherwise");
         findings.expect(
@@ -77,7 +51,7 @@ impl Case for Add<'_> {
         findings.expect(writes(&store, self.journal), "an add leaves another store");
         expect_quiet(alloc, &store, self.key, findings);
         refuse_all(alloc);
-        let again = self.add(alloc, &mut store);
+        let again = store.add(alloc, self.fact);
         findings.expect(
             !was_refused(alloc),
             "an add of what is held asked for memory",
@@ -87,43 +61,31 @@ impl Case for Add<'_> {
     }
 }
 
-/// Information, in both ways, and a symbol.
+/// Information, and a symbol.
 pub fn adds<P: Print>(report: &mut Report<'_, P>, key: Key, info: Info) -> Result<()> {
     let fact = Fact::Info { key, info };
-    let ways = [
-        (
-            Way::Store,
-            "add of information to symbols",
-            "add of information",
-        ),
-        (Way::Hand, "add_info to symbols", "add_info"),
-    ];
-    for (way, quiet, call) in ways {
-        let to_symbols = Add {
-            key: &key,
-            before: &[FIRST, LAST],
-            fact: &fact,
-            way,
-            old_status: Some(Status::NoInformation),
-            new_status: Status::Whole { length: 5 },
-            journal: WHOLE,
-        };
-        report.ask_for_none(quiet, &to_symbols);
-        let to_nothing = Add {
-            key: &key,
-            before: &[],
-            fact: &fact,
-            way,
-            old_status: None,
-            new_status: Status::Partial {
-                missing: 2,
-                conflicting: 0,
-                misfit: 0,
-            },
-            journal: JOURNAL_OF_INFO,
-        };
-        report.refuse(call, &to_nothing);
-    }
+    let to_symbols = Add {
+        key: &key,
+        before: &[FIRST, LAST],
+        fact: &fact,
+        old_status: Some(Status::NoInformation),
+        new_status: Status::Whole { length: 5 },
+        journal: WHOLE,
+    };
+    report.ask_for_none("add of information to symbols", &to_symbols);
+    let to_nothing = Add {
+        key: &key,
+        before: &[],
+        fact: &fact,
+        old_status: None,
+        new_status: Status::Partial {
+            missing: 2,
+            conflicting: 0,
+            misfit: 0,
+        },
+        journal: JOURNAL_OF_INFO,
+    };
+    report.refuse("add of information", &to_nothing);
     add_symbol(report, key)
 }
 
@@ -137,7 +99,6 @@ fn add_symbol<P: Print>(report: &mut Report<'_, P>, key: Key) -> Result<()> {
         key: &key,
         before: &[],
         fact: &fact,
-        way: Way::Store,
         old_status: None,
         new_status: Status::NoInformation,
         journal: JOURNAL_OF_FIRST,

@@ -24,7 +24,7 @@ use absorbing::absorbs;
 use adding::adds;
 use anyhow::{Context, Result};
 use flute_parts::{Info, Key, ObjectKey, SessionKey};
-use inputs::joins;
+use inputs::{informs, joins};
 use mapping::maps;
 use merging::merges;
 use parts::names_and_packets;
@@ -50,5 +50,6 @@ fn main(rt: HostRuntime) -> Result<()> {
     steps(&mut report, &key)?;
     sends(&mut report, &key, &info)?;
     joins(&mut report)?;
+    informs(&mut report, key, info);
     report.end()
 }

@@ -4,7 +4,7 @@ use super::*;
 use flute_parts::{Info, MemorySink, MemorySource};
 use flute_store::Shelf;
 use flutejoin::{
-    CommandFault, Line, add_info, extract_to, gaps_to, line_of, load, merge_to, packet_to, save_to,
+    CommandFault, Line, extract_to, gaps_to, info_to, line_of, load, merge_to, packet_to, save_to,
     show_to,
 };
 use std::alloc::Global;
@@ -64,9 +64,19 @@ fn an_object_is_extracted(rt: HostRuntime) -> Result<(), Fail> {
 
 #[test]
 fn information_is_added(rt: HostRuntime) -> Result<(), Fail> {
-    let mut shelf = loaded(rt.alloc(), journals::SYMBOLS)?;
+    let symbols = bytes(rt.alloc(), journals::SYMBOLS)?;
+    let mut symbols = MemorySource::new(&symbols);
     let key = file().ok_or("a key")?;
-    add_info(rt.alloc(), &mut shelf, key, Info::new(5, 4, 2)?)?;
+    let info = Info::new(5, 4, 2)?;
+    let mut sink = MemorySink::new(rt.alloc());
+    assert!(rt; info_to(rt.alloc(), &mut symbols, key, info, &mut sink)? == 3);
+    assert!(rt; sink.as_slice() == bytes(rt.alloc(), journals::WHOLE)?.as_slice());
+    Ok(())
+}
+
+#[test]
+fn a_store_is_saved(rt: HostRuntime) -> Result<(), Fail> {
+    let shelf = loaded(rt.alloc(), journals::WHOLE)?;
     let mut sink = MemorySink::new(rt.alloc());
     assert!(rt; save_to(&shelf, &mut sink)? == 3);
     assert!(rt; sink.as_slice() == bytes(rt.alloc(), journals::WHOLE)?.as_slice());

@@ -2,8 +2,10 @@
 
 use super::*;
 use flute_journal::write_store;
-use flute_parts::{MemorySink, MemorySource, ShortSource, Source};
-use flutejoin::{Blob, CommandFault, Joined, Opened, at_input, join_inputs, join_opened};
+use flute_parts::{MemorySink, MemorySource, ShortSource};
+use flutejoin::{
+    BegunSource, Blob, FirstBytes, JoinCounts, Joined, MAX_INPUTS, join_inputs, join_sources,
+};
 use std::alloc::Global;
 use test_vectors::{bytes, journals};
 
@@ -31,27 +33,18 @@ fn inputs_in_memory_are_joined(rt: HostRuntime) -> Result<(), Fail> {
     Ok(())
 }
 
-/// These inputs, out of sources that give seven bytes at a time.
-fn opened<'a>(
+/// Sources of these inputs that give seven bytes at a time, of which the first bytes were read.
+fn begun<'a>(
     alloc: Global,
     inputs: &'a [Vec<u8>],
-) -> Result<Vec<Opened<ShortSource<'a>>>, CommandFault> {
-    let mut opened = Vec::new(alloc);
+) -> Result<Vec<BegunSource<ShortSource<'a>>>, Fail> {
+    let mut sources = Vec::new(alloc);
     for input in inputs {
-        let source = ShortSource::new(input, 7, usize::MAX);
-        let input = at_input(1, Opened::read(source))?;
-        if opened.push(input).is_err() {
-            return Err(CommandFault::OutOfMemory);
-        }
+        let mut source = ShortSource::new(input, 7, usize::MAX);
+        let first = FirstBytes::read(&mut source)?;
+        sources.push(BegunSource { first, source })?;
     }
-    Ok(opened)
-}
-
-fn join<R: Source>(alloc: Global, inputs: &mut [Opened<R>]) -> Result<Joined, CommandFault> {
-    if inputs.len() > 64 {
-        return Err(CommandFault::TooManyInputs);
-    }
-    join_opened(alloc, inputs)
+    Ok(sources)
 }
 
 #[test]
@@ -60,8 +53,18 @@ fn inputs_that_are_read_are_joined(rt: HostRuntime) -> Result<(), Fail> {
         bytes(rt.alloc(), journals::DATAGRAMS)?,
         bytes(rt.alloc(), journals::OTHERS)?,
     ];
-    let mut opened = opened(rt.alloc(), &inputs)?;
-    let joined = join(rt.alloc(), &mut opened)?;
-    assert!(rt; is_joined(rt.alloc(), &joined, journals::JOINED)?);
+    let sources = begun(rt.alloc(), &inputs)?;
+    if sources.len() > MAX_INPUTS {
+        return Err(Fail::from("too many inputs"));
+    }
+    let mut sink = MemorySink::new(rt.alloc());
+    let counts = join_sources(rt.alloc(), sources, &mut sink)?;
+    let wanted = JoinCounts {
+        datagrams: 2,
+        refused: 0,
+        entries: 4,
+    };
+    assert!(rt; counts == wanted);
+    assert!(rt; sink.as_slice() == bytes(rt.alloc(), journals::JOINED)?.as_slice());
     Ok(())
 }

@@ -1,5 +1,5 @@
 -- Bytes that were read ahead are given again.
-use Rattle.std.proofs.Common.{rules, ◌≡◌, ℕ, ◌+◌, ◌-◌, ◌≤◌, ◌++◌, ◌==◌, false, zero, suc, List, length, take, drop, min, Option, Some, None, sym, ◌∙◌, ap, arith, append_assoc, length-drop, length-append, length-take-le, take-append-drop}
+use Rattle.std.proofs.Common.{rules, ◌≡◌, ℕ, ◌+◌, ◌≤◌, ◌++◌, ◌==◌, false, true, zero, suc, List, [], ◌∷◌, length, take, drop, min, Option, Some, None, refl, sym, ◌∙◌, ap, arith, append_assoc, length-drop, length-append, length-take-le, take-append-drop}
 use Rattle.std.specs.Io.KnownBytes.{Consumes, prepend_known}
 use Rattle.std.proofs.lemmas.List.{take_all, take-append-le, drop-drop}
 use Rattle.flutejoin.proofs.peeked_source.PeekedSourceSource.read.Goals as goal
@@ -20,15 +20,13 @@ some_left (suc n) e none = omega (arith, none)
 
 pub returns-clause-bytes : goal.returns-clause-bytes
 returns-clause-bytes g c =
-    let front = c.args.self.now.front in
+    let front = take c.args.self.now.first.count c.args.self.now.first.bytes in
     let given = c.args.self.now.given in
-    let size : length front ≡ 4 = search rules in
-    let within : given ≤ 4 = search rules in
-    let left : take (4 - given) (drop given front) ≡ drop given front = take_all (4 - given) (drop given front) (omega (arith, length-drop given front, size, within)) in
-    let count : c.min-count.result ≡ min (length (drop given front)) (length c.args.buffer.now) = c.min-count.ensures ∙ ap (λ xs. min (length xs) (length c.args.buffer.now)) left in
+    let left : c.left-front.result.now ≡ drop given front = c.left-front.ensures in
+    let least : c.min-count.result ≡ min (length (drop given front)) (length c.args.buffer.now) = c.min-count.ensures ∙ ap (λ xs. min (length xs) (length c.args.buffer.now)) left in
     let copy = c.copy_from_slice.ensures.after ∙ ap (take c.min-count.result) left in (
-      given_again (g.R.Source.unread c.args.self.now.source) front c.copy_from_slice.new.self _ given c.min-count.result copy (omega (arith, count)),
-      λ none some.
-          absurd (some_left (length (drop given front)) (c.if-is_empty.ensures ∙ ap (λ xs. length xs == 0) left)
-          (omega (arith, count, none, some, length-append c.copy_from_slice.new.self (drop c.min-count.result c.args.buffer.now), length-drop c.min-count.result c.args.buffer.now, c.copy_from_slice.ensures.len, length-take-le c.min-count.result c.args.buffer.now (omega (arith, count))))),
+      given_again (g.R.Source.unread c.args.self.now.source.now) front c.copy_from_slice.new.self _ given c.min-count.result copy (omega (arith, least)),
+      λ none filled.
+          absurd (some_left (length (drop given front)) (sym c.if-is_empty.false ∙ c.is_empty.ensures ∙ ap (λ xs. length xs == 0) left)
+          (omega (arith, least, none, filled, length-append c.copy_from_slice.new.self (drop c.min-count.result c.args.buffer.now), length-drop c.min-count.result c.args.buffer.now, c.copy_from_slice.ensures.len, length-take-le c.min-count.result c.args.buffer.now (omega (arith, least))))),
     )

@@ -1,0 +1,162 @@
+-- What a join of inputs writes and answers.
+use Rattle.std.specs.Prelude.{◌≡◌, ℕ, ◌+◌, ◌^◌, ◌≤◌, Bool, true, false, List, [], ◌∷◌, length, slice_get, Option, Some, None, ⊤, ◌⊎◌, MatchOption, IfSome}
+use Rattle.std.specs.List.{flat_map, count_by, sum_by, AllByRecursion}
+use Rattle.std.specs.Io.KnownBytes.{Appends}
+use Rattle.flute_parts.specs.Facts.{SameMembers}
+use Rattle.flute_parts.specs.declared.fact.Fact.{Fact}
+use Rattle.flute_journal.specs.Format.{spelling}
+use Rattle.flute_journal.specs.Journal.{Journal, Collects}
+use Rattle.flute_journal.specs.JournalWriters.{Written}
+use Rattle.flute_journal.specs.Kinds.{HasKind, IsNeither}
+use Rattle.flute_journal.specs.Records.{IsFileWithin}
+use Rattle.flute_journal.specs.StreamMerges.{IsWithinLimits}
+use Rattle.flute_journal.specs.Streams.{Behaviour, IsNew}
+use Rattle.flute_journal.specs.Besides.{beside_behaviour}
+use Rattle.flute_journal.specs.Eithers.{either_behaviour}
+use Rattle.flute_journal.specs.declared.beside.Beside.{Beside}
+use Rattle.flute_journal.specs.declared.either.Either.{Either}
+use Rattle.flute_journal.specs.declared.fault.LoadFault.{LoadFault}
+use Rattle.flute_journal.specs.declared.or_full.OrFull.{OrFull}
+use Rattle.flute_journal.specs.declared.or_full.OrFull.TheVariants.{Stream, Full}
+use Rattle.flute_journal.specs.declared.fault.ReadFault.TheVariants.{Read}
+use Rattle.flute_journal.specs.declared.kind.Kind.TheVariants as kinds
+use Rattle.flute_journal.specs.declared.merging.Joined.{Joined as Merged}
+use Rattle.flutejoin.specs.JoinInputs.{JoinInput, left, input_behaviour}
+use Rattle.flutejoin.specs.Joined.{Told, told_facts, told_datagrams, TellAll, TellsWithin, FirstInput, IsKnown, IsFileAt, JoinFails, HoldsDatagrams, FileFails}
+use Rattle.flutejoin.specs.Refused.{is_refused}
+use Rattle.flutejoin.specs.Shelves.{IsOverShelf}
+use Rattle.flutejoin.specs.declared.command_fault.CommandFault.{CommandFault}
+use Rattle.flutejoin.specs.declared.command_fault.CommandFault.TheVariants.{Input, UnknownKind, OutOfMemory, CannotWrite}
+use Rattle.flutejoin.specs.declared.held_file.HeldFile.{HeldFile}
+use Rattle.flutejoin.specs.declared.join_counts.JoinCounts.{JoinCounts}
+use Rattle.flutejoin.specs.declared.limits.TheConstants.{MAX_ENTRIES}
+use Rattle.flutejoin.specs.declared.looking.Looked.{Looked}
+
+-- Each input tells some facts. The journal of all of them was appended, and the numbers are right. Whatever other facts have the same
+-- members, in any order, however often and however grouped: that is their journal too.
+pub record JoinsTo (inputs : List (List ℕ)) (counts : JoinCounts) (old new : Option (List ℕ)) : Type 0 where
+  pub told : List Told
+  pub tell : TellAll inputs told
+  pub entries : List Fact
+  pub collects : Collects (flat_map told_facts told) entries
+  pub within : ¬ IsOverShelf (flat_map told_facts told)
+  pub count : counts.entries ≡ length entries
+  pub datagrams : counts.datagrams ≡ length (flat_map told_datagrams told)
+  pub refused : counts.refused ≡ count_by is_refused (flat_map told_datagrams told)
+  pub appended : Appends old new (spelling entries)
+  pub as_others : (others : List Fact) → SameMembers (flat_map told_facts told) others → (bytes : List ℕ) → Journal bytes others → Appends old new bytes
+
+-- each tells facts within the limits of a store, and so do all together
+pub record AllTell (inputs : List (List ℕ)) : Type 0 where
+  pub told : List Told
+  pub tell : TellAll inputs told
+  pub alone : AllByRecursion TellsWithin inputs
+  pub together : ¬ IsOverShelf (flat_map told_facts told)
+
+-- why inputs were not joined: as those in memory; or a device failed, the sink only where all the inputs could be joined
+pub data JoinToFails (inputs : List (List ℕ)) (fault : CommandFault) : Type 0 where
+  of_inputs : JoinFails inputs fault → JoinToFails inputs fault
+  of_device : (number : ℕ) → fault ≡ Input number Read → FirstInput IsKnown (λ bytes. ⊤) number inputs → JoinToFails inputs fault
+  of_sink : fault ≡ CannotWrite → AllTell inputs → JoinToFails inputs fault
+
+-- What the parts of a join answer.
+
+-- the number that a fault of reading tells is that of the input
+abbrev pub NamesOnly : ℕ → CommandFault → Type 0
+NamesOnly number (Input told fault) = told ≡ number
+NamesOnly number (UnknownKind told) = told ≡ number
+NamesOnly number CannotWrite = ⊥
+NamesOnly number _ = ⊤
+
+-- the number that a fault tells is that of one of so many inputs, from 1
+abbrev pub NamesOneOf : ℕ → CommandFault → Type 0
+NamesOneOf count (Input told fault) = (1 ≤ told) × (told ≤ count)
+NamesOneOf count (UnknownKind told) = (1 ≤ told) × (told ≤ count)
+NamesOneOf count _ = ⊤
+
+-- an input is of no known kind, or a datagram file that was not held
+pub data LookFails (number : ℕ) (bytes : List ℕ) (fault : CommandFault) : Type 0 where
+  of_kind : fault ≡ UnknownKind number → IsNeither bytes → LookFails number bytes fault
+  of_file : HasKind kinds.Datagrams bytes → FileFails number (Some bytes) fault → LookFails number bytes fault
+
+-- so it is with an input, and those before it are known; or there was no memory
+abbrev pub SomeLookFails : List (List ℕ) → CommandFault → Type 0
+SomeLookFails inputs fault = ((number : ℕ) × FirstInput IsKnown (λ bytes. LookFails number bytes fault) number inputs) ⊎ (fault ≡ OutOfMemory)
+
+-- how many datagrams a file has, and refused ones
+abbrev pub datagrams_of : Option HeldFile → ℕ
+datagrams_of None = 0
+datagrams_of (Some file) = file.told.datagrams
+
+abbrev pub refused_of : Option HeldFile → ℕ
+refused_of None = 0
+refused_of (Some file) = file.told.refused
+
+-- a file has at most 16,777,216 datagrams, and no more are refused than there are
+abbrev pub IsFew : Option HeldFile → Type 0
+IsFew file = (datagrams_of file ≤ MAX_ENTRIES) × (refused_of file ≤ datagrams_of file)
+
+-- the numbers are those of all the files
+pub record SumsUp (looked : Looked) : Type 0 where
+  pub datagrams : looked.datagrams ≡ sum_by datagrams_of looked.files.items
+  pub refused : looked.refused ≡ sum_by refused_of looked.files.items
+
+module _ {R : Type 0} (unread : R → Option (List ℕ)) where
+  -- an input was looked at: a datagram file is held, and a journal is still to be read
+  abbrev pub IsLooked : JoinInput R → Option HeldFile → List ℕ → Type 0
+  IsLooked input None bytes = HasKind kinds.Journal bytes × (left unread input.stream.source ≡ Some bytes)
+  IsLooked input (Some file) bytes = (datagrams : List (List ℕ)) × IsFileWithin MAX_ENTRIES bytes datagrams × HoldsDatagrams file datagrams
+
+  pub record AreLooked (inputs : List (JoinInput R)) (files : List (Option HeldFile)) (contents : List (List ℕ)) : Type 0 where
+    pub as_many : length inputs ≡ length contents
+    pub each : (k : ℕ) (input : JoinInput R) (file : Option HeldFile) (bytes : List ℕ) → slice_get inputs k ≡ Some input → slice_get files k ≡ Some file → slice_get contents k ≡ Some bytes
+        → IsLooked input file bytes
+
+  module _ (failures : R → ℕ) where
+    -- of an input that is no datagram file, nothing was read as a journal
+    abbrev pub IsReady : JoinInput R → Option HeldFile → Type 0
+    IsReady input file = file ≡ None → IsNew (input_behaviour unread failures) input × ((input_behaviour unread failures).most input ≡ MAX_ENTRIES) × (input.stream.max_entries ≡ MAX_ENTRIES)
+
+    pub record AreReady (inputs : List (JoinInput R)) (files : List (Option HeldFile)) : Type 0 where
+      pub as_many : length files ≡ length inputs
+      pub each : (k : ℕ) (input : JoinInput R) (file : Option HeldFile) → slice_get inputs k ≡ Some input → slice_get files k ≡ Some file → IsReady input file
+
+-- inputs that were looked at were joined
+pub record JoinsLooked (contents : List (List ℕ)) (files : List (Option HeldFile)) (joined : Merged) (old new : Option (List ℕ)) : Type 0 where
+  pub told : List Told
+  pub tell : TellAll contents told
+  pub alone : AllByRecursion TellsWithin contents
+  pub entries : List Fact
+  pub collects : Collects (flat_map told_facts told) entries
+  pub count : joined.entries ≡ length entries
+  pub limits : IsWithinLimits 64 4096 1048576 (flat_map told_facts told) joined.within
+  pub written : Written joined.cut old new (spelling entries)
+  pub datagrams : sum_by datagrams_of files ≡ length (flat_map told_datagrams told)
+  pub refused : sum_by refused_of files ≡ count_by is_refused (flat_map told_datagrams told)
+
+-- Streams of what was looked at.
+
+-- the stream of what a datagram file tells, which is within the limits of a store: no device of it fails
+pub record IsHeldStream {S : Type 0} (b : Behaviour S) (file : HeldFile) (s : S) : Type 0 where
+  pub fits : file.fits ≡ true
+  pub within : ¬ IsOverShelf file.told.store
+  pub new : IsNew b s
+  pub most : b.most s ≤ 2 ^ 40
+  pub tells : (F : List Fact) → b.tells s F → F ≡ file.told.store
+  pub stops : (fault : LoadFault) → b.stops s fault → ⊥
+  pub fails : (now : S) (fault : LoadFault) → b.fails s now (Some fault) → ⊥
+
+module _ {S : Type 0} (b : Behaviour S) where
+  -- so it is, or it is full
+  abbrev pub IsFileStream : HeldFile → OrFull S → Type 0
+  IsFileStream file (Stream s) = IsHeldStream b file s
+  IsFileStream file Full = file.fits ≡ false
+
+  abbrev pub IsStreamOf : Option HeldFile → Option (OrFull S) → Type 0
+  IsStreamOf None None = Unit {0}
+  IsStreamOf (Some file) (Some s) = IsFileStream file s
+  IsStreamOf _ _ = ⊥
+
+-- what is said of inputs as streams, where others stand in the places of some
+abbrev pub joined_behaviour : {R S : Type 0} → (R → Option (List ℕ)) → (R → ℕ) → Behaviour S → Behaviour (Either (JoinInput R) (Beside (JoinInput R) S))
+joined_behaviour unread failures b = either_behaviour (input_behaviour unread failures) (beside_behaviour b)

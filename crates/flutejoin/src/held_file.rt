@@ -1,0 +1,87 @@
+//! Datagram files that are held as what they tell.
+ghost use Rattle.std.specs.Prelude.{◌≡◌, true, ◌≤◌, ◌<◌, ◌+◌, ◌^◌, List, ℕ, ◌++◌, ◌∷◌, [], OnOk, IfOk, IfErr, IfSome};
+ghost use Rattle.flute_journal.specs.Records.{IsFileWithin};
+ghost use Rattle.flutejoin.specs.declared.limits.TheConstants.{MAX_ENTRIES};
+ghost use Rattle.flutejoin.specs.declared.command_fault.CommandFault.TheVariants as faults;
+ghost use Rattle.flutejoin.specs.Joined.{HoldsDatagrams, FileFails};
+ghost use Rattle.flutejoin.specs.Show.{FailsToRead};
+
+use crate::command_fault::{CommandFault, at_input};
+use crate::joined::Joined;
+use crate::limits::MAX_ENTRIES;
+use flute_journal::DatagramReader;
+use flute_journal::laws::a_file_is_read_record_by_record;
+use flute_parts::Source;
+use std::alloc::Global;
+
+/// What a datagram file tells.
+#[derive(Drop)]
+pub(crate) struct HeldFile {
+    /// Its facts, and how many datagrams it has. Where the facts alone are over the limits of a
+    /// store, a part of them.
+    pub(crate) told: Joined,
+    /// Whether all its facts are held.
+    pub(crate) fits: bool,
+}
+
+impl HeldFile {
+    // A file of no datagrams.
+    fn new(alloc: Global) -> HeldFile
+        ensures { HoldsDatagrams result [] }
+    {
+        HeldFile {
+            told: Joined::new(alloc),
+            fits: true,
+        }
+    }
+
+    // Takes a datagram, if what came before was held.
+    fn take(&mut self, alloc: Global, datagram: &[u8]) -> Result<(), CommandFault>
+        requires datagrams { self.now.told.datagrams + 1 < 2 ^ 64 }
+        requires refused { self.now.told.refused ≤ self.now.told.datagrams }
+        ensures taken { OnOk result ((before : List (List ℕ)) → HoldsDatagrams self.old before
+            → HoldsDatagrams self.new (before ++ datagram.now ∷ [])) }
+        ensures memory { IfErr result (λ fault. fault ≡ faults.OutOfMemory) }
+    {
+        if !self.fits {
+            return Ok(());
+        }
+        match self.told.take(alloc, datagram) {
+            Err(CommandFault::Full) => {
+                self.fits = false;
+                Ok(())
+            }
+            taken => taken,
+        }
+    }
+}
+
+/// What the datagram file tells that the source holds, at most 16,777,216 records. It is read
+/// record by record, and one record of it is held beside what it tells.
+///
+/// # Errors
+///
+/// `Input` with the number and the fault of the file, or where the source failed or there was no
+/// memory for a datagram; and `OutOfMemory` where there was none for its facts.
+pub(crate) fn read_file<R: Source>(
+    alloc: Global,
+    number: usize,
+    source: &mut R,
+) -> Result<HeldFile, CommandFault>
+    ensures held { IfOk result (λ file. IfSome (R.unread source.old) (λ bytes.
+        (datagrams : List (List ℕ)) × IsFileWithin MAX_ENTRIES bytes datagrams
+        × HoldsDatagrams file datagrams)) }
+    ensures datagrams { IfOk result (λ file. file.told.datagrams ≤ MAX_ENTRIES) }
+    ensures refused { IfOk result (λ file. file.told.refused ≤ file.told.datagrams) }
+    ensures failed { IfErr result (FileFails number (R.unread source.old)) }
+    ensures failures { FailsToRead (R.failures source.old) (R.failures source.new) result }
+{
+    // By this the proof knows what the records so far are of the file.
+    a_file_is_read_record_by_record();
+    let mut file = HeldFile::new(alloc);
+    let mut reader = DatagramReader::new(source, MAX_ENTRIES);
+    while let Some(datagram) = at_input(number, reader.next(alloc))? {
+        file.take(alloc, datagram.as_slice())?;
+    }
+    Ok(file)
+}

@@ -1,0 +1,12 @@
+//! What a join tells in numbers.
+
+/// What a join has written, in numbers.
+#[derive(Clone, Copy, Debug, PartialEq, Eq)]
+pub struct JoinCounts {
+    /// How many datagrams the datagram files among the inputs have.
+    pub datagrams: u64,
+    /// How many of these datagrams are refused. They tell nothing.
+    pub refused: u64,
+    /// The number of the entries of the journal.
+    pub entries: u64,
+}

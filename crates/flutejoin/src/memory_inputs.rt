@@ -1,0 +1,83 @@
+//! Inputs in memory, joined into a store.
+ghost use Rattle.std.specs.Prelude.{◌≡◌, ◌≤◌, length, map, IfOk, IfErr};
+ghost use Rattle.flutejoin.specs.Joined.{Joins, JoinFails};
+ghost use Rattle.flutejoin.specs.Joining.{JoinsTo};
+ghost use Rattle.flutejoin.specs.Memory.{in_memory};
+
+use crate::begun_source::{BegunSource, join_sources};
+use crate::blob::Blob;
+use crate::command_fault::CommandFault;
+use crate::first_bytes::FirstBytes;
+use crate::join_counts::JoinCounts;
+use crate::joined::Joined;
+use flute_journal::laws::{a_journal_has_one_content, a_journal_within_a_bound_is_one};
+use flute_journal::{ReadFault, read_store};
+use flute_parts::{MemorySink, MemorySource, Sink};
+use std::alloc::Global;
+
+/// What all the inputs come to together, each a journal or a datagram file, as [`join_to`] joins
+/// them: into a journal in memory, which is then read into a store. There may be up to 64, and none
+/// comes to the empty store.
+///
+/// # Errors
+///
+/// Those of [`join_to`], but `OutOfMemory` in place of a device's.
+pub fn join_inputs(alloc: Global, inputs: &[Blob]) -> Result<Joined, CommandFault>
+    requires { length inputs.now ≤ 64 }
+    ensures joined { IfOk result (Joins inputs.now) }
+    ensures failed { IfErr result (JoinFails inputs.now) }
+{
+    // By these the proof knows that a journal that was written is read as what it tells.
+    a_journal_has_one_content();
+    a_journal_within_a_bound_is_one();
+    let mut journal = MemorySink::new(alloc);
+    let counts = join_blobs(alloc, inputs, &mut journal)?;
+    let mut written = MemorySource::new(journal.as_slice());
+    match read_store(alloc, &mut written, counts.entries) {
+        Ok(store) => Ok(Joined {
+            store,
+            datagrams: counts.datagrams,
+            refused: counts.refused,
+        }),
+        // nothing is at fault in a journal that was written but want of memory
+        Err(_) => Err(CommandFault::OutOfMemory),
+    }
+}
+
+// Writes the journal of all that the inputs tell.
+fn join_blobs(
+    alloc: Global,
+    inputs: &[Blob],
+    sink: &mut MemorySink,
+) -> Result<JoinCounts, CommandFault>
+    requires { length inputs.now ≤ 64 }
+    ensures joined { IfOk result (λ counts. JoinsTo inputs.now counts
+        (⟦<MemorySink as Sink>⟧.written sink.old) (⟦<MemorySink as Sink>⟧.written sink.new)) }
+    ensures failed { IfErr result (JoinFails inputs.now) }
+{
+    let mut sources = Vec::new(alloc);
+    for input in inputs {
+        let mut source = MemorySource::new(input.as_slice());
+        let Ok(first) = FirstBytes::read(&mut source) else {
+            return Err(CommandFault::OutOfMemory);
+        };
+        if sources.push(BegunSource { first, source }).is_err() {
+            return Err(CommandFault::OutOfMemory);
+        }
+    }
+    match join_sources(alloc, sources, sink) {
+        Ok(counts) => Ok(counts),
+        Err(fault) => Err(in_memory(fault)),
+    }
+}
+
+// Why inputs in memory were not joined: no device of them fails but for want of memory.
+fn in_memory(fault: CommandFault) -> CommandFault
+    ensures { result ≡ in_memory fault }
+{
+    match fault {
+        CommandFault::CannotWrite => CommandFault::OutOfMemory,
+        CommandFault::Input(_, ReadFault::Read) => CommandFault::OutOfMemory,
+        fault => fault,
+    }
+}
