@@ -88,4 +88,13 @@ impl Datagram {
     {
         &self.bytes
     }
+
+    /// The bytes, handed over. It takes no memory.
+    pub fn into_vec(self) -> Vec<u8>
+        ensures items { result.items ≡ self }
+        ensures limit { length self ≤ 65535 }
+    {
+        let Datagram { bytes } = self;
+        bytes
+    }
 }
