@@ -1,9 +1,7 @@
 -- What is read behind the first byte of an entry.
-use Rattle.flute_journal.proofs.Common.{length-bytes_high_first, ◌≡◌, ℕ, ◌<◌, ◌≤◌, Bool, true, false, List, [], ◌∷◌, ◌++◌, length, Option, Result, Ok, Err, inr, refl, ap, ◌∙◌, subst, arith, length-append, Consumes, Consumes-trans, Key, SymbolId, Address, Fact, IsSized, Kind, Fixed, ReadFault, body, entry, end, Fronts, IsFaultOf, IsFaultUpTo, IsWithin, Reads, StaysWithin, told, next_fault, opening_fault, in_bytes, ReadsEnd, IsFact, byte_of, at_place, BodyIs, FixedIs, IsBody, Parses, SymbolIs, fixed_bytes, fixed_size, body_fault, cut_fault, end_fault}
-use Rattle.flute_journal.specs.declared.format.Fixed.TheVariants.{Symbol}
-use Rattle.flute_journal.specs.Input.{Advances}
-use Rattle.flute_journal.proofs.Fronts.{fault-behind, fault_up_to, fault_up_to-behind, fault_found}
-use Rattle.flute_journal.proofs.Parts.{symbol_cut, symbol_within, body_comes, body_least, entry_within, entry_within-short, length-key_bytes}
+use Rattle.flute_journal.proofs.Common.{rules, length-bytes_high_first, ◌≡◌, ℕ, ◌<◌, ◌≤◌, Bool, true, false, List, [], ◌∷◌, ◌++◌, length, Option, Result, Ok, Err, inr, refl, ap, subst, arith, length-append, Consumes, Consumes-trans, Key, SymbolId, Address, Fact, IsSized, Kind, Fixed, ReadFault, body, entry, end, Fronts, IsFaultOf, IsFaultUpTo, IsWithin, Reads, StaysWithin, told, next_fault, opening_fault, in_bytes, ReadsEnd, IsFact, byte_of, at_place, BodyIs, FixedIs, IsBody, Parses, SymbolIs, fixed_bytes, fixed_size, body_fault, cut_fault, end_fault}
+use Rattle.flute_journal.specs.{declared.format.Fixed.TheVariants.{Symbol}, Input.{Advances}}
+use Rattle.flute_journal.proofs.{Fronts.{fault-behind, fault_up_to, fault_up_to-behind, fault_found}, Parts.{symbol_cut, symbol_within, body_comes, body_least, entry_within, entry_within-short, length-key_bytes}}
 
 -- the first bytes of a file
 pub opening_reads : {T : Type 0} (o : List ℕ) (u v : Option (List ℕ)) (failed : Bool) (front : List ℕ) (r : Result T ReadFault) → length o ≡ 6
@@ -50,10 +48,7 @@ end_ends u v w front most took a =
 
 pub body_stops : (limit count : ℕ) (last : Option Address) (k : Kind) (u v w : Option (List ℕ)) (front : List ℕ) (f : ReadFault) → front ≡ byte_of k ∷ [] → count < limit
     → Consumes u v front → IsFaultOf (body_fault last k) v w f → IsFaultUpTo (end count) (next_fault (at_place count last) limit) u w f
-body_stops limit count last k u v w front f is few took h =
-    fault_up_to (end count) (next_fault (at_place count last) limit) u w f
-    (fault-behind u v w front (next_fault (at_place count last) limit) (body_fault last k) f took
-    (λ r. ap (λ (x : List ℕ). next_fault (at_place count last) limit (x ++ r)) is ∙ body_comes limit count last k r few) h)
+body_stops limit count last k u v w front f is few took h = search (rules, fault_up_to, fault-behind, body_comes)
 
 pub body_ends : (k : Kind) (u v w : Option (List ℕ)) (front part : List ℕ) → front ≡ byte_of k ∷ [] → Consumes u v front → Consumes v w part → IsWithin body (IsBody k) part
     → (all : List ℕ) × Consumes u w all × IsWithin entry IsFact all

@@ -1,9 +1,8 @@
 -- What the calls of a reader come to.
-use Rattle.flute_journal.proofs.Common.{◌≡◌, ℕ, true, List, ◌++◌, drop, Option, Some, None, Result, Ok, Err, inr, refl, sym, ap, ◌∙◌, subst, IfSome, Consumes, Consumes-trans, Address, Fact, ReadFault, Stage, Header, Entries, header, entry, end, header_fault, next_fault, at_place, IsFaultOf, StaysWithin, IsFact, ReadsNext, is_open, position, or_else, fault_from, in_opening, in_entry, ReadsFrom, stage_behind, Gives}
+use Rattle.flute_journal.proofs.Common.{rules, ◌≡◌, ℕ, true, List, ◌++◌, drop, Option, Some, None, Result, Ok, Err, inr, refl, ap, IfSome, Consumes, Consumes-trans, Address, Fact, ReadFault, Stage, Header, Entries, header, entry, end, header_fault, next_fault, at_place, IsFaultOf, StaysWithin, IsFact, ReadsNext, is_open, position, or_else, fault_from, in_opening, in_entry, ReadsFrom, stage_behind, Gives}
 use Rattle.flute_journal.specs.declared.fault.ReadFault.TheVariants as faults
 use Rattle.flute_journal.specs.Input.{Advances}
-use Rattle.flute_journal.proofs.Fronts.{fault_up_to, fault_up_to-behind}
-use Rattle.flute_journal.proofs.Parts.{header_passes}
+use Rattle.flute_journal.proofs.{Fronts.{fault_up_to, fault_up_to-behind}, Parts.{header_passes}}
 
 known_header : (u : Option (List ℕ)) (p q : List ℕ → Option ReadFault) (f : ReadFault) → IfSome u (λ bs. p bs ≡ Some f) → IfSome u (λ bs. or_else (p bs) (q bs) ≡ Some f)
 known_header None p q f h = tt
@@ -41,14 +40,6 @@ reads_first limit u v w (Err f) took h s = (
 
 pub gives : (limit : ℕ) (old new : Stage) (u v : Option (List ℕ)) (r : Result (Option Fact) ReadFault) → is_open old ≡ true
     → new ≡ stage_behind (position old).count r → ReadsFrom limit old u v r → Gives limit old new u v r
-gives limit old new u v (Ok (Some f)) is_open_before e h =
-    record { open_before = is_open_before; valid = h.0; in_order = h.1; within = h.2; goes_on = e; bytes = h.3 }
+gives limit old new u v (Ok (Some f)) is_open_before e h = search rules
 gives limit old new u v (Ok None) is_open_before e h = record { ended = e; bytes = inr (is_open_before, h.0, h.1) }
 gives limit old new u v (Err f) is_open_before e h = record { stays = e; found = inr (is_open_before, h.0, h.1) }
-
--- the same for a stage that is known by an equation
-pub gives_at : (limit count : ℕ) (at old new : Stage) (u v w : Option (List ℕ)) (r s : Result (Option Fact) ReadFault) → old ≡ at → is_open at ≡ true
-    → count ≡ (position at).count → r ≡ s → v ≡ w → new ≡ stage_behind count r → ReadsFrom limit at u w s → Gives limit old new u v r
-gives_at limit count at old new u v w r s is opened counted gave left behind h =
-    let read : ReadsFrom limit at u v r = subst (λ (x : Option (List ℕ)). ReadsFrom limit at u x r) (sym left) (subst (ReadsFrom limit at u w) (sym gave) h) in
-    subst (λ (x : Stage). Gives limit x new u v r) (sym is) (gives limit at new u v r opened (behind ∙ ap (λ n. stage_behind n r) counted) read)

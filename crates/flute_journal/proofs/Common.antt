@@ -1,8 +1,8 @@
 -- The words that most proofs on journals cite, passed on from one place. Declares nothing.
-pub use Rattle.std.proofs.Common.{Bool, Err, IfErr, IfSome, IsTrue, List, MatchBool, None, Ok, OnOk, Option, Result, Some, [], add-one, ap, append-nil, append_assoc, arith, bytes_eq, drop, drop-cons, drop-drop, drop-set-lt, drop_at, eqb, false, flat_map, get_or, if◌then◌else◌, inl, inr, is_eq, is_lt, is_some, le_refl, leb, length, length-append, length-drop, length-set, length-take, length-take-le, lit<, ltb, map, not, refl, rules, slice_get, slice_range, slice_set, subst, suc, sym, take, take-append-drop, take_all, take_at, true, zero, ℕ, ◌%◌, ◌&&◌, ◌*◌, ◌++◌, ◌+◌, ◌-◌, ◌/◌, ◌<◌, ◌^◌, ◌||◌, ◌∙◌, ◌∷◌, ◌≡◌, ◌≢◌, ◌≤◌, ◌⊎◌}
+pub use Rattle.std.proofs.Common.{Bool, Err, IfErr, IfSome, IsTrue, List, MatchBool, None, Ok, OnOk, Option, Result, Some, [], add-one, ap, append-nil, append_assoc, arith, bytes_eq, drop, drop-cons, drop-drop, drop-set-lt, drop_at, eqb, false, flat_map, get_or, if◌then◌else◌, inl, inr, is_eq, is_lt, is_some, le_refl, leb, length, length-append, length-drop, length-set, length-take, length-take-le, lit<, ltb, not, refl, rules, slice_get, slice_range, slice_set, subst, suc, sym, take, take-append-drop, take_all, take_at, true, zero, ℕ, ◌%◌, ◌&&◌, ◌*◌, ◌++◌, ◌+◌, ◌-◌, ◌/◌, ◌<◌, ◌^◌, ◌∙◌, ◌∷◌, ◌≡◌, ◌≢◌, ◌≤◌, ◌⊎◌}
 pub use Rattle.flute_journal.specs.Advances.{AreNew, GoOnAt, GoesOnAt, StopAt, StopsIn}
 pub use Rattle.flute_journal.specs.Eithers.{either_behaviour}
-pub use Rattle.flute_journal.specs.Faults.{Before, Check, body_checks, bytes_checks, cut, end_checks, entry_checks, first_fault, header_fault, id_checks, id_in, in_order, info_checks, info_in, is_after, is_key, is_kind, is_object, key_in, next_fault, object_in, opening_fault, rest_checks}
+pub use Rattle.flute_journal.specs.Faults.{Before, Check, bytes_checks, cut, end_checks, entry_checks, first_fault, header_fault, id_checks, id_in, in_order, info_checks, info_in, is_after, is_key, is_kind, is_object, key_in, next_fault, object_in, opening_fault, rest_checks}
 pub use Rattle.flute_journal.specs.Format.{body, end, entry, header, id_bytes, info_bytes, key_bytes, key_of, kind, magic, object_bytes, rest_bytes, spelling, symbol_bytes, version}
 pub use Rattle.flute_journal.specs.Input.{Fails, FailsIf, Fronts, IsFaultOf, IsFaultUpTo, IsWithin, Reads, StaysWithin, failure, left_by, told}
 pub use Rattle.flute_journal.specs.Journal.{AreEntries, Collects, IsByte, IsFact, IsId, IsInfo, IsJournalWithin, IsKey, IsSymbol, Journal, Stops, before, behind, in_header, last_of}
@@ -15,30 +15,17 @@ pub use Rattle.flute_journal.specs.Numbers.{in_bytes, number_at}
 pub use Rattle.flute_journal.specs.Parsing.{BodyIs, FixedIs, IsBody, IsOfBytes, Parses, StopsFront, SymbolIs, at_place, body_fault, byte_of, bytes_fault, cut_fault, end_fault, fixed_bytes, fixed_size, rest_fault, rest_size}
 pub use Rattle.flute_journal.specs.Readers.{limit_of, source_of, stage_of}
 pub use Rattle.flute_journal.specs.Reading.{Gives, GivesEnd, GivesEntry, GivesFault, IsPart, ReadsEnd, ReadsFrom, ReadsNext, fault_from, in_entry, in_opening, is_open, opening, or_else, position, stage_behind}
-pub use Rattle.flute_journal.specs.Records.{AreDatagrams, FileStops, GivesFileFault, GivesOfFile, GivesRecord, HasFileFault, IsCut, IsDatagram, IsFileFault, IsFileOf, IsFileWithin, ReadsFileFrom, ReadsRecord, file_fault_from, file_header, file_stage_behind, given, in_record, record_checks, record_fault, record_of}
+pub use Rattle.flute_journal.specs.Records.{AreDatagrams, FileStops, GivesFileFault, GivesOfFile, GivesRecord, HasFileFault, IsDatagram, IsFileFault, IsFileOf, IsFileWithin, ReadsFileFrom, ReadsRecord, file_fault_from, file_header, file_stage_behind, given, in_record, record_checks, record_fault, record_of}
 pub use Rattle.flute_journal.specs.SoFar.{Sofar, read_of, stage_at}
-pub use Rattle.flute_journal.specs.Stores.{AddsOnly, BeginsOver, BeginsWith, FailsToLoad, HoldsBoth, IsJournalOf, IsLoadFault, JoinsJournal, refused}
+pub use Rattle.flute_journal.specs.Stores.{BeginsOver, BeginsWith, FailsToLoad, IsJournalOf, IsLoadFault, refused}
 pub use Rattle.flute_journal.specs.StreamMerges.{AppendsNoJournal, AppendsPartOf, BeginWith, CanGoOn, Each, EachSince, FailAs, GaveBefore, IsCounted, IsWithinLimits, MergedAll, NamesInput, NoneFails, OneFails, ReadsAhead, all_of}
 pub use Rattle.flute_journal.specs.Streams.{Advances, Behaviour, Continues, Gave, GoesOn, Stopped, StopsAt, fact_in, heads, most_of, option_list, place_of}
 pub use Rattle.flute_journal.specs.Whole.{HasFault, ReadsPart, StopsAfter}
-pub use Rattle.flute_journal.specs.declared.datagram_reader.FileStage.{FileStage}
-pub use Rattle.flute_journal.specs.declared.datagram_reader.FileStage.TheVariants.{Records}
-pub use Rattle.flute_journal.specs.declared.either.Either.{Either}
-pub use Rattle.flute_journal.specs.declared.either.Either.TheVariants.{First, Second}
-pub use Rattle.flute_journal.specs.declared.fault.LoadFault.{LoadFault}
-pub use Rattle.flute_journal.specs.declared.fault.LoadFault.TheVariants.{Full, OutOfMemory, Read}
-pub use Rattle.flute_journal.specs.declared.fault.ReadFault.{ReadFault}
-pub use Rattle.flute_journal.specs.declared.format.Fixed.{Fixed}
-pub use Rattle.flute_journal.specs.declared.format.Kind.{Kind}
-pub use Rattle.flute_journal.specs.declared.journal_stream.LentStream.{LentStream}
-pub use Rattle.flute_journal.specs.declared.merging.Joined.{Joined}
-pub use Rattle.flute_journal.specs.declared.reader.Stage.{Stage}
-pub use Rattle.flute_journal.specs.declared.reader.Stage.TheVariants.{Ended, Entries, Failed, Header}
-pub use Rattle.flute_journal.specs.declared.streams_fault.InputFault.{InputFault}
-pub use Rattle.flute_journal.specs.declared.streams_fault.StreamsFault.{StreamsFault}
-pub use Rattle.flute_journal.specs.declared.streams_fault.StreamsFault.TheVariants.{Input, Write}
+pub use Rattle.flute_journal.specs.declared.{datagram_reader.FileStage.{FileStage}, datagram_reader.FileStage.TheVariants.{Records}, either.Either.{Either}, either.Either.TheVariants.{First, Second}, fault.LoadFault.{LoadFault}, fault.LoadFault.TheVariants.{Full, Read}, fault.ReadFault.{ReadFault}}
+pub use Rattle.flute_journal.specs.declared.{format.Fixed.{Fixed}, format.Kind.{Kind}, journal_stream.LentStream.{LentStream}, merging.Joined.{Joined}, reader.Stage.{Stage}, reader.Stage.TheVariants.{Ended, Entries, Failed, Header}, streams_fault.InputFault.{InputFault}}
+pub use Rattle.flute_journal.specs.declared.{streams_fault.StreamsFault.{StreamsFault}, streams_fault.StreamsFault.TheVariants.{Input, Write}}
 pub use Rattle.flute_parts.proofs.Appended.{AppendsPart-first, AppendsPart-second, Writes-behind}
-pub use Rattle.flute_parts.proofs.Facts.{Below-append, Below-from_Same, Below-itself, Below-trans, Same-append, Same-itself, Same-members, Same-sym, Same-trans, Same-twice, alone, alone-at, alone-elsewhere, fact_at-cons, fact_at-elsewhere, fact_at-here, fact_at-nil}
+pub use Rattle.flute_parts.proofs.Facts.{Below-from_Same, Same-append, Same-itself, Same-members, Same-sym, Same-trans, Same-twice, alone, alone-at, alone-elsewhere, fact_at-cons, fact_at-elsewhere, fact_at-here, fact_at-nil}
 pub use Rattle.flute_parts.proofs.Joined.{fact_at-append, joined, joined-apart, joined-assoc, joined-comm, joined-none, joined-same}
 pub use Rattle.flute_parts.proofs.Named.{Over-below}
 pub use Rattle.flute_parts.proofs.Rising.{StandAfter-before, fact_at-after, rising_unique}
@@ -47,24 +34,15 @@ pub use Rattle.flute_parts.specs.BigEndian.{big_endian}
 pub use Rattle.flute_parts.specs.Devices.{AppendsPart}
 pub use Rattle.flute_parts.specs.Equality.{address_itself, address_same, fact_same}
 pub use Rattle.flute_parts.specs.Facts.{Below, IsRising, Same, SameMembers, StandAfter, conflict_at, conflict_in, fact_at, same_fact}
-pub use Rattle.flute_parts.specs.Information.{Information, info_fault, information}
+pub use Rattle.flute_parts.specs.Information.{Information, info_fault}
 pub use Rattle.flute_parts.specs.Limits.{Over, more_objects, more_sessions, more_symbols}
 pub use Rattle.flute_parts.specs.ObjectName.{IsObjectName, instance_of, toi_of}
 pub use Rattle.flute_parts.specs.Order.{address_cmp, same_address}
 pub use Rattle.flute_parts.specs.Session.{session}
 pub use Rattle.flute_parts.specs.Tally.{Counts}
 pub use Rattle.flute_parts.specs.Totality.{address_total}
-pub use Rattle.flute_parts.specs.declared.address.Address.{Address}
-pub use Rattle.flute_parts.specs.declared.address.Part.{Part}
-pub use Rattle.flute_parts.specs.declared.fact.Fact.{Fact}
-pub use Rattle.flute_parts.specs.declared.fact.Fact.TheVariants.{Info, InfoConflict, Symbol, SymbolConflict}
-pub use Rattle.flute_parts.specs.declared.fact.FactRef.{FactRef}
-pub use Rattle.flute_parts.specs.declared.info.InfoFault.{InfoFault}
-pub use Rattle.flute_parts.specs.declared.key.Key.{Key}
-pub use Rattle.flute_parts.specs.declared.object_key.ObjectName.{ObjectName}
-pub use Rattle.flute_parts.specs.declared.object_key.ObjectName.TheVariants.{File, Instance}
-pub use Rattle.flute_parts.specs.declared.symbol_id.SymbolId.{SymbolId}
-pub use Rattle.flute_parts.specs.declared.tally.Tally.{Tally}
+pub use Rattle.flute_parts.specs.declared.{address.Address.{Address}, address.Part.{Part}, fact.Fact.{Fact}, fact.Fact.TheVariants.{Info, InfoConflict, Symbol, SymbolConflict}, fact.FactRef.{FactRef}, info.InfoFault.{InfoFault}, key.Key.{Key}, object_key.ObjectName.{ObjectName}, tally.Tally.{Tally}}
+pub use Rattle.flute_parts.specs.declared.{object_key.ObjectName.TheVariants.{File, Instance}, symbol_id.SymbolId.{SymbolId}}
 pub use Rattle.flute_store.specs.Walk.{IsSized, YieldsFact}
 pub use Rattle.byteorder.specs.Numbers.{length-bytes_high_first}
 pub use Rattle.flute_wire.proofs.BigEndian.{big_from-whole}
@@ -73,11 +51,10 @@ pub use Rattle.std.proofs.Math.ListN.{set}
 pub use Rattle.std.proofs.Math.Nat.{add-mul, div-eq_of_lt, div-one, mod-eq_of_lt, mul-add-div_right, mul-add-mod_self_right, mul-le-mul_right, mul_assoc, one-le-pow, pow-le-pow_right, pow-succ'}
 pub use Rattle.std.proofs.lemmas.Bool.{cases_Bool, cases_lt, eq-eqb, eqb-false, eqb-true, false≢true, le-leb, le-ltb, leb-false, leb-true, lt-leb, lt-ltb, ltb-false, ltb-true, ne_eqb}
 pub use Rattle.std.proofs.lemmas.Grind.{flat_map-append}
-pub use Rattle.std.proofs.lemmas.List.{flat_map_more, length-map, nil_from_length, take_more, take_more_set}
+pub use Rattle.std.proofs.lemmas.List.{flat_map_more, nil_from_length, take_more, take_more_set}
 pub use Rattle.std.proofs.lemmas.Option.{get_or_from_slice_get, none-some, same_Some, slice_get_within}
 pub use Rattle.std.proofs.lemmas.Result.{err_from_is_err_and}
 pub use Rattle.std.proofs.lemmas.Slice.Eq.{bytes_eq-Decides}
 pub use Rattle.std.specs.Io.KnownBytes.{Appends, Consumes, IsAtEnd, Keeps}
 pub use Rattle.std.specs.List.{AllByRecursion, IsSplitAt}
-pub use Rattle.std.specs.declared.cmp.Ordering.{Ordering}
-pub use Rattle.std.specs.declared.cmp.Ordering.TheVariants.{Equal, Greater, Less}
+pub use Rattle.std.specs.declared.{cmp.Ordering.{Ordering}, cmp.Ordering.TheVariants.{Equal, Greater, Less}}

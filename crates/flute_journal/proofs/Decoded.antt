@@ -1,9 +1,8 @@
 -- What the functions that decode come to, of plain bytes.
-use Rattle.flute_journal.proofs.Common.{◌≡◌, ℕ, ◌-◌, ◌≤◌, true, false, not, List, ◌∷◌, ◌++◌, length, take, drop, take_all, Option, Result, Ok, Err, sym, ap, ◌∙◌, subst, append_assoc, arith, nil_from_length, length-drop, take-append-drop, append-nil, take_at, bytes_eq-Decides, bytes_eq, AllByRecursion, IsSplitAt, big_endian, Information, Key, Address, Kind, Fixed, ReadFault, in_bytes, key_bytes, info_bytes, cut, is_key, key_in, info_in, opening_fault, rest_checks, IsByte, IsKey, rest_size, fixed_size, byte_of, at_place, fixed_bytes, FixedIs, StopsFront, Parses, rest_fault, body_fault, bytes_fault}
+use Rattle.std.specs.Result.{is_ok, is_err}
+use Rattle.flute_journal.proofs.Common.{err_from_is_err_and, rules, ◌≡◌, ℕ, ◌-◌, ◌≤◌, true, false, if◌then◌else◌, not, List, [], ◌∷◌, ◌++◌, length, take, drop, take_all, Option, Result, Ok, Err, sym, ap, ◌∙◌, subst, append_assoc, arith, nil_from_length, length-drop, take-append-drop, append-nil, take_at, bytes_eq-Decides, bytes_eq, AllByRecursion, IsSplitAt, big_endian, Information, Key, Address, Kind, Fixed, ReadFault, in_bytes, key_bytes, info_bytes, cut, is_key, key_in, info_in, opening_fault, rest_checks, IsByte, IsKey, rest_size, fixed_size, byte_of, at_place, fixed_bytes, FixedIs, StopsFront, Parses, rest_fault, body_fault, bytes_fault}
 use Rattle.flute_journal.specs.declared.fault.ReadFault.TheVariants as faults
-use Rattle.flute_journal.proofs.Numbers.{octets-take, spelled, spelled_pair}
-use Rattle.flute_journal.proofs.Fronts.{stops_here, stops_behind}
-use Rattle.flute_journal.proofs.Parts.{version_wrong, key_comes, size_split, first-pass, first-stop, cut-passes, key_spelled, info_spelled, length_none, length-key_bytes}
+use Rattle.flute_journal.proofs.{Numbers.{octets-take, spelled, spelled_pair}, Fronts.{stops_here, stops_behind}, Parts.{symbol_comes, version_wrong, key_comes, size_split, first-pass, first-stop, cut-passes, key_spelled, info_spelled, length_none, length-key_bytes}}
 
 pub joined : (bs a b : List ℕ) (n : ℕ) → IsSplitAt bs n a b → bs ≡ a ++ b
 joined bs a b n s = sym (take-append-drop n bs) ∙ ap (λ (x : List ℕ). x ++ drop n bs) (sym s.1) ∙ ap (λ (x : List ℕ). a ++ x) (sym s.2)
@@ -58,9 +57,7 @@ pub behind_key : (k : Kind) (last : Option Address) (key : Key) (bs b : List ℕ
     → Parses (rest_size k) (λ x. FixedIs last k x × (fixed_bytes x ≡ key_bytes key ++ b)) (rest_fault last k key) b r
     → Parses (fixed_size k) (λ x. FixedIs last k x × (fixed_bytes x ≡ bs)) (body_fault last k) bs r
 behind_key k last key bs b (Ok x) p is h = (h.0, h.1 ∙ sym is)
-behind_key k last key bs b (Err f) p is h =
-    stops_behind (fixed_size k) (rest_size k) (body_fault last k) (rest_fault last k key) bs (key_bytes key) b f is (omega (arith, size_split k, length-key_bytes key))
-    (λ r e. key_comes last k key r p ∙ e) h
+behind_key k last key bs b (Err f) p is h = search (rules, stops_behind, size_split, length-key_bytes, key_comes)
 
 -- the same for a kind that is known by an equation
 pub parsed_at : (kind k : Kind) (last : Option Address) (key : Key) (bs a b : List ℕ) (r : Result Fixed ReadFault) → kind ≡ k → IsSplitAt bs 21 a b → AllByRecursion IsByte bs
@@ -72,3 +69,11 @@ parsed_at kind k last key bs a b r e s h passes is valid p =
     joined bs a b 21 s ∙ ap (λ (x : List ℕ). x ++ b) (sym (key_spelled a s.3 (front_octets bs a b 21 s h) passes) ∙ ap key_bytes (sym is)) in
     subst (λ z. Parses (fixed_size z) (λ x. FixedIs last z x × (fixed_bytes x ≡ bs)) (body_fault last z) bs r) (sym e)
     (behind_key k last key bs b r valid spelled_key p)
+
+-- what an appending call that succeeded leaves in an empty vector
+pub appended : {A E : Type 0} (r : Result A E) (now old more : List ℕ) → old ≡ [] → false ≡ is_err r → now ≡ (if is_ok r then old ++ more else old) → now ≡ more
+appended (Ok x) now old more e h is = is ∙ ap (λ xs. xs ++ more) e
+appended (Err x) now old more e h is = cc
+
+-- a symbol whose length is at fault
+pub ruleset symbol_faults = (err_from_is_err_and, stops_behind, symbol_comes)

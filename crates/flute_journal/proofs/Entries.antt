@@ -1,5 +1,5 @@
 -- Entries, one behind the other, are spelled in one way.
-use Rattle.flute_journal.proofs.Common.{none-some, ◌≡◌, ℕ, ◌^◌, ◌<◌, List, ◌∷◌, ◌++◌, length, take, drop, refl, sym, ap, ◌∙◌, append_assoc, arith, cases_lt, le-leb, take_at, drop_at, Information, session, ObjectName, Key, SymbolId, Fact, in_bytes, key_bytes, id_bytes, symbol_bytes, entry, IsKey, IsId, IsInfo, IsSymbol, IsFact}
+use Rattle.flute_journal.proofs.Common.{none-some, ◌≡◌, ℕ, ◌^◌, ◌<◌, List, ◌∷◌, ◌++◌, length, take, drop, refl, sym, ap, ◌∙◌, append_assoc, arith, cases_lt, le-leb, take_at, drop_at, Information, session, ObjectName, Key, SymbolId, Fact, in_bytes, key_bytes, id_bytes, symbol_bytes, entry, IsKey, IsId, IsInfo, IsFact}
 use Rattle.flute_journal.proofs.Numbers.{in_bytes-injective}
 
 abbrev pub make_key : ℕ → ObjectName → Key
@@ -18,16 +18,17 @@ id-injective a b x y p q e = grind (arith, append_assoc, in_bytes-injective)
 pub length_fits : (i : Information) → IsInfo i → i.transfer_length < 2 ^ 48
 length_fits i p = grind (arith, cases_lt, le-leb, none-some)
 
-symbol-injective : (a b : List ℕ) (x y : List ℕ) → IsSymbol a → IsSymbol b → symbol_bytes a ++ x ≡ symbol_bytes b ++ y → (a ≡ b) × (x ≡ y)
-symbol-injective a b x y p q e =
+-- bytes behind their number are read in one way, whatever follows them
+pub counted-injective : (a b x y : List ℕ) → length a < 2 ^ 16 → length b < 2 ^ 16 → symbol_bytes a ++ x ≡ symbol_bytes b ++ y → (a ≡ b) × (x ≡ y)
+counted-injective a b x y p q e =
     let grouped = sym (append_assoc (in_bytes 2 (length a)) a x) ∙ e ∙ append_assoc (in_bytes 2 (length b)) b y in
-    let s = in_bytes-injective 2 (length a) (length b) (a ++ x) (b ++ y) (omega (arith, p.short)) (omega (arith, q.short)) grouped in
+    let s = in_bytes-injective 2 (length a) (length b) (a ++ x) (b ++ y) (omega (arith, p)) (omega (arith, q)) grouped in
     let front : a ≡ b = sym (take_at a x (length a) refl) ∙ ap (take (length a)) s.1 ∙ take_at b y (length a) (sym s.0) in
     let back : x ≡ y = sym (drop_at a x (length a) refl) ∙ ap (drop (length a)) s.1 ∙ drop_at b y (length a) (sym s.0) in
     (front, back)
 
-pub entry-injective : (f g : Fact) (x y : List ℕ) → IsFact f → IsFact g → entry f ++ x ≡ entry g ++ y → (f ≡ g) × (x ≡ y)
-entry-injective f g x y p q e = grind (arith, append_assoc, key-injective, length_fits, in_bytes-injective, id-injective, symbol-injective)
+pub entry_injective : (f g : Fact) (x y : List ℕ) → IsFact f → IsFact g → entry f ++ x ≡ entry g ++ y → (f ≡ g) × (x ≡ y)
+entry_injective f g x y p q e = grind (arith, append_assoc, key-injective, length_fits, in_bytes-injective, id-injective, counted-injective)
 
 pub not_end : (f : Fact) (x y : List ℕ) → 255 ∷ x ≡ entry f ++ y → ⊥
 not_end f x y e = grind (arith)

@@ -1,9 +1,6 @@
 -- What stands where bytes have no fault: they are a journal, or stop at one.
 use Rattle.flute_journal.proofs.Common.{◌≡◌, true, ℕ, zero, suc, ◌<◌, ◌≤◌, List, [], ◌∷◌, ◌++◌, length, take, drop, take_all, Option, Some, None, IsTrue, inl, inr, ◌⊎◌, refl, sym, ap, ◌∙◌, subst, append_assoc, arith, flat_map, AllByRecursion, length-append, length-drop, take-append-drop, drop-drop, flat_map_more, bytes_eq-Decides, address, Address, Fact, ReadFault, header, entry, is_after, opening_fault, header_fault, next_fault, IsByte, IsFact, AreEntries, IsJournalWithin, Stops, in_header, behind, last_of, before, none-some, ◌^◌, Bool, false, not, ◌&&◌, eqb, leb, ltb, if◌then◌else◌, pow-le-pow_right, cases_Bool, ltb-true, ltb-false, leb-true, leb-false, eqb-true, eqb-false, length-take, length-take-le, big_endian, info_fault, InfoFault, Key, Info, InfoConflict, Symbol, SymbolConflict, Kind, in_bytes, number_at, key_bytes, id_bytes, info_bytes, symbol_bytes, rest_bytes, body, end, kind, key_of, first_fault, is_key, key_in, id_in, info_in, info_checks, end_checks, entry_checks, is_kind, IsKey, IsId, IsSymbol, byte_of, at_place, rest_fault, body_fault}
-use Rattle.flute_journal.proofs.Each.{all_more, all_split}
-use Rattle.flute_journal.proofs.Numbers.{octets-drop, number-below, octets-take, spelled, spelled_pair}
-use Rattle.flute_journal.proofs.MergeRising.{Rises, rising-rises, rises-rising}
-use Rattle.flute_journal.proofs.Parts.{entry_least, body_comes, key_spelled, info_spelled}
+use Rattle.flute_journal.proofs.{Each.{all_more, all_split}, Numbers.{octets-drop, number-below, octets-take, spelled, spelled_pair}, MergeRising.{Rises, rising-rises, rises-rising}, Parts.{entry_least, body_comes, key_spelled, info_spelled}}
 use Rattle.flute_journal.specs.declared.format.Kind.TheVariants as kinds
 
 pub first-none : (b : Bool) (c : ReadFault) (x : Option ReadFault) → (if b then Some c else x) ≡ None → (b ≡ false) × (x ≡ None)

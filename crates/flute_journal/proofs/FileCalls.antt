@@ -1,12 +1,8 @@
 -- What the calls of a reader of datagrams come to.
-use Rattle.flute_journal.proofs.Common.{◌≡◌, ℕ, Bool, true, false, List, [], ◌∷◌, ◌++◌, take, drop, not, Option, Some, None, Result, Ok, Err, inr, refl, sym, ap, ◌∙◌, subst, IfErr, bytes_eq, Consumes, Consumes-trans, ReadFault, FileStage, Records, cut, first_fault, opening_fault, or_else, Parses, StopsFront, IsFaultOf, StaysWithin, left_by, told, file_header, record_of, record_fault, given, file_fault_from, IsDatagram, IsFileFault, in_record, ReadsRecord, ReadsFileFrom, GivesOfFile, file_stage_behind}
+use Rattle.flute_journal.proofs.Common.{rules, arith, ◌≡◌, ℕ, Bool, true, false, List, [], ◌∷◌, ◌++◌, take, drop, not, Option, Some, None, Result, Ok, Err, inr, refl, ap, subst, IfErr, bytes_eq, Consumes, Consumes-trans, ReadFault, FileStage, Records, cut, first_fault, opening_fault, or_else, Parses, StopsFront, IsFaultOf, StaysWithin, left_by, told, file_header, record_of, record_fault, given, file_fault_from, IsDatagram, IsFileFault, in_record, ReadsRecord, ReadsFileFrom, GivesOfFile, file_stage_behind}
 use Rattle.flute_journal.specs.declared.fault.ReadFault.TheVariants as faults
-use Rattle.flute_journal.specs.declared.datagram_reader.FileStage.TheVariants.{Header}
-use Rattle.flute_journal.specs.Input.{Advances}
-use Rattle.flute_journal.specs.Records.{is_open, in_opening}
-use Rattle.flute_journal.proofs.Calls.{fault-first}
-use Rattle.flute_journal.proofs.Fronts.{fault_up_to, fault_up_to-behind}
-use Rattle.flute_journal.proofs.Parts.{opening_comes}
+use Rattle.flute_journal.specs.{declared.datagram_reader.FileStage.TheVariants.{Header}, Input.{Advances}, Records.{is_open, in_opening}}
+use Rattle.flute_journal.proofs.{Calls.{fault-first}, Fronts.{fault_up_to, fault_up_to-behind}, Parts.{opening_comes}}
 
 -- a header has no other faults
 opening_faults : (a b c d : Bool) (f : ReadFault) → first_fault ((a, faults.Cut) ∷ (b, faults.Magic) ∷ (c, faults.Cut) ∷ (d, faults.Version) ∷ []) ≡ Some f → IsFileFault f
@@ -61,14 +57,11 @@ reads_file_first limit u v w (Err f) took h s k = (
 
 pub gives_of_file : (limit : ℕ) (old new : FileStage) (u v : Option (List ℕ)) (r : Result (Option (List ℕ)) ReadFault) → is_open old ≡ true → new ≡ file_stage_behind (given old) r
     → ReadsFileFrom limit old u v r → GivesOfFile limit old new u v r
-gives_of_file limit old new u v (Ok (Some d)) is_open_before e h =
-    record { open_before = is_open_before; valid = h.0; within = h.1; goes_on = e; bytes = h.2 }
+gives_of_file limit old new u v (Ok (Some d)) is_open_before e h = search rules
 gives_of_file limit old new u v (Ok None) is_open_before e h = record { ended = e; bytes = inr (is_open_before, h.0, h.1) }
 gives_of_file limit old new u v (Err f) is_open_before e h = record { stays = e; found = inr (is_open_before, h.0, h.1, h.2) }
 
 -- the same for a stage that is known by an equation
 pub gives_of_file_at : (limit count : ℕ) (at old new : FileStage) (u v w : Option (List ℕ)) (r s : Result (Option (List ℕ)) ReadFault) → old ≡ at → is_open at ≡ true
     → count ≡ given at → r ≡ s → v ≡ w → new ≡ file_stage_behind count r → ReadsFileFrom limit at u w s → GivesOfFile limit old new u v r
-gives_of_file_at limit count at old new u v w r s is opened counted gave left behind h =
-    let read : ReadsFileFrom limit at u v r = subst (λ (x : Option (List ℕ)). ReadsFileFrom limit at u x r) (sym left) (subst (ReadsFileFrom limit at u w) (sym gave) h) in
-    subst (λ (x : FileStage). GivesOfFile limit x new u v r) (sym is) (gives_of_file limit at new u v r opened (behind ∙ ap (λ n. file_stage_behind n r) counted) read)
+gives_of_file_at limit count at old new u v w r s is opened counted gave left behind h = grind (arith, gives_of_file)

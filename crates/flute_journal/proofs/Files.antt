@@ -1,22 +1,13 @@
 -- Bytes are a datagram file, of one list of datagrams, or they stop at a fault.
-use Rattle.flute_journal.proofs.Common.{length-bytes_high_first, none-some, same_Some, ◌≡◌, ℕ, zero, suc, ◌^◌, ◌<◌, ◌≤◌, List, [], ◌∷◌, ◌++◌, length, take, drop, Option, Some, None, inr, ◌⊎◌, refl, sym, ap, ◌∙◌, subst, append_assoc, arith, flat_map, AllByRecursion, leb-false, ltb-false, length-append, length-take-le, take_at, drop_at, take-append-drop, append-nil, flat_map_more, big_endian, ReadFault, in_bytes, opening_fault, IsByte, file_header, record_of, IsDatagram, AreDatagrams, IsFileOf, IsFileWithin, FileStops, record_fault}
-use Rattle.flute_journal.proofs.Sequences.{begins, one_stop, stop_at_bound}
+use Rattle.flute_journal.proofs.Common.{length-bytes_high_first, none-some, same_Some, ◌≡◌, ℕ, zero, suc, ◌^◌, ◌<◌, ◌≤◌, List, [], ◌∷◌, ◌++◌, length, take, drop, Option, Some, None, inr, ◌⊎◌, refl, sym, ap, ◌∙◌, subst, append_assoc, arith, flat_map, AllByRecursion, leb-false, ltb-false, length-append, length-take-le, drop_at, take-append-drop, append-nil, flat_map_more, big_endian, ReadFault, in_bytes, opening_fault, IsByte, file_header, record_of, IsDatagram, AreDatagrams, IsFileOf, IsFileWithin, FileStops, record_fault}
+use Rattle.flute_journal.proofs.{Sequences.{begins, one_stop, stop_at_bound}, Each.{all_split}, Entries.{counted-injective}, Numbers.{number-in_bytes, number-below, octets-take, octets-drop, spelled}, Parts.{opening_comes, first-pass, cut-passes}, Existence.{opening_is, first-none}}
 use Rattle.flute_journal.specs.declared.fault.ReadFault.TheVariants as faults
-use Rattle.flute_journal.proofs.Each.{all_split}
 use Rattle.flute_journal.specs.Records.{in_header, behind}
-use Rattle.flute_journal.proofs.Numbers.{number-in_bytes, number-below, in_bytes-injective, octets-take, octets-drop, spelled}
-use Rattle.flute_journal.proofs.Parts.{opening_comes, first-pass, cut-passes}
-use Rattle.flute_journal.proofs.Existence.{opening_is, first-none}
 use Rattle.flute_journal.proofs.Records.{datagrams_more, record_comes, too_many_records}
 
 -- what a record spells is read in one way, whatever follows it
 pub record-injective : (d e x y : List ℕ) → IsDatagram d → IsDatagram e → record_of d ++ x ≡ record_of e ++ y → (d ≡ e) × (x ≡ y)
-record-injective d e x y v w h =
-    let parts = in_bytes-injective 2 (length d) (length e) (d ++ x) (e ++ y) (omega (arith, v.short)) (omega (arith, w.short))
-    (sym (append_assoc (in_bytes 2 (length d)) d x) ∙ h ∙ append_assoc (in_bytes 2 (length e)) e y) in
-    let front : d ≡ e = sym (take_at d x (length d) refl) ∙ ap (take (length d)) parts.1 ∙ take_at e y (length d) (sym parts.0) in
-    let back : x ≡ y = sym (drop_at d x (length d) refl) ∙ ap (drop (length d)) parts.1 ∙ drop_at e y (length d) (sym parts.0) in
-    (front, back)
+record-injective d e x y v w h = counted-injective d e x y v.short w.short h
 
 pub not_nothing : (d x : List ℕ) → record_of d ++ x ≡ [] → ⊥
 not_nothing d x e = cc

@@ -1,8 +1,7 @@
 -- Streams that are read to their ends, one after another.
-use Rattle.flute_journal.proofs.Common.{same_Some, ◌≡◌, ℕ, zero, suc, ◌+◌, ◌<◌, ◌≤◌, Bool, true, false, List, [], ◌∷◌, length, Option, Some, None, Ok, Err, refl, sym, ap, ◌∙◌, subst, arith, set, length-set, ◌≢◌, slice_get, is_some, Fact, FactRef, LoadFault, Joined, InputFault, StreamsFault, Input, Behaviour, Gave, Advances, fact_in, option_list, AllByRecursion, spelling, IsFact, Written, GaveBefore, CanGoOn, NamesInput, FailAs, OneFails, AppendsNoJournal}
-use Rattle.flute_journal.proofs.MergeBytes.{no_whole_end}
+use Rattle.flute_journal.proofs.Common.{err_from_is_err_and, same_Some, ◌≡◌, ℕ, zero, suc, ◌+◌, ◌<◌, ◌≤◌, Bool, true, false, List, [], ◌∷◌, length, Option, Some, None, Ok, Err, refl, sym, ap, ◌∙◌, subst, arith, set, length-set, ◌≢◌, slice_get, is_some, Fact, FactRef, LoadFault, Joined, InputFault, StreamsFault, Input, Behaviour, Gave, Advances, fact_in, option_list, AllByRecursion, spelling, IsFact, Written, GaveBefore, CanGoOn, NamesInput, FailAs, OneFails, AppendsNoJournal}
+use Rattle.flute_journal.proofs.{MergeBytes.{no_whole_end}, LeadFacts.{set_here, set_elsewhere}}
 use Rattle.flute_journal.specs.FirstFaults.{IsStopOf, HasStopped, TellBefore}
-use Rattle.flute_journal.proofs.LeadFacts.{set_here, set_elsewhere}
 
 pub some_held : (o : Option FactRef) (t : Bool) → t ≡ is_some o → t ≡ true → is_some (fact_in o) ≡ true
 some_held o t e h = grind (arith)
@@ -56,9 +55,9 @@ module _ {S : Type 0} (b : Behaviour S) where
       one None e = absurd cc
       one (Some f) e = refl
 
-  pub read-stops : (k : ℕ) (old now new : List S) (f : LoadFault) → ReadOn k old now → Advances b k now new (Err f) → (start s : S) (F : List Fact) → slice_get old k ≡ Some s → Gave b start s F
+  pub read_stops : (k : ℕ) (old now new : List S) (f : LoadFault) → ReadOn k old now → Advances b k now new (Err f) → (start s : S) (F : List Fact) → slice_get old k ≡ Some s → Gave b start s F
       → IsStopOf b start k new f
-  read-stops k old now new f r a start s F e g =
+  read_stops k old now new f r a start s F e g =
       let h = r.gave start s F e g in
       let same = same_Some h.stream a.before (sym h.is ∙ a.was) in
       let on = a.stops start h.given (subst (λ x. b.passes start x h.given) same h.gave.passes) in
@@ -124,22 +123,21 @@ module _ {S : Type 0} (b : Behaviour S) where
 
   -- one that stopped in a merge
   pub has-stopped : (k : ℕ) (f : LoadFault) (old now : List S) (s : S) → slice_get old k ≡ Some s → b.stops s f → OneFails b k f old now → HasStopped b old now (record { number = k; fault = f })
-  has-stopped zero f (x ∷ old) (t ∷ now) s e h o = record {
-    new = x;
-    was = refl;
-    stop = record { stream = t; is = refl; stops = subst (λ y. b.stops y f) (sym (same_Some x s e)) h; fails = o.0 };
-  }
+  has-stopped zero f (x ∷ old) (t ∷ now) s e h o = grind (arith, same_Some)
   has-stopped (suc k) f (x ∷ old) (t ∷ now) s e h o =
       let r = has-stopped k f old now s e h o.1 in
       record { new = r.new; was = r.was; stop = record { stream = r.stop.stream; is = r.stop.is; stops = r.stop.stops; fails = r.stop.fails } }
   has-stopped k f old now s e h o = absurd o
 
-  pub stopped-of : (fault : StreamsFault) (i : InputFault) (old now : List S) → fault ≡ Input i → NamesInput b old fault → FailAs b {T = Joined} (Err fault) old now → HasStopped b old now i
-  stopped-of fault i old now e n f = grind (arith, has-stopped)
+  pub stopped_of : (fault : StreamsFault) (i : InputFault) (old now : List S) → fault ≡ Input i → NamesInput b old fault → FailAs b {T = Joined} (Err fault) old now → HasStopped b old now i
+  stopped_of fault i old now e n f = grind (arith, has-stopped)
 
-  pub gave-of : (fault : StreamsFault) (i : InputFault) (old now : List S) → fault ≡ Input i → CanGoOn b old now fault → GaveBefore b i.number old now
-  gave-of fault i old now e g = subst (CanGoOn b old now) e g
+  pub gave_of : (fault : StreamsFault) (i : InputFault) (old now : List S) → fault ≡ Input i → CanGoOn b old now fault → GaveBefore b i.number old now
+  gave_of fault i old now e g = subst (CanGoOn b old now) e g
 
 -- where the sink failed, what was appended is no journal
 pub cut_journal : (u v : Option (List ℕ)) (entries : List Fact) (failed : Bool) → AllByRecursion IsFact entries → failed ≡ true → Written failed u v (spelling entries) → AppendsNoJournal u v
 cut_journal u v entries failed valid e w = grind (arith, no_whole_end)
+
+-- a stream that stopped as it was read on
+pub ruleset reads_on = (others_on, err_from_is_err_and, read_stops)

@@ -21,11 +21,11 @@ fault_up_to last fault u v faults.Read h = inl h
 fault_up_to last fault u v f h = h
 
 -- what was read is at fault already
-pub fault-here : (u v : Option (List ℕ)) (front : List ℕ) (whole : List ℕ → Option ReadFault) (o : Option ReadFault)
+pub fault_here : (u v : Option (List ℕ)) (front : List ℕ) (whole : List ℕ → Option ReadFault) (o : Option ReadFault)
     → Consumes u v front → ((r : List ℕ) → whole (front ++ r) ≡ o) → IfSome u (λ bs. whole bs ≡ o)
-fault-here None v front whole o took e = tt
-fault-here (Some x) None front whole o took e = absurd took
-fault-here (Some x) (Some y) front whole o took e = ap whole took ∙ e y
+fault_here None v front whole o took e = tt
+fault_here (Some x) None front whole o took e = absurd took
+fault_here (Some x) (Some y) front whole o took e = ap whole took ∙ e y
 
 -- Fronts alone.
 

@@ -89,3 +89,6 @@ module _ {S : Type 0} (b : Behaviour S) (place : Option Address) where
 
 pub same_length : {S : Type 0} (b : Behaviour S) (k : ℕ) (old new : List S) → (a : Advances b k old new (Ok tt)) → length new ≡ length old
 same_length b k old new a = ap length a.now ∙ length-set old k a.after
+
+-- none went on, one stops, all went on
+pub ruleset goings = (none_went, one_stops, all_went)

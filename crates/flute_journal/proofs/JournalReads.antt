@@ -1,11 +1,8 @@
 -- A journal that is read on is a stream that goes on.
-use Rattle.flute_journal.proofs.Common.{◌≡◌, ℕ, ◌+◌, ◌-◌, ◌≤◌, true, false, Bool, List, [], ◌∷◌, ◌++◌, length, Option, Some, None, Ok, Err, IsTrue, refl, sym, ap, ◌∙◌, subst, inl, inr, append-nil, arith, IfSome, AllByRecursion, flat_map, Consumes, Keeps, Consumes-kept, Consumes-whole, IsRising, Fact, IsSized, ReadFault, LoadFault, Stage, Header, Entries, Ended, Failed, LentStream, header, entry, spelling, FailsIf, IsFact, AreEntries, IsJournalWithin, is_open, position, GivesEnd, GivesFault, Gives, source_of, limit_of, stage_of, Sofar, BeginsWith, HasFault, ReadsBehind, Behaviour, option_list, Continues, GoesOn, StopsAt, ReadWhole, ReadAt, room, IsJournalOfAll, FailsSince, unread_of, journal_behaviour, lent, SameLoans, lent_behaviour}
-use Rattle.flute_journal.proofs.Whole.{ahead-sofar, AtEnd, side-from, open_behind, reads-side, reads-sofar, reads-fault, sofar-fault, read_some}
-use Rattle.flute_journal.proofs.Each.{all_split}
+use Rattle.flute_journal.proofs.Common.{rules, ◌≡◌, ℕ, ◌+◌, ◌-◌, ◌≤◌, true, false, Bool, List, [], ◌∷◌, ◌++◌, length, Option, Some, None, Ok, Err, IsTrue, refl, sym, ap, ◌∙◌, subst, append-nil, arith, IfSome, AllByRecursion, flat_map, Consumes, Keeps, Consumes-kept, Consumes-whole, IsRising, Fact, IsSized, ReadFault, LoadFault, Stage, Header, Entries, Ended, Failed, LentStream, header, entry, spelling, FailsIf, IsFact, AreEntries, IsJournalWithin, is_open, position, GivesEnd, GivesFault, Gives, source_of, limit_of, stage_of, Sofar, BeginsWith, HasFault, ReadsBehind, Behaviour, option_list, Continues, GoesOn, StopsAt, ReadWhole, ReadAt, room, IsJournalOfAll, FailsSince, unread_of, journal_behaviour, lent, SameLoans, lent_behaviour}
+use Rattle.flute_journal.proofs.{Whole.{ahead-sofar, AtEnd, side-from, open_behind, reads-side, reads-sofar, reads-fault, sofar-fault, read_some}, Each.{all_split}, Bodies.{fact_sized}, MergeBytes.{spelling-injective}}
 use Rattle.flute_journal.specs.declared.fault.LoadFault.TheVariants as load
 use Rattle.flute_journal.specs.declared.journal_stream.JournalStream.{JournalStream}
-use Rattle.flute_journal.proofs.Bodies.{fact_sized}
-use Rattle.flute_journal.proofs.MergeBytes.{spelling-injective}
 
 -- what was read, once the next entry or the end was
 abbrev Read : ℕ → Option (List ℕ) → Option (List ℕ) → Stage → List Fact → Option Fact → Type 0
@@ -20,11 +17,7 @@ whole_at limit u w F s = record {
 }
 
 whole_kept : (limit : ℕ) (u v w : Option (List ℕ)) (F : List Fact) → ReadWhole limit u v F → Keeps v w → ReadWhole limit u w F
-whole_kept limit u v w F r k = record {
-  are_entries = r.are_entries;
-  whole = r.whole;
-  read = record { valid = r.read.valid; bytes = r.read.bytes; read = Consumes-kept u v w r.read.bytes r.read.read k; ends = r.read.ends };
-}
+whole_kept limit u v w F r k = search (rules, Consumes-kept)
 
 read_from : (limit : ℕ) (u v w : Option (List ℕ)) (old new : Stage) (es : List Fact) (o : Option Fact) → Sofar limit u v old es → Gives limit old new v w (Ok o)
     → Read limit u w new es o

@@ -1,8 +1,6 @@
 -- The stream that holds a fact below those of all others.
 use Rattle.flute_journal.proofs.Common.{◌≡◌, ℕ, zero, suc, ◌+◌, ◌<◌, ◌≤◌, true, eqb, List, [], ◌∷◌, ◌++◌, length, Option, Some, None, Ok, Err, refl, sym, ap, ◌∙◌, subst, inl, inr, arith, set, cases_Bool, eqb-true, eqb-false, slice_get_within, same_Some, ◌≢◌, IfSome, slice_get, if◌then◌else◌, is_lt, AllByRecursion, Ordering, Less, Greater, address_cmp, address, StandAfter, address_total, Address, Fact, joined, fact_at-append, alone-at, fact_at-cons, fact_at-after, LoadFault, Behaviour, Advances, GoesOn, StopsAt, option_list, place_of, heads, GoOnAt, StopAt, IsBelow, NoneBefore, Leads, StandsAt, lower_of, lower_next, IsNotBefore, Lowest, IsLowest}
-use Rattle.flute_journal.proofs.Each.{all_append}
-use Rattle.flute_journal.proofs.GoingOn.{item_at}
-use Rattle.flute_journal.proofs.LowestFacts.{up_to_itself, up_to_turned, up_to_less, up_to-trans, less_up_to}
+use Rattle.flute_journal.proofs.{Each.{all_append}, GoingOn.{item_at}, LowestFacts.{up_to_itself, up_to_turned, up_to_less, up_to-trans, less_up_to}}
 
 -- The next address.
 
@@ -30,8 +28,8 @@ pub record FirstsFrom {S : Type 0} (b : Behaviour S) (number k : ℕ) (streams :
   pub none_before : (j : ℕ) (s : S) → j < k → slice_get streams j ≡ Some s → j ≢ number → NoneBefore next (b.held s)
 
 module _ {S : Type 0} (b : Behaviour S) (number k : ℕ) (streams : List S) (next : Option Address) where
-  pub firsts-more : (o : Option Fact) → ((s : S) → slice_get streams k ≡ Some s → o ≡ b.held s) → FirstsFrom b number k streams next → FirstsFrom b number (k + 1) streams (lower_next next o)
-  firsts-more o held h = record {
+  pub firsts_more : (o : Option Fact) → ((s : S) → slice_get streams k ≡ Some s → o ≡ b.held s) → FirstsFrom b number k streams next → FirstsFrom b number (k + 1) streams (lower_next next o)
+  firsts_more o held h = record {
     none_before = λ j s l i n. elim (cases_Bool (eqb j k)) [
       | inl e ↦ subst (λ x. NoneBefore (lower_next next o) x) (held s (subst (λ m. slice_get streams m ≡ Some s) (eqb-true j k e) i)) (next-held o)
       | inr e ↦ lowered o (b.held s) (h.none_before j s (omega (arith, l, eqb-false j k e)) i n)
@@ -57,8 +55,8 @@ module _ {S : Type 0} (b : Behaviour S) (number k : ℕ) (streams : List S) (nex
         others = λ j s i n. h.none_before j s (let p = slice_get_within streams j s i in omega (arith, p, all)) i n;
       }
 
-  pub firsts-passed : k ≡ number → FirstsFrom b number k streams next → FirstsFrom b number (k + 1) streams next
-  firsts-passed e h = record { none_before = λ j s l i n. h.none_before j s (omega (arith, l, e, n)) i n }
+  pub firsts_passed : k ≡ number → FirstsFrom b number k streams next → FirstsFrom b number (k + 1) streams next
+  firsts_passed e h = record { none_before = λ j s l i n. h.none_before j s (omega (arith, l, e, n)) i n }
 
 -- What stands above what the leading stream holds.
 

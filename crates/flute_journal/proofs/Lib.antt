@@ -14,7 +14,6 @@ pub mod Existence
 pub mod Whole
 pub mod Saving
 pub mod Loading
-pub mod Joining
 pub mod Records
 pub mod FileCalls
 pub mod Files

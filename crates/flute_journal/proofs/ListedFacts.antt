@@ -1,8 +1,7 @@
 -- Facts in memory are a stream.
 use Rattle.flute_journal.proofs.Common.{◌≡◌, List, [], ◌∷◌, ◌++◌, length, Option, Some, None, refl, sym, ap, ◌∙◌, subst, inl, inr, append_assoc, append-nil, arith, length-append, IfSome, ◌⊎◌, AllByRecursion, address, IsRising, Address, Fact, FactRef, IsSized, YieldsFact, fact_in, option_list, GoesOn}
-use Rattle.flute_journal.proofs.Each.{all_split}
+use Rattle.flute_journal.proofs.{Each.{all_split}, MergeRising.{Rises, rising-rises, rises-rising}}
 use Rattle.flute_journal.specs.Listed.{listed_behaviour}
-use Rattle.flute_journal.proofs.MergeRising.{Rises, rising-rises, rises-rising}
 
 rises_front : (l : Option Address) (xs ys : List Fact) → Rises l (xs ++ ys) → Rises l xs
 rises_front l [] ys r = tt

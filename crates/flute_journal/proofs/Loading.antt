@@ -1,10 +1,9 @@
 -- A store that is read entry by entry.
-use Rattle.flute_journal.proofs.Common.{◌≡◌, ℕ, List, [], ◌∷◌, ◌++◌, Bool, Option, Some, None, Ok, Err, refl, sym, ◌∙◌, subst, append-nil, arith, IfSome, MatchBool, flat_map, Consumes, IsAtEnd, Consumes-trans, Fact, Same, Over, more_sessions, more_objects, more_symbols, Same-itself, Same-sym, Same-trans, Same-append, Below-from_Same, Over-below, ReadFault, Read, FailsIf, Stage, Header, header, entry, AreEntries, is_open, position, GivesEntry, GivesFault, Gives, ReadsPart, IsJournalOf, BeginsOver, FailsToLoad, IsLoadFault, refused, Sofar}
+use Rattle.flute_journal.proofs.Common.{err_from_is_err_and, ◌≡◌, ℕ, List, [], ◌∷◌, ◌++◌, Bool, Option, Some, None, Ok, Err, refl, sym, ◌∙◌, subst, append-nil, arith, IfSome, MatchBool, flat_map, Consumes, IsAtEnd, Consumes-trans, Fact, Same, Over, more_sessions, more_objects, more_symbols, Same-itself, Same-sym, Same-trans, Same-append, Below-from_Same, Over-below, ReadFault, Read, FailsIf, Stage, Header, header, entry, AreEntries, is_open, position, GivesEntry, GivesFault, Gives, ReadsPart, IsJournalOf, BeginsOver, FailsToLoad, IsLoadFault, refused, Sofar}
 use Rattle.flute_join.specs.declared.refusal.JoinRefusal.{JoinRefusal}
 use Rattle.flute_join.specs.declared.refusal.JoinRefusal.TheVariants as join
 use Rattle.flute_journal.specs.Whole.{behind}
-use Rattle.flute_journal.proofs.Parts.{entry_within-short}
-use Rattle.flute_journal.proofs.Whole.{all_read, read_some, not_ended, open_at, sofar-none, sofar-next, sofar-stops}
+use Rattle.flute_journal.proofs.{Parts.{entry_within-short}, Whole.{all_read, read_some, not_ended, open_at, sofar-none, sofar-next, sofar-stops}}
 
 -- these entries were read, and what they come to is held within the limits
 pub record Loaded (s o y limit : ℕ) (first now : Option (List ℕ)) (stage : Stage) (content : List Fact) : Type 0 where
@@ -19,9 +18,9 @@ none-over s o y (more_sessions h) = omega (arith, h)
 none-over s o y (more_objects session h) = omega (arith, h)
 none-over s o y (more_symbols key h) = omega (arith, h)
 
-pub loaded-none : (s o y limit : ℕ) (u v : Option (List ℕ)) (stage : Stage) (content : List Fact) → v ≡ u → stage ≡ Header → content ≡ []
+pub loaded_none : (s o y limit : ℕ) (u v : Option (List ℕ)) (stage : Stage) (content : List Fact) → v ≡ u → stage ≡ Header → content ≡ []
     → Loaded s o y limit u v stage content
-loaded-none s o y limit u v stage content e is c =
+loaded_none s o y limit u v stage content e is c =
     subst (λ (x : Option (List ℕ)). Loaded s o y limit u x stage content) (sym e)
     (subst (λ (x : Stage). Loaded s o y limit u u x content) (sym is)
     (subst (λ (x : List Fact). Loaded s o y limit u u Header x) (sym c)
@@ -73,9 +72,9 @@ entries_at stage = (position stage).count
 
 -- and how often the source failed
 
-pub loaded-failed : (T X : Type 0) (s o y limit : ℕ) (u v : Option (List ℕ)) (stage : Stage) (F : List Fact) (f : ReadFault) (n m k : ℕ) → Loaded s o y limit u v stage F
+pub loaded_failed : (T X : Type 0) (s o y limit : ℕ) (u v : Option (List ℕ)) (stage : Stage) (F : List Fact) (f : ReadFault) (n m k : ℕ) → Loaded s o y limit u v stage F
     → m ≡ n → FailsIf {T = T} (is_open stage) m k (Err f) → FailsToLoad {T = X} n k (Err (Read f))
-loaded-failed T X s o y limit u v stage F f n m k l e h = grind (arith, open_at)
+loaded_failed T X s o y limit u v stage F f n m k l e h = grind (arith, open_at)
 
 -- no failure is counted where something was given
 pub loaded-read : (b : Bool) (n m k : ℕ) → m ≡ n → MatchBool b (k ≡ m) (k ≡ m) → k ≡ n
@@ -100,10 +99,10 @@ loaded-full s o y limit bound u v w z old new F given f join.Full l b e h full =
     loaded-over s o y limit u v w old new F f l (given-entry limit bound v w old new given f b e h) (full refl)
 loaded-full s o y limit bound u v w z old new F given f join.OutOfMemory l b e h full = tt
 
-pub loaded-all : (s o y limit bound : ℕ) (u v w : Option (List ℕ)) (old new : Stage) (F : List Fact) (given : Option Fact) → Loaded s o y limit u v old F
+pub loaded_all : (s o y limit bound : ℕ) (u v w : Option (List ℕ)) (old new : Stage) (F : List Fact) (given : Option Fact) → Loaded s o y limit u v old F
     → bound ≡ limit → given ≡ None → Gives bound old new v w (Ok given) → IsLoaded limit u w F
-loaded-all s o y limit bound u v w old new F None l b e h = grind (arith, not_ended, all_read, Consumes-trans, append-nil)
-loaded-all s o y limit bound u v w old new F (Some f) l b e h = absurd cc
+loaded_all s o y limit bound u v w old new F None l b e h = grind (arith, not_ended, all_read, Consumes-trans, append-nil)
+loaded_all s o y limit bound u v w old new F (Some f) l b e h = absurd cc
 
 pub loaded-stops : (s o y limit bound : ℕ) (u v w : Option (List ℕ)) (old new : Stage) (F : List Fact) (f : ReadFault) → Loaded s o y limit u v old F
     → bound ≡ limit → GivesFault bound old new v w f → IsLoadFault s o y limit u w (Read f)
@@ -126,3 +125,6 @@ refused-part s o y limit bound u v w old new F given f l b e h =
       behind next.are_entries [] (subst (Consumes u w) (read_some l.entries f ∙ sym (append-nil (header ++ flat_map entry es))) next.read)
           (entry_within-short [] (omega arith)),
     )
+
+-- a store before the first entry, at a fault and at the end
+pub ruleset loads = (loaded_none, err_from_is_err_and, loaded_failed, loaded_all)

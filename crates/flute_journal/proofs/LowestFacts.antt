@@ -1,8 +1,7 @@
 -- The lowest address of facts, and what they come to there, fact by fact.
-use Rattle.flute_journal.proofs.Common.{◌≡◌, ℕ, ◌+◌, ◌<◌, true, false, List, [], ◌∷◌, ◌++◌, length, take, get_or, Option, Some, refl, sym, ap, ◌∙◌, subst, append_assoc, append-nil, take_more, get_or_from_slice_get, ◌≢◌, slice_get, AllByRecursion, is_lt, is_eq, Ordering, Less, Equal, Greater, address_cmp, address, fact_at, conflict_in, conflict_at, same_fact, StandAfter, address_same, address_itself, fact_same, address_total, Key, Part, Address, Fact, joined, joined-same, joined-apart, joined-none, fact_at-append, alone-at, alone-elsewhere, fact_at-after, Behaviour, option_list, heads, IsNotBefore, Lowest}
-use Rattle.flute_journal.proofs.Each.{all_append, all_map}
+use Rattle.flute_journal.proofs.Common.{rules, arith, ◌≡◌, ℕ, ◌+◌, ◌<◌, true, false, List, [], ◌∷◌, ◌++◌, length, take, get_or, Option, Some, refl, sym, ap, ◌∙◌, subst, append_assoc, append-nil, take_more, get_or_from_slice_get, ◌≢◌, slice_get, AllByRecursion, is_lt, is_eq, Ordering, Less, Equal, Greater, address_cmp, address, fact_at, conflict_in, conflict_at, same_fact, StandAfter, address_same, address_itself, fact_same, address_total, Key, Part, Address, Fact, joined, joined-same, joined-apart, joined-none, fact_at-append, alone-at, alone-elsewhere, fact_at-after, Behaviour, option_list, heads, IsNotBefore, Lowest}
+use Rattle.flute_journal.proofs.{Each.{all_append, all_map}, GoingOn.{item_at}}
 use Rattle.flute_parts.specs.declared.address.Part.TheVariants.{Info as InfoPart, Symbol as SymbolPart}
-use Rattle.flute_journal.proofs.GoingOn.{item_at}
 
 -- addresses
 
@@ -66,21 +65,11 @@ conflict-place a = conflict-part a.key a.part
 
 -- the fact alone is the lowest
 pub lowest_alone : (facts : List Fact) (f : Fact) → facts ≡ [] → Lowest (facts ++ f ∷ []) f
-lowest_alone facts f none =
-    subst (λ (x : List Fact). Lowest (x ++ f ∷ []) f) (sym none) (record { comes = alone-at f (address f) refl; first = (up_to_itself (address f), tt) })
+lowest_alone facts f none = grind (arith, alone-at, up_to_itself)
 
 -- it stands below the others
 pub lowest_turns : (facts : List Fact) (f g : Fact) → Lowest facts g → address_cmp (address f) (address g) ≡ Less → Lowest (facts ++ f ∷ []) f
-lowest_turns facts f g h less =
-    let a = address f in
-    let below : StandAfter a facts = stand_after a (address g) facts less h.first in
-    record {
-      comes = fact_at-append facts (f ∷ []) a ∙ ap (λ x. joined a x (fact_at (f ∷ []) a)) (fact_at-after a facts below) ∙ alone-at f a refl;
-      first = all_append (IsNotBefore a) facts (f ∷ [])
-          (all_map (IsNotBefore (address g)) (IsNotBefore a) facts
-          (λ x k. up_to-trans a (address g) (address x) Less (address_cmp (address g) (address x)) less refl (up_to_less Less refl) k) h.first)
-          (up_to_itself a, tt);
-    }
+lowest_turns facts f g h less = search (rules, stand_after, fact_at-append, joined, fact_at-after, alone-at, all_append, all_map, up_to-trans, up_to_less, up_to_itself)
 
 -- it stands above the lowest
 pub lowest_stays : (facts : List Fact) (f g : Fact) → Lowest facts g → address_cmp (address f) (address g) ≡ Greater → Lowest (facts ++ f ∷ []) g
@@ -93,13 +82,10 @@ lowest_stays facts f g h greater =
 
 -- what stands there is joined with it
 with_more : (facts : List Fact) (f g : Fact) → Lowest facts g → address f ≡ address g → fact_at (facts ++ f ∷ []) (address g) ≡ joined (address g) (Some g) (Some f)
-with_more facts f g h e =
-    let a = address g in
-    fact_at-append facts (f ∷ []) a ∙ ap (λ x. joined a x (fact_at (f ∷ []) a)) h.comes ∙ ap (joined a (Some g)) (alone-at f a e)
+with_more facts f g h e = grind (arith, fact_at-append, joined, alone-at)
 
 first_more : (facts : List Fact) (f g : Fact) → Lowest facts g → address f ≡ address g → AllByRecursion (IsNotBefore (address g)) (facts ++ f ∷ [])
-first_more facts f g h e =
-    all_append (IsNotBefore (address g)) facts (f ∷ []) h.first (subst (λ x. IsUpTo (address_cmp (address g) x)) (sym e) (up_to_itself (address g)), tt)
+first_more facts f g h e = grind (arith, all_append, up_to_itself)
 
 -- it is the same
 pub lowest_same : (facts : List Fact) (f g : Fact) → Lowest facts g → address_cmp (address f) (address g) ≡ Equal → same_fact g f ≡ true → Lowest (facts ++ f ∷ []) g

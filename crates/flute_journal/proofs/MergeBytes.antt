@@ -1,9 +1,7 @@
 -- Whole entries at the head of a journal.
-use Rattle.flute_journal.proofs.Common.{◌≡◌, ℕ, List, [], ◌∷◌, ◌++◌, length, refl, sym, ap, ◌∙◌, append_assoc, arith, append-nil, flat_map_more, flat_map, AllByRecursion, Fact, in_bytes, header, entry, end, spelling, IsWithin, IsFact, front, written_up_to}
-use Rattle.flute_journal.proofs.Sequences.{GoesOn, begins}
-use Rattle.std.proofs.lemmas.List.{append_cancel_left}
-use Rattle.std.proofs.lemmas.List.Concat.{flat_map-append}
-use Rattle.flute_journal.proofs.Entries.{entry-injective, not_end}
+use Rattle.flute_journal.proofs.{Common.{◌≡◌, ℕ, List, [], ◌∷◌, ◌++◌, length, refl, sym, ap, ◌∙◌, append_assoc, arith, append-nil, flat_map_more, flat_map, AllByRecursion, Fact, in_bytes, header, entry, end, spelling, IsWithin, IsFact, front, written_up_to}, Sequences.{GoesOn, begins}}
+use Rattle.std.proofs.{lemmas.List.{append_cancel_left}, lemmas.List.Concat.{flat_map-append}}
+use Rattle.flute_journal.proofs.Entries.{entry_injective, not_end}
 
 pub front-append : (es fs : List Fact) → front (es ++ fs) ≡ front es ++ flat_map entry fs
 front-append es fs = ap (λ (x : List ℕ). header ++ x) (flat_map-append entry es fs) ∙ sym (append_assoc header (flat_map entry es) (flat_map entry fs))
@@ -21,7 +19,7 @@ written-snoc (e ∷ es) f = refl
 
 pub front-of_spelling : (fs es : List Fact) (x y : List ℕ) → AllByRecursion IsFact fs → AllByRecursion IsFact es
     → front fs ++ x ≡ spelling es ++ y → GoesOn entry fs es x (end (length es) ++ y)
-front-of_spelling fs es x y p q e = grind (arith, begins, entry-injective, not_end, append_assoc)
+front-of_spelling fs es x y p q e = grind (arith, begins, entry_injective, not_end, append_assoc)
 
 by_rest : (fs es rest : List Fact) (x y : List ℕ) → es ≡ fs ++ rest → end (length fs) ++ x ≡ flat_map entry rest ++ (end (length es) ++ y) → es ≡ fs
 by_rest fs es [] x y s t = s ∙ append-nil fs
@@ -58,7 +56,7 @@ no_whole_end M es bs more v w s e b =
 -- What holds nothing behind a whole entry.
 
 pub within_entry : (f : Fact) → IsFact f → IsWithin entry IsFact (entry f)
-within_entry f v g more w e = sym ((entry-injective f g [] more v w (append-nil (entry f) ∙ e)).1)
+within_entry f v g more w e = sym ((entry_injective f g [] more v w (append-nil (entry f) ∙ e)).1)
 
 pub within_end : (n : ℕ) → IsWithin entry IsFact (end n)
 within_end n g more w e = absurd (not_end g (in_bytes 8 n) more e)

@@ -1,7 +1,6 @@
 -- Big-endian numbers and their bytes.
-use Rattle.flute_journal.proofs.Common.{length-bytes_high_first, append-nil, big_from-whole, ◌≡◌, ℕ, zero, suc, ◌+◌, ◌*◌, ◌/◌, ◌%◌, ◌^◌, ◌<◌, ◌≤◌, List, [], ◌∷◌, ◌++◌, length, take, drop, get_or, refl, sym, ap, ◌∙◌, subst, arith, lit<, AllByRecursion, pow-succ', mul-add-div_right, mul-add-mod_self_right, add-mul, mul_assoc, div-eq_of_lt, mod-eq_of_lt, one-le-pow, div-one, mul-le-mul_right, take_at, drop_at, length-take, length-drop, take-append-drop, big_endian, in_bytes, IsByte}
-use Rattle.byteorder.specs.Endian.{big_from}
-use Rattle.byteorder.specs.Numbers.{big_number-reads_back}
+use Rattle.flute_journal.proofs.Common.{big_from-whole, length-bytes_high_first, append-nil, big_from-whole, ◌≡◌, ℕ, zero, suc, ◌+◌, ◌*◌, ◌/◌, ◌%◌, ◌^◌, ◌<◌, ◌≤◌, List, [], ◌∷◌, ◌++◌, length, take, drop, get_or, refl, sym, ap, ◌∙◌, subst, arith, lit<, AllByRecursion, pow-succ', mul-add-div_right, mul-add-mod_self_right, add-mul, mul_assoc, div-eq_of_lt, mod-eq_of_lt, one-le-pow, div-one, mul-le-mul_right, take_at, drop_at, length-take, length-drop, take-append-drop, big_endian, in_bytes, IsByte}
+use Rattle.byteorder.specs.{Endian.{big_from}, Numbers.{big_number-reads_back}}
 use Rattle.std.specs.Int.{byte_at}
 
 pub byte_at-is : (j n : ℕ) → byte_at j n ≡ n / 256 ^ j % 256
@@ -63,3 +62,6 @@ spelled n bs e h = subst (λ k. in_bytes k (big_endian bs) ≡ bs) e (in_bytes-n
 -- two numbers side by side
 pub spelled_pair : (m n : ℕ) (bs : List ℕ) → length bs ≡ m + n → AllByRecursion IsByte bs → in_bytes m (big_endian (take m bs)) ++ in_bytes n (big_endian (drop m bs)) ≡ bs
 spelled_pair m n bs e h = grind (arith, spelled, length-take, octets-take, length-drop, octets-drop, take-append-drop)
+
+-- a number that byteorder read
+pub ruleset number_read = (big_from-whole, number-below, octets)

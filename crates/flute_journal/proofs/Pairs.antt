@@ -1,35 +1,15 @@
 -- A stream of two kinds goes on as its kind does.
-use Rattle.flute_journal.proofs.Common.{◌≡◌, ℕ, List, [], ◌∷◌, ◌++◌, Some, Result, Ok, Err, sym, ap, OnOk, IfErr, slice_get, slice_set, Fact, LoadFault, Either, First, Second, Behaviour, Gave, GoesOn, Stopped, StopsAt, Advances, option_list, either_behaviour}
+use Rattle.flute_journal.proofs.Common.{rules, ◌≡◌, ℕ, List, [], ◌∷◌, ◌++◌, Some, Result, Ok, Err, sym, ap, OnOk, IfErr, slice_get, slice_set, Fact, LoadFault, Either, First, Second, Behaviour, Gave, GoesOn, Stopped, StopsAt, Advances, option_list, either_behaviour}
 
 module _ {A B : Type 0} (a : Behaviour A) (b : Behaviour B) where
   abbrev e : Behaviour (Either A B)
   e = either_behaviour a b
 
   gave_first : (s t : A) (F : List Fact) → Gave a s t F → Gave e (First s) (First t) F
-  gave_first s t F g = record {
-    passes = g.passes;
-    reads = g.reads;
-    reads_held = g.reads_held;
-    fails = g.fails;
-    rising = g.rising;
-    sized = g.sized;
-    ended = g.ended;
-    begins = g.begins;
-    known = g.known;
-  }
+  gave_first s t F g = search rules
 
   gave_second : (s t : B) (F : List Fact) → Gave b s t F → Gave e (Second s) (Second t) F
-  gave_second s t F g = record {
-    passes = g.passes;
-    reads = g.reads;
-    reads_held = g.reads_held;
-    fails = g.fails;
-    rising = g.rising;
-    sized = g.sized;
-    ended = g.ended;
-    begins = g.begins;
-    known = g.known;
-  }
+  gave_second s t F g = search rules
 
   first_on : (x y : A) → GoesOn a x y → (start : Either A B) (F : List Fact) → e.passes start (First x) F → Gave e start (First y) (F ++ option_list (a.held x))
   first_on x y h (First s) F p = gave_first s y (F ++ option_list (a.held x)) (h.gave s F p)

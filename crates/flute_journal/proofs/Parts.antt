@@ -1,7 +1,6 @@
 -- What was spelled passes the checks, part by part.
 use Rattle.flute_journal.proofs.Common.{◌≡◌, ℕ, ◌+◌, ◌<◌, ◌≤◌, ◌^◌, true, false, not, eqb, ltb, List, [], ◌∷◌, ◌++◌, length, take, drop, Option, Some, None, IsTrue, refl, sym, ap, ◌∙◌, append_assoc, arith, lt-leb, le-leb, ne_eqb, eq-eqb, take_at, drop_at, length-append, bytes_eq, slice_get, symbol_address, Key, SymbolId, Address, Fact, Symbol, Kind, big_endian, in_bytes, magic, version, header, key_bytes, id_bytes, rest_bytes, body, entry, key_of, Check, Before, first_fault, cut, id_in, is_after, in_order, is_kind, id_checks, bytes_checks, rest_checks, end_checks, opening_fault, header_fault, next_fault, byte_of, rest_size, fixed_size, at_place, rest_fault, body_fault, bytes_fault, cut_fault, IsBody, IsWithin, IsKey, IsId, IsFact, length-bytes_high_first, zero, suc, take_all, Bool, lt-ltb, le-ltb, length-take, length-drop, take-append-drop, drop-drop, AllByRecursion, IsObjectName, ObjectName, Instance, File, object_bytes, info_bytes, is_key, key_in, is_object, object_in, info_in, info_checks, info_fault, IsByte}
-use Rattle.flute_journal.proofs.Numbers.{number-in_bytes, in_bytes-injective, spelled, octets-take, octets-drop, spelled_pair}
-use Rattle.flute_journal.proofs.Entries.{key-injective, id-injective, make_id, make_key}
+use Rattle.flute_journal.proofs.{Numbers.{number-in_bytes, in_bytes-injective, spelled, octets-take, octets-drop, spelled_pair}, Entries.{key-injective, id-injective, make_id, make_key}}
 use Rattle.flute_journal.specs.declared.format.Kind.TheVariants as kinds
 use Rattle.flute_journal.specs.declared.fault.ReadFault.TheVariants as faults
 

@@ -1,13 +1,9 @@
 -- What was spelled has no fault, and where bytes that begin like a journal stop.
 use Rattle.flute_journal.proofs.Common.{none-some, same_Some, ◌≡◌, ℕ, ◌<◌, ◌≤◌, ◌^◌, true, List, [], ◌∷◌, ◌++◌, length, drop, Option, Some, None, refl, sym, ap, ◌∙◌, subst, append_assoc, arith, flat_map, AllByRecursion, length-append, Information, info_address, symbol_address, Address, Fact, Info, InfoConflict, Symbol, SymbolConflict, address, Same, Below, IsRising, Same-itself, Same-append, Same-twice, Kind, ReadFault, in_bytes, header, key_bytes, id_bytes, info_bytes, symbol_bytes, rest_bytes, entry, end, key_of, spelling, Before, info_in, is_after, next_fault, bytes_fault, byte_of, at_place, rest_fault, IsFact, IsInfo, IsSymbol, Journal, AreEntries, last_of, before, Stops, in_header, behind}
-use Rattle.flute_journal.proofs.Sequences.{begins, one_stop, stop_at_bound}
-use Rattle.flute_journal.proofs.Each.{all_split}
+use Rattle.flute_journal.proofs.{Sequences.{begins, one_stop, stop_at_bound}, Each.{all_split}, Numbers.{number-in_bytes}, MergeRising.{Rises, rising-rises}, Entries.{length_fits, entry_injective, not_end}}
 use Rattle.flute_journal.specs.declared.format.Kind.TheVariants as kinds
 use Rattle.flute_journal.specs.declared.fault.ReadFault.TheVariants as faults
-use Rattle.flute_journal.proofs.Numbers.{number-in_bytes}
-use Rattle.flute_journal.proofs.MergeRising.{Rises, rising-rises}
 use Rattle.flute_journal.proofs.Parts.{id_comes, order_passes, symbol_comes, entry_comes, too_many, end_counts, header_passes, key_valid, first-pass, cut-passes, info_passes, length_passes}
-use Rattle.flute_journal.proofs.Entries.{length_fits, entry-injective, not_end}
 
 info_reads : (i : Information) → IsInfo i → info_in (info_bytes i) ≡ i
 info_reads i p = grind (arith, number-in_bytes, length_fits)
@@ -63,8 +59,8 @@ pub beyond : (limit : ℕ) (es fs : List Fact) (bytes : List ℕ) (f : ReadFault
     → bytes ≡ spelling es → Stops bytes limit fs f → (f ≡ faults.TooMany) × (limit < length es)
 beyond limit es fs bytes f p q small e (in_header none h) = grind (arith, none-some, header_passes)
 beyond limit es fs bytes f p q small e (behind s) =
-    stop_at_bound entry IsFact entry-injective (λ l r. next_fault (before l) limit r) limit fs es s.rest (end (length es)) f (pass limit es p q) (λ x y many. entry-too_many limit (before fs) x y many)
-    (begins entry IsFact entry-injective fs es s.rest (end (length es)) (λ x y. not_end x (in_bytes 8 (length es)) y) s.are_entries.valid p (behind_header _ _ (sym s.whole ∙ e)))
+    stop_at_bound entry IsFact entry_injective (λ l r. next_fault (before l) limit r) limit fs es s.rest (end (length es)) f (pass limit es p q) (λ x y many. entry-too_many limit (before fs) x y many)
+    (begins entry IsFact entry_injective fs es s.rest (end (length es)) (λ x y. not_end x (in_bytes 8 (length es)) y) s.are_entries.valid p (behind_header _ _ (sym s.whole ∙ e)))
     (end-passes limit (length es) (last_of None es) small) s.first
 
 pub Below-more : (F G : List Fact) → Below F (F ++ G)
@@ -74,16 +70,16 @@ Below-more F G = subst (λ (l : List Fact). Same l (F ++ G)) (append_assoc F F G
 pub front-below : (bytes : List ℕ) (F es : List Fact) (rest : List ℕ) → Journal bytes F → AllByRecursion IsFact es → bytes ≡ header ++ flat_map entry es ++ rest → Below es F
 front-below bytes F es rest j p e =
     let all = j.0 in
-    let b = begins entry IsFact entry-injective es all rest (end (length all)) (λ x y. not_end x (in_bytes 8 (length all)) y) p j.1.valid (behind_header _ _ (sym e ∙ j.3)) in
+    let b = begins entry IsFact entry_injective es all rest (end (length all)) (λ x y. not_end x (in_bytes 8 (length all)) y) p j.1.valid (behind_header _ _ (sym e ∙ j.3)) in
     let low : Below es all = subst (Below es) (sym b.items) (Below-more es b.more) in
     let moved = Same-append es es F all (record { each = λ a. refl }) j.1.same in
     record { each = λ a. moved.each a ∙ low.each a ∙ sym (j.1.same.each a) }
 
 -- bytes stop at one fault, behind one list of entries
-pub stops-one : (bytes : List ℕ) (limit : ℕ) (es fs : List Fact) (f g : ReadFault) → Stops bytes limit es f → Stops bytes limit fs g → (es ≡ fs) × (f ≡ g)
-stops-one bytes limit es fs f g (in_header a h) (in_header b k) = (a ∙ sym b, same_Some f g (sym h ∙ k))
-stops-one bytes limit es fs f g (in_header a h) (behind s) = grind (arith, none-some, header_passes)
-stops-one bytes limit es fs f g (behind s) (in_header b k) = grind (arith, none-some, header_passes)
-stops-one bytes limit es fs f g (behind s) (behind t) =
-    one_stop entry IsFact entry-injective (λ l r. next_fault (before l) limit r) es fs s.rest t.rest f g (pass_all limit es s.are_entries) (pass_all limit fs t.are_entries)
+pub stops_one : (bytes : List ℕ) (limit : ℕ) (es fs : List Fact) (f g : ReadFault) → Stops bytes limit es f → Stops bytes limit fs g → (es ≡ fs) × (f ≡ g)
+stops_one bytes limit es fs f g (in_header a h) (in_header b k) = (a ∙ sym b, same_Some f g (sym h ∙ k))
+stops_one bytes limit es fs f g (in_header a h) (behind s) = grind (arith, none-some, header_passes)
+stops_one bytes limit es fs f g (behind s) (in_header b k) = grind (arith, none-some, header_passes)
+stops_one bytes limit es fs f g (behind s) (behind t) =
+    one_stop entry IsFact entry_injective (λ l r. next_fault (before l) limit r) es fs s.rest t.rest f g (pass_all limit es s.are_entries) (pass_all limit fs t.are_entries)
     s.are_entries.valid t.are_entries.valid (behind_header _ _ (sym s.whole ∙ t.whole)) s.first t.first

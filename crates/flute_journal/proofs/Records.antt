@@ -1,16 +1,8 @@
 -- The records of a datagram file.
-use Rattle.flute_journal.proofs.Common.{◌≡◌, ℕ, ◌+◌, ◌^◌, ◌<◌, ◌≤◌, Bool, true, false, leb, List, [], ◌∷◌, ◌++◌, length, take, drop, Option, Some, None, Result, Ok, Err, inl, inr, refl, sym, ap, ◌∙◌, subst, append_assoc, arith, le-leb, lt-leb, lt-ltb, nil_from_length, take_at, drop_at, length-append, append-nil, flat_map_more, flat_map, AllByRecursion, IsSplitAt, Consumes, IsAtEnd, Consumes-trans, Consumes-nil, IfSome, big_endian, ReadFault, FileStage, Records, in_bytes, Check, first_fault, cut, opening_fault, Fronts, IsFaultOf, IsFaultUpTo, IsWithin, StaysWithin, told, IsByte, cut_fault, or_else, file_header, record_of, IsCut, IsDatagram, AreDatagrams, FileStops, HasFileFault, ReadsRecord, record_checks, record_fault, given, file_fault_from, GivesRecord, GivesFileFault, IsFileWithin, length-bytes_high_first}
-use Rattle.flute_journal.proofs.Parts.{first-pass, first-stop, cut-passes, nothing_left, within-short}
-use Rattle.flute_journal.proofs.Each.{all_more}
+use Rattle.flute_journal.proofs.Common.{◌≡◌, ℕ, ◌+◌, ◌^◌, ◌<◌, ◌≤◌, Bool, leb, List, [], ◌∷◌, ◌++◌, length, take, drop, Option, Some, None, Result, Ok, Err, inl, inr, refl, sym, ap, ◌∙◌, subst, append_assoc, arith, le-leb, lt-leb, nil_from_length, take_at, drop_at, length-append, append-nil, flat_map_more, flat_map, AllByRecursion, Consumes, IsAtEnd, Consumes-trans, Consumes-nil, IfSome, big_endian, ReadFault, FileStage, Records, in_bytes, first_fault, cut, opening_fault, Fronts, IsFaultOf, IsFaultUpTo, IsWithin, StaysWithin, told, IsByte, cut_fault, or_else, file_header, record_of, IsDatagram, AreDatagrams, FileStops, HasFileFault, ReadsRecord, record_checks, record_fault, given, file_fault_from, GivesRecord, GivesFileFault, IsFileWithin, length-bytes_high_first}
+use Rattle.flute_journal.proofs.{Parts.{first-pass, first-stop, cut-passes, nothing_left, within-short}, Each.{all_more}, Numbers.{in_bytes-injective}, Fronts.{fault-behind, fault_up_to}, Existence.{opening_is}}
 use Rattle.flute_journal.specs.declared.fault.ReadFault.TheVariants as faults
-use Rattle.flute_journal.specs.declared.datagram_reader.FileStage.TheVariants.{Header, Ended, Failed}
-use Rattle.flute_journal.specs.Input.{Advances}
-use Rattle.flute_journal.specs.Records.{in_header, behind, opening, GivesNone}
-use Rattle.flute_journal.specs.FilesSoFar.{file_stage_at, file_read_of, FileSofar}
-use Rattle.flute_journal.proofs.Numbers.{octets-drop, in_bytes-injective}
-use Rattle.flute_journal.proofs.Decoded.{joined, front_octets}
-use Rattle.flute_journal.proofs.Fronts.{fault-behind, fault_up_to}
-use Rattle.flute_journal.proofs.Existence.{opening_is}
+use Rattle.flute_journal.specs.{declared.datagram_reader.FileStage.TheVariants.{Header, Ended, Failed}, Input.{Advances}, Records.{in_header, behind, opening, GivesNone}, FilesSoFar.{file_stage_at, file_read_of, FileSofar}}
 
 -- a byte follows as many records as there may be
 pub too_many_records : (limit count : ℕ) (front r : List ℕ) → 0 < length front → limit ≤ count → record_fault limit count (front ++ r) ≡ Some faults.TooMany
@@ -42,10 +34,7 @@ record_within-short part few = within-short record_of IsDatagram 2 part (λ d v.
 
 -- no more bytes than the length of a record says
 record_within : (n : ℕ) (front part : List ℕ) → in_bytes 2 n ≡ front → n < 2 ^ 16 → length part ≤ n → IsWithin record_of IsDatagram (front ++ part)
-record_within n front part is small few d more v e =
-    let whole : in_bytes 2 n ++ part ≡ in_bytes 2 (length d) ++ (d ++ more) = ap (λ (x : List ℕ). x ++ part) is ∙ e ∙ append_assoc (in_bytes 2 (length d)) d more in
-    let s = in_bytes-injective 2 n (length d) part (d ++ more) (omega (arith, small)) (omega (arith, v.short)) whole in
-    nothing_left d more (omega (arith, few, s.0, ap length s.1))
+record_within n front part is small few d more v e = grind (arith, append_assoc, in_bytes-injective, nothing_left)
 
 pub length_ends : {T : Type 0} (u v : Option (List ℕ)) (front : List ℕ) (r : Result T ReadFault) → Consumes u v front → length front ≤ 2 → StaysWithin record_of IsDatagram u v r
 length_ends u v front (Ok x) took few = tt
@@ -60,11 +49,6 @@ record_ends n u v w front (Err f) is small took a = (front ++ a.0, Consumes-tran
 pub record_read : (limit count n : ℕ) (u v w : Option (List ℕ)) (front d : List ℕ) → count < limit → in_bytes 2 n ≡ front → n < 2 ^ 16
     → Consumes u v front → length d ≡ n → AllByRecursion IsByte d → Consumes v w d → IsDatagram d × (count < limit) × Consumes u w (record_of d)
 record_read limit count n u v w front d few spells small took size octs rest = grind (arith, Consumes-trans)
-
--- a record at the front of bytes in memory
-pub record_split : (bs field rest d later : List ℕ) (n : ℕ) → IsSplitAt bs 2 field rest → IsSplitAt rest n d later → in_bytes 2 n ≡ field → n < 2 ^ 16 → AllByRecursion IsByte bs
-    → IsDatagram d × (bs ≡ record_of d ++ later)
-record_split bs field rest d later n s t spells small oct = grind (arith, front_octets, octets-drop, joined, append_assoc)
 
 -- A file that is read record by record.
 
@@ -83,29 +67,18 @@ read_more (e ∷ ds) d = flat_map_more record_of file_header (e ∷ ds) d
 pub datagrams_more : (limit : ℕ) (ds : List (List ℕ)) (d : List ℕ) → AreDatagrams limit ds → IsDatagram d → length ds < limit → AreDatagrams limit (ds ++ d ∷ [])
 datagrams_more limit ds d a v few = record { valid = all_more IsDatagram ds d a.valid v; few = omega (arith, few, length-append ds (d ∷ [])) }
 
-pub file_sofar-none : (limit : ℕ) (u : Option (List ℕ)) → FileSofar limit u u Header []
-file_sofar-none limit u = record {
-  are_datagrams = record { valid = tt; few = omega arith };
-  stage_is = refl;
-  read = Consumes-nil u;
-}
+pub file_sofar_none : (limit : ℕ) (u : Option (List ℕ)) → FileSofar limit u u Header []
+file_sofar_none limit u = grind (arith, Consumes-nil)
 
-pub file_sofar-next : (limit : ℕ) (u v w : Option (List ℕ)) (old new : FileStage) (ds : List (List ℕ)) (d : List ℕ) → FileSofar limit u v old ds
+pub file_sofar_next : (limit : ℕ) (u v w : Option (List ℕ)) (old new : FileStage) (ds : List (List ℕ)) (d : List ℕ) → FileSofar limit u v old ds
     → GivesRecord limit old new v w d → FileSofar limit u w new (ds ++ d ∷ [])
-file_sofar-next limit u v w old new ds d s h =
-    let g = subst (λ (x : FileStage). GivesRecord limit x new v w d) s.stage_is h in record {
-      are_datagrams = datagrams_more limit ds d s.are_datagrams g.valid (omega (arith, g.within, given_is ds));
-      stage_is = g.goes_on ∙ ap (λ k. Records (k + 1)) (given_is ds) ∙ stage_more ds d;
-      read = subst (Consumes u w) (read_more ds d) (Consumes-trans u v w (file_read_of ds) (opening (file_stage_at ds) ++ record_of d) s.read g.bytes);
-    }
+file_sofar_next limit u v w old new ds d s h = grind (arith, datagrams_more, given_is, stage_more, read_more, Consumes-trans)
 
 file_whole : (limit : ℕ) (u w : Option (List ℕ)) (ds : List (List ℕ)) → AreDatagrams limit ds → Consumes u w (file_header ++ flat_map record_of ds) → IsAtEnd w
     → IfSome u (λ bytes. IsFileWithin limit bytes ds)
 file_whole limit None w ds a took ended = tt
 file_whole limit (Some x) None ds a took ended = absurd took
-file_whole limit (Some x) (Some z) ds a took ended =
-    let whole = took ∙ ap (λ (l : List ℕ). (file_header ++ flat_map record_of ds) ++ l) ended ∙ append-nil (file_header ++ flat_map record_of ds) in
-    record { file = record { valid = a.valid; bytes_are = whole }; few = a.few }
+file_whole limit (Some x) (Some z) ds a took ended = grind (arith, append-nil)
 
 not_ended : (ds : List (List ℕ)) → file_stage_at ds ≡ Ended → ⊥
 not_ended [] e = cc
@@ -115,9 +88,9 @@ read_all : (ds : List (List ℕ)) → file_read_of ds ++ opening (file_stage_at 
 read_all [] = sym (append-nil file_header)
 read_all (d ∷ ds) = append-nil (file_header ++ flat_map record_of (d ∷ ds))
 
-pub file_sofar-end : (limit : ℕ) (u v w : Option (List ℕ)) (old new : FileStage) (ds : List (List ℕ)) → FileSofar limit u v old ds → GivesNone old new v w
+pub file_sofar_end : (limit : ℕ) (u v w : Option (List ℕ)) (old new : FileStage) (ds : List (List ℕ)) → FileSofar limit u v old ds → GivesNone old new v w
     → IfSome u (λ bytes. IsFileWithin limit bytes ds)
-file_sofar-end limit u v w old new ds s h = grind (arith, not_ended, file_whole, read_all, Consumes-trans)
+file_sofar_end limit u v w old new ds s h = grind (arith, not_ended, file_whole, read_all, Consumes-trans)
 
 not_failed : (ds : List (List ℕ)) (f : ReadFault) → file_stage_at ds ≡ Failed f → ⊥
 not_failed [] f e = cc
@@ -126,10 +99,7 @@ not_failed (d ∷ ds) f e = cc
 from_header : (limit : ℕ) (y : List ℕ) (f : ReadFault) (o : Option ReadFault) → opening_fault file_header y ≡ o → or_else o (record_fault limit 0 (drop 6 y)) ≡ Some f
     → (datagrams : List (List ℕ)) × FileStops y limit datagrams f
 from_header limit y f (Some g) e h = ([], in_header refl (e ∙ h))
-from_header limit y f None e h = (
-  [],
-  behind (record { are_datagrams = record { valid = tt; few = omega arith }; rest = drop 6 y; whole = opening_is file_header y refl e; first = h }),
-)
+from_header limit y f None e h = grind (arith, opening_is)
 
 stops_at : (limit : ℕ) (x y : List ℕ) (ds : List (List ℕ)) (f : ReadFault) → AreDatagrams limit ds → x ≡ file_read_of ds ++ y → file_fault_from (file_stage_at ds) limit y ≡ Some f
     → (datagrams : List (List ℕ)) × FileStops x limit datagrams f
@@ -149,37 +119,20 @@ fault_at limit u v w last ds faults.Read a took h = tt
 fault_at limit u v w last ds faults.OutOfMemory a took h = tt
 fault_at limit u v w last ds f a took h = known_stops limit u v ds f a took h
 
-pub file_sofar-fault : (limit : ℕ) (u v w : Option (List ℕ)) (old new : FileStage) (ds : List (List ℕ)) (f : ReadFault) → FileSofar limit u v old ds
+pub file_sofar_fault : (limit : ℕ) (u v w : Option (List ℕ)) (old new : FileStage) (ds : List (List ℕ)) (f : ReadFault) → FileSofar limit u v old ds
     → GivesFileFault limit old new v w f → HasFileFault limit u f
-file_sofar-fault limit u v w old new ds f s h = elim h.found [
+file_sofar_fault limit u v w old new ds f s h = elim h.found [
   | inl p ↦ absurd (not_failed ds f (sym s.stage_is ∙ p.0))
   | inr p ↦ fault_at limit u v w (opening old) ds f s.are_datagrams s.read (subst (λ (x : FileStage). IsFaultUpTo (opening old) (file_fault_from x limit) v w f) s.stage_is p.1)
 ]
-
-first_of : (c d : Check) → c.1 ≡ faults.Cut → d.0 ≡ true → d.1 ≡ faults.Cut → first_fault (c ∷ d ∷ []) ≡ Some faults.Cut
-first_of (true, f) d e h k = ap Some e
-first_of (false, f) d e h k = first-stop d [] h ∙ ap Some k
-
--- A file that lies in memory, read so far.
-pub record FileRead (limit : ℕ) (file : List ℕ) (datagrams : List (List ℕ)) (rest : List ℕ) : Type 0 where
-  pub are_datagrams : AreDatagrams limit datagrams
-  pub whole : file ≡ file_header ++ flat_map record_of datagrams ++ rest
-
-pub file_read-stops : (limit : ℕ) (file : List ℕ) (ds : List (List ℕ)) (rest : List ℕ) (f : ReadFault) → FileRead limit file ds rest → record_fault limit (length ds) rest ≡ Some f
-    → (datagrams : List (List ℕ)) × FileStops file limit datagrams f
-file_read-stops limit file ds rest f h e = (ds, behind (record { are_datagrams = h.are_datagrams; rest = rest; whole = h.whole; first = e }))
-
-pub many_at : (limit count : ℕ) (rest : List ℕ) → 0 < length rest → limit ≤ count → record_fault limit count rest ≡ Some faults.TooMany
-many_at limit count rest some le = ap (record_fault limit count) (sym (append-nil rest)) ∙ too_many_records limit count rest [] some le
-
-cut_passed : (limit count : ℕ) (rest : List ℕ) → count < limit → IsCut rest → first_fault (record_checks limit count rest) ≡ Some faults.Cut
-cut_passed limit count rest few (inl short) = simp (first-pass, lt-leb, first-stop, lt-ltb)
-cut_passed limit count rest few (inr short) = grind (arith, first-pass, lt-leb, first_of, lt-ltb)
-
-pub cut_at : (limit count : ℕ) (rest : List ℕ) → 0 < length rest → count < limit → IsCut rest → record_fault limit count rest ≡ Some faults.Cut
-cut_at limit count rest some few h = grind (arith, cut_passed)
 
 -- no record: the end of the input, or a source that failed
 pub no_record : (limit count : ℕ) (failed : Bool) (u v : Option (List ℕ)) (front : List ℕ) → Fronts u v 2 failed front → length front ≡ 0
     → ReadsRecord limit count u v (told failed (Ok None))
 no_record limit count failed u v front a none = grind (arith, nil_from_length)
+
+-- a file before its first record, behind one more and at its end
+pub ruleset files_so_far = (file_sofar_none, file_sofar_next, file_sofar_end)
+
+-- what was read of a record
+pub ruleset record_reads = (length_ends, record_ends, record_read)

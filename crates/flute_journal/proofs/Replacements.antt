@@ -1,19 +1,9 @@
 -- Streams of which some are replaced: what stands at a place, and what becomes of it.
-use Rattle.std.proofs.Common.{◌≡◌, ℕ, zero, suc, ◌<◌, List, [], ◌∷◌, length, get_or, Option, Some, None, Result, refl, sym, ap, ◌∙◌, arith}
-use Rattle.std.proofs.lemmas.List.{set-get_or}
-use Rattle.std.proofs.lemmas.Option.{slice_get_read}
-use Rattle.std.specs.Prelude.{OnOk, IfErr, slice_get, slice_set, min}
-use Rattle.flute_parts.specs.declared.fact.Fact.{Fact}
-use Rattle.flute_journal.specs.declared.fault.LoadFault.{LoadFault}
-use Rattle.flute_journal.specs.declared.either.Either.{Either}
-use Rattle.flute_journal.specs.declared.either.Either.TheVariants.{First, Second}
-use Rattle.flute_journal.specs.Streams.{Behaviour, GoesOn, StopsAt, Advances}
-use Rattle.flute_journal.specs.Eithers.{held_either, either_behaviour}
-use Rattle.flute_journal.specs.Besides.{beside_behaviour}
-use Rattle.flute_journal.specs.Replacing.{replaced}
-use Rattle.flute_journal.specs.declared.beside.Beside.{Beside}
-use Rattle.flute_journal.proofs.BesideFacts.{ok_beside, err_beside}
-use Rattle.flute_journal.proofs.Pairs.{first_at, second_at}
+use Rattle.flute_journal.proofs.Common.{rules, ◌≡◌, ℕ, zero, suc, ◌<◌, List, [], ◌∷◌, length, get_or, Option, Some, None, Result, refl, sym, ap, ◌∙◌, arith, OnOk, IfErr, slice_get, slice_set, Fact, LoadFault, Either, First, Second, Behaviour, GoesOn, StopsAt, Advances, either_behaviour}
+use Rattle.std.proofs.{lemmas.List.{set-get_or}, lemmas.Option.{slice_get_read}}
+use Rattle.std.specs.Prelude.{min}
+use Rattle.flute_journal.specs.{Eithers.{held_either}, Besides.{beside_behaviour}, Replacing.{replaced}, declared.beside.Beside.{Beside}}
+use Rattle.flute_journal.proofs.{BesideFacts.{ok_beside, err_beside}, Pairs.{first_at, second_at}}
 
 -- what is read at a place stands there
 there : {X : Type 0} (l : List X) (n : ℕ) (r x : X) → n < length l → r ≡ get_or l n r → r ≡ x → slice_get l n ≡ Some x
@@ -102,7 +92,7 @@ module _ {A B : Type 0} where
 
     pub own_advances : (x z : A) (result : Result (Unit {0}) LoadFault) → r ≡ None → x ≡ get_or xs n x → OnOk result (GoesOn a x z) → IfErr result (StopsAt a x z)
         → Advances (either_behaviour a (beside_behaviour b)) n (replaced xs ys) (replaced (slice_set xs n z) (slice_set ys n (get_or ys n r))) result
-    own_advances x z result e h g s =
-        let d = there ys n r None (below_others xs ys n below) is e in
-        first_at a (beside_behaviour b) x z n (replaced xs ys) (replaced (slice_set xs n z) (slice_set ys n (get_or ys n r))) result (own_there xs ys n x below (there xs n x x (below_streams xs ys n below) h refl) d)
-        (ap (λ l. replaced (slice_set xs n z) l) (set-get_or ys n r) ∙ own_set xs ys n z d) g s
+    own_advances x z result e h g s = search (rules, there, below_others, first_at, own_there, below_streams, set-get_or, own_set)
+
+-- what stands at a place, which each list reaches
+pub ruleset places = (below_others, below_streams, other_held, own_held)

@@ -1,7 +1,6 @@
 -- A store that is written entry by entry.
 use Rattle.flute_journal.proofs.Common.{◌≡◌, ℕ, ◌+◌, Bool, true, List, [], ◌∷◌, ◌++◌, length, Option, sym, ap, ◌∙◌, subst, append_assoc, append-nil, arith, flat_map, AllByRecursion, flat_map-append, length-append, flat_map_more, Fact, IsRising, AppendsPart, rising_unique, AppendsPart-first, header, entry, end, spelling, IsFact, Journal, Written, PutsBytes}
-use Rattle.flute_journal.proofs.Each.{all_more}
-use Rattle.flute_journal.proofs.WrittenSoFar.{written-more}
+use Rattle.flute_journal.proofs.{Each.{all_more}, WrittenSoFar.{written-more}}
 
 -- of these facts some are left, and the others were written behind the header, so many, as far as the sink took them
 pub record Saved (facts left : List Fact) (failed : Bool) (old now : Option (List ℕ)) (count : ℕ) : Type 0 where
@@ -33,14 +32,7 @@ saved-cut facts left b u v count s e =
 
 pub saved-all : (facts left : List Fact) (b d : Bool) (u v w : Option (List ℕ)) (count : ℕ) → Saved facts left b u v count → left ≡ [] → PutsBytes b d v w (end count)
     → Written d u w (spelling facts) × (count ≡ length facts) × AllByRecursion IsFact facts
-saved-all facts left b d u v w count s e h =
-    let all : s.done ≡ facts = sym (append-nil s.done) ∙ ap (λ (x : List Fact). s.done ++ x) (sym e) ∙ sym s.parts in
-    let counted : count ≡ length facts = s.counted ∙ ap length all in (
-      subst (Written d u w) (ap (λ (x : List Fact). header ++ flat_map entry x ++ end count) all ∙ ap (λ (n : ℕ). header ++ flat_map entry facts ++ end n) counted)
-          (written-more b d u v w (header ++ flat_map entry s.done) (end count) s.written h),
-      counted,
-      subst (AllByRecursion IsFact) all s.valid,
-    )
+saved-all facts left b d u v w count s e h = grind (arith, append-nil, written-more)
 
 -- rising facts have no other journal
 pub only-spelling : (facts : List Fact) → IsRising facts → (bytes : List ℕ) → Journal bytes facts → bytes ≡ spelling facts

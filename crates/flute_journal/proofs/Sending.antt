@@ -1,6 +1,5 @@
 -- Datagrams that are written record by record.
-use Rattle.flute_journal.proofs.Common.{◌≡◌, ℕ, zero, suc, ◌+◌, ◌≤◌, List, [], ◌∷◌, ◌++◌, length, drop, Option, Some, None, refl, sym, ap, ◌∙◌, subst, append_assoc, append-nil, arith, slice_get, flat_map, AllByRecursion, Appends, Appends-trans, flat_map-append, nil_from_length, length-append, length-drop, flat_map_more, slice_get_within, get_or_from_slice_get, AppendsPart, AppendsPart-first, AppendsPart-second, file_header, record_of, IsDatagram, IsFileOf}
-use Rattle.std.proofs.Math.Seq.{drop-cons}
+use Rattle.flute_journal.proofs.Common.{◌≡◌, ℕ, zero, suc, ◌+◌, ◌≤◌, List, [], ◌∷◌, ◌++◌, length, drop, Option, Some, None, refl, sym, ap, ◌∙◌, subst, append_assoc, append-nil, arith, slice_get, flat_map, AllByRecursion, Appends, Appends-trans, flat_map-append, nil_from_length, length-append, length-drop, flat_map_more, slice_get_within, get_or_from_slice_get, AppendsPart, AppendsPart-first, AppendsPart-second, file_header, record_of, IsDatagram, IsFileOf, drop-cons}
 use Rattle.flute_journal.proofs.Each.{all_more}
 
 -- the records before a place were written, and nothing else
@@ -14,9 +13,9 @@ pub record Sent (all : List (List ℕ)) (place : ℕ) (old now : Option (List �
 next_one : (all : List (List ℕ)) (place : ℕ) (d : List ℕ) → slice_get all place ≡ Some d → drop place all ≡ d ∷ drop (suc place) all
 next_one all place d e = cc (drop-cons all place d (slice_get_within all place d e), get_or_from_slice_get all place d d e)
 
-pub sent-next : (all : List (List ℕ)) (place : ℕ) (u v w : Option (List ℕ)) (d : List ℕ) → Sent all place u v → slice_get all place ≡ Some d → IsDatagram d
+pub sent_next : (all : List (List ℕ)) (place : ℕ) (u v w : Option (List ℕ)) (d : List ℕ) → Sent all place u v → slice_get all place ≡ Some d → IsDatagram d
     → Appends v w (record_of d) → Sent all (place + 1) u w
-sent-next all place u v w d s e valid h =
+sent_next all place u v w d s e valid h =
     let n : suc place ≡ place + 1 = omega arith in
     record {
       done = s.done ++ d ∷ [];

@@ -1,11 +1,6 @@
 -- Where a merge of streams stands between two turns, and how it ends.
-use Rattle.flute_journal.proofs.Common.{EachSince, written_up_to, none-some, ◌≡◌, ℕ, ◌+◌, ◌<◌, ◌≤◌, ◌^◌, true, false, Bool, List, [], ◌∷◌, ◌++◌, length, Option, Some, None, IsTrue, refl, sym, ap, ◌∙◌, subst, inl, inr, append_assoc, arith, length-append, cases_Bool, AllByRecursion, Appends, Appends-nil, Appends-trans, same_address, address, SameMembers, fact_at, Same, IsRising, Tally, Over, Counts, Over-below, address_same, AppendsPart, Address, Fact, fact_at-nil, fact_at-elsewhere, Same-itself, Same-sym, Same-trans, Same-append, Same-members, Below-from_Same, rising_unique, IsSized, InputFault, StreamsFault, Input, Write, header, entry, end, spelling, is_after, Journal, IsFact, last_of, Collects, Written, PutsBytes, front, Behaviour, heads, most_of, Lowest, GoOnAt, StopsIn, AreNew, all_of, IsWithinLimits, IsCounted, NoneFails, OneFails, MergedAll, AppendsPartOf, ReadsAhead, NamesInput, CanGoOn}
-use Rattle.flute_journal.proofs.Passes.{Below-more}
-use Rattle.flute_journal.proofs.Existence.{rises_more}
-use Rattle.flute_journal.proofs.Each.{all_append, all_more}
-use Rattle.flute_journal.proofs.MergeBytes.{front-snoc, written-begins, written-snoc}
-use Rattle.flute_journal.proofs.MergeRising.{last_of-snoc, rising-rises, rises-rising}
-use Rattle.flute_journal.proofs.WrittenSoFar.{written-more, written-whole, written-part}
+use Rattle.flute_journal.proofs.Common.{rules, EachSince, written_up_to, none-some, ◌≡◌, ℕ, ◌+◌, ◌<◌, ◌≤◌, ◌^◌, true, false, Bool, List, [], ◌∷◌, ◌++◌, length, Option, Some, None, IsTrue, refl, sym, ap, ◌∙◌, subst, inl, inr, append_assoc, arith, length-append, cases_Bool, AllByRecursion, Appends, Appends-nil, Appends-trans, same_address, address, SameMembers, fact_at, Same, IsRising, Tally, Over, Counts, Over-below, address_same, AppendsPart, Address, Fact, fact_at-nil, fact_at-elsewhere, Same-itself, Same-sym, Same-trans, Same-append, Same-members, Below-from_Same, rising_unique, IsSized, InputFault, StreamsFault, Input, Write, header, entry, end, spelling, is_after, Journal, IsFact, last_of, Collects, Written, PutsBytes, front, Behaviour, heads, most_of, Lowest, GoOnAt, StopsIn, AreNew, all_of, IsWithinLimits, IsCounted, NoneFails, OneFails, MergedAll, AppendsPartOf, ReadsAhead, NamesInput, CanGoOn}
+use Rattle.flute_journal.proofs.{Passes.{Below-more}, Existence.{rises_more}, Each.{all_append, all_more}, MergeBytes.{front-snoc, written-begins, written-snoc}, MergeRising.{last_of-snoc, rising-rises, rises-rising}, WrittenSoFar.{put_first, written-more, written-whole, written-part}}
 use Rattle.flute_journal.proofs.StreamTurns.{Run, starts, nows, givens, givens_at, Went, Stays, Turned, turn, new_runs, new_starts, new_nows, new_givens, new_stays, went_stays, given_same, given_length, fewer_all, taken_at, taken_same, taken_some, lowest-sized}
 use Rattle.flute_journal.proofs.StreamStops.{reads_now, none_fails, StoppedAll, stopped_all, short_header, short_entry, short_end, told_whole}
 
@@ -41,22 +36,13 @@ module _ {S : Type 0} (b : Behaviour S) where
   -- where a write failed, behind these entries
   at_write : (patient : Bool) (old now : List S) (w w' : Option (List ℕ)) (read : List (List Fact)) (entries : List Fact) (bytes : List ℕ) → AppendsPartOf b old w w' → EachSince b.reads old now read
       → Collects (all_of read) entries → Appends w w' bytes → (rest : List ℕ) × (bytes ≡ written_up_to entries ++ rest) → Stopping patient old now w w' Write
-  at_write patient old now w w' read entries bytes short reads c a begins =
-      record { short = short; reads_ahead = λ p. record { read = read; reads = reads; entries = entries; collects = c; bytes = bytes; appended = a; begins = begins }; names = tt; can_go_on = tt }
+  at_write patient old now w w' read entries bytes short reads c a begins = search rules
 
   -- and where an input stopped
   at_input : (patient : Bool) (p : Option Address) (runs : List (Run S)) (new : List S) (w w' : Option (List ℕ)) (fault : InputFault) (entries : List Fact) → StoppedAll b p fault.number fault.fault runs new
       → AppendsPartOf b (starts runs) w w' → Collects (all_of (givens_at b p runs)) entries → (patient ≡ false → Appends w w' (written_up_to entries))
       → Stopping patient (starts runs) new w w' (Input fault) × OneFails b fault.number fault.fault (starts runs) new
-  at_input patient p runs new w w' fault entries s short c a = (
-    record {
-      short = short;
-      reads_ahead = λ e. record { read = givens_at b p runs; reads = s.reads; entries = entries; collects = c; bytes = written_up_to entries; appended = a e; begins = refl };
-      names = s.names;
-      can_go_on = s.before;
-    },
-    s.fails,
-  )
+  at_input patient p runs new w w' fault entries s short c a = grind (arith, givens_at)
 
   none_collects : Collects [] []
   none_collects = record { valid = tt; rising = tt; same = Same-itself [] }
@@ -88,9 +74,9 @@ module _ {S : Type 0} (b : Behaviour S) where
   first_turn : (old now : List S) → AreNew b old → GoOnAt b None old now → Turned b None (new_runs b old) now
   first_turn old now n h = turn b None (new_runs b old) now (new_stays b old n) (subst (λ (l : List S). GoOnAt b None l now) (sym (new_nows b old)) h)
 
-  pub state-start : (failed : Bool) (Also : List Fact → Type 0) (old now : List S) (w w' : Option (List ℕ)) → Also [] → AreNew b old → GoOnAt b None old now → Written failed w w' header
+  pub state_start : (failed : Bool) (Also : List Fact → Type 0) (old now : List S) (w w' : Option (List ℕ)) → Also [] → AreNew b old → GoOnAt b None old now → Written failed w w' header
       → State failed Also old now w w' 0
-  state-start failed Also old now w w' also n h a =
+  state_start failed Also old now w w' also n h a =
       let t = first_turn old now n h in
       let e : all_of (givens t.next) ≡ [] = ap all_of t.givens_are ∙ new_givens b old in
       record {
@@ -188,22 +174,9 @@ module _ {S : Type 0} (b : Behaviour S) where
         next_bytes : (next : Bool) (w'' : Option (List ℕ)) → PutsBytes failed next w' w'' (entry g) → Written next w w'' (front (state.joined ++ g ∷ []))
         next_bytes next w'' a = subst (Written next w w'') (front-snoc state.joined g) (written-more failed next w w' w'' (front state.joined) (entry g) state.written a)
 
-        pub state-turn : (next : Bool) (Next : List Fact → Type 0) (new : List S) (w'' : Option (List ℕ)) → ((F : List Fact) → IsRising (F ++ g ∷ []) → Also F → Next (F ++ g ∷ []))
+        pub state_turn : (next : Bool) (Next : List Fact → Type 0) (new : List S) (w'' : Option (List ℕ)) → ((F : List Fact) → IsRising (F ++ g ∷ []) → Also F → Next (F ++ g ∷ []))
             → PutsBytes failed next w' w'' (entry g) → GoOnAt b (Some (address g)) now new → State next Next old new w w'' (count + 1)
-        state-turn next Next new w'' k a h =
-            let t = turn b (Some (address g)) state.runs new next_stays (subst (λ (l : List S). GoOnAt b (Some (address g)) l new) (sym state.nows_are) h) in
-            record {
-              runs = t.next;
-              starts_are = t.starts_are ∙ state.starts_are;
-              nows_are = t.nows_are;
-              joined = state.joined ++ g ∷ [];
-              went = subst (λ p. AllByRecursion (Went b p) t.next) (sym (last_of-snoc None state.joined g)) t.went;
-              collects = subst (λ l. Collects (all_of l) (state.joined ++ g ∷ [])) (sym t.givens_are) collects_next;
-              few = grind (arith, given_length, taken_some, nows, length-append);
-              written = next_bytes next w'' a;
-              count_is = omega (arith, state.count_is, length-append state.joined (g ∷ []));
-              also = k state.joined rising_next state.also;
-            }
+        state_turn next Next new w'' k a h = grind (arith, turn, next_stays, last_of-snoc, collects_next, given_length, taken_some, nows, length-append, next_bytes, rising_next)
 
         pub stop_entry : (patient : Bool) (w'' : Option (List ℕ)) → failed ≡ false → AppendsPart w' w'' (entry g) → Stopping patient old now w w'' Write
         stop_entry patient w'' good a =
@@ -268,3 +241,6 @@ module _ {S : Type 0} (b : Behaviour S) where
         written = whole state none next w'' a;
         as_others = others_too state none next w'' a;
       })
+
+-- the first state, and the one behind a turn
+pub ruleset turns = (state_start, put_first, state_turn)

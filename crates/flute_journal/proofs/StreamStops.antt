@@ -1,8 +1,6 @@
 -- A merge that stops: what was read of each stream, and what was appended.
 use Rattle.flute_journal.proofs.Common.{same_Some, ◌≡◌, ℕ, zero, suc, false, List, [], ◌∷◌, ◌++◌, length, Option, Some, None, refl, sym, ap, ◌∙◌, subst, inl, inr, append_assoc, append-nil, arith, cases_Bool, length-append, ◌≢◌, slice_get, flat_map, AllByRecursion, Appends, same_address, address, fact_at, address_same, Address, Fact, Same-sym, Same-trans, joined, fact_at-append, rising_unique, LoadFault, is_after, header, entry, end, spelling, IsFact, Collects, front, Behaviour, Continues, option_list, place_of, heads, IsNotBefore, GoesOnAt, StopAt, all_of, Each, EachSince, NoneFails, OneFails, GaveBefore, AppendsPartOf}
-use Rattle.flute_journal.proofs.Each.{all_split}
-use Rattle.flute_journal.proofs.MergeBytes.{front-append, no_end, no_whole_end}
-use Rattle.flute_journal.proofs.MergeRising.{rising-none, rising-prefix, last_of-snoc, Rises-second, fact_at-second_none, Rises, rising-rises}
+use Rattle.flute_journal.proofs.{Each.{all_split}, MergeBytes.{front-append, no_end, no_whole_end}, MergeRising.{rising-none, rising-prefix, last_of-snoc, Rises-second, fact_at-second_none, Rises, rising-rises}}
 use Rattle.flute_journal.proofs.StreamTurns.{Run, starts, nows, givens, given_at, taken_by, given_here, givens_at, IsAbove, above_other, Ready, Went, Stays, went_on}
 
 module _ {S : Type 0} (b : Behaviour S) where
@@ -54,14 +52,7 @@ module _ {S : Type 0} (b : Behaviour S) where
 
   pub stopped_all : (p : Option Address) (k : ℕ) (f : LoadFault) (runs : List (Run S)) (new : List S) → AllByRecursion (Stays b p) runs → StopAt b p k f (nows runs) new
       → StoppedAll p k f runs new
-  stopped_all p zero f (r ∷ runs) (u ∷ new) w h =
-      let s = h.1 r.start r.given w.0.0.passes in
-      record {
-        reads = (subst (λ (l : List Fact). b.reads r.start u (r.given ++ l)) (sym (given_here p (b.held r.now) h.0)) s.reads, all_stand p runs new h.2 w.1);
-        fails = (s.fails, subst (λ (l : List S). NoneFails b (starts runs) l) (sym h.2) (none_fails p runs w.1));
-        names = (r.start, refl, s.stops);
-        before = tt;
-      }
+  stopped_all p zero f (r ∷ runs) (u ∷ new) w h = grind (arith, given_here, all_stand, starts, none_fails)
   stopped_all p (suc k) f (r ∷ runs) (u ∷ new) w h =
       let t = stopped_all p k f runs new w.1 h.1 in
       let q = passed p r u w.0.0 h.0 in

@@ -1,7 +1,6 @@
 -- A turn of a merge: each stream that stands at the lowest address goes on.
 use Rattle.flute_journal.proofs.Common.{none-some, same_Some, ◌≡◌, ◌+◌, ◌≤◌, true, false, Bool, List, [], ◌∷◌, ◌++◌, length, Option, Some, None, IsTrue, refl, sym, ap, ◌∙◌, subst, inl, inr, append-nil, arith, length-append, cases_Bool, ◌≢◌, IfSome, AllByRecursion, is_eq, Ordering, Less, Equal, Greater, address_cmp, same_address, address, conflict_in, same_fact, fact_at, Same, IsRising, address_same, fact_same, Key, Part, Address, Fact, joined, joined-same, joined-apart, alone, alone-at, alone-elsewhere, fact_at-cons, fact_at-nil, fact_at-elsewhere, Same-itself, Same-trans, Same-append, IsSized, is_after, Behaviour, option_list, place_of, heads, most_of, Gave, IsNotBefore, Lowest, GoesOnAt, GoOnAt, AreNew, all_of}
-use Rattle.flute_journal.proofs.Each.{all_split}
-use Rattle.flute_journal.proofs.MergeRising.{after, last_of-snoc, Rises-second, Same-crossed, rising-rises}
+use Rattle.flute_journal.proofs.{Each.{all_split}, MergeRising.{after, last_of-snoc, Rises-second, Same-crossed, rising-rises}}
 
 -- what sized facts come to is sized
 

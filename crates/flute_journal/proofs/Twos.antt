@@ -1,9 +1,7 @@
 -- What a merge of two streams of journals comes to, said of the journals.
-use Rattle.flute_journal.proofs.Common.{◌≡◌, ℕ, zero, suc, false, List, [], ◌∷◌, ◌++◌, Option, Some, None, Err, sym, ap, ◌∙◌, subst, append-nil, slice_get, IfSome, Same, Fact, Same-sym, Same-trans, Same-append, ReadFault, LoadFault, Read, Joined, StreamsFault, Input, Write, LentStream, Either, First, Second, spelling, Collects, Journal, IsJournalWithin, HasFault, Merged, StopsShort, KeepsUp, NamesFault, FirstFails, SecondFails, MergeGives, written_up_to, source_of, limit_of, Behaviour, either_behaviour, unread_of, lent, lent_behaviour, all_of, Each, EachSince, MergedAll, AppendsPartOf, ReadsAhead, BeginWith, NamesInput, OneFails, FailAs}
-use Rattle.flute_journal.specs.declared.merge.MergeFault.{MergeFault}
+use Rattle.flute_journal.proofs.Common.{rules, arith, ◌≡◌, ℕ, zero, suc, false, List, [], ◌∷◌, ◌++◌, Option, Some, None, Err, sym, ap, ◌∙◌, subst, append-nil, slice_get, Same, Fact, Same-sym, Same-trans, Same-append, ReadFault, LoadFault, Read, Joined, StreamsFault, Input, Write, LentStream, Either, First, Second, Collects, Journal, Merged, StopsShort, KeepsUp, NamesFault, FirstFails, SecondFails, MergeGives, written_up_to, source_of, limit_of, Behaviour, either_behaviour, unread_of, lent, lent_behaviour, all_of, Each, EachSince, MergedAll, AppendsPartOf, ReadsAhead, BeginWith, NamesInput, OneFails, FailAs}
+use Rattle.flute_journal.specs.{declared.merge.MergeFault.{MergeFault}, Merges.{BeginsWith}, Pairs.{fault_at, IsFaultAt, IsFaultOfTwo, IsOfReading}}
 use Rattle.flute_journal.proofs.WrittenSoFar.{written-whole}
-use Rattle.flute_journal.specs.Merges.{BeginsWith}
-use Rattle.flute_journal.specs.Pairs.{fault_at, IsFaultAt, IsFaultOfTwo, IsOfReading}
 
 -- journals of both inputs and of all their facts have entries that come to the same
 same_entries : (es fs ws F G : List Fact) → Same F es → Same G fs → Same (F ++ G) ws → Same (es ++ fs) ws
@@ -54,19 +52,7 @@ module _ {A B : Type 0} (ua : A → Option (List ℕ)) (fa : A → ℕ) (ub : B 
 
     pub merged_two : (x o y : ℕ) (joined : Joined) (w w' : Option (List ℕ)) → limit_of t.reader.now ≡ limit_of s.reader.now → joined.cut ≡ false → MergedAll both inputs x o y joined w w'
         → Merged (limit_of s.reader.now) joined.entries u v w w'
-    merged_two x o y joined w w' same done m =
-        let two = each_two both.tells m.told m.tell in
-        record {
-          first_entries = two.first;
-          second_entries = two.second;
-          first_is = two.of_first;
-          second_is = subst (λ n. IfSome v (λ ys. IsJournalWithin n ys two.second)) same two.of_second;
-          entries = m.entries;
-          collects = subst (λ (l : List Fact). Collects l m.entries) two.all m.collects;
-          few = m.few;
-          count = m.count;
-          appended = written-whole joined.cut w w' (spelling m.entries) done m.written;
-        }
+    merged_two x o y joined w w' same done m = search (rules, each_two, written-whole)
 
     since_two : (P : Either (LentStream A) (LentStream B) → Either (LentStream A) (LentStream B) → List Fact → Type 0) (told : List (List Fact)) → EachSince P inputs after told
         → Two (P (First s) (First s')) (P (Second t) (Second t')) told
@@ -76,16 +62,7 @@ module _ {A B : Type 0} (ua : A → Option (List ℕ)) (fa : A → ℕ) (ub : B 
     since_two P (F ∷ G ∷ H ∷ told) h = absurd h.1.1
 
     journal_of : (es fs : List Fact) (whole : List ℕ) (F G : List Fact) → Same F es → Same G fs → Journal whole (F ++ G) → Journal whole (es ++ (fs ++ []))
-    journal_of es fs whole F G p q j = (
-      j.0,
-      record {
-        valid = j.1.valid;
-        rising = j.1.rising;
-        same = subst (λ (l : List Fact). Same (es ++ l) j.0) (sym (append-nil fs)) (same_entries es fs j.0 F G p q j.1.same);
-      },
-      j.2,
-      j.3,
-    )
+    journal_of es fs whole F G p q j = grind (arith, append-nil, same_entries)
 
     short_two : (w w' : Option (List ℕ)) → AppendsPartOf both inputs w w' → StopsShort u v w w'
     short_two w w' p = record {
@@ -116,9 +93,7 @@ module _ {A B : Type 0} (ua : A → Option (List ℕ)) (fa : A → ℕ) (ub : B 
     names_at : (k : ℕ) (f : ReadFault) → limit_of t.reader.now ≡ limit_of s.reader.now → (x : Either (LentStream A) (LentStream B)) → slice_get inputs k ≡ Some x → both.stops x (Read f)
         → NamesFault (limit_of s.reader.now) u v (fault_at k f)
     names_at zero f same x e h = let q : x ≡ First s = (let p = e in cc) in subst (λ z. both.stops z (Read f)) q h
-    names_at (suc zero) f same x e h =
-        let q : x ≡ Second t = (let p = e in cc) in
-        subst (λ n. HasFault n v f) same (subst (λ z. both.stops z (Read f)) q h)
+    names_at (suc zero) f same x e h = search rules
     names_at (suc (suc k)) f same x e h = absurd (let p : None ≡ Some x = e in cc)
 
     names_of : (k : ℕ) (f : LoadFault) (merge : MergeFault) → IsFaultAt k f merge → limit_of t.reader.now ≡ limit_of s.reader.now → (x : Either (LentStream A) (LentStream B))

@@ -1,12 +1,7 @@
 -- A journal that is read entry by entry.
-use Rattle.flute_journal.proofs.Common.{◌≡◌, ℕ, true, List, [], ◌∷◌, ◌++◌, length, drop, Option, Some, None, IsTrue, inl, inr, refl, sym, ap, ◌∙◌, subst, append_assoc, arith, ReadFault, IsFaultUpTo, stage_at, read_of, Sofar, HasFault, ReadsPart, StopsAfter, flat_map, Consumes, Consumes-trans, Consumes-nil, nil_from_length, length-append, flat_map_more, address, Address, Fact, Stage, Header, Ended, Failed, header, entry, end, spelling, header_fault, next_fault, last_of, AreEntries, Stops, in_header, behind, is_open, position, opening, GivesEntry, GivesFault, IsPart, in_opening, in_entry, or_else, fault_from, Ok, append-nil, AllByRecursion, IsAtEnd, IsFact, GivesEnd, Gives, front, EndsBehind, ReadsBehind, none-some, same_Some, IsRising}
-use Rattle.flute_journal.specs.Whole.{in_header as part_in_header, behind as part_behind}
-use Rattle.flute_journal.proofs.Parts.{entry_within-short}
-use Rattle.flute_journal.proofs.Existence.{entries_more, opening_is}
-use Rattle.flute_journal.proofs.Each.{all_split}
-use Rattle.flute_journal.specs.Merges.{in_header, behind}
-use Rattle.flute_journal.proofs.MergeBytes.{front-snoc, within_entry, within_end, within_nil, front-of_spelling}
-use Rattle.flute_journal.proofs.MergeRising.{Rises-second, Rises, rising-rises}
+use Rattle.flute_journal.proofs.Common.{rules, ◌≡◌, ℕ, true, List, [], ◌∷◌, ◌++◌, length, drop, Option, Some, None, IsTrue, inl, inr, refl, sym, ap, ◌∙◌, subst, append_assoc, arith, ReadFault, IsFaultUpTo, stage_at, read_of, Sofar, HasFault, ReadsPart, StopsAfter, flat_map, Consumes, Consumes-trans, Consumes-nil, nil_from_length, length-append, flat_map_more, address, Address, Fact, Stage, Header, Ended, Failed, header, entry, end, spelling, header_fault, next_fault, last_of, AreEntries, Stops, in_header, behind, is_open, position, opening, GivesEntry, GivesFault, IsPart, in_opening, in_entry, or_else, fault_from, Ok, append-nil, AllByRecursion, IsAtEnd, IsFact, Gives, front, EndsBehind, ReadsBehind, none-some, same_Some, IsRising}
+use Rattle.flute_journal.specs.{Whole.{in_header as part_in_header, behind as part_behind}, Merges.{in_header, behind}}
+use Rattle.flute_journal.proofs.{Parts.{entry_within-short}, Existence.{entries_more, opening_is}, Each.{all_split}, MergeBytes.{front-snoc, within_entry, within_end, within_nil, front-of_spelling}, MergeRising.{Rises-second, Rises, rising-rises}}
 use Rattle.flute_journal.specs.declared.fault.ReadFault.TheVariants as faults
 
 pub sofar-none : (limit : ℕ) (u : Option (List ℕ)) → Sofar limit u u Header []
@@ -114,14 +109,7 @@ open_behind limit input left stage es s = ap is_open s.stage_is ∙ open_at es
 pub side-from : (limit : ℕ) (u v w : Option (List ℕ)) (old new : Stage) (settled : List Fact) (o : Option Fact)
     → Sofar limit u v old settled → Gives limit old new v w (Ok o) → Side limit u w new settled o
 side-from limit u v w old new settled (Some f) s g = sofar-next limit u v w old new settled f s g
-side-from limit u v w old new settled None s g = elim (subst (λ (x : Stage). GivesEnd x new v w) s.stage_is g).bytes [
-  | inl b ↦ absurd (not_ended settled b.0)
-  | inr b ↦ record {
-    are_entries = s.are_entries;
-    read = subst (Consumes u w) (all_read settled) (Consumes-trans u v w (read_of settled) (opening (stage_at settled) ++ end (position (stage_at settled)).count) s.read b.1);
-    at_end = b.2;
-  }
-]
+side-from limit u v w old new settled None s g = search (rules, not_ended, all_read, Consumes-trans)
 
 -- what was read
 

@@ -1,7 +1,6 @@
 -- A stream whose facts are counted goes on as the stream does.
 use Rattle.flute_journal.proofs.Common.{◌≡◌, ℕ, List, ◌++◌, Option, None, refl, sym, ap, ◌∙◌, subst, inl, inr, append-nil, IsRising, Over, Counts, Fact, Tally, Full, Behaviour, option_list, GoesOn, StopsAt}
-use Rattle.flute_journal.specs.declared.within.Within.{Within}
-use Rattle.flute_journal.specs.Withins.{within_behaviour}
+use Rattle.flute_journal.specs.{declared.within.Within.{Within}, Withins.{within_behaviour}}
 
 module _ (s o y : ℕ) {S : Type 0} (b : Behaviour S) where
   abbrev w : Behaviour (Within s o y S)

@@ -1,5 +1,5 @@
 -- What a writer has written, call by call.
-use Rattle.flute_journal.proofs.Common.{Appends-nil, ◌≡◌, ℕ, Bool, true, false, List, [], ◌∷◌, ◌++◌, Option, refl, sym, ap, ◌∙◌, subst, append_assoc, append-nil, ◌≢◌, Appends, Appends-trans, AppendsPart, Written, PutsBytes}
+use Rattle.flute_journal.proofs.Common.{rules, Appends-nil, ◌≡◌, ℕ, Bool, true, false, List, [], ◌∷◌, ◌++◌, Option, refl, sym, ap, ◌∙◌, append_assoc, append-nil, ◌≢◌, Appends, Appends-trans, AppendsPart, Written, PutsBytes}
 
 some_more : (xs ys : List ℕ) → xs ≢ [] → xs ++ ys ≢ []
 some_more [] ys n e = n refl
@@ -15,13 +15,7 @@ written-more false true u v w xs ys a p = record {
   whole = ap (λ (l : List ℕ). xs ++ l) p.whole ∙ sym (append_assoc xs p.part p.rest);
   cut = p.cut;
 }
-written-more true true u v w xs ys a p = record {
-  part = a.part;
-  rest = a.rest ++ ys;
-  appended = subst (Appends u w) (append-nil a.part) (Appends-trans u v w a.part [] a.appended p);
-  whole = ap (λ (l : List ℕ). l ++ ys) a.whole ∙ append_assoc a.part a.rest ys;
-  cut = some_more a.rest ys a.cut;
-}
+written-more true true u v w xs ys a p = search (rules, append-nil, Appends-trans, append_assoc, some_more)
 written-more true false u v w xs ys a p = absurd p
 
 pub written-whole : (f : Bool) (u v : Option (List ℕ)) (xs : List ℕ) → f ≡ false → Written f u v xs → Appends u v xs
@@ -40,9 +34,9 @@ written-part false u v xs w = record { bytes = xs; more = []; appended = w; whol
 written-part true u v xs w = record { bytes = w.part; more = w.rest; appended = w.appended; whole = sym w.whole }
 
 -- the first call
-pub put-first : (f g : Bool) (u v : Option (List ℕ)) (xs : List ℕ) → f ≡ false → PutsBytes f g u v xs → Written g u v xs
-put-first false g u v xs e p = p
-put-first true g u v xs e p = absurd cc
+pub put_first : (f g : Bool) (u v : Option (List ℕ)) (xs : List ℕ) → f ≡ false → PutsBytes f g u v xs → Written g u v xs
+put_first false g u v xs e p = p
+put_first true g u v xs e p = absurd cc
 
 -- a call behind which the sink has failed, and had not before
 pub puts-part : (f g : Bool) (u v : Option (List ℕ)) (xs : List ℕ) → f ≡ false → g ≡ true → PutsBytes f g u v xs → AppendsPart u v xs

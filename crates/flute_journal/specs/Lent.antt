@@ -1,5 +1,5 @@
--- Entries that lie whole in memory.
-use Rattle.std.specs.Prelude.{◌≡◌, ℕ, ◌≤◌, IsTrue, List, length, take, Option, Some, None, Result, Ok, Err}
+-- Entries and records that lie whole in memory.
+use Rattle.std.specs.Prelude.{◌≡◌, ℕ, ◌+◌, ◌≤◌, IsTrue, List, length, take, Option, Some, None, Result, Ok, Err}
 use Rattle.std.specs.Io.KnownBytes.{Consumes}
 use Rattle.flute_parts.specs.Addresses.{address}
 use Rattle.flute_parts.specs.declared.address.Address.{Address}
@@ -9,6 +9,7 @@ use Rattle.flute_journal.specs.declared.fault.ReadFault.TheVariants.{OutOfMemory
 use Rattle.flute_journal.specs.Format.{entry}
 use Rattle.flute_journal.specs.Faults.{is_after}
 use Rattle.flute_journal.specs.Journal.{IsFact}
+use Rattle.flute_journal.specs.Records.{IsDatagram, record_of}
 
 -- the bytes begin with the entry of this fact, which has so many bytes and stands in order behind the last
 pub record BeginsWithEntry (last : Option Address) (bytes : List ℕ) (f : Fact) (size : ℕ) : Type 0 where
@@ -22,3 +23,15 @@ abbrev pub TakesEntry : Option Address → Option (List ℕ) → Option (List �
 TakesEntry last old new (Ok (Some f)) = IsFact f × IsTrue (is_after last (address f)) × Consumes old new (entry f)
 TakesEntry last old new (Ok None) = new ≡ old
 TakesEntry last old new (Err f) = (f ≡ OutOfMemory) × (new ≡ old)
+
+-- the bytes begin with the record of this datagram
+pub record BeginsWithRecord (bytes datagram : List ℕ) : Type 0 where
+  pub valid : IsDatagram datagram
+  pub within : 2 + length datagram ≤ length bytes
+  pub spelled : take (2 + length datagram) bytes ≡ record_of datagram
+
+-- the record of a datagram was taken, or nothing
+abbrev pub TakesRecord : Option (List ℕ) → Option (List ℕ) → Result (Option (List ℕ)) ReadFault → Type 0
+TakesRecord old new (Ok (Some d)) = IsDatagram d × Consumes old new (record_of d)
+TakesRecord old new (Ok None) = new ≡ old
+TakesRecord old new (Err f) = (f ≡ OutOfMemory) × (new ≡ old)

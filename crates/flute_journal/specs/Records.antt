@@ -48,10 +48,6 @@ record_checks limit count bytes =
     ∷ cut (big_endian (take 2 bytes)) (drop 2 bytes)
     ∷ []
 
--- the bytes end before a record does
-abbrev pub IsCut : List ℕ → Type 0
-IsCut bytes = (length bytes < 2) ⊎ (length (drop 2 bytes) < big_endian (take 2 bytes))
-
 -- the fault of what stands behind so many records: of the next record, if a byte follows
 abbrev pub record_fault : ℕ → ℕ → List ℕ → Option ReadFault
 record_fault limit count [] = None

@@ -1,9 +1,9 @@
 -- What stores are written as, and what they are read from.
-use Rattle.std.specs.Prelude.{◌≡◌, ℕ, ◌⊎◌, Bool, true, false, List, ◌++◌, Option, ⊤, Result, Err, IfSome}
+use Rattle.std.specs.Prelude.{◌≡◌, ℕ, List, ◌++◌, Option, ⊤, Result, Err, IfSome}
 use Rattle.std.specs.List.{flat_map}
 use Rattle.flute_join.specs.declared.refusal.JoinRefusal.{JoinRefusal}
 use Rattle.flute_join.specs.declared.refusal.JoinRefusal.TheVariants as join
-use Rattle.flute_parts.specs.Facts.{Same, Below}
+use Rattle.flute_parts.specs.Facts.{Same}
 use Rattle.flute_parts.specs.Limits.{Over}
 use Rattle.flute_parts.specs.declared.fact.Fact.{Fact}
 use Rattle.flute_journal.specs.declared.fault.LoadFault.{LoadFault}
@@ -32,22 +32,6 @@ abbrev pub IsLoadFault : ℕ → ℕ → ℕ → ℕ → Option (List ℕ) → O
 IsLoadFault sessions objects symbols limit old new (Read f) = (entries : List Fact) × (¬ Over entries sessions objects symbols) × StopsAfter limit entries old new f
 IsLoadFault sessions objects symbols limit old new Full = IfSome old (BeginsOver sessions objects symbols limit)
 IsLoadFault sessions objects symbols limit old new OutOfMemory = ⊤
-
--- the store has these facts too, or both are over its limits together
-abbrev pub HoldsBoth : ℕ → ℕ → ℕ → List Fact → List Fact → List Fact → Bool → Type 0
-HoldsBoth sessions objects symbols before facts now true = Same now (before ++ facts)
-HoldsBoth sessions objects symbols before facts now false = Over (before ++ facts) sessions objects symbols
-
--- the bytes are a journal of at most so many entries, within the limits of a store, and were joined to what one held
-pub record JoinsJournal (sessions objects symbols limit : ℕ) (bytes : List ℕ) (before now : List Fact) (fits : Bool) : Type 0 where
-  pub entries : List Fact
-  pub journal : IsJournalWithin limit bytes entries
-  pub within : ¬ Over entries sessions objects symbols
-  pub held : HoldsBoth sessions objects symbols before entries now fits
-
--- nothing came to a store, or nothing but entries that the bytes begin with, at most so many
-abbrev pub AddsOnly : ℕ → List ℕ → List Fact → List Fact → Type 0
-AddsOnly limit bytes before now = Below now before ⊎ ((entries : List Fact) × BeginsWith limit bytes entries × Below now (before ++ entries))
 
 -- the fault that a store's refusal is
 abbrev pub refused : JoinRefusal → LoadFault

@@ -14,6 +14,7 @@ use std::alloc::Global;
 /// # Errors
 ///
 /// The fault of the first that stopped. Those behind it are as they were.
+#[tactic(auto, using(crate::proofs::GoingOn::goings))]
 #[inline(always)]
 pub fn advance_at<G: Streams>(
     alloc: Global,

@@ -15,6 +15,7 @@ use crate::fault::ReadFault;
 use crate::format::check_opening;
 use crate::format::number::length_in;
 use crate::input::{octets, read_front};
+use crate::lent::take_record;
 use flute_parts::Source;
 use flute_wire::Datagram;
 use std::alloc::Global;
@@ -62,7 +63,8 @@ impl<'a, R: Source> DatagramReader<'a, R> {
     /// The next datagram, of 0 to 65,535 bytes, whatever they say. None once the input ends between
     /// two records, and from then on.
     ///
-    /// The bytes of the datagram are the only memory that is taken.
+    /// A record that lies whole in the source's buffer is looked at there, and another is read
+    /// field by field. The bytes of the datagram are the only memory that is taken.
     ///
     /// # Errors
     ///
@@ -89,13 +91,36 @@ impl<'a, R: Source> DatagramReader<'a, R> {
             (R.failures (datagrams_source_of self.old).now)
             (R.failures (datagrams_source_of self.new).now) result }
     {
+        self.next_with(alloc, Vec::new(alloc))
+    }
+
+    /// The same, but the bytes of the datagram are put into the memory of `spare`, where that serves:
+    /// a caller that lets go of each datagram before it reads the next hands its vector on.
+    #[tactic(auto, using(crate::proofs::FileCalls::gives_of_file_at, crate::proofs::FileCalls::reads_record))]
+    #[inline(always)]
+    pub fn next_with(
+        &mut self,
+        alloc: Global,
+        spare: Vec<u8>,
+    ) -> Result<Option<Datagram>, ReadFault>
+        ensures source { (datagrams_source_of self.new).ghost_name
+            ≡ (datagrams_source_of self.old).ghost_name }
+        ensures limit { records_limit_of self.new ≡ records_limit_of self.old }
+        ensures gives { GivesOfFile (records_limit_of self.old) (file_stage_of self.old)
+            (file_stage_of self.new)
+            (R.unread (datagrams_source_of self.old).now)
+            (R.unread (datagrams_source_of self.new).now) result }
+        ensures failures { FailsIf (is_open (file_stage_of self.old))
+            (R.failures (datagrams_source_of self.old).now)
+            (R.failures (datagrams_source_of self.new).now) result }
+    {
         let (count, given) = match self.stage {
             FileStage::Ended => return Ok(None),
             FileStage::Failed(fault) => return Err(fault),
             FileStage::Header => (0, read_first(alloc, self.source, self.max_records)),
             FileStage::Records { count } => (
                 count,
-                read_record(alloc, self.source, self.max_records, count),
+                read_record(alloc, self.source, self.max_records, count, spare),
             ),
         };
         self.stage = stage_behind(count, &given);
@@ -104,6 +129,7 @@ impl<'a, R: Source> DatagramReader<'a, R> {
 }
 
 // Reads the header, and then the first record if there is one.
+#[tactic(auto, using(crate::proofs::FileCalls::reads_file_first))]
 fn read_first<R: Source>(
     alloc: Global,
     source: &mut R,
@@ -115,10 +141,11 @@ fn read_first<R: Source>(
     ensures failures { Fails (R.failures source.old) (R.failures source.new) result }
 {
     read_header(source)?;
-    read_record(alloc, source, max_records, 0)
+    read_fields(alloc, source, max_records, 0)
 }
 
 // Reads the magic number and the version.
+#[tactic(auto, using(crate::proofs::Fronts::parsed_fails, crate::proofs::Fronts::parsed_memory))]
 fn read_header<R: Source>(source: &mut R) -> Result<(), ReadFault>
     ensures reads { Reads (λ _. file_header) (λ _. Unit {0}) (opening_fault file_header)
         (R.unread source.old) (R.unread source.new) result }
@@ -132,8 +159,36 @@ fn read_header<R: Source>(source: &mut R) -> Result<(), ReadFault>
     front.told(check_opening(&FILE_HEADER, front.bytes))
 }
 
-// Reads the next record behind so many, if a byte follows. A file may have `max_records`.
+// Reads the next record behind so many, if a byte follows. A file may have `max_records`. The bytes of the datagram
+// are put into the memory of `spare`, where that serves.
+#[inline(always)]
 fn read_record<R: Source>(
+    alloc: Global,
+    source: &mut R,
+    max_records: u64,
+    count: u64,
+    spare: Vec<u8>,
+) -> Result<Option<Datagram>, ReadFault>
+    ensures reads { ReadsRecord max_records count (R.unread source.old)
+        (R.unread source.new) result }
+    ensures within { StaysWithin record_of IsDatagram (R.unread source.old)
+        (R.unread source.new) result }
+    ensures faults { IfErr result IsFileFault }
+    ensures failures { Fails (R.failures source.old) (R.failures source.new) result }
+{
+    if count < max_records {
+        match take_record(source, spare) {
+            Ok(None) => {}
+            taken => return taken,
+        }
+    }
+    read_fields(alloc, source, max_records, count)
+}
+
+// The same, field by field.
+#[tactic(auto, using(crate::proofs::Records::record_reads))]
+#[inline(never)]
+fn read_fields<R: Source>(
     alloc: Global,
     source: &mut R,
     max_records: u64,

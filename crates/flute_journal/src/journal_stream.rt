@@ -51,8 +51,13 @@ impl<'a, R: Source> Stream for JournalStream<'a, R> {
     #[inline(always)]
     fn advance(&mut self, alloc: Global) -> Result<(), LoadFault> {
         let spare = spare_of(alloc, self.held.take());
-        self.held = self.reader.next_with(alloc, spare)?;
-        Ok(())
+        match self.reader.next_with(alloc, spare) {
+            Ok(held) => {
+                self.held = held;
+                Ok(())
+            }
+            Err(fault) => Err(LoadFault::Read(fault)),
+        }
     }
 }
 
@@ -78,8 +83,13 @@ impl<'r, 'a, R: Source> Stream for LentStream<'r, 'a, R> {
     #[inline(always)]
     fn advance(&mut self, alloc: Global) -> Result<(), LoadFault> {
         let spare = spare_of(alloc, self.held.take());
-        *self.held = self.reader.next_with(alloc, spare)?;
-        Ok(())
+        match self.reader.next_with(alloc, spare) {
+            Ok(held) => {
+                *self.held = held;
+                Ok(())
+            }
+            Err(fault) => Err(LoadFault::Read(fault)),
+        }
     }
 }
 

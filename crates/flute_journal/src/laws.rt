@@ -15,6 +15,7 @@ ghost use Rattle.flute_journal.specs.declared.datagram_reader.FileStage.{FileSta
 ghost use Rattle.flute_journal.specs.declared.datagram_reader.FileStage.TheVariants as FileStages;
 
 /// What an entry spells is read in one way, whatever follows it.
+#[tactic(auto, using(crate::proofs::Entries::entry_injective))]
 pub fn entry_has_one_reading()
     ensures { (f g : Fact) (x y : List ℕ) → IsFact f → IsFact g
         → entry f ++ x ≡ entry g ++ y → (f ≡ g) × (x ≡ y) }
@@ -77,6 +78,7 @@ pub fn first_entries_are_below()
 {}
 
 /// Rising facts that come to the same at each address are spelled alike.
+#[tactic(auto, using(flute_parts::proofs::Rising::rising_unique))]
 pub fn rising_facts_have_one_spelling()
     ensures { (es fs : List Fact) → IsRising es → IsRising fs → Same es fs
         → spelling es ≡ spelling fs }
@@ -90,6 +92,7 @@ pub fn bytes_are_a_journal_or_stop()
 {}
 
 /// A datagram file is the file of one list of datagrams.
+#[tactic(auto, using(crate::proofs::Files::one_reading))]
 pub fn a_file_has_one_reading()
     ensures { (bs : List ℕ) (ds es : List (List ℕ)) → IsFileOf bs ds → IsFileOf bs es → ds ≡ es }
 {}
@@ -123,6 +126,7 @@ pub fn a_file_stops_at_the_bound()
 /// A datagram file is told by what its reader gives record by record: behind these records it
 /// stands where they end; at the end the file was that of all of them, and at a fault the file has
 /// this fault.
+#[tactic(auto, using(crate::proofs::Records::files_so_far))]
 pub fn a_file_is_read_record_by_record()
     ensures begins { (limit : ℕ) (first : Option (List ℕ)) → FileSofar limit first first
         FileStages.Header [] }

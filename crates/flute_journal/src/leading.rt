@@ -116,6 +116,7 @@ impl Lead {
     }
 
     // Looks whether the stream with this number leads.
+    #[tactic(auto, using(crate::proofs::LeadFacts::firsts_more, crate::proofs::LeadFacts::firsts_passed))]
     #[inline(always)]
     fn look<G: Streams>(&mut self, streams: &G, number: usize)
         requires { number < length (G.streams streams.now) }

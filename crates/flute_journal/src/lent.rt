@@ -1,11 +1,13 @@
-//! Entries that lie whole in the buffer of their source, looked at where they lie.
+//! Entries and records that lie whole in the buffer of their source, looked at where they lie.
 ghost use Rattle.std.specs.Prelude.{◌≡◌, IfOk, IfErr, IfSome};
-ghost use Rattle.flute_journal.specs.Lent.{BeginsWithEntry, TakesEntry};
+ghost use Rattle.flute_journal.specs.Lent.{BeginsWithEntry, TakesEntry, BeginsWithRecord, TakesRecord};
 ghost use Rattle.flute_journal.specs.declared.fault.ReadFault.TheVariants.{OutOfMemory};
 
 use crate::fault::ReadFault;
+use crate::format::number::length_in;
 use crate::format::{Fixed, Kind, parse};
 use flute_parts::{Address, Bytes, Fact, Source};
+use flute_wire::Datagram;
 
 /// Takes the next entry, if it lies whole in the source's buffer and has no fault. The entry
 /// before it is at `last`.
@@ -50,7 +52,7 @@ fn entry_in(
     let Some((fixed, rest)) = rest.split_at_checked(kind.fixed_size()) else {
         return Ok(None);
     };
-    match parse(kind, *last, fixed) {
+    match parse(kind, last, fixed) {
         Ok(Fixed::Whole(fact)) => Ok(Some((fact, 1 + fixed.len()))),
         Ok(Fixed::Symbol { key, id, length }) => {
             let Some(symbol) = rest.get(..usize::from(length)) else {
@@ -70,5 +72,50 @@ fn entry_in(
             }
         }
         Err(_) => Ok(None),
+    }
+}
+
+/// Takes the next record of a datagram file, if it lies whole in the source's buffer.
+///
+/// None where it does not, and nothing was taken then. `OutOfMemory` is the only fault. The bytes of
+/// the datagram are put into the memory of `spare`, as far as it suffices.
+#[inline(always)]
+pub fn take_record<R: Source>(
+    source: &mut R,
+    spare: Vec<u8>,
+) -> Result<Option<Datagram>, ReadFault>
+    ensures takes { TakesRecord (R.unread source.old) (R.unread source.new) result }
+    ensures failures { R.failures source.new ≡ R.failures source.old }
+{
+    match record_in(source.buffer(), spare) {
+        Ok(Some(datagram)) => {
+            source.consume(2 + datagram.as_slice().len());
+            Ok(Some(datagram))
+        }
+        Ok(None) => Ok(None),
+        Err(fault) => Err(fault),
+    }
+}
+
+// The datagram whose record stands at the front of the bytes. None where it is not whole.
+#[inline(always)]
+fn record_in(bytes: &[u8], spare: Vec<u8>) -> Result<Option<Datagram>, ReadFault>
+    ensures begins { IfOk result (λ o. IfSome o (BeginsWithRecord bytes.now)) }
+    ensures only { IfErr result (λ f. f ≡ OutOfMemory) }
+{
+    let Some((length, rest)) = bytes.split_at_checked(2) else {
+        return Ok(None);
+    };
+    let Some(datagram) = rest.get(..usize::from(length_in(length))) else {
+        return Ok(None);
+    };
+    let mut octets = spare;
+    octets.clear();
+    if octets.extend_from_slice(datagram).is_err() {
+        return Err(ReadFault::OutOfMemory);
+    }
+    match Datagram::from_vec(octets) {
+        Ok(datagram) => Ok(Some(datagram)),
+        Err(_) => Err(ReadFault::OutOfMemory),
     }
 }

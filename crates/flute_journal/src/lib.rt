@@ -3,7 +3,6 @@
 
 mod advance;
 mod beside;
-mod datagram_file;
 mod datagram_reader;
 mod datagram_writing;
 mod either;
@@ -35,7 +34,6 @@ mod walk_stream;
 mod within;
 
 pub use beside::Beside;
-pub use datagram_file::datagrams_in;
 pub use datagram_reader::DatagramReader;
 pub use datagram_writing::write_datagrams;
 pub use either::Either;
@@ -44,7 +42,7 @@ pub use fault::{LoadFault, ReadFault, SaveFault};
 pub use input::fill;
 pub use journal_stream::{JournalStream, LentStream};
 pub use kind::{Kind, kind_of};
-pub use load::{join_journal, read_store};
+pub use load::read_store;
 pub use merge::{MergeFault, merge_streams, merge_two};
 pub use merging::{Joined, join_streams, merge_all, merge_slice};
 pub use or_full::OrFull;

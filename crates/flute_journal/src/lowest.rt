@@ -14,6 +14,7 @@ use std::cmp::Ordering;
 
 /// What the facts that streams hold come to at the lowest of their addresses.
 /// None where none is held.
+#[tactic(auto, using(std::proofs::Common::take_all))]
 #[inline(always)]
 pub fn lowest_held<G: Streams>(streams: &G) -> Option<FactRef<'_>>
     ensures { IsLowest (heads G.Stream.behaviour (G.streams streams.now)) (fact_in result) }

@@ -86,6 +86,7 @@ pub fn merge_all<const SESSIONS: u32, const OBJECTS: u32, const SYMBOLS: u32, G:
 ///
 /// The fault of the first stream, in their order, that has one: those before one that stopped are
 /// read to their ends. What was appended is then no journal of anything.
+#[tactic(auto, using(crate::proofs::Finished::stopped_of, crate::proofs::Finished::gave_of))]
 pub fn join_streams<
     const SESSIONS: u32,
     const OBJECTS: u32,
@@ -122,6 +123,7 @@ pub fn join_streams<
 
 // Merges streams into what a writer writes. It stops where that has failed, unless it is patient: it then leaves out the end where
 // the streams together are over the limits.
+#[tactic(auto, using(crate::proofs::StreamStates::turns))]
 fn merge_into<const SESSIONS: u32, const OBJECTS: u32, const SYMBOLS: u32, G: Streams, W: Sink>(
     alloc: Global,
     streams: &mut G,

@@ -66,13 +66,13 @@ impl<R: Source> Stream for OwnedJournalStream<R> {
     #[inline(always)]
     fn advance(&mut self, alloc: Global) -> Result<(), LoadFault> {
         let spare = spare_of(alloc, self.held.take());
-        self.held = read_at(
-            alloc,
-            &mut self.source,
-            self.max_entries,
-            &mut self.stage,
-            spare,
-        )?;
-        Ok(())
+        let source = &mut self.source;
+        match read_at(alloc, source, self.max_entries, &mut self.stage, spare) {
+            Ok(held) => {
+                self.held = held;
+                Ok(())
+            }
+            Err(fault) => Err(LoadFault::Read(fault)),
+        }
     }
 }

@@ -120,20 +120,24 @@ pub(crate) fn read_at<R: Source>(
     ensures failures { FailsIf (is_open stage.old)
         (R.failures source.old) (R.failures source.new) result }
 {
-    let (count, given) = match *stage {
-        Stage::Ended => return Ok(None),
-        Stage::Failed(fault) => return Err(fault),
-        Stage::Header => (0, read_first(alloc, source, max_entries, spare)),
-        Stage::Entries { count, last } => (
-            count,
-            read_entry(alloc, source, max_entries, count, last, spare),
-        ),
-    };
-    *stage = stage_behind(count, &given);
-    given
+    match *stage {
+        Stage::Ended => Ok(None),
+        Stage::Failed(fault) => Err(fault),
+        Stage::Header => {
+            let given = read_first(alloc, source, max_entries, spare);
+            *stage = stage_behind(0, &given);
+            given
+        }
+        Stage::Entries { count, last } => {
+            let given = read_entry(alloc, source, max_entries, count, &last, spare);
+            *stage = stage_behind(count, &given);
+            given
+        }
+    }
 }
 
 // Reads the header, and then the first entry or the end.
+#[tactic(auto, using(crate::proofs::Calls::reads_first))]
 #[inline(never)]
 fn read_first<R: Source>(
     alloc: Global,
@@ -146,7 +150,7 @@ fn read_first<R: Source>(
     ensures failures { Fails (R.failures source.old) (R.failures source.new) result }
 {
     read_header(source)?;
-    read_entry(alloc, source, max_entries, 0, None, spare)
+    read_entry(alloc, source, max_entries, 0, &None, spare)
 }
 
 // Where a reader stands behind what it gave, if so many entries stood before.

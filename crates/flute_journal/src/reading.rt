@@ -19,6 +19,7 @@ use flute_parts::{Address, Bytes, Fact, Source};
 use std::alloc::Global;
 
 /// Reads the magic number and the version.
+#[tactic(auto, using(crate::proofs::Fronts::parsed_fails, crate::proofs::Fronts::parsed_memory))]
 pub fn read_header<R: Source>(source: &mut R) -> Result<(), ReadFault>
     ensures reads { Reads (λ _. header) (λ _. Unit {0}) header_fault (R.unread source.old)
         (R.unread source.new) result }
@@ -40,19 +41,19 @@ pub fn read_entry<R: Source>(
     source: &mut R,
     max_entries: u64,
     count: u64,
-    last: Option<Address>,
+    last: &Option<Address>,
     spare: Vec<u8>,
 ) -> Result<Option<Fact>, ReadFault>
-    ensures reads { ReadsNext max_entries (at_place count last) (R.unread source.old)
+    ensures reads { ReadsNext max_entries (at_place count last.now) (R.unread source.old)
         (R.unread source.new) result }
     ensures within { StaysWithin entry IsFact (R.unread source.old) (R.unread source.new) result }
     ensures failures { Fails (R.failures source.old) (R.failures source.new) result }
 {
     if count >= max_entries {
-        return read_fields(alloc, source, max_entries, count, last);
+        return read_fields(alloc, source, max_entries, count, *last);
     }
-    match take_entry(source, &last, spare) {
-        Ok(None) => read_fields(alloc, source, max_entries, count, last),
+    match take_entry(source, last, spare) {
+        Ok(None) => read_fields(alloc, source, max_entries, count, *last),
         taken => taken,
     }
 }
@@ -91,6 +92,7 @@ fn read_fields<R: Source>(
 }
 
 // Reads the number of entries, behind which nothing may stand.
+#[tactic(auto, using(crate::proofs::Fronts::parsed_fails))]
 fn read_end<R: Source>(source: &mut R, count: u64) -> Result<(), ReadFault>
     ensures reads { ReadsEnd count (R.unread source.old) (R.unread source.new) result }
     ensures advances { Advances (R.unread source.old) (R.unread source.new) 9 }
@@ -102,6 +104,7 @@ fn read_end<R: Source>(source: &mut R, count: u64) -> Result<(), ReadFault>
 }
 
 // Reads what stands behind the kind of an entry.
+#[tactic(auto, using(std::proofs::lemmas::Result::err_from_is_err_and, crate::proofs::Bodies::symbol_stops))]
 fn read_body<R: Source>(
     alloc: Global,
     source: &mut R,
@@ -124,6 +127,7 @@ fn read_body<R: Source>(
 }
 
 // Reads what stands behind the kind of an entry, up to the bytes of a symbol.
+#[tactic(auto, using(crate::proofs::Fronts::parsed_fails))]
 fn read_fixed<R: Source>(
     source: &mut R,
     kind: Kind,
@@ -136,7 +140,7 @@ fn read_fixed<R: Source>(
 {
     let mut buffer = [0; LONGEST];
     let front = read_front(source, &mut buffer[..kind.fixed_size()]);
-    front.told(parse(kind, last, front.bytes))
+    front.told(parse(kind, &last, front.bytes))
 }
 
 // Reads so many bytes of a symbol.

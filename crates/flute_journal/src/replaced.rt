@@ -36,11 +36,13 @@ impl<'a, 'b, A: Stream, B: Stream> Streams for Replaced<'a, 'b, A, B> {
 
     ghost names = { λ s. s.streams.ghost_name ∷ s.others.ghost_name ∷ [] };
 
+    #[tactic(auto, using(crate::proofs::Replacements::replaced_length))]
     #[inline(always)]
     fn count(&self) -> usize {
         self.streams.len().min(self.others.len())
     }
 
+    #[tactic(auto, using(crate::proofs::Replacements::places))]
     #[inline(always)]
     fn head(&self, number: usize) -> Option<FactRef<'_>> {
         let others = &*self.others;
@@ -53,6 +55,7 @@ impl<'a, 'b, A: Stream, B: Stream> Streams for Replaced<'a, 'b, A, B> {
         }
     }
 
+    #[tactic(auto, using(crate::proofs::Replacements::places))]
     #[inline(always)]
     fn advance(&mut self, number: usize, alloc: Global) -> Result<(), LoadFault> {
         match &mut self.others[number] {

@@ -38,6 +38,7 @@ pub fn check_opening(opening: &[u8; 6], bytes: &[u8]) -> Result<(), ReadFault>
 
 /// Looks at what stands behind the byte 255 of a journal of so many entries, and at one byte
 /// more if there is one.
+#[tactic(auto, using(crate::proofs::Decoded::end_read, crate::proofs::Numbers::octets))]
 pub fn check_end(count: u64, bytes: &[u8]) -> Result<(), ReadFault>
     requires { length bytes.now ≤ 9 }
     ensures { Parses 9 (λ _. bytes.now ≡ in_bytes 8 count) (end_fault count) bytes.now result }
@@ -57,10 +58,10 @@ pub fn check_end(count: u64, bytes: &[u8]) -> Result<(), ReadFault>
 /// What stands behind the kind of an entry, up to the bytes of a symbol. The entry
 /// before it is at `last`.
 #[inline(always)]
-pub fn parse(kind: Kind, last: Option<Address>, bytes: &[u8]) -> Result<Fixed, ReadFault>
+pub fn parse(kind: Kind, last: &Option<Address>, bytes: &[u8]) -> Result<Fixed, ReadFault>
     requires { length bytes.now ≤ fixed_size kind }
-    ensures { Parses (fixed_size kind) (λ x. FixedIs last kind x × (fixed_bytes x ≡ bytes.now))
-        (body_fault last kind) bytes.now result }
+    ensures { Parses (fixed_size kind) (λ x. FixedIs last.now kind x × (fixed_bytes x ≡ bytes.now))
+        (body_fault last.now kind) bytes.now result }
 {
     let Some((field, rest)) = bytes.split_at_checked(21) else {
         return Err(ReadFault::Cut);
@@ -94,10 +95,10 @@ fn key_in(bytes: &[u8]) -> Option<Key>
 }
 
 // Whether a part of the object stands after the entry before.
-fn in_order(last: Option<Address>, key: &Key, part: Part) -> Result<(), ReadFault>
+fn in_order(last: &Option<Address>, key: &Key, part: Part) -> Result<(), ReadFault>
     ensures { MatchResult result
-        (λ _. IsTrue (is_after last (record { key = key.now; part = part })))
-        (λ f. (f ≡ Order) × (is_after last (record { key = key.now; part = part }) ≡ false)) }
+        (λ _. IsTrue (is_after last.now (record { key = key.now; part = part })))
+        (λ f. (f ≡ Order) × (is_after last.now (record { key = key.now; part = part }) ≡ false)) }
 {
     let address = Address { key: *key, part };
     if is_after(last, address) {
@@ -107,21 +108,22 @@ fn in_order(last: Option<Address>, key: &Key, part: Part) -> Result<(), ReadFaul
     }
 }
 
-fn is_after(last: Option<Address>, address: Address) -> bool
-    ensures { result ≡ is_after last address }
+fn is_after(last: &Option<Address>, address: Address) -> bool
+    ensures { result ≡ is_after last.now address }
 {
     match last {
         None => true,
-        Some(last) => last < address,
+        Some(last) => *last < address,
     }
 }
 
 // What stands behind the key of an entry of information.
-fn information_at(last: Option<Address>, key: Key, bytes: &[u8]) -> Result<Fixed, ReadFault>
+#[tactic(auto, using(crate::proofs::Decoded::info_read, crate::proofs::Numbers::octets))]
+fn information_at(last: &Option<Address>, key: Key, bytes: &[u8]) -> Result<Fixed, ReadFault>
     requires key { IsKey key }
     requires most { length bytes.now ≤ 12 }
-    ensures { Parses 12 (λ x. FixedIs last kinds.Info x × (fixed_bytes x
-        ≡ key_bytes key ++ bytes.now)) (rest_fault last kinds.Info key) bytes.now result }
+    ensures { Parses 12 (λ x. FixedIs last.now kinds.Info x × (fixed_bytes x
+        ≡ key_bytes key ++ bytes.now)) (rest_fault last.now kinds.Info key) bytes.now result }
 {
     in_order(last, &key, Part::Info)?;
     if bytes.len() < 12 {
@@ -148,25 +150,26 @@ fn info_in(bytes: &[u8]) -> Result<Info, InfoFault>
 
 // What stands behind the key of an entry of an information conflict.
 fn information_conflict_at(
-    last: Option<Address>,
+    last: &Option<Address>,
     key: Key,
     bytes: &[u8],
 ) -> Result<Fixed, ReadFault>
     requires key { IsKey key }
     requires most { length bytes.now ≤ 0 }
-    ensures { Parses 0 (λ x. FixedIs last kinds.InfoConflict x × (fixed_bytes x
-        ≡ key_bytes key ++ bytes.now)) (rest_fault last kinds.InfoConflict key) bytes.now result }
+    ensures { Parses 0 (λ x. FixedIs last.now kinds.InfoConflict x × (fixed_bytes x
+        ≡ key_bytes key ++ bytes.now)) (rest_fault last.now kinds.InfoConflict key) bytes.now result }
 {
     in_order(last, &key, Part::Info)?;
     Ok(Fixed::Whole(Fact::InfoConflict { key }))
 }
 
 // What stands behind the key of an entry of a symbol, up to its bytes.
-fn symbol_at(last: Option<Address>, key: Key, bytes: &[u8]) -> Result<Fixed, ReadFault>
+#[tactic(auto, using(crate::proofs::Decoded::symbol_faults))]
+fn symbol_at(last: &Option<Address>, key: Key, bytes: &[u8]) -> Result<Fixed, ReadFault>
     requires key { IsKey key }
     requires most { length bytes.now ≤ 6 }
-    ensures { Parses 6 (λ x. FixedIs last kinds.Symbol x × (fixed_bytes x
-        ≡ key_bytes key ++ bytes.now)) (rest_fault last kinds.Symbol key) bytes.now result }
+    ensures { Parses 6 (λ x. FixedIs last.now kinds.Symbol x × (fixed_bytes x
+        ≡ key_bytes key ++ bytes.now)) (rest_fault last.now kinds.Symbol key) bytes.now result }
 {
     let (id, rest) = id_at(bytes)?;
     in_order(last, &key, Part::Symbol(id))?;
@@ -175,11 +178,11 @@ fn symbol_at(last: Option<Address>, key: Key, bytes: &[u8]) -> Result<Fixed, Rea
 }
 
 // What stands behind the key of an entry of a symbol conflict.
-fn symbol_conflict_at(last: Option<Address>, key: Key, bytes: &[u8]) -> Result<Fixed, ReadFault>
+fn symbol_conflict_at(last: &Option<Address>, key: Key, bytes: &[u8]) -> Result<Fixed, ReadFault>
     requires key { IsKey key }
     requires most { length bytes.now ≤ 4 }
-    ensures { Parses 4 (λ x. FixedIs last kinds.SymbolConflict x × (fixed_bytes x
-        ≡ key_bytes key ++ bytes.now)) (rest_fault last kinds.SymbolConflict key) bytes.now result }
+    ensures { Parses 4 (λ x. FixedIs last.now kinds.SymbolConflict x × (fixed_bytes x
+        ≡ key_bytes key ++ bytes.now)) (rest_fault last.now kinds.SymbolConflict key) bytes.now result }
 {
     let (id, _) = id_at(bytes)?;
     in_order(last, &key, Part::Symbol(id))?;

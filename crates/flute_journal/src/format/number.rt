@@ -8,6 +8,7 @@ ghost use Rattle.flute_journal.specs.Journal.{IsByte};
 use byteorder::{BigEndian, ByteOrder};
 
 /// The number that the bytes spell.
+#[tactic(auto, using(crate::proofs::Numbers::number_read))]
 pub fn number(bytes: &[u8]) -> u128
     requires some { 1 ≤ length bytes.now }
     requires few { length bytes.now ≤ 16 }
@@ -39,6 +40,7 @@ pub fn length_in(field: &[u8]) -> u16
 }
 
 /// The two bytes that spell how many bytes these are.
+#[tactic(auto, using(crate::proofs::Numbers::octets))]
 pub fn length_field(bytes: &[u8]) -> [u8; 2]
     requires { length bytes.now < 2 ^ 16 }
     ensures field { result ≡ in_bytes 2 (length bytes.now) }

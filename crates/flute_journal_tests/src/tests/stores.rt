@@ -37,11 +37,11 @@ fn a_store_is_read(rt: HostRuntime) -> Result<(), Fail> {
 }
 
 #[test]
-fn a_journal_is_joined(rt: HostRuntime) -> Result<(), Fail> {
+fn a_store_that_was_read_is_absorbed(rt: HostRuntime) -> Result<(), Fail> {
     let mut store = taken(rt.alloc(), INFO_AND_FIRST_SYMBOL)?;
     let journal = bytes(rt.alloc(), journals::OTHERS)?;
-    let mut source = MemorySource::new(&journal);
-    assert!(rt; join_journal(rt.alloc(), &mut store, &mut source, 3)?);
+    let other: Small = read_store(rt.alloc(), &mut MemorySource::new(&journal), 3)?;
+    store.absorb(rt.alloc(), &other)?;
     assert!(rt; entries(rt.alloc(), &store, journals::INFO_AND_OTHERS)? == Some(4));
     Ok(())
 }

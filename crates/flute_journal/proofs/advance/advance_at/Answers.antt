@@ -1,18 +1,10 @@
 -- One stream more, by whether it stands there.
-use Rattle.flute_journal.proofs.Common.{◌≡◌, ℕ, ◌+◌, ◌<◌, length, Option, Some, None, refl, subst, sym, ap, ◌∙◌, arith, IfSome, place_of}
-use Rattle.flute_journal.proofs.GoingOn.{WentSoFar, item_at, none_went, one_stays, one_goes, one_stops, all_went, same_length}
-use Rattle.flute_journal.proofs.advance.advance_at.Goals.{then-is_at+in_default, else-is_at}
+use Rattle.flute_journal.proofs.{Common.{◌≡◌, ℕ, ◌+◌, ◌<◌, length, Option, Some, None, subst, sym, ap, ◌∙◌, arith, IfSome, place_of}, GoingOn.{WentSoFar, item_at, one_stays, one_goes, same_length}, advance.advance_at.Goals.{then-is_at+in_default, else-is_at}}
 use Rattle.flute_journal.proofs.advance.advance_at.Goals as goal
 
 below_more : (P : ℕ → Type 0) (k : ℕ) (o : Option ℕ) → IfSome o P → ((n : ℕ) → P n → n < k + 1) → IfSome o (λ n. n < k + 1)
 below_more P k None h m = tt
 below_more P k (Some n) h m = m n h
-
-pub loop-number-init : goal.loop-number-init
-loop-number-init g c = record { went = none_went g.G.Stream.Stream.behaviour c.args.place (g.G.Streams.streams c.args.streams.now); all = sym c.count-number-end.ensures; names = refl; one = tt }
-
-pub returns-in-Err-clause-stops : goal.returns-in-Err-clause-stops
-returns-in-Err-clause-stops g c = grind (arith, one_stops)
 
 pub loop-number-preserved : goal.loop-number-preserved
 loop-number-preserved g c =
@@ -47,13 +39,3 @@ loop-number-preserved g c =
             one = subst (λ o. IfSome o (λ n. n < k + 1)) (sym w.one-is) (below_more (λ n. n < k) k c.loop-number.one c.loop-number.invariant.one (λ n e. omega (arith, e)));
           }
     ]
-
-pub returns-clause-go_on : goal.returns-clause-go_on
-returns-clause-go_on g c = grind (arith, all_went)
-
-pub returns-clause-number : goal.returns-clause-number
-returns-clause-number g c = below_end c.loop-number.one c.loop-number.invariant.one
-  where
-    below_end : (o : Option ℕ) → IfSome o (λ n. n < c.loop-number.number) → IfSome o (λ n. n < length (g.G.Streams.streams c.loop-number.streams))
-    below_end None h = tt
-    below_end (Some n) h = omega (arith, h, c.loop-number.invariant.all, c.loop-number-test.false)

@@ -1,6 +1,5 @@
 -- The first streams went on, and the others are as they were.
-use Rattle.std.proofs.Common.{◌≡◌, ◌<◌, length, IfSome}
-use Rattle.flute_journal.proofs.GoingOn.{WentSoFar}
+use Rattle.flute_journal.proofs.{Common.{◌≡◌, ◌<◌, length, IfSome}, GoingOn.{WentSoFar}}
 use Rattle.flute_journal.proofs.advance.advance_at.Given as goal
 
 abbrev pub invariant-loop-number : goal.invariant-loop-number

@@ -1,6 +1,5 @@
-use Rattle.flute_journal.proofs.Common.{Err, sym, ap, ◌∙◌, subst, err_from_is_err_and, ReadsFileFrom}
+use Rattle.flute_journal.proofs.{Common.{Err, sym, ap, ◌∙◌, subst, err_from_is_err_and, ReadsFileFrom}, FileCalls.{reads_file_header}}
 use Rattle.flute_journal.specs.declared.datagram_reader.FileStage.TheVariants.{Header}
-use Rattle.flute_journal.proofs.FileCalls.{reads_file_header, reads_file_first}
 use Rattle.flute_journal.proofs.datagram_reader.read_first.Goals as goal
 
 pub returns-in_err-read_header-clause-reads : goal.returns-in_err-read_header-clause-reads
@@ -9,8 +8,3 @@ returns-in_err-read_header-clause-reads g c =
     let h = c.in_err-read_header.ensures in
     subst (ReadsFileFrom c.args.max_records Header _ _) (sym (e.1 ∙ ap Err e.2))
     (reads_file_header c.args.max_records _ _ c.in_err-read_header.field-0.0 h.reads h.memory h.faults h.advances)
-
-pub returns-clause-reads : goal.returns-clause-reads
-returns-clause-reads g c =
-    let r = c.read_record.ensures in
-    reads_file_first c.args.max_records _ _ _ c.read_record.result c.in_ok-read_header.ensures.reads.1 r.reads r.within r.faults

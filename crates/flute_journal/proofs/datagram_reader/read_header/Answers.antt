@@ -1,23 +1,10 @@
-use Rattle.flute_journal.proofs.Common.{◌≡◌, refl, file_header}
-use Rattle.flute_journal.proofs.Fronts.{parsed_fails, parsed_memory}
-use Rattle.flute_journal.proofs.Bodies.{opening_reads}
-use Rattle.flute_journal.proofs.FileCalls.{opening_told}
+use Rattle.flute_journal.proofs.{Common.{◌≡◌, refl, file_header}, Bodies.{opening_reads}, FileCalls.{opening_told}}
 use Rattle.flute_journal.proofs.datagram_reader.read_header.Goals as goal
 
 pub returns-clause-reads : goal.returns-clause-reads
 returns-clause-reads g c =
     let front = c.read_front-front.result in
     rw c.told.ensures (opening_reads file_header _ _ front.failed front.bytes.now c.check_opening.result refl c.read_front-front.ensures.filled c.check_opening.ensures)
-
-pub returns-clause-failures : goal.returns-clause-failures
-returns-clause-failures g c =
-    let front = c.read_front-front.result in
-    rw c.told.ensures (parsed_fails _ _ 6 front.failed front.bytes.now c.check_opening.result _ _ c.read_front-front.ensures.failures c.check_opening.ensures)
-
-pub returns-clause-memory : goal.returns-clause-memory
-returns-clause-memory g c =
-    let front = c.read_front-front.result in
-    rw c.told.ensures (parsed_memory _ _ 6 front.failed front.bytes.now c.check_opening.result c.check_opening.ensures)
 
 pub returns-clause-faults : goal.returns-clause-faults
 returns-clause-faults g c =

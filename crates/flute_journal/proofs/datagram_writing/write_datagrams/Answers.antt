@@ -1,5 +1,4 @@
-use Rattle.flute_journal.proofs.Common.{◌≡◌, Some, rules, arith, slice_get, flat_map, slice_get_within, err_from_is_err_and, AppendsPart-first, file_header, record_of}
-use Rattle.flute_journal.proofs.Sending.{sent-next, sent-part, sent-all, sent-file}
+use Rattle.flute_journal.proofs.{Common.{◌≡◌, Some, rules, slice_get, flat_map, err_from_is_err_and, AppendsPart-first, file_header, record_of}, Sending.{sent-part, sent-all, sent-file}}
 use Rattle.flute_journal.proofs.datagram_writing.write_datagrams.Goals as goal
 
 pub returns-in_err-write_all-clause-bytes : goal.returns-in_err-write_all-clause-bytes
@@ -13,15 +12,6 @@ returns-in_err-write_record-clause-bytes g c =
     let here : slice_get c.args.datagrams.now c.loop-datagram.place ≡ Some c.in-Some.datagram.now = search rules in
     rw e.1 (sent-part c.args.datagrams.now c.loop-datagram.place (g.W.Sink.written c.args.sink.now) (g.W.Sink.written c.loop-datagram.sink) (g.W.Sink.written c.write_record.new.sink)
     c.in-Some.datagram.now c.loop-datagram.invariant.0 here c.in_err-write_record.ensures.bytes)
-
-pub overflow_add-place : goal.overflow_add-place
-overflow_add-place g c = grind (arith, slice_get_within)
-
-pub loop-datagram-smaller : goal.loop-datagram-smaller
-loop-datagram-smaller g c = grind (arith, slice_get_within)
-
-pub loop-datagram-preserved : goal.loop-datagram-preserved
-loop-datagram-preserved g c = grind (arith, sent-next)
 
 pub returns-clause-bytes : goal.returns-clause-bytes
 returns-clause-bytes g c =

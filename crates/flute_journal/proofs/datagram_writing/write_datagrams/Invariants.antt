@@ -1,6 +1,5 @@
 -- The records before the place were written.
-use Rattle.std.proofs.Common.{◌≡◌, ◌-◌, length}
-use Rattle.flute_journal.proofs.Sending.{Sent}
+use Rattle.flute_journal.proofs.{Common.{◌≡◌, ◌-◌, length}, Sending.{Sent}}
 use Rattle.flute_journal.proofs.datagram_writing.write_datagrams.Given as goal
 
 abbrev pub invariant-loop-datagram : goal.invariant-loop-datagram

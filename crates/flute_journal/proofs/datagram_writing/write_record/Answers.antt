@@ -1,4 +1,4 @@
-use Rattle.flute_journal.proofs.Common.{length, rules, arith, err_from_is_err_and, AppendsPart-first, Writes-behind, in_bytes}
+use Rattle.flute_journal.proofs.Common.{length, rules, err_from_is_err_and, AppendsPart-first, Writes-behind, in_bytes}
 use Rattle.flute_journal.proofs.datagram_writing.write_record.Goals as goal
 
 pub returns-in_err-write_all-clause-bytes : goal.returns-in_err-write_all-clause-bytes
@@ -8,9 +8,6 @@ returns-in_err-write_all-clause-bytes g c =
     let v = g.W.Sink.written c.write_all.new.self in
     let e = err_from_is_err_and c.from_residual.result c.from_residual.ensures.1 in
     rw e.1 (AppendsPart-first u v (in_bytes 2 (length bytes)) bytes (search rules))
-
-pub returns-clause-valid : goal.returns-clause-valid
-returns-clause-valid g c = record { short = omega (arith, c.as_slice-bytes.ensures.limit); octets = search rules }
 
 pub returns-clause-bytes : goal.returns-clause-bytes
 returns-clause-bytes g c =

@@ -1,5 +1,4 @@
-use Rattle.std.proofs.Common.{arith}
-use Rattle.flute_journal.proofs.Passes.{beyond}
+use Rattle.flute_journal.proofs.{Common.{arith}, Passes.{beyond}}
 use Rattle.flute_journal.proofs.laws.a_journal_has_no_fault.Goals as goal
 
 pub returns : goal.returns

@@ -1,6 +1,5 @@
-use Rattle.flute_journal.proofs.Common.{sym, ap, ◌∙◌, fact_at, append-nil, [], spelling}
+use Rattle.flute_journal.proofs.{Common.{sym, ap, ◌∙◌, fact_at, append-nil, [], spelling}, MergeBytes.{spelling-injective}}
 use Rattle.flute_journal.proofs.laws.a_journal_has_one_content.Goals as goal
-use Rattle.flute_journal.proofs.MergeBytes.{spelling-injective}
 
 pub returns : goal.returns
 returns c bs F G j k =

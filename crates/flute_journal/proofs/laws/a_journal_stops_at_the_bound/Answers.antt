@@ -1,5 +1,4 @@
-use Rattle.flute_journal.proofs.Common.{length, arith, AreEntries}
-use Rattle.flute_journal.proofs.Passes.{beyond}
+use Rattle.flute_journal.proofs.{Common.{length, arith, AreEntries}, Passes.{beyond}}
 use Rattle.flute_journal.proofs.laws.a_journal_stops_at_the_bound.Goals as goal
 
 pub returns : goal.returns

@@ -1,5 +1,4 @@
-use Rattle.flute_journal.proofs.Common.{[], sym, ap, ◌∙◌, append-nil, fact_at, spelling, rising_unique}
-use Rattle.flute_journal.proofs.MergeBytes.{spelling-injective}
+use Rattle.flute_journal.proofs.{Common.{[], sym, ap, ◌∙◌, append-nil, fact_at, spelling, rising_unique}, MergeBytes.{spelling-injective}}
 use Rattle.flute_journal.proofs.laws.one_journal_for_one_content.Goals as goal
 
 pub returns : goal.returns

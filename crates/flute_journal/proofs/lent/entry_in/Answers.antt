@@ -1,11 +1,8 @@
-use Rattle.flute_journal.proofs.Common.{◌≡◌, ℕ, ◌+◌, false, if◌then◌else◌, Result, Ok, Err, List, [], ◌∷◌, ◌++◌, length, take, drop, Option, sym, ap, ◌∙◌, subst, arith, append_assoc, take-append-drop, length-append, AllByRecursion, Key, SymbolId, Address, Kind, entry, IsByte, byte_of, SymbolIs, fixed_bytes}
+use Rattle.flute_journal.proofs.Common.{◌≡◌, ℕ, ◌+◌, List, ◌∷◌, ◌++◌, length, take, drop, Option, sym, ap, ◌∙◌, subst, arith, append_assoc, take-append-drop, length-append, AllByRecursion, Key, SymbolId, Address, Kind, entry, IsByte, byte_of, SymbolIs, fixed_bytes}
 use Rattle.std.proofs.Math.Seq.{take-append_seam}
-use Rattle.std.specs.Result.{is_ok, is_err}
 use Rattle.flute_parts.specs.declared.fact.Fact.TheVariants as facts
-use Rattle.flute_journal.specs.declared.format.Fixed.TheVariants.{Symbol}
-use Rattle.flute_journal.specs.Lent.{BeginsWithEntry}
-use Rattle.flute_journal.proofs.Numbers.{octets, octets-take, octets-drop}
-use Rattle.flute_journal.proofs.Decoded.{joined}
+use Rattle.flute_journal.specs.{declared.format.Fixed.TheVariants.{Symbol}, Lent.{BeginsWithEntry}}
+use Rattle.flute_journal.proofs.{Numbers.{octets, octets-take, octets-drop}, Decoded.{joined, appended}}
 use Rattle.flute_journal.proofs.lent.entry_in.Goals as goal
 
 -- a symbol whose bytes lie there too
@@ -25,11 +22,6 @@ symbol_begins last k key id n byte fixed rest symbol kind_is s fixed_is symbol_i
       within = omega (arith, ap length bytes, long, length-append whole (drop n rest));
       spelled = ap (λ m. take m (byte ∷ (fixed ++ rest))) (sym long) ∙ ap (take (length whole)) bytes ∙ take-append_seam whole (drop n rest) ∙ spelled;
     }
-
--- what an appending call that succeeded leaves in an empty vector
-appended : {A E : Type 0} (r : Result A E) (now old more : List ℕ) → old ≡ [] → false ≡ is_err r → now ≡ (if is_ok r then old ++ more else old) → now ≡ more
-appended (Ok x) now old more e h is = is ∙ ap (λ xs. xs ++ more) e
-appended (Err x) now old more e h is = cc
 
 pub returns-in-Ok-clause-begins : goal.returns-in-Ok-clause-begins
 returns-in-Ok-clause-begins c =

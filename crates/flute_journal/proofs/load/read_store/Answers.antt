@@ -1,9 +1,5 @@
-use Rattle.flute_journal.proofs.Common.{◌≡◌, List, rules, ap, ◌∙◌, subst, Err, err_from_is_err_and, Fact, is_open, IsLoadFault, Read, ReadsPart}
-use Rattle.flute_journal.proofs.Loading.{loaded-none, loaded-given, loaded-fits, loaded-full, loaded-all, loaded-stops, loaded-failed, loaded-read, fault-part, refused-part}
+use Rattle.flute_journal.proofs.{Common.{◌≡◌, List, rules, ap, ◌∙◌, subst, Err, err_from_is_err_and, Fact, is_open, IsLoadFault, Read, ReadsPart}, Loading.{loaded-given, loaded-fits, loaded-full, loaded-stops, loaded-read, fault-part, refused-part}}
 use Rattle.flute_journal.proofs.load.read_store.Goals as goal
-
-pub loop-store-init : goal.loop-store-init
-loop-store-init g c = search (rules, loaded-none)
 
 pub returns-in_err-fact-clause-fault : goal.returns-in_err-fact-clause-fault
 returns-in_err-fact-clause-fault g c =
@@ -14,9 +10,6 @@ returns-in_err-fact-clause-fault g c =
     → IsLoadFault g.row.SESSIONS g.row.OBJECTS g.row.SYMBOLS c.args.max_entries (g.R.Source.unread c.args.source.now) (g.R.Source.unread x) (Read f) =
     λ x same. subst (λ (z : g.row.R.Denot). IsLoadFault g.row.SESSIONS g.row.OBJECTS g.row.SYMBOLS c.args.max_entries (g.R.Source.unread c.args.source.now) (g.R.Source.unread z) (Read f)) same stops in
     rw (e.1 ∙ ap Err e.2) (at _ (search rules))
-
-pub returns-in_err-fact-clause-failures : goal.returns-in_err-fact-clause-failures
-returns-in_err-fact-clause-failures g c = search (rules, err_from_is_err_and, loaded-failed)
 
 pub returns-in_err-fact-clause-reads : goal.returns-in_err-fact-clause-reads
 returns-in_err-fact-clause-reads g c =
@@ -49,12 +42,6 @@ loop-store-preserved g c = (
   c.next.ensures.source ∙ c.loop-store.invariant.2,
   loaded-read (is_open c.loop-store.reader.stage) _ _ _ c.loop-store.invariant.3 c.in_ok-fact.ensures.failures,
 )
-
-pub returns-clause-journal : goal.returns-clause-journal
-returns-clause-journal g c = (loaded-all _ _ _ _ _ _ _ _ _ _ _ _ c.loop-store.invariant.0 c.loop-store.invariant.1 c.in_default.is c.in_ok-fact.ensures.gives).journal
-
-pub returns-clause-end : goal.returns-clause-end
-returns-clause-end g c = search (rules, loaded-all)
 
 pub returns-clause-within : goal.returns-clause-within
 returns-clause-within g c = loaded-fits _ _ _ _ _ _ _ _ c.loop-store.invariant.0

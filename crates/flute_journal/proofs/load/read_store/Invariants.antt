@@ -1,6 +1,5 @@
 -- The store holds what the entries so far come to, within its limits.
-use Rattle.std.proofs.Common.{◌≡◌, ◌-◌}
-use Rattle.flute_journal.proofs.Loading.{Loaded, entries_at}
+use Rattle.flute_journal.proofs.{Common.{◌≡◌, ◌-◌}, Loading.{Loaded, entries_at}}
 use Rattle.flute_journal.proofs.load.read_store.Given as goal
 
 abbrev pub invariant-loop-store : goal.invariant-loop-store

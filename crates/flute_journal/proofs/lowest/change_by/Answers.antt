@@ -1,5 +1,4 @@
-use Rattle.flute_journal.proofs.Common.{subst, fact_of, fact_in, IsLowest}
-use Rattle.flute_journal.proofs.LowestFacts.{lowest_alone}
+use Rattle.flute_journal.proofs.{Common.{subst, fact_of, fact_in, IsLowest}, LowestFacts.{lowest_alone}}
 use Rattle.flute_journal.proofs.lowest.change_by.Goals as goal
 
 pub returns-in-None : goal.returns-in-None

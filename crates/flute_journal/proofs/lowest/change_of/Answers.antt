@@ -1,5 +1,4 @@
-use Rattle.flute_journal.proofs.Common.{sym, ◌∙◌, fact_of}
-use Rattle.flute_journal.proofs.LowestFacts.{lowest_turns, lowest_stays, lowest_same, lowest_apart}
+use Rattle.flute_journal.proofs.{Common.{sym, ◌∙◌, fact_of}, LowestFacts.{lowest_turns, lowest_stays, lowest_same, lowest_apart}}
 use Rattle.flute_journal.proofs.lowest.change_of.Goals as goal
 
 pub returns-in-Less : goal.returns-in-Less

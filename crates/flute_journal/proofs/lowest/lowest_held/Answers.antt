@@ -1,7 +1,6 @@
 -- One stream more.
-use Rattle.flute_journal.proofs.Common.{◌<◌, length, arith, List, [], ◌++◌, Option, Some, take, sym, ap, subst, append-nil, ◌∷◌, ◌∙◌, take_all, fact_of, conflict_at, Fact, fact_in, option_list, heads, IsLowest}
+use Rattle.flute_journal.proofs.{Common.{◌<◌, length, arith, List, [], ◌++◌, Option, Some, take, sym, ap, subst, append-nil, ◌∷◌, ◌∙◌, fact_of, conflict_at, Fact, fact_in, option_list, heads, IsLowest}, LowestFacts.{heads-more}}
 use Rattle.flute_journal.specs.Changes.{changed}
-use Rattle.flute_journal.proofs.LowestFacts.{heads-more}
 use Rattle.flute_journal.proofs.lowest.lowest_held.Goals.{in-Some+in-Lower, in-Some+in-Conflict, in-Some+in-Nothing, in_default}
 use Rattle.flute_journal.proofs.lowest.lowest_held.Goals as goal
 
@@ -33,6 +32,3 @@ loop-number-preserved g c =
           (subst (λ (l : List Fact). IsLowest l (fact_in c.match-head.lowest)) (sym (append-nil before)) (subst (λ o. IsLowest before o) (sym (ap fact_in w.lowest-is)) held))
     ] in
     subst P (sym more) next
-
-pub returns : goal.returns
-returns g c = grind (arith, take_all)

@@ -1,9 +1,5 @@
-use Rattle.flute_journal.proofs.Twos.{merged_two, reading_two, stopped_two, fail_two}
+use Rattle.flute_journal.proofs.Twos.{merged_two, stopped_two, fail_two}
 use Rattle.flute_journal.proofs.merge.merge_new.Goals as goal
-
-pub fault_of_two-requires : goal.fault_of_two-requires
-fault_of_two-requires g c =
-    reading_two g.A.Source.unread g.A.Source.failures g.B.Source.unread g.B.Source.failures c.args.first.now c.args.first.now c.args.second.now c.args.second.now c.in-Err.fault c.in-Err.ensures.fault
 
 pub returns-in-Err-clause-gives : goal.returns-in-Err-clause-gives
 returns-in-Err-clause-gives g c =

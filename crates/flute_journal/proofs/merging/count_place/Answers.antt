@@ -1,5 +1,4 @@
-use Rattle.flute_journal.proofs.Common.{Bool, subst, [], ◌∷◌, ◌++◌, IsCounted}
-use Rattle.flute_journal.proofs.StreamStates.{counted, over_more}
+use Rattle.flute_journal.proofs.{Common.{Bool, subst, [], ◌∷◌, ◌++◌, IsCounted}, StreamStates.{counted, over_more}}
 use Rattle.flute_journal.proofs.merging.count_place.Goals as goal
 
 pub returns-then-within : goal.returns-then-within

@@ -1,8 +1,6 @@
 -- Each exit is a lemma on where the merge stood.
-use Rattle.flute_journal.proofs.Common.{◌≢◌, ℕ, [], true, Some, sym, subst, arith, fact_of, header, entry, end, GoOnAt, StopsIn, IsCounted}
-use Rattle.flute_journal.proofs.WrittenSoFar.{put-first, puts-part, left_out}
-use Rattle.flute_journal.proofs.Finished.{cut_journal}
-use Rattle.flute_journal.proofs.StreamStates.{stop_first, stop_header, state-start, state-turn, turn-falls, sized-lowest, few-joined, no_failure, stop_entry, stop_input, stop_end, finished}
+use Rattle.flute_journal.proofs.{Common.{◌≢◌, ℕ, [], true, Some, sym, subst, arith, fact_of, header, entry, end, GoOnAt, StopsIn, IsCounted}, WrittenSoFar.{puts-part, left_out}, Finished.{cut_journal}}
+use Rattle.flute_journal.proofs.StreamStates.{stop_first, stop_header, state_turn, turn-falls, sized-lowest, few-joined, no_failure, stop_entry, stop_input, stop_end, finished}
 use Rattle.flute_journal.proofs.merging.merge_into.Goals as goal
 
 pub returns-in-Err-clause-short : goal.returns-in-Err-clause-short
@@ -28,9 +26,6 @@ returns-then-stops-clause-reads_ahead g c = (stop_header g.G.Stream.Stream.behav
 
 pub returns-then-stops-clause-failures : goal.returns-then-stops-clause-failures
 returns-then-stops-clause-failures g c = (stop_header g.G.Stream.Stream.behaviour c.args.patient (g.G.Streams.streams c.args.streams.now) (g.G.Streams.streams c.advance_at.new.streams) _ _ c.requires.new c.in_default.ensures.go_on (puts-part c.args.writer.now.failed c.header.new.self.failed _ _ header c.requires.good (c.stops.ensures.stops c.if-stops.true).0 c.header.ensures.puts)).1
-
-pub loop-fact-init : goal.loop-fact-init
-loop-fact-init g c = grind (arith, state-start, put-first)
 
 pub entry-requires : goal.entry-requires
 entry-requires g c = record { sized = sized-lowest g.G.Stream.Stream.behaviour c.loop-fact.invariant.state (fact_of c.in-Some.fact) c.in-Some.ensures.lowest }
@@ -61,14 +56,11 @@ returns-in-Err-advance-clause-failures g c = (stop_input g.G.Stream.Stream.behav
 
 pub overflow_add-entries : goal.overflow_add-entries
 overflow_add-entries g c =
-    let next = state-turn g.G.Stream.Stream.behaviour c.loop-fact.invariant.state (fact_of c.in-Some.fact) c.in-Some.ensures.lowest c.entry.ensures.valid c.entry.new.self.failed (IsCounted g.row.SESSIONS g.row.OBJECTS g.row.SYMBOLS c.count_place-within.new.tally c.count_place-within.result) (g.G.Streams.streams c.advance.new.streams) _ (λ F r k. c.count_place-within.ensures F (fact_of c.in-Some.fact) (sym c.address-place.ensures) r k) c.entry.ensures.puts.puts (subst (λ a. GoOnAt g.G.Stream.Stream.behaviour (Some a) (g.G.Streams.streams c.loop-fact.streams) (g.G.Streams.streams c.advance.new.streams)) c.address-place.ensures c.in_default-advance.ensures.go_on) in
+    let next = state_turn g.G.Stream.Stream.behaviour c.loop-fact.invariant.state (fact_of c.in-Some.fact) c.in-Some.ensures.lowest c.entry.ensures.valid c.entry.new.self.failed (IsCounted g.row.SESSIONS g.row.OBJECTS g.row.SYMBOLS c.count_place-within.new.tally c.count_place-within.result) (g.G.Streams.streams c.advance.new.streams) _ (λ F r k. c.count_place-within.ensures F (fact_of c.in-Some.fact) (sym c.address-place.ensures) r k) c.entry.ensures.puts.puts (subst (λ a. GoOnAt g.G.Stream.Stream.behaviour (Some a) (g.G.Streams.streams c.loop-fact.streams) (g.G.Streams.streams c.advance.new.streams)) c.address-place.ensures c.in_default-advance.ensures.go_on) in
     omega (arith, few-joined g.G.Stream.Stream.behaviour next, c.requires.few)
 
 pub loop-fact-smaller : goal.loop-fact-smaller
 loop-fact-smaller g c = turn-falls g.G.Stream.Stream.behaviour c.loop-fact.invariant.state (fact_of c.in-Some.fact) c.in-Some.ensures.lowest (g.G.Streams.streams c.advance.new.streams) (subst (λ a. GoOnAt g.G.Stream.Stream.behaviour (Some a) (g.G.Streams.streams c.loop-fact.streams) (g.G.Streams.streams c.advance.new.streams)) c.address-place.ensures c.in_default-advance.ensures.go_on)
-
-pub loop-fact-preserved : goal.loop-fact-preserved
-loop-fact-preserved g c = grind (arith, state-turn)
 
 pub returns-then-stops-3-clause-short : goal.returns-then-stops-3-clause-short
 returns-then-stops-3-clause-short g c = (stop_end g.G.Stream.Stream.behaviour c.loop-fact.invariant.state c.in_default-lowest.ensures.lowest c.args.patient _ (c.loop-fact.invariant.eager (c.stops-2.ensures.stops c.if-stops-3.true).1) (puts-part c.loop-fact.writer.failed c.end.new.self.failed _ _ (end c.loop-fact.entries) (c.loop-fact.invariant.eager (c.stops-2.ensures.stops c.if-stops-3.true).1) (c.stops-2.ensures.stops c.if-stops-3.true).0 c.end.ensures.puts)).short

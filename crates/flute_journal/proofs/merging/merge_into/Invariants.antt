@@ -1,6 +1,5 @@
 -- Between two turns, the sink has not failed, or the merge is patient.
-use Rattle.flute_journal.proofs.Common.{◌≡◌, ◌+◌, true, false, most_of, times_failed, Leads, IsCounted}
-use Rattle.flute_journal.proofs.StreamStates.{State}
+use Rattle.flute_journal.proofs.{Common.{◌≡◌, ◌+◌, true, false, most_of, times_failed, Leads, IsCounted}, StreamStates.{State}}
 use Rattle.flute_journal.proofs.merging.merge_into.Given as goal
 
 abbrev pub invariant-loop-fact : goal.invariant-loop-fact

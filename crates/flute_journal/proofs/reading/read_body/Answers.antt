@@ -1,6 +1,4 @@
-use Rattle.flute_journal.proofs.Common.{Err, sym, ap, ◌∙◌, subst, err_from_is_err_and, body, StaysWithin, IsBody}
-use Rattle.flute_journal.proofs.Parts.{body_within-short}
-use Rattle.flute_journal.proofs.Bodies.{symbol_stops, symbol_ends}
+use Rattle.flute_journal.proofs.{Common.{Err, sym, ap, ◌∙◌, subst, err_from_is_err_and, body, StaysWithin, IsBody}, Parts.{body_within-short}, Bodies.{symbol_ends}}
 use Rattle.flute_journal.proofs.reading.read_body.Goals as goal
 
 pub returns-in_err-fact-clause-within : goal.returns-in_err-fact-clause-within
@@ -9,16 +7,6 @@ returns-in_err-fact-clause-within g c =
     let e = err_from_is_err_and c.from_residual.result c.from_residual.ensures.1 in
     let a = c.in_err-fact.ensures.advances in
     subst (StaysWithin body (IsBody k) _ _) (sym e.1) (a.0, a.1, body_within-short k a.0 a.2)
-
-pub returns-in_err-bytes-in-Symbol-clause-reads : goal.returns-in_err-bytes-in-Symbol-clause-reads
-returns-in_err-bytes-in-Symbol-clause-reads g c =
-    let k = c.args.kind in
-    let last = c.args.last in
-    let x = c.in-Symbol in
-    let e = err_from_is_err_and c.from_residual-in_err-bytes-in-Symbol.result c.from_residual-in_err-bytes-in-Symbol.ensures.1 in
-    let r = c.in_ok-fact.ensures.reads in
-    symbol_stops last k x.key x.id x.length (g.R.Source.unread c.args.source.now) (g.R.Source.unread c.read_fixed.new.source) (g.R.Source.unread c.read_bytes.new.source)
-    c.in_err-bytes-in-Symbol.field-0.0 c.from_residual-in_err-bytes-in-Symbol.result (e.1 ∙ ap Err e.2) (rw c.in-Symbol.is at r.0) (rw c.in-Symbol.is at r.1) c.in_err-bytes-in-Symbol.ensures.reads
 
 pub returns-in_err-bytes-in-Symbol-clause-within : goal.returns-in_err-bytes-in-Symbol-clause-within
 returns-in_err-bytes-in-Symbol-clause-within g c =

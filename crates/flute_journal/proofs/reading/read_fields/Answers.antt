@@ -1,8 +1,5 @@
-use Rattle.flute_journal.proofs.Common.{◌≡◌, [], ◌∷◌, Some, Err, sym, ap, ◌∙◌, subst, err_from_is_err_and, entry, next_fault, StaysWithin, IsFact, at_place, ReadsNext}
+use Rattle.flute_journal.proofs.{Common.{◌≡◌, [], ◌∷◌, Some, Err, sym, ap, ◌∙◌, subst, err_from_is_err_and, entry, next_fault, StaysWithin, IsFact, at_place, ReadsNext}, Fronts.{fault_here}, Parts.{one_byte, kind_wrong, too_many}, Bodies.{end_ends, end_stops, body_stops, body_ends}}
 use Rattle.flute_journal.specs.declared.fault.ReadFault.TheVariants as faults
-use Rattle.flute_journal.proofs.Fronts.{fault-here}
-use Rattle.flute_journal.proofs.Parts.{one_byte, kind_wrong, too_many}
-use Rattle.flute_journal.proofs.Bodies.{end_ends, end_stops, body_stops, body_ends}
 use Rattle.flute_journal.proofs.reading.read_fields.Goals as goal
 
 pub returns-in_err-read_end-clause-reads : goal.returns-in_err-read_end-clause-reads
@@ -28,7 +25,7 @@ returns-in_default-from_byte-clause-reads g c =
     let front = c.read_front-front.result.bytes.now in
     let byte = c.in-Some.field-0.now in
     let is : front ≡ byte ∷ [] = one_byte front byte c.read_front-front.ensures.filled.most c.in-Some.ensures.value in
-    fault-here (g.R.Source.unread c.args.source.now) (g.R.Source.unread c.read_front-front.new.source) front (next_fault (at_place c.args.count c.args.last) c.args.max_entries) (Some faults.Kind) c.read_front-front.ensures.filled.read
+    fault_here (g.R.Source.unread c.args.source.now) (g.R.Source.unread c.read_front-front.new.source) front (next_fault (at_place c.args.count c.args.last) c.args.max_entries) (Some faults.Kind) c.read_front-front.ensures.filled.read
     (λ r. kind_wrong (at_place c.args.count c.args.last) c.args.max_entries byte front r is c.if-byte.false c.in_default-from_byte.ensures)
 
 pub returns-then-count-max_entries-clause-reads : goal.returns-then-count-max_entries-clause-reads
@@ -36,7 +33,7 @@ returns-then-count-max_entries-clause-reads g c =
     let front = c.read_front-front.result.bytes.now in
     let k = c.in-Some-from_byte.kind in
     let is : front ≡ c.in-Some.field-0.now ∷ [] = one_byte front c.in-Some.field-0.now c.read_front-front.ensures.filled.most c.in-Some.ensures.value in
-    fault-here (g.R.Source.unread c.args.source.now) (g.R.Source.unread c.read_front-front.new.source) front (next_fault (at_place c.args.count c.args.last) c.args.max_entries) (Some faults.TooMany) c.read_front-front.ensures.filled.read
+    fault_here (g.R.Source.unread c.args.source.now) (g.R.Source.unread c.read_front-front.new.source) front (next_fault (at_place c.args.count c.args.last) c.args.max_entries) (Some faults.TooMany) c.read_front-front.ensures.filled.read
     (λ r. too_many (at_place c.args.count c.args.last) c.args.max_entries k front r (is ∙ ap (λ b. b ∷ []) c.in-Some-from_byte.ensures) c.if-count-max_entries.true)
 
 pub returns-in_err-fact-clause-reads : goal.returns-in_err-fact-clause-reads

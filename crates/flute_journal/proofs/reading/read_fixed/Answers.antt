@@ -1,6 +1,4 @@
-use Rattle.flute_journal.proofs.Common.{rules, Fronts, FixedIs, fixed_bytes, fixed_size, body_fault}
-use Rattle.flute_journal.proofs.Fronts.{parsed_reads, parsed_fails}
-use Rattle.flute_journal.proofs.Bodies.{fixed_least}
+use Rattle.flute_journal.proofs.{Common.{rules, Fronts, FixedIs, fixed_bytes, fixed_size, body_fault}, Fronts.{parsed_reads}, Bodies.{fixed_least}}
 use Rattle.flute_journal.proofs.reading.read_fixed.Goals as goal
 
 pub returns-clause-reads : goal.returns-clause-reads
@@ -12,6 +10,3 @@ returns-clause-reads g c =
     let filled : Fronts u v (fixed_size k) front.failed front.bytes.now = search rules in
     rw c.told.ensures
     (parsed_reads fixed_bytes (FixedIs c.args.last k) (body_fault c.args.last k) u v (fixed_size k) front.failed front.bytes.now c.parse.result filled (fixed_least c.args.last k) c.parse.ensures)
-
-pub returns-clause-failures : goal.returns-clause-failures
-returns-clause-failures g c = search (rules, parsed_fails)

@@ -1,5 +1,4 @@
-use Rattle.flute_journal.proofs.Common.{rules, subst, AppendsPart, Same-itself, spelling, Written}
-use Rattle.flute_journal.proofs.Saving.{saved-next, saved-cut, saved-all, only-spelling}
+use Rattle.flute_journal.proofs.{Common.{rules, subst, AppendsPart, Same-itself, spelling, Written}, Saving.{saved-next, saved-cut, saved-all, only-spelling}}
 use Rattle.flute_journal.proofs.save.write_store.Goals as goal
 
 pub loop-fact-preserved : goal.loop-fact-preserved

@@ -1,6 +1,5 @@
 -- What was written so far are the header and the entries of the facts that are not left.
-use Rattle.flute_journal.proofs.Common.{◌≡◌, ◌+◌, times_failed}
-use Rattle.flute_journal.proofs.Saving.{Saved}
+use Rattle.flute_journal.proofs.{Common.{◌≡◌, ◌+◌, times_failed}, Saving.{Saved}}
 use Rattle.flute_journal.proofs.save.write_store.Given as goal
 
 abbrev pub invariant-loop-fact : goal.invariant-loop-fact

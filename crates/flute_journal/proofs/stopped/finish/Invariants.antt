@@ -1,6 +1,5 @@
 -- The stream was read on.
-use Rattle.std.proofs.Common.{◌≡◌}
-use Rattle.flute_journal.proofs.Finished.{ReadOn, most_at}
+use Rattle.flute_journal.proofs.{Common.{◌≡◌}, Finished.{ReadOn, most_at}}
 use Rattle.flute_journal.proofs.stopped.finish.Given as goal
 
 abbrev pub invariant-loop-alloc : goal.invariant-loop-alloc

@@ -1,5 +1,4 @@
-use Rattle.std.proofs.Common.{◌∙◌, arith}
-use Rattle.flute_journal.proofs.Finished.{reached-more, reached-stop}
+use Rattle.flute_journal.proofs.{Common.{◌∙◌, arith}, Finished.{reached-more, reached-stop}}
 use Rattle.flute_journal.proofs.stopped.first_fault.Goals as goal
 
 pub returns-in-Err-clause-stopped : goal.returns-in-Err-clause-stopped

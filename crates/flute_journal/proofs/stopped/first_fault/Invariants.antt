@@ -1,6 +1,5 @@
 -- Those that were reached have ended.
-use Rattle.std.proofs.Common.{◌≡◌, ◌≤◌}
-use Rattle.flute_journal.proofs.Finished.{Reached}
+use Rattle.flute_journal.proofs.{Common.{◌≡◌, ◌≤◌}, Finished.{Reached}}
 use Rattle.flute_journal.proofs.stopped.first_fault.Given as goal
 
 abbrev pub invariant-loop-number : goal.invariant-loop-number

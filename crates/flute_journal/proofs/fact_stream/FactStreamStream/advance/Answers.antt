@@ -1,5 +1,4 @@
-use Rattle.flute_journal.proofs.Common.{◌≡◌, ◌++◌, [], inl, sym, ap, ◌∙◌, append-nil, option_list}
-use Rattle.flute_journal.proofs.ListedFacts.{listed_goes_on}
+use Rattle.flute_journal.proofs.{Common.{◌≡◌, ◌++◌, [], inl, sym, ap, ◌∙◌, append-nil, option_list}, ListedFacts.{listed_goes_on}}
 use Rattle.flute_journal.proofs.fact_stream.FactStreamStream.advance.Goals as goal
 
 pub returns-clause-goes_on : goal.returns-clause-goes_on

@@ -1,6 +1,4 @@
-use Rattle.std.proofs.Common.{rules}
-use Rattle.flute_journal.proofs.Parts.{not_true, not_false}
-use Rattle.flute_journal.proofs.Decoded.{opening_version, opening_read}
+use Rattle.flute_journal.proofs.{Common.{rules}, Parts.{not_true, not_false}, Decoded.{opening_version, opening_read}}
 use Rattle.flute_journal.proofs.format.decode.check_opening.Goals as goal
 
 pub returns-then-ne-2 : goal.returns-then-ne-2

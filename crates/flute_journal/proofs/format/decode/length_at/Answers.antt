@@ -1,6 +1,4 @@
-use Rattle.flute_journal.proofs.Common.{◌≡◌, length, arith, ◌∙◌, big_from-whole}
-use Rattle.flute_journal.proofs.Numbers.{octets}
-use Rattle.flute_journal.proofs.Decoded.{length_empty, length_read}
+use Rattle.flute_journal.proofs.{Common.{◌≡◌, length, arith, ◌∙◌, big_from-whole}, Numbers.{octets}, Decoded.{length_empty, length_read}}
 use Rattle.flute_journal.proofs.format.decode.length_at.Goals as goal
 
 pub returns-then-length-eq0 : goal.returns-then-length-eq0

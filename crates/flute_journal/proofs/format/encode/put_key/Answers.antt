@@ -1,7 +1,5 @@
-use Rattle.flute_journal.proofs.Common.{◌≡◌, ℕ, [], ◌∷◌, ◌++◌, List, ap, ◌∙◌, in_bytes, object_bytes}
-use Rattle.flute_journal.proofs.Written.{regroup, instance_bytes, file_bytes}
+use Rattle.flute_journal.proofs.{Common.{◌≡◌, ℕ, [], ◌∷◌, ◌++◌, List, ap, ◌∙◌, in_bytes, object_bytes}, Written.{regroup, instance_bytes, file_bytes}, format.encode.put_key.Goals.{in-Some, in-None}}
 use Rattle.flute_journal.proofs.format.encode.put_key.Goals as goal
-use Rattle.flute_journal.proofs.format.encode.put_key.Goals.{in-Some, in-None}
 
 pub returns-clause-items : goal.returns-clause-items
 returns-clause-items c =

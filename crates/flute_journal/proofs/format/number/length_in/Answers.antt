@@ -1,5 +1,4 @@
-use Rattle.flute_journal.proofs.Common.{ap, sym, ◌∙◌, big_from-whole, in_bytes}
-use Rattle.flute_journal.proofs.Numbers.{octets, spelled}
+use Rattle.flute_journal.proofs.{Common.{ap, sym, ◌∙◌, big_from-whole, in_bytes}, Numbers.{octets, spelled}}
 use Rattle.flute_journal.proofs.format.number.length_in.Goals as goal
 
 pub returns-clause-value : goal.returns-clause-value

@@ -1,17 +1,14 @@
-use Rattle.flute_journal.proofs.Common.{err_from_is_err_and}
-use Rattle.flute_journal.proofs.JournalReads.{stream_goes_on, stream_stops, none_failed, one_failed}
+use Rattle.flute_journal.proofs.{JournalReads.{stream_goes_on, stream_stops, none_failed, one_failed}}
 use Rattle.flute_journal.proofs.journal_stream.JournalStreamStream.advance.Goals as goal
 
-pub returns-in_err-self-clause-stops : goal.returns-in_err-self-clause-stops
-returns-in_err-self-clause-stops g c =
-    let e = err_from_is_err_and c.from_residual.result c.from_residual.ensures.1 in
-    rw (e.1, e.2)
-    (stream_stops g.R.Source.unread g.R.Source.failures c.args.self.now _ c.in_err-self.field-0.0
-    (one_failed g.R.Source.unread g.R.Source.failures c.args.self.now _ c.in_err-self.field-0.0 c.next_with.ensures.source c.in_err-self.ensures.failures)
-    c.in_err-self.ensures.gives)
+pub returns-in-Err-clause-stops : goal.returns-in-Err-clause-stops
+returns-in-Err-clause-stops g c =
+    (stream_stops g.R.Source.unread g.R.Source.failures c.args.self.now _ c.in-Err.fault
+    (one_failed g.R.Source.unread g.R.Source.failures c.args.self.now _ c.in-Err.fault c.next_with.ensures.source c.in-Err.ensures.failures)
+    c.in-Err.ensures.gives)
 
-pub returns-clause-goes_on : goal.returns-clause-goes_on
-returns-clause-goes_on g c =
+pub returns-in-Ok-clause-goes_on : goal.returns-in-Ok-clause-goes_on
+returns-in-Ok-clause-goes_on g c =
     stream_goes_on g.R.Source.unread g.R.Source.failures c.args.self.now _
-    (none_failed g.R.Source.unread g.R.Source.failures c.args.self.now _ c.next_with.ensures.source c.in_ok-self.ensures.failures)
-    c.next_with.ensures.limit c.in_ok-self.ensures.gives
+    (none_failed g.R.Source.unread g.R.Source.failures c.args.self.now _ c.next_with.ensures.source c.in-Ok.ensures.failures)
+    c.next_with.ensures.limit c.in-Ok.ensures.gives

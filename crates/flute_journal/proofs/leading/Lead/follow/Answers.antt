@@ -1,6 +1,4 @@
-use Rattle.flute_journal.proofs.Common.{arith, slice_get_within, fact_in}
-use Rattle.flute_journal.proofs.GoingOn.{same_length}
-use Rattle.flute_journal.proofs.LeadFacts.{lead-goes, lead-stops, still-leads}
+use Rattle.flute_journal.proofs.{Common.{arith, slice_get_within, fact_in}, GoingOn.{same_length}, LeadFacts.{lead-goes, lead-stops, still-leads}}
 use Rattle.flute_journal.proofs.leading.Lead.follow.Goals as goal
 
 pub returns-in-Err-clause-stops : goal.returns-in-Err-clause-stops

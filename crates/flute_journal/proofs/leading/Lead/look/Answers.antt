@@ -1,10 +1,6 @@
 -- One stream more: it holds nothing before the next address, or it is the one that is to lead.
-use Rattle.flute_journal.proofs.Common.{◌≤◌, length, sym, subst, arith, fact_in, Leads}
-use Rattle.flute_journal.proofs.LeadFacts.{firsts-more, firsts-passed, lead-new}
+use Rattle.flute_journal.proofs.{Common.{◌≤◌, length, sym, subst, arith, fact_in, Leads}, LeadFacts.{lead-new}}
 use Rattle.flute_journal.proofs.leading.Lead.look.Goals as goal
-
-pub loop-other-preserved : goal.loop-other-preserved
-loop-other-preserved g c = grind (arith, firsts-more, firsts-passed)
 
 pub returns : goal.returns
 returns g c = λ below.

@@ -1,6 +1,5 @@
 -- None of the streams that were looked at holds a fact before the next address.
-use Rattle.std.proofs.Common.{◌≡◌, false, length}
-use Rattle.flute_journal.proofs.LeadFacts.{FirstsFrom}
+use Rattle.flute_journal.proofs.{Common.{◌≡◌, false, length}, LeadFacts.{FirstsFrom}}
 use Rattle.flute_journal.proofs.leading.Lead.look.Given as goal
 
 abbrev pub invariant-loop-other : goal.invariant-loop-other

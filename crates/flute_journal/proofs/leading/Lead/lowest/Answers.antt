@@ -1,5 +1,4 @@
-use Rattle.flute_journal.proofs.Common.{fact_in}
-use Rattle.flute_journal.proofs.LeadFacts.{lead-lowest}
+use Rattle.flute_journal.proofs.{Common.{fact_in}, LeadFacts.{lead-lowest}}
 use Rattle.flute_journal.proofs.leading.Lead.lowest.Goals as goal
 
 pub returns-then-self-clause-lowest : goal.returns-then-self-clause-lowest

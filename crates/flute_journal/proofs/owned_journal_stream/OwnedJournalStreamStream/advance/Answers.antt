@@ -1,13 +1,10 @@
-use Rattle.flute_journal.proofs.Common.{refl, err_from_is_err_and}
-use Rattle.flute_journal.proofs.OwnedReads.{owned_goes_on, owned_stops}
+use Rattle.flute_journal.proofs.{Common.{refl}, OwnedReads.{owned_goes_on, owned_stops}}
 use Rattle.flute_journal.proofs.owned_journal_stream.OwnedJournalStreamStream.advance.Goals as goal
 
-pub returns-in_err-self-clause-stops : goal.returns-in_err-self-clause-stops
-returns-in_err-self-clause-stops g c =
-    let e = err_from_is_err_and c.from_residual.result c.from_residual.ensures.1 in
-    rw (e.1, e.2)
-    (owned_stops g.R.Source.unread g.R.Source.failures c.args.self.now _ c.in_err-self.field-0.0 c.in_err-self.ensures.failures c.in_err-self.ensures.gives)
+pub returns-in-Err-clause-stops : goal.returns-in-Err-clause-stops
+returns-in-Err-clause-stops g c =
+    (owned_stops g.R.Source.unread g.R.Source.failures c.args.self.now _ c.in-Err.fault c.in-Err.ensures.failures c.in-Err.ensures.gives)
 
-pub returns-clause-goes_on : goal.returns-clause-goes_on
-returns-clause-goes_on g c =
-    owned_goes_on g.R.Source.unread g.R.Source.failures c.args.self.now _ refl c.in_ok-self.ensures.failures c.in_ok-self.ensures.gives
+pub returns-in-Ok-clause-goes_on : goal.returns-in-Ok-clause-goes_on
+returns-in-Ok-clause-goes_on g c =
+    owned_goes_on g.R.Source.unread g.R.Source.failures c.args.self.now _ refl c.in-Ok.ensures.failures c.in-Ok.ensures.gives

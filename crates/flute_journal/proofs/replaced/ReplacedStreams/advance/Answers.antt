@@ -1,20 +1,13 @@
-use Rattle.std.proofs.Common.{rules, ◌<◌, length, get_or, ap, ◌∙◌}
-use Rattle.flute_journal.proofs.Replacements.{below_streams, below_others, other_advances, own_advances}
+use Rattle.flute_journal.proofs.{Common.{rules, ◌<◌, length, get_or, ap, ◌∙◌}, Replacements.{below_streams, below_others, other_advances, own_advances}}
 use Rattle.flute_journal.proofs.replaced.ReplacedStreams.advance.Goals as goal
 
 pub offset_bounds-self-number : goal.offset_bounds-self-number
 offset_bounds-self-number g c =
     let h : c.args.number < length c.args.self.now.others.now = below_others _ _ _ c.requires in search rules
 
-pub bounds-self-number : goal.bounds-self-number
-bounds-self-number g c = below_others _ _ _ c.requires
-
 pub offset_bounds-self-number-in-None : goal.offset_bounds-self-number-in-None
 offset_bounds-self-number-in-None g c =
     let h : c.args.number < length c.args.self.now.streams.now = below_streams _ _ _ c.requires in search rules
-
-pub bounds-self-number-in-None : goal.bounds-self-number-in-None
-bounds-self-number-in-None g c = below_streams _ _ _ c.requires
 
 pub returns-in-Some-clause-advances : goal.returns-in-Some-clause-advances
 returns-in-Some-clause-advances g c =

@@ -1,5 +1,4 @@
-use Rattle.std.proofs.Common.{◌≡◌, arith}
-use Rattle.flute_journal.proofs.Pairs.{first_advances, second_advances}
+use Rattle.flute_journal.proofs.{Common.{◌≡◌, arith}, Pairs.{first_advances, second_advances}}
 use Rattle.flute_journal.proofs.streams.PairStreams.advance.Goals as goal
 
 pub returns-then-number-eq0-clause-advances : goal.returns-then-number-eq0-clause-advances

@@ -1,5 +1,4 @@
-use Rattle.std.proofs.Common.{inr}
-use Rattle.flute_journal.proofs.ListedFacts.{listed_goes_on, walked}
+use Rattle.flute_journal.proofs.{Common.{inr}, ListedFacts.{listed_goes_on, walked}}
 use Rattle.flute_journal.proofs.walk_stream.WalkStreamStream.advance.Goals as goal
 
 pub returns-clause-goes_on : goal.returns-clause-goes_on

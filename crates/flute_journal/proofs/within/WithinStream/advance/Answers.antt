@@ -1,5 +1,4 @@
-use Rattle.flute_journal.proofs.Common.{◌++◌, List, Option, subst, IsRising, Over, Counts, Fact, option_list}
-use Rattle.flute_journal.proofs.WithinFacts.{within_goes_on, within_full}
+use Rattle.flute_journal.proofs.{Common.{◌++◌, List, Option, subst, IsRising, Over, Counts, Fact, option_list}, WithinFacts.{within_goes_on, within_full}}
 use Rattle.flute_journal.proofs.within.WithinStream.advance.Goals as goal
 
 pub returns-then-count_held-clause-goes_on : goal.returns-then-count_held-clause-goes_on

@@ -2,7 +2,7 @@ use Rattle.std.proofs.Common.{◌≡◌, [], ◌∷◌, ◌++◌, sym, ap, ◌�
 use Rattle.std.proofs.lemmas.Result.{err_from_is_err_and}
 use Rattle.flute_journal.specs.Records.{GivesRecord, GivesFileFault}
 use Rattle.flute_journal.specs.FilesSoFar.{FileSofar}
-use Rattle.flute_journal.proofs.Records.{file_sofar-next, file_sofar-fault}
+use Rattle.flute_journal.proofs.Records.{file_sofar_next, file_sofar_fault}
 use Rattle.flute_journal_tests.proofs.tests.datagram_files.datagrams_of.Goals as goal
 
 pub returns-in_err-datagram-clause-fault : goal.returns-in_err-datagram-clause-fault
@@ -16,7 +16,7 @@ returns-in_err-datagram-clause-fault g c =
     let w = g.R.Source.unread c.next.new.self.source.now in
     let gave : GivesFileFault limit old new v w f = subst (λ n. GivesFileFault n old new v w f) c.loop-datagrams.invariant.1 c.in_err-datagram.ensures.gives in
     let e = err_from_is_err_and c.from_residual.result c.from_residual.ensures.1 in
-    rw (e.1 ∙ ap Err e.2) (file_sofar-fault limit u v w old new c.loop-datagrams.datagrams.items f c.loop-datagrams.invariant.0 gave)
+    rw (e.1 ∙ ap Err e.2) (file_sofar_fault limit u v w old new c.loop-datagrams.datagrams.items f c.loop-datagrams.invariant.0 gave)
 
 pub loop-datagrams-preserved : goal.loop-datagrams-preserved
 loop-datagrams-preserved g c =
@@ -31,4 +31,4 @@ loop-datagrams-preserved g c =
     let gave : GivesRecord c.loop-datagrams.reader.max_records old new v w d = rw c.in-Some.is at c.in_ok-datagram.ensures.gives in
     let gave' : GivesRecord limit old new v w d = subst (λ n. GivesRecord n old new v w d) c.loop-datagrams.invariant.1 gave in
     let grown : c.push.new.self.items ≡ ds ++ d ∷ [] = grind arith in
-    (subst (FileSofar limit u w new) (sym grown) (file_sofar-next limit u v w old new ds d c.loop-datagrams.invariant.0 gave'), c.next.ensures.limit ∙ c.loop-datagrams.invariant.1)
+    (subst (FileSofar limit u w new) (sym grown) (file_sofar_next limit u v w old new ds d c.loop-datagrams.invariant.0 gave'), c.next.ensures.limit ∙ c.loop-datagrams.invariant.1)
