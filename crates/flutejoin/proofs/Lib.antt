@@ -24,3 +24,4 @@ mod JoinStops
 mod Begun
 mod MemoryFacts
 mod Infos
+mod Extracted

@@ -6,9 +6,9 @@ use Rattle.flute_parts.specs.declared.address.Address.{Address}
 use Rattle.flute_parts.specs.declared.fact.Fact.{Fact}
 use Rattle.flute_parts.specs.declared.fact.Fact.TheVariants.{Info, InfoConflict, Symbol, SymbolConflict}
 use Rattle.flute_parts.specs.Addresses.{symbol_address}
-use Rattle.flute_parts.specs.Facts.{fact_at, Same, Below}
+use Rattle.flute_parts.specs.Facts.{fact_at, Same, SameMembers, Below}
 use Rattle.flute_parts.proofs.Joined.{joined, joined-none, fact_at-append}
-use Rattle.flute_parts.proofs.Facts.{Same-itself, Same-sym, Same-trans, Same-append, Same-swap, Same-twice, Below-trans, Below-from_Same}
+use Rattle.flute_parts.proofs.Facts.{Same-members, Same-itself, Same-sym, Same-trans, Same-append, Same-swap, Same-twice, Below-trans, Below-from_Same}
 use Rattle.flute_parts.proofs.Named.{Over-below}
 use Rattle.flute_parts.proofs.Rising.{rising_unique}
 use Rattle.flute_store.specs.Held.{HasCell}
@@ -18,7 +18,7 @@ use Rattle.flute_journal.specs.Journal.{Journal, IsJournalWithin, Stops}
 use Rattle.flute_journal.proofs.MergeBytes.{spelling-injective}
 use Rattle.flute_journal.proofs.Passes.{beyond, front-below}
 use Rattle.flutejoin.specs.Held.{Capacity, IsOver}
-use Rattle.flute_journal.specs.Stores.{BeginsWith}
+use Rattle.flute_journal.specs.Stores.{BeginsWith, IsJournalOf}
 use Rattle.flutejoin.specs.Outcome.{IsLonger}
 use Rattle.flutejoin.specs.declared.limits.TheConstants.{MAX_ENTRIES}
 
@@ -69,6 +69,12 @@ Journal-only bs cs F G same j k =
 pub Journal-from_within : (bs : List ℕ) (entries : List Fact) → IsJournalWithin MAX_ENTRIES bs entries → Journal bs entries
 Journal-from_within bs entries j =
     (entries, record { valid = j.are_entries.valid; rising = j.are_entries.rising; same = Same-itself entries }, omega (arith, j.are_entries.few), j.bytes_are)
+
+-- what is read of the journal of facts comes to the same as others with the same members
+pub Same-read_of_joined : (held joined others : List Fact) (bs : List ℕ) → IsJournalOf MAX_ENTRIES bs held → Journal bs joined → SameMembers joined others → Same held others
+Same-read_of_joined held joined others bs is journal members =
+    Same-trans held is.0 others is.2 (Same-trans is.0 joined others
+    (Same-from_journals bs is.0 joined (Journal-from_within bs is.0 is.1) journal) (Same-members joined others members))
 
 -- bytes are no journal and at fault too
 pub never_both : (bs : List ℕ) (entries es : List Fact) (f : ReadFault) → IsJournalWithin MAX_ENTRIES bs entries → Stops bs MAX_ENTRIES es f → ⊥

@@ -1,8 +1,11 @@
 //! The command `extract`: an object that is whole.
-ghost use Rattle.std.specs.Prelude.{◌≡◌, ◌+◌, OnOk, IfErr, MatchResult};
+ghost use Rattle.std.specs.Prelude.{◌≡◌, ◌+◌, List, OnOk, IfErr, MatchResult};
+ghost use Rattle.flute_parts.specs.Facts.{Same};
+ghost use Rattle.flute_parts.specs.declared.fact.Fact.{Fact as Known};
 ghost use Rattle.flute_store.specs.Extract.{WritesWhole};
 ghost use Rattle.flutejoin.specs.Packet.{write_failures};
 ghost use Rattle.flutejoin.specs.Extract.{IsWhole, IsNoWhole, ExtractFails};
+ghost use Rattle.flutejoin.specs.Status.{of_extract};
 
 use crate::command_fault::CommandFault;
 use flute_parts::{Key, Sink};
@@ -33,7 +36,8 @@ pub fn check_whole(shelf: &Shelf, key: &Key) -> Result<(), CommandFault>
     }
 }
 
-/// Writes the object, if it is whole, and answers how many bytes it has.
+/// Writes the object, if it is whole, and answers how many bytes it has. Of whatever else comes to the
+/// same as what is held, it is the same object that is written, and the same fault that is told.
 ///
 /// # Errors
 ///
@@ -43,17 +47,29 @@ pub fn extract_to<W: Sink>(shelf: &Shelf, key: &Key, sink: &mut W) -> Result<u64
     ensures extracts { MatchResult result
         (WritesWhole W.written shelf.now key.now sink.old sink.new)
         (ExtractFails W.written shelf.now key.now sink.old sink.new) }
+    ensures as_others { (others : List Known) → Same shelf.now others → MatchResult result
+        (WritesWhole W.written others key.now sink.old sink.new)
+        (ExtractFails W.written others key.now sink.old sink.new) }
     ensures failures { W.failures sink.new ≡ W.failures sink.old + write_failures result }
 {
     match shelf.extract(key, sink) {
         Ok(length) => Ok(length),
-        Err(ExtractFault::NoObject) => Err(CommandFault::NoObject),
-        Err(ExtractFault::NoInformation) => Err(CommandFault::NoInformation),
-        Err(ExtractFault::ConflictingInformation) => Err(CommandFault::ConflictingInformation),
-        Err(ExtractFault::NotWhole { first }) => Err(CommandFault::NotWhole {
+        Err(fault) => Err(extract_fault(fault)),
+    }
+}
+
+// Why an object was not written.
+fn extract_fault(fault: ExtractFault) -> CommandFault
+    ensures { result ≡ of_extract fault }
+{
+    match fault {
+        ExtractFault::NoObject => CommandFault::NoObject,
+        ExtractFault::NoInformation => CommandFault::NoInformation,
+        ExtractFault::ConflictingInformation => CommandFault::ConflictingInformation,
+        ExtractFault::NotWhole { first } => CommandFault::NotWhole {
             sbn: first.sbn,
             esi: first.esi,
-        }),
-        Err(ExtractFault::Write) => Err(CommandFault::CannotWrite),
+        },
+        ExtractFault::Write => CommandFault::CannotWrite,
     }
 }

@@ -80,8 +80,10 @@ pub(crate) fn read_file<R: Source>(
     a_file_is_read_record_by_record();
     let mut file = HeldFile::new(alloc);
     let mut reader = DatagramReader::new(source, MAX_ENTRIES);
-    while let Some(datagram) = at_input(number, reader.next(alloc))? {
+    let mut spare = Vec::new(alloc);
+    while let Some(datagram) = at_input(number, reader.next_with(alloc, spare))? {
         file.take(alloc, datagram.as_slice())?;
+        spare = datagram.into_vec();
     }
     Ok(file)
 }

@@ -6,11 +6,13 @@ ghost use Rattle.flute_parts.specs.declared.fact.Fact.{Fact as Known};
 ghost use Rattle.flute_parts.specs.declared.key.Key.{Key as Name};
 ghost use Rattle.flute_store.specs.Objects.{Whole, object, gaps};
 ghost use Rattle.flute_journal.specs.Journal.{Journal};
+ghost use Rattle.flute_journal.specs.Stores.{IsJournalOf};
 ghost use Rattle.flutejoin.specs.Held.{Held};
 ghost use Rattle.flutejoin.specs.Steps.{held_by};
 ghost use Rattle.flutejoin.specs.Known.{Fits, known_by};
 ghost use Rattle.flutejoin.specs.Runs.{IsRunDone};
 ghost use Rattle.flutejoin.specs.Laws.{GivenTheSame};
+ghost use Rattle.flutejoin.specs.declared.limits.TheConstants.{MAX_ENTRIES};
 ghost use Rattle.flutejoin.specs.declared.steps.Step.{Step as Doing};
 
 /// Replicas that were given the same facts come to the same at each address, whatever the order,
@@ -43,4 +45,11 @@ pub fn runs_leave_what_was_given()
 /// Replicas that write equal journals hold the same.
 pub fn equal_journals_mean_one_content()
     ensures { (F G : List Known) (bs : List ℕ) → Journal bs F → Journal bs G → Same F G }
+{}
+
+/// What is read of the journal of some facts comes to the same as any facts with the same members.
+/// So `extract_to` writes the same of any inputs that tell these facts, once they are joined.
+pub fn a_journal_is_read_as_what_was_joined()
+    ensures { (held joined others : List Known) (bs : List ℕ) → IsJournalOf MAX_ENTRIES bs held
+        → Journal bs joined → SameMembers joined others → Same held others }
 {}

@@ -1,5 +1,5 @@
 //! A source of which the first bytes were read ahead.
-ghost use Rattle.std.specs.Prelude.{◌≡◌, take, drop};
+ghost use Rattle.std.specs.Prelude.{◌≡◌, take, drop, nat_le};
 
 use crate::first_bytes::FirstBytes;
 use flute_parts::{DeviceFault, Source};
@@ -36,8 +36,15 @@ impl<'a, R: Source> PeekedSource<'a, R> {
         self.first.as_slice()
     }
 
-    // Those of them that were not given.
+    // Whether all of them were given.
     #[inline(always)]
+    fn is_past(&self) -> bool
+        ensures { result ≡ nat_le self.now.first.count self.now.given }
+    {
+        self.first.count <= self.given
+    }
+
+    // Those of them that were not given.
     fn left(&self) -> &[u8]
         ensures { result.now
             ≡ drop self.now.given (take self.now.first.count self.now.first.bytes) }
@@ -48,14 +55,14 @@ impl<'a, R: Source> PeekedSource<'a, R> {
 }
 
 impl<'a, R: Source> Source for PeekedSource<'a, R> {
-    ghost use Rattle.std.specs.Prelude.{take, drop, length, ◌==◌, [], if◌then◌else◌};
+    ghost use Rattle.std.specs.Prelude.{take, drop, nat_le, [], if◌then◌else◌};
     ghost use Rattle.std.specs.Io.KnownBytes.{prepend_known};
 
     ghost failures = { λ s. R.failures s.source.now };
 
     ghost unread = { λ s. prepend_known (drop s.given (take s.first.count s.first.bytes)) (R.unread s.source.now) };
 
-    ghost buffered = { λ s. if length (drop s.given (take s.first.count s.first.bytes)) == 0 then R.buffered s.source.now else [] };
+    ghost buffered = { λ s. if nat_le s.first.count s.given then R.buffered s.source.now else [] };
 
     fn read(&mut self, buffer: &mut [u8]) -> Result<usize, DeviceFault> {
         let front = self.left();
@@ -68,8 +75,9 @@ impl<'a, R: Source> Source for PeekedSource<'a, R> {
         Ok(count)
     }
 
+    #[inline(always)]
     fn buffer(&self) -> &[u8] {
-        if self.left().is_empty() {
+        if self.is_past() {
             let source = &*self.source;
             source.buffer()
         } else {
@@ -77,8 +85,9 @@ impl<'a, R: Source> Source for PeekedSource<'a, R> {
         }
     }
 
+    #[inline(always)]
     fn consume(&mut self, count: usize) {
-        if self.left().is_empty() {
+        if self.is_past() {
             self.source.consume(count);
         }
     }
