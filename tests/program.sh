@@ -413,6 +413,43 @@ check 'join of nothing' 2 '' -
 run join -o got $(yes whole | head -n 65)
 check 'join of too many inputs' 2 '' 'too many inputs'
 
+# As many symbols of one object as a store holds, from the network and from a journal, and one more of each.
+head -c 1048576 /dev/zero > border
+head -c 1048577 /dev/zero > beyond
+run carousel -o border.sent --tsi 7 --toi 1 --symbol 1 --block 65536 border
+check 'carousel of as many symbols as a store holds' 0 'datagrams 1048576' ''
+run carousel -o beyond.sent --tsi 7 --toi 1 --symbol 1 --block 65536 beyond
+check 'carousel of one symbol more' 0 'datagrams 1048577' ''
+run join -o border.joined border.sent
+check 'join of as many symbols as a store holds' 0 'datagrams 1048576
+refused 0
+entries 1048577' ''
+run join -o got6 beyond.sent
+check 'join of a datagram file of one symbol more' 1 '' 'full'
+file further "$header 03 $key 0010 0000 0001 00 FF 0000000000000001"
+run join -o got6 border.joined further
+check 'join of one symbol more together' 1 '' 'full'
+run join -o got6 border.sent further
+check 'join of a datagram file with one symbol more together' 1 '' 'full'
+[ ! -e got6 ] || check 'no file after a full join' x - -
+run merge -o more border.joined further
+check 'merge of one symbol more than a store holds' 0 'entries 1048578' ''
+run join -o got6 more bad
+check 'an input over the limits before one at fault' 1 '' 'full'
+run join -o got6 bad more
+check 'an input at fault before one over the limits' 1 '' 'input 1: Trailing'
+run join -o got6 border.joined border.joined
+check 'join of a journal at the limit with itself' 0 'datagrams 0
+refused 0
+entries 1048577' ''
+same 'the journal at the limit' got6 border.joined
+run info -o got6 --tsi 7 --toi 1 --length 1048576 --symbol 1 --block 65536 border.joined
+check 'info of an object at the limit' 0 'entries 1048577' ''
+run extract -o got7 --tsi 7 --toi 1 border.joined
+check 'extract of an object at the limit' 0 'bytes 1048576' ''
+same 'the object at the limit' got7 border
+rm -f border* beyond* more got6 got7
+
 run frob
 check 'a command that does not exist' 2 '' -
 run
