@@ -80,10 +80,7 @@ fn entry_in(
 /// None where it does not, and nothing was taken then. `OutOfMemory` is the only fault. The bytes of
 /// the datagram are put into the memory of `spare`, as far as it suffices.
 #[inline(always)]
-pub fn take_record<R: Source>(
-    source: &mut R,
-    spare: Vec<u8>,
-) -> Result<Option<Datagram>, ReadFault>
+pub fn take_record<R: Source>(source: &mut R, spare: Vec<u8>) -> Result<Option<Datagram>, ReadFault>
     ensures takes { TakesRecord (R.unread source.old) (R.unread source.new) result }
     ensures failures { R.failures source.new ≡ R.failures source.old }
 {

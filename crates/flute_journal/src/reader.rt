@@ -5,6 +5,7 @@ ghost use Rattle.flute_journal.specs.Readers.{source_of, limit_of, stage_of};
 ghost use Rattle.flute_journal.specs.Reading.{Gives, ReadsFrom, is_open, stage_behind};
 
 use crate::fault::ReadFault;
+use crate::lent::take_entry;
 use crate::reading::{read_entry, read_header};
 use flute_parts::{Address, Fact, Source};
 use std::alloc::Global;
@@ -107,6 +108,7 @@ impl<'a, R: Source> JournalReader<'a, R> {
 }
 
 // The next entry of a journal whose reader stands there, and where it stands behind it.
+#[tactic(auto, using(crate::proofs::Calls::gives, crate::proofs::Calls::reads_entries))]
 #[inline(always)]
 pub(crate) fn read_at<R: Source>(
     alloc: Global,
@@ -124,12 +126,28 @@ pub(crate) fn read_at<R: Source>(
         Stage::Ended => Ok(None),
         Stage::Failed(fault) => Err(fault),
         Stage::Header => {
-            let given = read_first(alloc, source, max_entries, spare);
+            let given = read_first(alloc, source, max_entries);
             *stage = stage_behind(0, &given);
             given
         }
         Stage::Entries { count, last } => {
-            let given = read_entry(alloc, source, max_entries, count, &last, spare);
+            if count < max_entries {
+                match take_entry(source, &last, spare) {
+                    Ok(Some(fact)) => {
+                        *stage = Stage::Entries {
+                            count: count + 1,
+                            last: Some(fact.address()),
+                        };
+                        return Ok(Some(fact));
+                    }
+                    Ok(None) => {}
+                    Err(fault) => {
+                        *stage = Stage::Failed(fault);
+                        return Err(fault);
+                    }
+                }
+            }
+            let given = read_entry(alloc, source, max_entries, count, last);
             *stage = stage_behind(count, &given);
             given
         }
@@ -143,14 +161,13 @@ fn read_first<R: Source>(
     alloc: Global,
     source: &mut R,
     max_entries: u64,
-    spare: Vec<u8>,
 ) -> Result<Option<Fact>, ReadFault>
     ensures reads { ReadsFrom max_entries Stage.Header (R.unread source.old)
         (R.unread source.new) result }
     ensures failures { Fails (R.failures source.old) (R.failures source.new) result }
 {
     read_header(source)?;
-    read_entry(alloc, source, max_entries, 0, &None, spare)
+    read_entry(alloc, source, max_entries, 0, None)
 }
 
 // Where a reader stands behind what it gave, if so many entries stood before.

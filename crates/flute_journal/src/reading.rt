@@ -14,7 +14,6 @@ ghost use Rattle.flute_journal.specs.declared.fault.ReadFault.TheVariants.{OutOf
 use crate::fault::ReadFault;
 use crate::format::{END, Fixed, HEADER, Kind, LONGEST, check_end, check_opening, parse};
 use crate::input::{octets, read_front};
-use crate::lent::take_entry;
 use flute_parts::{Address, Bytes, Fact, Source};
 use std::alloc::Global;
 
@@ -32,35 +31,10 @@ pub fn read_header<R: Source>(source: &mut R) -> Result<(), ReadFault>
     front.told(check_opening(&HEADER, front.bytes))
 }
 
-/// Reads the next entry, or the end, behind so many entries, of which the last is at `last`.
-/// A journal may have `max_entries`. The bytes of a symbol are put into the memory of
-/// `spare`, where that serves.
-#[inline(always)]
-pub fn read_entry<R: Source>(
-    alloc: Global,
-    source: &mut R,
-    max_entries: u64,
-    count: u64,
-    last: &Option<Address>,
-    spare: Vec<u8>,
-) -> Result<Option<Fact>, ReadFault>
-    ensures reads { ReadsNext max_entries (at_place count last.now) (R.unread source.old)
-        (R.unread source.new) result }
-    ensures within { StaysWithin entry IsFact (R.unread source.old) (R.unread source.new) result }
-    ensures failures { Fails (R.failures source.old) (R.failures source.new) result }
-{
-    if count >= max_entries {
-        return read_fields(alloc, source, max_entries, count, *last);
-    }
-    match take_entry(source, last, spare) {
-        Ok(None) => read_fields(alloc, source, max_entries, count, *last),
-        taken => taken,
-    }
-}
-
-// The same, field by field.
+/// Reads the next entry, or the end, behind so many entries, of which the last is at `last`, field
+/// by field. A journal may have `max_entries`.
 #[inline(never)]
-fn read_fields<R: Source>(
+pub fn read_entry<R: Source>(
     alloc: Global,
     source: &mut R,
     max_entries: u64,

@@ -1,6 +1,6 @@
 use Rattle.flute_journal.proofs.{Common.{◌≡◌, [], ◌∷◌, Some, Err, sym, ap, ◌∙◌, subst, err_from_is_err_and, entry, next_fault, StaysWithin, IsFact, at_place, ReadsNext}, Fronts.{fault_here}, Parts.{one_byte, kind_wrong, too_many}, Bodies.{end_ends, end_stops, body_stops, body_ends}}
 use Rattle.flute_journal.specs.declared.fault.ReadFault.TheVariants as faults
-use Rattle.flute_journal.proofs.reading.read_fields.Goals as goal
+use Rattle.flute_journal.proofs.reading.read_entry.Goals as goal
 
 pub returns-in_err-read_end-clause-reads : goal.returns-in_err-read_end-clause-reads
 returns-in_err-read_end-clause-reads g c =
