@@ -1,8 +1,8 @@
 -- What the calls of a reader of datagrams come to.
-use Rattle.flute_journal.proofs.Common.{Bool, Consumes, Consumes-trans, Err, FileStage, GivesOfFile, IfErr, IsDatagram, IsFaultOf, IsFileFault, List, None, Ok, Option, Parses, ReadFault, ReadsFileFrom, ReadsRecord, Records, Result, Some, StaysWithin, StopsFront, [], ap, arith, bytes_eq, cut, drop, false, file_fault_from, file_header, file_stage_behind, first_fault, front, given, in_record, inr, left_by, not, opening_fault, or_else, record_fault, record_of, refl, rules, subst, take, told, true, ℕ, ◌++◌, ◌∷◌, ◌≡◌}
+use Rattle.flute_journal.proofs.Common.{rules, arith, ◌≡◌, ℕ, Bool, true, false, List, [], ◌∷◌, ◌++◌, take, drop, not, Option, Some, None, Result, Ok, Err, inr, refl, ap, subst, IfErr, bytes_eq, Consumes, Consumes-trans, ReadFault, FileStage, Records, cut, first_fault, opening_fault, or_else, Parses, StopsFront, IsFaultOf, StaysWithin, left_by, told, file_header, record_of, record_fault, given, file_fault_from, IsDatagram, IsFileFault, in_record, ReadsRecord, ReadsFileFrom, GivesOfFile, file_stage_behind}
 use Rattle.flute_journal.specs.declared.fault.ReadFault.TheVariants as faults
 use Rattle.flute_journal.specs.{declared.datagram_reader.FileStage.TheVariants.{Header}, Input.{Advances}, Records.{is_open, in_opening}}
-use Rattle.flute_journal.proofs.{Calls.{fault-first}, Fronts.{fault_up_to, fault_up_to-behind}, Files.{file_header_passes}}
+use Rattle.flute_journal.proofs.{Calls.{fault-first}, Fronts.{fault_up_to, fault_up_to-behind}, Parts.{opening_comes}}
 
 -- a header has no other faults
 opening_faults : (a b c d : Bool) (f : ReadFault) → first_fault ((a, faults.Cut) ∷ (b, faults.Magic) ∷ (c, faults.Cut) ∷ (d, faults.Version) ∷ []) ≡ Some f → IsFileFault f
@@ -41,6 +41,9 @@ reads_file_header limit u v f h some k a = (
   k,
   (a.0, a.1, in_opening a.2),
 )
+
+file_header_passes : (r : List ℕ) → opening_fault file_header (file_header ++ r) ≡ None
+file_header_passes r = opening_comes file_header (0x46 ∷ 0x4C ∷ 0x44 ∷ 0x47 ∷ []) (0 ∷ 1 ∷ []) r refl refl refl
 
 pub reads_file_first : (limit : ℕ) (u v w : Option (List ℕ)) (r : Result (Option (List ℕ)) ReadFault) → Consumes u v file_header → ReadsRecord limit 0 v w r
     → StaysWithin record_of IsDatagram v w r → IfErr r IsFileFault → ReadsFileFrom limit Header u w r

@@ -4,9 +4,6 @@ use Rattle.flute_journal.proofs.Common.{◌≡◌, ℕ, List, ◌∷◌, ◌++�
 pub regroup : (h a b c : List ℕ) → ((h ++ a) ++ b) ++ c ≡ h ++ (a ++ (b ++ c))
 regroup h a b c = append_assoc (h ++ a) b c ∙ append_assoc h a (b ++ c)
 
-pub regroup_more : (h a b c d : List ℕ) → (((h ++ a) ++ b) ++ c) ++ d ≡ h ++ (a ++ (b ++ (c ++ d)))
-regroup_more h a b c d = regroup (h ++ a) b c d ∙ append_assoc h a (b ++ (c ++ d))
-
 -- the tag and the number of an object
 
 pub instance_bytes : (o : ObjectName) (m n : ℕ) → Some m ≡ instance_of o → n ≡ m → 0 ∷ in_bytes 14 n ≡ object_bytes o

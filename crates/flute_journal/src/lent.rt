@@ -5,26 +5,25 @@ ghost use Rattle.flute_journal.specs.declared.fault.ReadFault.TheVariants.{OutOf
 
 use crate::fault::ReadFault;
 use crate::format::number::length_in;
-use crate::format::{Fixed, Kind, Version, parse};
+use crate::format::{Fixed, Kind, parse};
 use flute_parts::{Address, Bytes, Fact, Source};
 use flute_wire::Datagram;
 
-/// Takes the next entry of a journal of this version, if it lies whole in the source's buffer and
-/// has no fault. The entry before it is at `last`.
+/// Takes the next entry, if it lies whole in the source's buffer and has no fault. The entry
+/// before it is at `last`.
 ///
 /// None where it does not, or has a fault, and nothing was taken then. `OutOfMemory` is the only
 /// fault. The bytes of a symbol are put into the memory of `spare`, as far as it suffices.
 #[inline(always)]
 pub fn take_entry<R: Source>(
     source: &mut R,
-    version: Version,
     last: &Option<Address>,
     spare: Vec<u8>,
 ) -> Result<Option<Fact>, ReadFault>
-    ensures takes { TakesEntry version last.now (R.unread source.old) (R.unread source.new) result }
+    ensures takes { TakesEntry last.now (R.unread source.old) (R.unread source.new) result }
     ensures failures { R.failures source.new ≡ R.failures source.old }
 {
-    match entry_in(source.buffer(), version, last, spare) {
+    match entry_in(source.buffer(), last, spare) {
         Ok(Some((fact, size))) => {
             source.consume(size);
             Ok(Some(fact))
@@ -38,12 +37,10 @@ pub fn take_entry<R: Source>(
 #[inline(always)]
 fn entry_in(
     bytes: &[u8],
-    version: Version,
     last: &Option<Address>,
     spare: Vec<u8>,
 ) -> Result<Option<(Fact, usize)>, ReadFault>
-    ensures begins { IfOk result (λ o. IfSome o
-        (λ p. BeginsWithEntry version last.now bytes.now p.0 p.1)) }
+    ensures begins { IfOk result (λ o. IfSome o (λ p. BeginsWithEntry last.now bytes.now p.0 p.1)) }
     ensures only { IfErr result (λ f. f ≡ OutOfMemory) }
 {
     let Some((&first, rest)) = bytes.split_first() else {
@@ -52,10 +49,10 @@ fn entry_in(
     let Some(kind) = Kind::from_byte(first) else {
         return Ok(None);
     };
-    let Some((fixed, rest)) = rest.split_at_checked(kind.fixed_size(version)) else {
+    let Some((fixed, rest)) = rest.split_at_checked(kind.fixed_size()) else {
         return Ok(None);
     };
-    match parse(version, kind, last, fixed) {
+    match parse(kind, last, fixed) {
         Ok(Fixed::Whole(fact)) => Ok(Some((fact, 1 + fixed.len()))),
         Ok(Fixed::Symbol { key, id, length }) => {
             let Some(symbol) = rest.get(..usize::from(length)) else {

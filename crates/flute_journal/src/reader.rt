@@ -2,10 +2,9 @@
 ghost use Rattle.std.specs.Prelude.{◌≡◌, ℕ, ◌+◌, ◌<◌, ◌^◌, IfOk, IfSome, Some, None};
 ghost use Rattle.flute_journal.specs.Input.{Fails, FailsIf};
 ghost use Rattle.flute_journal.specs.Readers.{source_of, limit_of, stage_of};
-ghost use Rattle.flute_journal.specs.Reading.{Gives, is_open, stage_behind};
+ghost use Rattle.flute_journal.specs.Reading.{Gives, ReadsFrom, is_open, stage_behind};
 
 use crate::fault::ReadFault;
-use crate::format::Version;
 use crate::lent::take_entry;
 use crate::reading::{read_entry, read_header};
 use flute_parts::{Address, Fact, Source};
@@ -18,8 +17,6 @@ pub enum Stage {
     Header,
     /// Behind whole entries.
     Entries {
-        /// The version of the journal.
-        version: Version,
         /// How many there are.
         count: u64,
         /// The address of the last.
@@ -128,17 +125,16 @@ pub(crate) fn read_at<R: Source>(
     match *stage {
         Stage::Ended => Ok(None),
         Stage::Failed(fault) => Err(fault),
-        Stage::Header => read_first(alloc, source, max_entries, stage),
-        Stage::Entries {
-            version,
-            count,
-            last,
-        } => {
+        Stage::Header => {
+            let given = read_first(alloc, source, max_entries);
+            *stage = stage_behind(0, &given);
+            given
+        }
+        Stage::Entries { count, last } => {
             if count < max_entries {
-                match take_entry(source, version, &last, spare) {
+                match take_entry(source, &last, spare) {
                     Ok(Some(fact)) => {
                         *stage = Stage::Entries {
-                            version,
                             count: count + 1,
                             last: Some(fact.address()),
                         };
@@ -151,46 +147,36 @@ pub(crate) fn read_at<R: Source>(
                     }
                 }
             }
-            let given = read_entry(alloc, source, max_entries, version, count, last);
-            *stage = stage_behind(version, count, &given);
+            let given = read_entry(alloc, source, max_entries, count, last);
+            *stage = stage_behind(count, &given);
             given
         }
     }
 }
 
 // Reads the header, and then the first entry or the end.
+#[tactic(auto, using(crate::proofs::Calls::reads_first))]
 #[inline(never)]
 fn read_first<R: Source>(
     alloc: Global,
     source: &mut R,
     max_entries: u64,
-    stage: &mut Stage,
 ) -> Result<Option<Fact>, ReadFault>
-    ensures gives { Gives max_entries Stage.Header stage.new (R.unread source.old)
+    ensures reads { ReadsFrom max_entries Stage.Header (R.unread source.old)
         (R.unread source.new) result }
     ensures failures { Fails (R.failures source.old) (R.failures source.new) result }
 {
-    match read_header(source) {
-        Ok(version) => {
-            let given = read_entry(alloc, source, max_entries, version, 0, None);
-            *stage = stage_behind(version, 0, &given);
-            given
-        }
-        Err(fault) => {
-            *stage = Stage::Failed(fault);
-            Err(fault)
-        }
-    }
+    read_header(source)?;
+    read_entry(alloc, source, max_entries, 0, None)
 }
 
-// Where a reader of a journal of this version stands behind what it gave, if so many entries stood before.
-fn stage_behind(version: Version, count: u64, given: &Result<Option<Fact>, ReadFault>) -> Stage
+// Where a reader stands behind what it gave, if so many entries stood before.
+fn stage_behind(count: u64, given: &Result<Option<Fact>, ReadFault>) -> Stage
     requires { IfOk given.now (λ o. IfSome o (λ _. count + 1 < 2 ^ 64)) }
-    ensures { result ≡ stage_behind version count given.now }
+    ensures { result ≡ stage_behind count given.now }
 {
     match given {
         Ok(Some(fact)) => Stage::Entries {
-            version,
             count: count + 1,
             last: Some(fact.address()),
         },

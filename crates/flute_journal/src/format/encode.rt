@@ -6,7 +6,6 @@ ghost use Rattle.std.specs.List.{AllByRecursion};
 ghost use Rattle.flute_store.specs.Walk.{IsSized};
 ghost use Rattle.flute_journal.specs.Numbers.{in_bytes};
 ghost use Rattle.flute_journal.specs.Format.{key_bytes, id_bytes, info_bytes, entry, end};
-ghost use Rattle.flute_journal.specs.declared.format.version.Version.TheVariants.{Two};
 ghost use Rattle.flute_journal.specs.Journal.{IsByte, IsKey, IsId, IsInfo, IsFact};
 ghost use Rattle.flute_journal.specs.Writing.{symbol_of};
 
@@ -16,7 +15,7 @@ use arrayvec::ArrayVec;
 use flute_parts::{FactRef, Info, Key, SymbolId};
 
 /// The front of an entry, up to the bytes of a symbol.
-pub type Head = ArrayVec<u8, 50>;
+pub type Head = ArrayVec<u8, 34>;
 
 /// The front of an entry.
 pub fn head_of(fact: &FactRef<'_>) -> Head
@@ -72,7 +71,7 @@ pub fn end_of(count: u64) -> ArrayVec<u8, 9>
 
 // Appends bytes for which there is room.
 fn put(head: &mut Head, bytes: &[u8])
-    requires { array_vec_len head.old + length bytes.now ≤ 50 }
+    requires { array_vec_len head.old + length bytes.now ≤ 34 }
     ensures items { head.new.items ≡ head.old.items ++ bytes.now }
     ensures len { array_vec_len head.new ≡ array_vec_len head.old + length bytes.now }
 {
@@ -81,22 +80,21 @@ fn put(head: &mut Head, bytes: &[u8])
 
 fn put_key(head: &mut Head, key: &Key)
     requires { array_vec_len head.old ≤ 1 }
-    ensures items { head.new.items ≡ head.old.items ++ key_bytes Two key.now }
-    ensures len { array_vec_len head.new ≡ array_vec_len head.old + 37 }
+    ensures items { head.new.items ≡ head.old.items ++ key_bytes key.now }
+    ensures len { array_vec_len head.new ≡ array_vec_len head.old + 21 }
     ensures valid { IsKey key.now }
 {
     let (tag, number) = match key.object.instance() {
         Some(number) => (0, u128::from(number)),
         None => (1, key.object.toi()),
     };
-    put(head, &key.session.sender().number().to_be_bytes());
     put(head, &key.session.tsi().to_be_bytes()[2..]);
     put(head, &[tag]);
     put(head, &number.to_be_bytes()[2..]);
 }
 
 fn put_id(head: &mut Head, id: SymbolId)
-    requires { array_vec_len head.old ≤ 38 }
+    requires { array_vec_len head.old ≤ 22 }
     ensures items { head.new.items ≡ head.old.items ++ id_bytes id }
     ensures len { array_vec_len head.new ≡ array_vec_len head.old + 4 }
     ensures valid { IsId id }
@@ -106,7 +104,7 @@ fn put_id(head: &mut Head, id: SymbolId)
 }
 
 fn put_info(head: &mut Head, info: &Info)
-    requires { array_vec_len head.old ≤ 38 }
+    requires { array_vec_len head.old ≤ 22 }
     ensures items { head.new.items ≡ head.old.items ++ info_bytes info.now }
     ensures len { array_vec_len head.new ≡ array_vec_len head.old + 12 }
     ensures valid { IsInfo info.now }
@@ -118,7 +116,7 @@ fn put_info(head: &mut Head, info: &Info)
 
 // Appends the number of the bytes of a symbol.
 fn put_length(head: &mut Head, bytes: &[u8])
-    requires room { array_vec_len head.old ≤ 42 }
+    requires room { array_vec_len head.old ≤ 26 }
     requires short { length bytes.now < 2 ^ 16 }
     ensures items { head.new.items ≡ head.old.items ++ in_bytes 2 (length bytes.now) }
     ensures len { array_vec_len head.new ≡ array_vec_len head.old + 2 }

@@ -2,9 +2,6 @@ use Rattle.flute_journal.proofs.{Common.{◌≡◌, rules, refl, subst, Entries,
 use Rattle.flute_journal.proofs.reader.read_at.Goals.{then-count-max_entries+in-Ok-None, else-count-max_entries}
 use Rattle.flute_journal.proofs.reader.read_at.Goals as goal
 
-pub returns-in-Header-clause-gives : goal.returns-in-Header-clause-gives
-returns-in-Header-clause-gives g c = rw c.in-Header.is c.read_first.ensures.gives
-
 pub returns-after-count-max_entries-clause-gives : goal.returns-after-count-max_entries-clause-gives
 returns-after-count-max_entries-clause-gives g c =
     let at = c.in-Entries in
@@ -15,6 +12,6 @@ returns-after-count-max_entries-clause-gives g c =
       | else-count-max_entries w ↦ rw w.source-is refl
     ] in
     rw at.is
-    (gives c.args.max_entries at.version (Entries at.version at.count at.last) _ _ _ _ refl c.stage_behind.ensures
-    (subst (λ u. ReadsFrom at.version c.args.max_entries (Entries at.version at.count at.last) u v c.read_entry-given.result) same
-    (reads_entries c.args.max_entries at.version at.count at.last _ _ c.read_entry-given.result read.reads read.within)))
+    (gives c.args.max_entries (Entries at.count at.last) _ _ _ _ refl c.stage_behind-in-Entries.ensures
+    (subst (λ u. ReadsFrom c.args.max_entries (Entries at.count at.last) u v c.read_entry-given.result) same
+    (reads_entries c.args.max_entries at.count at.last _ _ c.read_entry-given.result read.reads read.within)))
