@@ -24,3 +24,6 @@ module _ {A S : Type 0} (b : Behaviour S) where
       → IfErr result (StopsAt (beside_behaviour b) (record { stream = old; beside = x }) (record { stream = new; beside = x }))
   err_beside x old new (Ok t) h = tt
   err_beside x old new (Err f) h = stops_beside x old new f h
+
+-- it goes on, or it stops
+pub ruleset goings_beside = (ok_beside, err_beside)

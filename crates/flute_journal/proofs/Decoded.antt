@@ -1,8 +1,12 @@
 -- What the functions that decode come to, of plain bytes.
-use Rattle.std.specs.Result.{is_ok, is_err}
-use Rattle.flute_journal.proofs.Common.{err_from_is_err_and, rules, ◌≡◌, ℕ, ◌-◌, ◌≤◌, true, false, if◌then◌else◌, not, List, [], ◌∷◌, ◌++◌, length, take, drop, take_all, Option, Result, Ok, Err, sym, ap, ◌∙◌, subst, append_assoc, arith, nil_from_length, length-drop, take-append-drop, append-nil, take_at, bytes_eq-Decides, bytes_eq, AllByRecursion, IsSplitAt, big_endian, Information, Key, Address, Kind, Fixed, ReadFault, in_bytes, key_bytes, info_bytes, cut, is_key, key_in, info_in, opening_fault, rest_checks, IsByte, IsKey, rest_size, fixed_size, byte_of, at_place, fixed_bytes, FixedIs, StopsFront, Parses, rest_fault, body_fault, bytes_fault}
+use Rattle.flute_journal.proofs.Common.{Address, AllByRecursion, Bool, Err, Fixed, FixedIn, HasRoom, Information, IsByte, IsId, IsKey, IsKeyIn, IsSplitAt, Key, Kind, List, None, Ok, One, Option, Parses, ReadFault, RestIs, Result, Some, StopsFront, SymbolId, Two, Version, [], ap, append-nil, append_assoc, arith, big_endian, body_fault, byte_of, bytes_checks, bytes_eq, bytes_eq-Decides, bytes_fault, cut, drop, err_from_is_err_and, false, fixed_bytes, fixed_size, front, header_fault, header_in, id_bytes, if◌then◌else◌, in_bytes, in_order, info_bytes, info_in, is_after, is_key, is_name, is_version, key_bytes, key_in, key_size, kind, length, length-append, length-drop, length-take-le, magic, named_in, nil_from_length, not, number_at, rest_checks, rest_fault, rest_size, subst, sym, symbol_address, take, take-append-drop, take_all, take_at, told, true, version_bytes, version_fault, ℕ, ◌++◌, ◌-◌, ◌<◌, ◌^◌, ◌∙◌, ◌∷◌, ◌≡◌, ◌≤◌}
+use Rattle.std.proofs.Math.Seq.{take-append_seam}
+use Rattle.std.specs.Prelude.{MatchOption}
+use Rattle.std.specs.Option.{ok_or}
+use Rattle.flute_journal.specs.Format.{sender_size}
+use Rattle.flute_journal.specs.declared.format.Kind.TheVariants as kinds
 use Rattle.flute_journal.specs.declared.fault.ReadFault.TheVariants as faults
-use Rattle.flute_journal.proofs.{Numbers.{octets-take, spelled, spelled_pair}, Fronts.{stops_here, stops_behind}, Parts.{symbol_comes, version_wrong, key_comes, size_split, first-pass, first-stop, cut-passes, key_spelled, info_spelled, length_none, length-key_bytes}}
+use Rattle.flute_journal.proofs.{Numbers.{number-below, octets-take, spelled, spelled_pair}, Fronts.{stops_here, stops_behind}, Parts.{version_wrong, id_comes, key_comes, first-pass, first-stop, cut-passes, key_spelled, info_spelled, length_none, length-key_bytes, symbol_comes}}
 
 pub joined : (bs a b : List ℕ) (n : ℕ) → IsSplitAt bs n a b → bs ≡ a ++ b
 joined bs a b n s = sym (take-append-drop n bs) ∙ ap (λ (x : List ℕ). x ++ drop n bs) (sym s.1) ∙ ap (λ (x : List ℕ). a ++ x) (sym s.2)
@@ -10,11 +14,22 @@ joined bs a b n s = sym (take-append-drop n bs) ∙ ap (λ (x : List ℕ). x ++ 
 pub front_octets : (bs a b : List ℕ) (n : ℕ) → IsSplitAt bs n a b → AllByRecursion IsByte bs → AllByRecursion IsByte a
 front_octets bs a b n s h = subst (AllByRecursion IsByte) (sym s.1) (octets-take n bs h)
 
-pub opening_version : (o bs a b : List ℕ) → length bs ≤ 6 → IsSplitAt bs 4 a b → bytes_eq a (take 4 o) ≡ true → 2 ≤ length b → bytes_eq b (take 2 (drop 4 o)) ≡ false
-    → StopsFront 6 (opening_fault o) bs faults.Version
-opening_version o bs a b most s e some wrong =
-    stops_here 6 (opening_fault o) bs faults.Version (λ h. cc) tt
-    (λ r. ap (λ (x : List ℕ). opening_fault o (x ++ r)) (joined bs a b 4 s) ∙ version_wrong o a b r s.3 (omega (arith, most, some, s.4)) e wrong)
+pub opening_version : (m : List ℕ) (is_known : List ℕ → Bool) (bs a b : List ℕ) → length bs ≤ 6 → IsSplitAt bs 4 a b → bytes_eq a m ≡ true → 2 ≤ length b → is_known b ≡ false
+    → StopsFront 6 (version_fault m is_known) bs faults.Version
+opening_version m is_known bs a b most s e some wrong =
+    stops_here 6 (version_fault m is_known) bs faults.Version (λ h. cc) tt
+    (λ r. ap (λ (x : List ℕ). version_fault m is_known (x ++ r)) (joined bs a b 4 s) ∙ version_wrong m is_known a b r s.3 (omega (arith, most, some, s.4)) e wrong)
+
+header_read : (bs a b : List ℕ) (v : Version) → IsSplitAt bs 4 a b → bytes_eq a magic ≡ true → b ≡ version_bytes v → header_in v ≡ bs
+header_read bs a b v s e is = sym (joined bs a b 4 s ∙ ap (λ (x : List ℕ). x ++ b) ((bytes_eq-Decides a magic).0 e) ∙ ap (λ (x : List ℕ). magic ++ x) is)
+
+-- a header with the magic number, by what its version is
+pub header_parsed : (bs a b : List ℕ) (o : Option Version) (r : Result Version ReadFault) → r ≡ ok_or o faults.Version → length bs ≤ 6 → IsSplitAt bs 4 a b → bytes_eq a magic ≡ true → 2 ≤ length b
+    → MatchOption o (is_version b ≡ false) (λ (v : Version). b ≡ version_bytes v) → Parses 6 (λ (v : Version). header_in v ≡ bs) header_fault bs r
+header_parsed bs a b None r is most s e some wrong =
+    subst (Parses 6 (λ (v : Version). header_in v ≡ bs) header_fault bs) (sym is) (opening_version magic is_version bs a b most s e some wrong)
+header_parsed bs a b (Some v) r is most s e some h =
+    subst (Parses 6 (λ (v : Version). header_in v ≡ bs) header_fault bs) (sym is) (header_read bs a b v s e h)
 
 pub opening_read : (o bs a b : List ℕ) → length o ≡ 6 → length bs ≤ 6 → IsSplitAt bs 4 a b → bytes_eq a (take 4 o) ≡ true → 2 ≤ length b → bytes_eq b (take 2 (drop 4 o)) ≡ true → bs ≡ o
 opening_read o bs a b len most s e some e' =
@@ -39,41 +54,82 @@ length_empty bs n len is none = stops_here 2 bytes_fault bs faults.EmptySymbol (
 pub length_read : (bs : List ℕ) (n : ℕ) → length bs ≡ 2 → AllByRecursion IsByte bs → n ≡ big_endian bs → in_bytes 2 n ≡ bs
 length_read bs n len h is = ap (in_bytes 2) is ∙ spelled 2 bs len h
 
-pub info_read : (key : Key) (info : Information) (bs : List ℕ) → length bs ≡ 12 → AllByRecursion IsByte bs → info ≡ info_in bs → key_bytes key ++ info_bytes info ≡ key_bytes key ++ bs
-info_read key info bs len h is = ap (λ (x : List ℕ). key_bytes key ++ x) (ap info_bytes is ∙ info_spelled bs len h)
+pub info_read : (info : Information) (bs : List ℕ) → length bs ≡ 12 → AllByRecursion IsByte bs → info ≡ info_in bs → info_bytes info ≡ bs
+info_read info bs len h is = ap info_bytes is ∙ info_spelled bs len h
+
+-- the bytes of a sender
+
+pub sender_none : (v : Version) (bs : List ℕ) → v ≡ One → length bs ≡ sender_size v → 0 ≡ big_endian bs
+unfolding sender_size
+sender_none v bs e len = let none : length bs ≡ 0 = len ∙ ap sender_size e in sym (ap big_endian (nil_from_length bs none))
+
+pub sender_long : (v : Version) (bs : List ℕ) → v ≡ Two → length bs ≡ sender_size v → length bs ≡ 16
+unfolding sender_size
+sender_long v bs e len = len ∙ ap sender_size e
+
+-- a key is that of its sender and its name
+pub key_found : (v : Version) (n sender : ℕ) (bs front back : List ℕ) (r : Option Key) → n ≡ sender_size v → length bs ≡ key_size v → AllByRecursion IsByte bs → front ≡ take n bs → back ≡ drop n bs
+    → sender ≡ big_endian front → MatchOption r (is_name back ≡ false) (λ key. (is_name back ≡ true) × (key ≡ named_in sender back) × IsKey key)
+    → MatchOption r (is_key v bs ≡ false) (λ key. (is_key v bs ≡ true) × (key ≡ key_in v bs) × IsKeyIn v key)
+key_found v n sender bs front back None size len oct f b is h = ap is_name (ap (λ m. drop m bs) (sym size) ∙ sym b) ∙ h
+key_found v n sender bs front back (Some key) size len oct f b is h =
+    let m = sender_size v in
+    let f' : front ≡ take m bs = f ∙ ap (λ k. take k bs) size in
+    let b' : back ≡ drop m bs = b ∙ ap (λ k. drop k bs) size in
+    let long : length front ≡ m = ap length f' ∙ length-take-le m bs (omega (arith, len)) in
+    let small : big_endian front < 256 ^ length front = number-below front (subst (AllByRecursion IsByte) (sym f') (octets-take m bs oct)) in
+    let told : sender ≡ number_at 0 m bs = is ∙ ap big_endian f' in
+    let fits : sender < 256 ^ m = subst (λ k. k < 256 ^ m) (sym is) (subst (λ k. big_endian front < 256 ^ k) long small) in
+    (ap is_name (sym b') ∙ h.0, h.1 ∙ (λ i. named_in (told i) (b' i)), (h.2, subst (λ (z : Key). HasRoom v z.session) (sym h.1) fits))
+
+-- an id that is not in order
+pub id_wrong : (last : Option Address) (key : Key) (id : SymbolId) (bs b : List ℕ) → IsId id → bs ≡ id_bytes id ++ b → is_after last (symbol_address key id) ≡ false
+    → StopsFront 6 (rest_fault last kinds.Symbol key) bs faults.Order
+id_wrong last key id bs b p is wrong =
+    let stop = λ (r : List ℕ).
+    id_comes last key id r (bytes_checks (drop 4 (id_bytes id ++ r))) p ∙ first-stop (in_order last (symbol_address key id)) (bytes_checks (drop 4 (id_bytes id ++ r))) (ap not wrong) in
+    stops_here 6 (rest_fault last kinds.Symbol key) bs faults.Order (λ h. cc) tt
+    (λ r. ap (λ (x : List ℕ). rest_fault last kinds.Symbol key (x ++ r)) is ∙ ap (rest_fault last kinds.Symbol key) (append_assoc (id_bytes id) b r) ∙ stop (b ++ r))
 
 -- the bytes of a key that is none
-pub key_wrong : (k : Kind) (last : Option Address) (bs a b : List ℕ) → IsSplitAt bs 21 a b → is_key a ≡ false → StopsFront (fixed_size k) (body_fault last k) bs faults.Key
-key_wrong k last bs a b s wrong =
+pub key_wrong : (v : Version) (k : Kind) (last : Option Address) (n : ℕ) (bs a b : List ℕ) → n ≡ key_size v → IsSplitAt bs n a b → is_key v a ≡ false
+    → StopsFront (fixed_size v k) (body_fault v last k) bs faults.Key
+key_wrong v k last n bs a b size s wrong =
+    let m = key_size v in
+    let long : length a ≡ m = s.3 ∙ size in
     let stop = λ (r : List ℕ).
-    first-pass (cut 21 (a ++ r)) ((not (is_key (take 21 (a ++ r))), faults.Key) ∷ rest_checks (at_place 0 last) (byte_of k) (key_in (take 21 (a ++ r))) (drop 21 (a ++ r))) (cut-passes 21 a r (omega (arith, s.3)))
-    ∙ first-stop (not (is_key (take 21 (a ++ r))), faults.Key) (rest_checks (at_place 0 last) (byte_of k) (key_in (take 21 (a ++ r))) (drop 21 (a ++ r)))
-    (ap (λ (x : List ℕ). not (is_key x)) (take_at a r 21 s.3) ∙ ap not wrong) in
-    stops_here (fixed_size k) (body_fault last k) bs faults.Key (λ h. cc) tt
-    (λ r. ap (λ (x : List ℕ). body_fault last k (x ++ r)) (joined bs a b 21 s) ∙ ap (body_fault last k) (append_assoc a b r) ∙ stop (b ++ r))
+    first-pass (cut m (a ++ r)) ((not (is_key v (take m (a ++ r))), faults.Key) ∷ rest_checks last (byte_of k) (key_in v (take m (a ++ r))) (drop m (a ++ r))) (cut-passes m a r (omega (arith, long)))
+    ∙ first-stop (not (is_key v (take m (a ++ r))), faults.Key) (rest_checks last (byte_of k) (key_in v (take m (a ++ r))) (drop m (a ++ r)))
+    (ap (λ (x : List ℕ). not (is_key v x)) (take_at a r m long) ∙ ap not wrong) in
+    stops_here (fixed_size v k) (body_fault v last k) bs faults.Key (λ h. cc) tt
+    (λ r. ap (λ (x : List ℕ). body_fault v last k (x ++ r)) (joined bs a b n s) ∙ ap (body_fault v last k) (append_assoc a b r) ∙ stop (b ++ r))
 
 -- what stands behind a key, and the key with it
-pub behind_key : (k : Kind) (last : Option Address) (key : Key) (bs b : List ℕ) (r : Result Fixed ReadFault) → IsKey key → bs ≡ key_bytes key ++ b
-    → Parses (rest_size k) (λ x. FixedIs last k x × (fixed_bytes x ≡ key_bytes key ++ b)) (rest_fault last k key) b r
-    → Parses (fixed_size k) (λ x. FixedIs last k x × (fixed_bytes x ≡ bs)) (body_fault last k) bs r
-behind_key k last key bs b (Ok x) p is h = (h.0, h.1 ∙ sym is)
-behind_key k last key bs b (Err f) p is h = search (rules, stops_behind, size_split, length-key_bytes, key_comes)
+behind_key : (v : Version) (k : Kind) (last : Option Address) (key : Key) (bs b : List ℕ) (r : Result Fixed ReadFault) → IsKeyIn v key → bs ≡ key_bytes v key ++ b
+    → Parses (rest_size k) (RestIs last k key b) (rest_fault last k key) b r
+    → Parses (fixed_size v k) (λ x. FixedIn v last k x × (fixed_bytes v x ≡ bs)) (body_fault v last k) bs r
+behind_key v k last key bs b (Ok x) p is h =
+    ((h.0, subst (λ (z : Key). HasRoom v z.session) (sym h.1) p.1), (λ i. key_bytes v (h.1 i) ++ h.2 i) ∙ sym is)
+behind_key v k last key bs b (Err f) p is h =
+    stops_behind (fixed_size v k) (rest_size k) (body_fault v last k) (rest_fault last k key) bs (key_bytes v key) b f is (omega (arith, length-key_bytes v key))
+    (λ r e. key_comes v last k key r p.0 p.1 ∙ e) h
 
 -- the same for a kind that is known by an equation
-pub parsed_at : (kind k : Kind) (last : Option Address) (key : Key) (bs a b : List ℕ) (r : Result Fixed ReadFault) → kind ≡ k → IsSplitAt bs 21 a b → AllByRecursion IsByte bs
-    → is_key a ≡ true → key ≡ key_in a → IsKey key
-    → Parses (rest_size k) (λ x. FixedIs last k x × (fixed_bytes x ≡ key_bytes key ++ b)) (rest_fault last k key) b r
-    → Parses (fixed_size kind) (λ x. FixedIs last kind x × (fixed_bytes x ≡ bs)) (body_fault last kind) bs r
-parsed_at kind k last key bs a b r e s h passes is valid p =
-    let spelled_key : bs ≡ key_bytes key ++ b =
-    joined bs a b 21 s ∙ ap (λ (x : List ℕ). x ++ b) (sym (key_spelled a s.3 (front_octets bs a b 21 s h) passes) ∙ ap key_bytes (sym is)) in
-    subst (λ z. Parses (fixed_size z) (λ x. FixedIs last z x × (fixed_bytes x ≡ bs)) (body_fault last z) bs r) (sym e)
-    (behind_key k last key bs b r valid spelled_key p)
+pub parsed_at : (v : Version) (kind k : Kind) (last : Option Address) (key : Key) (n : ℕ) (bs a b : List ℕ) (r : Result Fixed ReadFault) → kind ≡ k → n ≡ key_size v → IsSplitAt bs n a b
+    → AllByRecursion IsByte bs → is_key v a ≡ true → key ≡ key_in v a → IsKeyIn v key
+    → Parses (rest_size k) (RestIs last k key b) (rest_fault last k key) b r
+    → Parses (fixed_size v kind) (λ x. FixedIn v last kind x × (fixed_bytes v x ≡ bs)) (body_fault v last kind) bs r
+parsed_at v kind k last key n bs a b r e size s h passes is valid p =
+    let spelled_key : bs ≡ key_bytes v key ++ b =
+    joined bs a b n s ∙ ap (λ (x : List ℕ). x ++ b) (sym (key_spelled v a (s.3 ∙ size) (front_octets bs a b n s h) passes) ∙ ap (key_bytes v) (sym is)) in
+    subst (λ z. Parses (fixed_size v z) (λ x. FixedIn v last z x × (fixed_bytes v x ≡ bs)) (body_fault v last z) bs r) (sym e)
+    (behind_key v k last key bs b r valid spelled_key p)
 
--- what an appending call that succeeded leaves in an empty vector
-pub appended : {A E : Type 0} (r : Result A E) (now old more : List ℕ) → old ≡ [] → false ≡ is_err r → now ≡ (if is_ok r then old ++ more else old) → now ≡ more
-appended (Ok x) now old more e h is = is ∙ ap (λ xs. xs ++ more) e
-appended (Err x) now old more e h is = cc
+-- a head that lies in front of more bytes, with a first part of these
+pub in_front : (head body rest : List ℕ) (n : ℕ) → body ≡ take n rest → (length (head ++ body) ≤ length (head ++ rest)) × (take (length (head ++ body)) (head ++ rest) ≡ head ++ body)
+in_front head body rest n is =
+    let whole : head ++ rest ≡ (head ++ body) ++ drop n rest = simp (is, append_assoc, take-append-drop) in
+    (omega (arith, ap length whole, length-append (head ++ body) (drop n rest)), ap (take (length (head ++ body))) whole ∙ take-append_seam (head ++ body) (drop n rest))
 
 -- a symbol whose length is at fault
 pub ruleset symbol_faults = (err_from_is_err_and, stops_behind, symbol_comes)

@@ -1,15 +1,24 @@
 -- Entries, one behind the other, are spelled in one way.
-use Rattle.flute_journal.proofs.Common.{none-some, ◌≡◌, ℕ, ◌^◌, ◌<◌, List, ◌∷◌, ◌++◌, length, take, drop, refl, sym, ap, ◌∙◌, append_assoc, arith, cases_lt, le-leb, take_at, drop_at, Information, session, ObjectName, Key, SymbolId, Fact, in_bytes, key_bytes, id_bytes, symbol_bytes, entry, IsKey, IsId, IsInfo, IsFact}
+use Rattle.flute_journal.proofs.Common.{none-some, ◌≡◌, ℕ, ◌^◌, ◌<◌, List, [], ◌∷◌, ◌++◌, length, take, drop, refl, sym, ap, ◌∙◌, append_assoc, arith, cases_lt, le-leb, take_at, drop_at, Information, session, ObjectName, Key, SymbolId, Fact, Info, InfoConflict, Symbol, SymbolConflict, Version, One, Two, in_bytes, sender_bytes, name_bytes, key_bytes, id_bytes, symbol_bytes, header_in, entry_in, AllByRecursion, IsKey, HasRoom, IsId, IsInfo, IsFact, IsFactIn}
+use Rattle.flute_journal.specs.Format.{sender_size}
 use Rattle.flute_journal.proofs.Numbers.{in_bytes-injective}
 
-abbrev pub make_key : ℕ → ObjectName → Key
-make_key s o = record { session = session s; object = o }
+abbrev pub make_key : ℕ → ℕ → ObjectName → Key
+make_key a s o = record { session = session a s; object = o }
 
 abbrev pub make_id : ℕ → ℕ → SymbolId
 make_id n i = record { sbn = n; esi = i }
 
-pub key-injective : (a b : Key) (x y : List ℕ) → IsKey a → IsKey b → key_bytes a ++ x ≡ key_bytes b ++ y → (a ≡ b) × (x ≡ y)
-key-injective a b x y p q e = grind (arith, append_assoc, in_bytes-injective)
+-- what stands behind the sender
+name-injective : (a b : Key) (x y : List ℕ) → IsKey a → IsKey b → name_bytes a ++ x ≡ name_bytes b ++ y → (a.session.tsi ≡ b.session.tsi) × (a.object ≡ b.object) × (x ≡ y)
+name-injective a b x y p q e = grind (arith, append_assoc, in_bytes-injective)
+
+pub key-injective : (v : Version) (a b : Key) (x y : List ℕ) → IsKey a → HasRoom v a.session → IsKey b → HasRoom v b.session → key_bytes v a ++ x ≡ key_bytes v b ++ y → (a ≡ b) × (x ≡ y)
+key-injective v a b x y p r q s e =
+    let grouped = sym (append_assoc (sender_bytes v a.session) (name_bytes a) x) ∙ e ∙ append_assoc (sender_bytes v b.session) (name_bytes b) y in
+    let sender = in_bytes-injective (sender_size v) a.session.sender b.session.sender (name_bytes a ++ x) (name_bytes b ++ y) r s grouped in
+    let name = name-injective a b x y p q sender.1 in
+    (λ i. record { session = session (sender.0 i) (name.0 i); object = name.1 i }, name.2)
 
 pub id-injective : (a b : SymbolId) (x y : List ℕ) → IsId a → IsId b → id_bytes a ++ x ≡ id_bytes b ++ y → (a ≡ b) × (x ≡ y)
 id-injective a b x y p q e = grind (arith, append_assoc, in_bytes-injective)
@@ -27,8 +36,45 @@ counted-injective a b x y p q e =
     let back : x ≡ y = sym (drop_at a x (length a) refl) ∙ ap (drop (length a)) s.1 ∙ drop_at b y (length a) (sym s.0) in
     (front, back)
 
-pub entry_injective : (f g : Fact) (x y : List ℕ) → IsFact f → IsFact g → entry f ++ x ≡ entry g ++ y → (f ≡ g) × (x ≡ y)
-entry_injective f g x y p q e = grind (arith, append_assoc, key-injective, length_fits, in_bytes-injective, id-injective, counted-injective)
+pub entry_injective : (v : Version) (f g : Fact) (x y : List ℕ) → IsFactIn v f → IsFactIn v g → entry_in v f ++ x ≡ entry_in v g ++ y → (f ≡ g) × (x ≡ y)
+entry_injective v f g x y p q e = grind (arith, append_assoc, key-injective, length_fits, in_bytes-injective, id-injective, counted-injective)
 
-pub not_end : (f : Fact) (x y : List ℕ) → 255 ∷ x ≡ entry f ++ y → ⊥
-not_end f x y e = grind (arith)
+pub not_end : (v : Version) (f : Fact) (x y : List ℕ) → 255 ∷ x ≡ entry_in v f ++ y → ⊥
+not_end v f x y e = grind (arith)
+
+-- headers, whatever follows them
+pub header-injective : (v w : Version) (x y : List ℕ) → header_in v ++ x ≡ header_in w ++ y → (v ≡ w) × (x ≡ y)
+header-injective One One x y e = (refl, cc)
+header-injective One Two x y e = absurd cc
+header-injective Two One x y e = absurd cc
+header-injective Two Two x y e = (refl, cc)
+
+-- What is written has room for each sender.
+
+room_two : (key : Key) → IsKey key → HasRoom Two key.session
+unfolding sender_size
+room_two key p = p.0.0
+
+pub fact_two : (f : Fact) → IsFact f → IsFactIn Two f
+fact_two (Info key info) p = (p, room_two key p.0)
+fact_two (InfoConflict key) p = (p, room_two key p)
+fact_two (Symbol key id bytes) p = (p, room_two key p.0)
+fact_two (SymbolConflict key id) p = (p, room_two key p.0)
+
+pub facts_two : (es : List Fact) → AllByRecursion IsFact es → AllByRecursion (IsFactIn Two) es
+facts_two [] p = tt
+facts_two (f ∷ es) p = (fact_two f p.0, facts_two es p.1)
+
+pub facts_of : (v : Version) (es : List Fact) → AllByRecursion (IsFactIn v) es → AllByRecursion IsFact es
+facts_of v [] p = tt
+facts_of v (f ∷ es) p = (p.0.0, facts_of v es p.1)
+
+-- In version 1 there is room for the sender 0 alone.
+
+pub room_one : (key : Key) → HasRoom One key.session → key.session.sender ≡ 0
+unfolding sender_size
+room_one key p = omega (arith, p)
+
+pub one_room : (key : Key) → key.session.sender ≡ 0 → HasRoom One key.session
+unfolding sender_size
+one_room key e = omega (arith, e)

@@ -1,6 +1,8 @@
 -- What stands where bytes have no fault: they are a journal, or stop at one.
-use Rattle.flute_journal.proofs.Common.{◌≡◌, true, ℕ, zero, suc, ◌<◌, ◌≤◌, List, [], ◌∷◌, ◌++◌, length, take, drop, take_all, Option, Some, None, IsTrue, inl, inr, ◌⊎◌, refl, sym, ap, ◌∙◌, subst, append_assoc, arith, flat_map, AllByRecursion, length-append, length-drop, take-append-drop, drop-drop, flat_map_more, bytes_eq-Decides, address, Address, Fact, ReadFault, header, entry, is_after, opening_fault, header_fault, next_fault, IsByte, IsFact, AreEntries, IsJournalWithin, Stops, in_header, behind, last_of, before, none-some, ◌^◌, Bool, false, not, ◌&&◌, eqb, leb, ltb, if◌then◌else◌, pow-le-pow_right, cases_Bool, ltb-true, ltb-false, leb-true, leb-false, eqb-true, eqb-false, length-take, length-take-le, big_endian, info_fault, InfoFault, Key, Info, InfoConflict, Symbol, SymbolConflict, Kind, in_bytes, number_at, key_bytes, id_bytes, info_bytes, symbol_bytes, rest_bytes, body, end, kind, key_of, first_fault, is_key, key_in, id_in, info_in, info_checks, end_checks, entry_checks, is_kind, IsKey, IsId, IsSymbol, byte_of, at_place, rest_fault, body_fault}
+use Rattle.flute_journal.proofs.Common.{Address, AllByRecursion, Bool, Fact, HasRoom, Info, InfoConflict, InfoFault, IsByte, IsFact, IsFactIn, IsId, IsJournalWithin, IsKey, IsKeyIn, IsRising, IsSymbol, IsTrue, Key, Kind, List, None, One, Option, ReadFault, Some, Stops, Symbol, SymbolConflict, Two, Version, [], address, ap, append_assoc, arith, at_place, before, behind, big_endian, body, body_fault, byte_of, bytes_eq, bytes_eq-Decides, cases_Bool, drop, drop-drop, end, end_checks, entry_checks, entry_in, eqb, eqb-false, eqb-true, false, first_fault, flat_map_more, front_in, header_fault, header_in, id_bytes, id_in, if◌then◌else◌, in_bytes, in_header, info_bytes, info_checks, info_fault, info_in, inl, inr, is_after, is_key, is_kind, is_name, is_version, key_bytes, key_in, key_of, key_size, kind, last_of, leb, leb-false, leb-true, length, length-append, length-drop, length-take, length-take-le, ltb, ltb-false, ltb-true, magic, named_in, next_fault, none-some, not, number_at, opening_fault, pow-le-pow_right, refl, rest_bytes, rest_fault, subst, suc, sym, symbol_bytes, take, take-append-drop, take_all, true, version_bytes, version_fault, version_in, zero, ℕ, ◌&&◌, ◌++◌, ◌<◌, ◌^◌, ◌∙◌, ◌∷◌, ◌≡◌, ◌≤◌, ◌⊎◌}
 use Rattle.flute_journal.proofs.{Each.{all_more, all_split}, Numbers.{octets-drop, number-below, octets-take, spelled, spelled_pair}, MergeRising.{Rises, rising-rises, rises-rising}, Parts.{entry_least, body_comes, key_spelled, info_spelled}}
+use Rattle.std.proofs.Common.{◌||◌}
+use Rattle.flute_journal.specs.Format.{sender_size}
 use Rattle.flute_journal.specs.declared.format.Kind.TheVariants as kinds
 
 pub first-none : (b : Bool) (c : ReadFault) (x : Option ReadFault) → (if b then Some c else x) ≡ None → (b ≡ false) × (x ≡ None)
@@ -11,6 +13,9 @@ is_true b e = grind (arith)
 
 both : (x y : Bool) → (x && y) ≡ true → (x ≡ true) × (y ≡ true)
 both x y e = grind (arith)
+
+or_second : (x y : Bool) → x ≡ false → (x || y) ≡ true → y ≡ true
+or_second x y h e = grind (arith)
 
 taken : (b : Bool) (x y : Option ReadFault) → b ≡ true → (if b then x else y) ≡ None → x ≡ None
 taken b x y e h = grind (arith)
@@ -26,8 +31,20 @@ below n bs few oct = grind (arith, pow-le-pow_right, number-below)
 below_at : (offset n : ℕ) (bs : List ℕ) → AllByRecursion IsByte bs → number_at offset n bs < 256 ^ n
 below_at offset n bs oct = below n (take n (drop offset bs)) (omega (arith, length-take n (drop offset bs))) (octets-take n (drop offset bs) (octets-drop offset bs oct))
 
-key_valid : (bs : List ℕ) → AllByRecursion IsByte bs → is_key bs ≡ true → IsKey (key_in bs)
-key_valid bs oct e = grind (arith, below_at, both, eqb-true, ltb-true)
+name_valid : (sender : ℕ) (bs : List ℕ) → sender < 2 ^ 128 → AllByRecursion IsByte bs → is_name bs ≡ true → IsKey (named_in sender bs)
+name_valid sender bs small oct e = grind (arith, below_at, both, eqb-true, ltb-true)
+
+-- what an entry has fits for is an address
+room_small : (v : Version) (n : ℕ) → n < 256 ^ sender_size v → n < 2 ^ 128
+unfolding sender_size
+room_small One n h = omega (arith, h)
+room_small Two n h = h
+
+key_valid : (v : Version) (bs : List ℕ) → AllByRecursion IsByte bs → is_key v bs ≡ true → IsKeyIn v (key_in v bs)
+key_valid v bs oct e =
+    let n = sender_size v in
+    let fits = below_at 0 n bs oct in
+    (name_valid (number_at 0 n bs) (drop n bs) (room_small v (number_at 0 n bs) fits) (octets-drop n bs oct) e, fits)
 
 id_valid : (bs : List ℕ) → AllByRecursion IsByte bs → IsId (id_in bs)
 id_valid bs oct = (omega (arith, below_at 0 2 bs oct), omega (arith, below_at 2 2 bs oct))
@@ -129,9 +146,9 @@ rest_found last kinds.SymbolConflict key r kv oct e =
 
 -- Behind entries.
 
-pub data Next (limit count : ℕ) (last : Option Address) (bytes : List ℕ) : Type 0 where
-  at_end : bytes ≡ end count → Next limit count last bytes
-  at_entry : (f : Fact) (more : List ℕ) → bytes ≡ entry f ++ more → IsFact f → is_after last (address f) ≡ true → count < limit → Next limit count last bytes
+pub data Next (limit count : ℕ) (v : Version) (last : Option Address) (bytes : List ℕ) : Type 0 where
+  at_end : bytes ≡ end count → Next limit count v last bytes
+  at_entry : (f : Fact) (more : List ℕ) → bytes ≡ entry_in v f ++ more → IsFactIn v f → is_after last (address f) ≡ true → count < limit → Next limit count v last bytes
 
 kind_at : (n : ℕ) → 1 ≤ n → n ≤ 4 → (k : Kind) × (n ≡ byte_of k)
 kind_at zero p q = absurd (omega (arith, p))
@@ -141,8 +158,9 @@ kind_at (suc (suc (suc zero))) p q = (kinds.Symbol, refl)
 kind_at (suc (suc (suc (suc zero)))) p q = (kinds.SymbolConflict, refl)
 kind_at (suc (suc (suc (suc (suc n))))) p q = absurd (omega (arith, q))
 
-end_found : (limit count : ℕ) (last : Option Address) (b : ℕ) (rest : List ℕ) → b ≡ 255 → AllByRecursion IsByte rest → first_fault (end_checks count rest) ≡ None → Next limit count last (b ∷ rest)
-end_found limit count last b rest is oct e =
+end_found : (limit count : ℕ) (v : Version) (last : Option Address) (b : ℕ) (rest : List ℕ) → b ≡ 255 → AllByRecursion IsByte rest → first_fault (end_checks count rest) ≡ None
+    → Next limit count v last (b ∷ rest)
+end_found limit count v last b rest is oct e =
     let a = first-none _ _ _ e in
     let c = first-none _ _ _ a.1 in
     let d = first-none _ _ _ c.1 in
@@ -151,105 +169,140 @@ end_found limit count last b rest is oct e =
     let told : big_endian rest ≡ count = ap big_endian (sym whole) ∙ eqb-true (big_endian (take 8 rest)) count (is_true _ c.0) in
     at_end (ap (λ x. x ∷ rest) is ∙ ap (λ (x : List ℕ). 255 ∷ x) (sym (spelled 8 rest len oct) ∙ ap (in_bytes 8) told))
 
-entry_found : (limit count : ℕ) (last : Option Address) (k : Kind) (rest : List ℕ) → count < limit → AllByRecursion IsByte rest → body_fault last k rest ≡ None → Next limit count last (byte_of k ∷ rest)
-entry_found limit count last k rest few oct e =
+entry_found : (limit count : ℕ) (v : Version) (last : Option Address) (k : Kind) (rest : List ℕ) → count < limit → AllByRecursion IsByte rest → body_fault v last k rest ≡ None
+    → Next limit count v last (byte_of k ∷ rest)
+entry_found limit count v last k rest few oct e =
+    let n = key_size v in
     let a = first-none _ _ _ e in
     let b = first-none _ _ _ a.1 in
-    let front = take 21 rest in
-    let oct' = octets-take 21 rest oct in
-    let key = key_in front in
-    let yes' : is_key front ≡ true = is_true _ b.0 in
-    let r = rest_found last k key (drop 21 rest) (key_valid front oct' yes') (octets-drop 21 rest oct) b.1 in
-    let bytes : rest ≡ body r.fact ++ r.more =
-    split_at 21 rest (key_bytes key) (key_spelled front (front_length 21 rest a.0) oct' yes')
-    ∙ ap (λ (x : List ℕ). key_bytes key ++ x) r.bytes_are
-    ∙ ap (λ (x : Key). key_bytes x ++ (rest_bytes r.fact ++ r.more)) (sym r.key_is)
-    ∙ sym (append_assoc (key_bytes (key_of r.fact)) (rest_bytes r.fact) r.more) in
-    at_entry r.fact r.more (ap (λ x. x ∷ rest) (sym r.kind_is) ∙ ap (λ (x : List ℕ). kind r.fact ∷ x) bytes) r.valid r.in_order few
+    let front = take n rest in
+    let oct' = octets-take n rest oct in
+    let key = key_in v front in
+    let yes' : is_key v front ≡ true = is_true _ b.0 in
+    let valid = key_valid v front oct' yes' in
+    let r = rest_found last k key (drop n rest) valid.0 (octets-drop n rest oct) b.1 in
+    let bytes : rest ≡ body v r.fact ++ r.more =
+    split_at n rest (key_bytes v key) (key_spelled v front (front_length n rest a.0) oct' yes')
+    ∙ ap (λ (x : List ℕ). key_bytes v key ++ x) r.bytes_are
+    ∙ ap (λ (x : Key). key_bytes v x ++ (rest_bytes r.fact ++ r.more)) (sym r.key_is)
+    ∙ sym (append_assoc (key_bytes v (key_of r.fact)) (rest_bytes r.fact) r.more) in
+    at_entry r.fact r.more (ap (λ x. x ∷ rest) (sym r.kind_is) ∙ ap (λ (x : List ℕ). kind r.fact ∷ x) bytes)
+    (r.valid, subst (λ (x : Key). HasRoom v x.session) (sym r.key_is) valid.1) r.in_order few
 
-kind_found : (limit count : ℕ) (last : Option Address) (b : ℕ) (rest : List ℕ) → is_kind b ≡ true → AllByRecursion IsByte rest → first_fault (entry_checks (at_place count last) limit b rest) ≡ None
-    → next_fault (at_place count last) limit (b ∷ rest) ≡ None → Next limit count last (b ∷ rest)
-kind_found limit count last b rest e oct h whole =
+kind_found : (limit count : ℕ) (v : Version) (last : Option Address) (b : ℕ) (rest : List ℕ) → is_kind b ≡ true → AllByRecursion IsByte rest
+    → first_fault (entry_checks (at_place v count last) limit b rest) ≡ None → next_fault (at_place v count last) limit (b ∷ rest) ≡ None → Next limit count v last (b ∷ rest)
+kind_found limit count v last b rest e oct h whole =
     let p = both (leb 1 b) (leb b 4) e in
     let k = kind_at b (leb-true 1 b p.0) (leb-true b 4 p.1) in
     let few : count < limit = leb-false limit count (first-none _ _ _ h).0 in
-    let none : body_fault last k.0 rest ≡ None = grind (arith, body_comes) in
-    subst (λ x. Next limit count last (x ∷ rest)) (sym k.1) (entry_found limit count last k.0 rest few oct none)
+    let none : body_fault v last k.0 rest ≡ None = grind (arith, body_comes) in
+    subst (λ x. Next limit count v last (x ∷ rest)) (sym k.1) (entry_found limit count v last k.0 rest few oct none)
 
-pub next_found : (limit count : ℕ) (last : Option Address) (bytes : List ℕ) → AllByRecursion IsByte bytes → next_fault (at_place count last) limit bytes ≡ None → Next limit count last bytes
-next_found limit count last [] oct e = absurd (none-some _ (sym e))
-next_found limit count last (b ∷ rest) oct e = elim (cases_Bool (eqb b 255)) [
-  | inl t ↦ end_found limit count last b rest (eqb-true b 255 t) oct.1 (taken (eqb b 255) _ _ t e)
+pub next_found : (limit count : ℕ) (v : Version) (last : Option Address) (bytes : List ℕ) → AllByRecursion IsByte bytes → next_fault (at_place v count last) limit bytes ≡ None → Next limit count v last bytes
+next_found limit count v last [] oct e = absurd (none-some _ (sym e))
+next_found limit count v last (b ∷ rest) oct e = elim (cases_Bool (eqb b 255)) [
+  | inl t ↦ end_found limit count v last b rest (eqb-true b 255 t) oct.1 (taken (eqb b 255) _ _ t e)
   | inr n ↦
       let h = passed (eqb b 255) _ _ n e in
       elim (cases_Bool (is_kind b)) [
-        | inl t ↦ kind_found limit count last b rest t oct.1 (taken (is_kind b) _ _ t h) e
+        | inl t ↦ kind_found limit count v last b rest t oct.1 (taken (is_kind b) _ _ t h) e
         | inr m ↦ absurd (none-some _ (sym (passed (is_kind b) _ _ m h)))
       ]
 ]
 
-pub opening_is : (o y : List ℕ) → length o ≡ 6 → opening_fault o y ≡ None → y ≡ o ++ drop 6 y
-opening_is o y len e =
+-- bytes that have no fault in their first six begin with the magic number and a version that is known
+magic_is : (m : List ℕ) (is_known : List ℕ → Bool) (y : List ℕ) → version_fault m is_known y ≡ None → (y ≡ m ++ (take 2 (drop 4 y) ++ drop 6 y)) × (is_known (take 2 (drop 4 y)) ≡ true)
+magic_is m is_known y e =
     let a = first-none _ _ _ e in
     let b = first-none _ _ _ a.1 in
     let c = first-none _ _ _ b.1 in
     let d = first-none _ _ _ c.1 in
-    let front : take 4 y ≡ take 4 o = (bytes_eq-Decides (take 4 y) (take 4 o)).0 (is_true _ b.0) in
-    let back : take 2 (drop 4 y) ≡ take 2 (drop 4 o) = (bytes_eq-Decides (take 2 (drop 4 y)) (take 2 (drop 4 o))).0 (is_true _ d.0) in
-    let rest : take 2 (drop 4 o) ≡ drop 4 o = take_all 2 (drop 4 o) (omega (arith, len, length-drop 4 o)) in
-    sym (take-append-drop 4 y)
-    ∙ ap (λ (l : List ℕ). l ++ drop 4 y) front
-    ∙ ap (λ (l : List ℕ). take 4 o ++ l) (sym (take-append-drop 2 (drop 4 y)))
-    ∙ ap (λ (l : List ℕ). take 4 o ++ (l ++ drop 2 (drop 4 y))) (back ∙ rest)
-    ∙ sym (append_assoc (take 4 o) (drop 4 o) (drop 2 (drop 4 y)))
-    ∙ ap (λ (l : List ℕ). l ++ drop 2 (drop 4 y)) (take-append-drop 4 o)
-    ∙ ap (λ (l : List ℕ). o ++ l) (drop-drop 2 4 y)
+    let front : take 4 y ≡ m = (bytes_eq-Decides (take 4 y) m).0 (is_true _ b.0) in (
+      sym (take-append-drop 4 y)
+          ∙ ap (λ (l : List ℕ). l ++ drop 4 y) front
+          ∙ ap (λ (l : List ℕ). m ++ l) (sym (take-append-drop 2 (drop 4 y)) ∙ ap (λ (l : List ℕ). take 2 (drop 4 y) ++ l) (drop-drop 2 4 y)),
+      is_true _ d.0,
+    )
+
+pub opening_is : (o y : List ℕ) → length o ≡ 6 → opening_fault o y ≡ None → y ≡ o ++ drop 6 y
+opening_is o y len e =
+    let m = magic_is (take 4 o) (λ version. bytes_eq version (take 2 (drop 4 o))) y e in
+    let back : take 2 (drop 4 y) ≡ drop 4 o = (bytes_eq-Decides (take 2 (drop 4 y)) (take 2 (drop 4 o))).0 m.1 ∙ take_all 2 (drop 4 o) (omega (arith, len, length-drop 4 o)) in
+    m.0
+    ∙ ap (λ (l : List ℕ). take 4 o ++ (l ++ drop 6 y)) back
+    ∙ sym (append_assoc (take 4 o) (drop 4 o) (drop 6 y))
+    ∙ ap (λ (l : List ℕ). l ++ drop 6 y) (take-append-drop 4 o)
+
+version_is : (t : List ℕ) → is_version t ≡ true → t ≡ version_bytes (if bytes_eq t (version_bytes One) then One else Two)
+version_is t e = elim (cases_Bool (bytes_eq t (version_bytes One))) [
+  | inl one ↦ (bytes_eq-Decides t (version_bytes One)).0 one ∙ ap (λ (b : Bool). version_bytes (if b then One else Two)) (sym one)
+  | inr other ↦
+      let two : bytes_eq t (version_bytes Two) ≡ true = or_second (bytes_eq t (version_bytes One)) (bytes_eq t (version_bytes Two)) other e in
+      (bytes_eq-Decides t (version_bytes Two)).0 two ∙ ap (λ (b : Bool). version_bytes (if b then One else Two)) (sym other)
+]
+
+-- a header that has no fault is that of the version that it tells
+pub header_is : (y : List ℕ) → header_fault y ≡ None → y ≡ header_in (version_in y) ++ drop 6 y
+header_is y e =
+    let m = magic_is magic is_version y e in
+    m.0 ∙ ap (λ (l : List ℕ). magic ++ (l ++ drop 6 y)) (version_is (take 2 (drop 4 y)) m.1) ∙ sym (append_assoc magic (version_bytes (version_in y)) (drop 6 y))
 
 pub rises_more : (b : Option Address) (es : List Fact) (f : Fact) → Rises b es → IsTrue (is_after (last_of b es) (address f)) → Rises b (es ++ f ∷ [])
 rises_more b [] f p v = (v, tt)
 rises_more b (e ∷ es) f p v = (p.0, rises_more (Some (address e)) es f p.1 v)
 
 -- one entry more, in order and within the bound
-pub entries_more : (limit : ℕ) (es : List Fact) (f : Fact) → AreEntries limit es → IsFact f → is_after (last_of None es) (address f) ≡ true → length es < limit → AreEntries limit (es ++ f ∷ [])
-entries_more limit es f a v o few = grind (arith, all_more, rises-rising, rises_more, rising-rises, length-append)
+pub rising_more : (es : List Fact) (f : Fact) → IsRising es → is_after (last_of None es) (address f) ≡ true → IsRising (es ++ f ∷ [])
+rising_more es f r o = rises-rising (es ++ f ∷ []) (rises_more None es f (rising-rises es r) o)
 
 -- a journal within the bound, or bytes that stop
 abbrev pub Decided : ℕ → List ℕ → Type 0
 Decided limit bytes = ((es : List Fact) × IsJournalWithin limit bytes es) ⊎ ((es : List Fact) × ((f : ReadFault) × Stops bytes limit es f))
 
+-- the bytes begin with these entries
+record Begins (v : Version) (limit : ℕ) (bytes : List ℕ) (es : List Fact) (rest : List ℕ) : Type 0 where
+  octets : AllByRecursion IsByte rest
+  valid : AllByRecursion (IsFactIn v) es
+  rising : IsRising es
+  few : length es ≤ limit
+  whole : bytes ≡ front_in v es ++ rest
+
 -- what is decided of the bytes behind one entry more
-abbrev Again : ℕ → List ℕ → List Fact → List ℕ → Type 0
-Again limit bytes es rest = (f : Fact) (more : List ℕ) → length more < length rest → AllByRecursion IsByte more → AreEntries limit (es ++ f ∷ [])
-    → bytes ≡ header ++ flat_map entry (es ++ f ∷ []) ++ more → Decided limit bytes
+abbrev Again : Version → ℕ → List ℕ → List Fact → List ℕ → Type 0
+Again v limit bytes es rest = (f : Fact) (more : List ℕ) → length more < length rest → Begins v limit bytes (es ++ f ∷ []) more → Decided limit bytes
 
-goes_on : (limit : ℕ) (bytes : List ℕ) (es : List Fact) (rest : List ℕ) → Again limit bytes es rest → AllByRecursion IsByte rest → AreEntries limit es
-    → bytes ≡ header ++ flat_map entry es ++ rest → Next limit (length es) (last_of None es) rest → Decided limit bytes
-goes_on limit bytes es rest again oct a e (at_end is) = inl (es, record { are_entries = a; bytes_are = e ∙ ap (λ (x : List ℕ). header ++ flat_map entry es ++ x) is })
-goes_on limit bytes es rest again oct a e (at_entry f more is v o few) =
-    let whole : bytes ≡ header ++ flat_map entry (es ++ f ∷ []) ++ more =
-    e ∙ ap (λ (x : List ℕ). header ++ flat_map entry es ++ x) is
-    ∙ sym (append_assoc (header ++ flat_map entry es) (entry f) more)
-    ∙ ap (λ (x : List ℕ). x ++ more) (flat_map_more entry header es f) in
-    again f more (omega (arith, entry_least f v, length-append (entry f) more, ap length is))
-    (all_split IsByte (entry f) more (subst (AllByRecursion IsByte) is oct)).1 (entries_more limit es f a v o few) whole
+goes_on : (v : Version) (limit : ℕ) (bytes : List ℕ) (es : List Fact) (rest : List ℕ) → Again v limit bytes es rest → Begins v limit bytes es rest
+    → Next limit (length es) v (last_of None es) rest → Decided limit bytes
+goes_on v limit bytes es rest again b (at_end is) =
+    inl (es, record { are_entries = record { version = v; valid = b.valid; rising = b.rising; few = b.few }; bytes_are = b.whole ∙ ap (λ (x : List ℕ). front_in v es ++ x) is })
+goes_on v limit bytes es rest again b (at_entry f more is p o few) =
+    again f more (omega (arith, entry_least v f p, length-append (entry_in v f) more, ap length is)) (record {
+      octets = (all_split IsByte (entry_in v f) more (subst (AllByRecursion IsByte) is b.octets)).1;
+      valid = all_more (IsFactIn v) es f b.valid p;
+      rising = rising_more es f b.rising o;
+      few = omega (arith, few, length-append es (f ∷ []));
+      whole = b.whole ∙ ap (λ (x : List ℕ). front_in v es ++ x) is
+          ∙ sym (append_assoc (front_in v es) (entry_in v f) more)
+          ∙ ap (λ (x : List ℕ). x ++ more) (flat_map_more (entry_in v) (header_in v) es f);
+    })
 
-stops_or : (limit : ℕ) (bytes : List ℕ) (es : List Fact) (rest : List ℕ) → Again limit bytes es rest → AllByRecursion IsByte rest → AreEntries limit es
-    → bytes ≡ header ++ flat_map entry es ++ rest → (o : Option ReadFault) → next_fault (before es) limit rest ≡ o → Decided limit bytes
-stops_or limit bytes es rest again oct a e (Some f) h = inr (es, (f, behind (record { are_entries = a; rest = rest; whole = e; first = h })))
-stops_or limit bytes es rest again oct a e None h = goes_on limit bytes es rest again oct a e (next_found limit (length es) (last_of None es) rest oct h)
+stops_or : (v : Version) (limit : ℕ) (bytes : List ℕ) (es : List Fact) (rest : List ℕ) → Again v limit bytes es rest → Begins v limit bytes es rest
+    → (o : Option ReadFault) → next_fault (before v es) limit rest ≡ o → Decided limit bytes
+stops_or v limit bytes es rest again b (Some f) h =
+    inr (es, (f, behind (record { are_entries = record { version = v; valid = b.valid; rising = b.rising; few = b.few }; rest = rest; whole = b.whole; first = h })))
+stops_or v limit bytes es rest again b None h = goes_on v limit bytes es rest again b (next_found limit (length es) v (last_of None es) rest b.octets h)
 
-decides : (fuel limit : ℕ) (bytes : List ℕ) (es : List Fact) (rest : List ℕ) → length rest ≤ fuel → AllByRecursion IsByte rest → AreEntries limit es
-    → bytes ≡ header ++ flat_map entry es ++ rest → Decided limit bytes
-decides zero limit bytes es rest le oct a e =
-    stops_or limit bytes es rest (λ f more few oct' a' e'. absurd (omega (arith, few, le))) oct a e (next_fault (before es) limit rest) refl
-decides (suc fuel) limit bytes es rest le oct a e =
-    stops_or limit bytes es rest (λ f more few oct' a' e'. decides fuel limit bytes (es ++ f ∷ []) more (omega (arith, few, le)) oct' a' e') oct a e (next_fault (before es) limit rest) refl
+decides : (v : Version) (fuel limit : ℕ) (bytes : List ℕ) (es : List Fact) (rest : List ℕ) → length rest ≤ fuel → Begins v limit bytes es rest → Decided limit bytes
+decides v zero limit bytes es rest le b =
+    stops_or v limit bytes es rest (λ f more few b'. absurd (omega (arith, few, le))) b (next_fault (before v es) limit rest) refl
+decides v (suc fuel) limit bytes es rest le b =
+    stops_or v limit bytes es rest (λ f more few b'. decides v fuel limit bytes (es ++ f ∷ []) more (omega (arith, few, le)) b') b (next_fault (before v es) limit rest) refl
 
 from_header : (limit : ℕ) (bytes : List ℕ) → AllByRecursion IsByte bytes → (o : Option ReadFault) → header_fault bytes ≡ o → Decided limit bytes
 from_header limit bytes oct (Some f) e = inr ([], (f, in_header refl e))
 from_header limit bytes oct None e =
-    decides (length (drop 6 bytes)) limit bytes [] (drop 6 bytes) (omega arith) (octets-drop 6 bytes oct) (record { valid = tt; rising = tt; few = omega arith })
-    (opening_is header bytes refl e)
+    decides (version_in bytes) (length (drop 6 bytes)) limit bytes [] (drop 6 bytes) (omega arith)
+    (record { octets = octets-drop 6 bytes oct; valid = tt; rising = tt; few = omega arith; whole = header_is bytes e })
 
 pub decided : (bytes : List ℕ) (limit : ℕ) → AllByRecursion IsByte bytes → Decided limit bytes
 decided bytes limit oct = from_header limit bytes oct (header_fault bytes) refl

@@ -1,8 +1,8 @@
 -- What the calls of a reader of datagrams come to.
-use Rattle.flute_journal.proofs.Common.{rules, arith, ◌≡◌, ℕ, Bool, true, false, List, [], ◌∷◌, ◌++◌, take, drop, not, Option, Some, None, Result, Ok, Err, inr, refl, ap, subst, IfErr, bytes_eq, Consumes, Consumes-trans, ReadFault, FileStage, Records, cut, first_fault, opening_fault, or_else, Parses, StopsFront, IsFaultOf, StaysWithin, left_by, told, file_header, record_of, record_fault, given, file_fault_from, IsDatagram, IsFileFault, in_record, ReadsRecord, ReadsFileFrom, GivesOfFile, file_stage_behind}
+use Rattle.flute_journal.proofs.Common.{Bool, Consumes, Consumes-trans, Err, FileStage, GivesOfFile, IfErr, IsDatagram, IsFaultOf, IsFileFault, List, None, Ok, Option, Parses, ReadFault, ReadsFileFrom, ReadsRecord, Records, Result, Some, StaysWithin, StopsFront, [], ap, arith, bytes_eq, cut, drop, false, file_fault_from, file_header, file_stage_behind, first_fault, front, given, in_record, inr, left_by, not, opening_fault, or_else, record_fault, record_of, refl, rules, subst, take, told, true, ℕ, ◌++◌, ◌∷◌, ◌≡◌}
 use Rattle.flute_journal.specs.declared.fault.ReadFault.TheVariants as faults
 use Rattle.flute_journal.specs.{declared.datagram_reader.FileStage.TheVariants.{Header}, Input.{Advances}, Records.{is_open, in_opening}}
-use Rattle.flute_journal.proofs.{Calls.{fault-first}, Fronts.{fault_up_to, fault_up_to-behind}, Parts.{opening_comes}}
+use Rattle.flute_journal.proofs.{Calls.{fault-first}, Fronts.{fault_up_to, fault_up_to-behind}, Files.{file_header_passes}}
 
 -- a header has no other faults
 opening_faults : (a b c d : Bool) (f : ReadFault) → first_fault ((a, faults.Cut) ∷ (b, faults.Magic) ∷ (c, faults.Cut) ∷ (d, faults.Version) ∷ []) ≡ Some f → IsFileFault f
@@ -42,9 +42,6 @@ reads_file_header limit u v f h some k a = (
   (a.0, a.1, in_opening a.2),
 )
 
-file_header_passes : (r : List ℕ) → opening_fault file_header (file_header ++ r) ≡ None
-file_header_passes r = opening_comes file_header (0x46 ∷ 0x4C ∷ 0x44 ∷ 0x47 ∷ []) (0 ∷ 1 ∷ []) r refl refl refl
-
 pub reads_file_first : (limit : ℕ) (u v w : Option (List ℕ)) (r : Result (Option (List ℕ)) ReadFault) → Consumes u v file_header → ReadsRecord limit 0 v w r
     → StaysWithin record_of IsDatagram v w r → IfErr r IsFileFault → ReadsFileFrom limit Header u w r
 reads_file_first limit u v w (Ok (Some d)) took h s k = (h.0, h.1, Consumes-trans u v w file_header (record_of d) took h.2)
@@ -65,3 +62,6 @@ gives_of_file limit old new u v (Err f) is_open_before e h = record { stays = e;
 pub gives_of_file_at : (limit count : ℕ) (at old new : FileStage) (u v w : Option (List ℕ)) (r s : Result (Option (List ℕ)) ReadFault) → old ≡ at → is_open at ≡ true
     → count ≡ given at → r ≡ s → v ≡ w → new ≡ file_stage_behind count r → ReadsFileFrom limit at u w s → GivesOfFile limit old new u v r
 gives_of_file_at limit count at old new u v w r s is opened counted gave left behind h = grind (arith, gives_of_file)
+
+-- what a reader of datagrams gives, of the record that it read
+pub ruleset gives_next = (gives_of_file_at, reads_record)

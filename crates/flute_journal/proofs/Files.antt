@@ -1,5 +1,5 @@
 -- Bytes are a datagram file, of one list of datagrams, or they stop at a fault.
-use Rattle.flute_journal.proofs.Common.{length-bytes_high_first, none-some, same_Some, ◌≡◌, ℕ, zero, suc, ◌^◌, ◌<◌, ◌≤◌, List, [], ◌∷◌, ◌++◌, length, take, drop, Option, Some, None, inr, ◌⊎◌, refl, sym, ap, ◌∙◌, subst, append_assoc, arith, flat_map, AllByRecursion, leb-false, ltb-false, length-append, length-take-le, drop_at, take-append-drop, append-nil, flat_map_more, big_endian, ReadFault, in_bytes, opening_fault, IsByte, file_header, record_of, IsDatagram, AreDatagrams, IsFileOf, IsFileWithin, FileStops, record_fault}
+use Rattle.flute_journal.proofs.Common.{length-bytes_high_first, none-some, same_Some, ◌≡◌, ℕ, zero, suc, ◌^◌, ◌<◌, ◌≤◌, List, [], ◌∷◌, ◌++◌, length, take, drop, Option, Some, None, inr, ◌⊎◌, refl, sym, ap, ◌∙◌, subst, append_assoc, arith, flat_map, AllByRecursion, bytes_eq, leb-false, ltb-false, length-append, length-take-le, drop_at, take-append-drop, append-nil, flat_map_more, big_endian, ReadFault, in_bytes, opening_fault, IsByte, file_header, record_of, IsDatagram, AreDatagrams, IsFileOf, IsFileWithin, FileStops, record_fault}
 use Rattle.flute_journal.proofs.{Sequences.{begins, one_stop, stop_at_bound}, Each.{all_split}, Entries.{counted-injective}, Numbers.{number-in_bytes, number-below, octets-take, octets-drop, spelled}, Parts.{opening_comes, first-pass, cut-passes}, Existence.{opening_is, first-none}}
 use Rattle.flute_journal.specs.declared.fault.ReadFault.TheVariants as faults
 use Rattle.flute_journal.specs.Records.{in_header, behind}
@@ -33,8 +33,12 @@ behind_header x y e = ap (drop 6) e
 grouped : (bytes : List ℕ) (ds : List (List ℕ)) (rest : List ℕ) → bytes ≡ file_header ++ flat_map record_of ds ++ rest → bytes ≡ file_header ++ (flat_map record_of ds ++ rest)
 grouped bytes ds rest e = e ∙ append_assoc file_header (flat_map record_of ds) rest
 
+pub file_header_passes : (r : List ℕ) → opening_fault file_header (file_header ++ r) ≡ None
+file_header_passes r =
+    opening_comes (take 4 file_header) (λ version. bytes_eq version (take 2 (drop 4 file_header))) (0x46 ∷ 0x4C ∷ 0x44 ∷ 0x47 ∷ []) (0 ∷ 1 ∷ []) r refl refl refl
+
 not_in_header : (bytes rest : List ℕ) (f : ReadFault) → bytes ≡ file_header ++ rest → opening_fault file_header bytes ≡ Some f → ⊥
-not_in_header bytes rest f e h = grind (arith, none-some, opening_comes)
+not_in_header bytes rest f e h = none-some f (sym (file_header_passes rest) ∙ ap (opening_fault file_header) (sym e) ∙ h)
 
 pass : (limit : ℕ) (ds : List (List ℕ)) → AllByRecursion IsDatagram ds → (front : List (List ℕ)) (x : List ℕ) (xs : List (List ℕ)) (r : List ℕ) → ds ≡ front ++ x ∷ xs → length front < limit
     → record_fault limit (length front) (record_of x ++ r) ≡ None

@@ -1,5 +1,5 @@
 -- Streams that are read to their ends, one after another.
-use Rattle.flute_journal.proofs.Common.{err_from_is_err_and, same_Some, ◌≡◌, ℕ, zero, suc, ◌+◌, ◌<◌, ◌≤◌, Bool, true, false, List, [], ◌∷◌, length, Option, Some, None, Ok, Err, refl, sym, ap, ◌∙◌, subst, arith, set, length-set, ◌≢◌, slice_get, is_some, Fact, FactRef, LoadFault, Joined, InputFault, StreamsFault, Input, Behaviour, Gave, Advances, fact_in, option_list, AllByRecursion, spelling, IsFact, Written, GaveBefore, CanGoOn, NamesInput, FailAs, OneFails, AppendsNoJournal}
+use Rattle.flute_journal.proofs.Common.{Advances, AllByRecursion, AppendsNoJournal, AppendsPart, Behaviour, Bool, CanGoOn, Err, Fact, FactRef, FailAs, Gave, GaveBefore, Input, InputFault, IsFact, Joined, List, LoadFault, NamesInput, None, Ok, OneFails, Option, Some, StreamsFault, Written, [], ap, arith, err_from_is_err_and, fact_in, false, is_some, length, length-set, option_list, refl, same_Some, set, slice_get, spelling, subst, suc, sym, true, zero, ℕ, ◌+◌, ◌<◌, ◌∙◌, ◌∷◌, ◌≡◌, ◌≢◌, ◌≤◌}
 use Rattle.flute_journal.proofs.{MergeBytes.{no_whole_end}, LeadFacts.{set_here, set_elsewhere}}
 use Rattle.flute_journal.specs.FirstFaults.{IsStopOf, HasStopped, TellBefore}
 
@@ -137,7 +137,9 @@ module _ {S : Type 0} (b : Behaviour S) where
 
 -- where the sink failed, what was appended is no journal
 pub cut_journal : (u v : Option (List ℕ)) (entries : List Fact) (failed : Bool) → AllByRecursion IsFact entries → failed ≡ true → Written failed u v (spelling entries) → AppendsNoJournal u v
-cut_journal u v entries failed valid e w = grind (arith, no_whole_end)
+cut_journal u v entries failed valid e w =
+    let part : AppendsPart u v (spelling entries) = subst (λ (b : Bool). Written b u v (spelling entries)) e w in
+    record { bytes = part.part; appended = part.appended; no_journal = no_whole_end entries part.part part.rest valid part.cut (sym part.whole) }
 
 -- a stream that stopped as it was read on
 pub ruleset reads_on = (others_on, err_from_is_err_and, read_stops)

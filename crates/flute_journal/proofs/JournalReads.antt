@@ -1,5 +1,5 @@
 -- A journal that is read on is a stream that goes on.
-use Rattle.flute_journal.proofs.Common.{rules, ◌≡◌, ℕ, ◌+◌, ◌-◌, ◌≤◌, true, false, Bool, List, [], ◌∷◌, ◌++◌, length, Option, Some, None, Ok, Err, IsTrue, refl, sym, ap, ◌∙◌, subst, append-nil, arith, IfSome, AllByRecursion, flat_map, Consumes, Keeps, Consumes-kept, Consumes-whole, IsRising, Fact, IsSized, ReadFault, LoadFault, Stage, Header, Entries, Ended, Failed, LentStream, header, entry, spelling, FailsIf, IsFact, AreEntries, IsJournalWithin, is_open, position, GivesEnd, GivesFault, Gives, source_of, limit_of, stage_of, Sofar, BeginsWith, HasFault, ReadsBehind, Behaviour, option_list, Continues, GoesOn, StopsAt, ReadWhole, ReadAt, room, IsJournalOfAll, FailsSince, unread_of, journal_behaviour, lent, SameLoans, lent_behaviour}
+use Rattle.flute_journal.proofs.Common.{AreEntries, BeginsWith, Behaviour, Bool, Consumes, Consumes-kept, Consumes-whole, Continues, Ended, Entries, Err, Fact, Failed, FailsIf, FailsSince, Gives, GivesEnd, GivesFault, GoesOn, HasFault, Header, IfSome, IsFactIn, IsJournalOfAll, IsJournalWithin, IsRising, IsSized, IsTrue, Keeps, LentStream, List, LoadFault, None, Ok, Option, ReadAt, ReadFault, ReadWhole, ReadsBehind, SameLoans, Sofar, Some, Stage, StopsAt, [], ap, append-nil, arith, count_at, end, false, front_in, inl, inr, is_open, journal_behaviour, length, lent, lent_behaviour, limit_of, option_list, refl, room, source_of, spelling_in, stage_of, subst, sym, true, unread_of, ℕ, ◌++◌, ◌+◌, ◌-◌, ◌∙◌, ◌∷◌, ◌≡◌, ◌≤◌}
 use Rattle.flute_journal.proofs.{Whole.{ahead-sofar, AtEnd, side-from, open_behind, reads-side, reads-sofar, reads-fault, sofar-fault, read_some}, Each.{all_split}, Bodies.{fact_sized}, MergeBytes.{spelling-injective}}
 use Rattle.flute_journal.specs.declared.fault.LoadFault.TheVariants as load
 use Rattle.flute_journal.specs.declared.journal_stream.JournalStream.{JournalStream}
@@ -12,12 +12,16 @@ Read limit u w stage F None = ReadWhole limit u w F × (stage ≡ Ended)
 whole_at : (limit : ℕ) (u w : Option (List ℕ)) (F : List Fact) → AtEnd limit u w F → ReadWhole limit u w F
 whole_at limit u w F s = record {
   are_entries = s.are_entries;
-  whole = Consumes-whole u w (spelling F) (λ xs. IsJournalWithin limit xs F) s.read s.at_end (record { are_entries = s.are_entries; bytes_are = refl });
+  whole = Consumes-whole u w (spelling_in s.are_entries.version F) (λ xs. IsJournalWithin limit xs F) s.read s.at_end (record { are_entries = s.are_entries; bytes_are = refl });
   read = reads-side limit u w Ended F None s;
 }
 
 whole_kept : (limit : ℕ) (u v w : Option (List ℕ)) (F : List Fact) → ReadWhole limit u v F → Keeps v w → ReadWhole limit u w F
-whole_kept limit u v w F r k = search (rules, Consumes-kept)
+whole_kept limit u v w F r k = record {
+  are_entries = r.are_entries;
+  whole = r.whole;
+  read = record { version = r.read.version; valid = r.read.valid; bytes = r.read.bytes; read = Consumes-kept u v w r.read.bytes r.read.read k; ends = r.read.ends };
+}
 
 read_from : (limit : ℕ) (u v w : Option (List ℕ)) (old new : Stage) (es : List Fact) (o : Option Fact) → Sofar limit u v old es → Gives limit old new v w (Ok o)
     → Read limit u w new es o
@@ -26,19 +30,21 @@ read_from limit u v w old new es None s g = (whole_at limit u w es (side-from li
 
 end_again : (limit : ℕ) (u v w : Option (List ℕ)) (new : Stage) (F : List Fact) (held : Option Fact) → ReadWhole limit u v F → held ≡ None → GivesEnd Ended new v w
     → Read limit u w new (F ++ option_list held) None
-end_again limit u v w new F held r n g = grind (arith, append-nil, whole_kept)
+end_again limit u v w new F held r n g =
+    let k : Keeps v w = elim g.bytes [ inl a ↦ a.1 | inr a ↦ absurd (let o = a.0 in cc) ] in
+    (subst (ReadWhole limit u w) (sym (ap (λ (h : Option Fact). F ++ option_list h) n ∙ append-nil F)) (whole_kept limit u v w F r k), g.ended)
 
 read_on : (limit : ℕ) (u v w : Option (List ℕ)) (old new : Stage) (F : List Fact) (held o : Option Fact) → ReadAt limit u v old F held → Gives limit old new v w (Ok o)
     → Read limit u w new (F ++ option_list held) o
 read_on limit u v w Header new F held o r g = read_from limit u v w Header new (F ++ option_list held) o r g
-read_on limit u v w (Entries count last) new F held o r g = read_from limit u v w (Entries count last) new (F ++ option_list held) o r g
+read_on limit u v w (Entries version count last) new F held o r g = read_from limit u v w (Entries version count last) new (F ++ option_list held) o r g
 read_on limit u v w (Failed f) new F held o r g = absurd r
 read_on limit u v w Ended new F held (Some f) r g = absurd (let e = g.open_before in cc)
 read_on limit u v w Ended new F held None r g = end_again limit u v w new F held r.0 r.1 g
 
 read_open : (limit : ℕ) (u w : Option (List ℕ)) (stage : Stage) (F : List Fact) (f : Fact) → IsTrue (is_open stage) → Sofar limit u w stage (F ++ f ∷ []) → ReadAt limit u w stage F (Some f)
 read_open limit u w Header F f o s = s
-read_open limit u w (Entries count last) F f o s = s
+read_open limit u w (Entries version count last) F f o s = s
 read_open limit u w Ended F f o s = absurd cc
 read_open limit u w (Failed g) F f o s = absurd cc
 
@@ -62,32 +68,37 @@ rising_of limit u w stage F o r = grind (arith, append-nil)
 ended_of : (limit : ℕ) (u w : Option (List ℕ)) (stage : Stage) (F : List Fact) (o : Option Fact) → Read limit u w stage F o → o ≡ None → IfSome u (λ xs. IsJournalWithin limit xs F)
 ended_of limit u w stage F o r e = grind (arith)
 
-only_entries : (limit : ℕ) (u : Option (List ℕ)) (F K : List Fact) → AllByRecursion IsFact F → IfSome u (λ xs. IsJournalWithin limit xs F) → IsJournalOfAll u K → K ≡ F
-only_entries limit None F K v h k = absurd (let e = k.bytes_are in cc)
-only_entries limit (Some xs) F K v h k =
-    let e : xs ≡ spelling K = (let q = k.bytes_are in cc) in
-    (spelling-injective F K [] [] v k.valid (append-nil (spelling F) ∙ sym h.bytes_are ∙ e ∙ sym (append-nil (spelling K)))).0
+only_entries : (limit : ℕ) (u : Option (List ℕ)) (F K : List Fact) → IfSome u (λ xs. IsJournalWithin limit xs F) → IsJournalOfAll u K → K ≡ F
+only_entries limit None F K h k = absurd (let e = k.bytes_are in cc)
+only_entries limit (Some xs) F K h k =
+    let v = h.are_entries.version in
+    let w = k.version in
+    let e : xs ≡ spelling_in w K = (let q = k.bytes_are in cc) in
+    (spelling-injective v w F K [] [] h.are_entries.valid k.valid (append-nil (spelling_in v F) ∙ sym h.bytes_are ∙ e ∙ sym (append-nil (spelling_in w K)))).1
 
 known_of : (limit : ℕ) (u w : Option (List ℕ)) (stage : Stage) (F : List Fact) (o : Option Fact) → Read limit u w stage F o → (K : List Fact) → IsJournalOfAll u K
     → Continues K (F ++ option_list o) o
 known_of limit u w stage F (Some f) r K k =
-    let a = ahead-sofar limit u w stage (F ++ f ∷ []) r K k.valid k.rising k.bytes_are in
+    let a = ahead-sofar limit u w stage (F ++ f ∷ []) r k.version K k.valid k.rising k.bytes_are in
     record { rest = a.0; is = a.1; rising = k.rising; ended = λ e. absurd (let h = e in cc) }
-known_of limit u w stage F None r K k = grind (arith, only_entries, append-nil)
+known_of limit u w stage F None r K k =
+    record { rest = []; is = only_entries limit u F K r.0.whole k ∙ sym (append-nil F) ∙ sym (append-nil (F ++ [])); rising = k.rising; ended = λ e. refl }
 
-begins_read : (limit : ℕ) (u w : Option (List ℕ)) (es : List Fact) → AreEntries limit es → Consumes u w (header ++ flat_map entry es) → IfSome u (λ bytes. BeginsWith limit bytes es)
+begins_read : (limit : ℕ) (u w : Option (List ℕ)) (es : List Fact) → (a : AreEntries limit es) → Consumes u w (front_in a.version es) → IfSome u (λ bytes. BeginsWith limit bytes es)
 begins_read limit None w es a h = tt
 begins_read limit (Some x) None es a h = absurd h
 begins_read limit (Some x) (Some z) es a h = record { are_entries = a; rest = z; whole = h }
 
 begins_of : (limit : ℕ) (u w : Option (List ℕ)) (stage : Stage) (F : List Fact) (o : Option Fact) → Read limit u w stage F o → IfSome u (λ bytes. BeginsWith limit bytes (F ++ option_list o))
-begins_of limit u w stage F (Some f) r = begins_read limit u w (F ++ f ∷ []) r.are_entries (subst (Consumes u w) (read_some F f) r.read)
+begins_of limit u w stage F (Some f) r = begins_read limit u w (F ++ f ∷ []) r.are_entries (subst (Consumes u w) (read_some r.are_entries.version F f) r.read)
 begins_of limit None w stage F None r = tt
-begins_of limit (Some x) w stage F None r = grind (arith, append-nil)
+begins_of limit (Some x) w stage F None r =
+    let h = r.0.whole in
+    subst (BeginsWith limit x) (sym (append-nil F)) (record { are_entries = h.are_entries; rest = end (length F); whole = h.bytes_are })
 
-room_open : (limit : ℕ) (stage : Stage) → IsTrue (is_open stage) → room limit stage ≡ limit - (position stage).count
+room_open : (limit : ℕ) (stage : Stage) → IsTrue (is_open stage) → room limit stage ≡ limit - count_at stage
 room_open limit Header o = omega arith
-room_open limit (Entries count last) o = refl
+room_open limit (Entries version count last) o = refl
 room_open limit Ended o = absurd cc
 room_open limit (Failed f) o = absurd cc
 
@@ -96,7 +107,7 @@ fewer limit n v w old new (Some f) g = grind (arith, room_open)
 fewer limit n v w old new None g = let e = ap (room limit) g.ended in omega (arith, e)
 
 sized_of : (limit : ℕ) (u w : Option (List ℕ)) (stage : Stage) (F : List Fact) (o : Option Fact) → Read limit u w stage F o → IfSome o IsSized
-sized_of limit u w stage F (Some f) r = fact_sized f (all_split IsFact F (f ∷ []) r.are_entries.valid).1.0
+sized_of limit u w stage F (Some f) r = fact_sized f (all_split (IsFactIn r.are_entries.version) F (f ∷ []) r.are_entries.valid).1.0.0
 sized_of limit u w stage F None r = tt
 
 -- what a stream has given by these reads
@@ -131,7 +142,7 @@ gives_on limit limit' u v w old new F held o same p g =
 fault_at : (limit : ℕ) (u v w : Option (List ℕ)) (old new : Stage) (F : List Fact) (held : Option Fact) (f : ReadFault) → ReadAt limit u v old F held → GivesFault limit old new v w f
     → ReadsBehind u w (F ++ option_list held) × HasFault limit u f × IsTrue (is_open old)
 fault_at limit u v w Header new F held f r g = (reads-fault limit u v w Header new _ f r g, sofar-fault limit u v w Header new _ f r g, refl)
-fault_at limit u v w (Entries count last) new F held f r g = (reads-fault limit u v w (Entries count last) new _ f r g, sofar-fault limit u v w (Entries count last) new _ f r g, refl)
+fault_at limit u v w (Entries version count last) new F held f r g = (reads-fault limit u v w (Entries version count last) new _ f r g, sofar-fault limit u v w (Entries version count last) new _ f r g, refl)
 fault_at limit u v w (Failed h) new F held f r g = absurd r
 fault_at limit u v w Ended new F held f r g = grind (arith)
 

@@ -199,3 +199,6 @@ module _ {S : Type 0} (b : Behaviour S) where
   pub still-leads : (streams new : List S) (number : ℕ) (next : Option Address) (o : Option Fact) → Leads b streams number next → Advances b number streams new (Ok tt)
       → ((s : S) → slice_get new number ≡ Some s → o ≡ b.held s) → IsBelow o next → Leads b new number next
   still-leads streams new number next o l v held below = grind (arith, set_here, set_elsewhere)
+
+-- one stream more was looked at, or the one that leads was passed over
+pub ruleset firsts = (firsts_more, firsts_passed)

@@ -1,9 +1,9 @@
 -- A store that is read entry by entry.
-use Rattle.flute_journal.proofs.Common.{err_from_is_err_and, ◌≡◌, ℕ, List, [], ◌∷◌, ◌++◌, Bool, Option, Some, None, Ok, Err, refl, sym, ◌∙◌, subst, append-nil, arith, IfSome, MatchBool, flat_map, Consumes, IsAtEnd, Consumes-trans, Fact, Same, Over, more_sessions, more_objects, more_symbols, Same-itself, Same-sym, Same-trans, Same-append, Below-from_Same, Over-below, ReadFault, Read, FailsIf, Stage, Header, header, entry, AreEntries, is_open, position, GivesEntry, GivesFault, Gives, ReadsPart, IsJournalOf, BeginsOver, FailsToLoad, IsLoadFault, refused, Sofar}
+use Rattle.flute_journal.proofs.Common.{AreEntries, BeginsOver, Below-from_Same, Bool, Consumes, Consumes-whole, Err, Fact, FailsIf, FailsToLoad, Gives, GivesEntry, GivesFault, Header, IfSome, IsAtEnd, IsJournalOf, IsLoadFault, List, MatchBool, None, Ok, Option, Over, Over-below, Read, ReadFault, ReadsPart, Same, Same-append, Same-itself, Same-sym, Same-trans, Sofar, Some, Stage, [], append-nil, arith, behind, count_at, end, err_from_is_err_and, front_in, given, is_open, more_objects, more_sessions, more_symbols, refl, refused, session, spelling_in, subst, sym, ℕ, ◌++◌, ◌∙◌, ◌∷◌, ◌≡◌}
 use Rattle.flute_join.specs.declared.refusal.JoinRefusal.{JoinRefusal}
 use Rattle.flute_join.specs.declared.refusal.JoinRefusal.TheVariants as join
 use Rattle.flute_journal.specs.Whole.{behind}
-use Rattle.flute_journal.proofs.{Parts.{entry_within-short}, Whole.{all_read, read_some, not_ended, open_at, sofar-none, sofar-next, sofar-stops}}
+use Rattle.flute_journal.proofs.{MergeBytes.{within_nil}, Whole.{AtEnd, read_some, side-from, open_at, sofar-none, sofar-next, sofar-stops}}
 
 -- these entries were read, and what they come to is held within the limits
 pub record Loaded (s o y limit : ℕ) (first now : Option (List ℕ)) (stage : Stage) (content : List Fact) : Type 0 where
@@ -47,7 +47,7 @@ loaded-next s o y limit u v w old new F G f l h same fits =
 pub loaded-fits : (s o y limit : ℕ) (u v : Option (List ℕ)) (stage : Stage) (F : List Fact) → Loaded s o y limit u v stage F → Over F s o y → ⊥
 loaded-fits s o y limit u v stage F l over = l.fits (over-same F l.entries s o y l.same over)
 
-begins-over : (s o y limit : ℕ) (u w : Option (List ℕ)) (es : List Fact) (f : Fact) → AreEntries limit (es ++ f ∷ []) → Consumes u w (header ++ flat_map entry (es ++ f ∷ []))
+begins-over : (s o y limit : ℕ) (u w : Option (List ℕ)) (es : List Fact) (f : Fact) → (a : AreEntries limit (es ++ f ∷ [])) → Consumes u w (front_in a.version (es ++ f ∷ []))
     → Over (es ++ f ∷ []) s o y → IfSome u (BeginsOver s o y limit)
 begins-over s o y limit None w es f a h over = tt
 begins-over s o y limit (Some x) None es f a h over = absurd h
@@ -58,7 +58,7 @@ pub loaded-over : (s o y limit : ℕ) (u v w : Option (List ℕ)) (old new : Sta
 loaded-over s o y limit u v w old new F f l h over =
     let es = l.entries in
     let next = sofar-next limit u v w old new es f l.sofar h in
-    begins-over s o y limit u w es f next.are_entries (subst (Consumes u w) (read_some es f) next.read)
+    begins-over s o y limit u w es f next.are_entries (subst (Consumes u w) (read_some next.are_entries.version es f) next.read)
     (over-same (F ++ f ∷ []) (es ++ f ∷ []) s o y (one_more F es f l.same) over)
 
 -- what the end tells
@@ -68,7 +68,7 @@ pub record IsLoaded (limit : ℕ) (first last : Option (List ℕ)) (content : Li
 
 -- how many entries were read
 abbrev pub entries_at : Stage → ℕ
-entries_at stage = (position stage).count
+entries_at stage = count_at stage
 
 -- and how often the source failed
 
@@ -99,9 +99,15 @@ loaded-full s o y limit bound u v w z old new F given f join.Full l b e h full =
     loaded-over s o y limit u v w old new F f l (given-entry limit bound v w old new given f b e h) (full refl)
 loaded-full s o y limit bound u v w z old new F given f join.OutOfMemory l b e h full = tt
 
+journal-at : (limit : ℕ) (u w : Option (List ℕ)) (es F : List Fact) → AtEnd limit u w es → Same F es → IfSome u (λ bytes. IsJournalOf limit bytes F)
+journal-at limit u w es F s same =
+    Consumes-whole u w (spelling_in s.are_entries.version es) (λ bytes. IsJournalOf limit bytes F) s.read s.at_end (es, record { are_entries = s.are_entries; bytes_are = refl }, same)
+
 pub loaded_all : (s o y limit bound : ℕ) (u v w : Option (List ℕ)) (old new : Stage) (F : List Fact) (given : Option Fact) → Loaded s o y limit u v old F
     → bound ≡ limit → given ≡ None → Gives bound old new v w (Ok given) → IsLoaded limit u w F
-loaded_all s o y limit bound u v w old new F None l b e h = grind (arith, not_ended, all_read, Consumes-trans, append-nil)
+loaded_all s o y limit bound u v w old new F None l b e h =
+    let end = side-from limit u v w old new l.entries None l.sofar (subst (λ (n : ℕ). Gives n old new v w (Ok None)) b (subst (λ (x : Option Fact). Gives bound old new v w (Ok x)) e h)) in
+    record { journal = journal-at limit u w l.entries F end l.same; at_end = end.at_end }
 loaded_all s o y limit bound u v w old new F (Some f) l b e h = absurd cc
 
 pub loaded-stops : (s o y limit bound : ℕ) (u v w : Option (List ℕ)) (old new : Stage) (F : List Fact) (f : ReadFault) → Loaded s o y limit u v old F
@@ -122,8 +128,9 @@ refused-part s o y limit bound u v w old new F given f l b e h =
     let es = l.entries ++ f ∷ [] in
     let next = sofar-next limit u v w old new l.entries f l.sofar (given-entry limit bound v w old new given f b e h) in (
       es,
-      behind next.are_entries [] (subst (Consumes u w) (read_some l.entries f ∙ sym (append-nil (header ++ flat_map entry es))) next.read)
-          (entry_within-short [] (omega arith)),
+      behind next.are_entries []
+          (subst (Consumes u w) (read_some next.are_entries.version l.entries f ∙ sym (append-nil (front_in next.are_entries.version es))) next.read)
+          (within_nil next.are_entries.version),
     )
 
 -- a store before the first entry, at a fault and at the end

@@ -1,5 +1,5 @@
 -- The lowest address of facts, and what they come to there, fact by fact.
-use Rattle.flute_journal.proofs.Common.{rules, arith, ◌≡◌, ℕ, ◌+◌, ◌<◌, true, false, List, [], ◌∷◌, ◌++◌, length, take, get_or, Option, Some, refl, sym, ap, ◌∙◌, subst, append_assoc, append-nil, take_more, get_or_from_slice_get, ◌≢◌, slice_get, AllByRecursion, is_lt, is_eq, Ordering, Less, Equal, Greater, address_cmp, address, fact_at, conflict_in, conflict_at, same_fact, StandAfter, address_same, address_itself, fact_same, address_total, Key, Part, Address, Fact, joined, joined-same, joined-apart, joined-none, fact_at-append, alone-at, alone-elsewhere, fact_at-after, Behaviour, option_list, heads, IsNotBefore, Lowest}
+use Rattle.flute_journal.proofs.Common.{Address, AllByRecursion, Behaviour, Equal, Fact, Greater, IsNotBefore, Key, Less, List, Lowest, Option, Ordering, Part, Some, StandAfter, [], address, address_cmp, address_itself, address_same, address_total, alone-at, alone-elsewhere, ap, append-nil, append_assoc, arith, conflict_at, conflict_in, fact_at, fact_at-after, fact_at-append, fact_same, false, get_or, get_or_from_slice_get, heads, is_eq, is_lt, joined, joined-apart, joined-none, joined-same, length, option_list, refl, rules, same_fact, slice_get, subst, sym, take, take_more, true, ℕ, ◌++◌, ◌+◌, ◌<◌, ◌∙◌, ◌∷◌, ◌≡◌, ◌≢◌}
 use Rattle.flute_journal.proofs.{Each.{all_append, all_map}, GoingOn.{item_at}}
 use Rattle.flute_parts.specs.declared.address.Part.TheVariants.{Info as InfoPart, Symbol as SymbolPart}
 
@@ -65,7 +65,8 @@ conflict-place a = conflict-part a.key a.part
 
 -- the fact alone is the lowest
 pub lowest_alone : (facts : List Fact) (f : Fact) → facts ≡ [] → Lowest (facts ++ f ∷ []) f
-lowest_alone facts f none = grind (arith, alone-at, up_to_itself)
+lowest_alone facts f none =
+    subst (λ (x : List Fact). Lowest (x ++ f ∷ []) f) (sym none) (record { comes = alone-at f (address f) refl; first = (up_to_itself (address f), tt) })
 
 -- it stands below the others
 pub lowest_turns : (facts : List Fact) (f g : Fact) → Lowest facts g → address_cmp (address f) (address g) ≡ Less → Lowest (facts ++ f ∷ []) f
@@ -85,7 +86,8 @@ with_more : (facts : List Fact) (f g : Fact) → Lowest facts g → address f �
 with_more facts f g h e = grind (arith, fact_at-append, joined, alone-at)
 
 first_more : (facts : List Fact) (f g : Fact) → Lowest facts g → address f ≡ address g → AllByRecursion (IsNotBefore (address g)) (facts ++ f ∷ [])
-first_more facts f g h e = grind (arith, all_append, up_to_itself)
+first_more facts f g h e =
+    all_append (IsNotBefore (address g)) facts (f ∷ []) h.first (subst (λ x. IsUpTo (address_cmp (address g) x)) (sym e) (up_to_itself (address g)), tt)
 
 -- it is the same
 pub lowest_same : (facts : List Fact) (f g : Fact) → Lowest facts g → address_cmp (address f) (address g) ≡ Equal → same_fact g f ≡ true → Lowest (facts ++ f ∷ []) g

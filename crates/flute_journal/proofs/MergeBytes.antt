@@ -1,13 +1,16 @@
 -- Whole entries at the head of a journal.
-use Rattle.flute_journal.proofs.{Common.{◌≡◌, ℕ, List, [], ◌∷◌, ◌++◌, length, refl, sym, ap, ◌∙◌, append_assoc, arith, append-nil, flat_map_more, flat_map, AllByRecursion, Fact, in_bytes, header, entry, end, spelling, IsWithin, IsFact, front, written_up_to}, Sequences.{GoesOn, begins}}
+use Rattle.flute_journal.proofs.{Common.{AllByRecursion, Collects, Fact, IsFact, IsFactIn, IsWithin, IsJournal, Journal, JournalIn, List, One, Same, Two, Version, [], ap, append-nil, append_assoc, end, entry, entry_in, fact_at, flat_map, flat_map_more, front, front_in, header, header_in, in_bytes, length, refl, spelling, spelling_in, subst, sym, written_up_to, ℕ, ◌++◌, ◌<◌, ◌^◌, ◌∙◌, ◌∷◌, ◌≡◌}, Sequences.{GoesOn, begins}}
 use Rattle.std.proofs.{lemmas.List.{append_cancel_left}, lemmas.List.Concat.{flat_map-append}}
-use Rattle.flute_journal.proofs.Entries.{entry_injective, not_end}
+use Rattle.flute_journal.proofs.Entries.{entry_injective, not_end, header-injective, facts_two}
 
 pub front-append : (es fs : List Fact) → front (es ++ fs) ≡ front es ++ flat_map entry fs
 front-append es fs = ap (λ (x : List ℕ). header ++ x) (flat_map-append entry es fs) ∙ sym (append_assoc header (flat_map entry es) (flat_map entry fs))
 
+pub front_in-snoc : (v : Version) (es : List Fact) (f : Fact) → front_in v es ++ entry_in v f ≡ front_in v (es ++ f ∷ [])
+front_in-snoc v es f = flat_map_more (entry_in v) (header_in v) es f
+
 pub front-snoc : (es : List Fact) (f : Fact) → front es ++ entry f ≡ front (es ++ f ∷ [])
-front-snoc es f = flat_map_more entry header es f
+front-snoc es f = front_in-snoc Two es f
 
 pub written-begins : (es : List Fact) (part : List ℕ) → (rest : List ℕ) × (front es ++ part ≡ written_up_to es ++ rest)
 written-begins [] part = (header ++ part, refl)
@@ -17,20 +20,62 @@ pub written-snoc : (es : List Fact) (f : Fact) → front (es ++ f ∷ []) ≡ wr
 written-snoc [] f = refl
 written-snoc (e ∷ es) f = refl
 
-pub front-of_spelling : (fs es : List Fact) (x y : List ℕ) → AllByRecursion IsFact fs → AllByRecursion IsFact es
-    → front fs ++ x ≡ spelling es ++ y → GoesOn entry fs es x (end (length es) ++ y)
-front-of_spelling fs es x y p q e = grind (arith, begins, entry_injective, not_end, append_assoc)
+-- Two journals that begin alike are of one version, and the entries of one are the first of the other, where that ends behind its own.
+pub fronts : (v w : Version) (fs es : List Fact) (x t : List ℕ) → AllByRecursion (IsFactIn v) fs → AllByRecursion (IsFactIn w) es → ((f : Fact) (y : List ℕ) → t ≡ entry_in v f ++ y → ⊥)
+    → front_in v fs ++ x ≡ front_in w es ++ t → (v ≡ w) × GoesOn (entry_in v) fs es x t
+fronts v w fs es x t p q none e =
+    let h = header-injective v w (flat_map (entry_in v) fs ++ x) (flat_map (entry_in w) es ++ t)
+    (sym (append_assoc (header_in v) (flat_map (entry_in v) fs) x) ∙ e ∙ append_assoc (header_in w) (flat_map (entry_in w) es) t) in (
+      h.0,
+      begins (entry_in v) (IsFactIn v) (entry_injective v) fs es x t none p (subst (λ (z : Version). AllByRecursion (IsFactIn z) es) (sym h.0) q)
+          (subst (λ (z : Version). flat_map (entry_in v) fs ++ x ≡ flat_map (entry_in z) es ++ t) (sym h.0) h.1),
+    )
 
-by_rest : (fs es rest : List Fact) (x y : List ℕ) → es ≡ fs ++ rest → end (length fs) ++ x ≡ flat_map entry rest ++ (end (length es) ++ y) → es ≡ fs
-by_rest fs es [] x y s t = s ∙ append-nil fs
-by_rest fs es (f ∷ rest) x y s t = absurd (not_end f (in_bytes 8 (length fs) ++ x) (flat_map entry rest ++ (end (length es) ++ y)) (t ∙ append_assoc (entry f) (flat_map entry rest) (end (length es) ++ y)))
+pub front-of_spelling : (v w : Version) (fs es : List Fact) (x y : List ℕ) → AllByRecursion (IsFactIn v) fs → AllByRecursion (IsFactIn w) es
+    → front_in v fs ++ x ≡ spelling_in w es ++ y → (v ≡ w) × GoesOn (entry_in v) fs es x (end (length es) ++ y)
+front-of_spelling v w fs es x y p q e =
+    fronts v w fs es x (end (length es) ++ y) p q (λ f z. not_end v f (in_bytes 8 (length es) ++ y) z) (e ∙ append_assoc (front_in w es) (end (length es)) y)
+
+by_rest : (v : Version) (fs es rest : List Fact) (x y : List ℕ) → es ≡ fs ++ rest → end (length fs) ++ x ≡ flat_map (entry_in v) rest ++ (end (length es) ++ y) → es ≡ fs
+by_rest v fs es [] x y s t = s ∙ append-nil fs
+by_rest v fs es (f ∷ rest) x y s t =
+    absurd (not_end v f (in_bytes 8 (length fs) ++ x) (flat_map (entry_in v) rest ++ (end (length es) ++ y)) (t ∙ append_assoc (entry_in v f) (flat_map (entry_in v) rest) (end (length es) ++ y)))
 
 -- a journal is read in one way, whatever follows it
-pub spelling-injective : (fs es : List Fact) (x y : List ℕ) → AllByRecursion IsFact fs → AllByRecursion IsFact es → spelling fs ++ x ≡ spelling es ++ y → (es ≡ fs) × (x ≡ y)
-spelling-injective fs es x y p q e =
-    let r = front-of_spelling fs es (end (length fs) ++ x) y p q (sym (append_assoc (front fs) (end (length fs)) x) ∙ e) in
-    let one = by_rest fs es r.more x y r.items r.bytes in
-    (one, append_cancel_left (spelling fs) x y (e ∙ ap (λ (l : List Fact). spelling l ++ y) one))
+pub spelling-injective : (v w : Version) (fs es : List Fact) (x y : List ℕ) → AllByRecursion (IsFactIn v) fs → AllByRecursion (IsFactIn w) es → spelling_in v fs ++ x ≡ spelling_in w es ++ y
+    → (v ≡ w) × (es ≡ fs) × (x ≡ y)
+spelling-injective v w fs es x y p q e =
+    let r = front-of_spelling v w fs es (end (length fs) ++ x) y p q (sym (append_assoc (front_in v fs) (end (length fs)) x) ∙ e) in
+    let one = by_rest v fs es r.1.more x y r.1.items r.1.bytes in
+    (r.0, one, append_cancel_left (spelling_in v fs) x y (e ∙ (λ i. spelling_in (sym r.0 i) (one i) ++ y)))
+
+-- Journals of whatever version.
+
+pub record JournalParts (version : Version) (bytes : List ℕ) (facts : List Fact) : Type 0 where
+  pub entries : List Fact
+  pub collects : Collects facts entries
+  pub small : length entries < 2 ^ 64
+  pub bytes_are : bytes ≡ spelling_in version entries
+  pub valid : AllByRecursion (IsFactIn version) entries
+
+pub journal_parts : (v : Version) (bytes : List ℕ) (facts : List Fact) → JournalIn v bytes facts → JournalParts v bytes facts
+journal_parts One bytes facts j = record { entries = j.0; collects = j.1; small = j.2; bytes_are = j.3; valid = j.4 }
+journal_parts Two bytes facts j = record { entries = j.0; collects = j.1; small = j.2; bytes_are = j.3; valid = facts_two j.0 j.1.valid }
+
+pub parts_journal : (v : Version) (bytes : List ℕ) (facts : List Fact) → JournalParts v bytes facts → JournalIn v bytes facts
+parts_journal One bytes facts j = (j.entries, j.collects, j.small, j.bytes_are, j.valid)
+parts_journal Two bytes facts j = (j.entries, j.collects, j.small, j.bytes_are)
+
+pub written_journal : (bytes : List ℕ) (facts : List Fact) → Journal bytes facts → IsJournal bytes facts
+written_journal bytes facts j = (Two, j)
+
+-- one journal has one version, and its facts come to the same
+pub same_journal : (v w : Version) (bytes : List ℕ) (F G : List Fact) → JournalIn v bytes F → JournalIn w bytes G → (v ≡ w) × Same F G
+same_journal v w bytes F G first second =
+    let j = journal_parts v bytes F first in
+    let k = journal_parts w bytes G second in
+    let one = spelling-injective v w j.entries k.entries [] [] j.valid k.valid (append-nil (spelling_in v j.entries) ∙ sym j.bytes_are ∙ k.bytes_are ∙ sym (append-nil (spelling_in w k.entries))) in
+    (one.0, record { each = λ a. j.collects.same.each a ∙ ap (λ z. fact_at z a) (sym one.1) ∙ sym (k.collects.same.each a) })
 
 -- Ends.
 
@@ -42,24 +87,26 @@ end_some : (n : ℕ) (y : List ℕ) → [] ≡ end n ++ y → ⊥
 end_some n y e = cc
 
 -- whole entries and a part of the next are no journal
-pub no_end : (M es : List Fact) (bs more : List ℕ) → AllByRecursion IsFact M → AllByRecursion IsFact es → bs ++ more ≡ front M → bs ≡ spelling es → ⊥
-no_end M es bs more v w e b =
-    let f = front-of_spelling M es [] more v w (append-nil (front M) ∙ sym e ∙ ap (λ (x : List ℕ). x ++ more) b) in
-    end_some (length es) more (right_nil (flat_map entry f.more) (end (length es) ++ more) f.bytes)
+pub no_end : (M : List Fact) (bs more : List ℕ) → AllByRecursion IsFact M → bs ++ more ≡ front M → (facts : List Fact) → IsJournal bs facts → ⊥
+no_end M bs more all e facts (v, journal) =
+    let j = journal_parts v bs facts journal in
+    let f = front-of_spelling Two v M j.entries [] more (facts_two M all) j.valid (append-nil (front M) ∙ sym e ∙ ap (λ (x : List ℕ). x ++ more) j.bytes_are) in
+    end_some (length j.entries) more (right_nil (flat_map entry f.1.more) (end (length j.entries) ++ more) f.1.bytes)
 
 -- nor are they and a part of the end
-pub no_whole_end : (M es : List Fact) (bs more : List ℕ) → AllByRecursion IsFact M → AllByRecursion IsFact es → (more ≡ [] → ⊥) → bs ++ more ≡ spelling M → bs ≡ spelling es → ⊥
-no_whole_end M es bs more v w s e b =
-    let f = spelling-injective es M more [] w v (sym (ap (λ (x : List ℕ). x ++ more) b) ∙ e ∙ sym (append-nil (spelling M))) in
-    s f.1
+pub no_whole_end : (M : List Fact) (bs more : List ℕ) → AllByRecursion IsFact M → (more ≡ [] → ⊥) → bs ++ more ≡ spelling M → (facts : List Fact) → IsJournal bs facts → ⊥
+no_whole_end M bs more all s e facts (v, journal) =
+    let j = journal_parts v bs facts journal in
+    let f = spelling-injective v Two j.entries M more [] j.valid (facts_two M all) (sym (ap (λ (x : List ℕ). x ++ more) j.bytes_are) ∙ e ∙ sym (append-nil (spelling M))) in
+    s f.2
 
 -- What holds nothing behind a whole entry.
 
-pub within_entry : (f : Fact) → IsFact f → IsWithin entry IsFact (entry f)
-within_entry f v g more w e = sym ((entry_injective f g [] more v w (append-nil (entry f) ∙ e)).1)
+pub within_entry : (v : Version) (f : Fact) → IsFactIn v f → IsWithin (entry_in v) (IsFactIn v) (entry_in v f)
+within_entry v f p g more w e = sym ((entry_injective v f g [] more p w (append-nil (entry_in v f) ∙ e)).1)
 
-pub within_end : (n : ℕ) → IsWithin entry IsFact (end n)
-within_end n g more w e = absurd (not_end g (in_bytes 8 n) more e)
+pub within_end : (v : Version) (n : ℕ) → IsWithin (entry_in v) (IsFactIn v) (end n)
+within_end v n g more w e = absurd (not_end v g (in_bytes 8 n) more e)
 
-pub within_nil : IsWithin entry IsFact []
-within_nil g more w e = absurd (let h : [] ≡ entry g ++ more = e in cc)
+pub within_nil : (v : Version) → IsWithin (entry_in v) (IsFactIn v) []
+within_nil v g more w e = absurd (let h : [] ≡ entry_in v g ++ more = e in cc)

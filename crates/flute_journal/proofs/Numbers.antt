@@ -2,6 +2,8 @@
 use Rattle.flute_journal.proofs.Common.{big_from-whole, length-bytes_high_first, append-nil, big_from-whole, ◌≡◌, ℕ, zero, suc, ◌+◌, ◌*◌, ◌/◌, ◌%◌, ◌^◌, ◌<◌, ◌≤◌, List, [], ◌∷◌, ◌++◌, length, take, drop, get_or, refl, sym, ap, ◌∙◌, subst, arith, lit<, AllByRecursion, pow-succ', mul-add-div_right, mul-add-mod_self_right, add-mul, mul_assoc, div-eq_of_lt, mod-eq_of_lt, one-le-pow, div-one, mul-le-mul_right, take_at, drop_at, length-take, length-drop, take-append-drop, big_endian, in_bytes, IsByte}
 use Rattle.byteorder.specs.{Endian.{big_from}, Numbers.{big_number-reads_back}}
 use Rattle.std.specs.Int.{byte_at}
+use Rattle.std.proofs.lemmas.Nat.{pow-add}
+use Rattle.std.proofs.Math.Nat.{mul_comm, div-div-eq-div-mul}
 
 pub byte_at-is : (j n : ℕ) → byte_at j n ≡ n / 256 ^ j % 256
 byte_at-is j n = grind (arith, div-one)
@@ -65,3 +67,14 @@ spelled_pair m n bs e h = grind (arith, spelled, length-take, octets-take, lengt
 
 -- a number that byteorder read
 pub ruleset number_read = (big_from-whole, number-below, octets)
+
+-- a number by its high bytes and its lowest eight
+byte_above : (k n : ℕ) → byte_at k (n / 2 ^ 64) ≡ byte_at (k + 8) n
+byte_above k n =
+    let place : 2 ^ 64 * 256 ^ k ≡ 256 ^ (k + 8) = sym (pow-add 256 k 8 ∙ mul_comm (256 ^ k) (256 ^ 8)) in
+    byte_at-is k (n / 2 ^ 64) ∙ ap (λ x. x % 256) (div-div-eq-div-mul n (2 ^ 64) (256 ^ k) ∙ ap (λ x. n / x) place) ∙ sym (byte_at-is (k + 8) n)
+
+pub in_halves : (k n : ℕ) → in_bytes k (n / 2 ^ 64) ++ in_bytes 8 (n % 2 ^ 64) ≡ in_bytes (k + 8) n
+in_halves zero n = sym (in_bytes-below 8 (n / 2 ^ 64) (n % 2 ^ 64)) ∙ ap (in_bytes 8) (omega arith)
+in_halves (suc k) n =
+    subst (λ m. in_bytes (suc k) (n / 2 ^ 64) ++ in_bytes 8 (n % 2 ^ 64) ≡ in_bytes m n) (let e : suc (k + 8) ≡ suc k + 8 = omega arith in e) (λ i. byte_above k n i ∷ in_halves k n i)

@@ -1,6 +1,6 @@
 -- What was spelled has no fault, and where bytes that begin like a journal stop.
-use Rattle.flute_journal.proofs.Common.{none-some, same_Some, ◌≡◌, ℕ, ◌<◌, ◌≤◌, ◌^◌, true, List, [], ◌∷◌, ◌++◌, length, drop, Option, Some, None, refl, sym, ap, ◌∙◌, subst, append_assoc, arith, flat_map, AllByRecursion, length-append, Information, info_address, symbol_address, Address, Fact, Info, InfoConflict, Symbol, SymbolConflict, address, Same, Below, IsRising, Same-itself, Same-append, Same-twice, Kind, ReadFault, in_bytes, header, key_bytes, id_bytes, info_bytes, symbol_bytes, rest_bytes, entry, end, key_of, spelling, Before, info_in, is_after, next_fault, bytes_fault, byte_of, at_place, rest_fault, IsFact, IsInfo, IsSymbol, Journal, AreEntries, last_of, before, Stops, in_header, behind}
-use Rattle.flute_journal.proofs.{Sequences.{begins, one_stop, stop_at_bound}, Each.{all_split}, Numbers.{number-in_bytes}, MergeRising.{Rises, rising-rises}, Entries.{length_fits, entry_injective, not_end}}
+use Rattle.flute_journal.proofs.Common.{Address, AllByRecursion, Before, Below, Fact, Info, InfoConflict, Information, IsFact, IsFactIn, IsInfo, IsRising, IsSymbol, JournalIn, Kind, List, None, Option, ReadFault, Same, Same-append, Same-itself, Same-twice, Some, Stops, Symbol, SymbolConflict, Version, [], address, ap, append_assoc, arith, at_place, before, behind, byte_of, bytes_fault, end, entry_in, flat_map, front, front_in, header_fault, header_in, id_bytes, in_bytes, in_header, info_address, info_bytes, info_in, is_after, key_bytes, key_of, last_of, length, length-append, next_fault, none-some, refl, rest_bytes, rest_fault, same_Some, spelling_in, subst, sym, symbol_address, symbol_bytes, true, ℕ, ◌++◌, ◌<◌, ◌^◌, ◌∙◌, ◌∷◌, ◌≡◌, ◌≤◌}
+use Rattle.flute_journal.proofs.{Sequences.{one_stop, stop_at_bound}, MergeBytes.{fronts, journal_parts}, Each.{all_split}, Numbers.{number-in_bytes}, MergeRising.{Rises, rising-rises}, Entries.{length_fits, entry_injective, not_end, header-injective}}
 use Rattle.flute_journal.specs.declared.format.Kind.TheVariants as kinds
 use Rattle.flute_journal.specs.declared.fault.ReadFault.TheVariants as faults
 use Rattle.flute_journal.proofs.Parts.{id_comes, order_passes, symbol_comes, entry_comes, too_many, end_counts, header_passes, key_valid, first-pass, cut-passes, info_passes, length_passes}
@@ -19,67 +19,83 @@ kind_of (SymbolConflict key id) = kinds.SymbolConflict
 
 rest_passes : (last : Option Address) (f : Fact) (r : List ℕ) → IsFact f → is_after last (address f) ≡ true → rest_fault last (kind_of f) (key_of f) (rest_bytes f ++ r) ≡ None
 rest_passes last (Info key info) r p e = grind (arith, order_passes, info_passes, info_reads)
-rest_passes last (InfoConflict key) r p e = order_passes (at_place 0 last) (info_address key) [] e
+rest_passes last (InfoConflict key) r p e = order_passes last (info_address key) [] e
 rest_passes last (Symbol key id b) r p e = cc (append_assoc (id_bytes id) (symbol_bytes b) r, symbol_comes last key id (symbol_bytes b ++ r) p.1 e, symbol_none b r p.2)
-rest_passes last (SymbolConflict key id) r p e = cc (id_comes (at_place 0 last) key id r [] p.1, order_passes (at_place 0 last) (symbol_address key id) [] e)
+rest_passes last (SymbolConflict key id) r p e = cc (id_comes last key id r [] p.1, order_passes last (symbol_address key id) [] e)
 
-entry_split : (f : Fact) (r : List ℕ) → entry f ++ r ≡ (byte_of (kind_of f) ∷ key_bytes (key_of f)) ++ (rest_bytes f ++ r)
-entry_split f r = grind (arith, append_assoc)
+entry_split : (v : Version) (f : Fact) (r : List ℕ) → entry_in v f ++ r ≡ (byte_of (kind_of f) ∷ key_bytes v (key_of f)) ++ (rest_bytes f ++ r)
+entry_split v f r = grind (arith, append_assoc)
 
 -- an entry in order and within the bound has no fault
-pub entry-passes : (limit count : ℕ) (last : Option Address) (f : Fact) (r : List ℕ) → IsFact f → count < limit → is_after last (address f) ≡ true
-    → next_fault (at_place count last) limit (entry f ++ r) ≡ None
-entry-passes limit count last f r p few e = cc (entry_split f r, entry_comes limit count last (kind_of f) (key_of f) (rest_bytes f ++ r) few (key_valid f p), rest_passes last f r p e)
+pub entry-passes : (limit count : ℕ) (v : Version) (last : Option Address) (f : Fact) (r : List ℕ) → IsFactIn v f → count < limit → is_after last (address f) ≡ true
+    → next_fault (at_place v count last) limit (entry_in v f ++ r) ≡ None
+entry-passes limit count v last f r p few e =
+    cc (entry_split v f r, entry_comes limit count v last (kind_of f) (key_of f) (rest_bytes f ++ r) few (key_valid f p.0) p.1, rest_passes last f r p.0 e)
 
-pub entry-too_many : (limit : ℕ) (b : Before) (f : Fact) (r : List ℕ) → limit ≤ b.count → next_fault b limit (entry f ++ r) ≡ Some faults.TooMany
-entry-too_many limit b f r many = cc (entry_split f r, too_many b limit (kind_of f) (byte_of (kind_of f) ∷ []) (key_bytes (key_of f) ++ (rest_bytes f ++ r)) refl many)
+pub entry-too_many : (limit : ℕ) (b : Before) (v : Version) (f : Fact) (r : List ℕ) → limit ≤ b.count → next_fault b limit (entry_in v f ++ r) ≡ Some faults.TooMany
+entry-too_many limit b v f r many = cc (entry_split v f r, too_many b limit (kind_of f) (byte_of (kind_of f) ∷ []) (key_bytes v (key_of f) ++ (rest_bytes f ++ r)) refl many)
 
-pub end-passes : (limit count : ℕ) (last : Option Address) → count < 2 ^ 64 → next_fault (at_place count last) limit (end count) ≡ None
-end-passes limit count last small = end_counts count (in_bytes 8 count) [] refl (number-in_bytes 8 count (omega (arith, small)))
+pub end-passes : (limit count : ℕ) (v : Version) (last : Option Address) → count < 2 ^ 64 → next_fault (at_place v count last) limit (end count) ≡ None
+end-passes limit count v last small = end_counts count (in_bytes 8 count) [] refl (number-in_bytes 8 count (omega (arith, small)))
 
 rises_next : (b : Option Address) (fs : List Fact) (g : Fact) (gs : List Fact) → Rises b (fs ++ g ∷ gs) → is_after (last_of b fs) (address g) ≡ true
 rises_next b [] g gs h = h.0
 rises_next b (f ∷ fs) g gs h = rises_next (Some (address f)) fs g gs h.1
 
 -- entries in order and within the bound have no fault
-pass : (limit : ℕ) (es : List Fact) → AllByRecursion IsFact es → IsRising es → (front : List Fact) (x : Fact) (xs : List Fact) (r : List ℕ) → es ≡ front ++ x ∷ xs → length front < limit
-    → next_fault (before front) limit (entry x ++ r) ≡ None
-pass limit es v q front x xs r e few =
-    let valid = all_split IsFact front (x ∷ xs) (subst (AllByRecursion IsFact) e v) in
-    entry-passes limit (length front) (last_of None front) x r valid.1.0 few (rises_next None front x xs (rising-rises (front ++ x ∷ xs) (subst IsRising e q)))
+pass : (v : Version) (limit : ℕ) (es : List Fact) → AllByRecursion (IsFactIn v) es → IsRising es → (front : List Fact) (x : Fact) (xs : List Fact) (r : List ℕ) → es ≡ front ++ x ∷ xs → length front < limit
+    → next_fault (before v front) limit (entry_in v x ++ r) ≡ None
+pass v limit es p q front x xs r e few =
+    let valid = all_split (IsFactIn v) front (x ∷ xs) (subst (AllByRecursion (IsFactIn v)) e p) in
+    entry-passes limit (length front) v (last_of None front) x r valid.1.0 few (rises_next None front x xs (rising-rises (front ++ x ∷ xs) (subst IsRising e q)))
 
-pass_all : (limit : ℕ) (es : List Fact) → AreEntries limit es → (front : List Fact) (x : Fact) (xs : List Fact) (r : List ℕ) → es ≡ front ++ x ∷ xs → next_fault (before front) limit (entry x ++ r) ≡ None
-pass_all limit es a front x xs r e = pass limit es a.valid a.rising front x xs r e (omega (arith, a.few, ap length e, length-append front (x ∷ xs)))
+pass_all : (v : Version) (limit : ℕ) (es : List Fact) → AllByRecursion (IsFactIn v) es → IsRising es → length es ≤ limit → (front : List Fact) (x : Fact) (xs : List Fact) (r : List ℕ) → es ≡ front ++ x ∷ xs
+    → next_fault (before v front) limit (entry_in v x ++ r) ≡ None
+pass_all v limit es p q few front x xs r e = pass v limit es p q front x xs r e (omega (arith, few, ap length e, length-append front (x ∷ xs)))
 
-behind_header : (x y : List ℕ) → header ++ x ≡ header ++ y → x ≡ y
-behind_header x y e = ap (drop 6) e
+-- bytes that begin with a header are not at fault there
+pub not_in_header : (v : Version) (bytes : List ℕ) (es : List Fact) (rest : List ℕ) (f : ReadFault) → bytes ≡ front_in v es ++ rest → header_fault bytes ≡ Some f → ⊥
+not_in_header v bytes es rest f e h =
+    let all = flat_map (entry_in v) es ++ rest in
+    none-some f (sym (header_passes v all) ∙ ap header_fault (sym (e ∙ append_assoc (header_in v) (flat_map (entry_in v) es) rest)) ∙ h)
 
 -- a journal's bytes stop only with more entries than the bound
-pub beyond : (limit : ℕ) (es fs : List Fact) (bytes : List ℕ) (f : ReadFault) → AllByRecursion IsFact es → IsRising es → length es < 2 ^ 64
-    → bytes ≡ spelling es → Stops bytes limit fs f → (f ≡ faults.TooMany) × (limit < length es)
-beyond limit es fs bytes f p q small e (in_header none h) = grind (arith, none-some, header_passes)
-beyond limit es fs bytes f p q small e (behind s) =
-    stop_at_bound entry IsFact entry_injective (λ l r. next_fault (before l) limit r) limit fs es s.rest (end (length es)) f (pass limit es p q) (λ x y many. entry-too_many limit (before fs) x y many)
-    (begins entry IsFact entry_injective fs es s.rest (end (length es)) (λ x y. not_end x (in_bytes 8 (length es)) y) s.are_entries.valid p (behind_header _ _ (sym s.whole ∙ e)))
-    (end-passes limit (length es) (last_of None es) small) s.first
+pub beyond : (v : Version) (limit : ℕ) (es fs : List Fact) (bytes : List ℕ) (f : ReadFault) → AllByRecursion (IsFactIn v) es → IsRising es → length es < 2 ^ 64
+    → bytes ≡ spelling_in v es → Stops bytes limit fs f → (f ≡ faults.TooMany) × (limit < length es)
+beyond v limit es fs bytes f p q small e (in_header none h) = absurd (not_in_header v bytes es (end (length es)) f e h)
+beyond v limit es fs bytes f p q small e (behind s) =
+    let w = s.are_entries.version in
+    let n = length es in
+    let b = fronts w v fs es s.rest (end n) s.are_entries.valid p (λ x y. not_end w x (in_bytes 8 n) y) (sym s.whole ∙ e) in
+    stop_at_bound (entry_in w) (IsFactIn w) (entry_injective w) (λ l r. next_fault (before w l) limit r) limit fs es s.rest (end n) f
+    (pass w limit es (subst (λ (z : Version). AllByRecursion (IsFactIn z) es) (sym b.0) p) q) (λ x y many. entry-too_many limit (before w fs) w x y many) b.1
+    (end-passes limit n w (last_of None es) small) s.first
 
 pub Below-more : (F G : List Fact) → Below F (F ++ G)
 Below-more F G = subst (λ (l : List Fact). Same l (F ++ G)) (append_assoc F F G) (Same-append (F ++ F) F G G (Same-twice F) (Same-itself G))
 
 -- the entries that a journal begins with tell nothing more than its facts
-pub front-below : (bytes : List ℕ) (F es : List Fact) (rest : List ℕ) → Journal bytes F → AllByRecursion IsFact es → bytes ≡ header ++ flat_map entry es ++ rest → Below es F
-front-below bytes F es rest j p e =
-    let all = j.0 in
-    let b = begins entry IsFact entry_injective es all rest (end (length all)) (λ x y. not_end x (in_bytes 8 (length all)) y) p j.1.valid (behind_header _ _ (sym e ∙ j.3)) in
-    let low : Below es all = subst (Below es) (sym b.items) (Below-more es b.more) in
-    let moved = Same-append es es F all (record { each = λ a. refl }) j.1.same in
-    record { each = λ a. moved.each a ∙ low.each a ∙ sym (j.1.same.each a) }
+pub front-below : (v w : Version) (bytes : List ℕ) (F es : List Fact) (rest : List ℕ) → JournalIn v bytes F → AllByRecursion (IsFactIn w) es → bytes ≡ front_in w es ++ rest → Below es F
+front-below v w bytes F es rest journal p e =
+    let j = journal_parts v bytes F journal in
+    let all = j.entries in
+    let b = fronts w v es all rest (end (length all)) p j.valid (λ x y. not_end w x (in_bytes 8 (length all)) y) (sym e ∙ j.bytes_are) in
+    let low : Below es all = subst (Below es) (sym b.1.items) (Below-more es b.1.more) in
+    let moved = Same-append es es F all (record { each = λ a. refl }) j.collects.same in
+    record { each = λ a. moved.each a ∙ low.each a ∙ sym (j.collects.same.each a) }
 
 -- bytes stop at one fault, behind one list of entries
 pub stops_one : (bytes : List ℕ) (limit : ℕ) (es fs : List Fact) (f g : ReadFault) → Stops bytes limit es f → Stops bytes limit fs g → (es ≡ fs) × (f ≡ g)
 stops_one bytes limit es fs f g (in_header a h) (in_header b k) = (a ∙ sym b, same_Some f g (sym h ∙ k))
-stops_one bytes limit es fs f g (in_header a h) (behind s) = grind (arith, none-some, header_passes)
-stops_one bytes limit es fs f g (behind s) (in_header b k) = grind (arith, none-some, header_passes)
+stops_one bytes limit es fs f g (in_header a h) (behind s) = absurd (not_in_header s.are_entries.version bytes fs s.rest f s.whole h)
+stops_one bytes limit es fs f g (behind s) (in_header b k) = absurd (not_in_header s.are_entries.version bytes es s.rest g s.whole k)
 stops_one bytes limit es fs f g (behind s) (behind t) =
-    one_stop entry IsFact entry_injective (λ l r. next_fault (before l) limit r) es fs s.rest t.rest f g (pass_all limit es s.are_entries) (pass_all limit fs t.are_entries)
-    s.are_entries.valid t.are_entries.valid (behind_header _ _ (sym s.whole ∙ t.whole)) s.first t.first
+    let v = s.are_entries.version in
+    let w = t.are_entries.version in
+    let h = header-injective v w (flat_map (entry_in v) es ++ s.rest) (flat_map (entry_in w) fs ++ t.rest)
+    (sym (append_assoc (header_in v) (flat_map (entry_in v) es) s.rest) ∙ sym s.whole ∙ t.whole ∙ append_assoc (header_in w) (flat_map (entry_in w) fs) t.rest) in
+    let valid = subst (λ (z : Version). AllByRecursion (IsFactIn z) fs) (sym h.0) t.are_entries.valid in
+    one_stop (entry_in v) (IsFactIn v) (entry_injective v) (λ l r. next_fault (before v l) limit r) es fs s.rest t.rest f g
+    (pass_all v limit es s.are_entries.valid s.are_entries.rising s.are_entries.few) (pass_all v limit fs valid t.are_entries.rising t.are_entries.few)
+    s.are_entries.valid valid (subst (λ (z : Version). flat_map (entry_in v) es ++ s.rest ≡ flat_map (entry_in z) fs ++ t.rest) (sym h.0) h.1) s.first
+    (subst (λ (z : Version). next_fault (before z fs) limit t.rest ≡ Some g) (sym h.0) t.first)

@@ -52,3 +52,6 @@ sent-all all place u v s e = subst (λ (x : List (List ℕ)). Appends u v (file_
 pub sent-file : (all : List (List ℕ)) (place : ℕ) (u v : Option (List ℕ)) → Sent all place u v → slice_get all place ≡ None
     → IsFileOf (file_header ++ flat_map record_of all) all
 sent-file all place u v s e = record { valid = subst (AllByRecursion IsDatagram) (done_all all place u v s e) s.valid; bytes_are = refl }
+
+-- one record more was written
+pub ruleset sends = (slice_get_within, sent_next)

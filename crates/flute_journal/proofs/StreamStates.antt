@@ -1,5 +1,5 @@
 -- Where a merge of streams stands between two turns, and how it ends.
-use Rattle.flute_journal.proofs.Common.{rules, EachSince, written_up_to, none-some, ◌≡◌, ℕ, ◌+◌, ◌<◌, ◌≤◌, ◌^◌, true, false, Bool, List, [], ◌∷◌, ◌++◌, length, Option, Some, None, IsTrue, refl, sym, ap, ◌∙◌, subst, inl, inr, append_assoc, arith, length-append, cases_Bool, AllByRecursion, Appends, Appends-nil, Appends-trans, same_address, address, SameMembers, fact_at, Same, IsRising, Tally, Over, Counts, Over-below, address_same, AppendsPart, Address, Fact, fact_at-nil, fact_at-elsewhere, Same-itself, Same-sym, Same-trans, Same-append, Same-members, Below-from_Same, rising_unique, IsSized, InputFault, StreamsFault, Input, Write, header, entry, end, spelling, is_after, Journal, IsFact, last_of, Collects, Written, PutsBytes, front, Behaviour, heads, most_of, Lowest, GoOnAt, StopsIn, AreNew, all_of, IsWithinLimits, IsCounted, NoneFails, OneFails, MergedAll, AppendsPartOf, ReadsAhead, NamesInput, CanGoOn}
+use Rattle.flute_journal.proofs.Common.{Address, AllByRecursion, Appends, Appends-nil, Appends-trans, AppendsPart, AppendsPartOf, AreNew, Behaviour, Below-from_Same, Bool, CanGoOn, Collects, Counts, EachSince, Fact, GoOnAt, Input, InputFault, IsCounted, IsFact, IsRising, IsSized, IsTrue, IsWithinLimits, Journal, List, Lowest, MergedAll, NamesInput, None, NoneFails, OneFails, Option, Over, Over-below, PutsBytes, ReadsAhead, Same, Same-append, Same-itself, Same-members, Same-sym, Same-trans, SameMembers, Some, StopsIn, StreamsFault, Tally, Write, Written, [], address, address_same, all_of, ap, append_assoc, arith, cases_Bool, end, entry, fact_at, fact_at-elsewhere, fact_at-nil, false, front, header, heads, inl, inr, is_after, last_of, length, length-append, most_of, none-some, refl, rising_unique, rules, same_address, spelling, subst, sym, true, written_up_to, ℕ, ◌++◌, ◌+◌, ◌<◌, ◌^◌, ◌∙◌, ◌∷◌, ◌≡◌, ◌≤◌}
 use Rattle.flute_journal.proofs.{Passes.{Below-more}, Existence.{rises_more}, Each.{all_append, all_more}, MergeBytes.{front-snoc, written-begins, written-snoc}, MergeRising.{last_of-snoc, rising-rises, rises-rising}, WrittenSoFar.{put_first, written-more, written-whole, written-part}}
 use Rattle.flute_journal.proofs.StreamTurns.{Run, starts, nows, givens, givens_at, Went, Stays, Turned, turn, new_runs, new_starts, new_nows, new_givens, new_stays, went_stays, given_same, given_length, fewer_all, taken_at, taken_same, taken_some, lowest-sized}
 use Rattle.flute_journal.proofs.StreamStops.{reads_now, none_fails, StoppedAll, stopped_all, short_header, short_entry, short_end, told_whole}
@@ -176,7 +176,21 @@ module _ {S : Type 0} (b : Behaviour S) where
 
         pub state_turn : (next : Bool) (Next : List Fact → Type 0) (new : List S) (w'' : Option (List ℕ)) → ((F : List Fact) → IsRising (F ++ g ∷ []) → Also F → Next (F ++ g ∷ []))
             → PutsBytes failed next w' w'' (entry g) → GoOnAt b (Some (address g)) now new → State next Next old new w w'' (count + 1)
-        state_turn next Next new w'' k a h = grind (arith, turn, next_stays, last_of-snoc, collects_next, given_length, taken_some, nows, length-append, next_bytes, rising_next)
+        state_turn next Next new w'' k a h =
+            let t = turn b (Some (address g)) state.runs new next_stays (subst (λ (l : List S). GoOnAt b (Some (address g)) l new) (sym state.nows_are) h) in
+            let given : length (all_of (givens t.next)) ≡ length (all_of (givens_at b (Some (address g)) state.runs)) = ap (λ l. length (all_of l)) t.givens_are in
+            record {
+              runs = t.next;
+              starts_are = t.starts_are ∙ state.starts_are;
+              nows_are = t.nows_are;
+              joined = state.joined ++ g ∷ [];
+              went = subst (λ p. AllByRecursion (Went b p) t.next) (sym (last_of-snoc None state.joined g)) t.went;
+              collects = subst (λ l. Collects (all_of l) (state.joined ++ g ∷ [])) (sym t.givens_are) collects_next;
+              few = omega (arith, given, given_length b (address g) state.runs, taken_some (heads b (nows state.runs)) g low.comes, length-append state.joined (g ∷ []), state.few);
+              written = next_bytes next w'' a;
+              count_is = omega (arith, length-append state.joined (g ∷ []), state.count_is);
+              also = k state.joined rising_next state.also;
+            }
 
         pub stop_entry : (patient : Bool) (w'' : Option (List ℕ)) → failed ≡ false → AppendsPart w' w'' (entry g) → Stopping patient old now w w'' Write
         stop_entry patient w'' good a =

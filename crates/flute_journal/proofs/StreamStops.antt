@@ -1,5 +1,5 @@
 -- A merge that stops: what was read of each stream, and what was appended.
-use Rattle.flute_journal.proofs.Common.{same_Some, ◌≡◌, ℕ, zero, suc, false, List, [], ◌∷◌, ◌++◌, length, Option, Some, None, refl, sym, ap, ◌∙◌, subst, inl, inr, append_assoc, append-nil, arith, cases_Bool, length-append, ◌≢◌, slice_get, flat_map, AllByRecursion, Appends, same_address, address, fact_at, address_same, Address, Fact, Same-sym, Same-trans, joined, fact_at-append, rising_unique, LoadFault, is_after, header, entry, end, spelling, IsFact, Collects, front, Behaviour, Continues, option_list, place_of, heads, IsNotBefore, GoesOnAt, StopAt, all_of, Each, EachSince, NoneFails, OneFails, GaveBefore, AppendsPartOf}
+use Rattle.flute_journal.proofs.Common.{Address, AllByRecursion, Appends, AppendsPartOf, Behaviour, Collects, Continues, Each, EachSince, Fact, GaveBefore, GoesOnAt, IsFact, IsNotBefore, List, LoadFault, None, NoneFails, OneFails, Option, Same, Same-sym, Same-trans, Some, StopAt, [], address, address_itself, address_same, all_of, ap, append-nil, append_assoc, arith, cases_Bool, end, entry, fact_at, fact_at-append, false, flat_map, front, header, heads, inl, inr, is_after, joined, length, length-append, option_list, place_of, refl, rising_unique, same_Some, same_address, slice_get, spelling, subst, suc, sym, zero, ℕ, ◌++◌, ◌∙◌, ◌∷◌, ◌≡◌, ◌≢◌}
 use Rattle.flute_journal.proofs.{Each.{all_split}, MergeBytes.{front-append, no_end, no_whole_end}, MergeRising.{rising-none, rising-prefix, last_of-snoc, Rises-second, fact_at-second_none, Rises, rising-rises}}
 use Rattle.flute_journal.proofs.StreamTurns.{Run, starts, nows, givens, given_at, taken_by, given_here, givens_at, IsAbove, above_other, Ready, Went, Stays, went_on}
 
@@ -77,7 +77,7 @@ module _ {S : Type 0} (b : Behaviour S) where
   behind F K f c = subst (λ x. Rises x c.rest) (last_of-snoc None F f) (Rises-second None (F ++ f ∷ []) c.rest (subst (Rises None) c.is (rising-rises K c.rising)))
 
   apart : (f : Fact) (a : Address) → same_address (address f) a ≡ false → Some (address f) ≡ Some a → ⊥
-  apart f a e q = grind (arith, same_Some)
+  apart f a e q = absurd (let s = ap (same_address (address f)) (same_Some (address f) a q) in let t = address_itself (address f) in cc)
 
   above_held : (a : Address) (F K : List Fact) (held : Option Fact) → Continues K (F ++ option_list held) held → (place_of held ≢ Some a → IsAbove (Some a) held)
       → Above (Some a) K (F ++ given_at (Some a) held)
@@ -149,7 +149,7 @@ module _ {S : Type 0} (b : Behaviour S) where
   short inputs w w' bs more M v a e h = record {
     bytes = bs;
     appended = a;
-    no_journal = λ facts j. no_end M j.0 bs more v j.1.valid e j.3;
+    no_journal = no_end M bs more v e;
     prefix = λ known k whole j.
         let p = h known k j.0 j.1 in (
           more ++ (flat_map entry p.0 ++ end (length j.0)),
@@ -173,4 +173,13 @@ module _ {S : Type 0} (b : Behaviour S) where
 
   pub short_end : (place : Option Address) (runs : List (Run S)) (M : List Fact) (w w' : Option (List ℕ)) (bs more : List ℕ) → AllByRecursion (Went b place) runs → heads b (nows runs) ≡ []
       → Collects (all_of (givens runs)) M → Appends w w' bs → more ≢ [] → bs ++ more ≡ spelling M → AppendsPartOf b (starts runs) w w'
-  short_end place runs M w w' bs more went n c a s e = grind (arith, no_whole_end, Same-trans, Same-sym, known_whole, rising_unique)
+  short_end place runs M w w' bs more went n c a s e = record {
+    bytes = bs;
+    appended = a;
+    no_journal = no_whole_end M bs more c.valid s e;
+    prefix = λ known k whole j.
+        let all = all_of (givens runs) in
+        let same = subst (λ (l : List Fact). Same l j.0) (known_whole place runs known went n k) j.1.same in
+        let one = rising_unique M j.0 c.rising j.1.rising (Same-trans M all j.0 (Same-sym all M c.same) same) in
+        (more, s, e ∙ ap spelling one ∙ sym j.3);
+  }

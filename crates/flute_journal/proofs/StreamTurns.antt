@@ -1,5 +1,5 @@
 -- A turn of a merge: each stream that stands at the lowest address goes on.
-use Rattle.flute_journal.proofs.Common.{none-some, same_Some, ◌≡◌, ◌+◌, ◌≤◌, true, false, Bool, List, [], ◌∷◌, ◌++◌, length, Option, Some, None, IsTrue, refl, sym, ap, ◌∙◌, subst, inl, inr, append-nil, arith, length-append, cases_Bool, ◌≢◌, IfSome, AllByRecursion, is_eq, Ordering, Less, Equal, Greater, address_cmp, same_address, address, conflict_in, same_fact, fact_at, Same, IsRising, address_same, fact_same, Key, Part, Address, Fact, joined, joined-same, joined-apart, alone, alone-at, alone-elsewhere, fact_at-cons, fact_at-nil, fact_at-elsewhere, Same-itself, Same-trans, Same-append, IsSized, is_after, Behaviour, option_list, place_of, heads, most_of, Gave, IsNotBefore, Lowest, GoesOnAt, GoOnAt, AreNew, all_of}
+use Rattle.flute_journal.proofs.Common.{Address, AllByRecursion, AreNew, Behaviour, Bool, Equal, Fact, Gave, GoOnAt, GoesOnAt, Greater, IfSome, IsNotBefore, IsRising, IsSized, IsTrue, Key, Less, List, Lowest, None, Option, Ordering, Part, Same, Same-append, Same-itself, Same-trans, Some, [], address, address_cmp, address_itself, address_same, all_of, alone, alone-at, alone-elsewhere, ap, append-nil, arith, cases_Bool, conflict_in, fact_at, fact_at-cons, fact_at-elsewhere, fact_at-nil, fact_same, false, heads, inl, inr, is_after, is_eq, joined, joined-apart, joined-same, length, length-append, most_of, none-some, option_list, place_of, refl, same_address, same_fact, subst, sym, true, ◌++◌, ◌+◌, ◌∙◌, ◌∷◌, ◌≡◌, ◌≢◌, ◌≤◌}
 use Rattle.flute_journal.proofs.{Each.{all_split}, MergeRising.{after, last_of-snoc, Rises-second, Same-crossed, rising-rises}}
 
 -- what sized facts come to is sized
@@ -111,7 +111,9 @@ given_at None o = []
 given_at (Some a) o = taken_from a o
 
 pub given_here : (p : Option Address) (o : Option Fact) → place_of o ≡ p → given_at p o ≡ option_list o
-given_here p o e = grind (arith, taken_by, same_Some)
+given_here None None e = refl
+given_here (Some a) None e = refl
+given_here p (Some f) e = subst (λ q. given_at q (Some f) ≡ f ∷ []) e (ap (λ b. taken_by b f) (address_itself (address f)))
 
 pub given_elsewhere : (p : Option Address) (o : Option Fact) → place_of o ≢ p → given_at p o ≡ []
 given_elsewhere None o n = refl

@@ -1,7 +1,7 @@
 -- What a merge of two streams of journals comes to, said of the journals.
-use Rattle.flute_journal.proofs.Common.{rules, arith, ◌≡◌, ℕ, zero, suc, false, List, [], ◌∷◌, ◌++◌, Option, Some, None, Err, sym, ap, ◌∙◌, subst, append-nil, slice_get, Same, Fact, Same-sym, Same-trans, Same-append, ReadFault, LoadFault, Read, Joined, StreamsFault, Input, Write, LentStream, Either, First, Second, Collects, Journal, Merged, StopsShort, KeepsUp, NamesFault, FirstFails, SecondFails, MergeGives, written_up_to, source_of, limit_of, Behaviour, either_behaviour, unread_of, lent, lent_behaviour, all_of, Each, EachSince, MergedAll, AppendsPartOf, ReadsAhead, BeginWith, NamesInput, OneFails, FailAs}
+use Rattle.flute_journal.proofs.Common.{AppendsPartOf, BeginWith, Behaviour, Collects, Each, EachSince, Either, Err, Fact, FailAs, First, FirstFails, Input, Joined, Journal, KeepsUp, LentStream, List, LoadFault, MergeGives, Merged, MergedAll, NamesFault, NamesInput, None, OneFails, Option, Read, ReadFault, ReadsAhead, Same, Same-append, Same-sym, Same-trans, Second, SecondFails, Some, StopsShort, StreamsFault, Write, [], all_of, ap, append-nil, arith, either_behaviour, false, joined, lent, lent_behaviour, limit_of, rules, slice_get, source_of, subst, suc, sym, told, unread_of, written_up_to, zero, ℕ, ◌++◌, ◌∙◌, ◌∷◌, ◌≡◌}
 use Rattle.flute_journal.specs.{declared.merge.MergeFault.{MergeFault}, Merges.{BeginsWith}, Pairs.{fault_at, IsFaultAt, IsFaultOfTwo, IsOfReading}}
-use Rattle.flute_journal.proofs.WrittenSoFar.{written-whole}
+use Rattle.flute_journal.proofs.{MergeBytes.{journal_parts}, WrittenSoFar.{written-whole}}
 
 -- journals of both inputs and of all their facts have entries that come to the same
 same_entries : (es fs ws F G : List Fact) → Same F es → Same G fs → Same (F ++ G) ws → Same (es ++ fs) ws
@@ -69,9 +69,13 @@ module _ {A B : Type 0} (ua : A → Option (List ℕ)) (fa : A → ℕ) (ub : B 
       bytes = p.bytes;
       appended = p.appended;
       no_journal = p.no_journal;
-      prefix = λ xs ys whole F G x y j k n.
-          p.prefix (j.0 ∷ k.0 ∷ [])
-          (record { bytes_are = x ∙ ap Some j.3; valid = j.1.valid; rising = j.1.rising }, (record { bytes_are = y ∙ ap Some k.3; valid = k.1.valid; rising = k.1.rising }, tt)) whole (journal_of j.0 k.0 whole F G j.1.same k.1.same n);
+      prefix = λ xs ys whole F G x y (a, first) (b, second) n.
+          let j = journal_parts a xs F first in
+          let k = journal_parts b ys G second in
+          p.prefix (j.entries ∷ k.entries ∷ []) (
+            record { version = a; bytes_are = x ∙ ap Some j.bytes_are; valid = j.valid; rising = j.collects.rising },
+            (record { version = b; bytes_are = y ∙ ap Some k.bytes_are; valid = k.valid; rising = k.collects.rising }, tt),
+          ) whole (journal_of j.entries k.entries whole F G j.collects.same k.collects.same n);
     }
 
     keeps_two : (w w' : Option (List ℕ)) (fault : StreamsFault) (merge : MergeFault) → IsFaultOfTwo fault merge → ReadsAhead both inputs after w w' fault

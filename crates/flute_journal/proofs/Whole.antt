@@ -1,89 +1,185 @@
 -- A journal that is read entry by entry.
-use Rattle.flute_journal.proofs.Common.{rules, ◌≡◌, ℕ, true, List, [], ◌∷◌, ◌++◌, length, drop, Option, Some, None, IsTrue, inl, inr, refl, sym, ap, ◌∙◌, subst, append_assoc, arith, ReadFault, IsFaultUpTo, stage_at, read_of, Sofar, HasFault, ReadsPart, StopsAfter, flat_map, Consumes, Consumes-trans, Consumes-nil, nil_from_length, length-append, flat_map_more, address, Address, Fact, Stage, Header, Ended, Failed, header, entry, end, spelling, header_fault, next_fault, last_of, AreEntries, Stops, in_header, behind, is_open, position, opening, GivesEntry, GivesFault, IsPart, in_opening, in_entry, or_else, fault_from, Ok, append-nil, AllByRecursion, IsAtEnd, IsFact, Gives, front, EndsBehind, ReadsBehind, none-some, same_Some, IsRising}
+use Rattle.flute_journal.proofs.Common.{Address, AllByRecursion, AreEntries, Before, Consumes, Consumes-nil, Consumes-trans, Ended, EndsBehind, Entries, Fact, Failed, Gives, GivesEntry, GivesFault, HasFault, Header, IfSome, IsAtEnd, IsAtFault, IsFactIn, IsFaultUpTo, IsPart, IsRising, IsTrue, List, None, Ok, Option, ReadFault, ReadsBehind, ReadsPart, Sofar, Some, Stage, Stops, StopsAfter, Two, Version, [], address, ap, append-nil, append_assoc, arith, before, behind, drop, end, entry_in, fault_from, flat_map_more, front_in, header_fault, header_in, in_entry, in_header, in_opening, inl, inr, is_after, is_open, last_of, length, length-append, next_fault, nil_from_length, none-some, opening, or_else, position, read_of, refl, same_Some, spelling_in, stage_at, subst, sym, told, true, version_in, ℕ, ◌++◌, ◌+◌, ◌<◌, ◌∙◌, ◌∷◌, ◌≡◌, ◌≤◌}
 use Rattle.flute_journal.specs.{Whole.{in_header as part_in_header, behind as part_behind}, Merges.{in_header, behind}}
-use Rattle.flute_journal.proofs.{Parts.{entry_within-short}, Existence.{entries_more, opening_is}, Each.{all_split}, MergeBytes.{front-snoc, within_entry, within_end, within_nil, front-of_spelling}, MergeRising.{Rises-second, Rises, rising-rises}}
+use Rattle.flute_journal.proofs.{Parts.{entry_within-short}, Existence.{rising_more, header_is}, Each.{all_more, all_split}, MergeBytes.{front_in-snoc, within_entry, within_end, within_nil, front-of_spelling}, MergeRising.{Rises-second, Rises, rising-rises}}
 use Rattle.flute_journal.specs.declared.fault.ReadFault.TheVariants as faults
 
 pub sofar-none : (limit : ℕ) (u : Option (List ℕ)) → Sofar limit u u Header []
-sofar-none limit u = grind (arith, Consumes-nil)
+sofar-none limit u = record { are_entries = record { version = Two; valid = tt; rising = tt; few = omega arith }; stage_is = refl; read = Consumes-nil u }
 
 last_more : (b : Option Address) (es : List Fact) (f : Fact) → last_of b (es ++ f ∷ []) ≡ Some (address f)
 last_more b [] f = refl
 last_more b (e ∷ es) f = last_more (Some (address e)) es f
 
-read_more : (es : List Fact) (f : Fact) → read_of es ++ (opening (stage_at es) ++ entry f) ≡ read_of (es ++ f ∷ [])
-read_more [] f = flat_map_more entry header [] f
-read_more (e ∷ es) f = flat_map_more entry header (e ∷ es) f
+stage_more : (v : Version) (es : List Fact) (f : Fact) → Entries v (length es + 1) (Some (address f)) ≡ stage_at v (es ++ f ∷ [])
+stage_more v [] f = refl
+stage_more v (e ∷ es) f = λ i. Entries v (sym (length-append (e ∷ es) (f ∷ [])) i) (sym (last_more None (e ∷ es) f) i)
+
+read_more : (v : Version) (es : List Fact) (f : Fact) → read_of v es ++ (opening v (stage_at v es) ++ entry_in v f) ≡ read_of v (es ++ f ∷ [])
+read_more v [] f = flat_map_more (entry_in v) (header_in v) [] f
+read_more v (e ∷ es) f = flat_map_more (entry_in v) (header_in v) (e ∷ es) f
+
+-- What was read, by the version that a header tells that is still to come.
+pub record SofarIn (v told : Version) (limit : ℕ) (u x : Option (List ℕ)) (stage : Stage) (es : List Fact) : Type 0 where
+  pub valid : AllByRecursion (IsFactIn v) es
+  pub rising : IsRising es
+  pub few : length es ≤ limit
+  pub stage_is : stage ≡ stage_at v es
+  pub read : Consumes u x (read_of v es)
+  pub place : position told stage ≡ before v es
+  pub start : opening told stage ≡ opening v (stage_at v es)
+
+pub sofar_in : (told : Version) (limit : ℕ) (u x : Option (List ℕ)) (stage : Stage) (es : List Fact) → Sofar limit u x stage es → (v : Version) × SofarIn v told limit u x stage es
+sofar_in told limit u x stage [] s =
+    (told, record { valid = tt; rising = tt; few = omega arith; stage_is = s.stage_is; read = s.read; place = ap (position told) s.stage_is; start = ap (opening told) s.stage_is })
+sofar_in told limit u x stage (e ∷ es) s = (
+  s.are_entries.version,
+  record {
+    valid = s.are_entries.valid;
+    rising = s.are_entries.rising;
+    few = s.are_entries.few;
+    stage_is = s.stage_is;
+    read = s.read;
+    place = ap (position told) s.stage_is;
+    start = ap (opening told) s.stage_is;
+  },
+)
 
 pub sofar-next : (limit : ℕ) (u v w : Option (List ℕ)) (old new : Stage) (es : List Fact) (f : Fact) → Sofar limit u v old es
     → GivesEntry limit old new v w f → Sofar limit u w new (es ++ f ∷ [])
-sofar-next limit u v w old new es f s h = grind (arith, entries_more, read_more, Consumes-trans, length-append, last_more)
+sofar-next limit u x w old new es f s h =
+    let t = sofar_in h.told limit u x old es s in
+    let v = t.0 in
+    let i = t.1 in
+    let valid : IsFactIn v f = subst (λ (b : Before). IsFactIn b.version f) i.place h.valid in
+    let after : is_after (last_of None es) (address f) ≡ true = subst (λ (b : Before). IsTrue (is_after b.last (address f))) i.place h.in_order in
+    let within : length es < limit = subst (λ (b : Before). b.count < limit) i.place h.within in
+    let goes : new ≡ Entries v (length es + 1) (Some (address f)) = h.goes_on ∙ ap (λ (b : Before). Entries b.version (b.count + 1) (Some (address f))) i.place in
+    let bytes : Consumes x w (opening v (stage_at v es) ++ entry_in v f) = subst (Consumes x w) (λ j. i.start j ++ entry_in (i.place j).version f) h.bytes in
+    record {
+      are_entries = record { version = v; valid = all_more (IsFactIn v) es f i.valid valid; rising = rising_more es f i.rising after; few = omega (arith, within, length-append es (f ∷ [])) };
+      stage_is = goes ∙ stage_more v es f;
+      read = subst (Consumes u w) (read_more v es f) (Consumes-trans u x w (read_of v es) (opening v (stage_at v es) ++ entry_in v f) i.read bytes);
+    }
 
-from_header : (limit : ℕ) (y : List ℕ) (f : ReadFault) (o : Option ReadFault) → header_fault y ≡ o → or_else o (next_fault (position Header) limit (drop 6 y)) ≡ Some f
+from_header : (limit : ℕ) (y : List ℕ) (f : ReadFault) (o : Option ReadFault) → header_fault y ≡ o → or_else o (next_fault (position (version_in y) Header) limit (drop 6 y)) ≡ Some f
     → Stops y limit [] f
-from_header limit y f o e h = grind (arith, opening_is)
+from_header limit y f (Some g) e h = in_header refl (e ∙ h)
+from_header limit y f None e h =
+    behind (record { are_entries = record { version = version_in y; valid = tt; rising = tt; few = omega arith }; rest = drop 6 y; whole = header_is y e; first = h })
 
-pub stops_at : (limit : ℕ) (x y : List ℕ) (es : List Fact) (f : ReadFault) → AreEntries limit es → x ≡ read_of es ++ y → fault_from (stage_at es) limit y ≡ Some f → Stops x limit es f
-stops_at limit x y [] f a took h = subst (λ (z : List ℕ). Stops z limit [] f) (sym took) (from_header limit y f (header_fault y) refl h)
-stops_at limit x y (e ∷ es) f a took h = grind (arith, append_assoc)
+pub stops_at : (v : Version) (limit : ℕ) (x y : List ℕ) (es : List Fact) (f : ReadFault) → AllByRecursion (IsFactIn v) es → IsRising es → length es ≤ limit
+    → x ≡ read_of v es ++ y → fault_from (stage_at v es) limit y ≡ Some f → Stops x limit es f
+stops_at v limit x y [] f p q few took h = subst (λ (z : List ℕ). Stops z limit [] f) (sym took) (from_header limit y f (header_fault y) refl h)
+stops_at v limit x y (e ∷ es) f p q few took h = behind (record { are_entries = record { version = v; valid = p; rising = q; few = few }; rest = y; whole = took; first = h })
 
 -- where reading stopped, the bytes have this fault
 pub stops-fault : (limit : ℕ) (u w : Option (List ℕ)) (es : List Fact) (f : ReadFault) → StopsAfter limit es u w f → HasFault limit u f
 stops-fault limit u w es f h = grind (arith)
 
 -- no entry is held back before the next one
-pub all_read : (es : List Fact) → read_of es ++ (opening (stage_at es) ++ end (position (stage_at es)).count) ≡ spelling es
-all_read es = grind (arith, append_assoc)
+pub all_read : (v : Version) (es : List Fact) → read_of v es ++ (opening v (stage_at v es) ++ end (length es)) ≡ spelling_in v es
+all_read v [] = sym (append_assoc (header_in v) [] (end 0))
+all_read v (e ∷ es) = refl
 
-pub part-at : (limit : ℕ) (u v w : Option (List ℕ)) (es : List Fact) (part : List ℕ) → AreEntries limit es → Consumes u v (read_of es) → Consumes v w part → IsPart (stage_at es) part
-    → ReadsPart limit u w es
-part-at limit u v w [] part a took more (in_opening few) = part_in_header refl part (Consumes-trans u v w [] part took more) few
-part-at limit u v w [] part a took more (in_entry front e within) = part_behind a front (subst (Consumes u w) e (Consumes-trans u v w [] part took more)) within
-part-at limit u v w (e ∷ es) part a took more (in_opening few) =
-    let read = Consumes-trans u v w (header ++ flat_map entry (e ∷ es)) part took more in
-    part_behind a [] (subst (λ (x : List ℕ). Consumes u w (header ++ flat_map entry (e ∷ es) ++ x)) (nil_from_length part (omega (arith, few))) read) (entry_within-short [] (omega arith))
-part-at limit u v w (e ∷ es) part a took more (in_entry front is within) =
-    let read = Consumes-trans u v w (header ++ flat_map entry (e ∷ es)) part took more in
-    part_behind a front (subst (λ (x : List ℕ). Consumes u w (header ++ flat_map entry (e ∷ es) ++ x)) is read) within
+-- What a reader has read that found a fault.
+pub record FaultIn (v : Version) (limit : ℕ) (u x w : Option (List ℕ)) (es : List Fact) (f : ReadFault) : Type 0 where
+  pub valid : AllByRecursion (IsFactIn v) es
+  pub rising : IsRising es
+  pub few : length es ≤ limit
+  pub before_it : Consumes u x (read_of v es)
+  pub fault : IsFaultUpTo (opening v (stage_at v es) ++ end (length es)) (fault_from (stage_at v es) limit) x w f
+  pub part : List ℕ
+  pub read : Consumes x w part
+  pub is_part : IsPart v (stage_at v es) part
+
+part_in : (told v : Version) (count : ℕ) (last : Option Address) (part : List ℕ) → IsPart told (Entries v count last) part → IsPart v (Entries v count last) part
+part_in told v count last part (in_opening few) = in_opening few
+part_in told v count last part (in_entry more e w) = in_entry more e w
+
+fault_in : (told : Version) (limit : ℕ) (u x w : Option (List ℕ)) (stage : Stage) (es : List Fact) (f : ReadFault) → Sofar limit u x stage es → IsAtFault told limit stage x w f
+    → (v : Version) × FaultIn v limit u x w es f
+fault_in told limit u x w stage [] f s h =
+    let g = subst (λ (z : Stage). IsAtFault told limit z x w f) s.stage_is h in
+    (told, record { valid = tt; rising = tt; few = omega arith; before_it = s.read; fault = g.fault; part = g.part; read = g.read; is_part = g.is_part })
+fault_in told limit u x w stage (e ∷ es) f s h =
+    let v = s.are_entries.version in
+    let g = subst (λ (z : Stage). IsAtFault told limit z x w f) s.stage_is h in (
+      v,
+      record {
+        valid = s.are_entries.valid;
+        rising = s.are_entries.rising;
+        few = s.are_entries.few;
+        before_it = s.read;
+        fault = g.fault;
+        part = g.part;
+        read = g.read;
+        is_part = part_in told v (length (e ∷ es)) (last_of None (e ∷ es)) g.part g.is_part;
+      },
+    )
+
+part-at : (v : Version) (limit : ℕ) (u x w : Option (List ℕ)) (es : List Fact) (part : List ℕ) → AllByRecursion (IsFactIn v) es → IsRising es → length es ≤ limit → Consumes u x (read_of v es)
+    → Consumes x w part → IsPart v (stage_at v es) part → ReadsPart limit u w es
+part-at v limit u x w [] part p q few took more (in_opening short) = part_in_header refl part (Consumes-trans u x w [] part took more) short
+part-at v limit u x w [] part p q few took more (in_entry rest e within) =
+    part_behind (record { version = v; valid = p; rising = q; few = few }) rest (subst (Consumes u w) e (Consumes-trans u x w [] part took more)) within
+part-at v limit u x w (e ∷ es) part p q few took more (in_opening short) =
+    let read = Consumes-trans u x w (front_in v (e ∷ es)) part took more in
+    part_behind (record { version = v; valid = p; rising = q; few = few }) [] (subst (λ (l : List ℕ). Consumes u w (front_in v (e ∷ es) ++ l)) (nil_from_length part (omega (arith, short))) read) (within_nil v)
+part-at v limit u x w (e ∷ es) part p q few took more (in_entry rest is within) =
+    let read = Consumes-trans u x w (front_in v (e ∷ es)) part took more in
+    part_behind (record { version = v; valid = p; rising = q; few = few }) rest (subst (λ (l : List ℕ). Consumes u w (front_in v (e ∷ es) ++ l)) is read) within
 
 -- the source failed behind these entries
-broken_at : (limit : ℕ) (u v w : Option (List ℕ)) (es : List Fact) → AreEntries limit es → Consumes u v (read_of es)
-    → IsFaultUpTo (opening (stage_at es) ++ end (position (stage_at es)).count) (fault_from (stage_at es) limit) v w faults.Read → StopsAfter limit es u w faults.Read
-broken_at limit u v w es a took h = elim h [
-  | inl p ↦ (read_of es ++ p.0, Consumes-trans u v w (read_of es) p.0 took p.1, inl (stops_at limit (read_of es ++ p.0) p.0 es faults.Cut a refl p.2))
-  | inr p ↦ (
-    spelling es,
-    subst (Consumes u w) (all_read es) (Consumes-trans u v w (read_of es) (opening (stage_at es) ++ end (position (stage_at es)).count) took p),
-    inr (record { are_entries = a; bytes_are = refl }),
+broken_at : (v : Version) (limit : ℕ) (u x w : Option (List ℕ)) (es : List Fact) → AllByRecursion (IsFactIn v) es → IsRising es → length es ≤ limit → Consumes u x (read_of v es)
+    → IsFaultUpTo (opening v (stage_at v es) ++ end (length es)) (fault_from (stage_at v es) limit) x w faults.Read → StopsAfter limit es u w faults.Read
+broken_at v limit u x w es p q few took h = elim h [
+  | inl c ↦ (read_of v es ++ c.0, Consumes-trans u x w (read_of v es) c.0 took c.1, inl (stops_at v limit (read_of v es ++ c.0) c.0 es faults.Cut p q few refl c.2))
+  | inr c ↦ (
+    spelling_in v es,
+    subst (Consumes u w) (all_read v es) (Consumes-trans u x w (read_of v es) (opening v (stage_at v es) ++ end (length es)) took c),
+    inr (record { are_entries = record { version = v; valid = p; rising = q; few = few }; bytes_are = refl }),
   )
 ]
 
-stopped_at : (limit : ℕ) (u v w : Option (List ℕ)) (es : List Fact) (f : ReadFault) (part : List ℕ) → AreEntries limit es → Consumes u v (read_of es)
-    → IsFaultUpTo (opening (stage_at es) ++ end (position (stage_at es)).count) (fault_from (stage_at es) limit) v w f → Consumes v w part → IsPart (stage_at es) part → StopsAfter limit es u w f
-stopped_at limit u v w es faults.Read part a took h c p = broken_at limit u v w es a took h
-stopped_at limit u v w es faults.OutOfMemory part a took h c p = part-at limit u v w es part a took c p
-stopped_at limit u v w es f part a took h c p = grind (arith, stops_at)
+stops_by : (v : Version) (limit : ℕ) (u x : Option (List ℕ)) (es : List Fact) (f : ReadFault) → AllByRecursion (IsFactIn v) es → IsRising es → length es ≤ limit → Consumes u x (read_of v es)
+    → IfSome x (λ y. fault_from (stage_at v es) limit y ≡ Some f) → IfSome u (λ z. Stops z limit es f)
+stops_by v limit None x es f p q few took h = tt
+stops_by v limit (Some z) None es f p q few took h = absurd took
+stops_by v limit (Some z) (Some y) es f p q few took h = stops_at v limit z y es f p q few took h
 
-pub read_some : (es : List Fact) (f : Fact) → read_of (es ++ f ∷ []) ≡ header ++ flat_map entry (es ++ f ∷ [])
-read_some [] f = refl
-read_some (e ∷ es) f = refl
+stopped_at : (v : Version) (limit : ℕ) (u x w : Option (List ℕ)) (es : List Fact) (f : ReadFault) → FaultIn v limit u x w es f → StopsAfter limit es u w f
+stopped_at v limit u x w es faults.Read i = broken_at v limit u x w es i.valid i.rising i.few i.before_it i.fault
+stopped_at v limit u x w es faults.OutOfMemory i = part-at v limit u x w es i.part i.valid i.rising i.few i.before_it i.read i.is_part
+stopped_at v limit u x w es f i = stops_by v limit u x es f i.valid i.rising i.few i.before_it i.fault
 
-pub open_at : (es : List Fact) → is_open (stage_at es) ≡ true
-open_at es = grind (arith)
+pub read_some : (v : Version) (es : List Fact) (f : Fact) → read_of v (es ++ f ∷ []) ≡ front_in v (es ++ f ∷ [])
+read_some v [] f = refl
+read_some v (e ∷ es) f = refl
 
-pub not_ended : (es : List Fact) → stage_at es ≡ Ended → ⊥
-not_ended es e = grind (arith)
+pub open_at : (v : Version) (es : List Fact) → is_open (stage_at v es) ≡ true
+open_at v es = grind (arith)
 
-pub not_failed : (es : List Fact) (f : ReadFault) → stage_at es ≡ Failed f → ⊥
-not_failed es f e = grind (arith)
+pub not_ended : (v : Version) (es : List Fact) → stage_at v es ≡ Ended → ⊥
+not_ended v es e = grind (arith)
+
+pub not_failed : (v : Version) (es : List Fact) (f : ReadFault) → stage_at v es ≡ Failed f → ⊥
+not_failed v es f e = grind (arith)
+
+-- what was read up to a fault that is found now
+found_now : (limit : ℕ) (u x w : Option (List ℕ)) (old new : Stage) (es : List Fact) (f : ReadFault) → Sofar limit u x old es → GivesFault limit old new x w f
+    → (v : Version) × FaultIn v limit u x w es f
+found_now limit u x w old new es f s h = elim h.found [
+  | inl p ↦ absurd (not_failed s.are_entries.version es f (sym s.stage_is ∙ p.0))
+  | inr p ↦ fault_in h.told limit u x w old es f s p.1
+]
 
 -- a fault behind these entries, and what was read
 pub sofar-stops : (limit : ℕ) (u v w : Option (List ℕ)) (old new : Stage) (es : List Fact) (f : ReadFault) → Sofar limit u v old es
     → GivesFault limit old new v w f → StopsAfter limit es u w f × ReadsPart limit u w es
-sofar-stops limit u v w old new es f s h = elim (subst (λ (x : Stage). GivesFault limit x new v w f) s.stage_is h).found [
-  | inl p ↦ absurd (not_failed es f p.0)
-  | inr p ↦ (stopped_at limit u v w es f p.2.0 s.are_entries s.read p.1 p.2.1 p.2.2, part-at limit u v w es p.2.0 s.are_entries s.read p.2.1 p.2.2)
-]
+sofar-stops limit u x w old new es f s h =
+    let i = found_now limit u x w old new es f s h in
+    (stopped_at i.0 limit u x w es f i.1, part-at i.0 limit u x w es i.1.part i.1.valid i.1.rising i.1.few i.1.before_it i.1.read i.1.is_part)
 
 pub sofar-fault : (limit : ℕ) (u v w : Option (List ℕ)) (old new : Stage) (es : List Fact) (f : ReadFault) → Sofar limit u v old es
     → GivesFault limit old new v w f → HasFault limit u f
@@ -92,7 +188,7 @@ sofar-fault limit u v w old new es f s h = stops-fault limit u w es f (sofar-sto
 -- an input that was read to the end of its journal
 pub record AtEnd (limit : ℕ) (input left : Option (List ℕ)) (entries : List Fact) : Type 0 where
   pub are_entries : AreEntries limit entries
-  pub read : Consumes input left (spelling entries)
+  pub read : Consumes input left (spelling_in are_entries.version entries)
   pub at_end : IsAtEnd left
 
 -- an input of which these entries are settled, and one is held or the end was read
@@ -103,51 +199,73 @@ Side limit input left stage settled None = AtEnd limit input left settled
 -- a reader behind entries
 
 pub open_behind : (limit : ℕ) (input left : Option (List ℕ)) (stage : Stage) (es : List Fact) → Sofar limit input left stage es → IsTrue (is_open stage)
-open_behind limit input left stage es s = ap is_open s.stage_is ∙ open_at es
+open_behind limit input left stage es s = ap is_open s.stage_is ∙ open_at s.are_entries.version es
 
 -- it gives an entry or the end
 pub side-from : (limit : ℕ) (u v w : Option (List ℕ)) (old new : Stage) (settled : List Fact) (o : Option Fact)
     → Sofar limit u v old settled → Gives limit old new v w (Ok o) → Side limit u w new settled o
-side-from limit u v w old new settled (Some f) s g = sofar-next limit u v w old new settled f s g
-side-from limit u v w old new settled None s g = search (rules, not_ended, all_read, Consumes-trans)
+side-from limit u x w old new settled (Some f) s g = sofar-next limit u x w old new settled f s g
+side-from limit u x w old new settled None s g = elim g.bytes [
+  | inl b ↦ absurd (not_ended s.are_entries.version settled (sym s.stage_is ∙ b.0))
+  | inr b ↦
+      let t = sofar_in g.told limit u x old settled s in
+      let v = t.0 in
+      let i = t.1 in
+      let last : Consumes x w (opening v (stage_at v settled) ++ end (length settled)) = subst (Consumes x w) (λ j. i.start j ++ end (i.place j).count) b.1 in
+      record {
+        are_entries = record { version = v; valid = i.valid; rising = i.rising; few = i.few };
+        read = subst (Consumes u w) (all_read v settled) (Consumes-trans u x w (read_of v settled) (opening v (stage_at v settled) ++ end (length settled)) i.read last);
+        at_end = b.2;
+      }
+]
 
 -- what was read
 
 pub reads-sofar : (limit : ℕ) (u v : Option (List ℕ)) (stage : Stage) (es : List Fact) → Sofar limit u v stage es → ReadsBehind u v es
-reads-sofar limit u v stage [] s = record { valid = tt; bytes = []; read = s.read; ends = in_header refl (omega arith) }
-reads-sofar limit u v stage (e ∷ es) s =
-    record { valid = s.are_entries.valid; bytes = front (e ∷ es); read = s.read; ends = behind [] (sym (append-nil (front (e ∷ es)))) within_nil }
+reads-sofar limit u x stage [] s = record { version = s.are_entries.version; valid = tt; bytes = []; read = s.read; ends = in_header refl (omega arith) }
+reads-sofar limit u x stage (e ∷ es) s =
+    let v = s.are_entries.version in
+    record { version = v; valid = s.are_entries.valid; bytes = front_in v (e ∷ es); read = s.read; ends = behind [] (sym (append-nil (front_in v (e ∷ es)))) (within_nil v) }
 
 pub reads-side : (limit : ℕ) (u v : Option (List ℕ)) (stage : Stage) (settled : List Fact) (held : Option Fact) → Side limit u v stage settled held → ReadsBehind u v settled
-reads-side limit u v stage settled None s = record {
-  valid = s.are_entries.valid;
-  bytes = spelling settled;
-  read = s.read;
-  ends = behind (end (length settled)) refl (within_end (length settled));
-}
-reads-side limit u v stage settled (Some f) s = record {
-  valid = (all_split IsFact settled (f ∷ []) s.are_entries.valid).0;
-  bytes = read_of (settled ++ f ∷ []);
-  read = s.read;
-  ends = behind (entry f) (read_some settled f ∙ sym (front-snoc settled f)) (within_entry f (all_split IsFact settled (f ∷ []) s.are_entries.valid).1.0);
-}
+reads-side limit u x stage settled None s =
+    let v = s.are_entries.version in
+    record {
+      version = v;
+      valid = s.are_entries.valid;
+      bytes = spelling_in v settled;
+      read = s.read;
+      ends = behind (end (length settled)) refl (within_end v (length settled));
+    }
+reads-side limit u x stage settled (Some f) s =
+    let v = s.are_entries.version in
+    let valid = all_split (IsFactIn v) settled (f ∷ []) s.are_entries.valid in
+    record {
+      version = v;
+      valid = valid.0;
+      bytes = read_of v (settled ++ f ∷ []);
+      read = s.read;
+      ends = behind (entry_in v f) (read_some v settled f ∙ sym (front_in-snoc v settled f)) (within_entry v f valid.1.0);
+    }
 
-ends_part : (es : List Fact) (part : List ℕ) → IsPart (stage_at es) part → EndsBehind es (read_of es ++ part)
-ends_part [] part (in_opening few) = in_header refl few
-ends_part [] part (in_entry more e w) = behind more e w
-ends_part (x ∷ es) part (in_opening few) = behind part refl (entry_within-short part (omega (arith, few)))
-ends_part (x ∷ es) part (in_entry more e w) = behind more (ap (λ (l : List ℕ). front (x ∷ es) ++ l) e) w
+ends_part : (v : Version) (es : List Fact) (part : List ℕ) → IsPart v (stage_at v es) part → EndsBehind v es (read_of v es ++ part)
+ends_part v [] part (in_opening few) = in_header refl few
+ends_part v [] part (in_entry more e w) = behind more e w
+ends_part v (x ∷ es) part (in_opening few) = behind part refl (entry_within-short v part (omega (arith, few)))
+ends_part v (x ∷ es) part (in_entry more e w) = behind more (ap (λ (l : List ℕ). front_in v (x ∷ es) ++ l) e) w
 
 pub reads-fault : (limit : ℕ) (u v w : Option (List ℕ)) (old new : Stage) (es : List Fact) (f : ReadFault) → Sofar limit u v old es → GivesFault limit old new v w f → ReadsBehind u w es
-reads-fault limit u v w old new es f s g = elim (subst (λ (x : Stage). GivesFault limit x new v w f) s.stage_is g).found [
-  | inl b ↦ absurd (not_failed es f b.0)
-  | inr b ↦ record {
-    valid = s.are_entries.valid;
-    bytes = read_of es ++ b.2.0;
-    read = Consumes-trans u v w (read_of es) b.2.0 s.read b.2.1;
-    ends = ends_part es b.2.0 b.2.2;
-  }
-]
+reads-fault limit u x w old new es f s g =
+    let t = found_now limit u x w old new es f s g in
+    let v = t.0 in
+    let i = t.1 in
+    record {
+      version = v;
+      valid = i.valid;
+      bytes = read_of v es ++ i.part;
+      read = Consumes-trans u x w (read_of v es) i.part i.before_it i.read;
+      ends = ends_part v es i.part i.is_part;
+    }
 
 -- the entries are these and others, which stand above that address
 abbrev pub Follows : Option Address → List Fact → List Fact → Type 0
@@ -155,16 +273,16 @@ Follows last settled es = (rest : List Fact) × (es ≡ settled ++ rest) × Rise
 
 -- if the input is a journal, its other entries stand above that address
 abbrev pub IsAhead : Option Address → Option (List ℕ) → List Fact → Type 0
-IsAhead last input settled = (es : List Fact) → AllByRecursion IsFact es → IsRising es → input ≡ Some (spelling es) → Follows last settled es
+IsAhead last input settled = (w : Version) (es : List Fact) → AllByRecursion (IsFactIn w) es → IsRising es → input ≡ Some (spelling_in w es) → Follows last settled es
 
 -- a journal that begins with these entries has others behind them
-ahead-read : (input left : Option (List ℕ)) (settled : List Fact) → AllByRecursion IsFact settled → Consumes input left (front settled) → IsAhead (last_of None settled) input settled
-ahead-read None left settled v c es w r e = absurd (none-some (spelling es) e)
-ahead-read (Some xs) None settled v c es w r e = absurd c
-ahead-read (Some xs) (Some ys) settled v c es w r e =
-    let f = front-of_spelling settled es ys [] v w (sym c ∙ same_Some xs (spelling es) e ∙ sym (append-nil (spelling es))) in
+ahead-read : (v : Version) (input left : Option (List ℕ)) (settled : List Fact) → AllByRecursion (IsFactIn v) settled → Consumes input left (front_in v settled) → IsAhead (last_of None settled) input settled
+ahead-read v None left settled p c w es q r e = absurd (none-some (spelling_in w es) e)
+ahead-read v (Some xs) None settled p c w es q r e = absurd c
+ahead-read v (Some xs) (Some ys) settled p c w es q r e =
+    let f = (front-of_spelling v w settled es ys [] p q (sym c ∙ same_Some xs (spelling_in w es) e ∙ sym (append-nil (spelling_in w es)))).1 in
     (f.more, f.items, Rises-second None settled f.more (subst (Rises None) f.items (rising-rises es r)))
 
 pub ahead-sofar : (limit : ℕ) (input left : Option (List ℕ)) (stage : Stage) (settled : List Fact) → Sofar limit input left stage settled → IsAhead (last_of None settled) input settled
-ahead-sofar limit input left stage [] s es w r e = (es, refl, rising-rises es r)
-ahead-sofar limit input left stage (f ∷ fs) s es w r e = ahead-read input left (f ∷ fs) s.are_entries.valid s.read es w r e
+ahead-sofar limit input left stage [] s w es q r e = (es, refl, rising-rises es r)
+ahead-sofar limit input left stage (f ∷ fs) s w es q r e = ahead-read s.are_entries.version input left (f ∷ fs) s.are_entries.valid s.read w es q r e

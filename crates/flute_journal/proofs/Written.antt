@@ -1,8 +1,11 @@
 -- The bytes of an entry, written part by part.
-use Rattle.flute_journal.proofs.Common.{◌≡◌, ℕ, List, ◌∷◌, ◌++◌, Some, None, ap, ◌∙◌, append_assoc, toi_of, instance_of, ObjectName, Instance, File, in_bytes, object_bytes}
+use Rattle.flute_journal.proofs.Common.{◌≡◌, ℕ, List, ◌∷◌, ◌++◌, Some, None, ap, ◌∙◌, refl, append_assoc, toi_of, instance_of, ObjectName, Instance, File, in_bytes, object_bytes}
 
 pub regroup : (h a b c : List ℕ) → ((h ++ a) ++ b) ++ c ≡ h ++ (a ++ (b ++ c))
 regroup h a b c = append_assoc (h ++ a) b c ∙ append_assoc h a (b ++ c)
+
+pub regroup_more : (h a b c d e f : List ℕ) → (((((h ++ a) ++ b) ++ c) ++ d) ++ e) ++ f ≡ h ++ ((a ++ b) ++ (c ++ (d ++ (e ++ f))))
+regroup_more h a b c d e f = simp append_assoc refl
 
 -- the tag and the number of an object
 

@@ -10,29 +10,43 @@ use Rattle.flute_parts.specs.declared.key.Key.{Key}
 use Rattle.flute_parts.specs.declared.symbol_id.SymbolId.{SymbolId}
 use Rattle.flute_parts.specs.declared.fact.Fact.{Fact}
 use Rattle.flute_parts.specs.declared.fact.Fact.TheVariants.{Info, InfoConflict, Symbol, SymbolConflict}
+use Rattle.flute_journal.specs.declared.format.version.Version.{Version}
+use Rattle.flute_journal.specs.declared.format.version.Version.TheVariants.{One, Two}
 use Rattle.flute_journal.specs.Numbers.{in_bytes}
 
 -- `FLJN`
 abbrev pub magic : List ℕ
 magic = 0x46 ∷ 0x4C ∷ 0x4A ∷ 0x4E ∷ []
 
-abbrev pub version : List ℕ
-version = 0 ∷ 1 ∷ []
+abbrev pub version_number : Version → ℕ
+version_number One = 1
+version_number Two = 2
 
-abbrev pub header : List ℕ
-header = magic ++ version
+abbrev pub version_bytes : Version → List ℕ
+version_bytes version = 0 ∷ version_number version ∷ []
 
--- a Transport Session Identifier has at most 48 bits (RFC 5651, 5.1)
-abbrev pub session_bytes : Session → List ℕ
-session_bytes session = in_bytes 6 session.tsi
+abbrev pub header_in : Version → List ℕ
+header_in version = magic ++ version_bytes version
+
+-- how many bytes of an entry name its sender: none, where each sender is 0, or those of an IPv6 address
+unfoldable pub sender_size : Version → ℕ
+sender_size One = 0
+sender_size Two = 16
+
+abbrev pub sender_bytes : Version → Session → List ℕ
+sender_bytes version session = in_bytes (sender_size version) session.sender
 
 -- a tag, 0 for an FDT Instance and 1 for a file, and then its number
 abbrev pub object_bytes : ObjectName → List ℕ
 object_bytes (Instance n) = 0 ∷ in_bytes 14 n
 object_bytes (File n) = 1 ∷ in_bytes 14 n
 
-abbrev pub key_bytes : Key → List ℕ
-key_bytes key = session_bytes key.session ++ object_bytes key.object
+-- what names an object of a sender: a Transport Session Identifier of at most 48 bits (RFC 5651, 5.1), and the object
+abbrev pub name_bytes : Key → List ℕ
+name_bytes key = in_bytes 6 key.session.tsi ++ object_bytes key.object
+
+abbrev pub key_bytes : Version → Key → List ℕ
+key_bytes version key = sender_bytes version key.session ++ name_bytes key
 
 -- the source block number and the encoding symbol ID
 abbrev pub id_bytes : SymbolId → List ℕ
@@ -63,15 +77,33 @@ rest_bytes (Symbol key id bytes) = id_bytes id ++ symbol_bytes bytes
 rest_bytes (SymbolConflict key id) = id_bytes id
 
 -- what stands behind the kind
-abbrev pub body : Fact → List ℕ
-body f = key_bytes (key_of f) ++ rest_bytes f
+abbrev pub body : Version → Fact → List ℕ
+body version f = key_bytes version (key_of f) ++ rest_bytes f
 
-abbrev pub entry : Fact → List ℕ
-entry f = kind f ∷ body f
+abbrev pub entry_in : Version → Fact → List ℕ
+entry_in version f = kind f ∷ body version f
 
 -- the end of a journal of n entries
 abbrev pub end : ℕ → List ℕ
 end n = 255 ∷ in_bytes 8 n
 
+-- the header and whole entries
+abbrev pub front_in : Version → List Fact → List ℕ
+front_in version entries = header_in version ++ flat_map (entry_in version) entries
+
+abbrev pub spelling_in : Version → List Fact → List ℕ
+spelling_in version entries = front_in version entries ++ end (length entries)
+
+-- What is written is of version 2.
+
+abbrev pub header : List ℕ
+header = header_in Two
+
+abbrev pub entry : Fact → List ℕ
+entry f = entry_in Two f
+
+abbrev pub front : List Fact → List ℕ
+front entries = front_in Two entries
+
 abbrev pub spelling : List Fact → List ℕ
-spelling entries = header ++ flat_map entry entries ++ end (length entries)
+spelling entries = spelling_in Two entries

@@ -10,9 +10,10 @@ use Rattle.flute_journal.specs.declared.reader.Stage.{Stage}
 use Rattle.flute_journal.specs.declared.reader.Stage.TheVariants.{Header, Entries, Ended, Failed}
 use Rattle.flute_journal.specs.declared.journal_stream.JournalStream.{JournalStream}
 use Rattle.flute_journal.specs.declared.journal_stream.LentStream.{LentStream}
-use Rattle.flute_journal.specs.Format.{spelling}
+use Rattle.flute_journal.specs.declared.format.version.Version.{Version}
+use Rattle.flute_journal.specs.Format.{spelling_in}
 use Rattle.flute_journal.specs.Input.{Fails}
-use Rattle.flute_journal.specs.Journal.{IsFact, AreEntries, IsJournalWithin}
+use Rattle.flute_journal.specs.Journal.{IsFactIn, AreEntries, IsJournalWithin}
 use Rattle.flute_journal.specs.Readers.{source_of, limit_of, stage_of}
 use Rattle.flute_journal.specs.SoFar.{Sofar}
 use Rattle.flute_journal.specs.Stores.{BeginsWith}
@@ -35,7 +36,7 @@ ReadAt limit first now stage entries held = Sofar limit first now stage (entries
 -- as many entries as may still be read
 abbrev pub room : ℕ → Stage → ℕ
 room limit Header = limit
-room limit (Entries count last) = limit - count
+room limit (Entries version count last) = limit - count
 room limit Ended = 0
 room limit (Failed fault) = 0
 
@@ -53,8 +54,9 @@ FailsBy old new (Some fault) = new ≡ old
 
 -- the bytes are the journal of these entries
 pub record IsJournalOfAll (bytes : Option (List ℕ)) (entries : List Fact) : Type 0 where
-  pub bytes_are : bytes ≡ Some (spelling entries)
-  pub valid : AllByRecursion IsFact entries
+  pub version : Version
+  pub bytes_are : bytes ≡ Some (spelling_in version entries)
+  pub valid : AllByRecursion (IsFactIn version) entries
   pub rising : IsRising entries
 
 module _ {R : Type 0} (unread : R → Option (List ℕ)) (failures : R → ℕ) where

@@ -6,23 +6,26 @@ use Rattle.flute_parts.specs.declared.address.Address.{Address}
 use Rattle.flute_parts.specs.declared.fact.Fact.{Fact}
 use Rattle.flute_journal.specs.declared.fault.ReadFault.{ReadFault}
 use Rattle.flute_journal.specs.declared.fault.ReadFault.TheVariants.{OutOfMemory}
-use Rattle.flute_journal.specs.Format.{entry}
+use Rattle.flute_journal.specs.declared.format.version.Version.{Version}
+use Rattle.flute_journal.specs.Format.{entry_in}
 use Rattle.flute_journal.specs.Faults.{is_after}
-use Rattle.flute_journal.specs.Journal.{IsFact}
+use Rattle.flute_journal.specs.Journal.{IsFactIn}
 use Rattle.flute_journal.specs.Records.{IsDatagram, record_of}
 
 -- the bytes begin with the entry of this fact, which has so many bytes and stands in order behind the last
-pub record BeginsWithEntry (last : Option Address) (bytes : List ℕ) (f : Fact) (size : ℕ) : Type 0 where
-  pub valid : IsFact f
+pub record BeginsWithEntry (version : Version) (last : Option Address) (bytes : List ℕ) (f : Fact) (size : ℕ) : Type 0 where
+  pub valid : IsFactIn version f
   pub in_order : IsTrue (is_after last (address f))
   pub within : size ≤ length bytes
-  pub spelled : take size bytes ≡ entry f
+  pub spelled : take size bytes ≡ entry_in version f
 
 -- the entry of a fact was taken, or nothing
-abbrev pub TakesEntry : Option Address → Option (List ℕ) → Option (List ℕ) → Result (Option Fact) ReadFault → Type 0
-TakesEntry last old new (Ok (Some f)) = IsFact f × IsTrue (is_after last (address f)) × Consumes old new (entry f)
-TakesEntry last old new (Ok None) = new ≡ old
-TakesEntry last old new (Err f) = (f ≡ OutOfMemory) × (new ≡ old)
+abbrev pub TakesEntry : Version → Option Address → Option (List ℕ) → Option (List ℕ)
+    → Result (Option Fact) ReadFault → Type 0
+TakesEntry version last old new (Ok (Some f)) =
+    IsFactIn version f × IsTrue (is_after last (address f)) × Consumes old new (entry_in version f)
+TakesEntry version last old new (Ok None) = new ≡ old
+TakesEntry version last old new (Err f) = (f ≡ OutOfMemory) × (new ≡ old)
 
 -- the bytes begin with the record of this datagram
 pub record BeginsWithRecord (bytes datagram : List ℕ) : Type 0 where
@@ -31,7 +34,8 @@ pub record BeginsWithRecord (bytes datagram : List ℕ) : Type 0 where
   pub spelled : take (2 + length datagram) bytes ≡ record_of datagram
 
 -- the record of a datagram was taken, or nothing
-abbrev pub TakesRecord : Option (List ℕ) → Option (List ℕ) → Result (Option (List ℕ)) ReadFault → Type 0
+abbrev pub TakesRecord : Option (List ℕ) → Option (List ℕ)
+    → Result (Option (List ℕ)) ReadFault → Type 0
 TakesRecord old new (Ok (Some d)) = IsDatagram d × Consumes old new (record_of d)
 TakesRecord old new (Ok None) = new ≡ old
 TakesRecord old new (Err f) = (f ≡ OutOfMemory) × (new ≡ old)

@@ -1,13 +1,14 @@
 -- What a merge of two journals comes to.
 use Rattle.std.specs.Prelude.{◌≡◌, ◌≢◌, ℕ, ◌<◌, ◌≤◌, ◌^◌, List, [], ◌∷◌, ◌++◌, length, Option, Some, ⊤, IfSome, Result, Ok, Err}
-use Rattle.std.specs.List.{flat_map, AllByRecursion}
+use Rattle.std.specs.List.{AllByRecursion}
 use Rattle.std.specs.Io.KnownBytes.{Appends, Consumes}
 use Rattle.flute_parts.specs.declared.fact.Fact.{Fact}
 use Rattle.flute_journal.specs.declared.merge.MergeFault.{MergeFault}
 use Rattle.flute_journal.specs.declared.merge.MergeFault.TheVariants.{First, Second, Write}
-use Rattle.flute_journal.specs.Format.{header, entry, spelling}
+use Rattle.flute_journal.specs.declared.format.version.Version.{Version}
+use Rattle.flute_journal.specs.Format.{header, entry_in, front_in, front, spelling}
 use Rattle.flute_journal.specs.Input.{Fails, IsWithin}
-use Rattle.flute_journal.specs.Journal.{IsFact, Collects, Journal, IsJournalWithin}
+use Rattle.flute_journal.specs.Journal.{IsFactIn, Collects, Journal, IsJournal, IsJournalWithin}
 use Rattle.flute_journal.specs.Whole.{HasFault}
 
 -- both inputs are journals of at most so many entries, and the journal of both was appended, which has n entries
@@ -26,17 +27,13 @@ pub record Merged (limit n : ℕ) (first second old new : Option (List ℕ)) : T
 abbrev pub IsProperPrefix : List ℕ → List ℕ → Type 0
 IsProperPrefix bytes whole = (more : List ℕ) × (more ≢ []) × (bytes ++ more ≡ whole)
 
--- what was appended is no journal, and where both inputs are, it is a first part of the journal of both
+-- what was appended is no journal of any version, and where both inputs are, it is a first part of the journal of both
 pub record StopsShort (first second old new : Option (List ℕ)) : Type 0 where
   pub bytes : List ℕ
   pub appended : Appends old new bytes
-  pub no_journal : (facts : List Fact) → Journal bytes facts → ⊥
-  pub prefix : (xs ys whole : List ℕ) (F G : List Fact) → first ≡ Some xs → second ≡ Some ys → Journal xs F → Journal ys G → Journal whole (F ++ G)
-      → IsProperPrefix bytes whole
-
--- the header and whole entries
-abbrev pub front : List Fact → List ℕ
-front entries = header ++ flat_map entry entries
+  pub no_journal : (facts : List Fact) → IsJournal bytes facts → ⊥
+  pub prefix : (xs ys whole : List ℕ) (F G : List Fact) → first ≡ Some xs → second ≡ Some ys
+      → IsJournal xs F → IsJournal ys G → Journal whole (F ++ G) → IsProperPrefix bytes whole
 
 -- what is written up to these entries: the header comes with the first
 abbrev pub written_up_to : List Fact → List ℕ
@@ -49,16 +46,18 @@ BeginsWith Write bytes entries = (rest : List ℕ) × (bytes ≡ written_up_to e
 BeginsWith fault bytes entries = bytes ≡ written_up_to entries
 
 -- the bytes are no more than a header's, or these whole entries and then no byte behind one entry more
-pub data EndsBehind (entries : List Fact) (bytes : List ℕ) : Type 0 where
-  in_header : entries ≡ [] → length bytes ≤ length header → EndsBehind entries bytes
-  behind : (part : List ℕ) → bytes ≡ front entries ++ part → IsWithin entry IsFact part → EndsBehind entries bytes
+pub data EndsBehind (version : Version) (entries : List Fact) (bytes : List ℕ) : Type 0 where
+  in_header : entries ≡ [] → length bytes ≤ length header → EndsBehind version entries bytes
+  behind : (part : List ℕ) → bytes ≡ front_in version entries ++ part
+      → IsWithin (entry_in version) (IsFactIn version) part → EndsBehind version entries bytes
 
 -- of an input these whole entries were read, and at most one more
 pub record ReadsBehind (input left : Option (List ℕ)) (entries : List Fact) : Type 0 where
-  pub valid : AllByRecursion IsFact entries
+  pub version : Version
+  pub valid : AllByRecursion (IsFactIn version) entries
   pub bytes : List ℕ
   pub read : Consumes input left bytes
-  pub ends : EndsBehind entries bytes
+  pub ends : EndsBehind version entries bytes
 
 -- What was read, and what was appended: whole entries of both inputs and at most one more of each, and all that the
 -- whole entries come to.

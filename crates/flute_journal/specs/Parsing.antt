@@ -1,10 +1,11 @@
 -- What the bytes of an entry up to those of its symbol say.
-use Rattle.std.specs.Prelude.{◌≡◌, ℕ, ◌<◌, ◌^◌, IsTrue, List, [], ◌∷◌, ◌++◌, length, Option, Some, ⊤, Result, MatchResult}
+use Rattle.std.specs.Prelude.{◌≡◌, ℕ, ◌+◌, ◌<◌, ◌^◌, IsTrue, List, [], ◌∷◌, ◌++◌, length, Option, Some, ⊤, Result, MatchResult}
 use Rattle.flute_parts.specs.Addresses.{address, symbol_address}
 use Rattle.flute_parts.specs.declared.key.Key.{Key}
 use Rattle.flute_parts.specs.declared.symbol_id.SymbolId.{SymbolId}
 use Rattle.flute_parts.specs.declared.address.Address.{Address}
 use Rattle.flute_parts.specs.declared.fact.Fact.{Fact}
+use Rattle.flute_journal.specs.declared.format.version.Version.{Version}
 use Rattle.flute_journal.specs.declared.format.Kind.{Kind}
 use Rattle.flute_journal.specs.declared.format.Kind.TheVariants as kinds
 use Rattle.flute_journal.specs.declared.format.Fixed.{Fixed}
@@ -12,9 +13,9 @@ use Rattle.flute_journal.specs.declared.format.Fixed.TheVariants.{Whole, Symbol}
 use Rattle.flute_journal.specs.declared.fault.ReadFault.{ReadFault}
 use Rattle.flute_journal.specs.declared.fault.ReadFault.TheVariants as faults
 use Rattle.flute_journal.specs.Numbers.{in_bytes}
-use Rattle.flute_journal.specs.Format.{key_bytes, id_bytes, body, kind}
-use Rattle.flute_journal.specs.Faults.{Before, is_after, first_fault, cut, bytes_checks, rest_checks, body_checks, end_checks}
-use Rattle.flute_journal.specs.Journal.{IsKey, IsId, IsFact}
+use Rattle.flute_journal.specs.Format.{key_bytes, id_bytes, rest_bytes, key_of, kind}
+use Rattle.flute_journal.specs.Faults.{Before, is_after, key_size, first_fault, cut, bytes_checks, rest_checks, body_checks, end_checks}
+use Rattle.flute_journal.specs.Journal.{IsKey, IsId, IsFact, IsFactIn, HasRoom}
 
 abbrev pub byte_of : Kind → ℕ
 byte_of kinds.Info = 1
@@ -30,18 +31,23 @@ rest_size kinds.Symbol = 6
 rest_size kinds.SymbolConflict = 4
 
 -- and how many behind the kind
-abbrev pub fixed_size : Kind → ℕ
-fixed_size kinds.Info = 33
-fixed_size kinds.InfoConflict = 21
-fixed_size kinds.Symbol = 27
-fixed_size kinds.SymbolConflict = 25
+abbrev pub fixed_size : Version → Kind → ℕ
+fixed_size version k = key_size version + rest_size k
 
-abbrev pub at_place : ℕ → Option Address → Before
-at_place count last = record { count = count; last = last }
+abbrev pub at_place : Version → ℕ → Option Address → Before
+at_place version count last = record { version = version; count = count; last = last }
 
-abbrev pub fixed_bytes : Fixed → List ℕ
-fixed_bytes (Whole f) = body f
-fixed_bytes (Symbol key id n) = key_bytes key ++ (id_bytes id ++ in_bytes 2 n)
+abbrev pub fixed_key : Fixed → Key
+fixed_key (Whole f) = key_of f
+fixed_key (Symbol key id n) = key
+
+-- what stands behind the key
+abbrev pub fixed_rest : Fixed → List ℕ
+fixed_rest (Whole f) = rest_bytes f
+fixed_rest (Symbol key id n) = id_bytes id ++ in_bytes 2 n
+
+abbrev pub fixed_bytes : Version → Fixed → List ℕ
+fixed_bytes version x = key_bytes version (fixed_key x) ++ fixed_rest x
 
 -- a fact of this kind, in order
 pub record BodyIs (last : Option Address) (k : Kind) (f : Fact) : Type 0 where
@@ -50,8 +56,8 @@ pub record BodyIs (last : Option Address) (k : Kind) (f : Fact) : Type 0 where
   pub valid : IsFact f
 
 -- a fact of this kind
-abbrev pub IsBody : Kind → Fact → Type 0
-IsBody k f = (kind f ≡ byte_of k) × IsFact f
+abbrev pub IsBody : Version → Kind → Fact → Type 0
+IsBody version k f = (kind f ≡ byte_of k) × IsFactIn version f
 
 -- a symbol in order that has bytes
 pub record SymbolIs (last : Option Address) (k : Kind) (key : Key) (id : SymbolId) (n : ℕ) : Type 0 where
@@ -66,6 +72,17 @@ abbrev pub FixedIs : Option Address → Kind → Fixed → Type 0
 FixedIs last k (Whole f) = BodyIs last k f
 FixedIs last k (Symbol key id n) = SymbolIs last k key id n
 
+-- what was read behind a key
+abbrev pub RestIs : Option Address → Kind → Key → List ℕ → Fixed → Type 0
+RestIs last k key bytes x = FixedIs last k x × (fixed_key x ≡ key) × (fixed_rest x ≡ bytes)
+
+-- the same in an entry of this version, which has room for the sender
+abbrev pub BodyIn : Version → Option Address → Kind → Fact → Type 0
+BodyIn version last k f = BodyIs last k f × HasRoom version (key_of f).session
+
+abbrev pub FixedIn : Version → Option Address → Kind → Fixed → Type 0
+FixedIn version last k x = FixedIs last k x × HasRoom version (fixed_key x).session
+
 -- The first faults of parts.
 
 abbrev pub end_fault : ℕ → List ℕ → Option ReadFault
@@ -78,10 +95,10 @@ abbrev pub cut_fault : ℕ → List ℕ → Option ReadFault
 cut_fault n rest = first_fault (cut n rest ∷ [])
 
 abbrev pub rest_fault : Option Address → Kind → Key → List ℕ → Option ReadFault
-rest_fault last k key rest = first_fault (rest_checks (at_place 0 last) (byte_of k) key rest)
+rest_fault last k key rest = first_fault (rest_checks last (byte_of k) key rest)
 
-abbrev pub body_fault : Option Address → Kind → List ℕ → Option ReadFault
-body_fault last k rest = first_fault (body_checks (at_place 0 last) (byte_of k) rest)
+abbrev pub body_fault : Version → Option Address → Kind → List ℕ → Option ReadFault
+body_fault version last k rest = first_fault (body_checks version last (byte_of k) rest)
 
 -- a fault of bytes, and no failed source or want of memory
 abbrev pub IsOfBytes : ReadFault → Type 0

@@ -2,20 +2,24 @@
 use Rattle.std.specs.Prelude.{◌≡◌, ℕ, ◌+◌, ◌<◌, ◌≤◌, ◌⊎◌, Bool, true, false, IsTrue, List, [], ◌++◌, length, drop, Option, Some, None, Result, Ok, Err}
 use Rattle.std.specs.Io.KnownBytes.{Consumes, Keeps, IsAtEnd}
 use Rattle.flute_parts.specs.Addresses.{address}
+use Rattle.flute_parts.specs.declared.address.Address.{Address}
 use Rattle.flute_parts.specs.declared.fact.Fact.{Fact}
 use Rattle.flute_journal.specs.declared.fault.ReadFault.{ReadFault}
 use Rattle.flute_journal.specs.declared.reader.Stage.{Stage}
 use Rattle.flute_journal.specs.declared.reader.Stage.TheVariants.{Header, Entries, Ended, Failed}
-use Rattle.flute_journal.specs.Format.{header, entry, end}
-use Rattle.flute_journal.specs.Faults.{Before, is_after, header_fault, next_fault}
+use Rattle.flute_journal.specs.declared.format.version.Version.{Version}
+use Rattle.flute_journal.specs.Format.{header_in, entry_in, end}
+use Rattle.flute_journal.specs.Faults.{Before, is_after, header_fault, version_in, next_fault}
 use Rattle.flute_journal.specs.Input.{IsFaultUpTo, IsWithin}
 use Rattle.flute_journal.specs.Numbers.{in_bytes}
 use Rattle.flute_journal.specs.Parsing.{end_fault}
-use Rattle.flute_journal.specs.Journal.{IsFact}
+use Rattle.flute_journal.specs.Journal.{IsFactIn}
 
 -- the next entry or the end was read, and no byte more; or the bytes are at fault
 abbrev pub ReadsNext : ℕ → Before → Option (List ℕ) → Option (List ℕ) → Result (Option Fact) ReadFault → Type 0
-ReadsNext limit before old new (Ok (Some f)) = IsFact f × IsTrue (is_after before.last (address f)) × (before.count < limit) × Consumes old new (entry f)
+ReadsNext limit before old new (Ok (Some f)) =
+    IsFactIn before.version f × IsTrue (is_after before.last (address f)) × (before.count < limit)
+    × Consumes old new (entry_in before.version f)
 ReadsNext limit before old new (Ok None) = Consumes old new (end before.count) × IsAtEnd new
 ReadsNext limit before old new (Err f) = IsFaultUpTo (end before.count) (next_fault before limit) old new f
 
@@ -27,19 +31,41 @@ ReadsEnd count old new (Err f) = IsFaultUpTo (in_bytes 8 count) (end_fault count
 -- more may be read
 abbrev pub is_open : Stage → Bool
 is_open Header = true
-is_open (Entries count last) = true
+is_open (Entries version count last) = true
 is_open Ended = false
 is_open (Failed f) = false
 
+-- the version of the journal, if a header that is still to be read tells this one
+abbrev pub version_at : Version → Stage → Version
+version_at told (Entries version count last) = version
+version_at told _ = told
+
+-- how many entries were given
+abbrev pub count_at : Stage → ℕ
+count_at (Entries version count last) = count
+count_at _ = 0
+
+-- and where the last stands
+abbrev pub last_at : Stage → Option Address
+last_at (Entries version count last) = last
+last_at _ = None
+
 -- what stands before the next entry
-abbrev pub position : Stage → Before
-position (Entries count last) = record { count = count; last = last }
-position _ = record { count = 0; last = None }
+abbrev pub position : Version → Stage → Before
+position told stage = record { version = version_at told stage; count = count_at stage; last = last_at stage }
 
 -- what stands between this place and the next entry
-abbrev pub opening : Stage → List ℕ
-opening Header = header
-opening _ = []
+abbrev pub opening : Version → Stage → List ℕ
+opening told Header = header_in told
+opening told _ = []
+
+-- the next entry, behind that
+abbrev pub next_bytes : Version → Stage → Fact → List ℕ
+next_bytes told stage f = opening told stage ++ entry_in (version_at told stage) f
+
+-- or the end
+abbrev pub end_bytes : Version → Stage → List ℕ
+end_bytes told stage = opening told stage ++ end (count_at stage)
 
 abbrev pub or_else : Option ReadFault → Option ReadFault → Option ReadFault
 or_else None second = second
@@ -47,45 +73,57 @@ or_else (Some f) second = Some f
 
 -- the fault of the bytes that are left, up to the next entry
 abbrev pub fault_from : Stage → ℕ → List ℕ → Option ReadFault
-fault_from Header limit bytes = or_else (header_fault bytes) (next_fault (position Header) limit (drop 6 bytes))
-fault_from stage limit bytes = next_fault (position stage) limit bytes
+fault_from Header limit bytes = or_else (header_fault bytes) (next_fault (position (version_in bytes) Header) limit (drop 6 bytes))
+fault_from stage limit bytes = next_fault (position (version_in bytes) stage) limit bytes
 
 -- the next entry was given, and no byte past it was read
 pub record GivesEntry (limit : ℕ) (old new : Stage) (left after : Option (List ℕ)) (f : Fact) : Type 0 where
+  pub told : Version
   pub open_before : IsTrue (is_open old)
-  pub valid : IsFact f
-  pub in_order : IsTrue (is_after (position old).last (address f))
-  pub within : (position old).count < limit
-  pub goes_on : new ≡ Entries ((position old).count + 1) (Some (address f))
-  pub bytes : Consumes left after (opening old ++ entry f)
+  pub valid : IsFactIn (version_at told old) f
+  pub in_order : IsTrue (is_after (last_at old) (address f))
+  pub within : count_at old < limit
+  pub goes_on : new ≡ Entries (version_at told old) (count_at old + 1) (Some (address f))
+  pub bytes : Consumes left after (next_bytes told old f)
 
 -- the end was read, now or before
 pub record GivesEnd (old new : Stage) (left after : Option (List ℕ)) : Type 0 where
+  pub told : Version
   pub ended : new ≡ Ended
-  pub bytes : ((old ≡ Ended) × Keeps left after) ⊎ (IsTrue (is_open old) × Consumes left after (opening old ++ end (position old).count) × IsAtEnd after)
+  pub bytes : ((old ≡ Ended) × Keeps left after) ⊎ (IsTrue (is_open old) × Consumes left after (end_bytes told old) × IsAtEnd after)
 
 -- What a failed call has read: no more bytes than stand before the next entry, or all these and nothing behind a whole entry.
-pub data IsPart (old : Stage) (part : List ℕ) : Type 0 where
-  in_opening : length part ≤ length (opening old) → IsPart old part
-  in_entry : (more : List ℕ) → part ≡ opening old ++ more → IsWithin entry IsFact more → IsPart old part
+pub data IsPart (told : Version) (old : Stage) (part : List ℕ) : Type 0 where
+  in_opening : length part ≤ length (opening told old) → IsPart told old part
+  in_entry : (more : List ℕ) → part ≡ opening told old ++ more
+      → IsWithin (entry_in (version_at told old)) (IsFactIn (version_at told old)) more → IsPart told old part
+
+-- the bytes that were left have this fault, if a header that was still to be read told this version
+pub record IsAtFault (told : Version) (limit : ℕ) (old : Stage) (left after : Option (List ℕ)) (f : ReadFault) : Type 0 where
+  pub fault : IsFaultUpTo (end_bytes told old) (fault_from old limit) left after f
+  pub part : List ℕ
+  pub read : Consumes left after part
+  pub is_part : IsPart told old part
 
 -- a fault was found, now or before
 pub record GivesFault (limit : ℕ) (old new : Stage) (left after : Option (List ℕ)) (f : ReadFault) : Type 0 where
+  pub told : Version
   pub stays : new ≡ Failed f
-  pub found : ((old ≡ Failed f) × Keeps left after) ⊎ (IsTrue (is_open old) × IsFaultUpTo (opening old ++ end (position old).count) (fault_from old limit) left after f × ((part : List ℕ) × Consumes left after part × IsPart old part))
+  pub found : ((old ≡ Failed f) × Keeps left after) ⊎ (IsTrue (is_open old) × IsAtFault told limit old left after f)
 
 -- reading on from an open stage: the next entry, the end, or a fault
-abbrev pub ReadsFrom : ℕ → Stage → Option (List ℕ) → Option (List ℕ) → Result (Option Fact) ReadFault → Type 0
-ReadsFrom limit old left after (Ok (Some f)) =
-    IsFact f × IsTrue (is_after (position old).last (address f)) × ((position old).count < limit) × Consumes left after (opening old ++ entry f)
-ReadsFrom limit old left after (Ok None) = Consumes left after (opening old ++ end (position old).count) × IsAtEnd after
-ReadsFrom limit old left after (Err f) = IsFaultUpTo (opening old ++ end (position old).count) (fault_from old limit) left after f × ((part : List ℕ) × Consumes left after part × IsPart old part)
+abbrev pub ReadsFrom : Version → ℕ → Stage → Option (List ℕ) → Option (List ℕ) → Result (Option Fact) ReadFault → Type 0
+ReadsFrom told limit old left after (Ok (Some f)) =
+    IsFactIn (version_at told old) f × IsTrue (is_after (last_at old) (address f)) × (count_at old < limit)
+    × Consumes left after (next_bytes told old f)
+ReadsFrom told limit old left after (Ok None) = Consumes left after (end_bytes told old) × IsAtEnd after
+ReadsFrom told limit old left after (Err f) = IsAtFault told limit old left after f
 
--- where a reader stands behind what it gave, if so many entries stood before
-abbrev pub stage_behind : ℕ → Result (Option Fact) ReadFault → Stage
-stage_behind count (Ok (Some f)) = Entries (count + 1) (Some (address f))
-stage_behind count (Ok None) = Ended
-stage_behind count (Err f) = Failed f
+-- where a reader stands behind what it gave, if so many entries of this version stood before
+abbrev pub stage_behind : Version → ℕ → Result (Option Fact) ReadFault → Stage
+stage_behind version count (Ok (Some f)) = Entries version (count + 1) (Some (address f))
+stage_behind version count (Ok None) = Ended
+stage_behind version count (Err f) = Failed f
 
 abbrev pub Gives : ℕ → Stage → Stage → Option (List ℕ) → Option (List ℕ) → Result (Option Fact) ReadFault → Type 0
 Gives limit old new left after (Ok (Some f)) = GivesEntry limit old new left after f

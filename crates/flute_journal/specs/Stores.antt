@@ -1,6 +1,5 @@
 -- What stores are written as, and what they are read from.
 use Rattle.std.specs.Prelude.{◌≡◌, ℕ, List, ◌++◌, Option, ⊤, Result, Err, IfSome}
-use Rattle.std.specs.List.{flat_map}
 use Rattle.flute_join.specs.declared.refusal.JoinRefusal.{JoinRefusal}
 use Rattle.flute_join.specs.declared.refusal.JoinRefusal.TheVariants as join
 use Rattle.flute_parts.specs.Facts.{Same}
@@ -8,7 +7,7 @@ use Rattle.flute_parts.specs.Limits.{Over}
 use Rattle.flute_parts.specs.declared.fact.Fact.{Fact}
 use Rattle.flute_journal.specs.declared.fault.LoadFault.{LoadFault}
 use Rattle.flute_journal.specs.declared.fault.LoadFault.TheVariants.{Read, Full, OutOfMemory}
-use Rattle.flute_journal.specs.Format.{header, entry}
+use Rattle.flute_journal.specs.Format.{front_in}
 use Rattle.flute_journal.specs.Input.{Fails}
 use Rattle.flute_journal.specs.Journal.{AreEntries, IsJournalWithin}
 use Rattle.flute_journal.specs.Whole.{StopsAfter}
@@ -21,7 +20,7 @@ IsJournalOf limit bytes facts = (entries : List Fact) × IsJournalWithin limit b
 pub record BeginsWith (limit : ℕ) (bytes : List ℕ) (entries : List Fact) : Type 0 where
   pub are_entries : AreEntries limit entries
   pub rest : List ℕ
-  pub whole : bytes ≡ header ++ flat_map entry entries ++ rest
+  pub whole : bytes ≡ front_in are_entries.version entries ++ rest
 
 -- the bytes begin with entries that pass the limits of a store
 abbrev pub BeginsOver : ℕ → ℕ → ℕ → ℕ → List ℕ → Type 0

@@ -11,7 +11,7 @@ use Rattle.flute_journal.specs.declared.merging.Joined.{Joined}
 use Rattle.flute_journal.specs.declared.streams_fault.StreamsFault.{StreamsFault}
 use Rattle.flute_journal.specs.declared.streams_fault.StreamsFault.TheVariants.{Input, Write}
 use Rattle.flute_journal.specs.Format.{spelling}
-use Rattle.flute_journal.specs.Journal.{Collects, Journal}
+use Rattle.flute_journal.specs.Journal.{Collects, Journal, IsJournal}
 use Rattle.flute_journal.specs.JournalWriters.{Written}
 use Rattle.flute_journal.specs.Merges.{IsProperPrefix, written_up_to}
 use Rattle.flute_journal.specs.Streams.{Behaviour, Gave}
@@ -53,11 +53,11 @@ abbrev pub BeginWith : StreamsFault → List ℕ → List Fact → Type 0
 BeginWith Write bytes entries = (rest : List ℕ) × (bytes ≡ written_up_to entries ++ rest)
 BeginWith (Input fault) bytes entries = bytes ≡ written_up_to entries
 
--- what was appended is the journal of nothing
+-- what was appended is the journal of nothing, in any version
 pub record AppendsNoJournal (old new : Option (List ℕ)) : Type 0 where
   pub bytes : List ℕ
   pub appended : Appends old new bytes
-  pub no_journal : (facts : List Fact) → Journal bytes facts → ⊥
+  pub no_journal : (facts : List Fact) → IsJournal bytes facts → ⊥
 
 module _ {S : Type 0} (b : Behaviour S) where
   -- no input failed
@@ -101,12 +101,12 @@ module _ {S : Type 0} (b : Behaviour S) where
     pub written : Written joined.cut old new (spelling entries)
     pub as_others : (others : List Fact) → SameMembers (all_of told) others → (bytes : List ℕ) → Journal bytes others → Written joined.cut old new bytes
 
-  -- What was appended is the journal of nothing. Where all the facts of each input are known, it is a first part of the journal of all of
-  -- them, and not all of it.
+  -- What was appended is the journal of nothing, in any version. Where all the facts of each input are known, it is
+  -- a first part of the journal of all of them, and not all of it.
   pub record AppendsPartOf (inputs : List S) (old new : Option (List ℕ)) : Type 0 where
     pub bytes : List ℕ
     pub appended : Appends old new bytes
-    pub no_journal : (facts : List Fact) → Journal bytes facts → ⊥
+    pub no_journal : (facts : List Fact) → IsJournal bytes facts → ⊥
     pub prefix : (known : List (List Fact)) → Each b.knows inputs known → (whole : List ℕ) → Journal whole (all_of known) → IsProperPrefix bytes whole
 
   -- Of each input these facts were read, and at most one more; what they come to was appended.

@@ -1,13 +1,12 @@
 -- A journal that is read whole, or up to a fault.
 use Rattle.std.specs.Prelude.{◌≡◌, ℕ, ◌≤◌, ◌⊎◌, List, [], ◌++◌, length, Option, ⊤, IfSome}
-use Rattle.std.specs.List.{flat_map}
 use Rattle.std.specs.Io.KnownBytes.{Consumes}
 use Rattle.flute_parts.specs.declared.fact.Fact.{Fact}
 use Rattle.flute_journal.specs.declared.fault.ReadFault.{ReadFault}
 use Rattle.flute_journal.specs.declared.fault.ReadFault.TheVariants as faults
-use Rattle.flute_journal.specs.Format.{header, entry}
+use Rattle.flute_journal.specs.Format.{header, entry_in, front_in}
 use Rattle.flute_journal.specs.Input.{IsWithin}
-use Rattle.flute_journal.specs.Journal.{IsFact, AreEntries, IsJournalWithin, Stops}
+use Rattle.flute_journal.specs.Journal.{IsFactIn, AreEntries, IsJournalWithin, Stops}
 
 -- the bytes that were left stop at this fault, if it is one of theirs
 abbrev pub HasFault : ℕ → Option (List ℕ) → ReadFault → Type 0
@@ -18,7 +17,8 @@ HasFault limit old f = IfSome old (λ bytes. (entries : List Fact) × Stops byte
 -- of a journal these entries were read, at most so many, and of what follows no byte behind one more; or no more bytes than the header has
 pub data ReadsPart (limit : ℕ) (old new : Option (List ℕ)) (entries : List Fact) : Type 0 where
   in_header : entries ≡ [] → (part : List ℕ) → Consumes old new part → length part ≤ length header → ReadsPart limit old new entries
-  behind : AreEntries limit entries → (more : List ℕ) → Consumes old new (header ++ flat_map entry entries ++ more) → IsWithin entry IsFact more → ReadsPart limit old new entries
+  behind : (a : AreEntries limit entries) → (more : List ℕ) → Consumes old new (front_in a.version entries ++ more)
+      → IsWithin (entry_in a.version) (IsFactIn a.version) more → ReadsPart limit old new entries
 
 -- Reading stopped behind these entries: they are those before the fault of the bytes. Where the source failed, the bytes that
 -- were read are cut behind them, or are the whole journal of them; where memory ran out, they were read.

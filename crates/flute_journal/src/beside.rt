@@ -20,7 +20,7 @@ impl<A, S: Stream> Stream for Beside<A, S> {
         self.stream.head()
     }
 
-    #[tactic(auto, using(crate::proofs::BesideFacts::ok_beside, crate::proofs::BesideFacts::err_beside))]
+    #[tactic(auto, using(crate::proofs::BesideFacts::goings_beside))]
     fn advance(&mut self, alloc: Global) -> Result<(), LoadFault> {
         self.stream.advance(alloc)
     }

@@ -63,8 +63,8 @@ impl<'a, R: Source> DatagramReader<'a, R> {
     /// The next datagram, of 0 to 65,535 bytes, whatever they say. None once the input ends between
     /// two records, and from then on.
     ///
-    /// A record that lies whole in the source's buffer is looked at there, and another is read
-    /// field by field. The bytes of the datagram are the only memory that is taken.
+    /// A record behind the first that lies whole in the source's buffer is looked at there; any
+    /// other is read field by field. The bytes of the datagram are the only memory that is taken.
     ///
     /// # Errors
     ///
@@ -94,9 +94,11 @@ impl<'a, R: Source> DatagramReader<'a, R> {
         self.next_with(alloc, Vec::new(alloc))
     }
 
-    /// The same, but the bytes of the datagram are put into the memory of `spare`, where that serves:
-    /// a caller that lets go of each datagram before it reads the next hands its vector on.
-    #[tactic(auto, using(crate::proofs::FileCalls::gives_of_file_at, crate::proofs::FileCalls::reads_record))]
+    /// The same, but the bytes of a datagram that is looked at in the source's buffer are put into
+    /// the memory of `spare`: a caller that lets go of each datagram before it reads the next hands
+    /// its vector on, and memory is taken only where that is too small, or for a datagram that is
+    /// read field by field.
+    #[tactic(auto, using(crate::proofs::FileCalls::gives_next))]
     #[inline(always)]
     pub fn next_with(
         &mut self,
@@ -159,8 +161,8 @@ fn read_header<R: Source>(source: &mut R) -> Result<(), ReadFault>
     front.told(check_opening(&FILE_HEADER, front.bytes))
 }
 
-// Reads the next record behind so many, if a byte follows. A file may have `max_records`. The bytes of the datagram
-// are put into the memory of `spare`, where that serves.
+// Reads the next record behind so many, if a byte follows. A file may have `max_records`. The bytes
+// of a datagram that is looked at in the source's buffer are put into the memory of `spare`.
 #[inline(always)]
 fn read_record<R: Source>(
     alloc: Global,
@@ -185,7 +187,7 @@ fn read_record<R: Source>(
     read_fields(alloc, source, max_records, count)
 }
 
-// The same, field by field.
+// The same, field by field, and into memory of its own.
 #[tactic(auto, using(crate::proofs::Records::record_reads))]
 #[inline(never)]
 fn read_fields<R: Source>(

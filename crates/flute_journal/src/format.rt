@@ -1,25 +1,27 @@
 //! How the header, the entries and the end of a journal are spelled. Nothing outside this module
 //! knows an entry's bytes.
-ghost use Rattle.std.specs.Prelude.{◌≡◌, false, MatchOption};
+ghost use Rattle.std.specs.Prelude.{◌≡◌, ◌≤◌, false, MatchOption};
 ghost use Rattle.flute_journal.specs.Faults.{is_kind};
 ghost use Rattle.flute_journal.specs.Parsing.{byte_of, fixed_size};
 
 mod decode;
 mod encode;
 pub mod number;
+mod version;
 
-pub use decode::{check_end, check_opening, parse};
+pub use decode::{check_end, check_header, check_opening, parse, symbol_in};
 pub use encode::{Head, end_of, head_of, symbol_of};
 use flute_parts::{Fact, Key, SymbolId};
+pub use version::Version;
 
-/// The bytes of the header: `FLJN`, and the version.
-pub const HEADER: [u8; 6] = *b"FLJN\x00\x01";
+/// The bytes of the header that is written: `FLJN`, and version 2.
+pub const HEADER: [u8; 6] = *b"FLJN\x00\x02";
 
 /// The byte that begins the end.
 pub const END: u8 = 255;
 
 /// The most bytes that follow the kind of an entry, up to those of a symbol.
-pub const LONGEST: usize = 33;
+pub const LONGEST: usize = 49;
 
 /// What an entry tells.
 #[derive(Clone, Copy, PartialEq, Eq)]
@@ -57,15 +59,17 @@ impl Kind {
         }
     }
 
-    /// How many bytes follow the kind, up to those of a symbol.
-    pub fn fixed_size(self) -> usize
-        ensures { result ≡ fixed_size self }
+    /// How many bytes follow the kind in a journal of this version, up to those of a symbol.
+    pub fn fixed_size(self, version: Version) -> usize
+        ensures size { result ≡ fixed_size version self }
+        ensures most { result ≤ 49 }
     {
-        match self {
+        let size = match self {
             Kind::Info => 33,
             Kind::InfoConflict => 21,
             Kind::Symbol => 27,
             Kind::SymbolConflict => 25,
-        }
+        };
+        version.sender_size() + size
     }
 }

@@ -89,8 +89,8 @@ pub fn fill<R: Source>(source: &mut R, buffer: &mut [u8]) -> Result<usize, ReadF
     }
 }
 
-// Reads until the buffer is full, up to the end of the input, or until the source fails. Answers how many bytes were
-// read, and whether the source failed.
+// Reads until the buffer is full, up to the end of the input, or until the source fails. Answers
+// how many bytes were read, and whether the source failed.
 fn fill_front<R: Source>(source: &mut R, buffer: &mut [u8]) -> (usize, bool)
     ensures filled { Fronts (R.unread source.old) (R.unread source.new) (length buffer.new) result.1
         (take result.0 buffer.new) }

@@ -1,60 +1,78 @@
 //! Laws of the definitions: each is the contract of a function that does nothing.
 ghost use Rattle.std.specs.Prelude.{◌≡◌, ◌≢◌, ℕ, ◌+◌, ◌<◌, ◌≤◌, ◌^◌, ◌↔◌, ◌⊎◌, List, [], ◌∷◌, ◌++◌, length, Option, IfSome};
-ghost use Rattle.std.specs.List.{flat_map, AllByRecursion};
+ghost use Rattle.std.specs.List.{AllByRecursion};
+ghost use Rattle.flute_parts.specs.Addresses.{address};
 ghost use Rattle.flute_parts.specs.Facts.{Same, Below, IsRising};
 ghost use Rattle.flute_parts.specs.declared.fact.Fact.{Fact};
 ghost use Rattle.flute_journal.specs.declared.fault.ReadFault.{ReadFault as Fault};
-ghost use Rattle.flute_journal.specs.Format.{header, entry, spelling};
-ghost use Rattle.flute_journal.specs.Journal.{IsByte, IsFact, Collects, Journal, Stops, IsJournalWithin};
+ghost use Rattle.flute_journal.specs.Format.{entry_in, spelling_in};
+ghost use Rattle.flute_journal.specs.Journal.{IsByte, IsFact, IsFactIn, Collects, JournalIn, IsJournal, Stops, IsJournalWithin};
+ghost use Rattle.flute_journal.specs.declared.format.version.Version.{Version};
+ghost use Rattle.flute_journal.specs.declared.format.version.Version.TheVariants.{One, Two};
 ghost use Rattle.flute_journal.specs.StreamMerges.{Each, all_of};
-ghost use Rattle.flute_journal.specs.Stores.{IsJournalOf};
+ghost use Rattle.flute_journal.specs.Stores.{BeginsWith, IsJournalOf};
 ghost use Rattle.flute_journal.specs.declared.fault.ReadFault.TheVariants as faults;
 ghost use Rattle.flute_journal.specs.Records.{IsFileOf, IsFileWithin, FileStops, GivesRecord, GivesNone, GivesFileFault, HasFileFault};
 ghost use Rattle.flute_journal.specs.FilesSoFar.{FileSofar};
 ghost use Rattle.flute_journal.specs.declared.datagram_reader.FileStage.{FileStage};
 ghost use Rattle.flute_journal.specs.declared.datagram_reader.FileStage.TheVariants as FileStages;
 
-/// What an entry spells is read in one way, whatever follows it.
+/// What an entry spells is read in one way, whatever follows it, in each version.
 #[tactic(auto, using(crate::proofs::Entries::entry_injective))]
 pub fn entry_has_one_reading()
-    ensures { (f g : Fact) (x y : List ℕ) → IsFact f → IsFact g
-        → entry f ++ x ≡ entry g ++ y → (f ≡ g) × (x ≡ y) }
+    ensures { (v : Version) (f g : Fact) (x y : List ℕ) → IsFactIn v f → IsFactIn v g
+        → entry_in v f ++ x ≡ entry_in v g ++ y → (f ≡ g) × (x ≡ y) }
 {}
 
-/// Journals are equal exactly where their facts come to the same at each address.
+/// Every fact is spelled in the version that is written, and in version 1 exactly where its sender
+/// is 0.
+pub fn every_fact_has_an_entry()
+    ensures written { (f : Fact) → IsFact f → IsFactIn Two f }
+    ensures old { (f : Fact) → IsFact f
+        → IsFactIn One f ↔ ((address f).key.session.sender ≡ 0) }
+{}
+
+/// Journals of one version are equal exactly where their facts come to the same at each address.
 pub fn one_journal_for_one_content()
-    ensures { (bs cs : List ℕ) (F G : List Fact) → Journal bs F → Journal cs G
+    ensures { (v : Version) (bs cs : List ℕ) (F G : List Fact) → JournalIn v bs F → JournalIn v cs G
         → (bs ≡ cs) ↔ Same F G }
+{}
+
+/// No bytes are a journal of two versions.
+pub fn a_journal_has_one_version()
+    ensures { (v w : Version) (bs : List ℕ) (F G : List Fact) → JournalIn v bs F → JournalIn w bs G
+        → v ≡ w }
 {}
 
 /// Merging what merges wrote is merging all at once: where the facts of each group were joined into
 /// entries, the journal of all these entries is the journal of the facts of all groups.
 pub fn merging_merged_is_merging_all()
-    ensures { (groups joined : List (List Fact)) → Each Collects groups joined
-        → (bytes : List ℕ) → Journal bytes (all_of joined) ↔ Journal bytes (all_of groups) }
+    ensures { (v : Version) (groups joined : List (List Fact)) → Each Collects groups joined
+        → (bytes : List ℕ) → JournalIn v bytes (all_of joined)
+        ↔ JournalIn v bytes (all_of groups) }
 {}
 
-/// No journal is a proper prefix of another.
+/// No journal is a proper prefix of another, of whatever versions they are.
 pub fn no_journal_begins_another()
-    ensures { (bs more : List ℕ) (F G : List Fact) → Journal bs F
-        → Journal (bs ++ more) G → more ≡ [] }
+    ensures { (bs more : List ℕ) (F G : List Fact) → IsJournal bs F → IsJournal (bs ++ more) G
+        → more ≡ [] }
 {}
 
 /// Lists with one journal come to the same at each address.
 pub fn a_journal_has_one_content()
-    ensures { (bs : List ℕ) (F G : List Fact) → Journal bs F → Journal bs G → Same F G }
+    ensures { (bs : List ℕ) (F G : List Fact) → IsJournal bs F → IsJournal bs G → Same F G }
 {}
 
-/// A journal within a bound is the journal of the facts that its entries are.
+/// A journal within a bound is a journal of the facts that its entries are.
 pub fn a_journal_within_a_bound_is_one()
     ensures { (bs : List ℕ) (limit : ℕ) (F : List Fact) → limit < 2 ^ 64
-        → IsJournalOf limit bs F → Journal bs F }
+        → IsJournalOf limit bs F → IsJournal bs F }
 {}
 
 /// A journal stops nowhere but behind more entries than the bound.
 pub fn a_journal_stops_at_the_bound()
-    ensures { (bs : List ℕ) (F es : List Fact) (limit : ℕ) (f : Fault)
-        → Journal bs F → Stops bs limit es f
+    ensures { (bs : List ℕ) (F es : List Fact) (limit : ℕ) (f : Fault) → IsJournal bs F
+        → Stops bs limit es f
         → (f ≡ faults.TooMany) × ((all : List Fact) × IsJournalWithin (length all) bs all
         × (limit < length all)) }
 {}
@@ -73,15 +91,15 @@ pub fn bytes_stop_once()
 
 /// The entries that a journal begins with tell nothing more than its facts.
 pub fn first_entries_are_below()
-    ensures { (bs : List ℕ) (F es : List Fact) (rest : List ℕ) → Journal bs F
-        → AllByRecursion IsFact es → bs ≡ header ++ flat_map entry es ++ rest → Below es F }
+    ensures { (bs : List ℕ) (F es : List Fact) (limit : ℕ) → IsJournal bs F
+        → BeginsWith limit bs es → Below es F }
 {}
 
 /// Rising facts that come to the same at each address are spelled alike.
 #[tactic(auto, using(flute_parts::proofs::Rising::rising_unique))]
 pub fn rising_facts_have_one_spelling()
-    ensures { (es fs : List Fact) → IsRising es → IsRising fs → Same es fs
-        → spelling es ≡ spelling fs }
+    ensures { (v : Version) (es fs : List Fact) → IsRising es → IsRising fs → Same es fs
+        → spelling_in v es ≡ spelling_in v fs }
 {}
 
 /// Bytes are a journal within the bound, or they stop at a fault.

@@ -116,7 +116,7 @@ impl Lead {
     }
 
     // Looks whether the stream with this number leads.
-    #[tactic(auto, using(crate::proofs::LeadFacts::firsts_more, crate::proofs::LeadFacts::firsts_passed))]
+    #[tactic(auto, using(crate::proofs::LeadFacts::firsts))]
     #[inline(always)]
     fn look<G: Streams>(&mut self, streams: &G, number: usize)
         requires { number < length (G.streams streams.now) }
@@ -139,7 +139,7 @@ impl Lead {
     }
 }
 
-// Whether a stream that holds this stands below an address. Where there is no address, anything does.
+// Whether a stream that holds this stands below an address. Where there is none, anything does.
 #[inline(always)]
 fn is_below(head: &Option<FactRef<'_>>, next: &Option<Address>) -> bool
     ensures { result ≡ true → IsBelow (fact_in head.now) next.now }

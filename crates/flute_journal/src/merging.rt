@@ -77,10 +77,10 @@ pub fn merge_all<const SESSIONS: u32, const OBJECTS: u32, const SYMBOLS: u32, G:
     merge_into::<SESSIONS, OBJECTS, SYMBOLS, _, _>(alloc, streams, &mut writer, false)
 }
 
-/// Appends the journal of all that streams tell, as `merge_all` does, but goes on where the sink has
-/// failed: each stream is read to its end all the same, and what is told of them is told whatever
-/// became of the sink. The end is left out where all the streams together are over the limits:
-/// what was appended is then no journal of anything.
+/// Appends the journal of all that streams tell, as `merge_all` does, but goes on where the sink
+/// has failed: each stream is read to its end all the same, and what is told of them is told
+/// whatever became of the sink. The end is left out where all the streams together are over the
+/// limits: what was appended is then no journal of anything.
 ///
 /// # Errors
 ///
@@ -121,8 +121,8 @@ pub fn join_streams<
     }
 }
 
-// Merges streams into what a writer writes. It stops where that has failed, unless it is patient: it then leaves out the end where
-// the streams together are over the limits.
+// Merges streams into what a writer writes. It stops where that has failed, unless it is patient:
+// it then leaves out the end where the streams together are over the limits.
 #[tactic(auto, using(crate::proofs::StreamStates::turns))]
 fn merge_into<const SESSIONS: u32, const OBJECTS: u32, const SYMBOLS: u32, G: Streams, W: Sink>(
     alloc: Global,

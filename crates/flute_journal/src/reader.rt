@@ -2,9 +2,10 @@
 ghost use Rattle.std.specs.Prelude.{◌≡◌, ℕ, ◌+◌, ◌<◌, ◌^◌, IfOk, IfSome, Some, None};
 ghost use Rattle.flute_journal.specs.Input.{Fails, FailsIf};
 ghost use Rattle.flute_journal.specs.Readers.{source_of, limit_of, stage_of};
-ghost use Rattle.flute_journal.specs.Reading.{Gives, ReadsFrom, is_open, stage_behind};
+ghost use Rattle.flute_journal.specs.Reading.{Gives, is_open, stage_behind};
 
 use crate::fault::ReadFault;
+use crate::format::Version;
 use crate::lent::take_entry;
 use crate::reading::{read_entry, read_header};
 use flute_parts::{Address, Fact, Source};
@@ -17,6 +18,8 @@ pub enum Stage {
     Header,
     /// Behind whole entries.
     Entries {
+        /// The version of the journal.
+        version: Version,
         /// How many there are.
         count: u64,
         /// The address of the last.
@@ -54,9 +57,9 @@ impl<'a, R: Source> JournalReader<'a, R> {
 
     /// The next entry. None once the end was read and nothing follows it, and from then on.
     ///
-    /// An entry that lies whole in the source's buffer is looked at there, and another is
-    /// read field by field. No byte past it is taken. The bytes of a symbol are the only
-    /// memory that is asked for.
+    /// The entry of a symbol, behind the first entry, is looked at in the source's buffer where it
+    /// lies whole there; any other is read field by field. No byte past it is taken. The bytes of a
+    /// symbol are the only memory that is asked for.
     ///
     /// # Errors
     ///
@@ -91,9 +94,10 @@ impl<'a, R: Source> JournalReader<'a, R> {
         self.next_with(alloc, Vec::new(alloc))
     }
 
-    /// The same, but the bytes of a symbol are put into the memory of `spare`, where that serves: a
-    /// caller that lets go of each entry before it reads the next hands its vector on, and no
-    /// memory is taken but where a symbol is longer than all before it.
+    /// The same, but the bytes of a symbol that is looked at in the source's buffer are put into
+    /// the memory of `spare`: a caller that lets go of each entry before it reads the next hands
+    /// its vector on, and memory is taken only where that is too small, or for a symbol that is
+    /// read field by field.
     #[inline(always)]
     pub fn next_with(&mut self, alloc: Global, spare: Vec<u8>) -> Result<Option<Fact>, ReadFault>
         ensures source { (source_of self.new).ghost_name ≡ (source_of self.old).ghost_name }
@@ -122,61 +126,94 @@ pub(crate) fn read_at<R: Source>(
     ensures failures { FailsIf (is_open stage.old)
         (R.failures source.old) (R.failures source.new) result }
 {
+    if let Stage::Entries {
+        version,
+        count,
+        last,
+    } = stage
+    {
+        if *count < max_entries {
+            match take_entry(source, *version, last, spare) {
+                Ok(Some(fact)) => {
+                    *count += 1;
+                    *last = Some(fact.address());
+                    return Ok(Some(fact));
+                }
+                Ok(None) => {}
+                Err(fault) => {
+                    *stage = Stage::Failed(fault);
+                    return Err(fault);
+                }
+            }
+        }
+    }
+    read_fields(alloc, source, max_entries, stage)
+}
+
+// The same, but what stands there is read field by field.
+#[tactic(auto, using(crate::proofs::Calls::gives, crate::proofs::Calls::reads_entries))]
+#[inline(never)]
+fn read_fields<R: Source>(
+    alloc: Global,
+    source: &mut R,
+    max_entries: u64,
+    stage: &mut Stage,
+) -> Result<Option<Fact>, ReadFault>
+    ensures gives { Gives max_entries stage.old stage.new
+        (R.unread source.old) (R.unread source.new) result }
+    ensures failures { FailsIf (is_open stage.old)
+        (R.failures source.old) (R.failures source.new) result }
+{
     match *stage {
         Stage::Ended => Ok(None),
         Stage::Failed(fault) => Err(fault),
-        Stage::Header => {
-            let given = read_first(alloc, source, max_entries);
-            *stage = stage_behind(0, &given);
-            given
-        }
-        Stage::Entries { count, last } => {
-            if count < max_entries {
-                match take_entry(source, &last, spare) {
-                    Ok(Some(fact)) => {
-                        *stage = Stage::Entries {
-                            count: count + 1,
-                            last: Some(fact.address()),
-                        };
-                        return Ok(Some(fact));
-                    }
-                    Ok(None) => {}
-                    Err(fault) => {
-                        *stage = Stage::Failed(fault);
-                        return Err(fault);
-                    }
-                }
-            }
-            let given = read_entry(alloc, source, max_entries, count, last);
-            *stage = stage_behind(count, &given);
+        Stage::Header => read_first(alloc, source, max_entries, stage),
+        Stage::Entries {
+            version,
+            count,
+            last,
+        } => {
+            let given = read_entry(alloc, source, max_entries, version, count, last);
+            *stage = stage_behind(version, count, &given);
             given
         }
     }
 }
 
-// Reads the header, and then the first entry or the end.
-#[tactic(auto, using(crate::proofs::Calls::reads_first))]
+// Reads the header, and then the first entry or the end, and puts into `stage` where the reader
+// stands then.
 #[inline(never)]
 fn read_first<R: Source>(
     alloc: Global,
     source: &mut R,
     max_entries: u64,
+    stage: &mut Stage,
 ) -> Result<Option<Fact>, ReadFault>
-    ensures reads { ReadsFrom max_entries Stage.Header (R.unread source.old)
+    ensures gives { Gives max_entries Stage.Header stage.new (R.unread source.old)
         (R.unread source.new) result }
     ensures failures { Fails (R.failures source.old) (R.failures source.new) result }
 {
-    read_header(source)?;
-    read_entry(alloc, source, max_entries, 0, None)
+    match read_header(source) {
+        Ok(version) => {
+            let given = read_entry(alloc, source, max_entries, version, 0, None);
+            *stage = stage_behind(version, 0, &given);
+            given
+        }
+        Err(fault) => {
+            *stage = Stage::Failed(fault);
+            Err(fault)
+        }
+    }
 }
 
-// Where a reader stands behind what it gave, if so many entries stood before.
-fn stage_behind(count: u64, given: &Result<Option<Fact>, ReadFault>) -> Stage
+// Where a reader stands behind what it gave, if so many entries of this version stood before.
+fn stage_behind(version: Version, count: u64, given: &Result<Option<Fact>, ReadFault>) -> Stage
     requires { IfOk given.now (λ o. IfSome o (λ _. count + 1 < 2 ^ 64)) }
-    ensures { result ≡ stage_behind count given.now }
+    ensures { result ≡ stage_behind version count given.now }
 {
     match given {
         Ok(Some(fact)) => Stage::Entries {
+            version,
             count: count + 1,
             last: Some(fact.address()),
         },

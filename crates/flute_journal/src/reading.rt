@@ -4,23 +4,23 @@ ghost use Rattle.std.specs.Io.KnownBytes.{Consumes, IsAtEnd};
 ghost use Rattle.std.specs.List.{AllByRecursion};
 ghost use Rattle.flute_journal.specs.Input.{Advances, Fails, Reads, StaysWithin};
 ghost use Rattle.flute_journal.specs.Numbers.{in_bytes};
-ghost use Rattle.flute_journal.specs.Format.{header, body, entry};
+ghost use Rattle.flute_journal.specs.Format.{header_in, body, entry_in};
 ghost use Rattle.flute_journal.specs.Faults.{header_fault};
-ghost use Rattle.flute_journal.specs.Journal.{IsByte, IsFact};
-ghost use Rattle.flute_journal.specs.Parsing.{at_place, fixed_size, fixed_bytes, FixedIs, BodyIs, IsBody, body_fault, cut_fault, end_fault};
+ghost use Rattle.flute_journal.specs.Journal.{IsByte, IsFactIn};
+ghost use Rattle.flute_journal.specs.Parsing.{at_place, fixed_size, fixed_bytes, FixedIn, BodyIn, IsBody, body_fault, cut_fault, end_fault};
 ghost use Rattle.flute_journal.specs.Reading.{ReadsNext, ReadsEnd};
 ghost use Rattle.flute_journal.specs.declared.fault.ReadFault.TheVariants.{OutOfMemory};
 
 use crate::fault::ReadFault;
-use crate::format::{END, Fixed, HEADER, Kind, LONGEST, check_end, check_opening, parse};
+use crate::format::{END, Fixed, Kind, LONGEST, Version, check_end, check_header, parse};
 use crate::input::{octets, read_front};
 use flute_parts::{Address, Bytes, Fact, Source};
 use std::alloc::Global;
 
 /// Reads the magic number and the version.
-#[tactic(auto, using(crate::proofs::Fronts::parsed_fails, crate::proofs::Fronts::parsed_memory))]
-pub fn read_header<R: Source>(source: &mut R) -> Result<(), ReadFault>
-    ensures reads { Reads (λ _. header) (λ _. Unit {0}) header_fault (R.unread source.old)
+#[inline(never)]
+pub fn read_header<R: Source>(source: &mut R) -> Result<Version, ReadFault>
+    ensures reads { Reads header_in (λ _. Unit {0}) header_fault (R.unread source.old)
         (R.unread source.new) result }
     ensures advances { Advances (R.unread source.old) (R.unread source.new) 6 }
     ensures memory { IfErr result (λ f. f ≢ OutOfMemory) }
@@ -28,22 +28,24 @@ pub fn read_header<R: Source>(source: &mut R) -> Result<(), ReadFault>
 {
     let mut buffer = [0; 6];
     let front = read_front(source, &mut buffer);
-    front.told(check_opening(&HEADER, front.bytes))
+    front.told(check_header(front.bytes))
 }
 
-/// Reads the next entry, or the end, behind so many entries, of which the last is at `last`, field
-/// by field. A journal may have `max_entries`.
+/// Reads the next entry or the end of a journal of this version, field by field, behind so many
+/// entries, of which the last is at `last`. The journal may have at most `max_entries`.
 #[inline(never)]
 pub fn read_entry<R: Source>(
     alloc: Global,
     source: &mut R,
     max_entries: u64,
+    version: Version,
     count: u64,
     last: Option<Address>,
 ) -> Result<Option<Fact>, ReadFault>
-    ensures reads { ReadsNext max_entries (at_place count last) (R.unread source.old)
+    ensures reads { ReadsNext max_entries (at_place version count last) (R.unread source.old)
         (R.unread source.new) result }
-    ensures within { StaysWithin entry IsFact (R.unread source.old) (R.unread source.new) result }
+    ensures within { StaysWithin (entry_in version) (IsFactIn version) (R.unread source.old)
+        (R.unread source.new) result }
     ensures failures { Fails (R.failures source.old) (R.failures source.new) result }
 {
     let mut buffer = [0; 1];
@@ -61,7 +63,7 @@ pub fn read_entry<R: Source>(
     if count >= max_entries {
         return Err(ReadFault::TooMany);
     }
-    let fact = read_body(alloc, source, kind, last)?;
+    let fact = read_body(alloc, source, version, kind, last)?;
     Ok(Some(fact))
 }
 
@@ -78,20 +80,21 @@ fn read_end<R: Source>(source: &mut R, count: u64) -> Result<(), ReadFault>
 }
 
 // Reads what stands behind the kind of an entry.
-#[tactic(auto, using(std::proofs::lemmas::Result::err_from_is_err_and, crate::proofs::Bodies::symbol_stops))]
+#[tactic(auto, using(crate::proofs::Bodies::body_stopped))]
 fn read_body<R: Source>(
     alloc: Global,
     source: &mut R,
+    version: Version,
     kind: Kind,
     last: Option<Address>,
 ) -> Result<Fact, ReadFault>
-    ensures reads { Reads body (BodyIs last kind) (body_fault last kind) (R.unread source.old)
-        (R.unread source.new) result }
-    ensures within { StaysWithin body (IsBody kind) (R.unread source.old)
+    ensures reads { Reads (body version) (BodyIn version last kind) (body_fault version last kind)
+        (R.unread source.old) (R.unread source.new) result }
+    ensures within { StaysWithin (body version) (IsBody version kind) (R.unread source.old)
         (R.unread source.new) result }
     ensures failures { Fails (R.failures source.old) (R.failures source.new) result }
 {
-    match read_fixed(source, kind, last)? {
+    match read_fixed(source, version, kind, last)? {
         Fixed::Whole(fact) => Ok(fact),
         Fixed::Symbol { key, id, length } => {
             let bytes = read_bytes(alloc, source, length)?;
@@ -104,17 +107,19 @@ fn read_body<R: Source>(
 #[tactic(auto, using(crate::proofs::Fronts::parsed_fails))]
 fn read_fixed<R: Source>(
     source: &mut R,
+    version: Version,
     kind: Kind,
     last: Option<Address>,
 ) -> Result<Fixed, ReadFault>
-    ensures reads { Reads fixed_bytes (FixedIs last kind) (body_fault last kind)
-        (R.unread source.old) (R.unread source.new) result }
-    ensures advances { Advances (R.unread source.old) (R.unread source.new) (fixed_size kind) }
+    ensures reads { Reads (fixed_bytes version) (FixedIn version last kind)
+        (body_fault version last kind) (R.unread source.old) (R.unread source.new) result }
+    ensures advances { Advances (R.unread source.old) (R.unread source.new)
+        (fixed_size version kind) }
     ensures failures { Fails (R.failures source.old) (R.failures source.new) result }
 {
     let mut buffer = [0; LONGEST];
-    let front = read_front(source, &mut buffer[..kind.fixed_size()]);
-    front.told(parse(kind, &last, front.bytes))
+    let front = read_front(source, &mut buffer[..kind.fixed_size(version)]);
+    front.told(parse(version, kind, &last, front.bytes))
 }
 
 // Reads so many bytes of a symbol.

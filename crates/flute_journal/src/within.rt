@@ -60,7 +60,7 @@ impl<const SESSIONS: u32, const OBJECTS: u32, const SYMBOLS: u32, S: Stream> Str
     }
 }
 
-// Counts what a stream holds, and answers whether no limit is passed by it and all that was counted before.
+// Counts what a stream holds, and answers whether it and all counted before pass no limit.
 #[inline(always)]
 fn count_held<const SESSIONS: u32, const OBJECTS: u32, const SYMBOLS: u32>(
     tally: &mut Tally<SESSIONS, OBJECTS, SYMBOLS>,

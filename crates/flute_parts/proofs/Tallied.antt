@@ -1,5 +1,5 @@
 -- Facts at rising addresses, counted one after another.
-use Rattle.std.proofs.Common.{◌≡◌, ℕ, ◌+◌, ◌<◌, ◌≤◌, true, false, List, [], ◌∷◌, ◌++◌, length, map, Option, Some, None, refl, sym, ap, ◌∙◌, subst, inl, inr, ◌&&◌, ◌==◌, arith}
+use Rattle.std.proofs.Common.{◌≡◌, ℕ, ◌+◌, ◌<◌, ◌≤◌, Bool, true, false, List, [], ◌∷◌, ◌++◌, length, map, Option, Some, None, refl, sym, ap, ◌∙◌, subst, inl, inr, ◌&&◌, ◌==◌, arith}
 use Rattle.std.specs.List.{last_or}
 use Rattle.std.specs.declared.cmp.Ordering.TheVariants.{Greater}
 use Rattle.std.specs.Ordering.{is_eq}
@@ -171,26 +171,38 @@ module _ (F : List Fact) (f : Fact) (r : IsRising (F ++ f ∷ [])) where
 
 -- ---- names told apart by their parts
 
-pub session-told : (a b : Session) → true ≡ (a.tsi == b.tsi) → a ≡ b
-session-told a b t = let s = eqb-true a.tsi b.tsi (sym t) in λ i. record { tsi = s i }
+-- the tests of the parts of two sessions
+abbrev same_parts : Session → Session → Bool
+same_parts a b = (a.sender == b.sender) && (a.tsi == b.tsi)
 
-pub session-told_apart : (last : Option Key) (x key : Key) → last ≡ Some x → false ≡ (x.session.tsi == key.session.tsi) → (k : Key) → last ≡ Some k → k.session ≡ key.session → ⊥
+same_parts-itself : (a b : Session) → a ≡ b → same_parts a b ≡ true
+same_parts-itself a b e =
+    both_true (a.sender == b.sender) (a.tsi == b.tsi) (eq-eqb a.sender b.sender (ap (λ (x : Session). x.sender) e)) (eq-eqb a.tsi b.tsi (ap (λ (x : Session). x.tsi) e))
+
+pub session-told : (a b : Session) → true ≡ ((a.sender == b.sender) && (a.tsi == b.tsi)) → a ≡ b
+session-told a b t =
+    let p = both (a.sender == b.sender) (a.tsi == b.tsi) (sym t) in
+    let s = eqb-true a.sender b.sender p.0 in
+    let i = eqb-true a.tsi b.tsi p.1 in
+    λ k. record { sender = s k; tsi = i k }
+
+pub session-told_apart : (last : Option Key) (x key : Key) → last ≡ Some x → false ≡ ((x.session.sender == key.session.sender) && (x.session.tsi == key.session.tsi)) → (k : Key) → last ≡ Some k → k.session ≡ key.session → ⊥
 session-told_apart last x key e t k p q =
-    let s = ap (λ (z : Key). z.session.tsi) (same_Some x k (sym e ∙ p)) ∙ ap (λ (z : Session). z.tsi) q in
-    false≢true (t ∙ eq-eqb x.session.tsi key.session.tsi s)
+    let s = ap (λ (z : Key). z.session) (same_Some x k (sym e ∙ p)) ∙ q in
+    false≢true (t ∙ same_parts-itself x.session key.session s)
 
-pub key-told : (a b : Key) → true ≡ ((a.session.tsi == b.session.tsi) && same_object a.object b.object) → a ≡ b
+pub key-told : (a b : Key) → true ≡ (((a.session.sender == b.session.sender) && (a.session.tsi == b.session.tsi)) && same_object a.object b.object) → a ≡ b
 key-told a b t =
-    let p = both (a.session.tsi == b.session.tsi) (same_object a.object b.object) (sym t) in
+    let p = both (same_parts a.session b.session) (same_object a.object b.object) (sym t) in
     let s = session-told a.session b.session (sym p.0) in
     let o = object_same a.object b.object p.1 in
     λ i. record { session = s i; object = o i }
 
-pub key-told_apart : (a b : Key) → false ≡ ((a.session.tsi == b.session.tsi) && same_object a.object b.object) → a ≡ b → ⊥
+pub key-told_apart : (a b : Key) → false ≡ (((a.session.sender == b.session.sender) && (a.session.tsi == b.session.tsi)) && same_object a.object b.object) → a ≡ b → ⊥
 key-told_apart a b t e =
-    let s : (a.session.tsi == b.session.tsi) ≡ true = eq-eqb a.session.tsi b.session.tsi (ap (λ (x : Key). x.session.tsi) e) in
+    let s = same_parts-itself a.session b.session (ap (λ (x : Key). x.session) e) in
     let o : same_object a.object b.object ≡ true = subst (λ (x : Key). same_object a.object x.object ≡ true) e (object_itself a.object) in
-    false≢true (t ∙ both_true (a.session.tsi == b.session.tsi) (same_object a.object b.object) s o)
+    false≢true (t ∙ both_true (same_parts a.session b.session) (same_object a.object b.object) s o)
 
 -- ---- what a tally has counted
 

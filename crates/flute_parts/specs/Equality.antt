@@ -54,10 +54,14 @@ nat_itself n = ap is_eq (tied_itself nat_cmp_total n)
 -- keys
 
 pub session_same : (a b : Session) → is_eq (session_cmp a b) ≡ true → a ≡ b
-session_same a b h = let s = nat_same a.tsi b.tsi h in λ i. record { tsi = s i }
+session_same a b h =
+    let p = then_both (nat_cmp a.sender b.sender) (nat_cmp a.tsi b.tsi) h in
+    let s = nat_same a.sender b.sender p.0 in
+    let t = nat_same a.tsi b.tsi p.1 in
+    λ i. record { sender = s i; tsi = t i }
 
 pub session_itself : (a : Session) → is_eq (session_cmp a a) ≡ true
-session_itself a = nat_itself a.tsi
+session_itself a = then_true (nat_cmp a.sender a.sender) (nat_cmp a.tsi a.tsi) (nat_itself a.sender) (nat_itself a.tsi)
 
 pub object_same : (a b : ObjectName) → is_eq (object_cmp a b) ≡ true → a ≡ b
 object_same (Instance m) (Instance n) h = ap Instance (nat_same m n h)

@@ -61,7 +61,7 @@ unfolding sizes
 no_block = refl
 
 abbrev key_of : ObjectName → Key
-key_of object = record { session = session 7; object = object }
+key_of object = record { session = session 0 7; object = object }
 
 abbrev key : Key
 key = key_of (File 1)
@@ -102,7 +102,7 @@ unfolding fact_at
 information-conflict = (refl, refl, refl, refl)
 
 -- one session, its objects and the symbols of one of them
-limits : (length (sessions known) ≡ 1) × (objects (known ++ InfoConflict (key_of (Instance 3)) ∷ []) (session 7) ≡ File 1 ∷ Instance 3 ∷ [])
+limits : (length (sessions known) ≡ 1) × (objects (known ++ InfoConflict (key_of (Instance 3)) ∷ []) (session 0 7) ≡ File 1 ∷ Instance 3 ∷ [])
     × (symbols (known ++ padded ∷ []) key ≡ symbol_id 0 0 ∷ symbol_id 0 1 ∷ [])
 unfolding sessions objects symbols
 limits = (refl, refl, refl)

@@ -1,9 +1,10 @@
 -- What names a session.
 use Rattle.std.specs.Prelude.{ℕ}
 
--- its Transport Session Identifier (RFC 5651, 5.1)
+-- its sender's address and its Transport Session Identifier, which is scoped by that address (RFC 5651, 5.1)
 pub record Session : Type 0 where
+  pub sender : ℕ
   pub tsi : ℕ
 
-abbrev pub session : ℕ → Session
-session tsi = record { tsi = tsi }
+abbrev pub session : ℕ → ℕ → Session
+session sender tsi = record { sender = sender; tsi = tsi }

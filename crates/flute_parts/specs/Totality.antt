@@ -16,7 +16,7 @@ use Rattle.flute_parts.specs.Order.{session_cmp, object_cmp, key_cmp, symbol_id_
 use Rattle.flute_parts.specs.Facts.{same_information}
 
 pub session_total : IsTotalOrder session_cmp
-session_total = on_total (λ (s : Session). s.tsi) nat_cmp_total
+session_total = then_total (on_total (λ (s : Session). s.sender) nat_cmp_total) (on_total (λ (s : Session). s.tsi) nat_cmp_total)
 
 object_reversed : (x y : ObjectName) → object_cmp x y ≡ ordering_reverse (object_cmp y x)
 object_reversed (Instance m) (Instance n) = nat_cmp_total.antisymm m n

@@ -1,13 +1,16 @@
 //! The names of sessions.
 
+use crate::sender::Sender;
 use flute_join::Place;
 use std::marker::Model;
 
-/// A session, named by its Transport Session Identifier of at most 48 bits (RFC 5651, section 5.1).
+/// A session, named by its sender and its Transport Session Identifier of at most 48 bits, which
+/// tells the sessions of one sender apart (RFC 5651, section 5.1).
 ///
-/// Sessions are ordered by that number.
+/// Sessions are ordered by sender, then by that number.
 #[derive(Clone, Copy, Debug, PartialEq, Eq, PartialOrd, Ord)]
 pub struct SessionKey {
+    sender: Sender,
     tsi: u64,
 }
 
@@ -17,26 +20,34 @@ impl Model for SessionKey {
 
     ghost Value = { Session };
 
-    ghost view = { λ s. session s.tsi };
+    ghost view = { λ s. session s.sender s.tsi };
 
     ghost invariant = { λ s. s.tsi < 2 ^ 48 };
 
-    ghost inverse = { λ s. record { tsi = s.tsi } };
+    ghost inverse = { λ s. record { sender = s.sender; tsi = s.tsi } };
 }
 
 impl SessionKey {
     ghost use Rattle.std.specs.Prelude.{◌≡◌, ◌<◌, ◌^◌, SomeIff};
     ghost use Rattle.flute_parts.specs.Session.{session};
 
-    /// The session with this identifier. None if the identifier is 2^48 or more.
-    pub fn new(tsi: u64) -> Option<SessionKey>
-        ensures { SomeIff result (tsi < 2 ^ 48) (session tsi) }
+    /// The session of this sender with this identifier. None if the identifier is 2^48 or more. It
+    /// takes no memory.
+    pub fn new(sender: Sender, tsi: u64) -> Option<SessionKey>
+        ensures { SomeIff result (tsi < 2 ^ 48) (session sender tsi) }
     {
         if tsi < 1 << 48 {
-            Some(SessionKey { tsi })
+            Some(SessionKey { sender, tsi })
         } else {
             None
         }
+    }
+
+    /// The sender.
+    pub fn sender(&self) -> Sender
+        ensures { result ≡ self.now.sender }
+    {
+        self.sender
     }
 
     /// The Transport Session Identifier, below 2^48.

@@ -17,7 +17,7 @@ abbrev gap : ℕ → ℕ → ℕ → Reason → Gap
 gap n i j r = record { sbn = n; first = i; last = j; reason = r }
 
 abbrev key : Key
-key = record { session = session 7; object = File 1 }
+key = record { session = session 0 7; object = File 1 }
 
 -- a file of two symbols
 abbrev two : Information

@@ -84,9 +84,9 @@ impl<'a> News<'a> {
     pub fn of_packet(packet: &Packet<'a>) -> Option<Self>
         requires { IfSome packet.now.symbol (λ symbol. HasSymbolSize symbol.1) }
         ensures news { IfSome result IsNews }
-        ensures facts { IfSome result (λ news. news_facts (key_of packet.now) news
-            ≡ facts_of packet.now) }
-        ensures nothing { IfNone result (facts_of packet.now ≡ []) }
+        ensures facts { IfSome result (λ news. (sender : ℕ)
+            → news_facts (key_of sender packet.now) news ≡ facts_of sender packet.now) }
+        ensures nothing { IfNone result ((sender : ℕ) → facts_of sender packet.now ≡ []) }
     {
         let info = match packet.info() {
             Some(info) => Cell::One(info),

@@ -45,7 +45,7 @@ use crate::news::News;
 use crate::taken::{TakeFault, Taken};
 use crate::walk::Walk;
 use flute_join::{Cell, Join, JoinMap, JoinRefusal};
-use flute_parts::{Address, Fact, Key, Part};
+use flute_parts::{Address, Fact, Key, Part, Sender};
 use flute_wire::{Packet, read};
 use std::alloc::Global;
 use std::marker::Model;
@@ -189,15 +189,21 @@ impl<const SESSIONS: u32, const OBJECTS: u32, const SYMBOLS: u32> Store<
         self.enter(alloc, &key, News::of_owned(fact))
     }
 
-    // Adds the facts of a packet. After a refusal the store is unchanged.
-    fn take_packet(&mut self, alloc: Global, packet: &Packet<'_>) -> Result<Taken, JoinRefusal>
+    // Adds the facts of a packet that this sender sent. After a refusal the store is unchanged.
+    fn take_packet(
+        &mut self,
+        alloc: Global,
+        sender: Sender,
+        packet: &Packet<'_>,
+    ) -> Result<Taken, JoinRefusal>
         requires { IfSome packet.now.symbol (λ symbol. HasSymbolSize symbol.1) }
-        ensures ok { OnOk result (Same self.new (self.old ++ facts_of packet.now)) }
-        ensures number { IfOk result (λ taken. taken.facts ≡ length (facts_of packet.now)) }
+        ensures ok { OnOk result (Same self.new (self.old ++ facts_of sender packet.now)) }
+        ensures number { IfOk result (λ taken. taken.facts ≡ length (facts_of sender packet.now)) }
         ensures err { OnErr result (self.new ≡ self.old) }
         ensures full { (result ≡ Err JoinRefusal.Full)
-            ↔ Over (self.old ++ facts_of packet.now) SESSIONS OBJECTS SYMBOLS }
-        ensures held { AllByRecursion (HasCell self.old) (facts_of packet.now) → IsOk result }
+            ↔ Over (self.old ++ facts_of sender packet.now) SESSIONS OBJECTS SYMBOLS }
+        ensures held { AllByRecursion (HasCell self.old) (facts_of sender packet.now)
+            → IsOk result }
     {
         // By this the proof knows that the store is within its limits.
         let _ = &self.sessions;
@@ -205,12 +211,12 @@ impl<const SESSIONS: u32, const OBJECTS: u32, const SYMBOLS: u32> Store<
             return Ok(Taken { facts: 0 });
         };
         let facts = news.count();
-        self.enter(alloc, &packet.key(), news)?;
+        self.enter(alloc, &packet.key(sender), news)?;
         Ok(Taken { facts })
     }
 
-    /// Adds the facts of a datagram: the transmission information of its object and its
-    /// encoding symbol, as far as it has them. What is held at an address already is joined, as
+    /// Adds the facts of a datagram, as of the sender whose address is 0: the transmission
+    /// information of its object and its encoding symbol, as far as it has them. What is held at an address already is joined, as
     /// by [`add`](Store::add). Whether a symbol fits the information is not looked at, nor
     /// whether there is any.
     ///
@@ -224,20 +230,20 @@ impl<const SESSIONS: u32, const OBJECTS: u32, const SYMBOLS: u32> Store<
     /// every fact stands at a held address neither of the last two comes. After each the store is
     /// unchanged: of two facts it never keeps one.
     pub fn take(&mut self, alloc: Global, datagram: &[u8]) -> Result<Taken, TakeFault>
-        ensures ok { OnOk result (Same self.new (self.old ++ facts datagram.now)) }
-        ensures number { IfOk result (λ taken. taken.facts ≡ length (facts datagram.now)) }
+        ensures ok { OnOk result (Same self.new (self.old ++ facts 0 datagram.now)) }
+        ensures number { IfOk result (λ taken. taken.facts ≡ length (facts 0 datagram.now)) }
         ensures err { OnErr result (self.new ≡ self.old) }
         ensures refused { (r : Reason) → (result ≡ Err (TakeFault.Datagram r))
             ↔ Refuses datagram.now r }
         ensures full { (result ≡ Err TakeFault.Full)
-            ↔ Over (self.old ++ facts datagram.now) SESSIONS OBJECTS SYMBOLS }
+            ↔ Over (self.old ++ facts 0 datagram.now) SESSIONS OBJECTS SYMBOLS }
         ensures held { (p : Content) → Spells datagram.now p
-            → AllByRecursion (HasCell self.old) (facts datagram.now) → IsOk result }
+            → AllByRecursion (HasCell self.old) (facts 0 datagram.now) → IsOk result }
     {
         // By this the proof knows that the store is within its limits.
         let _ = &self.sessions;
         match read(datagram) {
-            Ok(packet) => Ok(self.take_packet(alloc, &packet)?),
+            Ok(packet) => Ok(self.take_packet(alloc, Sender::new(0), &packet)?),
             Err(refusal) => Err(TakeFault::Datagram(refusal)),
         }
     }

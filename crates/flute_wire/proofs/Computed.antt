@@ -256,15 +256,15 @@ packet-Some d c s =
 pub packet-iff : (d : List ℕ) (c : Content) → (packet d ≡ Some c) ↔ Spells d c
 packet-iff d c = (packet-Spells d c, packet-Some d c)
 
-pub facts-Spells : (d : List ℕ) (c : Content) → Spells d c → facts d ≡ facts_of c
+pub facts-Spells : (sender : ℕ) (d : List ℕ) (c : Content) → Spells d c → facts sender d ≡ facts_of sender c
 unfolding facts
-facts-Spells d c s = ap packet_facts (packet-Some d c s)
+facts-Spells sender d c s = ap (packet_facts sender) (packet-Some d c s)
 
-facts_by : (d : List ℕ) (o : Option Content) → packet d ≡ o → ((c : Content) → Spells d c → ⊥) → packet_facts o ≡ []
-facts_by d None e none = refl
-facts_by d (Some c) e none = absurd (none c (packet-Spells d c e))
+facts_by : (sender : ℕ) (d : List ℕ) (o : Option Content) → packet d ≡ o → ((c : Content) → Spells d c → ⊥) → packet_facts sender o ≡ []
+facts_by sender d None e none = refl
+facts_by sender d (Some c) e none = absurd (none c (packet-Spells d c e))
 
 -- a refused datagram tells no fact
-pub facts-refused : (d : List ℕ) (r : Refusal) → Applies r d → facts d ≡ []
+pub facts-refused : (sender : ℕ) (d : List ℕ) (r : Refusal) → Applies r d → facts sender d ≡ []
 unfolding facts
-facts-refused d r a = facts_by d (packet d) refl (λ c s. none_applies d c s r a)
+facts-refused sender d r a = facts_by sender d (packet d) refl (λ c s. none_applies d c s r a)

@@ -239,13 +239,13 @@ spelled c e z none =
 pub written : (d : List ℕ) (c : Content) → d ≡ spelling c → IsEncodable c → IfSome c.instance (λ _. c.toi ≡ 0) → write_fault c ≡ None → IsWritten d c
 written d c is e z none = record { spelled = subst (λ (x : List ℕ). Spells x c) (sym is) (spelled c e z none); form = is }
 
--- the key is the packet's
+-- the key is the packet's, with its own sender
 same_object : (o : ObjectName) → object_of (toi_of o) (instance_of o) ≡ o
 same_object (Instance n) = refl
 same_object (File toi) = refl
 
-pub same_key : (key : Key) (i : Option Information) (s : Option (SymbolId × List ℕ)) → key_of (packet_at key i s) ≡ key
+pub same_key : (key : Key) (i : Option Information) (s : Option (SymbolId × List ℕ)) → key_of key.session.sender (packet_at key i s) ≡ key
 same_key key i s = ap (λ (o : ObjectName). let k : Key = record { session = key.session; object = o } in k) (same_object key.object)
 
-pub facts_told : (d : List ℕ) (key : Key) (i : Option Information) (s : Option (SymbolId × List ℕ)) → IsWritten d (packet_at key i s) → facts d ≡ told key i s
-facts_told d key i s h = facts-Spells d (packet_at key i s) h.spelled ∙ ap (λ (k : Key). told k i s) (same_key key i s)
+pub facts_told : (d : List ℕ) (key : Key) (i : Option Information) (s : Option (SymbolId × List ℕ)) → IsWritten d (packet_at key i s) → facts key.session.sender d ≡ told key i s
+facts_told d key i s h = facts-Spells key.session.sender d (packet_at key i s) h.spelled ∙ ap (λ (k : Key). told k i s) (same_key key i s)

@@ -1,4 +1,4 @@
--- The facts that a packet tells.
+-- The facts that a packet of a sender tells.
 use Rattle.std.specs.Prelude.{ℕ, List, [], ◌∷◌, ◌++◌, Option, Some, None}
 use Rattle.flute_parts.specs.Session.{session}
 use Rattle.flute_parts.specs.Information.{Information}
@@ -15,8 +15,9 @@ abbrev pub object_of : ℕ → Option ℕ → ObjectName
 object_of toi (Some instance) = Instance instance
 object_of toi None = File toi
 
-abbrev pub key_of : Content → Key
-key_of c = record { session = session c.tsi; object = object_of c.toi c.instance }
+-- a session is named by its sender and its TSI (RFC 5651, 5.1)
+abbrev pub key_of : ℕ → Content → Key
+key_of sender c = record { session = session sender c.tsi; object = object_of c.toi c.instance }
 
 abbrev pub info_facts : Key → Option Information → List Fact
 info_facts key None = []
@@ -27,5 +28,5 @@ symbol_facts key None = []
 symbol_facts key (Some symbol) = Symbol key symbol.0 symbol.1 ∷ []
 
 -- the information of its object, if there is any, and then the symbol, if there is one
-abbrev pub facts_of : Content → List Fact
-facts_of c = info_facts (key_of c) c.info ++ symbol_facts (key_of c) c.symbol
+abbrev pub facts_of : ℕ → Content → List Fact
+facts_of sender c = info_facts (key_of sender c) c.info ++ symbol_facts (key_of sender c) c.symbol

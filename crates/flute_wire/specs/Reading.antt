@@ -1,4 +1,4 @@
--- The packet of a datagram, and its facts, computed.
+-- The packet of a datagram, and the facts that it tells from a sender, computed.
 use Rattle.std.specs.Prelude.{ℕ, zero, suc, ◌-◌, ◌*◌, nat_le, nat_lt, ◌==◌, Bool, true, false, ◌&&◌, ◌||◌, is_none, List, [], ◌∷◌, length, take, drop, slice_index, Option, Some, None, if◌then◌else◌}
 use Rattle.std.specs.Option.{option_map, option_and_then}
 use Rattle.flute_parts.specs.Information.{info_fault}
@@ -64,10 +64,10 @@ accepted d es = if is_accepted d es then Some (content_by d es) else None
 unfoldable pub packet : List ℕ → Option Content
 packet d = if has_header d then option_and_then (accepted d) (extensions_in (length (extension_area d)) (extension_area d)) else None
 
-abbrev pub packet_facts : Option Content → List Fact
-packet_facts None = []
-packet_facts (Some c) = facts_of c
+abbrev pub packet_facts : ℕ → Option Content → List Fact
+packet_facts sender None = []
+packet_facts sender (Some c) = facts_of sender c
 
--- the facts that a datagram tells: none, where it spells no packet
-unfoldable pub facts : List ℕ → List Fact
-facts d = packet_facts (packet d)
+-- the facts that a datagram of a sender tells: none, where it spells no packet
+unfoldable pub facts : ℕ → List ℕ → List Fact
+facts sender d = packet_facts sender (packet d)

@@ -12,10 +12,10 @@ use Rattle.flute_wire.specs.Carousel.{symbols_of, payloads_of, packets_of, carou
 
 -- file 1 of session 7, and FDT Instance 3
 abbrev pub file : Key
-file = record { session = session 7; object = File 1 }
+file = record { session = session 0 7; object = File 1 }
 
 abbrev pub instance : Key
-instance = record { session = session 7; object = Instance 3 }
+instance = record { session = session 0 7; object = Instance 3 }
 
 -- symbol 0 of block 0 of the file
 pub first_symbol : spelling (packet_at file None (Some (symbol_id 0 0, codes "hell"))) ≡ 0x10 ∷ 0xA0 ∷ 0x04 ∷ 0x00 ∷ 0x00 ∷ 0x00 ∷ 0x00 ∷ 0x00 ∷ 0x00 ∷ 0x00 ∷ 0x00 ∷ 0x07 ∷ 0x00 ∷ 0x00 ∷ 0x00 ∷ 0x01 ∷ 0x00 ∷ 0x00 ∷ 0x00 ∷ 0x00 ∷ 0x68 ∷ 0x65 ∷ 0x6C ∷ 0x6C ∷ []
@@ -41,10 +41,10 @@ unfolding symbols_of ids sizes
 three_blocks = refl
 
 -- a session, a file and a symbol that are not written
-pub wide_session : write_fault (packet_at (record { session = session (2 ^ 32); object = File (2 ^ 32) }) None None) ≡ Some Tsi
+pub wide_session : write_fault (packet_at (record { session = session 0 (2 ^ 32); object = File (2 ^ 32) }) None None) ≡ Some Tsi
 wide_session = refl
 
-pub wide_file : write_fault (packet_at (record { session = session 7; object = File (2 ^ 32) }) None (Some (symbol_id 0 0, []))) ≡ Some Toi
+pub wide_file : write_fault (packet_at (record { session = session 0 7; object = File (2 ^ 32) }) None (Some (symbol_id 0 0, []))) ≡ Some Toi
 wide_file = refl
 
 pub empty_symbol : write_fault (packet_at file None (Some (symbol_id 0 0, []))) ≡ Some EmptySymbol
@@ -58,7 +58,7 @@ pub short_content : carousel_fault file (information 5 4 2) (codes "hell") ≡ S
 unfolding carousel_fault packets_of payloads_of symbols_of ids sizes
 short_content = refl
 
-pub wide_content : carousel_fault (record { session = session (2 ^ 32); object = File 1 }) (information 5 4 2) (codes "hello") ≡ Some (Write Tsi)
+pub wide_content : carousel_fault (record { session = session 0 (2 ^ 32); object = File 1 }) (information 5 4 2) (codes "hello") ≡ Some (Write Tsi)
 unfolding carousel_fault packets_of payloads_of symbols_of ids sizes
 wide_content = refl
 

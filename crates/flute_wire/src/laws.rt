@@ -24,12 +24,12 @@ pub fn one_reading()
     ensures decided { (d : List ℕ) → ((p : Content) × Spells d p) ⊎ ((r : Reason) × Applies r d) }
 {}
 
-/// The packet of a datagram can be computed, and from it the facts that the datagram tells: none,
-/// where it is refused.
+/// The packet of a datagram can be computed, and from it the facts that the datagram tells where
+/// some sender sent it: none, where it is refused.
 pub fn computed_reading()
     ensures packet { (d : List ℕ) (p : Content) → (packet d ≡ Some p) ↔ Spells d p }
-    ensures facts { (d : List ℕ) (p : Content) → Spells d p → facts d ≡ facts_of p }
-    ensures no_facts { (d : List ℕ) (r : Reason) → Applies r d → facts d ≡ [] }
+    ensures facts { (s : ℕ) (d : List ℕ) (p : Content) → Spells d p → facts s d ≡ facts_of s p }
+    ensures no_facts { (s : ℕ) (d : List ℕ) (r : Reason) → Applies r d → facts s d ≡ [] }
 {}
 
 /// An object is cut into the symbols of its partition: their bytes joined are the object, each
@@ -48,7 +48,8 @@ pub fn an_object_is_cut_into_symbols()
         → Contains (symbols_of i content) t → s.0 ≡ t.0 → s ≡ t }
 {}
 
-/// What an object's datagrams tell is its information and each of its symbols, and nothing else.
+/// What an object's datagrams tell, where the key's sender sent them, is its information and each of
+/// its symbols, and nothing else.
 pub fn an_object_is_told_by_its_datagrams()
     ensures facts { (key : Key) (i : Information) (content : List ℕ) (f : Fact) → IsValid i
         → Contains (facts_sent key i content) f
@@ -57,5 +58,5 @@ pub fn an_object_is_told_by_its_datagrams()
         × (f ≡ Symbol key s.0 s.1))) }
     ensures datagrams { (key : Key) (i : Information) (content : List ℕ) (datagrams : List (List ℕ))
         → AllZip IsWritten datagrams (packets_of key i content)
-        → flat_map facts datagrams ≡ facts_sent key i content }
+        → flat_map (facts key.session.sender) datagrams ≡ facts_sent key i content }
 {}

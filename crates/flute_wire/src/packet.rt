@@ -1,6 +1,6 @@
 //! Packets: what datagrams say.
 
-use flute_parts::{Info, Key, ObjectKey, SessionKey, SymbolId};
+use flute_parts::{Info, Key, ObjectKey, Sender, SessionKey, SymbolId};
 use std::marker::Model;
 
 /// What a datagram says. [`read`](crate::read) makes it. The symbol's bytes are those of the
@@ -84,13 +84,14 @@ impl<'a> Packet<'a> {
         self.instance
     }
 
-    /// What the packet belongs to: the session of its TSI, and there the FDT Instance of its
-    /// number, where the TOI is 0, and else the file of its TOI (RFC 6726, section 3.4). The widths
-    /// of the fields make no difference.
-    pub fn key(&self) -> Key
-        ensures { result ≡ key_of self.now }
+    /// What the packet belongs to, where this sender sent it: the session of the sender and the TSI
+    /// (RFC 5651, section 5.1), and there the FDT Instance of its number, where the TOI is 0, and
+    /// else the file of its TOI (RFC 6726, section 3.4). The widths of the fields make no
+    /// difference. It takes no memory.
+    pub fn key(&self, sender: Sender) -> Key
+        ensures { result ≡ key_of sender self.now }
     {
-        let session = SessionKey::new(self.tsi).unwrap();
+        let session = SessionKey::new(sender, self.tsi).unwrap();
         let object = match self.instance {
             Some(instance) => ObjectKey::fdt(instance).unwrap(),
             None => ObjectKey::file(self.toi).unwrap(),

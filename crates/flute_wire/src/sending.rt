@@ -73,7 +73,7 @@ fn datagrams_of(
         (slice_get (symbols_of info.now content.now) 0)) ≡ None }
     ensures written { IfOk result (λ datagrams. AllZip IsWritten datagrams
         (packets_of key.now info.now content.now)) }
-    ensures facts { IfOk result (λ datagrams. flat_map facts datagrams
+    ensures facts { IfOk result (λ datagrams. flat_map (facts key.now.session.sender) datagrams
         ≡ facts_sent key.now info.now content.now) }
 {
     let partition = Partition::of(info);
@@ -93,7 +93,7 @@ fn datagrams_of(
 /// Makes the datagrams that carry an object: one for each symbol of its partition, in that
 /// order (RFC 5052, section 9.1), each with the transmission information in EXT_FTI. The last
 /// symbol is sent without padding. An object of no bytes has one datagram, with the
-/// information and no symbol.
+/// information and no symbol. The key's sender is not written.
 ///
 /// # Errors
 ///
@@ -107,7 +107,7 @@ pub fn carousel(
     ensures whole { OnOk result (length content.now ≡ info.now.transfer_length) }
     ensures written { IfOk result (λ datagrams. AllZip IsWritten datagrams
         (packets_of key.now info.now content.now)) }
-    ensures facts { IfOk result (λ datagrams. flat_map facts datagrams
+    ensures facts { IfOk result (λ datagrams. flat_map (facts key.now.session.sender) datagrams
         ≡ facts_sent key.now info.now content.now) }
     ensures fault { IfSome (carousel_fault key.now info.now content.now)
         (λ fault. result ≡ Err fault) }

@@ -82,15 +82,16 @@ pub fn encoded(alloc: Global, outgoing: &Outgoing<'_>, words: u8) -> Result<Data
     requires words { words ≡ words_to_write (said outgoing.now) }
     requires sound { write_fault (said outgoing.now) ≡ None }
     ensures written { IfOk result (λ datagram. IsWritten datagram (said outgoing.now)) }
-    ensures facts { IfOk result (λ datagram. facts datagram
+    ensures facts { IfOk result (λ datagram. facts outgoing.now.key.session.sender datagram
         ≡ told outgoing.now.key outgoing.now.info (said outgoing.now).symbol) }
 {
     let bytes = bytes_of(alloc, outgoing, words)?;
     Ok(Datagram::of(bytes))
 }
 
-/// Writes a packet of FLUTE version 2 as a datagram. [`read`](crate::read) gives back the same key,
-/// information and symbol.
+/// Writes a packet of FLUTE version 2 as a datagram. [`read`](crate::read) gives back the same TSI
+/// and object, information and symbol, and with the key's sender the same key. The sender is not
+/// written.
 ///
 /// There is one form (RFC 5651, section 5.1): a TSI, a TOI and congestion control information of 32
 /// bits each, the last of them 0. EXT_FDT follows where the object is an FDT Instance (RFC 6726,
@@ -103,7 +104,7 @@ pub fn encoded(alloc: Global, outgoing: &Outgoing<'_>, words: u8) -> Result<Data
 /// The first [`WriteFault`] that applies, in the order of that list.
 pub fn write(alloc: Global, outgoing: &Outgoing<'_>) -> Result<Datagram, WriteFault>
     ensures written { IfOk result (λ datagram. IsWritten datagram (said outgoing.now)) }
-    ensures facts { IfOk result (λ datagram. facts datagram
+    ensures facts { IfOk result (λ datagram. facts outgoing.now.key.session.sender datagram
         ≡ told outgoing.now.key outgoing.now.info (said outgoing.now).symbol) }
     ensures fault { IfSome (write_fault (said outgoing.now)) (λ fault. result ≡ Err fault) }
     ensures memory { IfErr result (λ fault. write_fault (said outgoing.now) ≡ None

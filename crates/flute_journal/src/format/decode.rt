@@ -1,20 +1,26 @@
 //! From bytes to what they say. Every function takes the bytes that were read: all that its part
 //! needs, or fewer where the input ends.
-ghost use Rattle.std.specs.Prelude.{◌≡◌, ◌<◌, ◌≤◌, ◌++◌, IsTrue, MatchOption, MatchResult, length, true, false, Some};
+ghost use Rattle.std.specs.Prelude.{◌≡◌, ◌<◌, ◌≤◌, ◌++◌, IfSome, IsTrue, MatchOption, MatchResult, length, true, false, Some};
 ghost use Rattle.flute_parts.specs.Information.{info_fault};
 ghost use Rattle.flute_journal.specs.Numbers.{in_bytes};
-ghost use Rattle.flute_journal.specs.Format.{key_bytes, id_bytes};
-ghost use Rattle.flute_journal.specs.Faults.{is_after, is_key, key_in as key_of_bytes, info_in as info_of_bytes, opening_fault};
-ghost use Rattle.flute_journal.specs.Journal.{IsKey, IsId, IsInfo};
-ghost use Rattle.flute_journal.specs.Parsing.{FixedIs, Parses, StopsFront, fixed_bytes, fixed_size, rest_size, body_fault, rest_fault, bytes_fault, end_fault};
+ghost use Rattle.flute_parts.specs.BigEndian.{big_endian};
+ghost use Rattle.flute_journal.specs.Format.{header_in, sender_size, id_bytes};
+ghost use Rattle.flute_journal.specs.Faults.{is_after, is_name, is_key, key_size, named_in, key_in as key_of_bytes, info_in as info_of_bytes, opening_fault, header_fault};
+ghost use Rattle.flute_journal.specs.Journal.{IsKey, IsKeyIn, IsId, IsInfo};
+ghost use Rattle.flute_journal.specs.Parsing.{FixedIn, RestIs, Parses, StopsFront, fixed_bytes, fixed_size, rest_size, body_fault, rest_fault, bytes_fault, end_fault};
+ghost use Rattle.flute_journal.specs.declared.format.Fixed.TheVariants.{Symbol};
 ghost use Rattle.flute_journal.specs.declared.format.Kind.TheVariants as kinds;
 ghost use Rattle.flute_journal.specs.declared.fault.ReadFault.TheVariants.{Order, Cut};
 
 use super::number::{number, number_of_14};
-use super::{Fixed, Kind};
+use super::version::Version;
+use super::{Fixed, HEADER, Kind};
 use crate::fault::ReadFault;
 use byteorder::{BigEndian, ByteOrder};
-use flute_parts::{Address, Fact, Info, InfoFault, Key, ObjectKey, Part, SessionKey, SymbolId};
+use flute_parts::{
+    Address, Fact, Info, InfoFault, Key, ObjectKey, Part, Sender, SessionKey, SymbolId,
+};
+use std::cmp::Ordering;
 
 /// Looks at the first six bytes of a file: its magic number and its version.
 pub fn check_opening(opening: &[u8; 6], bytes: &[u8]) -> Result<(), ReadFault>
@@ -34,6 +40,23 @@ pub fn check_opening(opening: &[u8; 6], bytes: &[u8]) -> Result<(), ReadFault>
         return Err(ReadFault::Version);
     }
     Ok(())
+}
+
+/// Looks at the first six bytes of a journal: its magic number and its version.
+pub fn check_header(bytes: &[u8]) -> Result<Version, ReadFault>
+    requires { length bytes.now ≤ 6 }
+    ensures { Parses 6 (λ version. header_in version ≡ bytes.now) header_fault bytes.now result }
+{
+    let Some((magic, rest)) = bytes.split_at_checked(4) else {
+        return Err(ReadFault::Cut);
+    };
+    if magic != &HEADER[..4] {
+        return Err(ReadFault::Magic);
+    }
+    if rest.len() < 2 {
+        return Err(ReadFault::Cut);
+    }
+    Version::from_bytes(rest).ok_or(ReadFault::Version)
 }
 
 /// Looks at what stands behind the byte 255 of a journal of so many entries, and at one byte
@@ -57,34 +80,85 @@ pub fn check_end(count: u64, bytes: &[u8]) -> Result<(), ReadFault>
 
 /// What stands behind the kind of an entry, up to the bytes of a symbol. The entry
 /// before it is at `last`.
-#[inline(always)]
-pub fn parse(kind: Kind, last: &Option<Address>, bytes: &[u8]) -> Result<Fixed, ReadFault>
-    requires { length bytes.now ≤ fixed_size kind }
-    ensures { Parses (fixed_size kind) (λ x. FixedIs last.now kind x × (fixed_bytes x ≡ bytes.now))
-        (body_fault last.now kind) bytes.now result }
+pub fn parse(
+    version: Version,
+    kind: Kind,
+    last: &Option<Address>,
+    bytes: &[u8],
+) -> Result<Fixed, ReadFault>
+    requires { length bytes.now ≤ fixed_size version kind }
+    ensures { Parses (fixed_size version kind) (λ x. FixedIn version last.now kind x
+        × (fixed_bytes version x ≡ bytes.now)) (body_fault version last.now kind) bytes.now result }
 {
-    let Some((field, rest)) = bytes.split_at_checked(21) else {
+    let Some((field, rest)) = bytes.split_at_checked(version.sender_size() + 21) else {
         return Err(ReadFault::Cut);
     };
-    let Some(key) = key_in(field) else {
+    let Some(key) = key_in(version, field) else {
         return Err(ReadFault::Key);
     };
     match kind {
         Kind::Info => information_at(last, key, rest),
         Kind::InfoConflict => information_conflict_at(last, key, rest),
-        Kind::Symbol => symbol_at(last, key, rest),
+        Kind::Symbol => match symbol_at(last, &key, rest) {
+            Ok((id, length)) => Ok(Fixed::Symbol { key, id, length }),
+            Err(fault) => Err(fault),
+        },
         Kind::SymbolConflict => symbol_conflict_at(last, key, rest),
+    }
+}
+
+/// What stands behind the kind of the entry of a symbol, up to its bytes: its key, its id and how
+/// many bytes follow. The entry before it is at `last`. None where there is a fault.
+#[inline(always)]
+pub fn symbol_in(
+    version: Version,
+    last: &Option<Address>,
+    bytes: &[u8],
+) -> Option<(Key, SymbolId, u16)>
+    requires { length bytes.now ≤ fixed_size version kinds.Symbol }
+    ensures { IfSome result (λ s. FixedIn version last.now kinds.Symbol (Symbol s.0 s.1 s.2)
+        × (fixed_bytes version (Symbol s.0 s.1 s.2) ≡ bytes.now)) }
+{
+    let (field, rest) = bytes.split_at_checked(version.sender_size() + 21)?;
+    let key = key_in(version, field)?;
+    match symbol_at(last, &key, rest) {
+        Ok((id, length)) => Some((key, id, length)),
+        Err(_) => None,
     }
 }
 
 // The key of which these are the bytes.
 #[inline(always)]
-fn key_in(bytes: &[u8]) -> Option<Key>
-    requires { length bytes.now ≡ 21 }
-    ensures { MatchOption result (is_key bytes.now ≡ false)
-        (λ key. (is_key bytes.now ≡ true) × (key ≡ key_of_bytes bytes.now) × IsKey key) }
+fn key_in(version: Version, bytes: &[u8]) -> Option<Key>
+    requires { length bytes.now ≡ key_size version }
+    ensures { MatchOption result (is_key version bytes.now ≡ false)
+        (λ key. (is_key version bytes.now ≡ true) × (key ≡ key_of_bytes version bytes.now)
+        × IsKeyIn version key) }
 {
-    let session = SessionKey::new(number(&bytes[..6]) as u64)?;
+    let (sender, name) = bytes.split_at(version.sender_size());
+    named_in(sender_in(version, sender), name)
+}
+
+// The sender of which these are the bytes.
+#[inline(always)]
+fn sender_in(version: Version, bytes: &[u8]) -> Sender
+    requires { length bytes.now ≡ sender_size version }
+    ensures { result ≡ big_endian bytes.now }
+{
+    match version {
+        Version::One => Sender::new(0),
+        Version::Two => Sender::new(BigEndian::read_u128(bytes)),
+    }
+}
+
+// The key of an object of this sender, of which these are the other bytes.
+#[inline(always)]
+fn named_in(sender: Sender, bytes: &[u8]) -> Option<Key>
+    requires { length bytes.now ≡ 21 }
+    ensures { MatchOption result (is_name bytes.now ≡ false)
+        (λ key. (is_name bytes.now ≡ true) × (key ≡ named_in sender bytes.now) × IsKey key) }
+{
+    let session = SessionKey::new(sender, number(&bytes[..6]) as u64)?;
     let number = number_of_14(&bytes[7..]);
     let object = match bytes[6] {
         0 => ObjectKey::fdt(u32::try_from(number).ok()?)?,
@@ -100,20 +174,23 @@ fn in_order(last: &Option<Address>, key: &Key, part: Part) -> Result<(), ReadFau
         (λ _. IsTrue (is_after last.now (record { key = key.now; part = part })))
         (λ f. (f ≡ Order) × (is_after last.now (record { key = key.now; part = part }) ≡ false)) }
 {
-    let address = Address { key: *key, part };
-    if is_after(last, address) {
+    if is_after(last, key, part) {
         Ok(())
     } else {
         Err(ReadFault::Order)
     }
 }
 
-fn is_after(last: &Option<Address>, address: Address) -> bool
-    ensures { result ≡ is_after last.now address }
+fn is_after(last: &Option<Address>, key: &Key, part: Part) -> bool
+    ensures { result ≡ is_after last.now (record { key = key.now; part = part }) }
 {
     match last {
         None => true,
-        Some(last) => *last < address,
+        Some(last) => match last.key.cmp(key) {
+            Ordering::Less => true,
+            Ordering::Equal => last.part < part,
+            Ordering::Greater => false,
+        },
     }
 }
 
@@ -122,8 +199,8 @@ fn is_after(last: &Option<Address>, address: Address) -> bool
 fn information_at(last: &Option<Address>, key: Key, bytes: &[u8]) -> Result<Fixed, ReadFault>
     requires key { IsKey key }
     requires most { length bytes.now ≤ 12 }
-    ensures { Parses 12 (λ x. FixedIs last.now kinds.Info x × (fixed_bytes x
-        ≡ key_bytes key ++ bytes.now)) (rest_fault last.now kinds.Info key) bytes.now result }
+    ensures { Parses 12 (RestIs last.now kinds.Info key bytes.now)
+        (rest_fault last.now kinds.Info key) bytes.now result }
 {
     in_order(last, &key, Part::Info)?;
     if bytes.len() < 12 {
@@ -156,33 +233,35 @@ fn information_conflict_at(
 ) -> Result<Fixed, ReadFault>
     requires key { IsKey key }
     requires most { length bytes.now ≤ 0 }
-    ensures { Parses 0 (λ x. FixedIs last.now kinds.InfoConflict x × (fixed_bytes x
-        ≡ key_bytes key ++ bytes.now)) (rest_fault last.now kinds.InfoConflict key) bytes.now result }
+    ensures { Parses 0 (RestIs last.now kinds.InfoConflict key bytes.now)
+        (rest_fault last.now kinds.InfoConflict key) bytes.now result }
 {
     in_order(last, &key, Part::Info)?;
     Ok(Fixed::Whole(Fact::InfoConflict { key }))
 }
 
-// What stands behind the key of an entry of a symbol, up to its bytes.
+// The id and the number of the bytes of a symbol, which stand behind the key of its entry.
 #[tactic(auto, using(crate::proofs::Decoded::symbol_faults))]
-fn symbol_at(last: &Option<Address>, key: Key, bytes: &[u8]) -> Result<Fixed, ReadFault>
-    requires key { IsKey key }
+#[inline(always)]
+fn symbol_at(last: &Option<Address>, key: &Key, bytes: &[u8]) -> Result<(SymbolId, u16), ReadFault>
+    requires key { IsKey key.now }
     requires most { length bytes.now ≤ 6 }
-    ensures { Parses 6 (λ x. FixedIs last.now kinds.Symbol x × (fixed_bytes x
-        ≡ key_bytes key ++ bytes.now)) (rest_fault last.now kinds.Symbol key) bytes.now result }
+    ensures { Parses 6
+        (λ s. RestIs last.now kinds.Symbol key.now bytes.now (Symbol key.now s.0 s.1))
+        (rest_fault last.now kinds.Symbol key.now) bytes.now result }
 {
     let (id, rest) = id_at(bytes)?;
-    in_order(last, &key, Part::Symbol(id))?;
+    in_order(last, key, Part::Symbol(id))?;
     let length = length_at(rest)?;
-    Ok(Fixed::Symbol { key, id, length })
+    Ok((id, length))
 }
 
 // What stands behind the key of an entry of a symbol conflict.
 fn symbol_conflict_at(last: &Option<Address>, key: Key, bytes: &[u8]) -> Result<Fixed, ReadFault>
     requires key { IsKey key }
     requires most { length bytes.now ≤ 4 }
-    ensures { Parses 4 (λ x. FixedIs last.now kinds.SymbolConflict x × (fixed_bytes x
-        ≡ key_bytes key ++ bytes.now)) (rest_fault last.now kinds.SymbolConflict key) bytes.now result }
+    ensures { Parses 4 (RestIs last.now kinds.SymbolConflict key bytes.now)
+        (rest_fault last.now kinds.SymbolConflict key) bytes.now result }
 {
     let (id, _) = id_at(bytes)?;
     in_order(last, &key, Part::Symbol(id))?;

@@ -1,11 +1,12 @@
 //! From facts to their bytes.
-ghost use Rattle.std.specs.Prelude.{◌≡◌, ℕ, ◌+◌, ◌<◌, ◌≤◌, ◌^◌, ◌++◌, length};
+ghost use Rattle.std.specs.Prelude.{◌≡◌, ℕ, ◌+◌, ◌/◌, ◌%◌, ◌<◌, ◌≤◌, ◌^◌, ◌++◌, length};
 ghost use Rattle.arrayvec.specs.ArrayVec.{array_vec_len};
 ghost use Rattle.flute_parts.specs.Addresses.{fact_of};
 ghost use Rattle.std.specs.List.{AllByRecursion};
 ghost use Rattle.flute_store.specs.Walk.{IsSized};
 ghost use Rattle.flute_journal.specs.Numbers.{in_bytes};
 ghost use Rattle.flute_journal.specs.Format.{key_bytes, id_bytes, info_bytes, entry, end};
+ghost use Rattle.flute_journal.specs.declared.format.version.Version.TheVariants.{Two};
 ghost use Rattle.flute_journal.specs.Journal.{IsByte, IsKey, IsId, IsInfo, IsFact};
 ghost use Rattle.flute_journal.specs.Writing.{symbol_of};
 
@@ -15,9 +16,10 @@ use arrayvec::ArrayVec;
 use flute_parts::{FactRef, Info, Key, SymbolId};
 
 /// The front of an entry, up to the bytes of a symbol.
-pub type Head = ArrayVec<u8, 34>;
+pub type Head = ArrayVec<u8, 50>;
 
 /// The front of an entry.
+#[inline(always)]
 pub fn head_of(fact: &FactRef<'_>) -> Head
     requires sized { IsSized (fact_of fact.now) }
     ensures bytes { result.items ++ symbol_of (fact_of fact.now) ≡ entry (fact_of fact.now) }
@@ -71,30 +73,44 @@ pub fn end_of(count: u64) -> ArrayVec<u8, 9>
 
 // Appends bytes for which there is room.
 fn put(head: &mut Head, bytes: &[u8])
-    requires { array_vec_len head.old + length bytes.now ≤ 34 }
+    requires { array_vec_len head.old + length bytes.now ≤ 50 }
     ensures items { head.new.items ≡ head.old.items ++ bytes.now }
     ensures len { array_vec_len head.new ≡ array_vec_len head.old + length bytes.now }
 {
     let _fits = head.try_extend_from_slice(bytes);
 }
 
+#[inline(always)]
 fn put_key(head: &mut Head, key: &Key)
     requires { array_vec_len head.old ≤ 1 }
-    ensures items { head.new.items ≡ head.old.items ++ key_bytes key.now }
-    ensures len { array_vec_len head.new ≡ array_vec_len head.old + 21 }
+    ensures items { head.new.items ≡ head.old.items ++ key_bytes Two key.now }
+    ensures len { array_vec_len head.new ≡ array_vec_len head.old + 37 }
     ensures valid { IsKey key.now }
 {
     let (tag, number) = match key.object.instance() {
         Some(number) => (0, u128::from(number)),
         None => (1, key.object.toi()),
     };
+    let (high, low) = halves(key.session.sender().number());
+    put(head, &high.to_be_bytes());
+    put(head, &low.to_be_bytes());
     put(head, &key.session.tsi().to_be_bytes()[2..]);
     put(head, &[tag]);
-    put(head, &number.to_be_bytes()[2..]);
+    let (upper, lower) = halves(number);
+    put(head, &upper.to_be_bytes()[2..]);
+    put(head, &lower.to_be_bytes());
+}
+
+// The high and the low half of a number: the bytes of each are put down faster than those of both.
+fn halves(number: u128) -> (u64, u64)
+    ensures high { result.0 ≡ number / 2 ^ 64 }
+    ensures low { result.1 ≡ number % 2 ^ 64 }
+{
+    ((number >> 64) as u64, (number % (1 << 64)) as u64)
 }
 
 fn put_id(head: &mut Head, id: SymbolId)
-    requires { array_vec_len head.old ≤ 22 }
+    requires { array_vec_len head.old ≤ 38 }
     ensures items { head.new.items ≡ head.old.items ++ id_bytes id }
     ensures len { array_vec_len head.new ≡ array_vec_len head.old + 4 }
     ensures valid { IsId id }
@@ -104,7 +120,7 @@ fn put_id(head: &mut Head, id: SymbolId)
 }
 
 fn put_info(head: &mut Head, info: &Info)
-    requires { array_vec_len head.old ≤ 22 }
+    requires { array_vec_len head.old ≤ 38 }
     ensures items { head.new.items ≡ head.old.items ++ info_bytes info.now }
     ensures len { array_vec_len head.new ≡ array_vec_len head.old + 12 }
     ensures valid { IsInfo info.now }
@@ -116,7 +132,7 @@ fn put_info(head: &mut Head, info: &Info)
 
 // Appends the number of the bytes of a symbol.
 fn put_length(head: &mut Head, bytes: &[u8])
-    requires room { array_vec_len head.old ≤ 26 }
+    requires room { array_vec_len head.old ≤ 42 }
     requires short { length bytes.now < 2 ^ 16 }
     ensures items { head.new.items ≡ head.old.items ++ in_bytes 2 (length bytes.now) }
     ensures len { array_vec_len head.new ≡ array_vec_len head.old + 2 }

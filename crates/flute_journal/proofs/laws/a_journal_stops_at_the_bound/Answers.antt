@@ -1,9 +1,9 @@
-use Rattle.flute_journal.proofs.{Common.{length, arith, AreEntries}, Passes.{beyond}}
+use Rattle.flute_journal.proofs.{Common.{arith}, MergeBytes.{journal_parts}, Passes.{beyond}}
 use Rattle.flute_journal.proofs.laws.a_journal_stops_at_the_bound.Goals as goal
 
 pub returns : goal.returns
-returns c bs F es limit f j s =
-    let all = j.0 in
-    let b = beyond limit all es bs f j.1.valid j.1.rising j.2 j.3 s in
-    let are : AreEntries (length all) all = record { valid = j.1.valid; rising = j.1.rising; few = omega arith } in
-    (b.0, (all, record { are_entries = are; bytes_are = j.3 }, b.1))
+returns c bs F es limit f (v, journal) s =
+    let j = journal_parts v bs F journal in
+    let all = j.entries in
+    let b = beyond v limit all es bs f j.valid j.collects.rising j.small j.bytes_are s in
+    (b.0, (all, record { are_entries = record { version = v; valid = j.valid; rising = j.collects.rising; few = omega arith }; bytes_are = j.bytes_are }, b.1))

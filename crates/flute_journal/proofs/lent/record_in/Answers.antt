@@ -1,31 +1,28 @@
-use Rattle.flute_journal.proofs.Common.{◌≡◌, rules, ℕ, ◌+◌, ◌^◌, ◌<◌, List, ◌++◌, length, take, drop, sym, ap, ◌∙◌, subst, arith, append_assoc, take-append-drop, length-append, AllByRecursion, IsByte}
-use Rattle.std.proofs.Math.Seq.{take-append_seam}
+use Rattle.flute_journal.proofs.Common.{◌≡◌, rules, ℕ, ◌+◌, ◌^◌, ◌<◌, List, ◌++◌, length, take, sym, ap, ◌∙◌, subst, arith, length-append, AllByRecursion, IsByte}
 use Rattle.flute_journal.specs.Lent.{BeginsWithRecord}
 use Rattle.flute_journal.specs.Numbers.{in_bytes}
 use Rattle.flute_journal.specs.Records.{record_of}
 use Rattle.flute_journal.proofs.Numbers.{octets, octets-take, octets-drop}
-use Rattle.flute_journal.proofs.Decoded.{joined, appended}
+use Rattle.flute_journal.proofs.Decoded.{joined, in_front}
 use Rattle.flute_journal.proofs.lent.record_in.Goals as goal
 
 -- the bytes of a datagram lie behind their number
 record_begins : (n : ℕ) (number rest datagram : List ℕ) → in_bytes 2 n ≡ number → length number ≡ 2 → datagram ≡ take n rest → length datagram ≡ n → n < 2 ^ 16
     → AllByRecursion IsByte datagram → BeginsWithRecord (number ++ rest) datagram
 record_begins n number rest datagram spelled two is size short octets =
-    let split : rest ≡ datagram ++ drop n rest = sym (take-append-drop n rest) ∙ ap (λ front. front ++ drop n rest) (sym is) in
-    let whole : List ℕ = number ++ datagram in
-    let bytes : number ++ rest ≡ whole ++ drop n rest = ap (λ xs. number ++ xs) split ∙ sym (append_assoc number datagram (drop n rest)) in
-    let long : length whole ≡ 2 + length datagram = omega (arith, length-append number datagram, two) in
-    let of_record : whole ≡ record_of datagram = ap (λ xs. xs ++ datagram) (sym spelled ∙ ap (in_bytes 2) (sym size)) in
+    let begins = in_front number datagram rest n is in
+    let long : length (number ++ datagram) ≡ 2 + length datagram = omega (arith, length-append number datagram, two) in
+    let of_record : number ++ datagram ≡ record_of datagram = ap (λ xs. xs ++ datagram) (sym spelled ∙ ap (in_bytes 2) (sym size)) in
     record {
       valid = record { short = omega (arith, size, short); octets = octets };
-      within = omega (arith, ap length bytes, long, length-append whole (drop n rest));
-      spelled = ap (λ m. take m (number ++ rest)) (sym long) ∙ ap (take (length whole)) bytes ∙ take-append_seam whole (drop n rest) ∙ of_record;
+      within = omega (arith, begins.0, long);
+      spelled = rw (← long) (begins.1 ∙ of_record);
     }
 
 pub returns-in-Ok-clause-begins : goal.returns-in-Ok-clause-begins
 returns-in-Ok-clause-begins c =
     let bytes = c.args.bytes.now in
-    let number = c.in-Some.length.now in
+    let number = c.in-Some.field.now in
     let rest = c.in-Some.rest.now in
     let datagram = c.in-Some-get.datagram.now in
     let n = c.length_in.result in
@@ -35,7 +32,7 @@ returns-in-Ok-clause-begins c =
     let size : length datagram ≡ n = omega (arith, found.3, c.from.ensures) in
     let is : datagram ≡ take n rest = found.2 ∙ ap (λ n. take n rest) (omega (arith, c.from.ensures)) in
     let own : AllByRecursion IsByte datagram = grind (arith, octets-take, octets-drop) in
-    let kept : datagram ≡ c.in-Ok.datagram = grind (arith, appended) in
+    let kept : datagram ≡ c.in-Ok.datagram = search rules in
     subst (λ xs. BeginsWithRecord xs c.in-Ok.datagram) (sym (joined bytes number rest 2 split))
     (subst (BeginsWithRecord (number ++ rest)) kept
     (record_begins n number rest datagram c.length_in.ensures.spelled (search rules) is size (search rules) own))

@@ -1,4 +1,4 @@
-use Rattle.flute_journal.proofs.{Common.{◌≡◌, List, rules, ap, ◌∙◌, subst, Err, err_from_is_err_and, Fact, is_open, IsLoadFault, Read, ReadsPart}, Loading.{loaded-given, loaded-fits, loaded-full, loaded-stops, loaded-read, fault-part, refused-part}}
+use Rattle.flute_journal.proofs.{Common.{◌≡◌, List, rules, ap, ◌∙◌, subst, Err, err_from_is_err_and, Fact, is_open, IsLoadFault, Read, ReadsPart}, Loading.{loaded_all, loaded-given, loaded-fits, loaded-full, loaded-stops, loaded-read, fault-part, refused-part}}
 use Rattle.flute_journal.proofs.load.read_store.Goals as goal
 
 pub returns-in_err-fact-clause-fault : goal.returns-in_err-fact-clause-fault
@@ -45,3 +45,6 @@ loop-store-preserved g c = (
 
 pub returns-clause-within : goal.returns-clause-within
 returns-clause-within g c = loaded-fits _ _ _ _ _ _ _ _ c.loop-store.invariant.0
+
+pub returns-clause-journal : goal.returns-clause-journal
+returns-clause-journal g c = (loaded_all _ _ _ _ _ _ _ _ _ _ _ _ c.loop-store.invariant.0 c.loop-store.invariant.1 c.in_default.is c.in_ok-fact.ensures.gives).journal

@@ -1,8 +1,15 @@
-use Rattle.flute_journal.proofs.{Common.{Err, sym, ap, ◌∙◌, subst, err_from_is_err_and, Header, ReadsFrom}, Calls.{reads_header}}
+use Rattle.flute_journal.proofs.{Common.{Err, Failed, Header, Two, refl}, Calls.{reads_header, reads_first, gives}}
 use Rattle.flute_journal.proofs.reader.read_first.Goals as goal
 
-pub returns-in_err-read_header-clause-reads : goal.returns-in_err-read_header-clause-reads
-returns-in_err-read_header-clause-reads g c =
-    let e = err_from_is_err_and c.from_residual.result c.from_residual.ensures.1 in
-    subst (ReadsFrom c.args.max_entries Header _ _) (sym (e.1 ∙ ap Err e.2))
-    (reads_header c.args.max_entries _ _ c.in_err-read_header.field-0.0 c.in_err-read_header.ensures.reads c.in_err-read_header.ensures.memory c.in_err-read_header.ensures.advances)
+pub returns-in-Ok-clause-gives : goal.returns-in-Ok-clause-gives
+returns-in-Ok-clause-gives g c =
+    let limit = c.args.max_entries in
+    let version = c.in-Ok.version in
+    let read = c.read_entry-given.ensures in
+    gives limit version Header _ _ _ _ refl c.stage_behind.ensures (reads_first limit version _ _ _ _ c.in-Ok.ensures.reads.1 read.reads read.within)
+
+pub returns-in-Err-clause-gives : goal.returns-in-Err-clause-gives
+returns-in-Err-clause-gives g c =
+    let f = c.in-Err.fault in
+    gives c.args.max_entries Two Header (Failed f) _ _ (Err f) refl refl
+    (reads_header c.args.max_entries _ _ f c.in-Err.ensures.reads c.in-Err.ensures.memory c.read_header.ensures.advances)

@@ -1,9 +1,11 @@
-use Rattle.flute_journal.proofs.{Common.{rules}, Parts.{not_true, not_false}, Decoded.{opening_version, opening_read}}
+use Rattle.std.proofs.Common.{rules, take, drop, bytes_eq}
+use Rattle.flute_journal.proofs.{Parts.{not_true, not_false}, Decoded.{opening_version, opening_read}}
 use Rattle.flute_journal.proofs.format.decode.check_opening.Goals as goal
 
 pub returns-then-ne-2 : goal.returns-then-ne-2
 returns-then-ne-2 c =
-    opening_version c.args.opening.now c.args.bytes.now c.in-Some.magic.now c.in-Some.rest.now c.requires c.in-Some.ensures.cases
+    let o = c.args.opening.now in
+    opening_version (take 4 o) (λ version. bytes_eq version (take 2 (drop 4 o))) c.args.bytes.now c.in-Some.magic.now c.in-Some.rest.now c.requires c.in-Some.ensures.cases
     (not_false _ c.if-ne.ensures) c.if-rest-lt2.false (not_true _ c.if-ne-2.ensures)
 
 pub returns : goal.returns
