@@ -10,7 +10,7 @@ use Rattle.flute_parts.specs.Facts.{Same}
 use Rattle.flute_wire.specs.Content.{Content}
 use Rattle.flute_wire.specs.Reading.{packet, packet_facts, facts}
 use Rattle.flute_parts.proofs.Facts.{Same-itself, Same-trans, Same-append, Same-twice, Below-itself, Same-from_Below}
-use Rattle.flutejoin.proofs.Receptions.{Same-from_journals, Journal-from_within}
+use Rattle.flutejoin.proofs.Receptions.{Same-from_journals, IsJournal-from_within}
 use Rattle.flutejoin.specs.declared.steps.Step.{Step}
 use Rattle.flutejoin.specs.declared.steps.Step.TheVariants.{Take, Load, Add, Merge, Reopen}
 use Rattle.flutejoin.specs.declared.steps.StepFault.{StepFault}
@@ -27,7 +27,7 @@ use Rattle.flutejoin.proofs.Outcomes.{held_after-above}
 
 -- replicas that hold more hold more after a step
 pub held_after-below : (A B : List (List Fact)) (step : Step) (origin : List Fact) → EachBelow A B → EachBelow (held_after A step origin) (held_after B step origin)
-held_after-below A B (Take replica datagram) origin h = given_to-each_below A B replica (facts datagram) (facts datagram) h (Below-itself (facts datagram))
+held_after-below A B (Take replica datagram) origin h = given_to-each_below A B replica (facts 0 datagram) (facts 0 datagram) h (Below-itself (facts 0 datagram))
 held_after-below A B (Load replica journal) origin h = given_to-each_below A B replica origin origin h (Below-itself origin)
 held_after-below A B (Add replica fact) origin h = given_to-each_below A B replica (fact ∷ []) (fact ∷ []) h (Below-itself (fact ∷ []))
 held_after-below A B (Merge into from) origin h = given_to-each_below A B into (held_by A from) (held_by B from) h (h.each from)
@@ -70,11 +70,11 @@ known_after-marked held steps done origins k step b is within =
     (λ j below. ap (λ o. if_done o (slice_get steps j)) (slice_get-set_other done k j b (λ e. absurd (omega arith)))))
 
 -- a refused datagram has no facts
-refused_facts : (d : List ℕ) → is_refused d ≡ true → facts d ≡ []
+refused_facts : (d : List ℕ) → is_refused d ≡ true → facts 0 d ≡ []
 unfolding facts
 refused_facts d h = go (packet d) h
   where
-    go : (o : Option Content) → is_none o ≡ true → packet_facts o ≡ []
+    go : (o : Option Content) → is_none o ≡ true → packet_facts 0 o ≡ []
     go None e = refl
     go (Some content) e = cc
 
@@ -117,7 +117,7 @@ drive_start before steps done =
 -- a step that was done has an origin that fits it
 some_origin : (limit : Capacity) (before : Held) (step : Step) (now : Held) → IsDone limit before step now → (origin : List Fact) × FitsStep step origin
 some_origin limit before (Take replica datagram) now done = ([], tt)
-some_origin limit before (Load replica journal) now done = (done.journal.0, inl (Journal-from_within journal done.journal.0 done.journal.1))
+some_origin limit before (Load replica journal) now done = (done.journal.0, inl (IsJournal-from_within journal done.journal.0 done.journal.1))
 some_origin limit before (Add replica fact) now done = ([], tt)
 some_origin limit before (Merge into from) now done = ([], tt)
 some_origin limit before (Reopen replica) now done = ([], tt)
@@ -279,7 +279,7 @@ origins_same bs replica F G (inr none) (inr also) = rw (none.1, also.1) (Same-it
 
 -- a step made again gives nothing more
 pub held_after-twice : (A : List (List Fact)) (step : Step) (origin again : List Fact) → FitsStep step origin → FitsStep step again → EachSame (held_after (held_after A step origin) step again) (held_after A step again)
-held_after-twice A (Take replica datagram) origin again f g = given_to-twice A replica (facts datagram) (facts datagram) (Same-itself (facts datagram))
+held_after-twice A (Take replica datagram) origin again f g = given_to-twice A replica (facts 0 datagram) (facts 0 datagram) (Same-itself (facts 0 datagram))
 held_after-twice A (Load replica journal) origin again f g = given_to-twice A replica origin again (origins_same journal replica origin again f g)
 held_after-twice A (Add replica fact) origin again f g = given_to-twice A replica (fact ∷ []) (fact ∷ []) (Same-itself (fact ∷ []))
 held_after-twice A (Merge into from) origin again f g =

@@ -1,11 +1,9 @@
 -- What is written of an object is the same of all facts that come to the same.
 use Rattle.std.proofs.Common.{◌≡◌, ℕ, List, length, Option, sym, subst, ◌∙◌}
-use Rattle.std.specs.Prelude.{◌≢◌}
 use Rattle.std.specs.Io.KnownBytes.{Appends}
 use Rattle.flute_parts.specs.Addresses.{info_address}
 use Rattle.flute_parts.specs.Devices.{AppendsPart}
 use Rattle.flute_parts.specs.Facts.{Same}
-use Rattle.flute_parts.specs.Partition.{symbol_id}
 use Rattle.flute_parts.specs.declared.fact.Fact.{Fact}
 use Rattle.flute_parts.specs.declared.key.Key.{Key}
 use Rattle.flute_store.proofs.WholeObjects.{Whole-same, object-same, gaps-same}

@@ -1,5 +1,5 @@
 -- Datagram files that are held as what they tell.
-use Rattle.std.proofs.Common.{◌≡◌, ℕ, ◌+◌, ◌≤◌, Bool, true, false, cond, List, [], ◌∷◌, ◌++◌, length, count_by, Result, Ok, Err, inl, inr, refl, sym, ap, subst, ◌∙◌, arith, append-nil, append_assoc}
+use Rattle.std.proofs.Common.{◌≡◌, ℕ, ◌+◌, ◌≤◌, Bool, true, false, cond, List, [], ◌∷◌, ◌++◌, count_by, Result, Ok, Err, inl, inr, refl, sym, ap, subst, ◌∙◌, arith, append-nil, append_assoc}
 use Rattle.std.specs.Prelude.{OnOk, Option, Some, MatchResult}
 use Rattle.flute_journal.specs.declared.fault.ReadFault.{ReadFault}
 use Rattle.flute_journal.specs.Input.{FailsIf}
@@ -24,17 +24,17 @@ use Rattle.flutejoin.proofs.Receptions.{Below-left}
 abbrev none : Joined
 none = record { store = []; datagrams = 0; refused = 0 }
 
-flat_more : (ds : List (List ℕ)) (d : List ℕ) → flat_map facts (ds ++ d ∷ []) ≡ flat_map facts ds ++ facts d
-flat_more ds d = flat_map-append facts ds (d ∷ []) ∙ ap (λ F. flat_map facts ds ++ F) (append-nil (facts d))
+flat_more : (ds : List (List ℕ)) (d : List ℕ) → flat_map (facts 0) (ds ++ d ∷ []) ≡ flat_map (facts 0) ds ++ facts 0 d
+flat_more ds d = flat_map-append (facts 0) ds (d ∷ []) ∙ ap (λ F. flat_map (facts 0) ds ++ F) (append-nil (facts 0 d))
 
 takes_more : (before now after : Joined) (ds : List (List ℕ)) (d : List ℕ) → TakesDatagrams before ds now → TakesDatagram now d after → TakesDatagrams before (ds ++ d ∷ []) after
 takes_more before now after ds d all one =
     let length_is = length-append ds (d ∷ []) in
     record {
       content = rw (flat_more ds d)
-          (subst (λ F. Same after.store F) (append_assoc before.store (flat_map facts ds) (facts d))
-          (Same-trans after.store (now.store ++ facts d) ((before.store ++ flat_map facts ds) ++ facts d) one.content
-          (Same-append now.store (before.store ++ flat_map facts ds) (facts d) (facts d) all.content (Same-itself (facts d)))));
+          (subst (λ F. Same after.store F) (append_assoc before.store (flat_map (facts 0) ds) (facts 0 d))
+          (Same-trans after.store (now.store ++ facts 0 d) ((before.store ++ flat_map (facts 0) ds) ++ facts 0 d) one.content
+          (Same-append now.store (before.store ++ flat_map (facts 0) ds) (facts 0 d) (facts 0 d) all.content (Same-itself (facts 0 d)))));
       count = omega (arith, one.datagrams, all.count, length_is);
       refused = rw (sum_by_push (λ x. cond (is_refused x) 1 0) ds d, one.refused) (counted before.refused now.refused (count_by is_refused ds) (is_refused d) all.refused);
     }
@@ -43,14 +43,14 @@ takes_more before now after ds d all one =
     counted m n k true e = omega (arith, e)
     counted m n k false e = omega (arith, e)
 
-over_more : (ds : List (List ℕ)) (d : List ℕ) → IsOverShelf (flat_map facts ds) → IsOverShelf (flat_map facts (ds ++ d ∷ []))
-over_more ds d over = rw (flat_more ds d) (Over-below (flat_map facts ds) (flat_map facts ds ++ facts d) 64 4096 1048576 (Below-left (flat_map facts ds) (facts d)) over)
+over_more : (ds : List (List ℕ)) (d : List ℕ) → IsOverShelf (flat_map (facts 0) ds) → IsOverShelf (flat_map (facts 0) (ds ++ d ∷ []))
+over_more ds d over = rw (flat_more ds d) (Over-below (flat_map (facts 0) ds) (flat_map (facts 0) ds ++ facts 0 d) 64 4096 1048576 (Below-left (flat_map (facts 0) ds) (facts 0 d)) over)
 
-over_with : (told : Joined) (ds : List (List ℕ)) (d : List ℕ) → TakesDatagrams none ds told → IsOverShelf (told.store ++ facts d) → IsOverShelf (flat_map facts (ds ++ d ∷ []))
+over_with : (told : Joined) (ds : List (List ℕ)) (d : List ℕ) → TakesDatagrams none ds told → IsOverShelf (told.store ++ facts 0 d) → IsOverShelf (flat_map (facts 0) (ds ++ d ∷ []))
 over_with told ds d all over =
     rw (flat_more ds d)
-    (Over-below (told.store ++ facts d) (flat_map facts ds ++ facts d) 64 4096 1048576
-    (Below-from_Same (told.store ++ facts d) (flat_map facts ds ++ facts d) (Same-append told.store (flat_map facts ds) (facts d) (facts d) all.content (Same-itself (facts d)))) over)
+    (Over-below (told.store ++ facts 0 d) (flat_map (facts 0) ds ++ facts 0 d) 64 4096 1048576
+    (Below-from_Same (told.store ++ facts 0 d) (flat_map (facts 0) ds ++ facts 0 d) (Same-append told.store (flat_map (facts 0) ds) (facts 0 d) (facts 0 d) all.content (Same-itself (facts 0 d)))) over)
 
 store_over : (F : List Fact) (fault : CommandFault) → StoreFails F fault → fault ≡ Full → IsOverShelf F
 store_over F fault (inl full) is = full.1
@@ -83,7 +83,7 @@ holds_more old new ds d fits still one h = record {
     fewer false e = omega (arith, e, one.datagrams, h.few_refused)
 
 -- it found no room
-pub holds_over : (old new : HeldFile) (ds : List (List ℕ)) (d : List ℕ) (fault : CommandFault) → old.fits ≡ true → new.fits ≡ false → StoreFails (old.told.store ++ facts d) fault → fault ≡ Full
+pub holds_over : (old new : HeldFile) (ds : List (List ℕ)) (d : List ℕ) (fault : CommandFault) → old.fits ≡ true → new.fits ≡ false → StoreFails (old.told.store ++ facts 0 d) fault → fault ≡ Full
     → (new.told.datagrams ≡ old.told.datagrams) × (new.told.refused ≡ old.told.refused) → HoldsDatagrams old ds → HoldsDatagrams new (ds ++ d ∷ [])
 holds_over old new ds d fault fits over fails full counts h = record {
   few = omega (arith, counts.0, h.few, length-append ds (d ∷ []));

@@ -1,5 +1,5 @@
 -- How a join of inputs ends.
-use Rattle.std.proofs.Common.{◌≡◌, ◌≢◌, ℕ, zero, suc, ◌+◌, ◌*◌, ◌^◌, ◌≤◌, ◌<◌, Bool, true, false, if◌then◌else◌, List, [], ◌∷◌, ◌++◌, length, take, Option, Some, None, Result, Ok, Err, inl, inr, refl, sym, ap, ◌∙◌, subst, arith}
+use Rattle.std.proofs.Common.{◌≡◌, ℕ, zero, suc, ◌+◌, ◌^◌, ◌≤◌, ◌<◌, Bool, true, false, if◌then◌else◌, List, [], ◌∷◌, ◌++◌, length, take, Option, Some, None, Result, Ok, Err, inl, inr, refl, sym, ap, ◌∙◌, subst, arith}
 use Rattle.std.specs.Prelude.{slice_get, ◌⊎◌, ⊤, IfSome, is_ok}
 use Rattle.std.specs.Result.{is_err}
 use Rattle.std.specs.List.{flat_map, AllByRecursion}
@@ -8,12 +8,13 @@ use Rattle.std.proofs.KnownBytes.{Appends-nil}
 use Rattle.std.proofs.lemmas.Bool.{cases_eq}
 use Rattle.std.proofs.lemmas.List.{length-append}
 use Rattle.std.proofs.lemmas.Option.{slice_get_within}
-use Rattle.flute_parts.specs.Facts.{Same, SameMembers, IsRising}
-use Rattle.flute_parts.specs.Limits.{Over}
+use Rattle.flute_parts.specs.Facts.{Same, SameMembers}
 use Rattle.flute_parts.specs.declared.fact.Fact.{Fact}
 use Rattle.flute_parts.proofs.Facts.{Same-sym, Same-trans, Same-members}
 use Rattle.flute_parts.proofs.Rising.{rising_unique}
-use Rattle.flute_journal.specs.Format.{spelling}
+use Rattle.flute_journal.specs.Format.{spelling, spelling_in}
+use Rattle.flute_journal.specs.declared.format.version.Version.{Version}
+use Rattle.flute_journal.proofs.MergeBytes.{journal_parts}
 use Rattle.flute_journal.specs.Journal.{Journal, Collects}
 use Rattle.flute_journal.specs.JournalWriters.{Written}
 use Rattle.flute_journal.specs.Kinds.{HasKind}
@@ -24,7 +25,6 @@ use Rattle.flute_journal.specs.FirstFaults.{FirstFault, TellBefore}
 use Rattle.flute_journal.specs.Replacing.{replaced}
 use Rattle.flute_journal.specs.StreamMerges.{all_of, IsWithinLimits, MergedAll, NoneFails, AppendsNoJournal}
 use Rattle.flute_journal.specs.Whole.{HasFault}
-use Rattle.flute_journal.specs.Records.{IsFileWithin}
 use Rattle.flute_journal.specs.declared.beside.Beside.{Beside}
 use Rattle.flute_journal.specs.declared.either.Either.{Either}
 use Rattle.flute_journal.specs.declared.either.Either.TheVariants.{First, Second}
@@ -38,24 +38,23 @@ use Rattle.flute_journal.specs.declared.or_full.OrFull.{OrFull}
 use Rattle.flute_journal.specs.declared.or_full.OrFull.TheVariants as orfull
 use Rattle.flute_journal.specs.declared.streams_fault.InputFault.{InputFault}
 use Rattle.flutejoin.specs.declared.command_fault.CommandFault.{CommandFault}
-use Rattle.flutejoin.specs.declared.command_fault.CommandFault.TheVariants.{Input, UnknownKind, Full, OutOfMemory, CannotWrite}
+use Rattle.flutejoin.specs.declared.command_fault.CommandFault.TheVariants.{Input, Full, OutOfMemory, CannotWrite}
 use Rattle.flutejoin.specs.declared.held_file.HeldFile.{HeldFile}
-use Rattle.flutejoin.specs.declared.join_counts.JoinCounts.{JoinCounts}
-use Rattle.flutejoin.specs.JoinInputs.{JoinInput, left, failures_of, NoneFailed, OneFailed}
-use Rattle.flutejoin.specs.Joined.{told_facts, TellAll, TellsWithin, FirstInput, IsKnown, IsOverAlone, IsJournalAt, IsFileAt, TellOver, JoinFails, HoldsAll, FileFails}
+use Rattle.flutejoin.specs.JoinInputs.{JoinInput, failures_of, NoneFailed, OneFailed}
+use Rattle.flutejoin.specs.Joined.{told_facts, TellsWithin, FirstInput, IsKnown, IsOverAlone, IsJournalAt, IsFileAt, JoinFails, HoldsAll, FileFails}
 use Rattle.flutejoin.specs.Joining.{JoinsTo, AllTell, JoinToFails, of_inputs, of_device, of_sink, NamesOneOf, LookFails, of_kind, of_file, SomeLookFails, IsLooked, AreReady, AreLooked, IsReady, JoinsLooked, IsHeldStream, IsStreamOf, SumsUp}
 use Rattle.flutejoin.specs.Shelves.{IsOverShelf}
 use Rattle.flutejoin.specs.Status.{of_load}
 use Rattle.flutejoin.proofs.Firsts.{at_place, first_at, first_with}
 use Rattle.flutejoin.proofs.Looks.{last_or_before, last_is, one_is}
-use Rattle.flutejoin.proofs.JoinStreams.{joins, Stands, Looks, Place, TellsEach, place, stands, looks, all_new, all_few, all_known, tells_one, tells_each, over_same}
+use Rattle.flutejoin.proofs.JoinStreams.{joins, Stands, Looks, place, stands, looks, all_known, tells_one, tells_each, over_same}
 
 -- nothing was appended
 pub nothing_appended : (w : Option (List ℕ)) → AppendsNoJournal w w
-nothing_appended w = record { bytes = []; appended = Appends-nil w; no_journal = λ facts j. let e = j.3 in absurd (some (j.0) e) }
+nothing_appended w = record { bytes = []; appended = Appends-nil w; no_journal = λ facts (v, journal). let j = journal_parts v [] facts journal in some v j.entries j.bytes_are }
   where
-    some : (es : List Fact) → [] ≡ spelling es → ⊥
-    some es e = let n = ap length e in cc
+    some : (v : Version) (es : List Fact) → [] ≡ spelling_in v es → ⊥
+    some v es e = let n = ap length e in cc
 
 read_or_not : (f : ReadFault) → (f ≡ Read) ⊎ (f ≡ Read → ⊥)
 read_or_not Read = inl refl

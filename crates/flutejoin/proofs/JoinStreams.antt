@@ -1,23 +1,20 @@
 -- Inputs and what datagram files tell, as streams that are joined.
-use Rattle.std.proofs.Common.{◌≡◌, ◌≢◌, ℕ, zero, suc, ◌+◌, ◌*◌, ◌^◌, ◌≤◌, ◌<◌, Bool, true, false, List, [], ◌∷◌, ◌++◌, length, take, count_by, Option, Some, None, Result, Ok, Err, inl, inr, refl, sym, ap, ◌∙◌, subst, append-nil, arith}
+use Rattle.std.proofs.Common.{◌≡◌, ℕ, zero, suc, ◌+◌, ◌*◌, ◌^◌, ◌≤◌, Bool, List, [], ◌∷◌, ◌++◌, length, count_by, Option, Some, None, inl, refl, sym, ap, ◌∙◌, subst, arith}
 use Rattle.std.specs.Prelude.{slice_get, sum_by, IfSome}
 use Rattle.std.specs.List.{flat_map, AllByRecursion}
 use Rattle.std.proofs.lemmas.List.{length-append}
 use Rattle.std.proofs.lemmas.List.Sums.{sum_by-append}
 use Rattle.std.proofs.lemmas.Option.{slice_get_within}
 use Rattle.flute_parts.specs.Facts.{Same}
-use Rattle.flute_parts.specs.Limits.{Over}
 use Rattle.flute_parts.specs.declared.fact.Fact.{Fact}
 use Rattle.flute_parts.proofs.Facts.{Same-itself, Same-sym, Same-append, Below-from_Same}
 use Rattle.flute_parts.proofs.Named.{Over-below}
 use Rattle.flute_wire.specs.Reading.{facts}
-use Rattle.flute_journal.specs.Besides.{beside_behaviour}
 use Rattle.flute_journal.specs.Journal.{IsJournalWithin}
 use Rattle.flute_journal.specs.Streams.{Behaviour, IsNew, most_of}
 use Rattle.flute_journal.specs.Advances.{AreNew}
-use Rattle.flute_journal.specs.FirstFaults.{FirstFault, TellBefore}
 use Rattle.flute_journal.specs.Replacing.{replaced}
-use Rattle.flute_journal.specs.StreamMerges.{all_of, Each, NoneFails}
+use Rattle.flute_journal.specs.StreamMerges.{all_of, Each}
 use Rattle.flute_journal.specs.declared.beside.Beside.{Beside}
 use Rattle.flute_journal.specs.declared.either.Either.{Either}
 use Rattle.flute_journal.specs.declared.either.Either.TheVariants.{First, Second}
@@ -25,9 +22,9 @@ use Rattle.flute_journal.specs.declared.or_full.OrFull.{OrFull}
 use Rattle.flute_journal.specs.declared.or_full.OrFull.TheVariants as orfull
 use Rattle.flute_journal.specs.OrFulls.{or_full_behaviour}
 use Rattle.flutejoin.specs.declared.held_file.HeldFile.{HeldFile}
-use Rattle.flutejoin.specs.JoinInputs.{JoinInput, left, input_behaviour, failures_of, NoneFailed}
+use Rattle.flutejoin.specs.JoinInputs.{JoinInput, input_behaviour}
 use Rattle.flutejoin.specs.Joined.{Told, of_journal, of_file, told_facts, told_datagrams, TellAll, TellsWithin, IsKnown, HoldsAll, HoldsDatagrams}
-use Rattle.flutejoin.specs.Joining.{datagrams_of, refused_of, IsLooked, AreLooked, IsReady, AreReady, IsHeldStream, IsFileStream, IsStreamOf, joined_behaviour}
+use Rattle.flutejoin.specs.Joining.{datagrams_of, refused_of, IsLooked, AreLooked, IsReady, IsHeldStream, IsFileStream, IsStreamOf, joined_behaviour}
 use Rattle.flutejoin.specs.Refused.{is_refused}
 use Rattle.flutejoin.specs.Shelves.{IsOverShelf}
 use Rattle.flutejoin.proofs.Looks.{is_known}
@@ -150,12 +147,12 @@ module _ {R : Type 0} (unread : R → Option (List ℕ)) (failures : R → ℕ) 
   tells_file file s bytes F x held looked h =
       let P : Bool → Type 0 = λ c. HoldsAll c file.told looked.0 in
       let all = subst P held.fits looked.2.holds in
-      let same : Same file.told.store (flat_map facts looked.0) = all.content in
+      let same : Same file.told.store (flat_map (facts 0) looked.0) = all.content in
       record {
         told = of_file looked.0;
         tells = looked.1;
-        within = λ over. held.within (over_same (flat_map facts looked.0) file.told.store (Same-sym file.told.store (flat_map facts looked.0) same) over);
-        same = subst (λ G. Same G (flat_map facts looked.0)) (sym (held.tells F h)) same;
+        within = λ over. held.within (over_same (flat_map (facts 0) looked.0) file.told.store (Same-sym file.told.store (flat_map (facts 0) looked.0) same) over);
+        same = subst (λ G. Same G (flat_map (facts 0) looked.0)) (sym (held.tells F h)) same;
         datagrams = omega (arith, all.count);
         refused = omega (arith, all.refused);
       }

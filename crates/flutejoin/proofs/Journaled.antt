@@ -11,7 +11,8 @@ use Rattle.flute_journal.specs.declared.fault.ReadFault.{ReadFault}
 use Rattle.flute_journal.specs.declared.fault.ReadFault.TheVariants as read
 use Rattle.flute_journal.specs.declared.fault.LoadFault.{LoadFault}
 use Rattle.flute_journal.specs.declared.fault.LoadFault.TheVariants as load
-use Rattle.flute_journal.specs.Journal.{Journal, IsJournalWithin, Stops}
+use Rattle.flute_journal.proofs.MergeBytes.{written_journal}
+use Rattle.flute_journal.specs.Journal.{Journal, IsJournal, IsJournalWithin, Stops}
 use Rattle.flute_journal.specs.Whole.{StopsAfter}
 use Rattle.flute_journal.specs.Stores.{FailsToLoad, IsJournalOf, IsLoadFault}
 use Rattle.flutejoin.specs.declared.steps.Step.TheVariants.{Load, Reopen}
@@ -23,12 +24,12 @@ use Rattle.flutejoin.specs.Faults.{fault_of_read, fault_of_load}
 use Rattle.flutejoin.specs.Held.{Held, Capacity, IsOver}
 use Rattle.flutejoin.specs.Steps.{held_by, FitsStep, EachSame}
 use Rattle.flutejoin.specs.Outcome.{IsDone, IsRefused, IsLonger}
-use Rattle.flutejoin.proofs.Receptions.{IsOver-below, Same-from_journals, Journal-from_within, too_many, not_longer, begins_below}
+use Rattle.flutejoin.proofs.Receptions.{IsOver-below, Same-from_journals, IsJournal-from_within, too_many, not_longer, begins_below}
 use Rattle.flutejoin.proofs.Places.{EachSame-itself, EachSame-set}
 use Rattle.flutejoin.proofs.Outcomes.{IsChangedAt, given_done, between_refused, over_given, unchanged_refused, others_at, content_at}
 
 -- a `Load` gives what its journal was written of, whichever list that is taken for
-origin_same : (bs : List ℕ) (replica : ℕ) (F origin : List Fact) → Journal bs F → FitsStep (Load replica bs) origin → Same F origin
+origin_same : (bs : List ℕ) (replica : ℕ) (F origin : List Fact) → IsJournal bs F → FitsStep (Load replica bs) origin → Same F origin
 origin_same bs replica F origin journal (inl fits) = Same-from_journals bs F origin journal fits
 origin_same bs replica F origin journal (inr none) = absurd (none.0 F journal)
 
@@ -41,7 +42,7 @@ loaded_done limit before now i old content loaded bs F h journal same joined ins
       origin,
       refl,
       Same-trans content (old ++ loaded) (old ++ origin) joined
-          (Same-append old old loaded origin (Same-itself old) (Same-trans loaded F origin same (origin_same bs i F origin (Journal-from_within bs F journal) fits))),
+          (Same-append old old loaded origin (Same-itself old) (Same-trans loaded F origin same (origin_same bs i F origin (IsJournal-from_within bs F journal) fits))),
     ))
     inside
 
@@ -50,7 +51,7 @@ pub loaded_refused : (limit : Capacity) (before now : Held) (i : ℕ) (old conte
     → Below old content → Below content (old ++ loaded) → ((fault ≡ Full) × IsOver (old ++ loaded) limit) ⊎ (fault ≡ OutOfMemory) → IsRefused limit before (Load i bs) now fault
 loaded_refused limit before now i old content loaded bs F fault h journal same below above cause =
     let whole : (origin : List Fact) → FitsStep (Load i bs) origin → Below (old ++ loaded) (old ++ origin) = λ origin fits.
-    Below-from_Same (old ++ loaded) (old ++ origin) (Same-append old old loaded origin (Same-itself old) (Same-trans loaded F origin same (origin_same bs i F origin (Journal-from_within bs F journal) fits))) in
+    Below-from_Same (old ++ loaded) (old ++ origin) (Same-append old old loaded origin (Same-itself old) (Same-trans loaded F origin same (origin_same bs i F origin (IsJournal-from_within bs F journal) fits))) in
     elim cause [
       | inl full ↦
           let P : StepFault → Type 0 = λ f. IsRefused limit before (Load i bs) now f in
@@ -99,11 +100,11 @@ not_loaded limit before i bs left (load.Read f) cause other =
     ]
 
 -- a `Reopen` that was done
-pub reopened_done : (limit : Capacity) (before now : Held) (i : ℕ) (old content : List Fact) (bs : List ℕ) → IsChangedAt before now i old content → Journal bs old → IsJournalOf MAX_ENTRIES bs content
+pub reopened_done : (limit : Capacity) (before now : Held) (i : ℕ) (old content : List Fact) (bs : List ℕ) → IsChangedAt before now i old content → IsJournal bs old → IsJournalOf MAX_ENTRIES bs content
     → ¬ IsOver content limit → IsDone limit before (Reopen i) now
 reopened_done limit before now i old content bs h written read inside =
     let F = read.0 in
-    let whole : Same old F = Same-from_journals bs old F written (Journal-from_within bs F read.1) in
+    let whole : Same old F = Same-from_journals bs old F written (IsJournal-from_within bs F read.1) in
     let again : Same old content = Same-trans old F content whole (Same-sym content F read.2) in
     let stays : set before.contents i old ≡ before.contents = ap (set before.contents i) (sym h.held) ∙ set-get_or before.contents i [] in
     record {
@@ -122,7 +123,7 @@ reopened_done limit before now i old content bs h written read inside =
     }
 
 -- a `Reopen` whose journal was not read back
-pub not_reopened : (limit : Capacity) (before : Held) (i : ℕ) (old : List Fact) (bs : List ℕ) (left : Option (List ℕ)) (fault : LoadFault) → held_by before.contents i ≡ old → Journal bs old
+pub not_reopened : (limit : Capacity) (before : Held) (i : ℕ) (old : List Fact) (bs : List ℕ) (left : Option (List ℕ)) (fault : LoadFault) → held_by before.contents i ≡ old → IsJournal bs old
     → IsLoadFault limit.sessions limit.objects limit.symbols MAX_ENTRIES (Some bs) left fault → fault ≢ load.Read read.Read → IsRefused limit before (Reopen i) before (fault_of_load fault)
 not_reopened limit before i old bs left load.Full held written cause other =
     unchanged_refused limit before (Reopen i) before Full refl (λ origin _. inl (rw held (IsOver-below cause.0 old limit (begins_below bs old cause.0 written cause.1) cause.2)))
@@ -164,8 +165,8 @@ written_whole old new bs cs first last h =
     subst Q last (subst P first h)
 
 -- the journal of what a replica holds, as it was written
-pub journal_written : (bs cs : List ℕ) (F G : List Fact) → cs ≡ bs → F ≡ G → Journal bs F → Journal cs G
+pub journal_written : (bs cs : List ℕ) (F G : List Fact) → cs ≡ bs → F ≡ G → Journal bs F → IsJournal cs G
 journal_written bs cs F G is same journal =
     let P : List ℕ → Type 0 = λ xs. Journal xs G in
     let Q : List Fact → Type 0 = λ H. Journal bs H in
-    subst P (sym is) (subst Q same journal)
+    written_journal cs G (subst P (sym is) (subst Q same journal))

@@ -1,4 +1,5 @@
 mod Encoded
+mod Senders
 mod Pieced
 mod Shown
 mod Mapped

@@ -1,23 +1,22 @@
 -- Inputs that are looked at, one after the other.
-use Rattle.std.proofs.Common.{◌≡◌, ◌≢◌, ℕ, zero, suc, ◌+◌, ◌*◌, ◌≤◌, ◌<◌, List, [], ◌∷◌, ◌++◌, length, take, Option, Some, None, Result, Ok, Err, inl, inr, refl, sym, ap, ◌∙◌, subst, arith}
+use Rattle.std.proofs.Common.{◌≡◌, ◌≢◌, ℕ, zero, suc, ◌+◌, ◌*◌, ◌≤◌, List, [], ◌∷◌, ◌++◌, length, take, Option, Some, None, Err, inl, inr, refl, sym, ap, ◌∙◌, subst, arith}
 use Rattle.std.proofs.Math.ListN.{set}
 use Rattle.std.specs.Prelude.{slice_get, sum_by}
 use Rattle.std.specs.List.{AllByRecursion}
-use Rattle.std.proofs.lemmas.Bool.{cases_eq, cases_lt}
+use Rattle.std.proofs.lemmas.Bool.{cases_eq}
 use Rattle.std.proofs.lemmas.List.{length-append, length-set}
 use Rattle.std.proofs.lemmas.List.Sums.{sum_by_push}
 use Rattle.std.proofs.lemmas.Option.{slice_get_within}
 use Rattle.flute_journal.specs.Kinds.{HasKind, IsNeither}
 use Rattle.flute_journal.specs.declared.kind.Kind.{Kind}
 use Rattle.flute_journal.specs.declared.kind.Kind.TheVariants.{Journal, Datagrams}
-use Rattle.flute_journal.specs.declared.fault.ReadFault.{ReadFault}
 use Rattle.flute_journal.specs.declared.fault.ReadFault.TheVariants.{Read}
 use Rattle.flutejoin.specs.declared.command_fault.CommandFault.{CommandFault}
 use Rattle.flutejoin.specs.declared.command_fault.CommandFault.TheVariants.{Input, UnknownKind, CannotWrite}
 use Rattle.flutejoin.specs.declared.held_file.HeldFile.{HeldFile}
 use Rattle.flutejoin.specs.declared.looking.Looked.{Looked}
 use Rattle.flutejoin.specs.JoinInputs.{JoinInput, IsInput, AreInputs, failures_of, NoneFailed, OneFailed}
-use Rattle.flutejoin.specs.Joined.{FirstInput, IsKnown}
+use Rattle.flutejoin.specs.Joined.{IsKnown}
 use Rattle.flutejoin.specs.Joining.{NamesOnly, NamesOneOf, LookFails, of_kind, SomeLookFails, datagrams_of, refused_of, IsFew, SumsUp, IsLooked, AreLooked, IsReady, AreReady}
 use Rattle.flutejoin.specs.Show.{FailsToRead}
 use Rattle.flutejoin.proofs.Driving.{slice_get-set_other, slice_get-set_same}

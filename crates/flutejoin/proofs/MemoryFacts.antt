@@ -1,17 +1,16 @@
 -- Inputs in memory, joined.
-use Rattle.std.proofs.Common.{◌≡◌, ◌≢◌, ℕ, ◌<◌, ◌^◌, List, [], ◌∷◌, ◌++◌, length, Option, Some, None, refl, sym, ap, ◌∙◌, subst, arith}
+use Rattle.std.proofs.Common.{ℕ, ◌<◌, ◌^◌, List, [], Some, sym, subst, arith}
 use Rattle.std.specs.List.{flat_map}
-use Rattle.std.specs.Io.KnownBytes.{Appends}
 use Rattle.flute_parts.specs.Facts.{Same}
 use Rattle.flute_parts.specs.declared.fact.Fact.{Fact}
-use Rattle.flute_journal.specs.Journal.{Journal}
+use Rattle.flute_journal.specs.Journal.{IsJournal}
 use Rattle.flute_journal.specs.Stores.{IsJournalOf}
+use Rattle.flute_journal.proofs.MergeBytes.{written_journal}
 use Rattle.flute_journal.specs.declared.fault.ReadFault.{ReadFault}
 use Rattle.flute_journal.specs.declared.fault.ReadFault.TheVariants.{Read}
 use Rattle.flutejoin.specs.declared.command_fault.CommandFault.{CommandFault}
-use Rattle.flutejoin.specs.declared.command_fault.CommandFault.TheVariants.{Input, UnknownKind, Full, OutOfMemory, CannotWrite}
+use Rattle.flutejoin.specs.declared.command_fault.CommandFault.TheVariants.{Input, UnknownKind, Full, OutOfMemory}
 use Rattle.flutejoin.specs.declared.join_counts.JoinCounts.{JoinCounts}
-use Rattle.flutejoin.specs.declared.joined.Joined.{Joined}
 use Rattle.flutejoin.specs.Joined.{Joins, JoinFails, told_facts}
 use Rattle.flutejoin.specs.Joining.{JoinsTo, JoinToFails, of_inputs, of_device, of_sink}
 use Rattle.flutejoin.specs.Memory.{in_memory}
@@ -30,13 +29,13 @@ memory_fails inputs OutOfMemory (of_inputs h) = h
 memory_fails inputs fault (of_inputs h) = absurd h
 
 -- the journal that was written is read as what it tells
-pub joins_of : (inputs : List (List ℕ)) (counts : JoinCounts) (bytes : List ℕ) (store : List Fact) → counts.entries < 2 ^ 64 → ((bs : List ℕ) (F G : List Fact) → Journal bs F → Journal bs G → Same F G)
-    → ((bs : List ℕ) (limit : ℕ) (F : List Fact) → limit < 2 ^ 64 → IsJournalOf limit bs F → Journal bs F) → JoinsTo inputs counts (Some []) (Some bytes) → IsJournalOf counts.entries bytes store
+pub joins_of : (inputs : List (List ℕ)) (counts : JoinCounts) (bytes : List ℕ) (store : List Fact) → counts.entries < 2 ^ 64 → ((bs : List ℕ) (F G : List Fact) → IsJournal bs F → IsJournal bs G → Same F G)
+    → ((bs : List ℕ) (limit : ℕ) (F : List Fact) → limit < 2 ^ 64 → IsJournalOf limit bs F → IsJournal bs F) → JoinsTo inputs counts (Some []) (Some bytes) → IsJournalOf counts.entries bytes store
     → Joins inputs (record { store = store; datagrams = counts.datagrams; refused = counts.refused })
 joins_of inputs counts bytes store few one is_one h journal = record {
   told = h.told;
   tell = h.tell;
-  content = one bytes store (flat_map told_facts h.told) (is_one bytes counts.entries store few journal) (h.entries, h.collects, omega (arith, few, h.count), h.appended);
+  content = one bytes store (flat_map told_facts h.told) (is_one bytes counts.entries store few journal) (written_journal bytes (flat_map told_facts h.told) (h.entries, h.collects, omega (arith, few, h.count), h.appended));
   datagrams = h.datagrams;
   refused = h.refused;
 }

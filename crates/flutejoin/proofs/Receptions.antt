@@ -1,7 +1,6 @@
 -- Lists of facts, what stands above them, and their journals.
 use Rattle.std.proofs.Common.{◌≡◌, ◌≢◌, ℕ, List, [], ◌∷◌, ◌++◌, length, None, sym, ap, subst, ◌∙◌, append_assoc, arith}
 use Rattle.std.specs.List.{AllByRecursion}
-use Rattle.std.proofs.lemmas.List.{append-nil}
 use Rattle.flute_parts.specs.declared.address.Address.{Address}
 use Rattle.flute_parts.specs.declared.fact.Fact.{Fact}
 use Rattle.flute_parts.specs.declared.fact.Fact.TheVariants.{Info, InfoConflict, Symbol, SymbolConflict}
@@ -14,8 +13,9 @@ use Rattle.flute_parts.proofs.Rising.{rising_unique}
 use Rattle.flute_store.specs.Held.{HasCell}
 use Rattle.flute_journal.specs.declared.fault.ReadFault.{ReadFault}
 use Rattle.flute_journal.specs.Format.{spelling}
-use Rattle.flute_journal.specs.Journal.{Journal, IsJournalWithin, Stops}
-use Rattle.flute_journal.proofs.MergeBytes.{spelling-injective}
+use Rattle.flute_journal.specs.Journal.{Journal, IsJournal, IsJournalWithin, Stops}
+use Rattle.flute_journal.proofs.Entries.{facts_of}
+use Rattle.flute_journal.proofs.MergeBytes.{journal_parts, parts_journal, same_journal}
 use Rattle.flute_journal.proofs.Passes.{beyond, front-below}
 use Rattle.flutejoin.specs.Held.{Capacity, IsOver}
 use Rattle.flute_journal.specs.Stores.{BeginsWith, IsJournalOf}
@@ -51,10 +51,8 @@ HasCells-below F G (f ∷ fs) below h = (HasCell-below F G f below h.0, HasCells
 
 -- journals
 
-pub Same-from_journals : (bs : List ℕ) (F G : List Fact) → Journal bs F → Journal bs G → Same F G
-Same-from_journals bs F G j k =
-    let one = spelling-injective j.0 k.0 [] [] j.1.valid k.1.valid (append-nil (spelling j.0) ∙ sym j.3 ∙ k.3 ∙ sym (append-nil (spelling k.0))) in
-    record { each = λ a. j.1.same.each a ∙ ap (λ z. fact_at z a) (sym one.0) ∙ sym (k.1.same.each a) }
+pub Same-from_journals : (bs : List ℕ) (F G : List Fact) → IsJournal bs F → IsJournal bs G → Same F G
+Same-from_journals bs F G (v, j) (w, k) = (same_journal v w bs F G j k).1
 
 pub Journal-of_same : (bs : List ℕ) (F G : List Fact) → Same F G → Journal bs F → Journal bs G
 Journal-of_same bs F G same j =
@@ -66,27 +64,37 @@ Journal-only bs cs F G same j k =
     (Same-trans j.0 F k.0 (Same-sym F j.0 j.1.same) (Same-trans F G k.0 same k.1.same)) in
     j.3 ∙ ap spelling one ∙ sym k.3
 
-pub Journal-from_within : (bs : List ℕ) (entries : List Fact) → IsJournalWithin MAX_ENTRIES bs entries → Journal bs entries
-Journal-from_within bs entries j =
-    (entries, record { valid = j.are_entries.valid; rising = j.are_entries.rising; same = Same-itself entries }, omega (arith, j.are_entries.few), j.bytes_are)
+pub IsJournal-from_within : (bs : List ℕ) (entries : List Fact) → IsJournalWithin MAX_ENTRIES bs entries → IsJournal bs entries
+IsJournal-from_within bs entries j =
+    let v = j.are_entries.version in (
+      v,
+      parts_journal v bs entries (record {
+        entries = entries;
+        collects = record { valid = facts_of v entries j.are_entries.valid; rising = j.are_entries.rising; same = Same-itself entries };
+        small = omega (arith, j.are_entries.few);
+        bytes_are = j.bytes_are;
+        valid = j.are_entries.valid;
+      }),
+    )
 
 -- what is read of the journal of facts comes to the same as others with the same members
-pub Same-read_of_joined : (held joined others : List Fact) (bs : List ℕ) → IsJournalOf MAX_ENTRIES bs held → Journal bs joined → SameMembers joined others → Same held others
+pub Same-read_of_joined : (held joined others : List Fact) (bs : List ℕ) → IsJournalOf MAX_ENTRIES bs held → IsJournal bs joined → SameMembers joined others → Same held others
 Same-read_of_joined held joined others bs is journal members =
     Same-trans held is.0 others is.2 (Same-trans is.0 joined others
-    (Same-from_journals bs is.0 joined (Journal-from_within bs is.0 is.1) journal) (Same-members joined others members))
+    (Same-from_journals bs is.0 joined (IsJournal-from_within bs is.0 is.1) journal) (Same-members joined others members))
 
 -- bytes are no journal and at fault too
 pub never_both : (bs : List ℕ) (entries es : List Fact) (f : ReadFault) → IsJournalWithin MAX_ENTRIES bs entries → Stops bs MAX_ENTRIES es f → ⊥
 never_both bs entries es f j stops =
-    let b = beyond MAX_ENTRIES entries es bs f j.are_entries.valid j.are_entries.rising (omega (arith, j.are_entries.few)) j.bytes_are stops in
+    let b = beyond j.are_entries.version MAX_ENTRIES entries es bs f j.are_entries.valid j.are_entries.rising (omega (arith, j.are_entries.few)) j.bytes_are stops in
     omega (arith, b.1, j.are_entries.few)
 
 -- a journal stops its reader behind too many entries alone
-pub too_many : (bs : List ℕ) (F es : List Fact) (f : ReadFault) → Journal bs F → Stops bs MAX_ENTRIES es f → (f ≡ ReadFault.TooMany) × IsLonger F MAX_ENTRIES
-too_many bs F es f j stops =
-    let b = beyond MAX_ENTRIES j.0 es bs f j.1.valid j.1.rising j.2 j.3 stops in
-    (b.0, record { entries = j.0; rising = j.1.rising; same = j.1.same; many = b.1 })
+pub too_many : (bs : List ℕ) (F es : List Fact) (f : ReadFault) → IsJournal bs F → Stops bs MAX_ENTRIES es f → (f ≡ ReadFault.TooMany) × IsLonger F MAX_ENTRIES
+too_many bs F es f (v, journal) stops =
+    let j = journal_parts v bs F journal in
+    let b = beyond v MAX_ENTRIES j.entries es bs f j.valid j.collects.rising j.small j.bytes_are stops in
+    (b.0, record { entries = j.entries; rising = j.collects.rising; same = j.collects.same; many = b.1 })
 
 -- where more than so many addresses are told by one of two lists that are the same, they are by the other
 pub IsLonger-same : (F G : List Fact) (limit : ℕ) → Same F G → IsLonger F limit → IsLonger G limit
@@ -99,5 +107,5 @@ not_longer F entries bs j same h =
     omega (arith, h.many, n, j.are_entries.few)
 
 -- the entries that a journal begins with tell nothing more than it
-pub begins_below : (bs : List ℕ) (F es : List Fact) → Journal bs F → BeginsWith MAX_ENTRIES bs es → Below es F
-begins_below bs F es j begins = front-below bs F es begins.rest j begins.are_entries.valid begins.whole
+pub begins_below : (bs : List ℕ) (F es : List Fact) → IsJournal bs F → BeginsWith MAX_ENTRIES bs es → Below es F
+begins_below bs F es (v, j) begins = front-below v begins.are_entries.version bs F es begins.rest j begins.are_entries.valid begins.whole

@@ -1,5 +1,5 @@
 -- Streams of which some are replaced.
-use Rattle.std.proofs.Common.{ℕ, ◌≤◌, List, [], ◌∷◌, length, Option, Some, None, arith}
+use Rattle.std.proofs.Common.{◌≤◌, List, [], ◌∷◌, length, Option, Some, None, arith}
 use Rattle.flute_journal.specs.Replacing.{replaced}
 
 pub replaced_few : {A B : Type 0} (xs : List A) (os : List (Option B)) → length (replaced xs os) ≤ length xs

@@ -10,7 +10,7 @@ use Rattle.flute_parts.specs.declared.fact.Fact.{Fact}
 use Rattle.flute_parts.specs.Facts.{Same}
 use Rattle.flute_wire.specs.Reading.{facts}
 use Rattle.flute_parts.proofs.Facts.{Same-itself, Below-trans, Below-from_Same}
-use Rattle.flutejoin.proofs.Receptions.{Below-right, IsOver-below, IsLonger-same, Journal-from_within, never_both, begins_below, HasCell-below, HasCells-below}
+use Rattle.flutejoin.proofs.Receptions.{Below-right, IsOver-below, IsLonger-same, IsJournal-from_within, never_both, begins_below, HasCell-below, HasCells-below}
 use Rattle.flutejoin.specs.declared.steps.Step.{Step}
 use Rattle.flutejoin.specs.declared.steps.Step.TheVariants.{Take, Load, Add, Merge, Reopen}
 use Rattle.flutejoin.specs.declared.steps.StepFault.{StepFault}
@@ -26,7 +26,7 @@ use Rattle.flutejoin.proofs.Places.{EachSame-itself, EachSame-sym, EachSame-tran
 
 -- replicas that hold the same hold the same after a step
 pub held_after-same : (A B : List (List Fact)) (step : Step) (origin : List Fact) → EachSame A B → EachSame (held_after A step origin) (held_after B step origin)
-held_after-same A B (Take replica datagram) origin h = given_to-each_same A B replica (facts datagram) (facts datagram) h (Same-itself (facts datagram))
+held_after-same A B (Take replica datagram) origin h = given_to-each_same A B replica (facts 0 datagram) (facts 0 datagram) h (Same-itself (facts 0 datagram))
 held_after-same A B (Load replica journal) origin h = given_to-each_same A B replica origin origin h (Same-itself origin)
 held_after-same A B (Add replica fact) origin h = given_to-each_same A B replica (fact ∷ []) (fact ∷ []) h (Same-itself (fact ∷ []))
 held_after-same A B (Merge into from) origin h = given_to-each_same A B into (held_by A from) (held_by B from) h (h.each from)
@@ -119,12 +119,12 @@ each_more_at P steps k step is here before j s within e =
 no_start_over : (limit : Capacity) (before : Held) (step : Step) (now : Held) → IsDone limit before step now → LoadsOver limit step → ⊥
 no_start_over limit before (Load replica journal) now done begins =
     let F = done.journal.0 in
-    let same = (done.content F (inl (Journal-from_within journal F done.journal.1))).each replica in
+    let same = (done.content F (inl (IsJournal-from_within journal F done.journal.1))).each replica in
     let there : held_by (given_to before.contents replica F) replica ≡ held_by before.contents replica ++ F = get_or-set_same before.contents replica (held_by before.contents replica ++ F) [] done.named in
     let P : List Fact → Type 0 = λ G. Same G (held_by now.contents replica) in
     done.within
     (IsOver-below begins.0 (held_by now.contents replica) limit
-    (Below-trans begins.0 F (held_by now.contents replica) (begins_below journal F begins.0 (Journal-from_within journal F done.journal.1) begins.1)
+    (Below-trans begins.0 F (held_by now.contents replica) (begins_below journal F begins.0 (IsJournal-from_within journal F done.journal.1) begins.1)
     (Below-trans F (held_by before.contents replica ++ F) (held_by now.contents replica) (Below-right (held_by before.contents replica) F)
     (Below-from_Same (held_by before.contents replica ++ F) (held_by now.contents replica) (subst P there same))))
     begins.2)
@@ -179,7 +179,7 @@ run_refused limit count steps k step before now fault so_far is refused =
 
 -- a step that needs nothing needs nothing where more is held
 pub NeedsNothing-below : (A B : List (List Fact)) (step : Step) → EachBelow A B → NeedsNothing A step → NeedsNothing B step
-NeedsNothing-below A B (Take replica datagram) h needs = (omega (arith, needs.0, h.count), HasCells-below (held_by A replica) (held_by B replica) (facts datagram) (h.each replica) needs.1)
+NeedsNothing-below A B (Take replica datagram) h needs = (omega (arith, needs.0, h.count), HasCells-below (held_by A replica) (held_by B replica) (facts 0 datagram) (h.each replica) needs.1)
 NeedsNothing-below A B (Add replica fact) h needs = (omega (arith, needs.0, h.count), HasCell-below (held_by A replica) (held_by B replica) fact (h.each replica) needs.1)
 NeedsNothing-below A B (Merge into from) h needs = (omega (arith, needs.0, h.count), needs.1)
 NeedsNothing-below A B (Load replica journal) h needs = needs

@@ -1,8 +1,8 @@
 -- A journal whose entries are printed as they are read.
-use Rattle.std.proofs.Common.{◌≡◌, ℕ, ◌+◌, Bool, true, false, List, [], ◌∷◌, ◌++◌, length, Option, Some, None, Result, Ok, Err, inl, inr, refl, sym, ap, ◌∙◌, subst, arith}
+use Rattle.std.proofs.Common.{◌≡◌, ℕ, ◌+◌, Bool, true, false, List, [], ◌∷◌, ◌++◌, length, Option, Some, None, Result, Ok, Err, ap, ◌∙◌, subst, arith}
 use Rattle.std.specs.Prelude.{IfSome}
-use Rattle.std.specs.Io.KnownBytes.{Appends, Consumes, IsAtEnd}
-use Rattle.std.proofs.KnownBytes.{Appends-trans, Consumes-trans}
+use Rattle.std.specs.Io.KnownBytes.{Appends, Consumes}
+use Rattle.std.proofs.KnownBytes.{Appends-trans}
 use Rattle.std.proofs.lemmas.List.{length-append, append-nil, flat_map_more}
 use Rattle.flute_parts.specs.Devices.{AppendsPart}
 use Rattle.flute_parts.proofs.Appended.{AppendsPart-second}
@@ -10,13 +10,12 @@ use Rattle.flute_parts.specs.declared.fact.Fact.{Fact}
 use Rattle.flute_journal.specs.declared.fault.ReadFault.{ReadFault}
 use Rattle.flute_journal.specs.declared.fault.ReadFault.TheVariants as faults
 use Rattle.flute_journal.specs.declared.reader.Stage.{Stage}
-use Rattle.flute_journal.specs.declared.reader.Stage.TheVariants.{Ended}
-use Rattle.flute_journal.specs.Format.{end, spelling}
+use Rattle.flute_journal.specs.Format.{spelling_in}
 use Rattle.flute_journal.specs.Input.{Fails, FailsIf}
-use Rattle.flute_journal.specs.Journal.{AreEntries, IsJournalWithin}
-use Rattle.flute_journal.specs.Reading.{is_open, position, opening, GivesEntry, GivesEnd, GivesFault, Gives}
-use Rattle.flute_journal.specs.SoFar.{Sofar, stage_at, read_of}
-use Rattle.flute_journal.proofs.Whole.{sofar-next, sofar-stops, open_at, read_some}
+use Rattle.flute_journal.specs.Journal.{IsJournalWithin}
+use Rattle.flute_journal.specs.Reading.{is_open, GivesEntry, GivesEnd, GivesFault, Gives}
+use Rattle.flute_journal.specs.SoFar.{Sofar}
+use Rattle.flute_journal.proofs.Whole.{AtEnd, sofar-next, sofar-stops, side-from, open_behind, read_some}
 use Rattle.flutejoin.specs.Lines.{fact_line, entries_line}
 use Rattle.flutejoin.specs.Show.{entry_lines, FailsToRead, ShowsAll, ShowsUntil, ShowsPart, of_entries, of_journal}
 use Rattle.flutejoin.specs.declared.command_fault.CommandFault.TheVariants.{Input}
@@ -47,7 +46,7 @@ pub shown-part : (u v w : Option (List ℕ)) (from to : Stage) (s t t' : Option 
     → GivesEntry MAX_ENTRIES from to v w f → AppendsPart t t' (fact_line f) → ShowsPart u w s t'
 shown-part u v w from to s t t' count f h g part =
     let all = sofar-next MAX_ENTRIES u v w from to h.entries f h.sofar g in
-    of_entries (h.entries ++ f ∷ []) all.are_entries (subst (Consumes u w) (read_some h.entries f) all.read)
+    of_entries (h.entries ++ f ∷ []) all.are_entries (subst (Consumes u w) (read_some all.are_entries.version h.entries f) all.read)
     (subst (λ (x : List ℕ). AppendsPart s t' x) (line_more h.entries f) (AppendsPart-second s t t' (entry_lines h.entries) (fact_line f) h.written part))
 
 -- The fault behind the entries.
@@ -63,26 +62,15 @@ shown-fault u v w from to s t count f h g = record {
 
 -- The end behind the entries.
 
-read_all : (es : List Fact) → read_of es ++ (opening (stage_at es) ++ end (position (stage_at es)).count) ≡ spelling es
-read_all [] = refl
-read_all (e ∷ es) = refl
-
-not_ended : (es : List Fact) → stage_at es ≡ Ended → ⊥
-not_ended [] e = cc
-not_ended (x ∷ es) e = cc
-
-journal_at : (u w : Option (List ℕ)) (es : List Fact) → AreEntries MAX_ENTRIES es → Consumes u w (spelling es) → IsAtEnd w → IfSome u (λ x. IsJournalWithin MAX_ENTRIES x es)
-journal_at None w es a took ended = tt
-journal_at (Some x) None es a took ended = absurd took
-journal_at (Some x) (Some y) es a took ended = record { are_entries = a; bytes_are = took ∙ ap (λ (z : List ℕ). spelling es ++ z) ended ∙ append-nil (spelling es) }
+journal_at : (u w : Option (List ℕ)) (es : List Fact) → AtEnd MAX_ENTRIES u w es → IfSome u (λ x. IsJournalWithin MAX_ENTRIES x es)
+journal_at None w es a = tt
+journal_at (Some x) None es a = absurd a.read
+journal_at (Some x) (Some y) es a =
+    let v = a.are_entries.version in
+    record { are_entries = a.are_entries; bytes_are = a.read ∙ ap (λ (z : List ℕ). spelling_in v es ++ z) a.at_end ∙ append-nil (spelling_in v es) }
 
 whole : (u v w : Option (List ℕ)) (from to : Stage) (es : List Fact) → Sofar MAX_ENTRIES u v from es → GivesEnd from to v w → IfSome u (λ x. IsJournalWithin MAX_ENTRIES x es)
-whole u v w from to es h g = elim g.bytes [
-  | inl p ↦ absurd (not_ended es (sym h.stage_is ∙ p.0))
-  | inr p ↦ (
-      let last = subst (λ (x : Stage). Consumes v w (opening x ++ end (position x).count)) h.stage_is p.1 in
-      journal_at u w es h.are_entries (subst (Consumes u w) (read_all es) (Consumes-trans u v w (read_of es) (opening (stage_at es) ++ end (position (stage_at es)).count) h.read last)) p.2)
-]
+whole u v w from to es h g = journal_at u w es (side-from MAX_ENTRIES u v w from to es None h g)
 
 pub shown-all : (u v w : Option (List ℕ)) (from to : Stage) (s t t' : Option (List ℕ)) (count : ℕ) → Shown u v from s t count
     → GivesEnd from to v w → Appends t t' (entries_line count) → ShowsAll u s t'
@@ -123,7 +111,7 @@ pub read_failures : (T : Type 0) (u v : Option (List ℕ)) (stage : Stage) (s t 
     → Shown u v stage s t count → r ≡ Err f → FailsIf (is_open stage) m n r → m ≡ k → FailsToRead {T = T} k n (Err (Input number f))
 read_failures T u v stage s t count r f number n m k h is fails e =
     let P : Bool → Type 0 = λ b. FailsIf b m n r in
-    let now : Fails m n r = subst P (ap is_open h.sofar.stage_is ∙ open_at h.entries) fails in
+    let now : Fails m n r = subst P (open_behind MAX_ENTRIES u v stage h.entries h.sofar) fails in
     let Q : Result (Option Fact) ReadFault → Type 0 = λ x. Fails m n x in
     let N : ℕ → Type 0 = λ i. Fails {T = T} i n (Err f) in
     subst N e (fails_same (Option Fact) T f m n (subst Q is now))

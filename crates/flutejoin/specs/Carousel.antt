@@ -18,7 +18,7 @@ info_of symbol block content = information (length content) symbol block
 pub record SendsObject (key : Key) (symbol block : ℕ) (content : List ℕ) (datagrams : List (List ℕ)) : Type 0 where
   pub valid : info_fault (info_of symbol block content) ≡ None
   pub written : AllZip IsWritten datagrams (packets_of key (info_of symbol block content) content)
-  pub told : flat_map facts datagrams ≡ facts_sent key (info_of symbol block content) content
+  pub told : flat_map (facts key.session.sender) datagrams ≡ facts_sent key (info_of symbol block content) content
 
 -- the numbers are no information, or the first packet that is not written has this fault
 abbrev pub SendFails : Key → ℕ → ℕ → List ℕ → CommandFault → Type 0

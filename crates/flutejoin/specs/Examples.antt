@@ -1,5 +1,6 @@
 -- Worked runs, computed from the definitions.
-use Rattle.std.specs.Prelude.{◌≡◌, ◌==◌, ℕ, refl, codes, true, false, if◌then◌else◌, List, [], ◌∷◌, Option, Some, None, count_by}
+use Rattle.std.specs.Prelude.{◌≡◌, ◌==◌, ◌+◌, ◌*◌, ◌^◌, ℕ, refl, codes, true, false, if◌then◌else◌, List, [], ◌∷◌, Option, Some, None, count_by}
+use Rattle.hex.specs.Hex.{decode_pairs, encode_with}
 use Rattle.flute_parts.specs.Session.{session}
 use Rattle.flute_parts.specs.Information.{information}
 use Rattle.flute_parts.specs.Addresses.{info_address, symbol_address}
@@ -12,13 +13,15 @@ use Rattle.flute_parts.specs.declared.fact.Fact.TheVariants.{Info, Symbol, Symbo
 use Rattle.flute_wire.specs.Reading.{packet, extensions_in, facts}
 use Rattle.flutejoin.specs.declared.steps.Step.{Step}
 use Rattle.flutejoin.specs.declared.steps.Step.TheVariants.{Take, Load, Add, Merge, Reopen}
+use Rattle.flutejoin.specs.Sender.{sender_named}
+use Rattle.flutejoin.specs.Lines.{source_words}
 use Rattle.flutejoin.specs.Steps.{held_by}
 use Rattle.flutejoin.specs.Known.{nothing_held, known_after, known_of_done, known_by}
 use Rattle.flutejoin.specs.Refused.{is_refused_take}
 
 -- file 1 of session 7, of 5 bytes in symbols of 4 bytes and blocks of at most 2 symbols
 abbrev key : Key
-key = record { session = session 7; object = File 1 }
+key = record { session = session 0 7; object = File 1 }
 
 abbrev id : ℕ → SymbolId
 id n = record { sbn = 0; esi = n }
@@ -92,3 +95,17 @@ taken = refl
 pub refused : (count_by (is_refused_take 0) taking ∷ count_by (is_refused_take 1) taking ∷ []) ≡ (1 ∷ 0 ∷ [])
 unfolding packet extensions_in
 refused = refl
+
+-- the sender with the IPv4 address 10.0.0.1, by 8 digits or by 32, in upper or lower case; other texts name none
+abbrev sender : ℕ
+sender = 65535 * 2 ^ 32 + 0x0A000001
+
+pub named : (sender_named (codes "0A000001") ≡ Some sender) × (sender_named (codes "00000000000000000000ffff0a000001") ≡ Some sender)
+    × (sender_named [] ≡ None) × (sender_named (codes "0A0000") ≡ None) × (sender_named (codes "0G000001") ≡ None)
+unfolding decode_pairs
+named = (refl, refl, refl, refl, refl)
+
+-- how it is named in a line, and that the sender 0 is not
+pub told_of_sender : (source_words sender ≡ codes "source 00000000000000000000ffff0a000001 ") × (source_words 0 ≡ [])
+unfolding encode_with
+told_of_sender = (refl, refl)

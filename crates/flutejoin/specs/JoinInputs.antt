@@ -1,5 +1,5 @@
 -- The inputs of a join: which bytes they are, and how often their sources failed.
-use Rattle.std.specs.Prelude.{◌≡◌, ℕ, ◌+◌, List, length, take, drop, slice_get, Option, Some, IfSome}
+use Rattle.std.specs.Prelude.{◌≡◌, ℕ, ◌+◌, List, length, take, drop, slice_get, Option, Some}
 use Rattle.std.specs.Borrow.{MutBor}
 use Rattle.std.specs.Io.KnownBytes.{prepend_known}
 use Rattle.flute_journal.specs.declared.within.Within.{Within}

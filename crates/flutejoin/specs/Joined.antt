@@ -26,7 +26,7 @@ pub data Told : Type 0 where
 
 abbrev pub told_facts : Told → List Fact
 told_facts (of_journal entries) = entries
-told_facts (of_file datagrams) = flat_map facts datagrams
+told_facts (of_file datagrams) = flat_map (facts 0) datagrams
 
 abbrev pub told_datagrams : Told → List (List ℕ)
 told_datagrams (of_journal entries) = []
@@ -73,7 +73,7 @@ TellsWithin bytes = (told : Told) × Tells bytes told × ¬ IsOverShelf (told_fa
 abbrev pub IsOverAlone : List ℕ → Type 0
 IsOverAlone bytes =
     (HasKind Journal bytes × BeginsOverShelf bytes)
-    ⊎ ((datagrams : List (List ℕ)) × IsFileWithin MAX_ENTRIES bytes datagrams × IsOverShelf (flat_map facts datagrams))
+    ⊎ ((datagrams : List (List ℕ)) × IsFileWithin MAX_ENTRIES bytes datagrams × IsOverShelf (flat_map (facts 0) datagrams))
 
 -- inputs that are over them together
 abbrev pub TellOver : List (List ℕ) → Type 0
@@ -103,20 +103,20 @@ StoreFails told fault = ((fault ≡ Full) × IsOverShelf told) ⊎ (fault ≡ Ou
 
 -- one more datagram, and whether it is refused, are counted, and its facts are held
 pub record TakesDatagram (before : Joined) (datagram : List ℕ) (now : Joined) : Type 0 where
-  pub content : Same now.store (before.store ++ facts datagram)
+  pub content : Same now.store (before.store ++ facts 0 datagram)
   pub datagrams : now.datagrams ≡ before.datagrams + 1
   pub refused : now.refused ≡ (if is_refused datagram then before.refused + 1 else before.refused)
 
 -- datagrams are counted, and their facts held
 pub record TakesDatagrams (before : Joined) (datagrams : List (List ℕ)) (now : Joined) : Type 0 where
-  pub content : Same now.store (before.store ++ flat_map facts datagrams)
+  pub content : Same now.store (before.store ++ flat_map (facts 0) datagrams)
   pub count : now.datagrams ≡ before.datagrams + length datagrams
   pub refused : now.refused ≡ before.refused + count_by is_refused datagrams
 
 -- a store of these datagrams; or their facts alone are over its limits
 abbrev pub HoldsAll : Bool → Joined → List (List ℕ) → Type 0
 HoldsAll true told datagrams = TakesDatagrams (record { store = []; datagrams = 0; refused = 0 }) datagrams told
-HoldsAll false told datagrams = IsOverShelf (flat_map facts datagrams)
+HoldsAll false told datagrams = IsOverShelf (flat_map (facts 0) datagrams)
 
 -- the datagrams of a file are held as what they tell
 pub record HoldsDatagrams (file : HeldFile) (datagrams : List (List ℕ)) : Type 0 where

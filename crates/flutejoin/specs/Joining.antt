@@ -1,5 +1,5 @@
 -- What a join of inputs writes and answers.
-use Rattle.std.specs.Prelude.{◌≡◌, ℕ, ◌+◌, ◌^◌, ◌≤◌, Bool, true, false, List, [], ◌∷◌, length, slice_get, Option, Some, None, ⊤, ◌⊎◌, MatchOption, IfSome}
+use Rattle.std.specs.Prelude.{◌≡◌, ℕ, ◌^◌, ◌≤◌, true, false, List, length, slice_get, Option, Some, None, ⊤, ◌⊎◌}
 use Rattle.std.specs.List.{flat_map, count_by, sum_by, AllByRecursion}
 use Rattle.std.specs.Io.KnownBytes.{Appends}
 use Rattle.flute_parts.specs.Facts.{SameMembers}
@@ -22,7 +22,7 @@ use Rattle.flute_journal.specs.declared.fault.ReadFault.TheVariants.{Read}
 use Rattle.flute_journal.specs.declared.kind.Kind.TheVariants as kinds
 use Rattle.flute_journal.specs.declared.merging.Joined.{Joined as Merged}
 use Rattle.flutejoin.specs.JoinInputs.{JoinInput, left, input_behaviour}
-use Rattle.flutejoin.specs.Joined.{Told, told_facts, told_datagrams, TellAll, TellsWithin, FirstInput, IsKnown, IsFileAt, JoinFails, HoldsDatagrams, FileFails}
+use Rattle.flutejoin.specs.Joined.{Told, told_facts, told_datagrams, TellAll, TellsWithin, FirstInput, IsKnown, JoinFails, HoldsDatagrams, FileFails}
 use Rattle.flutejoin.specs.Refused.{is_refused}
 use Rattle.flutejoin.specs.Shelves.{IsOverShelf}
 use Rattle.flutejoin.specs.declared.command_fault.CommandFault.{CommandFault}

@@ -1,3 +1,4 @@
+pub mod Sender
 pub mod Lines
 pub mod Pieces
 pub mod Status

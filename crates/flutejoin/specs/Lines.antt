@@ -1,5 +1,6 @@
 -- The lines that the program prints: words, decimal numbers and hexadecimal bytes.
-use Rattle.std.specs.Prelude.{ℕ, List, ◌++◌, length, codes, decimal, Option, Some, None}
+use Rattle.std.specs.Prelude.{ℕ, ◌==◌, if◌then◌else◌, List, [], ◌++◌, length, codes, decimal, Option, Some, None}
+use Rattle.std.specs.Int.{bytes_high_first}
 use Rattle.hex.specs.Hex.{encode_lower}
 use Rattle.flute_parts.specs.Information.{Information}
 use Rattle.flute_parts.specs.declared.symbol_id.SymbolId.{SymbolId}
@@ -50,9 +51,13 @@ unfoldable pub packet_lines : Content → List ℕ
 packet_lines c =
     line (codes "session " ++ decimal c.tsi) ++ (line (object_words (object_of c.toi c.instance)) ++ (line (info_or_none c.info) ++ line (symbol_or_none c.symbol)))
 
--- a session by its TSI, and its object
+-- a sender's address in 32 digits, where it is not 0
+abbrev pub source_words : ℕ → List ℕ
+source_words sender = if sender == 0 then [] else codes "source " ++ encode_lower (bytes_high_first 16 sender) ++ codes " "
+
+-- a session by its sender and its TSI, and its object
 abbrev pub key_words : Key → List ℕ
-key_words key = codes "session " ++ decimal key.session.tsi ++ codes " " ++ object_words key.object
+key_words key = source_words key.session.sender ++ codes "session " ++ decimal key.session.tsi ++ codes " " ++ object_words key.object
 
 -- what is told of a part of an object
 abbrev pub fact_words : Fact → List ℕ

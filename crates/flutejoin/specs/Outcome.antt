@@ -99,7 +99,7 @@ pub record IsRefused (capacity : Capacity) (before : Held) (step : Step) (now : 
 -- A step that takes no memory, and so succeeds: all that a `Take` or an `Add` gives stands in cells that are held (a
 -- refused datagram gives nothing), or a `Merge` is of a replica into itself.
 abbrev pub NeedsNothing : List (List Fact) → Step → Type 0
-NeedsNothing held (Take replica datagram) = (replica < length held) × AllByRecursion (HasCell (held_by held replica)) (facts datagram)
+NeedsNothing held (Take replica datagram) = (replica < length held) × AllByRecursion (HasCell (held_by held replica)) (facts 0 datagram)
 NeedsNothing held (Add replica fact) = (replica < length held) × HasCell (held_by held replica) fact
 NeedsNothing held (Merge into from) = (into < length held) × (into ≡ from)
 NeedsNothing held (Load replica journal) = ⊥

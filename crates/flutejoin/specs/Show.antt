@@ -5,7 +5,7 @@ use Rattle.std.specs.Io.KnownBytes.{Appends, Consumes}
 use Rattle.flute_parts.specs.Devices.{AppendsPart}
 use Rattle.flute_parts.specs.declared.fact.Fact.{Fact}
 use Rattle.flute_journal.specs.declared.fault.ReadFault.{ReadFault}
-use Rattle.flute_journal.specs.Format.{header, entry}
+use Rattle.flute_journal.specs.Format.{front_in}
 use Rattle.flute_journal.specs.Input.{Fails}
 use Rattle.flute_journal.specs.Journal.{AreEntries, IsJournalWithin}
 use Rattle.flute_journal.specs.Whole.{StopsAfter}
@@ -37,8 +37,8 @@ pub record ShowsUntil (input left old new : Option (List ℕ)) (fault : ReadFaul
 
 -- a first part of the lines was written, and not all: of the entries that were read, or of a whole journal
 pub data ShowsPart (input left old new : Option (List ℕ)) : Type 0 where
-  of_entries : (entries : List Fact) → AreEntries MAX_ENTRIES entries → Consumes input left (header ++ flat_map entry entries) → AppendsPart old new (entry_lines entries)
-      → ShowsPart input left old new
+  of_entries : (entries : List Fact) → (a : AreEntries MAX_ENTRIES entries) → Consumes input left (front_in a.version entries)
+      → AppendsPart old new (entry_lines entries) → ShowsPart input left old new
   of_journal : (entries : List Fact) → IfSome input (λ bytes. IsJournalWithin MAX_ENTRIES bytes entries) → AppendsPart old new (shown entries) → ShowsPart input left old new
 
 -- why it failed, and what was written

@@ -1,7 +1,7 @@
 -- The program's status after a fault.
 use Rattle.std.specs.Prelude.{ℕ, ⊤, ◌≤◌, length}
 use Rattle.flutejoin.specs.declared.command_fault.CommandFault.{CommandFault}
-use Rattle.flutejoin.specs.declared.command_fault.CommandFault.TheVariants.{CommandLine, NotText, BadNumber, BadKey, TooManyInputs, OutputIsInput, BadInformation, BadHex, Refused, CannotSend, TooLarge, CannotOpen, Input, UnknownKind, Full, NoObject, NoInformation, ConflictingInformation, NotWhole, OutOfMemory, CannotCreate, CannotWrite}
+use Rattle.flutejoin.specs.declared.command_fault.CommandFault.TheVariants.{CommandLine, NotText, BadNumber, BadSource, BadKey, TooManyInputs, OutputIsInput, BadInformation, BadHex, Refused, CannotSend, TooLarge, CannotOpen, Input, UnknownKind, Full, NoObject, NoInformation, ConflictingInformation, NotWhole, OutOfMemory, CannotCreate, CannotWrite}
 use Rattle.flutejoin.specs.declared.line.Line.{Line}
 use Rattle.flutejoin.specs.declared.line.Line.TheVariants.{Join}
 use Rattle.flute_store.specs.declared.extract.ExtractFault.{ExtractFault}
@@ -24,6 +24,7 @@ abbrev pub status_of : CommandFault → ℕ
 status_of (CommandLine text) = 2
 status_of NotText = 2
 status_of (BadNumber option) = 2
+status_of BadSource = 2
 status_of BadKey = 2
 status_of TooManyInputs = 2
 status_of OutputIsInput = 2
@@ -48,6 +49,7 @@ status_of CannotWrite = 3
 abbrev pub IsLineFault : CommandFault → Type 0
 IsLineFault (CommandLine text) = ⊤
 IsLineFault (BadNumber option) = ⊤
+IsLineFault BadSource = ⊤
 IsLineFault BadKey = ⊤
 IsLineFault TooManyInputs = ⊤
 IsLineFault OutputIsInput = ⊤

@@ -3,7 +3,7 @@ use Rattle.std.specs.Prelude.{◌≡◌, ℕ, ◌<◌, List, [], ◌∷◌, ◌+
 use Rattle.flute_parts.specs.declared.fact.Fact.{Fact}
 use Rattle.flute_parts.specs.Facts.{Same, Below}
 use Rattle.flute_wire.specs.Reading.{facts}
-use Rattle.flute_journal.specs.Journal.{Journal, IsJournalWithin}
+use Rattle.flute_journal.specs.Journal.{IsJournal, IsJournalWithin}
 use Rattle.flutejoin.specs.declared.steps.Step.{Step}
 use Rattle.flutejoin.specs.declared.steps.Step.TheVariants.{Take, Load, Add, Merge, Reopen}
 
@@ -15,9 +15,9 @@ held_by held r = slice_index_or held r []
 abbrev pub given_to : List (List Fact) → ℕ → List Fact → List (List Fact)
 given_to held r more = slice_set held r (held_by held r ++ more)
 
--- the facts held after a step; origin is the list whose journal a `Load` reads
+-- the facts held after a step; origin is the list of which a `Load` reads a journal
 abbrev pub held_after : List (List Fact) → Step → List Fact → List (List Fact)
-held_after held (Take replica datagram) origin = given_to held replica (facts datagram)
+held_after held (Take replica datagram) origin = given_to held replica (facts 0 datagram)
 held_after held (Load replica journal) origin = given_to held replica origin
 held_after held (Add replica fact) origin = given_to held replica (fact ∷ [])
 held_after held (Merge into from) origin = given_to held into (held_by held from)
@@ -47,9 +47,9 @@ LoadsJournal limit (Add replica fact) = ⊤
 LoadsJournal limit (Merge into from) = ⊤
 LoadsJournal limit (Reopen replica) = ⊤
 
--- the origin fits the step: it is a list whose journal a `Load` reads, and it is empty where that reads no journal
+-- the origin fits the step: it is a list of which a `Load` reads a journal, and it is empty where that reads no journal
 abbrev pub FitsStep : Step → List Fact → Type 0
-FitsStep (Load replica journal) origin = Journal journal origin ⊎ (((F : List Fact) → ¬ Journal journal F) × (origin ≡ []))
+FitsStep (Load replica journal) origin = IsJournal journal origin ⊎ (((F : List Fact) → ¬ IsJournal journal F) × (origin ≡ []))
 FitsStep (Take replica datagram) origin = ⊤
 FitsStep (Add replica fact) origin = ⊤
 FitsStep (Merge into from) origin = ⊤

@@ -22,6 +22,9 @@ pub enum CommandFault {
     /// not within its range.
     #[error("bad number: --{0}")]
     BadNumber(&'static str),
+    /// The value of `--source` is not 32 or 8 hexadecimal digits.
+    #[error("bad source")]
+    BadSource,
     /// The TOI is 0 and no FDT Instance is named, or it is another and one is.
     #[error("bad key")]
     BadKey,
@@ -98,7 +101,7 @@ impl CommandFault {
             CommandFault::NoObject | CommandFault::NoInformation => 1,
             CommandFault::ConflictingInformation | CommandFault::NotWhole { .. } => 1,
             CommandFault::CommandLine(_) | CommandFault::NotText => 2,
-            CommandFault::BadNumber(_) | CommandFault::BadKey => 2,
+            CommandFault::BadNumber(_) | CommandFault::BadSource | CommandFault::BadKey => 2,
             CommandFault::TooManyInputs | CommandFault::OutputIsInput => 2,
             CommandFault::Input(_, ReadFault::Read | ReadFault::OutOfMemory) => 3,
             CommandFault::Input(..) | CommandFault::UnknownKind(_) => 1,

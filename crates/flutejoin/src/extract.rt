@@ -36,8 +36,9 @@ pub fn check_whole(shelf: &Shelf, key: &Key) -> Result<(), CommandFault>
     }
 }
 
-/// Writes the object, if it is whole, and answers how many bytes it has. Of whatever else comes to the
-/// same as what is held, it is the same object that is written, and the same fault that is told.
+/// Writes the object, if it is whole, and answers how many bytes it has. Of whatever else comes to
+/// the same as what is held, it is the same object that is written, and the same fault that is
+/// told.
 ///
 /// # Errors
 ///

@@ -38,7 +38,7 @@ impl Joined {
         requires datagrams { self.now.datagrams + 1 < 2 ^ 64 }
         requires refused { self.now.refused ≤ self.now.datagrams }
         ensures taken { OnOk result (TakesDatagram self.old datagram.now self.new) }
-        ensures failed { IfErr result (StoreFails (self.old.store ++ facts datagram.now)) }
+        ensures failed { IfErr result (StoreFails (self.old.store ++ facts 0 datagram.now)) }
         ensures counts { OnErr result ((self.new.datagrams ≡ self.old.datagrams)
             × (self.new.refused ≡ self.old.refused)) }
     {

@@ -29,8 +29,8 @@ use std::alloc::Global;
 /// refused tells nothing, and is counted. Whatever else tells the same facts, in any order, number
 /// and grouping: its journal is the same, byte for byte.
 ///
-/// First the datagram files are read, record by record, and held as what they tell. Then the journals
-/// are read, and the journal of all is written meanwhile: one entry of each is held.
+/// First the datagram files are read, record by record, and held as what they tell. Then the
+/// journals are read, and the journal of all is written meanwhile: one entry of each is held.
 ///
 /// # Errors
 ///

@@ -5,7 +5,7 @@ ghost use Rattle.flute_parts.specs.Information.{Information};
 ghost use Rattle.flute_parts.specs.declared.fact.Fact.{Fact as Known};
 ghost use Rattle.flute_parts.specs.declared.key.Key.{Key as Name};
 ghost use Rattle.flute_store.specs.Objects.{Whole, object, gaps};
-ghost use Rattle.flute_journal.specs.Journal.{Journal};
+ghost use Rattle.flute_journal.specs.Journal.{Journal, IsJournal};
 ghost use Rattle.flute_journal.specs.Stores.{IsJournalOf};
 ghost use Rattle.flutejoin.specs.Held.{Held};
 ghost use Rattle.flutejoin.specs.Steps.{held_by};
@@ -42,14 +42,14 @@ pub fn runs_leave_what_was_given()
         → GivenTheSame (held_by now.contents r) (held_by then.contents q) }
 {}
 
-/// Replicas that write equal journals hold the same.
+/// Replicas with equal journals hold the same.
 pub fn equal_journals_mean_one_content()
-    ensures { (F G : List Known) (bs : List ℕ) → Journal bs F → Journal bs G → Same F G }
+    ensures { (F G : List Known) (bs : List ℕ) → IsJournal bs F → IsJournal bs G → Same F G }
 {}
 
 /// What is read of the journal of some facts comes to the same as any facts with the same members.
 /// So `extract_to` writes the same of any inputs that tell these facts, once they are joined.
 pub fn a_journal_is_read_as_what_was_joined()
     ensures { (held joined others : List Known) (bs : List ℕ) → IsJournalOf MAX_ENTRIES bs held
-        → Journal bs joined → SameMembers joined others → Same held others }
+        → IsJournal bs joined → SameMembers joined others → Same held others }
 {}

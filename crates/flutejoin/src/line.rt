@@ -4,11 +4,11 @@ ghost use Rattle.flutejoin.specs.Status.{HasFewInputs, IsLineFault};
 
 use crate::command_fault::CommandFault;
 use crate::limits::MAX_INPUTS;
-use crate::numbers::{key_numbers, number_below};
+use crate::numbers::{key_numbers, number_below, source};
 use crate::parser::command;
 use clap::ArgMatches;
 use clap::error::ErrorKind;
-use flute_parts::Key;
+use flute_parts::{Key, Sender};
 use std::alloc::Global;
 
 /// The word for standard output as an output, and for standard input as an input.
@@ -72,9 +72,10 @@ pub enum Line<'a> {
 ///
 /// `CommandLine` with the parser's text where that refuses the words, or where they ask for help or
 /// the version; `BadNumber` with the first option, in the order `--tsi`, `--toi`, `--fdt`,
-/// `--length`, `--symbol`, `--block`, that is not a number of its range; `BadKey` where `--fdt`
-/// does not go with `--toi`; `TooManyInputs` where `join` has more than 64 inputs; `OutputIsInput`
-/// where `merge` is to write one of its inputs; and `OutOfMemory`.
+/// `--length`, `--symbol`, `--block`, that is not a number of its range; `BadSource` where
+/// `--source` is not 32 or 8 hexadecimal digits; `BadKey` where `--fdt` does not go with `--toi`;
+/// `TooManyInputs` where `join` has more than 64 inputs; `OutputIsInput` where `merge` is to write
+/// one of its inputs; and `OutOfMemory`.
 pub fn line_of(alloc: Global, words: &[String]) -> Result<Line<'_>, CommandFault>
     ensures few { IfOk result HasFewInputs }
     ensures fault { IfErr result IsLineFault }
@@ -105,9 +106,10 @@ fn extract_of<'a>(matches: &ArgMatches<'a>) -> Result<Line<'a>, CommandFault>
     ensures few { IfOk result HasFewInputs }
     ensures fault { IfErr result IsLineFault }
 {
+    let numbers = key_numbers(matches)?;
     Ok(Line::Extract {
         out: text(matches, "OUT"),
-        key: key_numbers(matches)?.key()?,
+        key: numbers.key(source(matches)?)?,
         j: text(matches, "J"),
     })
 }
@@ -122,7 +124,7 @@ fn info_of<'a>(matches: &ArgMatches<'a>) -> Result<Line<'a>, CommandFault>
     let block = number_below(matches, "block", 1 << 32)? as u32;
     Ok(Line::Info {
         out: text(matches, "OUT"),
-        key: numbers.key()?,
+        key: numbers.key(source(matches)?)?,
         length,
         symbol,
         block,
@@ -169,7 +171,7 @@ fn carousel_of<'a>(matches: &ArgMatches<'a>) -> Result<Line<'a>, CommandFault>
     let block = number_below(matches, "block", 1 << 32)? as u32;
     Ok(Line::Carousel {
         out: text(matches, "OUT"),
-        key: numbers.key()?,
+        key: numbers.key(Sender::new(0))?,
         symbol,
         block,
         file: text(matches, "FILE"),

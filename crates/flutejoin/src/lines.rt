@@ -4,6 +4,7 @@ ghost use Rattle.std.specs.Option.{option_map};
 ghost use Rattle.flutejoin.specs.Lines.{key_words, object_words, information_words, id_words, symbol_words, info_or_none};
 ghost use Rattle.flutejoin.specs.Pieces.{symbol_head};
 
+use crate::sender::push_source;
 use crate::text::Text;
 use flute_parts::{Info, Key, ObjectKey, SymbolId};
 
@@ -51,12 +52,13 @@ pub fn push_info(text: &mut Text, info: Option<Info>)
     }
 }
 
-/// Appends the session's TSI and the name of the object.
+/// Appends the session's sender, where it is not 0, its TSI and the name of the object.
 pub fn push_key(text: &mut Text, key: &Key)
-    requires { length text.old + 120 ≤ 512 }
+    requires { length text.old + 160 ≤ 512 }
     ensures text { text.new ≡ text.old ++ key_words key.now }
-    ensures len { length text.new ≤ length text.old + 120 }
+    ensures len { length text.new ≤ length text.old + 160 }
 {
+    push_source(text, key.session.sender());
     text.push("session ");
     text.push_number(key.session.tsi());
     text.push(" ");

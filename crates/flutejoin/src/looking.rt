@@ -55,9 +55,9 @@ impl Looked {
 ///
 /// # Errors
 ///
-/// Of the first input, numbered from 1, that has a fault: `UnknownKind` where it is neither; `Input`
-/// with the fault of a datagram file, or where its source failed or there was no memory for a
-/// datagram. `OutOfMemory` where there was none for what it tells.
+/// Of the first input, numbered from 1, that has a fault: `UnknownKind` where it is neither;
+/// `Input` with the fault of a datagram file, or where its source failed or there was no memory
+/// for a datagram. `OutOfMemory` where there was none for what it tells.
 pub(crate) fn look_at_all<R: Source>(
     alloc: Global,
     inputs: &mut [JoinInput<'_, R>],
@@ -88,7 +88,8 @@ pub(crate) fn look_at_all<R: Source>(
     Ok(looked)
 }
 
-// Looks at the kind of an input. Answers what it tells, if it is a datagram file; a journal is then to be read from its first byte.
+// Looks at the kind of an input. Answers what it tells, if it is a datagram file; a journal is
+// then to be read from its first byte.
 fn look_at<R: Source>(
     alloc: Global,
     number: usize,

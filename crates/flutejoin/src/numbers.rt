@@ -1,38 +1,39 @@
-//! Numbers and keys on the command line.
+//! Numbers, senders and keys on the command line.
 ghost use Rattle.std.specs.Prelude.{◌<◌, IfOk, IfErr};
 ghost use Rattle.flutejoin.specs.Status.{IsLineFault};
 
 use crate::command_fault::CommandFault;
+use crate::sender::sender_of;
 use clap::ArgMatches;
-use flute_parts::{Key, ObjectKey, SessionKey};
+use flute_parts::{Key, ObjectKey, Sender, SessionKey};
 
 /// The numbers that name an object, each within its range.
 #[derive(Clone, Copy, Drop)]
 pub struct KeyNumbers {
-    session: SessionKey,
+    tsi: u64,
     toi: u128,
     instance: Option<u32>,
 }
 
 impl KeyNumbers {
-    /// The object that they name.
+    /// The object of this sender that they name.
     ///
     /// # Errors
     ///
     /// `BadKey` where the TOI is 0 and no FDT Instance is named, or is another and one is.
-    pub fn key(&self) -> Result<Key, CommandFault>
+    pub fn key(&self, sender: Sender) -> Result<Key, CommandFault>
         ensures { IfErr result IsLineFault }
     {
+        let Some(session) = SessionKey::new(sender, self.tsi) else {
+            return Err(CommandFault::BadNumber("tsi"));
+        };
         let object = match self.instance {
             Some(instance) if self.toi == 0 => ObjectKey::fdt(instance),
             Some(_) => None,
             None => ObjectKey::file(self.toi),
         };
         match object {
-            Some(object) => Ok(Key {
-                session: self.session,
-                object,
-            }),
+            Some(object) => Ok(Key { session, object }),
             None => Err(CommandFault::BadKey),
         }
     }
@@ -47,19 +48,26 @@ pub fn key_numbers(matches: &ArgMatches<'_>) -> Result<KeyNumbers, CommandFault>
     ensures { IfErr result IsLineFault }
 {
     let tsi = number_below(matches, "tsi", 1 << 48)? as u64;
-    let Some(session) = SessionKey::new(tsi) else {
-        return Err(CommandFault::BadNumber("tsi"));
-    };
     let toi = number_below(matches, "toi", 1 << 112)?;
     let instance = match matches.get_str("fdt") {
         Some(_) => Some(number_below(matches, "fdt", 1 << 20)? as u32),
         None => None,
     };
-    Ok(KeyNumbers {
-        session,
-        toi,
-        instance,
-    })
+    Ok(KeyNumbers { tsi, toi, instance })
+}
+
+/// The sender of `--source`, or 0 where that is left out.
+///
+/// # Errors
+///
+/// `BadSource` where it is not 32 or 8 hexadecimal digits.
+pub fn source(matches: &ArgMatches<'_>) -> Result<Sender, CommandFault>
+    ensures { IfErr result IsLineFault }
+{
+    match matches.get_str("source") {
+        Some(text) => sender_of(text).ok_or(CommandFault::BadSource),
+        None => Ok(Sender::new(0)),
+    }
 }
 
 /// The number of the option with this name.

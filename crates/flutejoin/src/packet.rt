@@ -11,7 +11,7 @@ use crate::hex_digits::HexDigits;
 use crate::lines::{push_info, push_object, push_symbol_head};
 use crate::text::Text;
 use crate::writing::write_line;
-use flute_parts::{DeviceFault, Sink};
+use flute_parts::{DeviceFault, Sender, Sink};
 use flute_wire::{Packet, read};
 use hex::FromHexError;
 use std::alloc::Global;
@@ -66,7 +66,8 @@ fn write_packet<W: Sink>(sink: &mut W, packet: &Packet<'_>) -> Result<(), Device
 fn head_of(packet: &Packet<'_>) -> Text
     ensures { result ≡ packet_head packet.now }
 {
-    let key = packet.key();
+    // No line names the sender, which a datagram does not tell.
+    let key = packet.key(Sender::new(0));
     let mut text = Text::new();
     text.push("session ");
     text.push_number(key.session.tsi());

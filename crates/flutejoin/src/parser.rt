@@ -56,6 +56,7 @@ fn extract_command<'a>(alloc: Global) -> Result<Command<'a>, clap::Error> {
     let command = Command::new(alloc, "extract")
         .about("Writes an object that a journal has whole to a file")
         .arg(output(alloc))?
+        .arg(source(alloc))?
         .arg(session(alloc))?
         .arg(object(alloc))?
         .arg(instance(alloc))?
@@ -70,6 +71,7 @@ fn info_command<'a>(alloc: Global) -> Result<Command<'a>, clap::Error> {
     let command = Command::new(alloc, "info")
         .about("Writes a journal with an object's transmission information added")
         .arg(output(alloc))?
+        .arg(source(alloc))?
         .arg(session(alloc))?
         .arg(object(alloc))?
         .arg(instance(alloc))?
@@ -159,11 +161,21 @@ fn instance<'a>(alloc: Global) -> Arg<'a> {
     number(alloc, "fdt").help("The FDT Instance ID, with --toi 0 alone")
 }
 
-// An option with a number, which is looked at later: also where it begins with a hyphen.
+fn source<'a>(alloc: Global) -> Arg<'a> {
+    value(alloc, "source", "HEX").help(
+        "The sender's address: 32 hexadecimal digits, or 8 for IPv4; left out, it is 32 zeros",
+    )
+}
+
 fn number<'a>(alloc: Global, name: &'a str) -> Arg<'a> {
+    value(alloc, name, "N")
+}
+
+// An option with a value, which is looked at later: also where it begins with a hyphen.
+fn value<'a>(alloc: Global, name: &'a str, value_name: &'a str) -> Arg<'a> {
     Arg::new(alloc, name)
         .long(name)
-        .value_name("N")
+        .value_name(value_name)
         .allow_hyphen_values(true)
         .action(ArgAction::Set)
 }

@@ -41,14 +41,16 @@ impl<const SESSIONS: u32, const OBJECTS: u32, const SYMBOLS: u32> Replica<
 > {
     // Takes a datagram, and counts it if it is refused.
     fn take(&mut self, alloc: Global, datagram: &[u8]) -> Result<(), StepFault>
-        ensures content { OnOk result (Same self.new.store (self.old.store ++ facts datagram.now)) }
+        ensures content { OnOk result
+            (Same self.new.store (self.old.store ++ facts 0 datagram.now)) }
         ensures counted { OnOk result (self.new.refused
             ≡ (if is_refused datagram.now then one_more self.old.refused else self.old.refused)) }
         ensures within { OnOk result (¬ Over self.new.store SESSIONS OBJECTS SYMBOLS) }
         ensures err { OnErr result (self.new ≡ self.old) }
-        ensures sure { AllByRecursion (HasCell self.old.store) (facts datagram.now) → IsOk result }
+        ensures sure { AllByRecursion (HasCell self.old.store) (facts 0 datagram.now)
+            → IsOk result }
         ensures fault { IfErr result (λ f. (f ≡ faults.Full
-            × Over (self.old.store ++ facts datagram.now) SESSIONS OBJECTS SYMBOLS)
+            × Over (self.old.store ++ facts 0 datagram.now) SESSIONS OBJECTS SYMBOLS)
             ⊎ (f ≡ faults.OutOfMemory)) }
     {
         // By this the proof knows that a datagram is a packet or refused.

@@ -39,7 +39,16 @@ impl Text {
         ensures text { self.new ≡ self.old ++ words.now }
         ensures len { length self.new ≡ length self.old + length words.now }
     {
-        let _done = self.bytes.try_extend_from_slice(words.as_bytes());
+        self.push_bytes(words.as_bytes());
+    }
+
+    /// Appends bytes.
+    pub fn push_bytes(&mut self, bytes: &[u8])
+        requires { length self.old + length bytes.now ≤ 512 }
+        ensures text { self.new ≡ self.old ++ bytes.now }
+        ensures len { length self.new ≡ length self.old + length bytes.now }
+    {
+        let _done = self.bytes.try_extend_from_slice(bytes);
     }
 
     /// Appends a number in decimal.

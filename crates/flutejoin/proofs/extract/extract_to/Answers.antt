@@ -1,5 +1,3 @@
-use Rattle.std.proofs.Common.{sym, subst}
-use Rattle.flutejoin.specs.Extract.{ExtractFails}
 use Rattle.flutejoin.proofs.Extracted.{whole_alike, fault_told, fault_alike}
 use Rattle.flutejoin.proofs.extract.extract_to.Goals as goal
 

@@ -1,7 +1,6 @@
 -- Records, one after the other.
-use Rattle.std.proofs.Common.{◌≡◌, refl, ℕ, List, Option, Some, Result, Ok, Err, sym, ap, ◌∙◌, subst, ◌∷◌, [], ◌++◌}
+use Rattle.std.proofs.Common.{refl, Some, Ok, ap, ◌∙◌, subst, ◌∷◌, [], ◌++◌}
 use Rattle.std.proofs.lemmas.Result.{err_from_is_err_and}
-use Rattle.flute_journal.specs.declared.fault.ReadFault.{ReadFault}
 use Rattle.flute_journal.specs.Records.{GivesOfFile, HasFileFault}
 use Rattle.flutejoin.specs.Joined.{HoldsDatagrams}
 use Rattle.flutejoin.proofs.Held.{read_some, read_err, none_failed}

@@ -4,7 +4,7 @@ use Rattle.std.proofs.lemmas.Option.{slice_get-get_or}
 use Rattle.flute_journal.specs.Listed.{listed_behaviour}
 use Rattle.flute_journal.specs.Streams.{fact_in}
 use Rattle.flutejoin.proofs.JoinStreams.{all_new, all_few}
-use Rattle.flutejoin.proofs.JoinStops.{nothing_appended, one_more, pushed, stands_of, others_many, joins_looked, none_failed, first_fails, first_within, names_one, no_sink, read_failed}
+use Rattle.flutejoin.proofs.JoinStops.{nothing_appended, one_more, pushed, stands_of, others_many, joins_looked, none_failed, first_fails, first_within, names_one, read_failed}
 use Rattle.flutejoin.proofs.joining.join_looked.Goals as goal
 
 pub returns-then-is_err-clause-short : goal.returns-then-is_err-clause-short

@@ -1,6 +1,4 @@
 -- The streams so far are those of the files.
-use Rattle.std.proofs.Common.{◌≡◌, ℕ, length, Option, Some}
-use Rattle.std.specs.Prelude.{slice_get}
 use Rattle.flute_journal.specs.Listed.{listed_behaviour}
 use Rattle.flute_journal.specs.Streams.{fact_in}
 use Rattle.flutejoin.proofs.JoinStops.{StreamsSoFar}

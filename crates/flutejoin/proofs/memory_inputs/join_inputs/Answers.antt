@@ -1,5 +1,5 @@
 -- The journal in memory is read as what it tells.
-use Rattle.std.proofs.Common.{rules, ◌<◌, ◌^◌, Option, Some, List, ℕ, [], subst}
+use Rattle.std.proofs.Common.{rules, ◌<◌, ◌^◌, Option, Some, List, ℕ, subst}
 use Rattle.std.specs.Prelude.{IfSome}
 use Rattle.flute_journal.specs.Stores.{IsJournalOf}
 use Rattle.flutejoin.specs.Joining.{JoinsTo}

@@ -1,5 +1,5 @@
 -- Bytes that were read ahead are given again.
-use Rattle.std.proofs.Common.{rules, ◌≡◌, ℕ, ◌+◌, ◌≤◌, ◌++◌, ◌==◌, false, true, zero, suc, List, [], ◌∷◌, length, take, drop, min, Option, Some, None, refl, sym, ◌∙◌, ap, arith, append_assoc, length-drop, length-append, length-take-le, take-append-drop}
+use Rattle.std.proofs.Common.{◌≡◌, ℕ, ◌+◌, ◌≤◌, ◌++◌, ◌==◌, false, zero, suc, List, length, take, drop, min, Option, Some, None, sym, ◌∙◌, ap, arith, append_assoc, length-drop, length-append, length-take-le, take-append-drop}
 use Rattle.std.specs.Io.KnownBytes.{Consumes, prepend_known}
 use Rattle.std.proofs.lemmas.List.{take_all, take-append-le, drop-drop}
 use Rattle.flutejoin.proofs.peeked_source.PeekedSourceSource.read.Goals as goal

@@ -1,0 +1,20 @@
+-- Senders on the command line.
+use Rattle.std.specs.Prelude.{ℕ, ◌+◌, ◌*◌, ◌^◌, ◌==◌, if◌then◌else◌, List, length, Option, Some, None, Result, Ok, Err}
+use Rattle.hex.specs.Hex.{decode_of}
+use Rattle.hex.specs.declared.error.FromHexError.{FromHexError}
+use Rattle.flute_parts.specs.BigEndian.{big_endian}
+
+-- 16 bytes are an address, and 4 are an IPv4 address, which stands for the IPv4-mapped one (RFC 4291, 2.5.5.2)
+abbrev pub address_in : List ℕ → Option ℕ
+address_in bytes =
+    if length bytes == 16 then Some (big_endian bytes)
+    else if length bytes == 4 then Some (65535 * 2 ^ 32 + big_endian bytes)
+    else None
+
+abbrev pub address_read : Result (List ℕ) FromHexError → Option ℕ
+address_read (Ok bytes) = address_in bytes
+address_read (Err fault) = None
+
+-- the sender that hexadecimal digits name
+abbrev pub sender_named : List ℕ → Option ℕ
+sender_named text = address_read (decode_of text)

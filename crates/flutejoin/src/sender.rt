@@ -1,0 +1,40 @@
+//! Senders on the command line, and in the lines that are printed.
+ghost use Rattle.std.specs.Prelude.{◌≡◌, ◌+◌, ◌≤◌, ◌++◌, length};
+ghost use Rattle.flutejoin.specs.Lines.{source_words};
+ghost use Rattle.flutejoin.specs.Sender.{sender_named};
+
+use crate::text::Text;
+use byteorder::{BigEndian, ByteOrder};
+use flute_parts::Sender;
+use hex::FromHex;
+
+/// The sender that `text` names by its address: 32 hexadecimal digits are its 16 bytes, and 8 are
+/// the 4 bytes of an IPv4 address (as `Sender::v4` has it). None for any other text. It takes no
+/// memory.
+pub fn sender_of(text: &str) -> Option<Sender>
+    ensures { result ≡ sender_named text.now }
+{
+    if let Ok(address) = <[u8; 16] as FromHex>::from_hex(text) {
+        return Some(Sender::new(BigEndian::read_u128(&address)));
+    }
+    match <[u8; 4] as FromHex>::from_hex(text) {
+        Ok(address) => Some(Sender::v4(BigEndian::read_u32(&address))),
+        Err(_) => None,
+    }
+}
+
+/// Appends `source`, the 32 digits of the sender's address and a space; nothing where it is 0.
+pub fn push_source(text: &mut Text, sender: Sender)
+    requires { length text.old + 40 ≤ 512 }
+    ensures text { text.new ≡ text.old ++ source_words sender }
+    ensures len { length text.new ≤ length text.old + 40 }
+{
+    let address = sender.number();
+    if address != 0 {
+        let mut digits = [0; 32];
+        hex::encode_to_slice(address.to_be_bytes().as_slice(), &mut digits).unwrap();
+        text.push("source ");
+        text.push_bytes(&digits);
+        text.push(" ");
+    }
+}
