@@ -86,6 +86,18 @@ run join -o all all two
 check 'join in place' 0 "$both_lines" ''
 same 'the journal joined in place' all both
 alone 'join in place leaves nothing beside' all
+# A journal of one conflict of information, in version 1 and in version 2, where its entry has a sender of 16 bytes more
+zeros='\000\000\000\000\000\000\000\000\000\000\000\000'
+key="\\000\\000\\000\\000\\000\\007\\001$zeros\\000\\001"
+end='\377\000\000\000\000\000\000\000\001'
+printf "FLJN\\000\\001\\002$key$end" > old_version
+printf "FLJN\\000\\002\\002\\000\\000\\000\\000$zeros$key$end" > new_version
+run join -o old_version old_version
+check 'join of an old journal in place' 0 'datagrams 0
+refused 0
+entries 1' ''
+same 'the old journal in version 2' old_version new_version
+alone 'nothing beside the old journal' old_version
 cp one a
 run merge -o ./a a two
 check 'merge into an input by another name' 0 'entries 14' ''
@@ -467,6 +479,7 @@ closed packet none packet 10A004000000000000000007000000010000000068656C6C
 closed show none show two
 closed gaps none gaps two
 closed extract other extract -o closed --tsi 7 --toi 2 two
+closed 'extract of a sender' other extract -o closed --source 00000000000000000000000000000000 --tsi 7 --toi 2 two
 "$program" info -o informed --tsi 7 --toi 3 --length 5 --symbol 4 --block 2 two > out
 closed info informed info -o closed --tsi 7 --toi 3 --length 5 --symbol 4 --block 2 two
 closed join two join -o closed two
@@ -530,9 +543,11 @@ refused 65792
 entries 3' ''
 same 'the journal beside it' got two
 rm -f zeros chunk
-printf 'FLJN\000\001' | dd of=huge conv=notrunc 2> /dev/null
-run join -o got huge
-check 'a journal of any length is read' 1 '' 'input 1: Kind'
+for version in 1 2; do
+    printf "FLJN\\000\\00$version" | dd of=huge conv=notrunc 2> /dev/null
+    run join -o got huge
+    check "a journal of version $version of any length is read" 1 '' 'input 1: Kind'
+done
 
 echo "outputs: $passed passed, $failed failed"
 [ $failed = 0 ]

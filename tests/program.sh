@@ -46,6 +46,25 @@ file() {
     done > "$name"
 }
 
+# Journals are written here in version 1, as they are read in most checks, and compared in version 2, as the program writes them.
+zero=00000000000000000000000000000000
+
+# version2 SENDER HEX..: the bytes of a version 1 journal, or of some of its entries, in version 2 with this sender in each entry. An entry
+# begins with its kind, the TSI, and the object's tag and number, with one space between them.
+version2() {
+    sender=$1
+    shift
+    echo "$*" | sed -E "s/^464C4A4E0001/464C4A4E0002/; s/(^| )(0[1-4]) ([[:xdigit:]]{12} 0[01] [[:xdigit:]]{28})/\1\2 $sender \3/g"
+}
+
+# journal NAME HEX..: makes NAME, a version 1 journal of these bytes, and NAME2, the same in version 2, where each sender is zero
+journal() {
+    name=$1
+    shift
+    file "$name" "$*"
+    file "${name}2" "$(version2 $zero "$*")"
+}
+
 symbol=10A004000000000000000007000000010000000068656C6C
 lines='session 7
 object 1
@@ -76,12 +95,12 @@ key='000000000007 01 0000000000000000000000000001'
 info="01 $key 000000000005 0004 00000002"
 first="03 $key 0000 0000 0004 68656C6C"
 last="03 $key 0000 0001 0001 6F"
-file whole "$header $info $first $last FF 0000000000000003"
-file empty "$header FF 0000000000000000"
-file conflict "$header 02 $key FF 0000000000000001"
-file symbol "$header $first FF 0000000000000001"
-file part "$header $info $first FF 0000000000000002"
-file instance "$header 03 000000000007 00 0000000000000000000000000003 0000 0000 0001 3C FF 0000000000000001"
+journal whole "$header $info $first $last FF 0000000000000003"
+journal empty "$header FF 0000000000000000"
+journal conflict "$header 02 $key FF 0000000000000001"
+journal symbol "$header $first FF 0000000000000001"
+journal part "$header $info $first FF 0000000000000002"
+journal instance "$header 03 000000000007 00 0000000000000000000000000003 0000 0000 0001 3C FF 0000000000000001"
 
 info_line='session 7 object 1 info length 5 symbol 4 block 2'
 first_line='session 7 object 1 symbol 0/0 length 4 68656c6c'
@@ -205,9 +224,9 @@ check 'extract from a file that is not there' 3 '' 'cannot open input 1'
 run_to /dev/full extract -o got2 --tsi 7 --toi 1 whole
 check 'extract to a full standard output' 3 '' 'cannot write'
 
-file others "$header $first 03 $key 0000 0001 0004 6F000000 03 $key 0000 0002 0001 78 FF 0000000000000003"
-file joined "$header $info $first 04 $key 0000 0001 03 $key 0000 0002 0001 78 FF 0000000000000004"
-file symbols "$header $first $last FF 0000000000000002"
+journal others "$header $first 03 $key 0000 0001 0004 6F000000 03 $key 0000 0002 0001 78 FF 0000000000000003"
+journal joined "$header $info $first 04 $key 0000 0001 03 $key 0000 0002 0001 78 FF 0000000000000004"
+journal symbols "$header $first $last FF 0000000000000002"
 file sent "464C44470001
     0028 10A00800 00000000 00000007 00000001 40040000 00000005 00000004 00000002 00000000 68656C6C
     0025 10A00800 00000000 00000007 00000001 40040000 00000005 00000004 00000002 00000001 6F"
@@ -219,7 +238,7 @@ same() {
 
 run info -o got --tsi 7 --toi 1 --length 5 --symbol 4 --block 2 symbols
 check 'info' 0 'entries 3' ''
-same 'the journal with information added' got whole
+same 'the journal with information added' got whole2
 run info -o /dev/full --tsi 7 --toi 1 --length 5 --symbol 4 --block 2 symbols
 check 'info to a full output' 3 '' 'cannot write'
 run info -o got --tsi 7 --toi 1 --length 5 --symbol 4 --block 3 whole
@@ -241,24 +260,24 @@ sessions=
 for session in $(seq 0 63); do
     sessions="$sessions 02 $(printf %012x "$session") 01 0000000000000000000000000001"
 done
-file many "$header $sessions FF 0000000000000040"
+journal many "$header $sessions FF 0000000000000040"
 printf before > kept
 run info -o kept --tsi 64 --toi 1 --length 5 --symbol 4 --block 2 many
 check 'info of one session too many' 1 '' 'full'
 [ "$(cat kept)" = before ] || check 'the output that was there before a full store' x - -
 run info -o kept --tsi 63 --toi 1 --length 5 --symbol 4 --block 2 many
 check 'info of the last session' 0 'entries 64' ''
-same 'information where it is in conflict' kept many
+same 'information where it is in conflict' kept many2
 
 run merge -o got whole others
 check 'merge' 0 'entries 4' ''
-same 'the merged journal' got joined
+same 'the merged journal' got joined2
 run merge -o got empty whole
 check 'merge with an empty journal' 0 'entries 3' ''
-same 'a journal merged with nothing' got whole
+same 'a journal merged with nothing' got whole2
 run merge -o got whole whole
 check 'merge of one journal with itself' 0 'entries 3' ''
-same 'a journal merged with itself' got whole
+same 'a journal merged with itself' got whole2
 run merge -o whole whole others
 check 'merge into an input' 2 '' 'output is an input'
 run merge -o got3 missing missing
@@ -301,23 +320,23 @@ run join -o got sent
 check 'join of a datagram file' 0 'datagrams 2
 refused 0
 entries 3' ''
-same 'the journal of a datagram file' got whole
+same 'the journal of a datagram file' got whole2
 run join -o got sent whole sent
 check 'join of files and journals' 0 'datagrams 4
 refused 0
 entries 3' ''
-same 'the journal of them all' got whole
+same 'the journal of them all' got whole2
 run join -o got whole others
 check 'join of journals' 0 'datagrams 0
 refused 0
 entries 4' ''
-same 'the joined journal' got joined
+same 'the joined journal' got joined2
 file refused 464C44470001 0003 10A000
 run join -o got refused
 check 'join of a refused datagram' 0 'datagrams 1
 refused 1
 entries 0' ''
-same 'the journal of nothing' got empty
+same 'the journal of nothing' got empty2
 run join -o got5 missing missing
 check 'join of inputs that are not there' 3 '' 'cannot open input 1'
 run join -o got5 whole missing
@@ -343,7 +362,7 @@ status=$?
 check 'join of a journal and of a datagram file from standard input' 0 'datagrams 2
 refused 0
 entries 4' ''
-same 'the journal joined with standard input' got joined
+same 'the journal joined with standard input' got joined2
 mkfifo pipe
 cat sent > pipe &
 run join -o got pipe others
@@ -351,25 +370,25 @@ wait
 check 'join of a datagram file from a pipe with a name and of a journal' 0 'datagrams 2
 refused 0
 entries 4' ''
-same 'the journal joined with a pipe' got joined
+same 'the journal joined with a pipe' got joined2
 cat others > pipe &
 run join -o got sent pipe sent
 wait
 check 'join of a journal from a pipe with a name' 0 'datagrams 4
 refused 0
 entries 4' ''
-same 'the journal joined from a pipe' got joined
+same 'the journal joined from a pipe' got joined2
 file nothing_sent 464C44470001
 run join -o got nothing_sent empty
 check 'join of inputs that tell nothing' 0 'datagrams 0
 refused 0
 entries 0' ''
-same 'the journal of inputs that tell nothing' got empty
+same 'the journal of inputs that tell nothing' got empty2
 run join -o got $(yes whole | head -n 63) others
 check 'join of as many inputs as may be' 0 'datagrams 0
 refused 0
 entries 4' ''
-same 'the journal of as many inputs as may be' got joined
+same 'the journal of as many inputs as may be' got joined2
 
 # Where OUT cannot be created or written, a fault of the inputs is told first.
 for output in no/got /dev/full; do
@@ -449,6 +468,328 @@ run extract -o got7 --tsi 7 --toi 1 border.joined
 check 'extract of an object at the limit' 0 'bytes 1048576' ''
 same 'the object at the limit' got7 border
 rm -f border* beyond* more got6 got7
+
+# Journals of version 2. The bytes of `whole2`, all of them by hand:
+file by_hand 464C4A4E 0002 \
+    01 00000000000000000000000000000000 000000000007 01 0000000000000000000000000001 000000000005 0004 00000002 \
+    03 00000000000000000000000000000000 000000000007 01 0000000000000000000000000001 0000 0000 0004 68656C6C \
+    03 00000000000000000000000000000000 000000000007 01 0000000000000000000000000001 0000 0001 0001 6F \
+    FF 0000000000000003
+same 'a journal of version 2, by hand' by_hand whole2
+
+# What old journals tell is told of the new ones too, and a new one is written again as the same bytes.
+for old in whole empty conflict symbol part instance others symbols many; do
+    for command in show gaps; do
+        run $command $old
+        cp out old_lines
+        run $command ${old}2
+        check "$command of $old in version 2" 0 "$(cat old_lines)" ''
+    done
+    run join -o got $old
+    check "join of $old alone" 0 - ''
+    same "what join turned $old into" got ${old}2
+    run join -o got ${old}2
+    check "join of $old alone, in version 2" 0 - ''
+    same "$old joined again" got ${old}2
+    run merge -o got $old $old
+    check "merge of $old with itself" 0 - ''
+    same "what merge turned $old into" got ${old}2
+    run merge -o got ${old}2 ${old}2
+    check "merge of $old with itself, in version 2" 0 - ''
+    same "$old merged again" got ${old}2
+    run join -o got ${old}2 $old
+    check "join of both versions of $old" 0 - ''
+    same "both versions of $old, joined" got ${old}2
+    run merge -o got $old ${old}2
+    check "merge of both versions of $old" 0 - ''
+    same "both versions of $old, merged" got ${old}2
+    run merge -o got ${old}2 $old
+    check "merge of both versions of $old, the new one first" 0 - ''
+    same "both versions of $old, merged the other way" got ${old}2
+done
+run extract -o got --tsi 7 --toi 1 whole2
+check 'extract from a journal of version 2' 0 'bytes 5' ''
+same 'the object of a journal of version 2' got content
+run extract -o got8 --tsi 7 --toi 1 part2
+check 'extract of a part in version 2' 1 '' 'not whole: 0/1'
+run info -o got --tsi 7 --toi 1 --length 5 --symbol 4 --block 2 symbols2
+check 'info of a journal of version 2' 0 'entries 3' ''
+same 'version 2 with information added' got whole2
+run show - < whole2
+check 'show of version 2 from standard input' 0 "$info_line
+$first_line
+$last_line
+entries 3" ''
+
+# Senders: 10.0.0.1 and one of IPv6 send other objects in the session of the same TSI.
+v4=00000000000000000000FFFF0A000001
+v6=20010DB8000000000000000000000001
+v4_lower=00000000000000000000ffff0a000001
+v6_lower=20010db8000000000000000000000001
+header2=464C4A4E0002
+world="$info 03 $key 0000 0000 0004 776F726C 03 $key 0000 0001 0001 64"
+printf world > world_content
+second='000000000007 01 0000000000000000000000000002'
+third='000000000007 01 0000000000000000000000000003'
+session_8='000000000008 01 0000000000000000000000000001'
+hello_of_zero=$(version2 $zero "$info $first $last")
+world_of_v4=$(version2 $v4 "$world")
+file world "$header2 $world_of_v4 FF 0000000000000003"
+file two "$header2 $hello_of_zero $world_of_v4 FF 0000000000000006"
+file three "$header2 $hello_of_zero $(version2 $zero "02 $third 02 $session_8") $world_of_v4 $(version2 $v4 "01 $second 000000000005 0004 00000002") \
+    $(version2 $v6 "02 $key") FF 000000000000000A"
+
+run show world
+check 'show of a journal of 10.0.0.1' 0 "source $v4_lower session 7 object 1 info length 5 symbol 4 block 2
+source $v4_lower session 7 object 1 symbol 0/0 length 4 776f726c
+source $v4_lower session 7 object 1 symbol 0/1 length 1 64
+entries 3" ''
+run gaps world
+check 'gaps of a journal of 10.0.0.1' 0 "source $v4_lower session 7 object 1 whole 5" ''
+fdt_3='000000000007 00 0000000000000000000000000003'
+file states "$header2 $(version2 $v4 "03 $fdt_3 0000 0000 0001 3C 02 $key 01 $second 000000000005 0004 00000002 03 $second 0000 0000 0004 68656C6C \
+    04 $third 0000 0001") FF 0000000000000005"
+run show states
+check 'show of each kind of entry of 10.0.0.1' 0 "source $v4_lower session 7 object fdt 3 symbol 0/0 length 1 3c
+source $v4_lower session 7 object 1 info conflict
+source $v4_lower session 7 object 2 info length 5 symbol 4 block 2
+source $v4_lower session 7 object 2 symbol 0/0 length 4 68656c6c
+source $v4_lower session 7 object 3 symbol 0/1 conflict
+entries 5" ''
+run gaps states
+check 'gaps of each kind of object of 10.0.0.1' 0 "source $v4_lower session 7 object fdt 3 no information
+source $v4_lower session 7 object 1 conflicting information
+source $v4_lower session 7 object 2 partial missing 1 conflicting 0 misfit 0
+gap 0/1-1 missing
+source $v4_lower session 7 object 3 no information" ''
+run gaps two
+check 'gaps of two senders with one TSI' 0 "session 7 object 1 whole 5
+source $v4_lower session 7 object 1 whole 5" ''
+three_gaps="session 7 object 1 whole 5
+session 7 object 3 conflicting information
+session 8 object 1 conflicting information
+source $v4_lower session 7 object 1 whole 5
+source $v4_lower session 7 object 2 partial missing 2 conflicting 0 misfit 0
+gap 0/0-1 missing
+source $v6_lower session 7 object 1 conflicting information"
+run gaps three
+check 'gaps in the order of senders, then TSIs' 0 "$three_gaps" ''
+run show three
+check 'show in the order of senders, then TSIs' 0 "$info_line
+$first_line
+$last_line
+session 7 object 3 info conflict
+session 8 object 1 info conflict
+source $v4_lower session 7 object 1 info length 5 symbol 4 block 2
+source $v4_lower session 7 object 1 symbol 0/0 length 4 776f726c
+source $v4_lower session 7 object 1 symbol 0/1 length 1 64
+source $v4_lower session 7 object 2 info length 5 symbol 4 block 2
+source $v6_lower session 7 object 1 info conflict
+entries 10" ''
+
+# Inputs of both versions and of several senders come to one journal.
+for inputs in 'whole world' 'world whole' 'whole2 world' 'world whole2' 'two whole' 'world two' 'two two'; do
+    run merge -o got $inputs
+    check "merge of $inputs" 0 'entries 6' ''
+    same "the journal of two senders, merged from $inputs" got two
+    run join -o got $inputs
+    check "join of $inputs" 0 'datagrams 0
+refused 0
+entries 6' ''
+    same "the journal of two senders, joined from $inputs" got two
+done
+for inputs in 'sent world' 'world sent' 'two sent'; do
+    run join -o got $inputs
+    check "join of datagrams and another sender: $inputs" 0 'datagrams 2
+refused 0
+entries 6' ''
+    same "datagrams beside another sender: $inputs" got two
+done
+run join -o got sent world sent whole world three
+check 'join of datagrams and of journals of both versions' 0 'datagrams 4
+refused 0
+entries 10' ''
+same 'the journal of all three senders' got three
+
+# extract: each sender's object
+for source in $v4 $v4_lower 00000000000000000000FfFf0a000001 0A000001 0a000001; do
+    for words in "--source $source" "--source=$source"; do
+        : > got
+        run extract -o got $words --tsi 7 --toi 1 three
+        check "extract with $words" 0 'bytes 5' ''
+        same "the object of the sender of $words" got world_content
+    done
+done
+run extract -o got --tsi 7 --toi 1 three
+check 'extract without a source' 0 'bytes 5' ''
+same 'the object of the sender zero' got content
+run extract -o got --source $zero --tsi 7 --toi 1 three
+check 'extract of the sender zero' 0 'bytes 5' ''
+same 'the object of the sender that is zero' got content
+run extract -o got --source $zero --tsi 7 --toi 1 whole
+check 'extract of the sender zero from an old journal' 0 'bytes 5' ''
+same 'the object of an old journal' got content
+run extract -o got8 --tsi 7 --toi 1 world
+check 'extract without a source where another sender has the object' 1 '' 'no object'
+run extract -o got8 --tsi 7 --toi 2 three
+check 'extract without a source of what another sender has alone' 1 '' 'no object'
+run extract -o got8 --source 0a000001 --tsi 7 --toi 2 three
+check 'extract of a part of another sender' 1 '' 'not whole: 0/0'
+run extract -o got8 --source 0a000001 --tsi 7 --toi 3 three
+check 'extract of what the sender zero has alone' 1 '' 'no object'
+run extract -o got8 --source 0a000001 --tsi 8 --toi 1 three
+check 'extract of a session that the sender zero has alone' 1 '' 'no object'
+run extract -o got8 --source 0a000002 --tsi 7 --toi 1 three
+check 'extract of a sender that the journal has not' 1 '' 'no object'
+run extract -o got8 --source 00000000 --tsi 7 --toi 1 three
+check 'the sender 0.0.0.0 is not the sender zero' 1 '' 'no object'
+run extract -o got8 --source 0a000001 --tsi 7 --toi 1 whole
+check 'extract of another sender from an old journal' 1 '' 'no object'
+for source in $v6 $v6_lower 20010dB8000000000000000000000001; do
+    run extract -o got8 --source $source --tsi 7 --toi 1 three
+    check "extract of a sender of IPv6, $source" 1 '' 'conflicting information'
+done
+
+# info: to an object of the sender that is told
+file informed "$header2 $(version2 $zero "$first $last") $(version2 $v4 "$info") FF 0000000000000003"
+for source in $v4 $v4_lower 00000000000000000000FfFf0a000001 0A000001 0a000001; do
+    for words in "--source $source" "--source=$source"; do
+        : > got
+        run info -o got $words --tsi 7 --toi 1 --length 5 --symbol 4 --block 2 symbols
+        check "info with $words" 0 'entries 3' ''
+        same "the journal with information of the sender of $words" got informed
+    done
+done
+run info -o got --source 0a000001 --tsi 7 --toi 1 --length 5 --symbol 4 --block 2 symbols2
+check 'info of another sender in version 2' 0 'entries 3' ''
+same 'version 2 with information of another sender' got informed
+run info -o got --source $zero --tsi 7 --toi 1 --length 5 --symbol 4 --block 2 symbols
+check 'info of the sender zero' 0 'entries 3' ''
+same 'information of the sender that is zero' got whole2
+run info -o got --tsi 7 --toi 1 --length 5 --symbol 4 --block 2 informed
+check 'info without a source beside another sender' 0 'entries 4' ''
+file informed_both "$header2 $hello_of_zero $(version2 $v4 "$info") FF 0000000000000004"
+same 'information of both senders' got informed_both
+run info -o got --source 0a000001 --tsi 7 --toi 1 --length 5 --symbol 4 --block 3 two
+check 'info in conflict with that of one sender' 0 'entries 6' ''
+run gaps got
+check 'the conflict of one sender is not that of the other' 0 "session 7 object 1 whole 5
+source $v4_lower session 7 object 1 conflicting information" ''
+run info -o got --source 00000000 --tsi 7 --toi 0 --fdt 3 --length 5 --symbol 4 --block 2 empty
+check 'info of an FDT Instance of 0.0.0.0' 0 'entries 1' ''
+run show got
+check 'the information of an FDT Instance of 0.0.0.0' 0 'source 00000000000000000000ffff00000000 session 7 object fdt 3 info length 5 symbol 4 block 2
+entries 1' ''
+# The limit on sessions counts those of all senders.
+run info -o got8 --source 0a000001 --tsi 63 --toi 1 --length 5 --symbol 4 --block 2 many
+check 'info of one session too many, of another sender' 1 '' 'full'
+run join -o got8 many world
+check 'join of one session too many, of another sender' 1 '' 'full'
+
+# A source that is none: told behind the numbers and before all else, and nothing is made.
+printf before > kept
+for source in '' A 0 0A00001 0A0000010 0A00 0000000000000000 ${v4%?} ${v4}0 ${v4}00 0G000001 0g000001 ${v4%?}G -A000001 -0A00001 -0A000001 \
+    - -- -h +A000001 ' A000001' '0A000001 ' '0A 00001' 10.0.0.1 ::1 ::ffff:10.0.0.1 0x0A0000 0x0A000001; do
+    for output in kept got8; do
+        run extract -o $output --source "$source" --tsi 7 --toi 1 three
+        check "extract to $output with the source '$source'" 2 '' 'bad source'
+        run extract -o $output "--source=$source" --tsi 7 --toi 0 missing
+        check "extract to $output with the source '$source' before the key and the input" 2 '' 'bad source'
+        run info -o $output --source "$source" --tsi 7 --toi 1 --length 5 --symbol 4 --block 2 three
+        check "info to $output with the source '$source'" 2 '' 'bad source'
+        run info -o $output "--source=$source" --tsi 7 --toi 1 --fdt 3 --length 5 --symbol 0 --block 2 missing
+        check "info to $output with the source '$source' before the key, the information and the input" 2 '' 'bad source'
+    done
+done
+run extract -o got8 --source 0A000001 --tsi 7 --toi 0 missing
+check 'extract with a bad key and a good source' 2 '' 'bad key'
+run info -o got8 --source 0A000001 --tsi 7 --toi 0 --length 5 --symbol 0 --block 2 missing
+check 'info with a bad key and a good source' 2 '' 'bad key'
+for name in tsi toi fdt length symbol block; do
+    words=$(echo '--tsi 7 --toi 0 --fdt 3 --length 5 --symbol 4 --block 2' | sed "s/--$name [0-9]*/--$name x/")
+    run info -o kept --source 0 $words missing
+    check "a bad --$name of info before a bad source" 2 '' "bad number: --$name"
+    run info -o kept $words --source -A000001 missing
+    check "a bad --$name of info before a bad source behind it" 2 '' "bad number: --$name"
+done
+for name in tsi toi fdt; do
+    words=$(echo '--tsi 7 --toi 0 --fdt 3' | sed "s/--$name [0-9]*/--$name x/")
+    run extract -o kept --source 0 $words missing
+    check "a bad --$name of extract before a bad source" 2 '' "bad number: --$name"
+    run extract -o kept $words --source -A000001 missing
+    check "a bad --$name of extract before a bad source behind it" 2 '' "bad number: --$name"
+done
+run extract -o kept --source 0 --tsi x --toi 0 missing
+check 'a bad number before a bad source and a bad key' 2 '' 'bad number: --tsi'
+
+# told_first NAME TEXT: the parser refused the last run, and its text begins with this line
+told_first() {
+    mv err text
+    head -n 1 text > err
+    check "$1" 2 '' "error: $2"
+}
+for words in 'show three' 'gaps three' 'merge -o kept three three' 'join -o kept three' "packet $symbol" \
+    'carousel -o kept --tsi 7 --toi 1 --symbol 4 --block 2 content'; do
+    run $words --source 0A000001
+    told_first "a source behind $words" "unexpected argument '--source' found"
+    run ${words%% *} --source 0A000001 ${words#* }
+    told_first "a source in $words" "unexpected argument '--source' found"
+done
+run extract -o kept --source 0A000001 --tsi 7 --toi 1 --source 0A000001 three
+told_first 'extract with two sources' "the argument '--source <HEX>' cannot be used multiple times"
+run info -o kept --source 0A000001 --tsi 7 --toi 1 --length 5 --symbol 4 --block 2 --source 0A000002 three
+told_first 'info with two sources' "the argument '--source <HEX>' cannot be used multiple times"
+run extract -o kept --tsi 7 --toi 1 three --source
+told_first 'a source without a value' "a value is required for '--source <HEX>' but none was supplied"
+[ "$(cat kept)" = before ] && [ ! -e kept.partial ] || check 'the output that was there before bad sources' x - -
+[ ! -e got8 ] && [ ! -e got8.partial ] || check 'nothing is made with a bad source, or of an object that the sender has not' x - -
+
+# The faults of version 2
+fault Version "$(version2 $v4 "464C4A4E0003 $info FF 0000000000000001")" ''
+fault Version "464C4A4E0000 FF 0000000000000000" ''
+fault Kind "$header2 $(version2 $v4 "$info") 05 $v4 $key" "source $v4_lower $info_line"
+fault Key "$header2 $(version2 $v4 "02 000000000007 01 0000000000000000000000000000") FF 0000000000000001" ''
+fault 'Information BlockLength' "$header2 $(version2 $v4 "01 $key 000000000005 0004 00000000") FF 0000000000000001" ''
+fault EmptySymbol "$header2 $(version2 $v4 "03 $key 0000 0000 0000") FF 0000000000000001" ''
+fault Order "$header2 $(version2 $v4 "02 $key") $(version2 $zero "02 $session_8") FF 0000000000000002" \
+    "source $v4_lower session 7 object 1 info conflict"
+fault Order "$header2 $(version2 $v6 "02 $key") $(version2 $v4 "02 $session_8") FF 0000000000000002" \
+    "source $v6_lower session 7 object 1 info conflict"
+fault Order "$header2 $(version2 $v4 "02 $key $info") FF 0000000000000002" "source $v4_lower session 7 object 1 info conflict"
+fault Order "$header2 $(version2 $v4 "02 $session_8 02 $key") FF 0000000000000002" "source $v4_lower session 8 object 1 info conflict"
+fault Count "$header2 $world_of_v4 FF 0000000000000004" "$(printf '%s\n' "source $v4_lower $info_line" \
+    "source $v4_lower session 7 object 1 symbol 0/0 length 4 776f726c" "source $v4_lower session 7 object 1 symbol 0/1 length 1 64")"
+fault Trailing "$header2 $(version2 $v4 "$info") FF 0000000000000001 00" "source $v4_lower $info_line"
+fault Cut "$header2 $(version2 $v4 "$info") 03 00000000000000000000FFFF0A0000" "source $v4_lower $info_line"
+# What an entry has is said by the version of its journal alone.
+fault Cut "$header2 02 $key FF 0000000000000001" ''
+fault Kind "$header 02 $zero $key FF 0000000000000001" 'session 0 object fdt 0 info conflict'
+
+# at_fault NAME STATUS OUT ERR: each command that reads a journal tells so of `bad`, and makes nothing
+at_fault() {
+    for words in 'show bad' 'gaps bad' 'extract -o got8 --tsi 7 --toi 1 bad' 'info -o got8 --tsi 7 --toi 1 --length 5 --symbol 4 --block 2 bad' \
+        'join -o got8 bad' 'merge -o got8 bad whole'; do
+        run $words
+        check "$words: $1" "$2" "$3" "$4"
+    done
+    [ ! -e got8 ] && [ ! -e got8.partial ] || check "nothing is made: $1" x - -
+}
+file bad 464C4A4E0003 FF 0000000000000000
+at_fault 'an empty journal of version 3' 1 '' 'input 1: Version'
+file bad "$(version2 $v4 "464C4A4E0003 $info FF 0000000000000001")"
+at_fault 'a journal of version 3' 1 '' 'input 1: Version'
+for length in 6 7 8 22 23; do
+    head -c $length world > bad
+    at_fault "a journal of version 2 cut behind $length bytes" 1 '' 'input 1: Cut'
+done
+for version in 0002 0003 0000; do
+    file bad "464C4447 $version 0003 10A000"
+    run join -o got8 bad
+    check "join of a datagram file of version $version" 1 '' 'input 1: Version'
+    run join -o got8 world bad
+    check "join with a datagram file of version $version" 1 '' 'input 2: Version'
+done
+[ ! -e got8 ] && [ ! -e got8.partial ] || check 'nothing is made of a datagram file of another version' x - -
 
 run frob
 check 'a command that does not exist' 2 '' -

@@ -7,7 +7,7 @@ mod stores;
 mod streams;
 
 use flute_journal::*;
-use flute_parts::{Key, ObjectKey, SessionKey};
+use flute_parts::{Key, ObjectKey, Sender, SessionKey};
 use flute_store::Store;
 use std::test::Fail;
 
@@ -17,17 +17,29 @@ type Small = Store<4, 4, 4>;
 /// The bound of journals that are not refused for it.
 const MANY: u64 = 16_777_216;
 
-/// File 1 of session 7.
-fn file() -> Option<Key> {
-    let session = SessionKey::new(7)?;
+/// The sender of some journals: 10.0.0.1.
+fn other_sender() -> Sender {
+    Sender::v4(0x0A00_0001)
+}
+
+/// File 1 of session 7 of this sender.
+fn file_of(sender: Sender) -> Option<Key> {
+    let session = SessionKey::new(sender, 7)?;
     let object = ObjectKey::file(1)?;
     Some(Key { session, object })
+}
+
+/// File 1 of session 7 of the sender 0.
+fn file() -> Option<Key> {
+    file_of(Sender::new(0))
 }
 
 #[test]
 fn laws_can_be_called() {
     laws::entry_has_one_reading();
+    laws::every_fact_has_an_entry();
     laws::one_journal_for_one_content();
+    laws::a_journal_has_one_version();
     laws::merging_merged_is_merging_all();
     laws::no_journal_begins_another();
     laws::a_journal_has_one_content();

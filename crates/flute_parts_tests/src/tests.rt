@@ -8,13 +8,13 @@ mod tallies;
 
 use flute_parts::{
     Address, Bytes, BytesFault, DeviceFault, Fact, FactRef, Info, InfoFault, Key, ObjectKey, Part,
-    SessionKey, SymbolId, laws,
+    Sender, SessionKey, SymbolId, laws,
 };
 use std::fmt::Display;
 use std::test::Fail;
 
 fn key() -> Option<Key> {
-    let session = SessionKey::new(7)?;
+    let session = SessionKey::new(Sender::new(0), 7)?;
     let object = ObjectKey::file(1)?;
     Some(Key { session, object })
 }
@@ -30,9 +30,9 @@ fn is_at(key: &Key, part: Part, fact: &FactRef<'_>) -> bool {
 #[test]
 fn names_within_their_range(rt: HostRuntime) {
     for (tsi, held) in [(0, true), ((1 << 48) - 1, true), (1 << 48, false)] {
-        let session = SessionKey::new(tsi);
+        let session = SessionKey::new(Sender::new(0), tsi);
         assert_eq!(rt; session.is_some(), held, "session {tsi}");
-        assert!(rt; session.is_none_or(|s| s.tsi() == tsi));
+        assert!(rt; session.is_none_or(|s| s.tsi() == tsi && s.sender() == Sender::new(0)));
     }
     for (instance, held) in [(0, true), ((1 << 20) - 1, true), (1 << 20, false)] {
         let object = ObjectKey::fdt(instance);
@@ -48,6 +48,23 @@ fn names_within_their_range(rt: HostRuntime) {
         let object = ObjectKey::file(toi);
         assert_eq!(rt; object.is_some(), held, "file {toi}");
         assert!(rt; object.is_none_or(|o| o.toi() == toi && o.instance().is_none()));
+    }
+}
+
+#[test]
+fn senders_by_their_addresses(rt: HostRuntime) {
+    for address in [0, 1, u128::MAX] {
+        assert_eq!(rt; Sender::new(address).number(), address);
+    }
+    for (address, number) in [
+        (0, 0xFFFF_0000_0000),
+        (0x0A00_0001, 0xFFFF_0A00_0001),
+        (u32::MAX, 0xFFFF_FFFF_FFFF),
+    ] {
+        assert_eq!(rt; Sender::v4(address).number(), number);
+        assert_eq!(rt; Sender::v4(address), Sender::new(number));
+        let session = SessionKey::new(Sender::v4(address), 7);
+        assert!(rt; session.is_some_and(|s| s.sender() == Sender::v4(address) && s.tsi() == 7));
     }
 }
 
@@ -193,6 +210,11 @@ fn laws_can_be_called() {
 
 #[test]
 fn names_are_in_order(rt: HostRuntime) {
+    let (low, high) = (Sender::v4(0x0A00_0001), Sender::v4(0x0A00_0002));
+    assert!(rt; Sender::new(0) < low && low < high);
+    assert!(rt; SessionKey::new(low, 7) < SessionKey::new(low, 8));
+    assert!(rt; SessionKey::new(low, 8) < SessionKey::new(high, 7));
+    assert!(rt; SessionKey::new(low, 7) != SessionKey::new(high, 7));
     assert!(rt; ObjectKey::fdt(5) < ObjectKey::file(1));
     assert!(rt; Part::Info < Part::Symbol(SymbolId { sbn: 0, esi: 0 }));
     assert!(rt; SymbolId { sbn: 0, esi: 9 } < SymbolId { sbn: 1, esi: 0 });

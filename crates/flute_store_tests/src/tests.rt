@@ -4,7 +4,7 @@ mod objects;
 
 use flute_join::JoinRefusal;
 use flute_parts::{
-    Address, Bytes, Fact, FactRef, Info, Key, ObjectKey, Part, SessionKey, SymbolId,
+    Address, Bytes, Fact, FactRef, Info, Key, ObjectKey, Part, Sender, SessionKey, SymbolId,
 };
 use flute_store::{Shelf, Store, TakeFault, Taken, laws};
 use std::alloc::Global;
@@ -21,11 +21,16 @@ const FIRST: SymbolId = SymbolId { sbn: 0, esi: 0 };
 
 const LAST: SymbolId = SymbolId { sbn: 0, esi: 1 };
 
-/// File 1 of session 7.
-fn file() -> Option<Key> {
-    let session = SessionKey::new(7)?;
+/// File 1 of session 7 of this sender.
+fn file_of(sender: Sender) -> Option<Key> {
+    let session = SessionKey::new(sender, 7)?;
     let object = ObjectKey::file(1)?;
     Some(Key { session, object })
+}
+
+/// File 1 of session 7 of the sender that datagrams are taken with.
+fn file() -> Option<Key> {
+    file_of(Sender::new(0))
 }
 
 /// A new store that took these datagrams.
@@ -122,6 +127,41 @@ fn facts_are_added_and_put(rt: HostRuntime) -> Result<(), Fail> {
             key,
             id: FIRST,
             bytes: b"hell",
+        },
+    ];
+    assert!(rt; holds(&store, &held));
+    Ok(())
+}
+
+/// Facts of another sender stand in another session, and come after those of the sender 0.
+#[test]
+fn senders_are_told_apart(rt: HostRuntime) -> Result<(), Fail> {
+    let key = file().ok_or("a key")?;
+    let other = file_of(Sender::v4(0x0A00_0001)).ok_or("a key")?;
+    let mut store = Shelf::new(rt.alloc());
+    store.put(rt.alloc(), first_symbol(rt.alloc(), other)?)?;
+    store.add(
+        rt.alloc(),
+        &Fact::SymbolConflict {
+            key: other,
+            id: LAST,
+        },
+    )?;
+    store.take(rt.alloc(), &bytes(rt.alloc(), FIRST_SYMBOL)?)?;
+    let held = [
+        FactRef::Symbol {
+            key,
+            id: FIRST,
+            bytes: b"hell",
+        },
+        FactRef::Symbol {
+            key: other,
+            id: FIRST,
+            bytes: b"hell",
+        },
+        FactRef::SymbolConflict {
+            key: other,
+            id: LAST,
         },
     ];
     assert!(rt; holds(&store, &held));

@@ -2,7 +2,7 @@
 
 mod datagrams;
 
-use flute_parts::{Info, Key, ObjectKey, SessionKey, SymbolId};
+use flute_parts::{Info, Key, ObjectKey, Sender, SessionKey, SymbolId};
 use flute_wire::*;
 use std::process::Abort;
 use std::test::Fail;
@@ -15,16 +15,21 @@ const FIRST: SymbolId = SymbolId { sbn: 0, esi: 0 };
 
 const LAST: SymbolId = SymbolId { sbn: 0, esi: 1 };
 
+/// The sender of the keys.
+fn sender() -> Sender {
+    Sender::v4(0x0A00_0001)
+}
+
 /// File 1 of session 7.
 fn file(rt: &impl Abort) -> Key {
-    let session = SessionKey::new(7).expect(rt, "a session");
+    let session = SessionKey::new(sender(), 7).expect(rt, "a session");
     let object = ObjectKey::file(1).expect(rt, "a file");
     Key { session, object }
 }
 
 /// FDT Instance 3 of session 7.
 fn instance(rt: &impl Abort) -> Key {
-    let session = SessionKey::new(7).expect(rt, "a session");
+    let session = SessionKey::new(sender(), 7).expect(rt, "a session");
     let object = ObjectKey::fdt(3).expect(rt, "an FDT Instance");
     Key { session, object }
 }
@@ -34,7 +39,8 @@ fn a_datagram_is_read(rt: HostRuntime) -> Result<(), Fail> {
     let datagram = bytes(rt.alloc(), INFO_AND_FIRST_SYMBOL)?;
     let packet = read(&datagram)?;
     assert!(rt; packet.tsi() == 7 && packet.toi() == 1 && packet.instance().is_none());
-    assert!(rt; packet.key() == file(&rt));
+    assert!(rt; packet.key(sender()) == file(&rt));
+    assert!(rt; packet.key(Sender::new(0)).session.sender() == Sender::new(0));
     assert!(rt; packet.info() == Some(Info::new(5, 4, 2)?));
     assert!(rt; packet.symbol() == Some((FIRST, b"hell".as_slice())));
     let datagram = bytes(rt.alloc(), REFUSED)?;

@@ -4,7 +4,9 @@ use crate::findings::Findings;
 use crate::refusing::{Case, refuse_after, was_refused};
 use crate::report::Report;
 use crate::stores::writes;
-use crate::vectors::{DATAGRAMS, JOURNAL_OF_SYMBOLS, WHOLE};
+use crate::vectors::{
+    DATAGRAMS, OLD_SYMBOLS, OLD_WHOLE, SYMBOLS_OF_SENDER, WHOLE, WHOLE_OF_BOTH, WHOLE_OF_SENDER,
+};
 use anyhow::Result;
 use flute_journal::ReadFault;
 use flute_parts::{Info, Key, MemorySink, MemorySource};
@@ -172,29 +174,51 @@ fn expect_part(written: &[u8], journal: &[u8], findings: &mut Findings) {
     findings.expect(is_part, "what was written is no part of the journal");
 }
 
-/// Information that is added to a journal of symbols.
-pub fn informs<P: Print>(report: &mut Report<'_, P>, key: Key, info: Info) {
+/// Information that is added to a journal of symbols, of version 1, and of another sender.
+pub fn informs<P: Print>(report: &mut Report<'_, P>, key: Key, key_of_sender: Key, info: Info) {
     let inform = Inform {
         key,
         info,
-        journal: JOURNAL_OF_SYMBOLS,
+        journal: OLD_SYMBOLS,
         both: WHOLE,
         entries: 3,
     };
     report.refuse("info_to", &inform);
+    let inform = Inform {
+        key: key_of_sender,
+        info,
+        journal: SYMBOLS_OF_SENDER,
+        both: WHOLE_OF_SENDER,
+        entries: 3,
+    };
+    report.refuse("info_to of another sender", &inform);
 }
 
-/// A journal read whole, and joined with a datagram file.
+/// A journal of version 1 read whole, and joined with a datagram file; and one of another sender.
 pub fn joins<P: Print>(report: &mut Report<'_, P>) -> Result<()> {
     let alloc = report.alloc();
-    report.refuse("Blob::read", &Input { bytes: WHOLE });
+    report.refuse("Blob::read", &Input { bytes: OLD_WHOLE });
     let sent = Blob::read(alloc, &mut MemorySource::new(DATAGRAMS))?;
-    let journal = Blob::read(alloc, &mut MemorySource::new(WHOLE))?;
+    let journal = Blob::read(alloc, &mut MemorySource::new(OLD_WHOLE))?;
     let inputs = Inputs {
         inputs: &[sent, journal],
         journal: WHOLE,
     };
     report.refuse("join_inputs", &inputs);
     report.refuse("join_sources", &Streams { inputs, entries: 3 });
+    joins_of_two_senders(report)
+}
+
+fn joins_of_two_senders<P: Print>(report: &mut Report<'_, P>) -> Result<()> {
+    let alloc = report.alloc();
+    let sent = Blob::read(alloc, &mut MemorySource::new(DATAGRAMS))?;
+    let journal = Blob::read(alloc, &mut MemorySource::new(WHOLE_OF_SENDER))?;
+    let inputs = Inputs {
+        inputs: &[sent, journal],
+        journal: WHOLE_OF_BOTH,
+    };
+    report.refuse("join_inputs of two senders", &inputs);
+    let streams = Streams { inputs, entries: 6 };
+    report.refuse("join_sources of two senders", &streams);
     Ok(())
 }

@@ -23,7 +23,7 @@ mod vectors;
 use absorbing::absorbs;
 use adding::adds;
 use anyhow::{Context, Result};
-use flute_parts::{Info, Key, ObjectKey, SessionKey};
+use flute_parts::{Info, Key, ObjectKey, Sender, SessionKey};
 use inputs::{informs, joins};
 use mapping::maps;
 use merging::merges;
@@ -35,9 +35,11 @@ use sending::sends;
 use taking::takes;
 
 fn main(rt: HostRuntime) -> Result<()> {
-    let session = SessionKey::new(7).context("a session")?;
     let object = ObjectKey::file(1).context("a file")?;
+    let session = SessionKey::new(Sender::new(0), 7).context("a session")?;
     let key = Key { session, object };
+    let session = SessionKey::new(Sender::v4(0x0A00_0001), 7).context("a session")?;
+    let key_of_sender = Key { session, object };
     let info = Info::new(5, 4, 2)?;
     let mut report = Report::new(&rt, rt.alloc());
     maps(&mut report);
@@ -50,6 +52,6 @@ fn main(rt: HostRuntime) -> Result<()> {
     steps(&mut report, &key)?;
     sends(&mut report, &key, &info)?;
     joins(&mut report)?;
-    informs(&mut report, key, info);
+    informs(&mut report, key, key_of_sender, info);
     report.end()
 }

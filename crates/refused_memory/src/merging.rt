@@ -3,7 +3,7 @@
 use crate::findings::Findings;
 use crate::refusing::{Case, refuse_after, was_refused};
 use crate::report::Report;
-use crate::vectors::{JOINED, OTHERS, WHOLE};
+use crate::vectors::{JOINED, OLD_OTHERS, OLD_WHOLE, WHOLE_OF_BOTH, WHOLE_OF_SENDER};
 use flute_journal::{MergeFault, ReadFault, merge_streams};
 use flute_parts::{MemorySink, MemorySource};
 use std::alloc::Global;
@@ -57,13 +57,20 @@ impl Case for Merge<'_> {
     }
 }
 
-/// The journal of the file, and one of other symbols of it.
+/// The journal of the file, and one of other symbols of it, or of the file of another sender.
 pub fn merges<P: Print>(report: &mut Report<'_, P>) {
     let merge = Merge {
-        first: WHOLE,
-        second: OTHERS,
+        first: OLD_WHOLE,
+        second: OLD_OTHERS,
         both: JOINED,
         entries: 4,
     };
     report.refuse("merge_streams", &merge);
+    let merge = Merge {
+        first: OLD_WHOLE,
+        second: WHOLE_OF_SENDER,
+        both: WHOLE_OF_BOTH,
+        entries: 6,
+    };
+    report.refuse("merge_streams of both versions", &merge);
 }

@@ -1,15 +1,16 @@
-//! Names, information, packets and devices, which ask for no memory.
+//! Names, senders, information, packets and devices, which ask for no memory.
 
 use crate::findings::Findings;
 use crate::refusing::{Case, refuse_all, was_refused};
 use crate::report::Report;
 use crate::vectors::{INFO_AND_FIRST, WHOLE};
 use flute_parts::{
-    Address, Bytes, Fact, Info, InfoFault, Key, MemorySource, ObjectKey, Part, Partition,
+    Address, Bytes, Fact, Info, InfoFault, Key, MemorySource, ObjectKey, Part, Partition, Sender,
     SessionKey, Source, SymbolId,
 };
 use flute_store::Shelf;
 use flute_wire::{Datagram, read};
+use flutejoin::sender_of;
 use std::alloc::Global;
 use std::io::Print;
 
@@ -17,15 +18,23 @@ const OCTETS: &[u8] = b"hell";
 
 /// The names of session 7 and file 1, and of an FDT Instance.
 fn file() -> Option<Key> {
-    let session = SessionKey::new(7)?;
+    let session = SessionKey::new(Sender::new(0), 7)?;
     let object = ObjectKey::file(1)?;
     let instance = ObjectKey::fdt(3)?;
     let told = session.tsi() == 7 && object.toi() == 1 && instance.instance() == Some(3);
-    if told {
+    if told && session.sender().number() == 0 {
         Some(Key { session, object })
     } else {
         None
     }
+}
+
+/// A sender is named by its two addresses, and by no other text.
+fn is_sent() -> bool {
+    let sender = Some(Sender::v4(0x0A00_0001));
+    let named = sender_of("0A000001") == sender;
+    let long = sender_of("00000000000000000000ffff0a000001") == sender;
+    named && long && sender_of("0G000001").is_none()
 }
 
 /// Ten symbols, in blocks of 4, 3 and 3.
@@ -55,7 +64,7 @@ fn is_read() -> bool {
         packet.tsi() == 7
             && packet.toi() == 1
             && packet.instance().is_none()
-            && Some(packet.key()) == file()
+            && Some(packet.key(Sender::new(0))) == file()
             && packet.info().is_some_and(|info| info.length() == 5)
             && packet.symbol().is_some_and(|(_, bytes)| bytes == OCTETS)
     })
@@ -101,12 +110,14 @@ impl Case for Parts {
         };
         refuse_all(alloc);
         let key = file();
+        let sent = is_sent();
         let informed = is_informed();
         let read = is_read();
         let addressed = key.is_some_and(|key| is_addressed(&key));
         let made = is_made(octets, bytes);
         let opened = is_opened(alloc);
         findings.expect(!was_refused(alloc), "a part asked for memory");
+        findings.expect(sent, "a text names another sender");
         findings.expect(informed, "information tells otherwise");
         findings.expect(read, "a datagram is read otherwise");
         findings.expect(addressed, "a name is another, or a fact stands elsewhere");
@@ -118,5 +129,5 @@ impl Case for Parts {
 
 /// They are made and looked at while all requests are refused.
 pub fn names_and_packets<P: Print>(report: &mut Report<'_, P>) {
-    report.ask_for_none("names, information, packets and devices", &Parts);
+    report.ask_for_none("names, senders, information, packets and devices", &Parts);
 }

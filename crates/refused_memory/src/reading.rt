@@ -4,7 +4,7 @@ use crate::findings::Findings;
 use crate::refusing::{Case, refuse_after, refuse_all, was_refused};
 use crate::report::Report;
 use crate::stores::{taken, writes};
-use crate::vectors::{DATAGRAMS, INFO_AND_FIRST, INFO_AND_LAST, WHOLE};
+use crate::vectors::{DATAGRAMS, INFO_AND_FIRST, INFO_AND_LAST, OLD_WHOLE, WHOLE, WHOLE_OF_SENDER};
 use flute_journal::{DatagramReader, JournalReader, LoadFault, ReadFault, read_store};
 use flute_parts::MemorySource;
 use flute_store::Shelf;
@@ -110,10 +110,11 @@ impl Case for Records<'_> {
     }
 }
 
-/// A journal, read as a store.
+/// A journal, read as a store, and the journal that the store writes.
 #[derive(Clone, Copy)]
 pub struct Loaded<'a> {
     journal: &'a [u8],
+    written: &'a [u8],
 }
 
 impl Loaded<'_> {
@@ -135,24 +136,38 @@ impl Case for Loaded<'_> {
             findings.expect(wanted, "a refused store answers otherwise");
             answer = self.read(alloc);
         }
-        let whole = answer.is_ok_and(|store| writes(&store, self.journal));
+        let whole = answer.is_ok_and(|store| writes(&store, self.written));
         findings.expect(whole, "another store is read");
         refused
     }
 }
 
-/// The journal of the file, and the datagram file that sends it.
+/// The journal of the file, of either version, and the datagram file that sends it.
 pub fn reads<P: Print>(report: &mut Report<'_, P>) {
     let store: Shelf = taken(report.alloc(), &[INFO_AND_FIRST, INFO_AND_LAST]);
+    let entries = Entries {
+        journal: OLD_WHOLE,
+        store: &store,
+    };
+    report.refuse("JournalReader", &entries);
     let entries = Entries {
         journal: WHOLE,
         store: &store,
     };
-    report.refuse("JournalReader", &entries);
+    report.refuse("JournalReader of version 2", &entries);
     let records = Records {
         file: DATAGRAMS,
         datagrams: &[INFO_AND_FIRST, INFO_AND_LAST],
     };
     report.refuse("DatagramReader", &records);
-    report.refuse("read_store", &Loaded { journal: WHOLE });
+    let loaded = Loaded {
+        journal: OLD_WHOLE,
+        written: WHOLE,
+    };
+    report.refuse("read_store", &loaded);
+    let loaded = Loaded {
+        journal: WHOLE_OF_SENDER,
+        written: WHOLE_OF_SENDER,
+    };
+    report.refuse("read_store of another sender", &loaded);
 }

@@ -4,7 +4,9 @@ use crate::findings::Findings;
 use crate::refusing::{Case, refuse_after, refuse_all, refuse_in_turn, was_refused};
 use crate::report::Report;
 use crate::stores::{are_same, expect_quiet, is_between, is_part, writes};
-use crate::vectors::{FIRST_NARROW, INFO_AND_FIRST, INFO_AND_LAST, OTHERS, REFUSED, WHOLE};
+use crate::vectors::{
+    FIRST_NARROW, INFO_AND_FIRST, INFO_AND_LAST, OLD_OTHERS, REFUSED, WHOLE, WHOLE_OF_SENDER,
+};
 use anyhow::Result;
 use flute_parts::{Bytes, Fact, Key, MemorySource, SymbolId};
 use flute_store::Shelf;
@@ -228,9 +230,11 @@ pub fn steps<P: Print>(report: &mut Report<'_, P>, key: &Key) -> Result<()> {
         journal: WHOLE,
     };
     report.refuse("run", &whole);
-    steps.push(load(alloc, 1, OTHERS)?)?;
+    steps.push(load(alloc, 1, OLD_OTHERS)?)?;
     steps.push(Step::Merge { into: 2, from: 1 })?;
     steps.push(add(alloc, 0, key)?)?;
+    steps.push(load(alloc, 2, WHOLE_OF_SENDER)?)?;
+    steps.push(Step::Reopen { replica: 2 })?;
     let quiet = [Step::Merge { into: 0, from: 0 }, take(alloc, 0, REFUSED)?];
     let mut findings = Findings::new();
     let mut refused = 0_u16;

@@ -84,7 +84,7 @@ pub fn is_part<const SESSIONS: u32, const OBJECTS: u32, const SYMBOLS: u32>(
 }
 
 /// More bytes than these journals have.
-const ROOM: usize = 256;
+const ROOM: usize = 512;
 
 /// Whether the store's journal is this.
 pub fn writes<const SESSIONS: u32, const OBJECTS: u32, const SYMBOLS: u32>(

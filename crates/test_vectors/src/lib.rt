@@ -6,6 +6,7 @@
 
 mod draw;
 pub mod journals;
+pub mod written;
 
 pub use draw::Draw;
 use std::alloc::Global;

@@ -3,8 +3,8 @@
 use super::*;
 use flute_parts::{MemorySink, MemorySource, Sink, Source};
 use std::alloc::Global;
-use test_vectors::bytes;
-use test_vectors::journals::{JOINED, OTHERS, WHOLE};
+use test_vectors::journals::OTHERS;
+use test_vectors::{bytes, written};
 
 /// At most 64 journals, merged as streams.
 fn merge_journals<R: Source + Drop, W: Sink>(
@@ -22,16 +22,17 @@ fn merge_journals<R: Source + Drop, W: Sink>(
     Ok(merge_slice::<4, 4, 4, _, _>(alloc, &mut streams, sink))
 }
 
+/// Two of version 1, and between them one of version 2.
 #[test]
 fn three_journals_are_merged(rt: HostRuntime) -> Result<(), Fail> {
     let others = bytes(rt.alloc(), OTHERS)?;
-    let whole = bytes(rt.alloc(), WHOLE)?;
+    let whole = bytes(rt.alloc(), written::WHOLE)?;
     let mut sources = Vec::new(rt.alloc());
     for journal in [&others, &whole, &others] {
         sources.push(MemorySource::new(journal))?;
     }
     let mut sink = MemorySink::new(rt.alloc());
     assert!(rt; merge_journals(rt.alloc(), sources, &mut sink)?.is_ok());
-    assert!(rt; sink.as_slice() == bytes(rt.alloc(), JOINED)?.as_slice());
+    assert!(rt; sink.as_slice() == bytes(rt.alloc(), written::JOINED)?.as_slice());
     Ok(())
 }

@@ -1,8 +1,8 @@
 //! Journals, read entry by entry.
 
 use super::*;
-use flute_parts::{FactRef, Info, MemorySource, SymbolId};
-use test_vectors::{bytes, journals};
+use flute_parts::{Fact, FactRef, Info, MemorySource, SymbolId};
+use test_vectors::{bytes, journals, written};
 
 /// The second entry goes where the memory of the first was.
 #[test]
@@ -21,6 +21,33 @@ fn entries_are_read(rt: HostRuntime) -> Result<(), Fail> {
     assert!(rt; second.as_ref() == FactRef::Symbol { key, id, bytes });
     assert!(rt; matches!(reader.next(rt.alloc()), Ok(Some(_))));
     assert!(rt; matches!(reader.next(rt.alloc()), Ok(None)));
+    Ok(())
+}
+
+/// A journal of version 2 is read entry by entry, each with its sender.
+#[test]
+fn senders_are_read(rt: HostRuntime) -> Result<(), Fail> {
+    let journal = bytes(rt.alloc(), written::OF_BOTH_SENDERS)?;
+    let mut source = MemorySource::new(&journal);
+    let mut reader = JournalReader::new(&mut source, 6);
+    for sender in [Sender::new(0), other_sender()] {
+        for _ in 0..3 {
+            let entry: Fact = reader.next(rt.alloc())?.ok_or("an entry")?;
+            assert!(rt; Some(entry.address().key) == file_of(sender));
+        }
+    }
+    assert!(rt; matches!(reader.next(rt.alloc()), Ok(None)));
+    Ok(())
+}
+
+/// A session of the sender 0 behind one of another sender.
+#[test]
+fn senders_in_falling_order(rt: HostRuntime) -> Result<(), Fail> {
+    let journal = bytes(rt.alloc(), written::SENDERS_SWAPPED)?;
+    let mut source = MemorySource::new(&journal);
+    let mut reader = JournalReader::new(&mut source, MANY);
+    assert!(rt; matches!(reader.next(rt.alloc()), Ok(Some(_))));
+    assert!(rt; matches!(reader.next(rt.alloc()), Err(ReadFault::Order)));
     Ok(())
 }
 

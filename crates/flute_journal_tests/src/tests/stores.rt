@@ -3,7 +3,7 @@
 use super::*;
 use flute_parts::{MemorySink, MemorySource};
 use std::alloc::Global;
-use test_vectors::{INFO_AND_FIRST_SYMBOL, INFO_AND_LAST_SYMBOL, bytes, journals};
+use test_vectors::{INFO_AND_FIRST_SYMBOL, INFO_AND_LAST_SYMBOL, bytes, journals, written};
 
 /// A new store that took this datagram.
 fn taken(alloc: Global, datagram: &str) -> Result<Small, Fail> {
@@ -24,7 +24,7 @@ fn entries(alloc: Global, store: &Small, journal: &str) -> Result<Option<u64>, F
 fn a_store_is_written(rt: HostRuntime) -> Result<(), Fail> {
     let mut store = taken(rt.alloc(), INFO_AND_FIRST_SYMBOL)?;
     store.absorb(rt.alloc(), &taken(rt.alloc(), INFO_AND_LAST_SYMBOL)?)?;
-    assert!(rt; entries(rt.alloc(), &store, journals::WHOLE)? == Some(3));
+    assert!(rt; entries(rt.alloc(), &store, written::WHOLE)? == Some(3));
     Ok(())
 }
 
@@ -32,7 +32,16 @@ fn a_store_is_written(rt: HostRuntime) -> Result<(), Fail> {
 fn a_store_is_read(rt: HostRuntime) -> Result<(), Fail> {
     let journal = bytes(rt.alloc(), journals::JOINED)?;
     let store = read_store(rt.alloc(), &mut MemorySource::new(&journal), 4)?;
-    assert!(rt; entries(rt.alloc(), &store, journals::JOINED)? == Some(4));
+    assert!(rt; entries(rt.alloc(), &store, written::JOINED)? == Some(4));
+    Ok(())
+}
+
+/// What was read of a journal with senders is written with them.
+#[test]
+fn a_store_of_another_sender(rt: HostRuntime) -> Result<(), Fail> {
+    let journal = bytes(rt.alloc(), written::WHOLE_OF_SENDER)?;
+    let store = read_store(rt.alloc(), &mut MemorySource::new(&journal), 3)?;
+    assert!(rt; entries(rt.alloc(), &store, written::WHOLE_OF_SENDER)? == Some(3));
     Ok(())
 }
 
@@ -42,7 +51,7 @@ fn a_store_that_was_read_is_absorbed(rt: HostRuntime) -> Result<(), Fail> {
     let journal = bytes(rt.alloc(), journals::OTHERS)?;
     let other: Small = read_store(rt.alloc(), &mut MemorySource::new(&journal), 3)?;
     store.absorb(rt.alloc(), &other)?;
-    assert!(rt; entries(rt.alloc(), &store, journals::INFO_AND_OTHERS)? == Some(4));
+    assert!(rt; entries(rt.alloc(), &store, written::INFO_AND_OTHERS)? == Some(4));
     Ok(())
 }
 

@@ -2,8 +2,9 @@
 
 use super::*;
 use flute_parts::{Fact, MemorySink, MemorySource, ShortSink, SymbolId};
-use test_vectors::journals::{END_2, HEADER, JOINED, KEY, LAST_IN_CONFLICT, OTHERS, WHOLE};
-use test_vectors::{bytes, bytes_of};
+use test_vectors::journals::{END_2, OTHERS, WHOLE};
+use test_vectors::written::{HEADER, JOINED, KEY, LAST_IN_CONFLICT};
+use test_vectors::{bytes, bytes_of, written};
 
 #[test]
 fn journals_are_merged(rt: HostRuntime) -> Result<(), Fail> {
@@ -15,6 +16,20 @@ fn journals_are_merged(rt: HostRuntime) -> Result<(), Fail> {
     let entries = merge_streams(rt.alloc(), &mut first, &mut second, &mut sink, 3)?;
     assert!(rt; entries == 4);
     assert!(rt; sink.as_slice() == bytes(rt.alloc(), JOINED)?.as_slice());
+    Ok(())
+}
+
+/// One of version 1, and one of version 2 with another sender.
+#[test]
+fn journals_of_two_versions_are_merged(rt: HostRuntime) -> Result<(), Fail> {
+    let old = bytes(rt.alloc(), WHOLE)?;
+    let new = bytes(rt.alloc(), written::WHOLE_OF_SENDER)?;
+    let mut first = MemorySource::new(&old);
+    let mut second = MemorySource::new(&new);
+    let mut sink = MemorySink::new(rt.alloc());
+    let entries = merge_streams(rt.alloc(), &mut first, &mut second, &mut sink, 3)?;
+    assert!(rt; entries == 6);
+    assert!(rt; sink.as_slice() == bytes(rt.alloc(), written::OF_BOTH_SENDERS)?.as_slice());
     Ok(())
 }
 

@@ -1,10 +1,10 @@
 //! Limits of rising addresses: two sessions, two objects of each and three symbols of each object.
-use flute_parts::{Address, Key, ObjectKey, Part, SessionKey, SymbolId, Tally};
+use flute_parts::{Address, Key, ObjectKey, Part, Sender, SessionKey, SymbolId, Tally};
 use std::test::Fail;
 
-// Where the information of a file stands, or the symbol of this ID.
+// Where the information of a file stands, or the symbol of this ID, in a session of the sender 0.
 fn address(tsi: u64, toi: u128, esi: Option<u16>) -> Option<Address> {
-    let session = SessionKey::new(tsi)?;
+    let session = SessionKey::new(Sender::new(0), tsi)?;
     let object = ObjectKey::file(toi)?;
     let part = match esi {
         Some(esi) => Part::Symbol(SymbolId { sbn: 0, esi }),
@@ -56,6 +56,18 @@ fn one_session_too_many(rt: HostRuntime) {
         first_beyond(&[(1, 1, None), (2, 1, None), (3, 1, None)]),
         Some(2)
     );
+}
+
+// Sessions of two senders are two, whatever their identifiers are.
+#[test]
+fn sessions_of_several_senders(rt: HostRuntime) -> Result<(), Fail> {
+    let mut tally: Tally<2, 1, 1> = Tally::new();
+    let mut next = address(7, 1, None).ok_or("no such address")?;
+    for (sender, is_within) in [(0, true), (1, true), (2, false)] {
+        next.key.session = SessionKey::new(Sender::new(sender), 7).ok_or("no such session")?;
+        assert_eq!(rt; tally.count(&next), is_within);
+    }
+    Ok(())
 }
 
 #[test]

@@ -8,7 +8,7 @@ use flutejoin::{
     show_to,
 };
 use std::alloc::Global;
-use test_vectors::{bytes, journals};
+use test_vectors::{bytes, journals, written};
 
 fn loaded(alloc: Global, journal: &str) -> Result<Shelf, Fail> {
     let journal = bytes(alloc, journal)?;
@@ -70,7 +70,7 @@ fn information_is_added(rt: HostRuntime) -> Result<(), Fail> {
     let info = Info::new(5, 4, 2)?;
     let mut sink = MemorySink::new(rt.alloc());
     assert!(rt; info_to(rt.alloc(), &mut symbols, key, info, &mut sink)? == 3);
-    assert!(rt; sink.as_slice() == bytes(rt.alloc(), journals::WHOLE)?.as_slice());
+    assert!(rt; sink.as_slice() == bytes(rt.alloc(), written::WHOLE)?.as_slice());
     Ok(())
 }
 
@@ -79,7 +79,7 @@ fn a_store_is_saved(rt: HostRuntime) -> Result<(), Fail> {
     let shelf = loaded(rt.alloc(), journals::WHOLE)?;
     let mut sink = MemorySink::new(rt.alloc());
     assert!(rt; save_to(&shelf, &mut sink)? == 3);
-    assert!(rt; sink.as_slice() == bytes(rt.alloc(), journals::WHOLE)?.as_slice());
+    assert!(rt; sink.as_slice() == bytes(rt.alloc(), written::WHOLE)?.as_slice());
     Ok(())
 }
 
@@ -91,7 +91,7 @@ fn journals_are_merged(rt: HostRuntime) -> Result<(), Fail> {
     let mut second = MemorySource::new(&second);
     let mut sink = MemorySink::new(rt.alloc());
     assert!(rt; merge_to(rt.alloc(), &mut first, &mut second, &mut sink)? == 4);
-    assert!(rt; sink.as_slice() == bytes(rt.alloc(), journals::JOINED)?.as_slice());
+    assert!(rt; sink.as_slice() == bytes(rt.alloc(), written::JOINED)?.as_slice());
     Ok(())
 }
 

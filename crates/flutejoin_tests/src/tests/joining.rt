@@ -7,7 +7,7 @@ use flutejoin::{
     BegunSource, Blob, FirstBytes, JoinCounts, Joined, MAX_INPUTS, join_inputs, join_sources,
 };
 use std::alloc::Global;
-use test_vectors::{bytes, journals};
+use test_vectors::{bytes, journals, written};
 
 fn blob(alloc: Global, text: &str) -> Result<Blob, Fail> {
     let bytes = bytes(alloc, text)?;
@@ -29,7 +29,19 @@ fn inputs_in_memory_are_joined(rt: HostRuntime) -> Result<(), Fail> {
         blob(rt.alloc(), journals::WHOLE)?,
     ];
     let joined = join_inputs(rt.alloc(), &inputs)?;
-    assert!(rt; is_joined(rt.alloc(), &joined, journals::WHOLE)?);
+    assert!(rt; is_joined(rt.alloc(), &joined, written::WHOLE)?);
+    Ok(())
+}
+
+/// The datagrams are of the sender 0, and the journal is of another sender.
+#[test]
+fn inputs_of_two_senders_are_joined(rt: HostRuntime) -> Result<(), Fail> {
+    let inputs = [
+        blob(rt.alloc(), written::WHOLE_OF_SENDER)?,
+        blob(rt.alloc(), journals::DATAGRAMS)?,
+    ];
+    let joined = join_inputs(rt.alloc(), &inputs)?;
+    assert!(rt; is_joined(rt.alloc(), &joined, written::OF_BOTH_SENDERS)?);
     Ok(())
 }
 
@@ -65,6 +77,6 @@ fn inputs_that_are_read_are_joined(rt: HostRuntime) -> Result<(), Fail> {
         entries: 4,
     };
     assert!(rt; counts == wanted);
-    assert!(rt; sink.as_slice() == bytes(rt.alloc(), journals::JOINED)?.as_slice());
+    assert!(rt; sink.as_slice() == bytes(rt.alloc(), written::JOINED)?.as_slice());
     Ok(())
 }

@@ -4,7 +4,7 @@ use super::runs::take;
 use super::*;
 use flute_parts::MemorySink;
 use flutejoin::{Step, journal_after, laws, object_after};
-use test_vectors::{FIRST_SYMBOL, INFO_AND_FIRST_SYMBOL, INFO_AND_LAST_SYMBOL, bytes, journals};
+use test_vectors::{FIRST_SYMBOL, INFO_AND_FIRST_SYMBOL, INFO_AND_LAST_SYMBOL, bytes, written};
 
 #[test]
 fn a_journal_is_written_after_a_run(rt: HostRuntime) -> Result<(), Fail> {
@@ -15,7 +15,7 @@ fn a_journal_is_written_after_a_run(rt: HostRuntime) -> Result<(), Fail> {
     let mut sink = MemorySink::new(rt.alloc());
     let written = journal_after::<64, 4096, 1_048_576, _>(rt.alloc(), 1, &steps, 0, &mut sink);
     assert!(rt; written == Ok(3));
-    assert!(rt; sink.as_slice() == bytes(rt.alloc(), journals::WHOLE)?.as_slice());
+    assert!(rt; sink.as_slice() == bytes(rt.alloc(), written::WHOLE)?.as_slice());
     Ok(())
 }
 

@@ -9,7 +9,7 @@ use flutejoin::{Blob, Replicas, Step, run};
 use std::alloc::Global;
 use test_vectors::{
     FIRST_SYMBOL, INFO_AND_FIRST_SYMBOL, INFO_AND_LAST_SYMBOL, LAST_SYMBOL, REFUSED, bytes,
-    journals,
+    journals, written,
 };
 
 pub fn take(alloc: Global, replica: u32, hex: &str) -> Result<Step, Fail> {
@@ -32,11 +32,11 @@ fn add_first(alloc: Global, replica: u32) -> Result<Step, Fail> {
     Ok(Step::Add { replica, fact })
 }
 
-/// Whether the store writes the journal of the whole file.
-fn is_whole(alloc: Global, store: &Shelf) -> Result<bool, Fail> {
+/// Whether the store writes this journal.
+fn writes(alloc: Global, store: &Shelf, journal: &str) -> Result<bool, Fail> {
     let mut sink = MemorySink::new(alloc);
     write_store(store, &mut sink)?;
-    Ok(sink.as_slice() == bytes(alloc, journals::WHOLE)?.as_slice())
+    Ok(sink.as_slice() == bytes(alloc, journal)?.as_slice())
 }
 
 /// Each kind of step.
@@ -53,7 +53,20 @@ fn steps_are_done(rt: HostRuntime) -> Result<(), Fail> {
         assert!(rt; replicas.step(rt.alloc(), step) == Ok(()));
     }
     let store = replicas.store(0).ok_or("a replica")?;
-    assert!(rt; is_whole(rt.alloc(), store)?);
+    assert!(rt; writes(rt.alloc(), store, written::WHOLE)?);
+    Ok(())
+}
+
+/// A journal of version 1, and one of version 2 with another sender.
+#[test]
+fn journals_of_both_versions_are_loaded(rt: HostRuntime) -> Result<(), Fail> {
+    let steps = [
+        load(rt.alloc(), 0, written::WHOLE_OF_SENDER)?,
+        load(rt.alloc(), 0, journals::WHOLE)?,
+    ];
+    let replicas = run::<64, 4096, 1_048_576>(rt.alloc(), 1, &steps)?;
+    let store = replicas.store(0).ok_or("a replica")?;
+    assert!(rt; writes(rt.alloc(), store, written::OF_BOTH_SENDERS)?);
     Ok(())
 }
 
@@ -69,7 +82,7 @@ fn a_run_is_done(rt: HostRuntime) -> Result<(), Fail> {
     let replicas = run::<64, 4096, 1_048_576>(rt.alloc(), 3, &steps)?;
     assert!(rt; replicas.count() == 3 && replicas.refused(0) == Some(0));
     let store = replicas.store(0).ok_or("a replica")?;
-    assert!(rt; is_whole(rt.alloc(), store)?);
+    assert!(rt; writes(rt.alloc(), store, written::WHOLE)?);
     Ok(())
 }
 
