@@ -215,10 +215,10 @@ impl<const SESSIONS: u32, const OBJECTS: u32, const SYMBOLS: u32> Store<
         Ok(Taken { facts })
     }
 
-    /// Adds the facts of a datagram, as of the sender whose address is 0: the transmission
-    /// information of its object and its encoding symbol, as far as it has them. What is held at an address already is joined, as
-    /// by [`add`](Store::add). Whether a symbol fits the information is not looked at, nor
-    /// whether there is any.
+    /// Adds the facts of a datagram that this sender sent: the transmission information of its
+    /// object and its encoding symbol, as far as it has them. What is held at an address already is
+    /// joined, as by [`add`](Store::add). Whether a symbol fits the information is not looked at,
+    /// nor whether there is any. The sender has no part in whether a datagram is refused.
     ///
     /// It looks up the session, the object and the symbol once each. A new symbol's bytes are
     /// copied once; at a held address nothing is copied, and no memory is asked for.
@@ -229,21 +229,26 @@ impl<const SESSIONS: u32, const OBJECTS: u32, const SYMBOLS: u32> Store<
     /// fact needs a new session, object or symbol beyond the limits, and else `OutOfMemory`. Where
     /// every fact stands at a held address neither of the last two comes. After each the store is
     /// unchanged: of two facts it never keeps one.
-    pub fn take(&mut self, alloc: Global, datagram: &[u8]) -> Result<Taken, TakeFault>
-        ensures ok { OnOk result (Same self.new (self.old ++ facts 0 datagram.now)) }
-        ensures number { IfOk result (λ taken. taken.facts ≡ length (facts 0 datagram.now)) }
+    pub fn take(
+        &mut self,
+        alloc: Global,
+        sender: Sender,
+        datagram: &[u8],
+    ) -> Result<Taken, TakeFault>
+        ensures ok { OnOk result (Same self.new (self.old ++ facts sender datagram.now)) }
+        ensures number { IfOk result (λ taken. taken.facts ≡ length (facts sender datagram.now)) }
         ensures err { OnErr result (self.new ≡ self.old) }
         ensures refused { (r : Reason) → (result ≡ Err (TakeFault.Datagram r))
             ↔ Refuses datagram.now r }
         ensures full { (result ≡ Err TakeFault.Full)
-            ↔ Over (self.old ++ facts 0 datagram.now) SESSIONS OBJECTS SYMBOLS }
+            ↔ Over (self.old ++ facts sender datagram.now) SESSIONS OBJECTS SYMBOLS }
         ensures held { (p : Content) → Spells datagram.now p
-            → AllByRecursion (HasCell self.old) (facts 0 datagram.now) → IsOk result }
+            → AllByRecursion (HasCell self.old) (facts sender datagram.now) → IsOk result }
     {
         // By this the proof knows that the store is within its limits.
         let _ = &self.sessions;
         match read(datagram) {
-            Ok(packet) => Ok(self.take_packet(alloc, Sender::new(0), &packet)?),
+            Ok(packet) => Ok(self.take_packet(alloc, sender, &packet)?),
             Err(refusal) => Err(TakeFault::Datagram(refusal)),
         }
     }

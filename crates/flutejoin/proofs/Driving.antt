@@ -27,7 +27,7 @@ use Rattle.flutejoin.proofs.Outcomes.{held_after-above}
 
 -- replicas that hold more hold more after a step
 pub held_after-below : (A B : List (List Fact)) (step : Step) (origin : List Fact) → EachBelow A B → EachBelow (held_after A step origin) (held_after B step origin)
-held_after-below A B (Take replica datagram) origin h = given_to-each_below A B replica (facts 0 datagram) (facts 0 datagram) h (Below-itself (facts 0 datagram))
+held_after-below A B (Take replica sender datagram) origin h = given_to-each_below A B replica (facts sender datagram) (facts sender datagram) h (Below-itself (facts sender datagram))
 held_after-below A B (Load replica journal) origin h = given_to-each_below A B replica origin origin h (Below-itself origin)
 held_after-below A B (Add replica fact) origin h = given_to-each_below A B replica (fact ∷ []) (fact ∷ []) h (Below-itself (fact ∷ []))
 held_after-below A B (Merge into from) origin h = given_to-each_below A B into (held_by A from) (held_by B from) h (h.each from)
@@ -70,19 +70,19 @@ known_after-marked held steps done origins k step b is within =
     (λ j below. ap (λ o. if_done o (slice_get steps j)) (slice_get-set_other done k j b (λ e. absurd (omega arith)))))
 
 -- a refused datagram has no facts
-refused_facts : (d : List ℕ) → is_refused d ≡ true → facts 0 d ≡ []
+refused_facts : (sender : ℕ) (d : List ℕ) → is_refused d ≡ true → facts sender d ≡ []
 unfolding facts
-refused_facts d h = go (packet d) h
+refused_facts sender d h = go (packet d) h
   where
-    go : (o : Option Content) → is_none o ≡ true → packet_facts 0 o ≡ []
+    go : (o : Option Content) → is_none o ≡ true → packet_facts sender o ≡ []
     go None e = refl
     go (Some content) e = cc
 
 -- so a `Take` of one, at a replica that is there, needs nothing
 refused_needs_nothing : (r : ℕ) (held : List (List Fact)) (step : Step) → r < length held → is_refused_take r step ≡ true → NeedsNothing held step
-refused_needs_nothing r held (Take replica datagram) within h =
+refused_needs_nothing r held (Take replica sender datagram) within h =
     let both = and_parts (eqb replica r) (is_refused datagram) h in
-    (omega (arith, within, eqb-true replica r both.0), rw (refused_facts datagram both.1) tt)
+    (omega (arith, within, eqb-true replica r both.0), rw (refused_facts sender datagram both.1) tt)
 refused_needs_nothing r held (Load replica journal) within h = cc
 refused_needs_nothing r held (Add replica fact) within h = cc
 refused_needs_nothing r held (Merge into from) within h = cc
@@ -116,7 +116,7 @@ drive_start before steps done =
 
 -- a step that was done has an origin that fits it
 some_origin : (limit : Capacity) (before : Held) (step : Step) (now : Held) → IsDone limit before step now → (origin : List Fact) × FitsStep step origin
-some_origin limit before (Take replica datagram) now done = ([], tt)
+some_origin limit before (Take replica sender datagram) now done = ([], tt)
 some_origin limit before (Load replica journal) now done = (done.journal.0, inl (IsJournal-from_within journal done.journal.0 done.journal.1))
 some_origin limit before (Add replica fact) now done = ([], tt)
 some_origin limit before (Merge into from) now done = ([], tt)
@@ -279,7 +279,7 @@ origins_same bs replica F G (inr none) (inr also) = rw (none.1, also.1) (Same-it
 
 -- a step made again gives nothing more
 pub held_after-twice : (A : List (List Fact)) (step : Step) (origin again : List Fact) → FitsStep step origin → FitsStep step again → EachSame (held_after (held_after A step origin) step again) (held_after A step again)
-held_after-twice A (Take replica datagram) origin again f g = given_to-twice A replica (facts 0 datagram) (facts 0 datagram) (Same-itself (facts 0 datagram))
+held_after-twice A (Take replica sender datagram) origin again f g = given_to-twice A replica (facts sender datagram) (facts sender datagram) (Same-itself (facts sender datagram))
 held_after-twice A (Load replica journal) origin again f g = given_to-twice A replica origin again (origins_same journal replica origin again f g)
 held_after-twice A (Add replica fact) origin again f g = given_to-twice A replica (fact ∷ []) (fact ∷ []) (Same-itself (fact ∷ []))
 held_after-twice A (Merge into from) origin again f g =

@@ -24,86 +24,88 @@ use Rattle.flutejoin.proofs.Receptions.{Below-left}
 abbrev none : Joined
 none = record { store = []; datagrams = 0; refused = 0 }
 
-flat_more : (ds : List (List ℕ)) (d : List ℕ) → flat_map (facts 0) (ds ++ d ∷ []) ≡ flat_map (facts 0) ds ++ facts 0 d
-flat_more ds d = flat_map-append (facts 0) ds (d ∷ []) ∙ ap (λ F. flat_map (facts 0) ds ++ F) (append-nil (facts 0 d))
-
-takes_more : (before now after : Joined) (ds : List (List ℕ)) (d : List ℕ) → TakesDatagrams before ds now → TakesDatagram now d after → TakesDatagrams before (ds ++ d ∷ []) after
-takes_more before now after ds d all one =
-    let length_is = length-append ds (d ∷ []) in
-    record {
-      content = rw (flat_more ds d)
-          (subst (λ F. Same after.store F) (append_assoc before.store (flat_map (facts 0) ds) (facts 0 d))
-          (Same-trans after.store (now.store ++ facts 0 d) ((before.store ++ flat_map (facts 0) ds) ++ facts 0 d) one.content
-          (Same-append now.store (before.store ++ flat_map (facts 0) ds) (facts 0 d) (facts 0 d) all.content (Same-itself (facts 0 d)))));
-      count = omega (arith, one.datagrams, all.count, length_is);
-      refused = rw (sum_by_push (λ x. cond (is_refused x) 1 0) ds d, one.refused) (counted before.refused now.refused (count_by is_refused ds) (is_refused d) all.refused);
-    }
-  where
-    counted : (m n k : ℕ) (b : Bool) → n ≡ m + k → cond b (n + 1) n ≡ m + (k + cond b 1 0)
-    counted m n k true e = omega (arith, e)
-    counted m n k false e = omega (arith, e)
-
-over_more : (ds : List (List ℕ)) (d : List ℕ) → IsOverShelf (flat_map (facts 0) ds) → IsOverShelf (flat_map (facts 0) (ds ++ d ∷ []))
-over_more ds d over = rw (flat_more ds d) (Over-below (flat_map (facts 0) ds) (flat_map (facts 0) ds ++ facts 0 d) 64 4096 1048576 (Below-left (flat_map (facts 0) ds) (facts 0 d)) over)
-
-over_with : (told : Joined) (ds : List (List ℕ)) (d : List ℕ) → TakesDatagrams none ds told → IsOverShelf (told.store ++ facts 0 d) → IsOverShelf (flat_map (facts 0) (ds ++ d ∷ []))
-over_with told ds d all over =
-    rw (flat_more ds d)
-    (Over-below (told.store ++ facts 0 d) (flat_map (facts 0) ds ++ facts 0 d) 64 4096 1048576
-    (Below-from_Same (told.store ++ facts 0 d) (flat_map (facts 0) ds ++ facts 0 d) (Same-append told.store (flat_map (facts 0) ds) (facts 0 d) (facts 0 d) all.content (Same-itself (facts 0 d)))) over)
-
 store_over : (F : List Fact) (fault : CommandFault) → StoreFails F fault → fault ≡ Full → IsOverShelf F
 store_over F fault (inl full) is = full.1
 store_over F fault (inr memory) is = let e = sym memory ∙ is in absurd cc
 
-holding : (b c : Bool) (told : Joined) (ds : List (List ℕ)) → b ≡ c → HoldsAll c told ds → HoldsAll b told ds
-holding b c told ds e h = subst (λ x. HoldsAll x told ds) (sym e) h
+-- the sender of all datagrams
+module _ (sender : ℕ) where
+  flat_more : (ds : List (List ℕ)) (d : List ℕ) → flat_map (facts sender) (ds ++ d ∷ []) ≡ flat_map (facts sender) ds ++ facts sender d
+  flat_more ds d = flat_map-append (facts sender) ds (d ∷ []) ∙ ap (λ F. flat_map (facts sender) ds ++ F) (append-nil (facts sender d))
 
-held_as : (b c : Bool) (told : Joined) (ds : List (List ℕ)) → b ≡ c → HoldsAll b told ds → HoldsAll c told ds
-held_as b c told ds e h = subst (λ x. HoldsAll x told ds) e h
+  takes_more : (before now after : Joined) (ds : List (List ℕ)) (d : List ℕ) → TakesDatagrams sender before ds now → TakesDatagram sender now d after → TakesDatagrams sender before (ds ++ d ∷ []) after
+  takes_more before now after ds d all one =
+      let length_is = length-append ds (d ∷ []) in
+      record {
+        content = rw (flat_more ds d)
+            (subst (λ F. Same after.store F) (append_assoc before.store (flat_map (facts sender) ds) (facts sender d))
+            (Same-trans after.store (now.store ++ facts sender d) ((before.store ++ flat_map (facts sender) ds) ++ facts sender d) one.content
+            (Same-append now.store (before.store ++ flat_map (facts sender) ds) (facts sender d) (facts sender d) all.content (Same-itself (facts sender d)))));
+        count = omega (arith, one.datagrams, all.count, length_is);
+        refused = rw (sum_by_push (λ x. cond (is_refused x) 1 0) ds d, one.refused) (counted before.refused now.refused (count_by is_refused ds) (is_refused d) all.refused);
+      }
+    where
+      counted : (m n k : ℕ) (b : Bool) → n ≡ m + k → cond b (n + 1) n ≡ m + (k + cond b 1 0)
+      counted m n k true e = omega (arith, e)
+      counted m n k false e = omega (arith, e)
 
-pub holds_none : (file : HeldFile) → file.told.store ≡ [] → file.told.datagrams ≡ 0 → file.told.refused ≡ 0 → file.fits ≡ true → HoldsDatagrams file []
-holds_none file store datagrams refused fits = record {
-  few = omega (arith, datagrams);
-  few_refused = omega (arith, datagrams, refused);
-  holds = holding file.fits true file.told [] fits (record { content = rw store (Same-itself []); count = omega (arith, datagrams); refused = omega (arith, refused) });
-}
+  over_more : (ds : List (List ℕ)) (d : List ℕ) → IsOverShelf (flat_map (facts sender) ds) → IsOverShelf (flat_map (facts sender) (ds ++ d ∷ []))
+  over_more ds d over = rw (flat_more ds d) (Over-below (flat_map (facts sender) ds) (flat_map (facts sender) ds ++ facts sender d) 64 4096 1048576 (Below-left (flat_map (facts sender) ds) (facts sender d)) over)
 
--- a datagram more was taken
-pub holds_more : (old new : HeldFile) (ds : List (List ℕ)) (d : List ℕ) → old.fits ≡ true → new.fits ≡ true → TakesDatagram old.told d new.told → HoldsDatagrams old ds
-    → HoldsDatagrams new (ds ++ d ∷ [])
-holds_more old new ds d fits still one h = record {
-  few = omega (arith, one.datagrams, h.few, length-append ds (d ∷ []));
-  few_refused = fewer (is_refused d) one.refused;
-  holds = holding new.fits true new.told (ds ++ d ∷ []) still (takes_more none old.told new.told ds d (held_as old.fits true old.told ds fits h.holds) one);
-}
-  where
-    fewer : (b : Bool) → new.told.refused ≡ cond b (old.told.refused + 1) old.told.refused → new.told.refused ≤ new.told.datagrams
-    fewer true e = omega (arith, e, one.datagrams, h.few_refused)
-    fewer false e = omega (arith, e, one.datagrams, h.few_refused)
+  over_with : (told : Joined) (ds : List (List ℕ)) (d : List ℕ) → TakesDatagrams sender none ds told → IsOverShelf (told.store ++ facts sender d) → IsOverShelf (flat_map (facts sender) (ds ++ d ∷ []))
+  over_with told ds d all over =
+      rw (flat_more ds d)
+      (Over-below (told.store ++ facts sender d) (flat_map (facts sender) ds ++ facts sender d) 64 4096 1048576
+      (Below-from_Same (told.store ++ facts sender d) (flat_map (facts sender) ds ++ facts sender d) (Same-append told.store (flat_map (facts sender) ds) (facts sender d) (facts sender d) all.content (Same-itself (facts sender d)))) over)
 
--- it found no room
-pub holds_over : (old new : HeldFile) (ds : List (List ℕ)) (d : List ℕ) (fault : CommandFault) → old.fits ≡ true → new.fits ≡ false → StoreFails (old.told.store ++ facts 0 d) fault → fault ≡ Full
-    → (new.told.datagrams ≡ old.told.datagrams) × (new.told.refused ≡ old.told.refused) → HoldsDatagrams old ds → HoldsDatagrams new (ds ++ d ∷ [])
-holds_over old new ds d fault fits over fails full counts h = record {
-  few = omega (arith, counts.0, h.few, length-append ds (d ∷ []));
-  few_refused = omega (arith, counts.0, counts.1, h.few_refused);
-  holds = holding new.fits false new.told (ds ++ d ∷ []) over (over_with old.told ds d (held_as old.fits true old.told ds fits h.holds) (store_over _ fault fails full));
-}
+  holding : (b c : Bool) (told : Joined) (ds : List (List ℕ)) → b ≡ c → HoldsAll sender c told ds → HoldsAll sender b told ds
+  holding b c told ds e h = subst (λ x. HoldsAll sender x told ds) (sym e) h
 
--- there had been none before
-pub holds_past : (file : HeldFile) (ds : List (List ℕ)) (d : List ℕ) → file.fits ≡ false → HoldsDatagrams file ds → HoldsDatagrams file (ds ++ d ∷ [])
-holds_past file ds d fits h = record {
-  few = omega (arith, h.few, length-append ds (d ∷ []));
-  few_refused = h.few_refused;
-  holds = holding file.fits false file.told (ds ++ d ∷ []) fits (over_more ds d (held_as file.fits false file.told ds fits h.holds));
-}
+  held_as : (b c : Bool) (told : Joined) (ds : List (List ℕ)) → b ≡ c → HoldsAll sender b told ds → HoldsAll sender c told ds
+  held_as b c told ds e h = subst (λ x. HoldsAll sender x told ds) e h
 
--- what a taken datagram comes to
-pub holds_taken : (r : Result (Unit {0}) CommandFault) (old new : HeldFile) (d : List ℕ) → old.fits ≡ true → new.fits ≡ true → OnOk r (TakesDatagram old.told d new.told)
-    → OnOk r ((ds : List (List ℕ)) → HoldsDatagrams old ds → HoldsDatagrams new (ds ++ d ∷ []))
-holds_taken (Ok t) old new d fits still h = λ ds holds. holds_more old new ds d fits still h holds
-holds_taken (Err f) old new d fits still h = tt
+  pub holds_none : (file : HeldFile) → file.told.store ≡ [] → file.told.datagrams ≡ 0 → file.told.refused ≡ 0 → file.fits ≡ true → HoldsDatagrams sender file []
+  holds_none file store datagrams refused fits = record {
+    few = omega (arith, datagrams);
+    few_refused = omega (arith, datagrams, refused);
+    holds = holding file.fits true file.told [] fits (record { content = rw store (Same-itself []); count = omega (arith, datagrams); refused = omega (arith, refused) });
+  }
+
+  -- a datagram more was taken
+  pub holds_more : (old new : HeldFile) (ds : List (List ℕ)) (d : List ℕ) → old.fits ≡ true → new.fits ≡ true → TakesDatagram sender old.told d new.told → HoldsDatagrams sender old ds
+      → HoldsDatagrams sender new (ds ++ d ∷ [])
+  holds_more old new ds d fits still one h = record {
+    few = omega (arith, one.datagrams, h.few, length-append ds (d ∷ []));
+    few_refused = fewer (is_refused d) one.refused;
+    holds = holding new.fits true new.told (ds ++ d ∷ []) still (takes_more none old.told new.told ds d (held_as old.fits true old.told ds fits h.holds) one);
+  }
+    where
+      fewer : (b : Bool) → new.told.refused ≡ cond b (old.told.refused + 1) old.told.refused → new.told.refused ≤ new.told.datagrams
+      fewer true e = omega (arith, e, one.datagrams, h.few_refused)
+      fewer false e = omega (arith, e, one.datagrams, h.few_refused)
+
+  -- it found no room
+  pub holds_over : (old new : HeldFile) (ds : List (List ℕ)) (d : List ℕ) (fault : CommandFault) → old.fits ≡ true → new.fits ≡ false → StoreFails (old.told.store ++ facts sender d) fault → fault ≡ Full
+      → (new.told.datagrams ≡ old.told.datagrams) × (new.told.refused ≡ old.told.refused) → HoldsDatagrams sender old ds → HoldsDatagrams sender new (ds ++ d ∷ [])
+  holds_over old new ds d fault fits over fails full counts h = record {
+    few = omega (arith, counts.0, h.few, length-append ds (d ∷ []));
+    few_refused = omega (arith, counts.0, counts.1, h.few_refused);
+    holds = holding new.fits false new.told (ds ++ d ∷ []) over (over_with old.told ds d (held_as old.fits true old.told ds fits h.holds) (store_over _ fault fails full));
+  }
+
+  -- there had been none before
+  pub holds_past : (file : HeldFile) (ds : List (List ℕ)) (d : List ℕ) → file.fits ≡ false → HoldsDatagrams sender file ds → HoldsDatagrams sender file (ds ++ d ∷ [])
+  holds_past file ds d fits h = record {
+    few = omega (arith, h.few, length-append ds (d ∷ []));
+    few_refused = h.few_refused;
+    holds = holding file.fits false file.told (ds ++ d ∷ []) fits (over_more ds d (held_as file.fits false file.told ds fits h.holds));
+  }
+
+  -- what a taken datagram comes to
+  pub holds_taken : (r : Result (Unit {0}) CommandFault) (old new : HeldFile) (d : List ℕ) → old.fits ≡ true → new.fits ≡ true → OnOk r (TakesDatagram sender old.told d new.told)
+      → OnOk r ((ds : List (List ℕ)) → HoldsDatagrams sender old ds → HoldsDatagrams sender new (ds ++ d ∷ []))
+  holds_taken (Ok t) old new d fits still h = λ ds holds. holds_more old new ds d fits still h holds
+  holds_taken (Err f) old new d fits still h = tt
 
 -- A record that was read as the input with this number.
 

@@ -89,7 +89,7 @@ given_done limit before step now old content h named journal readable accepted g
 
 -- no step takes anything away
 pub held_after-above : (held : List (List Fact)) (step : Step) (origin : List Fact) → EachBelow held (held_after held step origin)
-held_after-above held (Take replica datagram) origin = given_to-above held replica (facts 0 datagram)
+held_after-above held (Take replica sender datagram) origin = given_to-above held replica (facts sender datagram)
 held_after-above held (Load replica journal) origin = given_to-above held replica origin
 held_after-above held (Add replica fact) origin = given_to-above held replica (fact ∷ [])
 held_after-above held (Merge into from) origin = given_to-above held into (held_by held from)
@@ -167,10 +167,10 @@ between_refused limit before step now old content fault h harmful cause kept giv
     }
 
 -- a `Take`, at a replica that took the datagram or counted its refusal
-pub taken_done : {X : Type 0} → (store : X → List Fact) (refused : X → ℕ) (xs : List X) (i : ℕ) (x y : X) (limit : Capacity) (datagram : List ℕ) → i < length xs → x ≡ get_or xs i x
-    → Same (store y) (store x ++ facts 0 datagram) → refused y ≡ cond (is_refused datagram) (one_more (refused x)) (refused x) → (IsOver (store y) limit → ⊥)
-    → IsDone limit (shown store refused xs) (Take i datagram) (shown store refused (set xs i y))
-taken_done store refused xs i x y limit datagram within is same counted inside =
+pub taken_done : {sender : ℕ} {X : Type 0} → (store : X → List Fact) (refused : X → ℕ) (xs : List X) (i : ℕ) (x y : X) (limit : Capacity) (datagram : List ℕ) → i < length xs → x ≡ get_or xs i x
+    → Same (store y) (store x ++ facts sender datagram) → refused y ≡ cond (is_refused datagram) (one_more (refused x)) (refused x) → (IsOver (store y) limit → ⊥)
+    → IsDone limit (shown store refused xs) (Take i sender datagram) (shown store refused (set xs i y))
+taken_done {sender} store refused xs i x y limit datagram within is same counted inside =
     let within_map : i < length (map store xs) = omega (arith, length-map xs store) in
     let within_counts : i < length (map refused xs) = omega (arith, length-map xs refused) in
     let held : held_by (map store xs) i ≡ store x = get_or-map store xs i x [] within ∙ ap store (sym is) in
@@ -180,7 +180,7 @@ taken_done store refused xs i x y limit datagram within is same counted inside =
       as_many = ap length (map-set store xs i y) ∙ length-set (map store xs) i (store y);
       journal = tt;
       readable = tt;
-      content = λ origin _. rw (map-set store xs i y) (given_to-same (map store xs) i (facts 0 datagram) (store y) within_map (rw held same));
+      content = λ origin _. rw (map-set store xs i y) (given_to-same (map store xs) i (facts sender datagram) (store y) within_map (rw held same));
       others = λ r ne. rw (map-set store xs i y) (get_or-set_other (map store xs) i r (store y) [] ne);
       refused = λ r.
           rw (map-set refused xs i y)
@@ -196,14 +196,14 @@ taken_done store refused xs i x y limit datagram within is same counted inside =
     }
 
 -- a `Take` that was refused
-pub taken_refused : (limit : Capacity) (before now : Held) (i : ℕ) (old content : List Fact) (datagram : List ℕ) (fault : StepFault) → IsChangedAt before now i old content → content ≡ old
-    → ((fault ≡ Full) × IsOver (old ++ facts 0 datagram) limit) ⊎ (fault ≡ OutOfMemory) → IsRefused limit before (Take i datagram) now fault
-taken_refused limit before now i old content datagram fault h same (inl full) =
-    let P : StepFault → Type 0 = λ f. IsRefused limit before (Take i datagram) now f in
-    subst P (sym full.0) (full_refused limit before (Take i datagram) now old content h same (λ origin _. (facts 0 datagram, refl, full.1)))
-taken_refused limit before now i old content datagram fault h same (inr memory) =
-    let P : StepFault → Type 0 = λ f. IsRefused limit before (Take i datagram) now f in
-    subst P (sym memory) (memory_refused limit before (Take i datagram) now old content h same)
+pub taken_refused : {sender : ℕ} (limit : Capacity) (before now : Held) (i : ℕ) (old content : List Fact) (datagram : List ℕ) (fault : StepFault) → IsChangedAt before now i old content → content ≡ old
+    → ((fault ≡ Full) × IsOver (old ++ facts sender datagram) limit) ⊎ (fault ≡ OutOfMemory) → IsRefused limit before (Take i sender datagram) now fault
+taken_refused {sender} limit before now i old content datagram fault h same (inl full) =
+    let P : StepFault → Type 0 = λ f. IsRefused limit before (Take i sender datagram) now f in
+    subst P (sym full.0) (full_refused limit before (Take i sender datagram) now old content h same (λ origin _. (facts sender datagram, refl, full.1)))
+taken_refused {sender} limit before now i old content datagram fault h same (inr memory) =
+    let P : StepFault → Type 0 = λ f. IsRefused limit before (Take i sender datagram) now f in
+    subst P (sym memory) (memory_refused limit before (Take i sender datagram) now old content h same)
 
 pub ok_from_three : {T E P Q R S : Type 0} → (r : Result T E) → OnOk r P → OnOk r Q → OnOk r R → (P → Q → R → S) → OnOk r S
 ok_from_three (Ok x) p q h f = f p q h

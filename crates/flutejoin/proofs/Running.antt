@@ -26,7 +26,7 @@ use Rattle.flutejoin.proofs.Places.{EachSame-itself, EachSame-sym, EachSame-tran
 
 -- replicas that hold the same hold the same after a step
 pub held_after-same : (A B : List (List Fact)) (step : Step) (origin : List Fact) → EachSame A B → EachSame (held_after A step origin) (held_after B step origin)
-held_after-same A B (Take replica datagram) origin h = given_to-each_same A B replica (facts 0 datagram) (facts 0 datagram) h (Same-itself (facts 0 datagram))
+held_after-same A B (Take replica sender datagram) origin h = given_to-each_same A B replica (facts sender datagram) (facts sender datagram) h (Same-itself (facts sender datagram))
 held_after-same A B (Load replica journal) origin h = given_to-each_same A B replica origin origin h (Same-itself origin)
 held_after-same A B (Add replica fact) origin h = given_to-each_same A B replica (fact ∷ []) (fact ∷ []) h (Same-itself (fact ∷ []))
 held_after-same A B (Merge into from) origin h = given_to-each_same A B into (held_by A from) (held_by B from) h (h.each from)
@@ -95,7 +95,7 @@ HasCause-same limit A B step origin NoReplica h cause = λ named. let P : ℕ �
 HasCause-same limit A B (Load replica journal) origin (Journal fault) h cause = cause
 HasCause-same limit A B (Reopen replica) origin (Journal fault) h cause =
     (cause.0, IsLonger-same (held_by A replica) (held_by B replica) MAX_ENTRIES (h.each replica) cause.1)
-HasCause-same limit A B (Take replica datagram) origin (Journal fault) h cause = cause
+HasCause-same limit A B (Take replica sender datagram) origin (Journal fault) h cause = cause
 HasCause-same limit A B (Add replica fact) origin (Journal fault) h cause = cause
 HasCause-same limit A B (Merge into from) origin (Journal fault) h cause = cause
 HasCause-same limit A B step origin Full h (inl over) =
@@ -128,7 +128,7 @@ no_start_over limit before (Load replica journal) now done begins =
     (Below-trans F (held_by before.contents replica ++ F) (held_by now.contents replica) (Below-right (held_by before.contents replica) F)
     (Below-from_Same (held_by before.contents replica ++ F) (held_by now.contents replica) (subst P there same))))
     begins.2)
-no_start_over limit before (Take replica datagram) now done begins = begins
+no_start_over limit before (Take replica sender datagram) now done begins = begins
 no_start_over limit before (Add replica fact) now done begins = begins
 no_start_over limit before (Merge into from) now done begins = begins
 no_start_over limit before (Reopen replica) now done begins = begins
@@ -138,7 +138,7 @@ done_clear : (limit : Capacity) (before : Held) (step : Step) (now : Held) (orig
 done_clear limit before step now origin done fits NoReplica not_memory cause = cause done.named
 done_clear limit before (Load replica journal) now origin done fits (Journal fault) not_memory cause = never_both journal done.journal.0 cause.0 fault done.journal.1 cause.1
 done_clear limit before (Reopen replica) now origin done fits (Journal fault) not_memory cause = done.readable cause.1
-done_clear limit before (Take replica datagram) now origin done fits (Journal fault) not_memory cause = cause
+done_clear limit before (Take replica sender datagram) now origin done fits (Journal fault) not_memory cause = cause
 done_clear limit before (Add replica fact) now origin done fits (Journal fault) not_memory cause = cause
 done_clear limit before (Merge into from) now origin done fits (Journal fault) not_memory cause = cause
 done_clear limit before step now origin done fits Full not_memory (inl over) =
@@ -179,7 +179,7 @@ run_refused limit count steps k step before now fault so_far is refused =
 
 -- a step that needs nothing needs nothing where more is held
 pub NeedsNothing-below : (A B : List (List Fact)) (step : Step) → EachBelow A B → NeedsNothing A step → NeedsNothing B step
-NeedsNothing-below A B (Take replica datagram) h needs = (omega (arith, needs.0, h.count), HasCells-below (held_by A replica) (held_by B replica) (facts 0 datagram) (h.each replica) needs.1)
+NeedsNothing-below A B (Take replica sender datagram) h needs = (omega (arith, needs.0, h.count), HasCells-below (held_by A replica) (held_by B replica) (facts sender datagram) (h.each replica) needs.1)
 NeedsNothing-below A B (Add replica fact) h needs = (omega (arith, needs.0, h.count), HasCell-below (held_by A replica) (held_by B replica) fact (h.each replica) needs.1)
 NeedsNothing-below A B (Merge into from) h needs = (omega (arith, needs.0, h.count), needs.1)
 NeedsNothing-below A B (Load replica journal) h needs = needs

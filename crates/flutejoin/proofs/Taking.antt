@@ -60,26 +60,26 @@ pub memory_is_packet : (d : List ℕ) (result : Result Taken TakeFault) → HasO
 memory_is_packet d result one tells is = is_packet d one (λ r refuses. let e = (tells r).1 refuses in cc)
 
 -- a store that took the datagram is within its limits
-pub ok_within : (s o y : ℕ) (old new : List Fact) (d : List ℕ) (result : Result Taken TakeFault) (t : Taken) → result ≡ Ok t → Same new (old ++ facts 0 d)
-    → (result ≡ Err Full) ↔ Over (old ++ facts 0 d) s o y → ¬ Over new s o y
-ok_within s o y old new d result t is same full over =
-    let e = full.1 (Over-below new (old ++ facts 0 d) s o y (Below-from_Same new (old ++ facts 0 d) same) over) in cc
+pub ok_within : (sender : ℕ) (s o y : ℕ) (old new : List Fact) (d : List ℕ) (result : Result Taken TakeFault) (t : Taken) → result ≡ Ok t → Same new (old ++ facts sender d)
+    → (result ≡ Err Full) ↔ Over (old ++ facts sender d) s o y → ¬ Over new s o y
+ok_within sender s o y old new d result t is same full over =
+    let e = full.1 (Over-below new (old ++ facts sender d) s o y (Below-from_Same new (old ++ facts sender d) same) over) in cc
 
 -- a refused datagram gives nothing
-pub refused_same : (old new : List Fact) (d : List ℕ) (r : Refusal) → Applies r d → new ≡ old → Same new (old ++ facts 0 d)
-refused_same old new d r applies same = rw (facts-refused 0 d r applies, append-nil old, same) (Same-itself old)
+pub refused_same : (sender : ℕ) (old new : List Fact) (d : List ℕ) (r : Refusal) → Applies r d → new ≡ old → Same new (old ++ facts sender d)
+refused_same sender old new d r applies same = rw (facts-refused sender d r applies, append-nil old, same) (Same-itself old)
 
-pub refused_within : (s o y : ℕ) (old new : List Fact) (d : List ℕ) (result : Result Taken TakeFault) (r : Refusal) → Applies r d → new ≡ old → result ≡ Err (Datagram r)
-    → (result ≡ Err Full) ↔ Over (old ++ facts 0 d) s o y → ¬ Over new s o y
-refused_within s o y old new d result r applies same is full over =
-    let e = full.1 (Over-below new (old ++ facts 0 d) s o y (Below-from_Same new (old ++ facts 0 d) (refused_same old new d r applies same)) over) in cc
+pub refused_within : (sender : ℕ) (s o y : ℕ) (old new : List Fact) (d : List ℕ) (result : Result Taken TakeFault) (r : Refusal) → Applies r d → new ≡ old → result ≡ Err (Datagram r)
+    → (result ≡ Err Full) ↔ Over (old ++ facts sender d) s o y → ¬ Over new s o y
+refused_within sender s o y old new d result r applies same is full over =
+    let e = full.1 (Over-below new (old ++ facts sender d) s o y (Below-from_Same new (old ++ facts sender d) (refused_same sender old new d r applies same)) over) in cc
 
 -- where its facts stand at held addresses, a packet is taken
-abbrev pub TakesHeld : List Fact → List ℕ → Result Taken TakeFault → Type 0
-TakesHeld old d result = (p : Content) → Spells d p → AllByRecursion (HasCell old) (facts 0 d) → IsOk result
+abbrev pub TakesHeld : ℕ → List Fact → List ℕ → Result Taken TakeFault → Type 0
+TakesHeld sender old d result = (p : Content) → Spells d p → AllByRecursion (HasCell old) (facts sender d) → IsOk result
 
-pub not_held : (old : List Fact) (d : List ℕ) (result : Result Taken TakeFault) (f : TakeFault) → IsPacket d → TakesHeld old d result → result ≡ Err f → ¬ AllByRecursion (HasCell old) (facts 0 d)
-not_held old d result f spelled held is cells =
+pub not_held : (sender : ℕ) (old : List Fact) (d : List ℕ) (result : Result Taken TakeFault) (f : TakeFault) → IsPacket d → TakesHeld sender old d result → result ≡ Err f → ¬ AllByRecursion (HasCell old) (facts sender d)
+not_held sender old d result f spelled held is cells =
     let P : Result Taken TakeFault → Type 0 = λ r. IsOk r in
     let e : IsOk {T = Taken} {E = TakeFault} (Err f) = subst P is (held spelled.0 spelled.1 cells) in
     cc

@@ -24,9 +24,9 @@ pub data Told : Type 0 where
   of_journal : (entries : List Fact) → Told
   of_file : (datagrams : List (List ℕ)) → Told
 
-abbrev pub told_facts : Told → List Fact
-told_facts (of_journal entries) = entries
-told_facts (of_file datagrams) = flat_map (facts 0) datagrams
+abbrev pub told_facts : ℕ → Told → List Fact
+told_facts sender (of_journal entries) = entries
+told_facts sender (of_file datagrams) = flat_map (facts sender) datagrams
 
 abbrev pub told_datagrams : Told → List (List ℕ)
 told_datagrams (of_journal entries) = []
@@ -44,10 +44,10 @@ TellAll (bytes ∷ inputs) (one ∷ told) = Tells bytes one × TellAll inputs to
 TellAll _ _ = ⊥
 
 -- what the inputs come to: the facts of all, and how many datagrams they have, and refused ones
-pub record Joins (inputs : List (List ℕ)) (joined : Joined) : Type 0 where
+pub record Joins (sender : ℕ) (inputs : List (List ℕ)) (joined : Joined) : Type 0 where
   pub told : List Told
   pub tell : TellAll inputs told
-  pub content : Same joined.store (flat_map told_facts told)
+  pub content : Same joined.store (flat_map (told_facts sender) told)
   pub datagrams : joined.datagrams ≡ length (flat_map told_datagrams told)
   pub refused : joined.refused ≡ count_by is_refused (flat_map told_datagrams told)
 
@@ -66,18 +66,18 @@ abbrev pub IsKnown : List ℕ → Type 0
 IsKnown bytes = HasKind Journal bytes ⊎ ((datagrams : List (List ℕ)) × IsFileWithin MAX_ENTRIES bytes datagrams)
 
 -- an input that tells facts within the limits of a store
-abbrev pub TellsWithin : List ℕ → Type 0
-TellsWithin bytes = (told : Told) × Tells bytes told × ¬ IsOverShelf (told_facts told)
+abbrev pub TellsWithin : ℕ → List ℕ → Type 0
+TellsWithin sender bytes = (told : Told) × Tells bytes told × ¬ IsOverShelf (told_facts sender told)
 
 -- an input that is over these limits alone
-abbrev pub IsOverAlone : List ℕ → Type 0
-IsOverAlone bytes =
+abbrev pub IsOverAlone : ℕ → List ℕ → Type 0
+IsOverAlone sender bytes =
     (HasKind Journal bytes × BeginsOverShelf bytes)
-    ⊎ ((datagrams : List (List ℕ)) × IsFileWithin MAX_ENTRIES bytes datagrams × IsOverShelf (flat_map (facts 0) datagrams))
+    ⊎ ((datagrams : List (List ℕ)) × IsFileWithin MAX_ENTRIES bytes datagrams × IsOverShelf (flat_map (facts sender) datagrams))
 
 -- inputs that are over them together
-abbrev pub TellOver : List (List ℕ) → Type 0
-TellOver inputs = (told : List Told) × TellAll inputs told × IsOverShelf (flat_map told_facts told)
+abbrev pub TellOver : ℕ → List (List ℕ) → Type 0
+TellOver sender inputs = (told : List Told) × TellAll inputs told × IsOverShelf (flat_map (told_facts sender) told)
 
 -- a journal, or a datagram file, with this fault; memory may run out at any entry or record
 abbrev pub IsJournalAt : ReadFault → List ℕ → Type 0
@@ -88,12 +88,12 @@ IsFileAt fault bytes = HasKind Datagrams bytes × HasFileFault MAX_ENTRIES (Some
 
 -- why inputs were not joined: the first that is of no known kind, or a datagram file at fault; else the first that is a journal at fault, or
 -- over the limits alone; else all are over them together
-abbrev pub JoinFails : List (List ℕ) → CommandFault → Type 0
-JoinFails inputs (UnknownKind number) = FirstInput IsKnown IsNeither number inputs
-JoinFails inputs (Input number fault) = FirstInput IsKnown (IsFileAt fault) number inputs ⊎ (AllByRecursion IsKnown inputs × FirstInput TellsWithin (IsJournalAt fault) number inputs)
-JoinFails inputs Full = AllByRecursion IsKnown inputs × (((number : ℕ) × FirstInput TellsWithin IsOverAlone number inputs) ⊎ (AllByRecursion TellsWithin inputs × TellOver inputs))
-JoinFails inputs OutOfMemory = ⊤
-JoinFails inputs _ = ⊥
+abbrev pub JoinFails : ℕ → List (List ℕ) → CommandFault → Type 0
+JoinFails sender inputs (UnknownKind number) = FirstInput IsKnown IsNeither number inputs
+JoinFails sender inputs (Input number fault) = FirstInput IsKnown (IsFileAt fault) number inputs ⊎ (AllByRecursion IsKnown inputs × FirstInput (TellsWithin sender) (IsJournalAt fault) number inputs)
+JoinFails sender inputs Full = AllByRecursion IsKnown inputs × (((number : ℕ) × FirstInput (TellsWithin sender) (IsOverAlone sender) number inputs) ⊎ (AllByRecursion (TellsWithin sender) inputs × TellOver sender inputs))
+JoinFails sender inputs OutOfMemory = ⊤
+JoinFails sender inputs _ = ⊥
 
 -- What the parts of a join answer.
 
@@ -102,27 +102,27 @@ abbrev pub StoreFails : List Fact → CommandFault → Type 0
 StoreFails told fault = ((fault ≡ Full) × IsOverShelf told) ⊎ (fault ≡ OutOfMemory)
 
 -- one more datagram, and whether it is refused, are counted, and its facts are held
-pub record TakesDatagram (before : Joined) (datagram : List ℕ) (now : Joined) : Type 0 where
-  pub content : Same now.store (before.store ++ facts 0 datagram)
+pub record TakesDatagram (sender : ℕ) (before : Joined) (datagram : List ℕ) (now : Joined) : Type 0 where
+  pub content : Same now.store (before.store ++ facts sender datagram)
   pub datagrams : now.datagrams ≡ before.datagrams + 1
   pub refused : now.refused ≡ (if is_refused datagram then before.refused + 1 else before.refused)
 
 -- datagrams are counted, and their facts held
-pub record TakesDatagrams (before : Joined) (datagrams : List (List ℕ)) (now : Joined) : Type 0 where
-  pub content : Same now.store (before.store ++ flat_map (facts 0) datagrams)
+pub record TakesDatagrams (sender : ℕ) (before : Joined) (datagrams : List (List ℕ)) (now : Joined) : Type 0 where
+  pub content : Same now.store (before.store ++ flat_map (facts sender) datagrams)
   pub count : now.datagrams ≡ before.datagrams + length datagrams
   pub refused : now.refused ≡ before.refused + count_by is_refused datagrams
 
 -- a store of these datagrams; or their facts alone are over its limits
-abbrev pub HoldsAll : Bool → Joined → List (List ℕ) → Type 0
-HoldsAll true told datagrams = TakesDatagrams (record { store = []; datagrams = 0; refused = 0 }) datagrams told
-HoldsAll false told datagrams = IsOverShelf (flat_map (facts 0) datagrams)
+abbrev pub HoldsAll : ℕ → Bool → Joined → List (List ℕ) → Type 0
+HoldsAll sender true told datagrams = TakesDatagrams sender (record { store = []; datagrams = 0; refused = 0 }) datagrams told
+HoldsAll sender false told datagrams = IsOverShelf (flat_map (facts sender) datagrams)
 
 -- the datagrams of a file are held as what they tell
-pub record HoldsDatagrams (file : HeldFile) (datagrams : List (List ℕ)) : Type 0 where
+pub record HoldsDatagrams (sender : ℕ) (file : HeldFile) (datagrams : List (List ℕ)) : Type 0 where
   pub few : file.told.datagrams ≤ length datagrams
   pub few_refused : file.told.refused ≤ file.told.datagrams
-  pub holds : HoldsAll file.fits file.told datagrams
+  pub holds : HoldsAll sender file.fits file.told datagrams
 
 -- why a datagram file was not held
 abbrev pub FileFails : ℕ → Option (List ℕ) → CommandFault → Type 0

@@ -27,7 +27,7 @@ pub record IsLonger (F : List Fact) (limit : ℕ) : Type 0 where
 -- a `Reopen` is of a replica at no more addresses than a journal may have entries
 abbrev pub WritesWithin : List (List Fact) → Step → Type 0
 WritesWithin held (Reopen replica) = ¬ IsLonger (held_by held replica) MAX_ENTRIES
-WritesWithin held (Take replica datagram) = ⊤
+WritesWithin held (Take replica sender datagram) = ⊤
 WritesWithin held (Load replica journal) = ⊤
 WritesWithin held (Add replica fact) = ⊤
 WritesWithin held (Merge into from) = ⊤
@@ -54,14 +54,14 @@ pub record IsDone (capacity : Capacity) (before : Held) (step : Step) (now : Hel
 abbrev pub IsReadFault : Capacity → List (List Fact) → Step → ReadFault → Type 0
 IsReadFault capacity held (Load replica journal) fault = (entries : List Fact) × Stops journal MAX_ENTRIES entries fault × ¬ IsOver entries capacity
 IsReadFault capacity held (Reopen replica) fault = (fault ≡ ReadFault.TooMany) × IsLonger (held_by held replica) MAX_ENTRIES
-IsReadFault capacity held (Take replica datagram) fault = ⊥
+IsReadFault capacity held (Take replica sender datagram) fault = ⊥
 IsReadFault capacity held (Add replica fact) fault = ⊥
 IsReadFault capacity held (Merge into from) fault = ⊥
 
 -- a `Load` begins with entries that are over the capacity
 abbrev pub LoadsOver : Capacity → Step → Type 0
 LoadsOver capacity (Load replica journal) = BeginsOver capacity.sessions capacity.objects capacity.symbols MAX_ENTRIES journal
-LoadsOver capacity (Take replica datagram) = ⊥
+LoadsOver capacity (Take replica sender datagram) = ⊥
 LoadsOver capacity (Add replica fact) = ⊥
 LoadsOver capacity (Merge into from) = ⊥
 LoadsOver capacity (Reopen replica) = ⊥
@@ -77,7 +77,7 @@ HasCause capacity held step origin OutOfMemory = ⊤
 abbrev pub IsHarmless : Step → StepFault → Type 0
 IsHarmless step NoReplica = ⊤
 IsHarmless step (Journal fault) = ⊤
-IsHarmless (Take replica datagram) fault = ⊤
+IsHarmless (Take replica sender datagram) fault = ⊤
 IsHarmless (Add replica fact) fault = ⊤
 IsHarmless (Reopen replica) fault = ⊤
 IsHarmless (Load replica journal) Full = ⊥
@@ -99,7 +99,7 @@ pub record IsRefused (capacity : Capacity) (before : Held) (step : Step) (now : 
 -- A step that takes no memory, and so succeeds: all that a `Take` or an `Add` gives stands in cells that are held (a
 -- refused datagram gives nothing), or a `Merge` is of a replica into itself.
 abbrev pub NeedsNothing : List (List Fact) → Step → Type 0
-NeedsNothing held (Take replica datagram) = (replica < length held) × AllByRecursion (HasCell (held_by held replica)) (facts 0 datagram)
+NeedsNothing held (Take replica sender datagram) = (replica < length held) × AllByRecursion (HasCell (held_by held replica)) (facts sender datagram)
 NeedsNothing held (Add replica fact) = (replica < length held) × HasCell (held_by held replica) fact
 NeedsNothing held (Merge into from) = (into < length held) × (into ≡ from)
 NeedsNothing held (Load replica journal) = ⊥

@@ -10,7 +10,7 @@ is_refused datagram = is_none (packet datagram)
 
 -- a `Take` that gives replica r a refused datagram
 abbrev pub is_refused_take : ℕ → Step → Bool
-is_refused_take r (Take replica datagram) = (replica == r) && is_refused datagram
+is_refused_take r (Take replica sender datagram) = (replica == r) && is_refused datagram
 is_refused_take r (Load replica journal) = false
 is_refused_take r (Add replica fact) = false
 is_refused_take r (Merge into from) = false

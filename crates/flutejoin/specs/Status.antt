@@ -64,7 +64,7 @@ of_blob number blobs.OutOfMemory = OutOfMemory
 
 -- no more inputs than are joined
 abbrev pub HasFewInputs : Line → Type 0
-HasFewInputs (Join out inputs) = length inputs.items ≤ 64
+HasFewInputs (Join out sender inputs) = length inputs.items ≤ 64
 HasFewInputs _ = ⊤
 
 -- what the fault of a journal with this number, read into a store, is

@@ -17,7 +17,7 @@ given_to held r more = slice_set held r (held_by held r ++ more)
 
 -- the facts held after a step; origin is the list of which a `Load` reads a journal
 abbrev pub held_after : List (List Fact) → Step → List Fact → List (List Fact)
-held_after held (Take replica datagram) origin = given_to held replica (facts 0 datagram)
+held_after held (Take replica sender datagram) origin = given_to held replica (facts sender datagram)
 held_after held (Load replica journal) origin = given_to held replica origin
 held_after held (Add replica fact) origin = given_to held replica (fact ∷ [])
 held_after held (Merge into from) origin = given_to held into (held_by held from)
@@ -25,7 +25,7 @@ held_after held (Reopen replica) origin = held
 
 -- the step names replicas that are there
 abbrev pub NamesReplicas : ℕ → Step → Type 0
-NamesReplicas count (Take replica datagram) = replica < count
+NamesReplicas count (Take replica sender datagram) = replica < count
 NamesReplicas count (Load replica journal) = replica < count
 NamesReplicas count (Add replica fact) = replica < count
 NamesReplicas count (Merge into from) = (into < count) × (from < count)
@@ -33,7 +33,7 @@ NamesReplicas count (Reopen replica) = replica < count
 
 -- the replica that a step may change
 abbrev pub target_of : Step → ℕ
-target_of (Take replica datagram) = replica
+target_of (Take replica sender datagram) = replica
 target_of (Load replica journal) = replica
 target_of (Add replica fact) = replica
 target_of (Merge into from) = into
@@ -42,7 +42,7 @@ target_of (Reopen replica) = replica
 -- a `Load` reads a journal of at most so many entries
 abbrev pub LoadsJournal : ℕ → Step → Type 0
 LoadsJournal limit (Load replica journal) = (entries : List Fact) × IsJournalWithin limit journal entries
-LoadsJournal limit (Take replica datagram) = ⊤
+LoadsJournal limit (Take replica sender datagram) = ⊤
 LoadsJournal limit (Add replica fact) = ⊤
 LoadsJournal limit (Merge into from) = ⊤
 LoadsJournal limit (Reopen replica) = ⊤
@@ -50,7 +50,7 @@ LoadsJournal limit (Reopen replica) = ⊤
 -- the origin fits the step: it is a list of which a `Load` reads a journal, and it is empty where that reads no journal
 abbrev pub FitsStep : Step → List Fact → Type 0
 FitsStep (Load replica journal) origin = IsJournal journal origin ⊎ (((F : List Fact) → ¬ IsJournal journal F) × (origin ≡ []))
-FitsStep (Take replica datagram) origin = ⊤
+FitsStep (Take replica sender datagram) origin = ⊤
 FitsStep (Add replica fact) origin = ⊤
 FitsStep (Merge into from) origin = ⊤
 FitsStep (Reopen replica) origin = ⊤

@@ -10,7 +10,7 @@ use crate::first_bytes::FirstBytes;
 use crate::join_counts::JoinCounts;
 use crate::join_input::input_of;
 use crate::joining::join_to;
-use flute_parts::{Sink, Source};
+use flute_parts::{Sender, Sink, Source};
 use std::alloc::Global;
 
 /// A source of which the first bytes were read.
@@ -29,15 +29,16 @@ pub struct BegunSource<R> {
 /// Those of [`join_to`], and what it says of them.
 pub fn join_sources<R: Source + Drop, W: Sink>(
     alloc: Global,
+    sender: Sender,
     sources: Vec<BegunSource<R>>,
     sink: &mut W,
 ) -> Result<JoinCounts, CommandFault>
     requires few { length sources.items ≤ 64 }
     ensures joined { (contents : List (List ℕ)) → AreBegun R.unread sources.items contents
         → IfOk result
-        (λ counts. JoinsTo contents counts (W.written sink.old) (W.written sink.new)) }
+        (λ counts. JoinsTo sender contents counts (W.written sink.old) (W.written sink.new)) }
     ensures failed { (contents : List (List ℕ)) → AreBegun R.unread sources.items contents
-        → IfErr result (JoinToFails contents) }
+        → IfErr result (JoinToFails sender contents) }
     ensures short { IfErr result
         (λ _. AppendsNoJournal (W.written sink.old) (W.written sink.new)) }
     ensures names { IfErr result (NamesOneOf (length sources.items)) }
@@ -55,5 +56,5 @@ pub fn join_sources<R: Source + Drop, W: Sink>(
             return Err(CommandFault::OutOfMemory);
         }
     }
-    join_to(alloc, &mut inputs, sink)
+    join_to(alloc, sender, &mut inputs, sink)
 }

@@ -11,7 +11,7 @@ use crate::joined::Joined;
 use crate::limits::MAX_ENTRIES;
 use flute_journal::DatagramReader;
 use flute_journal::laws::a_file_is_read_record_by_record;
-use flute_parts::Source;
+use flute_parts::{Sender, Source};
 use std::alloc::Global;
 
 /// What a datagram file tells.
@@ -27,7 +27,7 @@ pub(crate) struct HeldFile {
 impl HeldFile {
     // A file of no datagrams.
     fn new(alloc: Global) -> HeldFile
-        ensures { HoldsDatagrams result [] }
+        ensures { (sender : ℕ) → HoldsDatagrams sender result [] }
     {
         HeldFile {
             told: Joined::new(alloc),
@@ -35,18 +35,19 @@ impl HeldFile {
         }
     }
 
-    // Takes a datagram, if what came before was held.
-    fn take(&mut self, alloc: Global, datagram: &[u8]) -> Result<(), CommandFault>
+    // Takes a datagram of this sender, if what came before was held.
+    fn take(&mut self, alloc: Global, sender: Sender, datagram: &[u8]) -> Result<(), CommandFault>
         requires datagrams { self.now.told.datagrams + 1 < 2 ^ 64 }
         requires refused { self.now.told.refused ≤ self.now.told.datagrams }
-        ensures taken { OnOk result ((before : List (List ℕ)) → HoldsDatagrams self.old before
-            → HoldsDatagrams self.new (before ++ datagram.now ∷ [])) }
+        ensures taken { OnOk result ((before : List (List ℕ))
+            → HoldsDatagrams sender self.old before
+            → HoldsDatagrams sender self.new (before ++ datagram.now ∷ [])) }
         ensures memory { IfErr result (λ fault. fault ≡ faults.OutOfMemory) }
     {
         if !self.fits {
             return Ok(());
         }
-        match self.told.take(alloc, datagram) {
+        match self.told.take(alloc, sender, datagram) {
             Err(CommandFault::Full) => {
                 self.fits = false;
                 Ok(())
@@ -56,7 +57,7 @@ impl HeldFile {
     }
 }
 
-/// What the datagram file tells that the source holds, at most 16,777,216 records. It is read
+/// What the datagrams of this sender tell that the source holds as a file, at most 16,777,216. It is read
 /// record by record, and one record of it is held beside what it tells.
 ///
 /// # Errors
@@ -66,11 +67,12 @@ impl HeldFile {
 pub(crate) fn read_file<R: Source>(
     alloc: Global,
     number: usize,
+    sender: Sender,
     source: &mut R,
 ) -> Result<HeldFile, CommandFault>
     ensures held { IfOk result (λ file. IfSome (R.unread source.old) (λ bytes.
         (datagrams : List (List ℕ)) × IsFileWithin MAX_ENTRIES bytes datagrams
-        × HoldsDatagrams file datagrams)) }
+        × HoldsDatagrams sender file datagrams)) }
     ensures datagrams { IfOk result (λ file. file.told.datagrams ≤ MAX_ENTRIES) }
     ensures refused { IfOk result (λ file. file.told.refused ≤ file.told.datagrams) }
     ensures failed { IfErr result (FileFails number (R.unread source.old)) }
@@ -82,7 +84,7 @@ pub(crate) fn read_file<R: Source>(
     let mut reader = DatagramReader::new(source, MAX_ENTRIES);
     let mut spare = Vec::new(alloc);
     while let Some(datagram) = at_input(number, reader.next_with(alloc, spare))? {
-        file.take(alloc, datagram.as_slice())?;
+        file.take(alloc, sender, datagram.as_slice())?;
         spare = datagram.into_vec();
     }
     Ok(file)

@@ -4,6 +4,7 @@ ghost use Rattle.flute_wire.specs.Reading.{facts};
 ghost use Rattle.flutejoin.specs.Joined.{TakesDatagram, StoreFails};
 
 use crate::command_fault::CommandFault;
+use flute_parts::Sender;
 use flute_store::{Shelf, Store, TakeFault};
 use flute_wire::one_reading;
 use std::alloc::Global;
@@ -33,18 +34,23 @@ impl Joined {
         }
     }
 
-    // Takes a datagram, and counts it.
-    pub(crate) fn take(&mut self, alloc: Global, datagram: &[u8]) -> Result<(), CommandFault>
+    // Takes a datagram of this sender, and counts it.
+    pub(crate) fn take(
+        &mut self,
+        alloc: Global,
+        sender: Sender,
+        datagram: &[u8],
+    ) -> Result<(), CommandFault>
         requires datagrams { self.now.datagrams + 1 < 2 ^ 64 }
         requires refused { self.now.refused ≤ self.now.datagrams }
-        ensures taken { OnOk result (TakesDatagram self.old datagram.now self.new) }
-        ensures failed { IfErr result (StoreFails (self.old.store ++ facts 0 datagram.now)) }
+        ensures taken { OnOk result (TakesDatagram sender self.old datagram.now self.new) }
+        ensures failed { IfErr result (StoreFails (self.old.store ++ facts sender datagram.now)) }
         ensures counts { OnErr result ((self.new.datagrams ≡ self.old.datagrams)
             × (self.new.refused ≡ self.old.refused)) }
     {
         // By this the proof knows that a datagram is a packet or refused.
         one_reading();
-        match self.store.take(alloc, datagram) {
+        match self.store.take(alloc, sender, datagram) {
             Ok(_) => {}
             Err(TakeFault::Datagram(_)) => self.refused += 1,
             Err(TakeFault::Full) => return Err(CommandFault::Full),

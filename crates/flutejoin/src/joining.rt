@@ -20,7 +20,7 @@ use crate::looking::look_at_all;
 use flute_journal::{
     InputFault, Joined as Merged, OrFull, Replaced, Stream, WalkStream, join_streams,
 };
-use flute_parts::{Sink, Source};
+use flute_parts::{Sender, Sink, Source};
 use flute_store::Objects;
 use std::alloc::Global;
 
@@ -48,15 +48,16 @@ use std::alloc::Global;
 /// then no journal. The inputs were read in part, and are of no further use.
 pub fn join_to<R: Source, W: Sink>(
     alloc: Global,
+    sender: Sender,
     inputs: &mut [JoinInput<'_, R>],
     sink: &mut W,
 ) -> Result<JoinCounts, CommandFault>
     requires few { length inputs.old ≤ 64 }
     ensures joined { (contents : List (List ℕ)) → AreInputs R.unread inputs.old contents
         → IfOk result
-        (λ counts. JoinsTo contents counts (W.written sink.old) (W.written sink.new)) }
+        (λ counts. JoinsTo sender contents counts (W.written sink.old) (W.written sink.new)) }
     ensures failed { (contents : List (List ℕ)) → AreInputs R.unread inputs.old contents
-        → IfErr result (JoinToFails contents) }
+        → IfErr result (JoinToFails sender contents) }
     ensures short { IfErr result
         (λ _. AppendsNoJournal (W.written sink.old) (W.written sink.new)) }
     ensures names { IfErr result (NamesOneOf (length inputs.old)) }
@@ -67,7 +68,7 @@ pub fn join_to<R: Source, W: Sink>(
     ensures write_failed { IfErr result
         (λ fault. fault ≡ CannotWrite → W.failures sink.new ≡ W.failures sink.old + 1) }
 {
-    let looked = look_at_all(alloc, inputs)?;
+    let looked = look_at_all(alloc, sender, inputs)?;
     let joined = join_looked(alloc, inputs, &looked.files, sink)?;
     if !joined.within {
         return Err(CommandFault::Full);
@@ -91,11 +92,13 @@ fn join_looked<R: Source, W: Sink>(
 ) -> Result<Merged, CommandFault>
     requires few { length inputs.old ≤ 64 }
     requires ready { AreReady R.unread R.failures inputs.old files.now }
-    ensures joined { (contents : List (List ℕ)) → AreLooked R.unread inputs.old files.now contents
-        → IfOk result (λ joined. JoinsLooked contents files.now joined
+    ensures joined { (sender : ℕ) (contents : List (List ℕ))
+        → AreLooked R.unread sender inputs.old files.now contents
+        → IfOk result (λ joined. JoinsLooked sender contents files.now joined
         (W.written sink.old) (W.written sink.new)) }
-    ensures failed { (contents : List (List ℕ)) → AreLooked R.unread inputs.old files.now contents
-        → IfErr result (JoinToFails contents) }
+    ensures failed { (sender : ℕ) (contents : List (List ℕ))
+        → AreLooked R.unread sender inputs.old files.now contents
+        → IfErr result (JoinToFails sender contents) }
     ensures cut { IfOk result (λ joined. joined.cut ≡ true
         → AppendsNoJournal (W.written sink.old) (W.written sink.new)) }
     ensures over { IfOk result (λ joined. joined.within ≡ false → joined.cut ≡ true) }

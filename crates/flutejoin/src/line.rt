@@ -44,9 +44,11 @@ pub enum Line<'a> {
         block: u32,
         j: &'a str,
     },
-    /// Join the journals and datagram files `inputs`, 1 to 64 of them, into the journal `out`.
+    /// Join the journals and datagram files `inputs`, 1 to 64 of them, into the journal `out`. The
+    /// datagrams of the files are of this sender.
     Join {
         out: &'a str,
+        sender: Sender,
         inputs: Vec<&'a str>,
     },
     /// Merge the journals `a` and `b` into the journal `out`.
@@ -136,6 +138,7 @@ fn join_of<'a>(alloc: Global, matches: &ArgMatches<'a>) -> Result<Line<'a>, Comm
     ensures few { IfOk result HasFewInputs }
     ensures fault { IfErr result IsLineFault }
 {
+    let sender = source(matches)?;
     let inputs = matches.get_strs("INPUT").unwrap_or(&[]);
     if inputs.len() > MAX_INPUTS {
         return Err(CommandFault::TooManyInputs);
@@ -143,6 +146,7 @@ fn join_of<'a>(alloc: Global, matches: &ArgMatches<'a>) -> Result<Line<'a>, Comm
     match inputs.to_vec(alloc) {
         Ok(inputs) => Ok(Line::Join {
             out: text(matches, "OUT"),
+            sender,
             inputs,
         }),
         Err(_) => Err(CommandFault::OutOfMemory),

@@ -13,7 +13,7 @@ use crate::held_file::{HeldFile, read_file};
 use crate::join_input::JoinInput;
 use crate::limits::MAX_ENTRIES;
 use flute_journal::{Kind, kind_of};
-use flute_parts::{Source, Tally};
+use flute_parts::{Sender, Source, Tally};
 use std::alloc::Global;
 
 /// What was found of inputs.
@@ -60,13 +60,15 @@ impl Looked {
 /// for a datagram. `OutOfMemory` where there was none for what it tells.
 pub(crate) fn look_at_all<R: Source>(
     alloc: Global,
+    sender: Sender,
     inputs: &mut [JoinInput<'_, R>],
 ) -> Result<Looked, CommandFault>
     requires { length inputs.old ≤ 64 }
     ensures ready { IfOk result
         (λ looked. AreReady R.unread R.failures inputs.new looked.files.items) }
     ensures looked { (contents : List (List ℕ)) → AreInputs R.unread inputs.old contents
-        → IfOk result (λ looked. AreLooked R.unread inputs.new looked.files.items contents) }
+        → IfOk result
+        (λ looked. AreLooked R.unread sender inputs.new looked.files.items contents) }
     ensures sums { IfOk result SumsUp }
     ensures failed { (contents : List (List ℕ)) → AreInputs R.unread inputs.old contents
         → IfErr result (SomeLookFails contents) }
@@ -82,7 +84,7 @@ pub(crate) fn look_at_all<R: Source>(
         refused: 0,
     };
     for k in 0..inputs.len() {
-        let file = look_at(alloc, k + 1, &mut inputs[k])?;
+        let file = look_at(alloc, k + 1, sender, &mut inputs[k])?;
         looked.add(file)?;
     }
     Ok(looked)
@@ -93,11 +95,12 @@ pub(crate) fn look_at_all<R: Source>(
 fn look_at<R: Source>(
     alloc: Global,
     number: usize,
+    sender: Sender,
     input: &mut JoinInput<'_, R>,
 ) -> Result<Option<HeldFile>, CommandFault>
     ensures ready { IfOk result (IsReady R.unread R.failures input.new) }
     ensures looked { (bytes : List ℕ) → IsInput R.unread input.old bytes
-        → IfOk result (λ file. IsLooked R.unread input.new file bytes) }
+        → IfOk result (λ file. IsLooked R.unread sender input.new file bytes) }
     ensures few { IfOk result IsFew }
     ensures failed { (bytes : List ℕ) → IsInput R.unread input.old bytes
         → IfErr result (LookFails number bytes) }
@@ -111,7 +114,7 @@ fn look_at<R: Source>(
             Ok(None)
         }
         Some(Kind::Datagrams) => {
-            let file = read_file(alloc, number, &mut input.stream.source)?;
+            let file = read_file(alloc, number, sender, &mut input.stream.source)?;
             Ok(Some(file))
         }
         None => Err(CommandFault::UnknownKind(number)),

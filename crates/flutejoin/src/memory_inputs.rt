@@ -12,7 +12,7 @@ use crate::join_counts::JoinCounts;
 use crate::joined::Joined;
 use flute_journal::laws::{a_journal_has_one_content, a_journal_within_a_bound_is_one};
 use flute_journal::{ReadFault, read_store};
-use flute_parts::{MemorySink, MemorySource, Sink};
+use flute_parts::{MemorySink, MemorySource, Sender, Sink};
 use std::alloc::Global;
 
 /// What all the inputs come to together, each a journal or a datagram file, as [`join_to`] joins
@@ -22,16 +22,16 @@ use std::alloc::Global;
 /// # Errors
 ///
 /// Those of [`join_to`], but `OutOfMemory` in place of a device's.
-pub fn join_inputs(alloc: Global, inputs: &[Blob]) -> Result<Joined, CommandFault>
+pub fn join_inputs(alloc: Global, sender: Sender, inputs: &[Blob]) -> Result<Joined, CommandFault>
     requires { length inputs.now ≤ 64 }
-    ensures joined { IfOk result (Joins inputs.now) }
-    ensures failed { IfErr result (JoinFails inputs.now) }
+    ensures joined { IfOk result (Joins sender inputs.now) }
+    ensures failed { IfErr result (JoinFails sender inputs.now) }
 {
     // By these the proof knows that a journal that was written is read as what it tells.
     a_journal_has_one_content();
     a_journal_within_a_bound_is_one();
     let mut journal = MemorySink::new(alloc);
-    let counts = join_blobs(alloc, inputs, &mut journal)?;
+    let counts = join_blobs(alloc, sender, inputs, &mut journal)?;
     let mut written = MemorySource::new(journal.as_slice());
     match read_store(alloc, &mut written, counts.entries) {
         Ok(store) => Ok(Joined {
@@ -47,13 +47,14 @@ pub fn join_inputs(alloc: Global, inputs: &[Blob]) -> Result<Joined, CommandFaul
 // Writes the journal of all that the inputs tell.
 fn join_blobs(
     alloc: Global,
+    sender: Sender,
     inputs: &[Blob],
     sink: &mut MemorySink,
 ) -> Result<JoinCounts, CommandFault>
     requires { length inputs.now ≤ 64 }
-    ensures joined { IfOk result (λ counts. JoinsTo inputs.now counts
+    ensures joined { IfOk result (λ counts. JoinsTo sender inputs.now counts
         (⟦<MemorySink as Sink>⟧.written sink.old) (⟦<MemorySink as Sink>⟧.written sink.new)) }
-    ensures failed { IfErr result (JoinFails inputs.now) }
+    ensures failed { IfErr result (JoinFails sender inputs.now) }
 {
     let mut sources = Vec::new(alloc);
     for input in inputs {
@@ -65,7 +66,7 @@ fn join_blobs(
             return Err(CommandFault::OutOfMemory);
         }
     }
-    match join_sources(alloc, sources, sink) {
+    match join_sources(alloc, sender, sources, sink) {
         Ok(counts) => Ok(counts),
         Err(fault) => Err(in_memory(fault)),
     }

@@ -91,6 +91,7 @@ fn join_command<'a>(alloc: Global) -> Result<Command<'a>, clap::Error> {
     let command = Command::new(alloc, "join")
         .about("Joins what several journals and datagram files have into one journal")
         .arg(output(alloc))?
+        .arg(source(alloc))?
         .arg(inputs)?;
     Ok(command)
 }

@@ -20,7 +20,7 @@ use crate::limits::MAX_ENTRIES;
 use crate::steps::{Step, StepFault};
 use flute_join::JoinRefusal;
 use flute_journal::{read_store, write_store};
-use flute_parts::{Fact, MemorySink, MemorySource};
+use flute_parts::{Fact, MemorySink, MemorySource, Sender};
 use flute_store::{Store, TakeFault};
 use flute_wire::{Datagram, one_reading};
 use std::alloc::Global;
@@ -39,23 +39,23 @@ impl<const SESSIONS: u32, const OBJECTS: u32, const SYMBOLS: u32> Replica<
     OBJECTS,
     SYMBOLS,
 > {
-    // Takes a datagram, and counts it if it is refused.
-    fn take(&mut self, alloc: Global, datagram: &[u8]) -> Result<(), StepFault>
+    // Takes a datagram of this sender, and counts it if it is refused.
+    fn take(&mut self, alloc: Global, sender: Sender, datagram: &[u8]) -> Result<(), StepFault>
         ensures content { OnOk result
-            (Same self.new.store (self.old.store ++ facts 0 datagram.now)) }
+            (Same self.new.store (self.old.store ++ facts sender datagram.now)) }
         ensures counted { OnOk result (self.new.refused
             ≡ (if is_refused datagram.now then one_more self.old.refused else self.old.refused)) }
         ensures within { OnOk result (¬ Over self.new.store SESSIONS OBJECTS SYMBOLS) }
         ensures err { OnErr result (self.new ≡ self.old) }
-        ensures sure { AllByRecursion (HasCell self.old.store) (facts 0 datagram.now)
+        ensures sure { AllByRecursion (HasCell self.old.store) (facts sender datagram.now)
             → IsOk result }
         ensures fault { IfErr result (λ f. (f ≡ faults.Full
-            × Over (self.old.store ++ facts 0 datagram.now) SESSIONS OBJECTS SYMBOLS)
+            × Over (self.old.store ++ facts sender datagram.now) SESSIONS OBJECTS SYMBOLS)
             ⊎ (f ≡ faults.OutOfMemory)) }
     {
         // By this the proof knows that a datagram is a packet or refused.
         one_reading();
-        match self.store.take(alloc, datagram) {
+        match self.store.take(alloc, sender, datagram) {
             Ok(_) => Ok(()),
             Err(TakeFault::Datagram(_)) => {
                 self.refused = one_more(self.refused);
@@ -161,17 +161,23 @@ impl<const SESSIONS: u32, const OBJECTS: u32, const SYMBOLS: u32> Replicas<
         }
     }
 
-    fn take(&mut self, alloc: Global, replica: u32, datagram: &Datagram) -> Result<(), StepFault>
+    fn take(
+        &mut self,
+        alloc: Global,
+        replica: u32,
+        sender: Sender,
+        datagram: &Datagram,
+    ) -> Result<(), StepFault>
         ensures done { OnOk result (IsDone (capacity SESSIONS OBJECTS SYMBOLS) self.old
-            (doing.Take replica datagram.now) self.new) }
+            (doing.Take replica sender datagram.now) self.new) }
         ensures refused { IfErr result (IsRefused (capacity SESSIONS OBJECTS SYMBOLS) self.old
-            (doing.Take replica datagram.now) self.new) }
-        ensures sure { NeedsNothing self.old.contents (doing.Take replica datagram.now)
+            (doing.Take replica sender datagram.now) self.new) }
+        ensures sure { NeedsNothing self.old.contents (doing.Take replica sender datagram.now)
             → IsOk result }
     {
         let place = self.place(replica)?;
         let target = &mut self.replicas[place];
-        target.take(alloc, datagram.as_slice())
+        target.take(alloc, sender, datagram.as_slice())
     }
 
     fn add(&mut self, alloc: Global, replica: u32, fact: &Fact) -> Result<(), StepFault>
@@ -269,7 +275,11 @@ impl<const SESSIONS: u32, const OBJECTS: u32, const SYMBOLS: u32> Replicas<
         ensures sure { NeedsNothing self.old.contents step.now → IsOk result }
     {
         match step {
-            Step::Take { replica, datagram } => self.take(alloc, *replica, datagram),
+            Step::Take {
+                replica,
+                sender,
+                datagram,
+            } => self.take(alloc, *replica, *sender, datagram),
             Step::Load { replica, journal } => self.load(alloc, *replica, journal),
             Step::Add { replica, fact } => self.add(alloc, *replica, fact),
             Step::Merge { into, from } => self.merge(alloc, *into, *from),

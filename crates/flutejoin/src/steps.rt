@@ -3,23 +3,39 @@
 use crate::blob::Blob;
 use flute_join::JoinRefusal;
 use flute_journal::{LoadFault, ReadFault};
-use flute_parts::Fact;
+use flute_parts::{Fact, Sender};
 use flute_wire::Datagram;
 use thiserror::Error;
 
 /// One thing that is done to replicas. Replicas are numbered from 0.
 #[derive(Debug, Drop)]
 pub enum Step {
-    /// The replica takes a datagram. A datagram that is refused gives nothing, and is counted.
-    Take { replica: u32, datagram: Datagram },
+    /// The replica takes a datagram that this sender sent. One that is refused gives nothing, and is
+    /// counted.
+    Take {
+        replica: u32,
+        sender: Sender,
+        datagram: Datagram,
+    },
     /// The replica takes what a journal of at most 16,777,216 entries has.
-    Load { replica: u32, journal: Blob },
+    Load {
+        replica: u32,
+        journal: Blob,
+    },
     /// The replica takes a fact.
-    Add { replica: u32, fact: Fact },
+    Add {
+        replica: u32,
+        fact: Fact,
+    },
     /// The replica `into` takes what the replica `from` has.
-    Merge { into: u32, from: u32 },
+    Merge {
+        into: u32,
+        from: u32,
+    },
     /// The replica is written as a journal and read back, with that bound on its entries.
-    Reopen { replica: u32 },
+    Reopen {
+        replica: u32,
+    },
 }
 
 /// Why a step was refused.

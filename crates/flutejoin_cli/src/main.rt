@@ -9,7 +9,7 @@ mod outputs;
 use crate::inputs::{OpenInput, open_input, open_inputs};
 use crate::outputs::{Report, create_output, finish, nothing, standard_output};
 use flute_output::{FileId, take_standard_streams};
-use flute_parts::{Info, Key, StdSink};
+use flute_parts::{Info, Key, Sender, StdSink};
 use flute_store::Shelf;
 use flute_wire::Datagrams;
 use flutejoin::{
@@ -50,7 +50,11 @@ fn run(rt: &HostRuntime) -> Result<(), CommandFault> {
             let info = Info::new(length, symbol, block).map_err(CommandFault::BadInformation)?;
             add_information(rt, out, key, info, j)
         }
-        Line::Join { out, inputs } => join(rt, out, inputs.as_slice()),
+        Line::Join {
+            out,
+            sender,
+            inputs,
+        } => join(rt, out, sender, inputs.as_slice()),
         Line::Merge { out, a, b } => merge(rt, out, a, b),
         Line::Carousel {
             out,
@@ -143,7 +147,7 @@ fn add_information(
 
 /// Creates the output once all inputs are open and their first bytes were read, and before they are
 /// read further. Where that cannot be, a fault of the inputs is told first.
-fn join(rt: &HostRuntime, out: &str, paths: &[&str]) -> Result<(), CommandFault>
+fn join(rt: &HostRuntime, out: &str, sender: Sender, paths: &[&str]) -> Result<(), CommandFault>
     requires { length paths.now ≤ 64 }
 {
     let mut files = Vec::new(rt.alloc());
@@ -151,11 +155,11 @@ fn join(rt: &HostRuntime, out: &str, paths: &[&str]) -> Result<(), CommandFault>
     let mut output = match create_output(rt, out, &files) {
         Ok(output) => output,
         Err(fault) => {
-            join_sources(rt.alloc(), inputs, &mut nothing())?;
+            join_sources(rt.alloc(), sender, inputs, &mut nothing())?;
             return Err(fault);
         }
     };
-    let joined = join_sources(rt.alloc(), inputs, &mut output);
+    let joined = join_sources(rt.alloc(), sender, inputs, &mut output);
     let (counts, report) = finish(output, joined)?;
     tell_count(rt, report, "datagrams", counts.datagrams)?;
     tell_count(rt, report, "refused", counts.refused)?;

@@ -8,7 +8,7 @@ use Rattle.flutejoin.proofs.held_file.read_file.Given as goal
 abbrev pub invariant-loop-file : goal.invariant-loop-file
 invariant-loop-file g l = record {
   so_far : (datagrams : List (List ℕ)) × FileSofar l.reader.max_records (g.R.Source.unread l.fn.source) (g.R.Source.unread l.reader.source.now) l.reader.stage datagrams
-      × HoldsDatagrams l.file datagrams;
+      × HoldsDatagrams l.fn.sender l.file datagrams;
   limit : l.reader.max_records ≡ 16777216;
   same_source : l.reader.source.ghost_name ≡ l.initial.reader.source.ghost_name;
   failures : g.R.Source.failures l.reader.source.now ≡ g.R.Source.failures l.fn.source;

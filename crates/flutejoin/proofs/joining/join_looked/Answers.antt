@@ -17,50 +17,50 @@ loop-file-preserved g c =
 
 pub join_replaced-requires-clause-new : goal.join_replaced-requires-clause-new
 join_replaced-requires-clause-new g c =
-    all_new g.R.Source.unread g.R.Source.failures _ c.args.inputs.now c.args.files.now c.deref_mut.result.now
-    (stands_of g.R.Source.unread g.R.Source.failures c.args.inputs.now c.deref_mut.result.now c.loop-file.invariant (omega (arith, c.loop-file-test.false)) c.requires.ready c.deref_mut.ensures.value)
+    all_new 0 g.R.Source.unread g.R.Source.failures _ c.args.inputs.now c.args.files.now c.deref_mut.result.now
+    (stands_of 0 g.R.Source.unread g.R.Source.failures c.args.inputs.now c.deref_mut.result.now c.loop-file.invariant (omega (arith, c.loop-file-test.false)) c.requires.ready c.deref_mut.ensures.value)
 
 pub join_replaced-requires-clause-few : goal.join_replaced-requires-clause-few
 join_replaced-requires-clause-few g c =
     let few =
-    all_few g.R.Source.unread g.R.Source.failures _ c.args.inputs.now c.args.files.now c.deref_mut.result.now
-    (stands_of g.R.Source.unread g.R.Source.failures c.args.inputs.now c.deref_mut.result.now c.loop-file.invariant (omega (arith, c.loop-file-test.false)) c.requires.ready c.deref_mut.ensures.value) in
+    all_few 0 g.R.Source.unread g.R.Source.failures _ c.args.inputs.now c.args.files.now c.deref_mut.result.now
+    (stands_of 0 g.R.Source.unread g.R.Source.failures c.args.inputs.now c.deref_mut.result.now c.loop-file.invariant (omega (arith, c.loop-file-test.false)) c.requires.ready c.deref_mut.ensures.value) in
     omega (arith, few, c.requires.few)
 
 pub returns-in-Ok-clause-joined : goal.returns-in-Ok-clause-joined
-returns-in-Ok-clause-joined g c = λ contents looked.
+returns-in-Ok-clause-joined g c = λ sender contents looked.
     let stands =
-    stands_of g.R.Source.unread g.R.Source.failures c.args.inputs.now c.deref_mut.result.now c.loop-file.invariant (omega (arith, c.loop-file-test.false)) c.requires.ready c.deref_mut.ensures.value in
-    joins_looked g.R.Source.unread g.R.Source.failures _ c.args.inputs.now c.args.files.now c.deref_mut.result.now contents c.in-Ok.joined _ _ stands c.requires.ready.as_many looked c.in-Ok.ensures.merged
+    stands_of sender g.R.Source.unread g.R.Source.failures c.args.inputs.now c.deref_mut.result.now c.loop-file.invariant (omega (arith, c.loop-file-test.false)) c.requires.ready c.deref_mut.ensures.value in
+    joins_looked sender g.R.Source.unread g.R.Source.failures _ c.args.inputs.now c.args.files.now c.deref_mut.result.now contents c.in-Ok.joined _ _ stands c.requires.ready.as_many looked c.in-Ok.ensures.merged
 
 pub returns-in-Ok-clause-none_failed : goal.returns-in-Ok-clause-none_failed
 returns-in-Ok-clause-none_failed g c =
     let many = others_many c.deref_mut.result.now c.loop-file.invariant (omega (arith, c.loop-file-test.false)) c.deref_mut.ensures.value ∙ c.requires.ready.as_many in
-    none_failed g.R.Source.unread g.R.Source.failures (listed_behaviour (λ s. fact_in s.held) (λ s. s.walk) (λ _. Unit {0})) c.args.inputs.now c.join_replaced.new.inputs c.deref_mut.result.now c.join_replaced.new.others c.join_replaced.auto.inputs many (c.join_replaced.auto.others ∙ many) c.in-Ok.ensures.failures
+    none_failed 0 g.R.Source.unread g.R.Source.failures (listed_behaviour (λ s. fact_in s.held) (λ s. s.walk) (λ _. Unit {0})) c.args.inputs.now c.join_replaced.new.inputs c.deref_mut.result.now c.join_replaced.new.others c.join_replaced.auto.inputs many (c.join_replaced.auto.others ∙ many) c.in-Ok.ensures.failures
 
 pub overflow_add-fault : goal.overflow_add-fault
 overflow_add-fault g c =
     let stands =
-    stands_of g.R.Source.unread g.R.Source.failures c.args.inputs.now c.deref_mut.result.now c.loop-file.invariant (omega (arith, c.loop-file-test.false)) c.requires.ready c.deref_mut.ensures.value in
-    let within = first_within g.R.Source.unread g.R.Source.failures _ c.args.inputs.now c.args.files.now c.deref_mut.result.now _ c.in-Err.fault stands c.in-Err.ensures.first in
+    stands_of 0 g.R.Source.unread g.R.Source.failures c.args.inputs.now c.deref_mut.result.now c.loop-file.invariant (omega (arith, c.loop-file-test.false)) c.requires.ready c.deref_mut.ensures.value in
+    let within = first_within 0 g.R.Source.unread g.R.Source.failures _ c.args.inputs.now c.args.files.now c.deref_mut.result.now _ c.in-Err.fault stands c.in-Err.ensures.first in
     omega (arith, within, c.requires.few)
 
 pub returns-clause-failed : goal.returns-clause-failed
-returns-clause-failed g c = λ contents looked.
+returns-clause-failed g c = λ sender contents looked.
     let stands =
-    stands_of g.R.Source.unread g.R.Source.failures c.args.inputs.now c.deref_mut.result.now c.loop-file.invariant (omega (arith, c.loop-file-test.false)) c.requires.ready c.deref_mut.ensures.value in
+    stands_of sender g.R.Source.unread g.R.Source.failures c.args.inputs.now c.deref_mut.result.now c.loop-file.invariant (omega (arith, c.loop-file-test.false)) c.requires.ready c.deref_mut.ensures.value in
     rw c.load_fault.ensures
-    (first_fails g.R.Source.unread g.R.Source.failures _ c.args.inputs.now c.args.files.now c.deref_mut.result.now contents _ c.in-Err.fault stands c.requires.ready.as_many looked c.in-Err.ensures.first)
+    (first_fails sender g.R.Source.unread g.R.Source.failures _ c.args.inputs.now c.args.files.now c.deref_mut.result.now contents _ c.in-Err.fault stands c.requires.ready.as_many looked c.in-Err.ensures.first)
 
 pub returns-clause-names : goal.returns-clause-names
 returns-clause-names g c =
     let stands =
-    stands_of g.R.Source.unread g.R.Source.failures c.args.inputs.now c.deref_mut.result.now c.loop-file.invariant (omega (arith, c.loop-file-test.false)) c.requires.ready c.deref_mut.ensures.value in
+    stands_of 0 g.R.Source.unread g.R.Source.failures c.args.inputs.now c.deref_mut.result.now c.loop-file.invariant (omega (arith, c.loop-file-test.false)) c.requires.ready c.deref_mut.ensures.value in
     rw c.load_fault.ensures
-    (names_one (length c.args.inputs.now) c.in-Err.fault.number c.in-Err.fault.fault (first_within g.R.Source.unread g.R.Source.failures _ c.args.inputs.now c.args.files.now c.deref_mut.result.now _ c.in-Err.fault stands c.in-Err.ensures.first))
+    (names_one (length c.args.inputs.now) c.in-Err.fault.number c.in-Err.fault.fault (first_within 0 g.R.Source.unread g.R.Source.failures _ c.args.inputs.now c.args.files.now c.deref_mut.result.now _ c.in-Err.fault stands c.in-Err.ensures.first))
 
 pub returns-clause-read_failed : goal.returns-clause-read_failed
 returns-clause-read_failed g c = λ number e.
     let stands =
-    stands_of g.R.Source.unread g.R.Source.failures c.args.inputs.now c.deref_mut.result.now c.loop-file.invariant (omega (arith, c.loop-file-test.false)) c.requires.ready c.deref_mut.ensures.value in
-    read_failed g.R.Source.unread g.R.Source.failures _ c.args.inputs.now c.join_replaced.new.inputs c.args.files.now c.deref_mut.result.now c.join_replaced.new.others c.in-Err.fault stands c.in-Err.ensures.first number (sym c.load_fault.ensures ∙ e)
+    stands_of 0 g.R.Source.unread g.R.Source.failures c.args.inputs.now c.deref_mut.result.now c.loop-file.invariant (omega (arith, c.loop-file-test.false)) c.requires.ready c.deref_mut.ensures.value in
+    read_failed 0 g.R.Source.unread g.R.Source.failures _ c.args.inputs.now c.join_replaced.new.inputs c.args.files.now c.deref_mut.result.now c.join_replaced.new.others c.in-Err.fault stands c.in-Err.ensures.first number (sym c.load_fault.ensures ∙ e)

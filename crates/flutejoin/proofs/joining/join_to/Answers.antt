@@ -26,21 +26,21 @@ returns-in_err-joined-clause-read_failed g c =
 
 pub returns-then-not-joined-clause-failed : goal.returns-then-not-joined-clause-failed
 returns-then-not-joined-clause-failed g c = λ contents inputs.
-    let looked = subst (λ l. AreLooked g.R.Source.unread c.look_at_all.new.inputs l contents) (sym c.deref.ensures.value) (c.in_ok-looked.ensures.looked contents inputs) in
-    let joined = c.in_ok-joined.ensures.joined contents looked in
+    let looked = subst (λ l. AreLooked g.R.Source.unread c.args.sender c.look_at_all.new.inputs l contents) (sym c.deref.ensures.value) (c.in_ok-looked.ensures.looked contents inputs) in
+    let joined = c.in_ok-joined.ensures.joined c.args.sender contents looked in
     let many = ap length c.deref.ensures.value ∙ c.in_ok-looked.ensures.ready.as_many in
     over_together contents c.deref.result.now c.in_ok-joined.joined _ _ (known_of g.R.Source.unread g.R.Source.failures c.look_at_all.new.inputs c.deref.result.now contents many looked) joined (not_true c.in_ok-joined.joined.within c.if-not-joined.true)
 
 pub returns-then-joined-clause-failed : goal.returns-then-joined-clause-failed
 returns-then-joined-clause-failed g c = λ contents inputs.
-    let looked = subst (λ l. AreLooked g.R.Source.unread c.look_at_all.new.inputs l contents) (sym c.deref.ensures.value) (c.in_ok-looked.ensures.looked contents inputs) in
-    let joined = c.in_ok-joined.ensures.joined contents looked in
+    let looked = subst (λ l. AreLooked g.R.Source.unread c.args.sender c.look_at_all.new.inputs l contents) (sym c.deref.ensures.value) (c.in_ok-looked.ensures.looked contents inputs) in
+    let joined = c.in_ok-joined.ensures.joined c.args.sender contents looked in
     not_written contents c.deref.result.now c.in_ok-joined.joined _ _ joined (not_false c.in_ok-joined.joined.within c.if-not-joined.false)
 
 pub returns-clause-joined : goal.returns-clause-joined
 returns-clause-joined g c = λ contents inputs.
-    let looked = subst (λ l. AreLooked g.R.Source.unread c.look_at_all.new.inputs l contents) (sym c.deref.ensures.value) (c.in_ok-looked.ensures.looked contents inputs) in
-    let joined = c.in_ok-joined.ensures.joined contents looked in
+    let looked = subst (λ l. AreLooked g.R.Source.unread c.args.sender c.look_at_all.new.inputs l contents) (sym c.deref.ensures.value) (c.in_ok-looked.ensures.looked contents inputs) in
+    let joined = c.in_ok-joined.ensures.joined c.args.sender contents looked in
     let sums = c.in_ok-looked.ensures.sums in
     joins_to contents c.deref.result.now c.in_ok-joined.joined c.in_ok-looked.looked.datagrams c.in_ok-looked.looked.refused _ _ joined (not_false c.in_ok-joined.joined.within c.if-not-joined.false) c.if-joined.false
     (sums.datagrams ∙ ap (sum_by datagrams_of) (sym c.deref.ensures.value)) (sums.refused ∙ ap (sum_by refused_of) (sym c.deref.ensures.value))

@@ -10,26 +10,26 @@ returns-in_err-file-clause-failed g c = λ contents inputs.
     let e = err_from_is_err_and c.from_residual.result c.from_residual.ensures.1 in
     let within : c.loop-k.k < length c.loop-k.inputs = omega (arith, c.loop-k.auto.inputs, c.loop-k-test.true) in
     rw (e.1, e.2)
-    (look_fails g.R.Source.unread g.R.Source.failures c.loop-k.invariant _ (slice_get-get_or c.loop-k.inputs c.loop-k.k c.index-inputs-k.result within) c.in_err-file.field-0.0 c.in_err-file.ensures.failed contents inputs)
+    (look_fails c.args.sender g.R.Source.unread g.R.Source.failures c.loop-k.invariant _ (slice_get-get_or c.loop-k.inputs c.loop-k.k c.index-inputs-k.result within) c.in_err-file.field-0.0 c.in_err-file.ensures.failed contents inputs)
 
 pub returns-in_err-file-clause-names : goal.returns-in_err-file-clause-names
 returns-in_err-file-clause-names g c =
     let e = err_from_is_err_and c.from_residual.result c.from_residual.ensures.1 in
     let within : c.loop-k.k < length c.loop-k.inputs = omega (arith, c.loop-k.auto.inputs, c.loop-k-test.true) in
     rw (e.1, e.2)
-    (look_names g.R.Source.unread g.R.Source.failures c.loop-k.invariant _ (slice_get-get_or c.loop-k.inputs c.loop-k.k c.index-inputs-k.result within) c.in_err-file.field-0.0 c.in_err-file.ensures.names)
+    (look_names c.args.sender g.R.Source.unread g.R.Source.failures c.loop-k.invariant _ (slice_get-get_or c.loop-k.inputs c.loop-k.k c.index-inputs-k.result within) c.in_err-file.field-0.0 c.in_err-file.ensures.names)
 
 pub returns-in_err-file-clause-no_sink : goal.returns-in_err-file-clause-no_sink
 returns-in_err-file-clause-no_sink g c =
     let e = err_from_is_err_and c.from_residual.result c.from_residual.ensures.1 in
-    rw (e.1, e.2) (look_reads g.R.Source.unread g.R.Source.failures c.loop-k.k c.in_err-file.field-0.0 c.in_err-file.ensures.names)
+    rw (e.1, e.2) (look_reads c.args.sender g.R.Source.unread g.R.Source.failures c.loop-k.k c.in_err-file.field-0.0 c.in_err-file.ensures.names)
 
 pub returns-in_err-file-clause-one_failed : goal.returns-in_err-file-clause-one_failed
 returns-in_err-file-clause-one_failed g c =
     let e = err_from_is_err_and c.from_residual.result c.from_residual.ensures.1 in
     let within : c.loop-k.k < length c.loop-k.inputs = omega (arith, c.loop-k.auto.inputs, c.loop-k-test.true) in
     rw (e.1, e.2)
-    (look_failed g.R.Source.unread g.R.Source.failures c.loop-k.invariant _ (slice_get-get_or c.loop-k.inputs c.loop-k.k c.index-inputs-k.result within) c.look_at.new.input c.in_err-file.field-0.0 c.in_err-file.ensures.names c.in_err-file.ensures.failures)
+    (look_failed c.args.sender g.R.Source.unread g.R.Source.failures c.loop-k.invariant _ (slice_get-get_or c.loop-k.inputs c.loop-k.k c.index-inputs-k.result within) c.look_at.new.input c.in_err-file.field-0.0 c.in_err-file.ensures.names c.in_err-file.ensures.failures)
 
 pub returns-in_err-add-clause-failed : goal.returns-in_err-add-clause-failed
 returns-in_err-add-clause-failed g c = λ contents inputs.
@@ -39,9 +39,9 @@ returns-in_err-add-clause-failed g c = λ contents inputs.
 pub loop-k-preserved : goal.loop-k-preserved
 loop-k-preserved g c =
     let within : c.loop-k.k < length c.loop-k.inputs = omega (arith, c.loop-k.auto.inputs, c.loop-k-test.true) in
-    looked_more g.R.Source.unread g.R.Source.failures c.loop-k.invariant _ (slice_get-get_or c.loop-k.inputs c.loop-k.k c.index-inputs-k.result within) c.look_at.new.input c.in_ok-file.file c.add.new.self
+    looked_more c.args.sender g.R.Source.unread g.R.Source.failures c.loop-k.invariant _ (slice_get-get_or c.loop-k.inputs c.loop-k.k c.index-inputs-k.result within) c.look_at.new.input c.in_ok-file.file c.add.new.self
     c.in_ok-add.ensures.added c.in_ok-add.ensures.datagrams c.in_ok-add.ensures.refused c.in_ok-file.ensures.few c.in_ok-file.ensures.ready c.in_ok-file.ensures.looked c.in_ok-file.ensures.failures
 
 pub returns-clause-looked : goal.returns-clause-looked
 returns-clause-looked g c =
-    looked_all g.R.Source.unread g.R.Source.failures c.loop-k.invariant (omega (arith, c.loop-k.auto.inputs, c.loop-k-test.false))
+    looked_all c.args.sender g.R.Source.unread g.R.Source.failures c.loop-k.invariant (omega (arith, c.loop-k.auto.inputs, c.loop-k-test.false))

@@ -1,19 +1,12 @@
-use Rattle.std.proofs.Common.{◌≡◌, ℕ, List, [], ap, sym, ◌∙◌, lit<}
+use Rattle.std.proofs.Common.{◌≡◌, [], lit<}
 use Rattle.std.proofs.lemmas.Result.{err_from_is_err_and}
 use Rattle.flute_join.proofs.Below.{ok_is_not_err}
-use Rattle.flute_wire.specs.Content.{Content}
-use Rattle.flute_wire.specs.Datagram.{Spells}
-use Rattle.flute_wire.specs.Facts.{facts_of}
 use Rattle.flute_wire.specs.Reading.{facts}
 use Rattle.flute_wire.proofs.Computed.{facts-Spells, facts-refused}
 use Rattle.flute_store.proofs.Counting.{not_over_more}
 use Rattle.flute_store.proofs.Refused.{full_fault, no_datagram_fault, not_full}
 use Rattle.flute_store.proofs.Spelled.{spelled-size}
 use Rattle.flute_store.proofs.store.Store.take.Goals as goal
-
--- the facts of a datagram that is taken as of this sender
-taken : (d : List ℕ) (p : Content) (sender : ℕ) → Spells d p → sender ≡ 0 → facts 0 d ≡ facts_of sender p
-taken d p sender s e = facts-Spells 0 d p s ∙ ap (λ n. facts_of n p) (sym e)
 
 pub take_packet-requires : goal.take_packet-requires
 take_packet-requires g c = (lit< tt, spelled-size c.args.datagram.now c.in-Ok.packet c.in-Ok.ensures.spelled)
@@ -26,28 +19,28 @@ returns-in_err-take_packet-in-Ok-clause-refused g c =
 pub returns-in_err-take_packet-in-Ok-clause-full : goal.returns-in_err-take_packet-in-Ok-clause-full
 returns-in_err-take_packet-in-Ok-clause-full g c =
     let refused = err_from_is_err_and c.from_residual.result c.from_residual.ensures.1 in
-    rw (refused.1, refused.2, taken c.args.datagram.now c.in-Ok.packet c.new.result c.in-Ok.ensures.spelled c.new.ensures) (full_fault c.in_err-take_packet-in-Ok.field-0.0 _ c.in_err-take_packet-in-Ok.ensures.full)
+    rw (refused.1, refused.2, facts-Spells c.args.sender c.args.datagram.now c.in-Ok.packet c.in-Ok.ensures.spelled) (full_fault c.in_err-take_packet-in-Ok.field-0.0 _ c.in_err-take_packet-in-Ok.ensures.full)
 
 pub returns-in_err-take_packet-in-Ok-clause-held : goal.returns-in_err-take_packet-in-Ok-clause-held
 returns-in_err-take_packet-in-Ok-clause-held g c =
-    rw (taken c.args.datagram.now c.in-Ok.packet c.new.result c.in-Ok.ensures.spelled c.new.ensures) (λ p s h. let e = c.in_err-take_packet-in-Ok.ensures.held h in cc)
+    rw (facts-Spells c.args.sender c.args.datagram.now c.in-Ok.packet c.in-Ok.ensures.spelled) (λ p s h. let e = c.in_err-take_packet-in-Ok.ensures.held h in cc)
 
 pub returns-in_ok-take_packet-in-Ok-clause-ok : goal.returns-in_ok-take_packet-in-Ok-clause-ok
-returns-in_ok-take_packet-in-Ok-clause-ok g c = rw (taken c.args.datagram.now c.in-Ok.packet c.new.result c.in-Ok.ensures.spelled c.new.ensures) c.in_ok-take_packet-in-Ok.ensures.ok
+returns-in_ok-take_packet-in-Ok-clause-ok g c = rw (facts-Spells c.args.sender c.args.datagram.now c.in-Ok.packet c.in-Ok.ensures.spelled) c.in_ok-take_packet-in-Ok.ensures.ok
 
 pub returns-in_ok-take_packet-in-Ok-clause-number : goal.returns-in_ok-take_packet-in-Ok-clause-number
-returns-in_ok-take_packet-in-Ok-clause-number g c = rw (taken c.args.datagram.now c.in-Ok.packet c.new.result c.in-Ok.ensures.spelled c.new.ensures) c.in_ok-take_packet-in-Ok.ensures.number
+returns-in_ok-take_packet-in-Ok-clause-number g c = rw (facts-Spells c.args.sender c.args.datagram.now c.in-Ok.packet c.in-Ok.ensures.spelled) c.in_ok-take_packet-in-Ok.ensures.number
 
 pub returns-in_ok-take_packet-in-Ok-clause-full : goal.returns-in_ok-take_packet-in-Ok-clause-full
 returns-in_ok-take_packet-in-Ok-clause-full g c =
-    rw (taken c.args.datagram.now c.in-Ok.packet c.new.result c.in-Ok.ensures.spelled c.new.ensures) (not_full _ _ _ _ _ c.in_ok-take_packet-in-Ok.ensures.full)
+    rw (facts-Spells c.args.sender c.args.datagram.now c.in-Ok.packet c.in-Ok.ensures.spelled) (not_full _ _ _ _ _ c.in_ok-take_packet-in-Ok.ensures.full)
 
 pub returns-in-Err-clause-full : goal.returns-in-Err-clause-full
 returns-in-Err-clause-full g c =
-    let none : facts 0 c.args.datagram.now ≡ [] = facts-refused 0 c.args.datagram.now c.in-Err.refusal c.in-Err.ensures.refused.applies in
+    let none : facts c.args.sender c.args.datagram.now ≡ [] = facts-refused c.args.sender c.args.datagram.now c.in-Err.refusal c.in-Err.ensures.refused.applies in
     rw (← c.self.view_is) (
       (λ e. cc),
-      (λ over. absurd (not_over_more g.row.SESSIONS g.row.OBJECTS c.self.inside.sessions c.self.invariant (facts 0 c.args.datagram.now) none over)),
+      (λ over. absurd (not_over_more g.row.SESSIONS g.row.OBJECTS c.self.inside.sessions c.self.invariant (facts c.args.sender c.args.datagram.now) none over)),
     )
 
 pub returns-in-Err-clause-held : goal.returns-in-Err-clause-held

@@ -23,7 +23,7 @@ returns-clause-taken c =
           let refuses = (c.take.ensures.refused w.in-Err-Datagram.field-0-0).0 (w.in-Err-Datagram.is ∙ ap Err w.in-Err-Datagram.field-0-is) in
           rw w.self-is
           (record {
-            content = refused_same c.args.self.now.store c.take.new.self d w.in-Err-Datagram.field-0-0 refuses.applies w.in-Err-Datagram.ensures.err;
+            content = refused_same c.args.sender c.args.self.now.store c.take.new.self d w.in-Err-Datagram.field-0-0 refuses.applies w.in-Err-Datagram.ensures.err;
             datagrams = refl;
             refused = rw (is_refused-yes d w.in-Err-Datagram.field-0-0 one refuses.applies) refl;
           })

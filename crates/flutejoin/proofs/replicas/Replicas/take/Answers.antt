@@ -30,4 +30,4 @@ pub returns-clause-sure : goal.returns-clause-sure
 returns-clause-sure g c = λ needs.
     c.take.ensures.sure (cells_at c.args.self.now.contents c.args.replica c.in_ok-place.place _ _ _
     (held_at _ _ _ _ _ c.index_mut-target.result.now c.self.view_is c.in_ok-place.ensures.ok.1 c.index_mut-target.ensures.value)
-    c.in_ok-place.ensures.ok.0 (ap (facts 0) c.as_slice.ensures.bytes) needs.1)
+    c.in_ok-place.ensures.ok.0 (ap (facts c.args.sender) c.as_slice.ensures.bytes) needs.1)
