@@ -46,3 +46,14 @@ cmp all other && echo "all and other are equal"
 say "The file comes out whole"
 run extract -o out --tsi 7 --toi 1 all
 cmp file out && echo "file and out are equal"
+
+say "Another sender, 10.0.0.2, has a session 7 and an object 1 too: named by its address, it is another object"
+awk 'BEGIN { for (i = 5000; i >= 1; i--) printf "%07d\n", i }' > other_file
+run carousel -o other_sent --tsi 7 --toi 1 --symbol 1000 --block 16 other_file
+run join -o of_second --source 0a000002 other_sent
+run merge -o of_both all of_second
+run gaps of_both
+run extract -o other_out --source 0a000002 --tsi 7 --toi 1 of_both
+cmp other_file other_out && echo "other_file and other_out are equal"
+run extract -o out --tsi 7 --toi 1 of_both
+cmp file out && echo "file and out are equal"

@@ -686,6 +686,56 @@ check 'info of one session too many, of another sender' 1 '' 'full'
 run join -o got8 many world
 check 'join of one session too many, of another sender' 1 '' 'full'
 
+# join: the sender of each datagram file, and of no journal
+file hello_v4 "$header2 $(version2 $v4 "$info $first $last") FF 0000000000000003"
+file hello_both "$header2 $hello_of_zero $(version2 $v4 "$info $first $last") FF 0000000000000006"
+for source in $v4 $v4_lower 0A000001 0a000001; do
+    for words in "--source $source" "--source=$source"; do
+        : > got
+        run join -o got $words sent
+        check "join with $words" 0 'datagrams 2
+refused 0
+entries 3' ''
+        same "the journal of the sender of $words" got hello_v4
+    done
+done
+run join -o got --source $v4 sent sent
+check 'join of two datagram files of one sender' 0 'datagrams 4
+refused 0
+entries 3' ''
+same 'the journal of two datagram files of one sender' got hello_v4
+for inputs in 'sent whole' 'whole sent' 'whole2 sent' 'sent whole2 sent' 'hello_both sent' 'hello_v4 whole'; do
+    : > got
+    run join -o got --source 0a000001 $inputs
+    check "join of datagrams of a sender and journals: $inputs" 0 - ''
+    same "journals are of their own senders: $inputs" got hello_both
+done
+run join -o got --source 0a000001 whole
+check 'join of a journal alone, with a source' 0 'datagrams 0
+refused 0
+entries 3' ''
+same 'a journal is not changed by a source' got whole2
+run join -o got --source $zero sent
+check 'join of the sender zero' 0 'datagrams 2
+refused 0
+entries 3' ''
+same 'the journal of the sender that is zero' got whole2
+# Two senders with one TSI.
+run join -o of_first --source 0a000001 sent
+run join -o of_second --source 0a000002 sent
+run merge -o of_both of_first of_second
+check 'merge of two senders with one TSI' 0 'entries 6' ''
+run gaps of_both
+check 'two senders with one TSI are no conflict' 0 "source $v4_lower session 7 object 1 whole 5
+source 00000000000000000000ffff0a000002 session 7 object 1 whole 5" ''
+for source in 0a000001 0a000002; do
+    run extract -o got --source $source --tsi 7 --toi 1 of_both
+    check "extract of the sender $source of two" 0 'bytes 5' ''
+    same "the object of the sender $source of two" got content
+done
+run extract -o got8 --tsi 7 --toi 1 of_both
+check 'extract of the sender zero where it sent nothing' 1 '' 'no object'
+
 # A source that is none: told behind the numbers and before all else, and nothing is made.
 printf before > kept
 for source in '' A 0 0A00001 0A0000010 0A00 0000000000000000 ${v4%?} ${v4}0 ${v4}00 0G000001 0g000001 ${v4%?}G -A000001 -0A00001 -0A000001 \
@@ -697,6 +747,10 @@ for source in '' A 0 0A00001 0A0000010 0A00 0000000000000000 ${v4%?} ${v4}0 ${v4
         check "extract to $output with the source '$source' before the key and the input" 2 '' 'bad source'
         run info -o $output --source "$source" --tsi 7 --toi 1 --length 5 --symbol 4 --block 2 three
         check "info to $output with the source '$source'" 2 '' 'bad source'
+        run join -o $output --source "$source" sent three
+        check "join to $output with the source '$source'" 2 '' 'bad source'
+        run join -o $output "--source=$source" missing
+        check "join to $output with the source '$source' before the input" 2 '' 'bad source'
         run info -o $output "--source=$source" --tsi 7 --toi 1 --fdt 3 --length 5 --symbol 0 --block 2 missing
         check "info to $output with the source '$source' before the key, the information and the input" 2 '' 'bad source'
     done
@@ -721,6 +775,10 @@ for name in tsi toi fdt; do
 done
 run extract -o kept --source 0 --tsi x --toi 0 missing
 check 'a bad number before a bad source and a bad key' 2 '' 'bad number: --tsi'
+run join -o kept --source 0 $(seq 65)
+check 'a bad source before too many inputs' 2 '' 'bad source'
+run join -o kept --source 0A000001 $(seq 65)
+check 'too many inputs with a good source' 2 '' 'too many inputs'
 
 # told_first NAME TEXT: the parser refused the last run, and its text begins with this line
 told_first() {
@@ -728,7 +786,7 @@ told_first() {
     head -n 1 text > err
     check "$1" 2 '' "error: $2"
 }
-for words in 'show three' 'gaps three' 'merge -o kept three three' 'join -o kept three' "packet $symbol" \
+for words in 'show three' 'gaps three' 'merge -o kept three three' "packet $symbol" \
     'carousel -o kept --tsi 7 --toi 1 --symbol 4 --block 2 content'; do
     run $words --source 0A000001
     told_first "a source behind $words" "unexpected argument '--source' found"
@@ -739,6 +797,8 @@ run extract -o kept --source 0A000001 --tsi 7 --toi 1 --source 0A000001 three
 told_first 'extract with two sources' "the argument '--source <HEX>' cannot be used multiple times"
 run info -o kept --source 0A000001 --tsi 7 --toi 1 --length 5 --symbol 4 --block 2 --source 0A000002 three
 told_first 'info with two sources' "the argument '--source <HEX>' cannot be used multiple times"
+run join -o kept --source 0A000001 --source 0A000002 sent
+told_first 'join with two sources' "the argument '--source <HEX>' cannot be used multiple times"
 run extract -o kept --tsi 7 --toi 1 three --source
 told_first 'a source without a value' "a value is required for '--source <HEX>' but none was supplied"
 [ "$(cat kept)" = before ] && [ ! -e kept.partial ] || check 'the output that was there before bad sources' x - -

@@ -1,6 +1,7 @@
 //! Worked examples of what a store holds, and each public call once.
 
 mod objects;
+mod senders;
 
 use flute_join::JoinRefusal;
 use flute_parts::{
@@ -37,7 +38,7 @@ fn file() -> Option<Key> {
 fn taken(alloc: Global, datagrams: &[&str]) -> Result<Shelf, Fail> {
     let mut store = Store::new(alloc);
     for hex in datagrams {
-        store.take(alloc, &bytes(alloc, hex)?)?;
+        store.take(alloc, Sender::new(0), &bytes(alloc, hex)?)?;
     }
     Ok(store)
 }
@@ -147,7 +148,11 @@ fn senders_are_told_apart(rt: HostRuntime) -> Result<(), Fail> {
             id: LAST,
         },
     )?;
-    store.take(rt.alloc(), &bytes(rt.alloc(), FIRST_SYMBOL)?)?;
+    store.take(
+        rt.alloc(),
+        Sender::new(0),
+        &bytes(rt.alloc(), FIRST_SYMBOL)?,
+    )?;
     let held = [
         FactRef::Symbol {
             key,
@@ -179,7 +184,7 @@ fn a_full_store(rt: HostRuntime) -> Result<(), Fail> {
         (FIRST_SYMBOL, Ok(Taken { facts: 1 })),
     ] {
         let datagram = bytes(rt.alloc(), hex)?;
-        assert!(rt; store.take(rt.alloc(), &datagram) == wanted);
+        assert!(rt; store.take(rt.alloc(), Sender::new(0), &datagram) == wanted);
     }
     let full = store.add(rt.alloc(), &Fact::SymbolConflict { key, id: LAST });
     assert!(rt; full == Err(JoinRefusal::Full));
@@ -190,7 +195,7 @@ fn a_full_store(rt: HostRuntime) -> Result<(), Fail> {
 fn a_refused_datagram(rt: HostRuntime) -> Result<(), Fail> {
     let mut store = Shelf::new(rt.alloc());
     let datagram = bytes(rt.alloc(), REFUSED)?;
-    let result = store.take(rt.alloc(), &datagram);
+    let result = store.take(rt.alloc(), Sender::new(0), &datagram);
     assert!(rt; matches!(result, Err(TakeFault::Datagram(_))));
     assert!(rt; store.walk().next().is_none());
     Ok(())

@@ -9,7 +9,7 @@ use crate::vectors::{
 };
 use anyhow::Result;
 use flute_journal::ReadFault;
-use flute_parts::{Info, Key, MemorySink, MemorySource};
+use flute_parts::{Info, Key, MemorySink, MemorySource, Sender};
 use flutejoin::{
     BegunSource, Blob, BlobFault, CommandFault, FirstBytes, JoinCounts, MAX_INPUTS, at_input,
     info_to, join_inputs, join_sources,
@@ -53,7 +53,7 @@ impl Case for Inputs<'_> {
             return false;
         }
         refuse_after(alloc, granted);
-        let mut answer = join_inputs(alloc, self.inputs);
+        let mut answer = join_inputs(alloc, Sender::new(0), self.inputs);
         let refused = was_refused(alloc);
         if refused {
             let wants = matches!(
@@ -61,7 +61,7 @@ impl Case for Inputs<'_> {
                 Err(CommandFault::OutOfMemory | CommandFault::Input(_, ReadFault::OutOfMemory))
             );
             findings.expect(wants, "refused inputs answer otherwise");
-            answer = join_inputs(alloc, self.inputs);
+            answer = join_inputs(alloc, Sender::new(0), self.inputs);
         }
         let joined = answer.is_ok_and(|joined| {
             joined.datagrams == 2 && joined.refused == 0 && writes(&joined.store, self.journal)
@@ -84,7 +84,7 @@ impl Inputs<'_> {
         if sources.len() > MAX_INPUTS {
             return Err(CommandFault::TooManyInputs);
         }
-        join_sources(alloc, sources, sink)
+        join_sources(alloc, Sender::new(0), sources, sink)
     }
 }
 

@@ -8,7 +8,7 @@ use crate::vectors::{
     FIRST_NARROW, INFO_AND_FIRST, INFO_AND_LAST, OLD_OTHERS, REFUSED, WHOLE, WHOLE_OF_SENDER,
 };
 use anyhow::Result;
-use flute_parts::{Bytes, Fact, Key, MemorySource, SymbolId};
+use flute_parts::{Bytes, Fact, Key, MemorySource, Sender, SymbolId};
 use flute_store::Shelf;
 use flute_wire::Datagram;
 use flutejoin::{Blob, Replicas, RunFault, Step, StepFault, run};
@@ -191,7 +191,11 @@ impl Case for OneStep<'_> {
 
 fn take(alloc: Global, replica: u32, datagram: &[u8]) -> Result<Step> {
     let datagram = Datagram::new(alloc, datagram)?;
-    Ok(Step::Take { replica, datagram })
+    Ok(Step::Take {
+        replica,
+        sender: Sender::new(0),
+        datagram,
+    })
 }
 
 fn load(alloc: Global, replica: u32, journal: &[u8]) -> Result<Step> {

@@ -4,7 +4,7 @@ ghost use Rattle.std.specs.Prelude.{◌+◌, ◌*◌, ◌<◌, ◌^◌};
 use crate::findings::Findings;
 use crate::refusing::{refuse_all, was_refused};
 use flute_journal::{SaveFault, write_store};
-use flute_parts::{FactRef, Key, StdSink};
+use flute_parts::{FactRef, Key, Sender, StdSink};
 use flute_store::{ExtractFault, Gap, GapFault, Status, Store};
 use std::alloc::Global;
 
@@ -16,7 +16,7 @@ pub fn taken<const SESSIONS: u32, const OBJECTS: u32, const SYMBOLS: u32>(
     let mut store = Store::new(alloc);
     for datagram in datagrams {
         // A full store answers that it is.
-        let _answer = store.take(alloc, datagram);
+        let _answer = store.take(alloc, Sender::new(0), datagram);
     }
     store
 }

@@ -9,7 +9,7 @@ use crate::vectors::{
     FIRST, INFO_AND_FIRST, INFO_AND_LAST, JOURNAL_OF_FIRST, JOURNAL_OF_PART, JOURNAL_OF_SYMBOLS,
     LAST, OTHER_FILE, OTHER_SESSION, WHOLE,
 };
-use flute_parts::Key;
+use flute_parts::{Key, Sender};
 use flute_store::{Store, TakeFault, Taken};
 use std::alloc::Global;
 use std::io::Print;
@@ -53,7 +53,7 @@ fn take_with_refusal<const SESSIONS: u32, const OBJECTS: u32, const SYMBOLS: u32
     let old: Store<SESSIONS, OBJECTS, SYMBOLS> = taken(alloc, case.before);
     let mut store: Store<SESSIONS, OBJECTS, SYMBOLS> = taken(alloc, case.before);
     refuse_after(alloc, granted);
-    let mut answer = store.take(alloc, case.datagram);
+    let mut answer = store.take(alloc, Sender::new(0), case.datagram);
     let refused = was_refused(alloc);
     if refused {
         findings.expect(
@@ -62,14 +62,14 @@ fn take_with_refusal<const SESSIONS: u32, const OBJECTS: u32, const SYMBOLS: u32
         );
         findings.expect(are_same(&store, &old), "a refused take changed the store");
         expect_quiet(alloc, &store, case.key, findings);
-        answer = store.take(alloc, case.datagram);
+        answer = store.take(alloc, Sender::new(0), case.datagram);
     }
     findings.expect(answer == case.answer, "a take answers otherwise");
     findings.expect(writes(&store, case.journal), "a take leaves another store");
     expect_quiet(alloc, &store, case.key, findings);
     // What is held by now, or has no room, is looked at without memory.
     refuse_all(alloc);
-    let again = store.take(alloc, case.datagram);
+    let again = store.take(alloc, Sender::new(0), case.datagram);
     findings.expect(
         !was_refused(alloc),
         "a take of what is held asked for memory",

@@ -1,14 +1,14 @@
 //! Stores, written as journals and read.
 
 use super::*;
-use flute_parts::{MemorySink, MemorySource};
+use flute_parts::{MemorySink, MemorySource, Sender};
 use std::alloc::Global;
 use test_vectors::{INFO_AND_FIRST_SYMBOL, INFO_AND_LAST_SYMBOL, bytes, journals, written};
 
 /// A new store that took this datagram.
 fn taken(alloc: Global, datagram: &str) -> Result<Small, Fail> {
     let mut store = Store::new(alloc);
-    store.take(alloc, &bytes(alloc, datagram)?)?;
+    store.take(alloc, Sender::new(0), &bytes(alloc, datagram)?)?;
     Ok(store)
 }
 

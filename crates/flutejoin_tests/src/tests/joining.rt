@@ -2,9 +2,10 @@
 
 use super::*;
 use flute_journal::write_store;
-use flute_parts::{MemorySink, MemorySource, ShortSource};
+use flute_parts::{MemorySink, MemorySource, Sender, ShortSource};
 use flutejoin::{
     BegunSource, Blob, FirstBytes, JoinCounts, Joined, MAX_INPUTS, join_inputs, join_sources,
+    save_to,
 };
 use std::alloc::Global;
 use test_vectors::{bytes, journals, written};
@@ -28,7 +29,7 @@ fn inputs_in_memory_are_joined(rt: HostRuntime) -> Result<(), Fail> {
         blob(rt.alloc(), journals::DATAGRAMS)?,
         blob(rt.alloc(), journals::WHOLE)?,
     ];
-    let joined = join_inputs(rt.alloc(), &inputs)?;
+    let joined = join_inputs(rt.alloc(), Sender::new(0), &inputs)?;
     assert!(rt; is_joined(rt.alloc(), &joined, written::WHOLE)?);
     Ok(())
 }
@@ -40,8 +41,23 @@ fn inputs_of_two_senders_are_joined(rt: HostRuntime) -> Result<(), Fail> {
         blob(rt.alloc(), written::WHOLE_OF_SENDER)?,
         blob(rt.alloc(), journals::DATAGRAMS)?,
     ];
-    let joined = join_inputs(rt.alloc(), &inputs)?;
+    let joined = join_inputs(rt.alloc(), Sender::new(0), &inputs)?;
     assert!(rt; is_joined(rt.alloc(), &joined, written::OF_BOTH_SENDERS)?);
+    Ok(())
+}
+
+/// The datagrams are of the sender 10.0.0.1, and the journal is of version 1, so of the sender 0.
+#[test]
+fn datagrams_of_another_sender_are_joined(rt: HostRuntime) -> Result<(), Fail> {
+    let inputs = [
+        blob(rt.alloc(), journals::DATAGRAMS)?,
+        blob(rt.alloc(), journals::WHOLE)?,
+    ];
+    let joined = join_inputs(rt.alloc(), other_sender(), &inputs)?;
+    assert!(rt; is_joined(rt.alloc(), &joined, written::OF_BOTH_SENDERS)?);
+    assert!(rt; bytes(rt.alloc(), written::OF_BOTH_SENDERS)?.len() == 301);
+    let mut sink = MemorySink::new(rt.alloc());
+    assert!(rt; save_to(&joined.store, &mut sink)? == 6);
     Ok(())
 }
 
@@ -70,7 +86,7 @@ fn inputs_that_are_read_are_joined(rt: HostRuntime) -> Result<(), Fail> {
         return Err(Fail::from("too many inputs"));
     }
     let mut sink = MemorySink::new(rt.alloc());
-    let counts = join_sources(rt.alloc(), sources, &mut sink)?;
+    let counts = join_sources(rt.alloc(), Sender::new(0), sources, &mut sink)?;
     let wanted = JoinCounts {
         datagrams: 2,
         refused: 0,

@@ -2,7 +2,7 @@
 
 use super::*;
 use flute_journal::write_store;
-use flute_parts::{Bytes, Fact, MemorySink, MemorySource, SymbolId};
+use flute_parts::{Bytes, Fact, MemorySink, MemorySource, Sender, SymbolId};
 use flute_store::Shelf;
 use flute_wire::Datagram;
 use flutejoin::{Blob, Replicas, Step, run};
@@ -12,9 +12,18 @@ use test_vectors::{
     journals, written,
 };
 
+/// The datagram of the sender 0.
 pub fn take(alloc: Global, replica: u32, hex: &str) -> Result<Step, Fail> {
+    take_of(alloc, replica, Sender::new(0), hex)
+}
+
+fn take_of(alloc: Global, replica: u32, sender: Sender, hex: &str) -> Result<Step, Fail> {
     let datagram = Datagram::from_vec(bytes(alloc, hex)?)?;
-    Ok(Step::Take { replica, datagram })
+    Ok(Step::Take {
+        replica,
+        sender,
+        datagram,
+    })
 }
 
 fn load(alloc: Global, replica: u32, journal: &str) -> Result<Step, Fail> {
@@ -83,6 +92,24 @@ fn a_run_is_done(rt: HostRuntime) -> Result<(), Fail> {
     assert!(rt; replicas.count() == 3 && replicas.refused(0) == Some(0));
     let store = replicas.store(0).ok_or("a replica")?;
     assert!(rt; writes(rt.alloc(), store, written::WHOLE)?);
+    Ok(())
+}
+
+/// Two replicas that are each given a half of the file of the sender 10.0.0.1.
+#[test]
+fn a_run_of_another_sender_is_done(rt: HostRuntime) -> Result<(), Fail> {
+    let steps = [
+        take_of(rt.alloc(), 0, other_sender(), INFO_AND_FIRST_SYMBOL)?,
+        take_of(rt.alloc(), 1, other_sender(), INFO_AND_LAST_SYMBOL)?,
+        Step::Merge { into: 0, from: 1 },
+        Step::Merge { into: 1, from: 0 },
+        Step::Reopen { replica: 1 },
+    ];
+    let replicas = run::<64, 4096, 1_048_576>(rt.alloc(), 2, &steps)?;
+    let first = replicas.store(0).ok_or("a replica")?;
+    assert!(rt; writes(rt.alloc(), first, written::WHOLE_OF_SENDER)?);
+    let second = replicas.store(1).ok_or("a replica")?;
+    assert!(rt; writes(rt.alloc(), second, written::WHOLE_OF_SENDER)?);
     Ok(())
 }
 

@@ -2,14 +2,15 @@
 
 use super::*;
 use flute_parts::{Info, MemorySink, MemorySource};
-use flute_store::Shelf;
+use flute_store::{ExtractFault, Shelf};
 use flutejoin::{
-    CommandFault, check_whole, extract_to, gaps_to, info_to, load, merge_to, sender_of, show_to,
+    CommandFault, check_whole, extract_to, gaps_to, info_to, load, merge_to, save_to, sender_of,
+    show_to,
 };
 use std::alloc::Global;
 use test_vectors::journals::{END_4, HELL, INFO, LETTER_O, WHOLE};
 use test_vectors::written::{HEADER, KEY, OF_BOTH_SENDERS, WHOLE_OF_SENDER};
-use test_vectors::{bytes, bytes_of};
+use test_vectors::{INFO_AND_FIRST_SYMBOL, INFO_AND_LAST_SYMBOL, bytes, bytes_of};
 
 /// The key of the file of the sender 10.0.0.1, in hexadecimal.
 const KEY_OF_SENDER: &str =
@@ -66,6 +67,26 @@ fn an_object_is_of_its_sender_alone(rt: HostRuntime) -> Result<(), Fail> {
     assert!(rt; sink.as_slice() == "hello".as_bytes());
     let fault = check_whole(&shelf, &file().ok_or("a key")?);
     assert!(rt; matches!(fault, Err(CommandFault::NoObject)));
+    Ok(())
+}
+
+/// Both datagrams of the file of the sender 10.0.0.1.
+#[test]
+fn datagrams_of_another_sender_are_taken(rt: HostRuntime) -> Result<(), Fail> {
+    let mut shelf = Shelf::new(rt.alloc());
+    for hex in [INFO_AND_FIRST_SYMBOL, INFO_AND_LAST_SYMBOL] {
+        shelf.take(rt.alloc(), other_sender(), &bytes(rt.alloc(), hex)?)?;
+    }
+    let mut journal = MemorySink::new(rt.alloc());
+    assert!(rt; save_to(&shelf, &mut journal)? == 3);
+    assert!(rt; journal.as_slice() == bytes(rt.alloc(), WHOLE_OF_SENDER)?.as_slice());
+    let key = file_of(other_sender()).ok_or("a key")?;
+    let mut object = MemorySink::new(rt.alloc());
+    assert!(rt; shelf.extract(&key, &mut object) == Ok(5));
+    assert!(rt; object.as_slice() == "hello".as_bytes());
+    let mut nothing = MemorySink::new(rt.alloc());
+    let told = shelf.extract(&file().ok_or("a key")?, &mut nothing);
+    assert!(rt; told == Err(ExtractFault::NoObject));
     Ok(())
 }
 
