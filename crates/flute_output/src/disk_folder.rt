@@ -85,6 +85,15 @@ impl<'a, R: Files<File = File> + Print> DiskFolder<'a, R> {
         }
     }
 
+    /// Whether OUT is a regular file, or nothing yet: its bytes go to a file beside it first, and
+    /// what it took is dropped where it is not finished.
+    pub fn is_beside(&self) -> bool {
+        match self.place {
+            Place::Beside(_) => true,
+            Place::Direct(_) | Place::StandardOutput => false,
+        }
+    }
+
     // The open file, if there is one.
     fn opened(&self) -> io::Result<Target<'a, R>> {
         match &self.place {

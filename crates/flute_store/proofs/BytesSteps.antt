@@ -1,5 +1,5 @@
 -- The bytes that a walk gives.
-use Rattle.std.proofs.Common.{◌≡◌, ◌≢◌, ℕ, zero, suc, ◌-◌, ◌≤◌, List, [], ◌∷◌, ◌++◌, length, take, drop, Option, Some, None, refl, sym, ap, ◌∙◌, subst, arith, append_assoc}
+use Rattle.std.proofs.Common.{◌≡◌, ℕ, zero, suc, ◌+◌, ◌-◌, List, [], ◌∷◌, ◌++◌, length, take, drop, Option, Some, None, refl, sym, ap, ◌∙◌, subst, arith, append_assoc}
 use Rattle.std.specs.Prelude.{flat_map}
 use Rattle.std.specs.Io.KnownBytes.{Appends}
 use Rattle.std.proofs.KnownBytes.{Appends-trans}
@@ -18,14 +18,15 @@ use Rattle.flute_parts.proofs.Appended.{AppendsPart-first, AppendsPart-second}
 use Rattle.flute_store.specs.declared.gap.Reason.{Reason}
 use Rattle.flute_store.specs.declared.gap.Gap.{Gap}
 use Rattle.flute_store.specs.declared.object.Object.{Object}
-use Rattle.flute_store.specs.declared.gap_walk.Look.{Look}
-use Rattle.flute_store.specs.declared.gap_walk.Look.TheVariants.{End, BlockEnd, Passed, Fitting, Wanted, NotHeld}
-use Rattle.flute_store.specs.declared.gap_walk.GapWalk.{GapWalk}
+use Rattle.flute_store.specs.declared.gap_walk.Look.TheVariants.{End, BlockEnd, Passed, Fitting, Wanted}
+use Rattle.flute_store.specs.declared.held_walk.HeldWalk.{HeldWalk}
+use Rattle.flute_store.specs.declared.turn.Turn.{Turn}
 use Rattle.flute_store.specs.Objects.{Whole, object, bytes_of, runs, gaps, listed}
 use Rattle.flute_store.specs.Found.{symbol_fact, IsTold}
 use Rattle.flute_store.specs.Wanted.{wanted, blocks_from}
-use Rattle.flute_store.specs.GapWalk.{at_start, symbols_left, left, IsWalk, after_pass, after_take, after_begin, look_of}
-use Rattle.flute_store.specs.BytesLeft.{cell_bytes, found_bytes, held_bytes, bytes_left, KeepsBytes, IsNext, GivesFirst}
+use Rattle.flute_store.specs.GapWalk.{Walk, at_start, symbols_left, left, pending, all_left, gaps_left, IsWalk, after_pass, after_take, after_begin, look_of, Keeps}
+use Rattle.flute_store.specs.HeldWalk.{walk_in, bound, IsHeldWalk, Turns}
+use Rattle.flute_store.specs.BytesLeft.{cell_bytes, found_bytes, held_bytes, bytes_left, KeepsBytes, GivesFirst}
 use Rattle.flute_store.proofs.SortedSymbols.{Above, above-before, blocks_from-all, blocks_from-next, blocks_from-end}
 use Rattle.flute_store.proofs.Lookups.{Entry, value-past, value-here}
 use Rattle.flute_store.proofs.Runs.{runs-listed}
@@ -33,8 +34,14 @@ use Rattle.flute_store.proofs.WholeObjects.{gapless-whole}
 use Rattle.flute_store.proofs.ToldObjects.{wants-told, told-information}
 use Rattle.flute_store.proofs.ObjectLength.{object-length}
 use Rattle.flute_store.specs.Extract.{IsNotWhole, WritesWhole, WritesPart}
-use Rattle.flute_store.proofs.Looks.{here, AtHere, AtPassed, Tells, told, others_left, symbols-first, symbols-end, others-above, inside-less, block-left, keeps-trans, step-pass, step-begin, step-take, take-left}
-use Rattle.flute_store.proofs.GapSteps.{gap-missing}
+use Rattle.flute_store.proofs.Looks.{here, AtHere, AtPassed, Tells, told, others_left, symbols-first, symbols-end, others-above, inside-less, block-left, taken, taken-left}
+
+-- no bytes are given
+abbrev pub GivesNone : Option Turn → Type 0
+GivesNone None = ⊥
+GivesNone (Some Turn.Fitting) = ⊥
+GivesNone (Some Turn.Passed) = ⊥
+GivesNone turn = Unit {0}
 
 bytes-past : (e : Entry) (es : List Entry) (xs : List SymbolId) → Above e.0 xs → held_bytes (e ∷ es) xs ≡ held_bytes es xs
 unfolding held_bytes
@@ -45,49 +52,32 @@ bytes-here : (e : Entry) (es : List Entry) (q : SymbolId) (xs : List SymbolId) �
 unfolding held_bytes
 bytes-here e es q xs h a = (λ i. found_bytes (value-here e es q h i) ++ bytes-past e es xs (subst (λ z. Above z xs) (sym h) a) i)
 
-pub pass-bytes : (w : GapWalk) → IsWalk w → AtPassed w → KeepsBytes w (after_pass w)
+pass-bytes : (w : Walk) → IsWalk w → AtPassed w → bytes_left (after_pass w) ≡ bytes_left w
 unfolding bytes_left
 pass-bytes w p t =
     let l = inside-less w p t.inside in
-    record {
-      keeps = step-pass w p t;
-      bytes =
-          ap (λ (x : List Entry). held_bytes (drop 1 x) (symbols_left w)) t.held
-          ∙ ap (held_bytes t.others) (symbols-first w l)
-          ∙ sym (bytes-past t.first t.others (here w ∷ others_left w) (t.before, above-before t.first.0 (here w) (others_left w) t.before (others-above w p l)))
-          ∙ ap (held_bytes (t.first ∷ t.others)) (sym (symbols-first w l))
-          ∙ ap (λ (x : List Entry). held_bytes x (symbols_left w)) (sym t.held);
-    }
+    ap (λ (x : List Entry). held_bytes (drop 1 x) (symbols_left w)) t.held
+    ∙ ap (held_bytes t.others) (symbols-first w l)
+    ∙ sym (bytes-past t.first t.others (here w ∷ others_left w) (t.before, above-before t.first.0 (here w) (others_left w) t.before (others-above w p l)))
+    ∙ ap (held_bytes (t.first ∷ t.others)) (sym (symbols-first w l))
+    ∙ ap (λ (x : List Entry). held_bytes x (symbols_left w)) (sym t.held)
 
-pub begin-bytes : (w : GapWalk) → IsWalk w → Tells w BlockEnd → (after_begin w).size ≤ 65536 → KeepsBytes w (after_begin w)
+begin-bytes : (w : Walk) → IsWalk w → Tells w BlockEnd → bytes_left (after_begin w) ≡ bytes_left w
 unfolding bytes_left
-begin-bytes w p t s = record {
-  keeps = step-begin w p t s;
-  bytes = ap (held_bytes w.held) (sym (blocks_from-next w.partition w.begun (block-left w p t)) ∙ sym (symbols-end w t.0));
-}
+begin-bytes w p t = ap (held_bytes w.held) (sym (blocks_from-next w.partition w.begun (block-left w p t)) ∙ sym (symbols-end w t.0))
 
-take-bytes : (w : GapWalk) (why : Option Reason) → IsWalk w → (t : AtHere w why) → bytes_left w ≡ cell_bytes t.first.1 ++ bytes_left (after_take w)
+take-bytes : (w : Walk) → IsWalk w → (t : AtHere w None) → bytes_left w ≡ cell_bytes t.first.1 ++ bytes_left (after_take w)
 unfolding bytes_left
-take-bytes w why p t =
+take-bytes w p t =
     let l = inside-less w p t.inside in
     ap (λ (x : List Entry). held_bytes x (symbols_left w)) t.held
     ∙ ap (held_bytes (t.first ∷ t.others)) (symbols-first w l)
     ∙ bytes-here t.first t.others (here w) (others_left w) t.at_here (others-above w p l)
     ∙ ap (λ (x : List Entry). cell_bytes t.first.1 ++ held_bytes (drop 1 x) (others_left w)) (sym t.held)
 
-end-bytes : (w : GapWalk) → Tells w End → bytes_left w ≡ []
+end-bytes : (w : Walk) → Tells w End → bytes_left w ≡ []
 unfolding bytes_left held_bytes
 end-bytes w t = ap (held_bytes w.held) (symbols-end w t.0 ∙ ap (blocks_from w.partition) t.1 ∙ blocks_from-end w.partition)
-
--- where nothing is wanted, the next symbol fits, or nothing is left
-pub none-bytes : (w : GapWalk) → IsWalk w → left w ≡ [] → (l : Look) → look_of w ≡ l → IsNext l → l ≢ Fitting → bytes_left w ≡ []
-unfolding runs
-none-bytes w p h End e n f = end-bytes w (told w End e)
-none-bytes w p h BlockEnd e n f = absurd n
-none-bytes w p h Passed e n f = absurd n
-none-bytes w p h Fitting e n f = absurd (f refl)
-none-bytes w p h (Wanted r) e n f = absurd (not_cons_nil (here w, r) (left (after_take w)) (sym (take-left w (Some r) p (told w (Wanted r) e)) ∙ h))
-none-bytes w p h NotHeld e n f = absurd (not_cons_nil _ _ (sym (gap-missing w p e).first ∙ ap runs h))
 
 first_cell : Cell (List ℕ) → List Entry → Cell (List ℕ)
 first_cell c [] = c
@@ -97,37 +87,61 @@ same_first : (a b : Entry) (xs ys held : List Entry) → held ≡ a ∷ xs → h
 unfolding first_cell
 same_first a b xs ys held e f = ap (first_cell Absent) (sym e ∙ f)
 
+-- where nothing is wanted, no gap is given, and no wanted symbol passed
+no-gap : (v : Walk) (g : Gap) (gs : List Gap) → all_left v ≡ [] → gaps_left v ≡ g ∷ gs → ⊥
+unfolding runs
+no-gap v g gs h e = not_cons_nil g gs (sym e ∙ ap runs h)
+
+no-rest : (a b : List (SymbolId × Reason)) → a ++ b ≡ [] → b ≡ []
+no-rest [] b h = h
+no-rest (x ∷ a) b h = absurd (not_cons_nil x (a ++ b) h)
+
+no-wanted : (v : Walk) (r : Reason) → IsWalk v → all_left v ≡ [] → look_of v ≡ Wanted r → ⊥
+no-wanted v r p h e = not_cons_nil (here v, r) (left (taken None v)) (sym (taken-left None v (Some r) p (told v (Wanted r) e)) ∙ no-rest (pending v.run) (left v) h)
+
+-- what a turn gives where nothing is wanted
+pub no-bytes : (v w : HeldWalk) (t : Option Turn) → IsHeldWalk v → all_left (walk_in v) ≡ [] → Turns v t w → GivesNone t → bytes_left (walk_in v) ≡ []
+no-bytes v w (Some (Turn.Gap g)) p h s n = absurd (no-gap (walk_in v) g (gaps_left (walk_in w)) h s.turns.first)
+no-bytes v w (Some Turn.Wanted) p h s n = absurd (no-wanted (walk_in v) s.turns.1.0 p.walk h s.turns.1.1)
+no-bytes v w (Some Turn.End) p h s n = end-bytes (walk_in v) (told (walk_in v) End s.turns.1)
+no-bytes v w (Some Turn.Fitting) p h s n = absurd n
+no-bytes v w (Some Turn.Passed) p h s n = absurd n
+no-bytes v w None p h s n = absurd n
+
+same-bytes : (v w : HeldWalk) → Keeps (walk_in v) (walk_in w) → IsHeldWalk w → bound w ≡ bound v → w.ticks ≡ v.ticks + 1 → all_left (walk_in v) ≡ [] → bytes_left (walk_in w) ≡ bytes_left (walk_in v) → KeepsBytes v w
+same-bytes v w k p b t h e = record { walk = p; whole = k.left_is ∙ h; bytes = e; bound_is = b; onward = omega (arith, t) }
+
+pub pass-keeps : (v w : HeldWalk) → IsHeldWalk v → all_left (walk_in v) ≡ [] → Turns v (Some Turn.Passed) w → KeepsBytes v w
+pass-keeps v w p h s = same-bytes v w s.turns.0 s.walk s.bound_is s.ticks h (ap bytes_left s.turns.2 ∙ pass-bytes (walk_in v) p.walk (told (walk_in v) Passed s.turns.1))
+
+pub begin-keeps : (v w : HeldWalk) → IsHeldWalk v → all_left (walk_in v) ≡ [] → Turns v None w → KeepsBytes v w
+begin-keeps v w p h s = same-bytes v w s.turns.0 s.walk s.bound_is s.ticks h (ap bytes_left s.turns.2 ∙ begin-bytes (walk_in v) p.walk (told (walk_in v) BlockEnd s.turns.1))
+
+pub keeps-on : (u v w : HeldWalk) → KeepsBytes u v → KeepsBytes v w → KeepsBytes u w
+keeps-on u v w k l =
+    let a = k.onward in
+    let b = l.onward in
+    record { walk = l.walk; whole = l.whole; bytes = l.bytes ∙ k.bytes; bound_is = l.bound_is ∙ k.bound_is; onward = omega (arith, a, b) }
+
 -- a fitting symbol is given
-pub gives-first : (v w : GapWalk) (e : Entry) (es : List Entry) → KeepsBytes v w → left v ≡ [] → look_of w ≡ Fitting → w.held ≡ e ∷ es → v.ticks ≤ w.ticks → GivesFirst v (cell_bytes e.1) (after_take w)
-gives-first v w e es k h f d l =
-    let t = told w Fitting f in
-    let s = step-take w k.keeps.walk t in
+pub gives-first : (u v w : HeldWalk) (e : Entry) (es : List Entry) → KeepsBytes u v → v.held ≡ e ∷ es → Turns v (Some Turn.Fitting) w → GivesFirst u (cell_bytes e.1) w
+gives-first u v w e es k h s =
+    let t = told (walk_in v) Fitting s.turns.1 in
+    let a = k.onward in
+    let b = s.ticks in
     record {
       walk = s.walk;
-      whole = s.left_is ∙ k.keeps.left_is ∙ h;
-      first = sym k.bytes ∙ take-bytes w None k.keeps.walk t ∙ ap (λ c. cell_bytes c ++ bytes_left (after_take w)) (same_first t.first e t.others es w.held t.held d);
-      bound_is = s.bound_is ∙ k.keeps.bound_is;
-      ticked = omega (arith, l);
+      whole = s.turns.0.left_is ∙ k.whole;
+      first =
+          sym k.bytes ∙ take-bytes (walk_in v) k.walk.walk t
+          ∙ (λ i. cell_bytes (same_first t.first e t.others es v.held t.held h i) ++ bytes_left (sym s.turns.2 i));
+      bound_is = s.bound_is ∙ k.bound_is;
+      ticked = omega (arith, a, b);
     }
 
-pub keeps-on : (v w x : GapWalk) → KeepsBytes v w → KeepsBytes w x → KeepsBytes v x
-keeps-on v w x k l = record {
-  keeps = keeps-trans v w x k.keeps l.keeps;
-  bytes = l.bytes ∙ k.bytes;
-}
-
-pub none-left : (v w x : GapWalk) → KeepsBytes v w → KeepsBytes w x → left v ≡ [] → IsNext (look_of x) → (look_of x ≡ Fitting → ⊥) → bytes_left v ≡ []
-none-left v w x k l h n f =
-    let m = keeps-on v w x k l in
-    sym m.bytes ∙ none-bytes x m.keeps.walk (m.keeps.left_is ∙ h) (look_of x) refl n f
-
-pub fitting-held : (w : GapWalk) → look_of w ≡ Fitting → w.held ≡ [] → ⊥
-fitting-held w f h = let t = told w Fitting f in not_cons_nil t.first t.others (sym t.held ∙ h)
-
-pub gives-next : (v w x y : GapWalk) (id : SymbolId) (c : Cell (List ℕ)) (es : List Entry) (b : List ℕ) → KeepsBytes v w → KeepsBytes w x → left v ≡ [] → look_of x ≡ Fitting → x.held ≡ (id, c) ∷ es → v.ticks ≤ x.ticks → b ≡ cell_bytes c → y ≡ after_take x → GivesFirst v b y
-gives-next v w x y id c es b k l h f d t e g =
-    let m = gives-first v x (id, c) es (keeps-on v w x k l) h f d t in
-    subst (λ z. GivesFirst v b z) (sym g) (subst (λ z. GivesFirst v z (after_take x)) (sym e) m)
+-- a fitting symbol is held
+pub fitting-held : (v w : HeldWalk) → v.held ≡ [] → Turns v (Some Turn.Fitting) w → ⊥
+fitting-held v w h s = let t = told (walk_in v) Fitting s.turns.1 in not_cons_nil t.first t.others (sym t.held ∙ h)
 
 -- ---- writing
 
@@ -139,7 +153,7 @@ take-both (suc n) (x ∷ a) b =
     let e : n - length (take n a) ≡ suc n - length (take (suc n) (x ∷ a)) = omega arith in
     ap (λ ys. x ∷ ys) (take-both n a b) ∙ ap (λ k. x ∷ (take n a ++ take k b)) e
 
-found-of : (key : Key) (id : SymbolId) (found : Option (Cell (List ℕ))) → bytes_of (symbol_fact key id found) ≡ found_bytes found
+pub found-of : (key : Key) (id : SymbolId) (found : Option (Cell (List ℕ))) → bytes_of (symbol_fact key id found) ≡ found_bytes found
 found-of key id None = refl
 found-of key id (Some Absent) = refl
 found-of key id (Some (One b)) = refl
@@ -180,7 +194,7 @@ writing-fails old now new all b left more x n w e f a =
 
 -- ---- the object
 
-pub left-start : (info : Information) (held : List Entry) → left (at_start info held) ≡ wanted info held (ids info)
+pub left-start : (info : Information) (held : List Entry) → all_left (at_start info held) ≡ wanted info held (ids info)
 unfolding left
 left-start info held = ap (wanted info held) (blocks_from-all info)
 

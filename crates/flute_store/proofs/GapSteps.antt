@@ -1,5 +1,5 @@
 -- The gaps that a walk gives.
-use Rattle.std.proofs.Common.{◌≡◌, ◌≢◌, ℕ, zero, suc, ◌+◌, ◌-◌, ◌<◌, ◌≤◌, Bool, true, false, cond, ◌&&◌, List, [], ◌∷◌, ◌++◌, length, map, Some, None, refl, sym, ap, ◌∙◌, subst, inl, inr, ◌⊎◌, arith, append_assoc}
+use Rattle.std.proofs.Common.{◌≡◌, ◌≢◌, ℕ, zero, suc, ◌+◌, ◌-◌, ◌<◌, ◌≤◌, Bool, true, false, cond, ◌&&◌, List, [], ◌∷◌, ◌++◌, length, map, Option, Some, None, refl, sym, ap, ◌∙◌, subst, inl, inr, ◌⊎◌, arith, append_assoc}
 use Rattle.std.specs.Prelude.{◌==◌, nat_lt}
 use Rattle.std.specs.List.{range_with_len}
 use Rattle.std.specs.Map.{keys_of}
@@ -8,7 +8,7 @@ use Rattle.std.specs.declared.cmp.Ordering.TheVariants.{Less, Equal, Greater}
 use Rattle.std.specs.Ordering.{nat_cmp, ordering_then, ordering_reverse}
 use Rattle.std.proofs.lemmas.Bool.{cases_Bool, eqb-true, ltb-true}
 use Rattle.std.proofs.lemmas.Bool.Decides.{nat_tests}
-use Rattle.std.proofs.lemmas.Option.{same_Some}
+use Rattle.std.proofs.lemmas.Option.{same_Some, none-some}
 use Rattle.flute_join.specs.Cell.{IsKnown}
 use Rattle.flute_join.specs.JoinMap.{IsOrdered, EachValue, value_at}
 use Rattle.flute_join.specs.declared.cell.Cell.{Cell}
@@ -21,26 +21,26 @@ use Rattle.flute_parts.specs.Partition.{symbol_id, fits}
 use Rattle.flute_parts.specs.declared.symbol_id.SymbolId.{SymbolId}
 use Rattle.flute_store.specs.declared.gap.Reason.{Reason}
 use Rattle.flute_store.specs.declared.gap.Reason.TheVariants.{Missing, Misfit}
+use Rattle.flute_store.specs.declared.gap.Gap.{Gap}
 use Rattle.flute_store.specs.declared.gap_walk.Look.{Look}
 use Rattle.flute_store.specs.declared.gap_walk.Look.TheVariants.{End, BlockEnd, Passed, Fitting, Wanted, NotHeld}
-use Rattle.flute_store.specs.declared.gap_walk.GapWalk.{GapWalk}
-use Rattle.flute_store.specs.Objects.{runs}
+use Rattle.flute_store.specs.Objects.{runs, same_reason}
 use Rattle.flute_store.specs.Wanted.{want_cell, wanted, block_from, blocks_from}
-use Rattle.flute_store.specs.GapWalk.{left, gaps_left, bound, IsBehind, IsWalk, after_pass, after_take, look_of, until_held, until_of, GivesGap, GoesOn, EndsRun, IsRun, RunsOn}
+use Rattle.flute_store.specs.GapWalk.{Walk, left, pending, gaps_left, IsBehind, EndsBefore, IsWalk, after_take, after_want, run_with, look_of, until_held, until_of, ended_run, Keeps, GivesGap}
 use Rattle.flute_store.proofs.SortedSymbols.{Above, sbn-less, esi-less, above-before, above-later, above-block, blocks_from-end}
 use Rattle.flute_store.proofs.Lookups.{Entry, Elsewhere, value-before, value-here, wanted-missing, elsewhere-above, elsewhere-here}
-use Rattle.flute_store.proofs.Runs.{runs-first}
-use Rattle.flute_store.proofs.Looks.{here, AtHere, AtPassed, FirstAfter, Tells, told, others_left, symbols-first, symbols-end, blocks-later, others-above, inside-less, sorted-first, ahead-none, ahead-trans, step-pass, take-bound, take-walk, take-ahead, take-left}
+use Rattle.flute_store.proofs.Runs.{runs-first, reason_same, reason_itself}
+use Rattle.flute_store.proofs.Looks.{here, AtHere, FirstAfter, Tells, told, others_left, symbols-first, symbols-end, blocks-later, others-above, inside-less, sorted-first, taken, taken-left, taken-keeps, left-run}
 
 -- ---- the end
 
-pub end-left : (w : GapWalk) → Tells w End → left w ≡ []
+pub end-left : (w : Walk) → Tells w End → left w ≡ []
 unfolding left wanted
 end-left w t = ap (wanted w.partition w.held) (symbols-end w t.0 ∙ ap (blocks_from w.partition) t.1 ∙ blocks_from-end w.partition)
 
-pub gaps-end : (w : GapWalk) → look_of w ≡ End → gaps_left w ≡ []
+pub gaps-end : (w : Walk) → look_of w ≡ End → w.run ≡ None → gaps_left w ≡ []
 unfolding runs
-gaps-end w e = ap runs (end-left w (told w End e))
+gaps-end w e r = ap (λ o. runs (pending o ++ left w)) r ∙ ap runs (end-left w (told w End e))
 
 -- ---- held symbols that are wanted for one reason
 
@@ -54,55 +54,27 @@ entries-more n a (suc k) r ws =
     ap (λ i. entry n r a ∷ (map (entry n r) (range_with_len (a + 1) k) ++ (entry n r i ∷ ws))) e
     ∙ ap (λ xs. entry n r a ∷ xs) (entries-more n (a + 1) k r ws)
 
-run-pass : (r : Reason) (v w : GapWalk) → IsRun r v w → AtPassed w → IsRun r v (after_pass w)
-run-pass r v w s t =
-    let k = step-pass w s.walk t in
-    record {
-      walk = k.walk;
-      block = s.block;
-      begun_is = s.begun_is;
-      ended_is = s.ended_is;
-      ahead = ahead-trans v w (after_pass w) s.ahead k.ahead;
-      from = s.from;
-      passed = s.passed ∙ ap (λ ws. map (entry v.sbn r) (range_with_len v.esi (w.esi - v.esi)) ++ ws) (sym k.left_is);
-      bound_is = k.bound_is ∙ s.bound_is;
-    }
+same_run : (g : Gap) (r : Reason) → ended_run (Some g) (Wanted r) ≡ None → g.reason ≡ r
+same_run g r h = elim (cases_Bool (same_reason g.reason r)) [
+  | inl t ↦ reason_same g.reason r t
+  | inr t ↦ absurd (none-some g (sym h ∙ ap (λ b. cond b None (Some g)) t))
+]
 
-run-take : (r : Reason) (v w : GapWalk) → IsRun r v w → AtHere w (Some r) → IsRun r v (after_take w)
-run-take r v w s t =
-    let f = s.from in
-    let k : suc (w.esi - v.esi) ≡ w.esi + 1 - v.esi = omega (arith, f) in
-    let j : w.esi ≡ v.esi + (w.esi - v.esi) = omega (arith, f) in
-    record {
-      walk = take-walk w (Some r) s.walk t;
-      block = s.block;
-      begun_is = s.begun_is;
-      ended_is = s.ended_is;
-      ahead = ahead-trans v w (after_take w) s.ahead (take-ahead w (Some r) t);
-      from = omega (arith, f);
-      passed =
-          s.passed
-          ∙ ap (λ ws. map (entry v.sbn r) (range_with_len v.esi (w.esi - v.esi)) ++ ws) (take-left w (Some r) s.walk t)
-          ∙ (λ i. map (entry v.sbn r) (range_with_len v.esi (w.esi - v.esi)) ++ (entry (s.block i) r (j i) ∷ left (after_take w)))
-          ∙ entries-more v.sbn v.esi (w.esi - v.esi) r (left (after_take w))
-          ∙ ap (λ k. map (entry v.sbn r) (range_with_len v.esi k) ++ left (after_take w)) k;
-      bound_is = take-bound w (Some r) t ∙ s.bound_is;
-    }
+-- a run and the symbol behind it are the run with that
+run-more : (n i : ℕ) (r : Reason) (run : Option Gap) (ws : List (SymbolId × Reason)) → EndsBefore n i run → ended_run run (Wanted r) ≡ None → pending (Some (run_with n i r run)) ++ ws ≡ pending run ++ (entry n r i ∷ ws)
+run-more n i r None ws e h = let k : i + 1 - i ≡ 1 = omega arith in ap (λ k. map (entry n r) (range_with_len i k) ++ ws) k
+run-more n i r (Some g) ws e h =
+    let a = e.1 in
+    let b = e.2 in
+    let k : i + 1 - g.first ≡ suc (g.last + 1 - g.first) = omega (arith, a, b) in
+    let j : g.first + (g.last + 1 - g.first) ≡ i = omega (arith, a, b) in
+    ap (λ k. map (entry g.sbn g.reason) (range_with_len g.first k) ++ ws) k
+    ∙ sym (entries-more g.sbn g.first (g.last + 1 - g.first) g.reason ws)
+    ∙ (λ x. pending (Some g) ++ (entry (e.0 x) (same_run g r h x) (j x) ∷ ws))
 
-pub run-more : (r : Reason) (v w x : GapWalk) → IsRun r v w → GoesOn r w x → IsRun r v x
-run-more r v w x s (inl g) = subst (IsRun r v) (sym g.0) (run-pass r v w s (told w Passed g.1))
-run-more r v w x s (inr g) = subst (IsRun r v) (sym g.0) (run-take r v w s (told w (Wanted r) g.1))
-
-goes-ticks : (r : Reason) (w x : GapWalk) → GoesOn r w x → x.ticks ≡ w.ticks + 1
-goes-ticks r w x (inl g) = ap (λ (z : GapWalk). z.ticks) g.0
-goes-ticks r w x (inr g) = ap (λ (z : GapWalk). z.ticks) g.0
-
-pub run-smaller : (r : Reason) (v w x : GapWalk) → IsRun r v w → GoesOn r w x → bound x - x.ticks < bound w - w.ticks
-run-smaller r v w x s g =
-    let e = s.bound_is in
-    let f = (run-more r v w x s g).bound_is in
-    let t = goes-ticks r w x g in
-    omega (arith, e, f, t)
+pub run-ends : (n i : ℕ) (r : Reason) (run : Option Gap) → EndsBefore n i run → ended_run run (Wanted r) ≡ None → r ≢ Missing → EndsBefore n (i + 1) (Some (run_with n i r run))
+run-ends n i r None e h d = (refl, omega arith, refl, d)
+run-ends n i r (Some g) e h d = let a = e.1 in let b = e.2 in (e.0, omega (arith, a, b), refl, e.3)
 
 first-above : (p : SymbolId) (held : List Entry) → IsOrdered symbol_id_cmp held → FirstAfter p held → Above p (keys_of held)
 first-above p [] s f = tt
@@ -123,11 +95,17 @@ known-not_missing info id Conflict k e = cc
 first-known : (held : List Entry) (e : Entry) (es : List Entry) → held ≡ e ∷ es → EachValue IsKnown held → IsKnown e.1
 first-known held e es h k = let a : EachValue IsKnown (e ∷ es) = subst (EachValue IsKnown) h k in a.0
 
-here-known : (w : GapWalk) (r : Reason) → IsWalk w → AtHere w (Some r) → r ≢ Missing
+here-known : (w : Walk) (r : Reason) → IsWalk w → AtHere w (Some r) → r ≢ Missing
 here-known w r p t = λ e. known-not_missing w.partition (here w) t.first.1 (first-known w.held t.first t.others t.held p.known) (t.why_is ∙ ap Some e)
 
+-- no symbol that is wanted for the reason comes next
+abbrev EndsRun : Reason → Look → Type 0
+EndsRun reason Passed = ⊥
+EndsRun reason (Wanted why) = why ≡ reason → ⊥
+EndsRun reason _ = Unit {0}
+
 -- where a run ends, what is wanted next is another symbol, or wanted for another reason
-module _ (w : GapWalk) (r : Reason) (p : IsWalk w) (h : 0 < w.esi) (d : r ≢ Missing) where
+module _ (w : Walk) (r : Reason) (p : IsWalk w) (h : 0 < w.esi) (d : r ≢ Missing) where
   at_end : w.esi ≡ w.size → Elsewhere (here w) r (left w)
   unfolding left
   at_end e =
@@ -151,36 +129,52 @@ module _ (w : GapWalk) (r : Reason) (p : IsWalk w) (h : 0 < w.esi) (d : r ≢ Mi
   stop-elsewhere End e s = at_end (told w End e).0
   stop-elsewhere BlockEnd e s = at_end (told w BlockEnd e).0
   stop-elsewhere Passed e s = absurd s
-  stop-elsewhere Fitting e s = let t = told w Fitting e in subst (Elsewhere (here w) r) (sym (take-left w None p t)) (at_fitting t)
-  stop-elsewhere (Wanted q) e s = subst (Elsewhere (here w) r) (sym (take-left w (Some q) p (told w (Wanted q) e))) (λ f g. s g)
+  stop-elsewhere Fitting e s = let t = told w Fitting e in subst (Elsewhere (here w) r) (sym (taken-left w.run w None p t)) (at_fitting t)
+  stop-elsewhere (Wanted q) e s = subst (Elsewhere (here w) r) (sym (taken-left w.run w (Some q) p (told w (Wanted q) e))) (λ f g. s g)
   stop-elsewhere NotHeld e s = at_not_held (told w NotHeld e)
 
-pub gap-run : (r : Reason) (v w : GapWalk) → IsWalk v → look_of v ≡ Wanted r → RunsOn r (after_take v) w → GivesGap v (record { sbn = v.sbn; first = v.esi; last = w.esi - 1; reason = r }) w
-unfolding left
-gap-run r v w p e s =
-    let t = told v (Wanted r) e in
-    let f = s.run.from in
-    let l : v.esi < w.esi = omega (arith, f) in
-    let k : suc (w.esi - (v.esi + 1)) ≡ w.esi - v.esi = omega (arith, f) in
-    let b : here w ≡ symbol_id v.sbn w.esi = ap (λ n. symbol_id n w.esi) s.run.block in
+-- a wanted symbol is put to the run
+pub step-want : (w : Walk) (r : Reason) → IsWalk w → AtHere w (Some r) → ended_run w.run (Wanted r) ≡ None → Keeps w (after_want r w)
+step-want w r p t h =
+    let run = Some (run_with w.sbn w.esi r w.run) in
+    taken-keeps run w (Some r) p t (run-ends w.sbn w.esi r w.run p.running h (here-known w r p t))
+    (run-more w.sbn w.esi r w.run (left (taken run w)) p.running h ∙ ap (λ ws. pending w.run ++ ws) (sym (taken-left run w (Some r) p t)))
+
+-- the run that ends is given
+ends-look : (g : Gap) (l : Look) → ended_run (Some g) l ≡ Some g → EndsRun g.reason l
+ends-look g End h = tt
+ends-look g BlockEnd h = tt
+ends-look g Passed h = absurd (none-some g h)
+ends-look g Fitting h = tt
+ends-look g (Wanted r) h = λ e. absurd (none-some g (sym (ap (λ b. cond b None (Some g)) (ap (same_reason g.reason) e ∙ reason_itself g.reason)) ∙ h))
+ends-look g NotHeld h = tt
+
+pub gap-run : (w : Walk) (g : Gap) → IsWalk w → w.run ≡ Some g → ended_run w.run (look_of w) ≡ Some g → GivesGap w g (record w { run = None })
+gap-run w g p e h =
+    let q : EndsBefore w.sbn w.esi (Some g) = subst (EndsBefore w.sbn w.esi) e p.running in
+    let a = q.1 in
+    let b = q.2 in
+    let z : 0 < w.esi = omega (arith, b) in
+    let y : w.esi ≡ g.last + 1 = omega (arith, b) in
+    let k : g.last + 1 - 1 ≡ g.last = omega arith in
+    let j : w.esi - 1 ≡ g.last = omega (arith, b) in
+    let f : here w ≡ symbol_id g.sbn (g.last + 1) = λ i. symbol_id (sym q.0 i) (y i) in
+    let x : Elsewhere (here w) g.reason (left w) = stop-elsewhere w g.reason p z q.3 (look_of w) refl (ends-look g (look_of w) (ap (λ o. ended_run o (look_of w)) (sym e) ∙ h)) in
     record {
-      walk = s.run.walk;
-      first =
-          ap runs (take-left v (Some r) p t ∙ ap (λ ws. entry v.sbn r v.esi ∷ ws) s.run.passed
-          ∙ ap (λ k. map (entry v.sbn r) (range_with_len v.esi k) ++ left w) k)
-          ∙ runs-first v.sbn v.esi w.esi r (left w) l (subst (λ x. Elsewhere x r (left w)) b (stop-elsewhere w r s.run.walk (omega (arith, l)) (here-known v r p t) (look_of w) refl s.ends));
-      bound_is = s.run.bound_is ∙ take-bound v (Some r) t;
-      ahead = ahead-trans v (after_take v) w (take-ahead v (Some r) t) s.run.ahead;
+      walk = record { ordered = p.ordered; known = p.known; begun = p.begun; within = p.within; longest = p.longest; in_block = p.in_block; behind = p.behind; running = tt };
+      first = ap (λ o. runs (pending o ++ left w)) e ∙ runs-first g.sbn g.first (g.last + 1) g.reason (left w) (omega (arith, a)) (subst (λ x. Elsewhere x g.reason (left w)) f x) ∙ (λ i. record g { last = k i } ∷ runs (sym (left-run w None) i));
+      held_is = refl;
+      begun_is = refl;
+      partition_is = refl;
       passes = record {
-        ended_is = s.run.ended_is;
-        begun = s.run.begun_is ∙ sym (p.in_block (let i = inside-less v p t.inside in omega (arith, i)));
-        behind = subst (λ n. IsBehind n (w.esi - 1) w.held) s.run.block (s.run.walk.behind (omega (arith, l)));
+        begun = sym (p.in_block (let n = p.within in omega (arith, n, z))) ∙ ap (λ n. n + 1) (sym q.0);
+        behind = subst (λ n. IsBehind n g.last w.held) (sym q.0) (subst (λ i. IsBehind w.sbn i w.held) j (p.behind z));
       };
     }
 
 -- ---- symbols that are not held
 
-greater-cases : (p q : SymbolId) → symbol_id_cmp p q ≡ Greater → (q.sbn < p.sbn) ⊎ ((p.sbn ≡ q.sbn) × (q.esi < p.esi))
+pub greater-cases : (p q : SymbolId) → symbol_id_cmp p q ≡ Greater → (q.sbn < p.sbn) ⊎ ((p.sbn ≡ q.sbn) × (q.esi < p.esi))
 greater-cases p q h = by_block (nat_cmp p.sbn q.sbn) refl h
   where
     above : (m n : ℕ) → nat_cmp m n ≡ Greater → n < m
@@ -251,16 +245,16 @@ block-split n a u size l m =
     ap (λ x. map (symbol_id n) (range_with_len a x)) e ∙ block-append n a (u - a) (size - u) ∙ ap (λ x. block_from n a u ++ map (symbol_id n) (range_with_len x (size - u))) f
 
 -- the next symbols are not held
-abbrev pub after_missing : GapWalk → GapWalk
+abbrev pub after_missing : Walk → Walk
 after_missing w = record w { esi = until_of w }
 
-until-walk : (w : GapWalk) → IsWalk w → look_of w ≡ NotHeld → Until w.sbn w.esi w.size (until_of w) w.held
+until-walk : (w : Walk) → IsWalk w → look_of w ≡ NotHeld → Until w.sbn w.esi w.size (until_of w) w.held
 until-walk w p e = let t = told w NotHeld e in until-is w.sbn w.esi w.size w.held (inside-less w p t.0) p.ordered t.1
 
-pub missing-less : (w : GapWalk) → IsWalk w → look_of w ≡ NotHeld → w.esi < until_of w
+pub missing-less : (w : Walk) → IsWalk w → look_of w ≡ NotHeld → w.esi < until_of w
 missing-less w p e = (until-walk w p e).less
 
-pub missing-within : (w : GapWalk) → IsWalk w → look_of w ≡ NotHeld → until_of w ≤ w.size
+pub missing-within : (w : Walk) → IsWalk w → look_of w ≡ NotHeld → until_of w ≤ w.size
 missing-within w p e = (until-walk w p e).within
 
 -- the held symbols stand behind those that are not held
@@ -286,13 +280,13 @@ behind-until n a size (e ∷ es) l s f = elim (cases_Bool ((e.0.sbn == n) && nat
     all : (i : ℕ) → symbol_id_cmp (symbol_id n i) e.0 ≡ Less → IsBehind n i (e ∷ es)
     all i h = (h, above-before (symbol_id n i) e.0 (keys_of es) h (sorted-first e es s))
 
-behind-missing : (w : GapWalk) → IsWalk w → look_of w ≡ NotHeld → IsBehind w.sbn (until_of w - 1) w.held
+behind-missing : (w : Walk) → IsWalk w → look_of w ≡ NotHeld → IsBehind w.sbn (until_of w - 1) w.held
 behind-missing w p e = let t = told w NotHeld e in behind-until w.sbn w.esi w.size w.held (inside-less w p t.0) p.ordered t.1
 
-missing-walk : (w : GapWalk) → IsWalk w → until_of w ≤ w.size → IsBehind w.sbn (until_of w - 1) w.held → IsWalk (after_missing w)
-missing-walk w p l b = record { ordered = p.ordered; known = p.known; begun = p.begun; within = l; longest = p.longest; in_block = p.in_block; behind = λ z. b; few = p.few }
+missing-walk : (w : Walk) → IsWalk w → w.run ≡ None → until_of w ≤ w.size → IsBehind w.sbn (until_of w - 1) w.held → IsWalk (after_missing w)
+missing-walk w p r l b = record { ordered = p.ordered; known = p.known; begun = p.begun; within = l; longest = p.longest; in_block = p.in_block; behind = λ z. b; running = subst (EndsBefore w.sbn (until_of w)) (sym r) tt }
 
-missing-elsewhere : (w : GapWalk) → IsWalk w → 0 < w.size → ((until_of w ≡ w.size) ⊎ ((until_of w < w.size) × (e : Entry) × (es : List Entry) × (w.held ≡ e ∷ es) × (e.0 ≡ symbol_id w.sbn (until_of w)))) → Elsewhere (symbol_id w.sbn (until_of w)) Missing (left (after_missing w))
+missing-elsewhere : (w : Walk) → IsWalk w → 0 < w.size → ((until_of w ≡ w.size) ⊎ ((until_of w < w.size) × (e : Entry) × (es : List Entry) × (w.held ≡ e ∷ es) × (e.0 ≡ symbol_id w.sbn (until_of w)))) → Elsewhere (symbol_id w.sbn (until_of w)) Missing (left (after_missing w))
 unfolding left
 missing-elsewhere w p l (inl e) =
     let rest = blocks_from w.partition w.begun in
@@ -307,7 +301,7 @@ missing-elsewhere w p l (inr n) =
     (λ z. known-not_missing w.partition q e.1 (first-known w.held e n.2 n.3 p.known) (sym (ap (want_cell w.partition q) (ap (λ (x : List Entry). value_at symbol_id_cmp x q) n.3 ∙ value-here e n.2 q n.4)) ∙ z))
     (above-block w.sbn (until_of w) w.size (blocks_from w.partition w.begun) (blocks-later w p l)))
 
-missing-left : (w : GapWalk) → Until w.sbn w.esi w.size (until_of w) w.held → left w ≡ map (λ i. (symbol_id w.sbn i, Missing)) (range_with_len w.esi (until_of w - w.esi)) ++ left (after_missing w)
+missing-left : (w : Walk) → Until w.sbn w.esi w.size (until_of w) w.held → left w ≡ map (λ i. (symbol_id w.sbn i, Missing)) (range_with_len w.esi (until_of w - w.esi)) ++ left (after_missing w)
 unfolding left
 missing-left w u =
     let l = u.less in
@@ -316,17 +310,23 @@ missing-left w u =
     ∙ ap (wanted w.partition w.held) (append_assoc (block_from w.sbn w.esi (until_of w)) (block_from w.sbn (until_of w) w.size) rest)
     ∙ wanted-missing w.partition w.held w.sbn w.esi (until_of w - w.esi) (block_from w.sbn (until_of w) w.size ++ rest) (λ i h. u.none i (omega (arith, h, l)))
 
-pub gap-missing : (w : GapWalk) → IsWalk w → look_of w ≡ NotHeld → GivesGap w (record { sbn = w.sbn; first = w.esi; last = until_of w - 1; reason = Missing }) (after_missing w)
-gap-missing w p e =
+abbrev missing_gap_of : Walk → Gap
+missing_gap_of w = record { sbn = w.sbn; first = w.esi; last = until_of w - 1; reason = Missing }
+
+pub gap-missing : (w : Walk) → IsWalk w → w.run ≡ None → look_of w ≡ NotHeld → GivesGap w (record { sbn = w.sbn; first = w.esi; last = until_of w - 1; reason = Missing }) (after_missing w)
+gap-missing w p r e =
     let u = until-walk w p e in
     let l = u.less in
     let m = u.within in
     record {
-      walk = missing-walk w p m (behind-missing w p e);
-      ahead = ahead-none w (after_missing w) refl refl refl;
-      passes = record { ended_is = refl; begun = sym (p.in_block (omega (arith, l, m))); behind = behind-missing w p e };
+      walk = missing-walk w p r m (behind-missing w p e);
+      held_is = refl;
+      begun_is = refl;
+      partition_is = refl;
+      passes = record { begun = sym (p.in_block (omega (arith, l, m))); behind = behind-missing w p e };
       first =
-          ap runs (missing-left w u)
-          ∙ runs-first w.sbn w.esi (until_of w) Missing (left (after_missing w)) l (missing-elsewhere w p (omega (arith, l, m)) u.next);
-      bound_is = refl;
+          ap (λ o. runs (pending o ++ left w)) r
+          ∙ ap runs (missing-left w u)
+          ∙ runs-first w.sbn w.esi (until_of w) Missing (left (after_missing w)) l (missing-elsewhere w p (omega (arith, l, m)) u.next)
+          ∙ ap (λ o. missing_gap_of w ∷ runs (pending o ++ left (after_missing w))) (sym r);
     }

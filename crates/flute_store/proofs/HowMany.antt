@@ -1,13 +1,18 @@
 -- How many symbols are wanted for each reason.
-use Rattle.std.proofs.Common.{◌≡◌, ℕ, zero, suc, ◌+◌, ◌-◌, ◌<◌, ◌≤◌, ◌^◌, Bool, true, false, cond, List, [], ◌∷◌, ◌++◌, length, map, Option, Some, None, refl, sym, ap, ◌∙◌, subst, arith}
-use Rattle.std.specs.Prelude.{filter, flat_map, option_map}
+use Rattle.std.proofs.Common.{◌≡◌, ℕ, zero, suc, ◌+◌, ◌-◌, ◌<◌, ◌≤◌, ◌^◌, Bool, true, false, cond, List, [], ◌∷◌, ◌++◌, length, map, Option, Some, None, refl, sym, ap, ◌∙◌, subst, arith, inl, inr}
+use Rattle.std.specs.Prelude.{◌==◌, ◌&&◌, filter, flat_map, option_map}
 use Rattle.std.specs.List.{range_with_len, cons_option}
 use Rattle.std.proofs.lemmas.List.{nil_from_length}
+use Rattle.std.proofs.lemmas.Bool.{cases_Bool, eqb-true, eq-eqb, false≢true}
 use Rattle.flute_join.specs.JoinMap.{value_at}
 use Rattle.flute_join.specs.declared.cell.Cell.{Cell}
 use Rattle.flute_join.specs.declared.cell.Cell.TheVariants.{One}
 use Rattle.flute_parts.specs.Information.{Information}
 use Rattle.flute_parts.specs.Order.{symbol_id_cmp}
+use Rattle.flute_parts.specs.Equality.{both}
+use Rattle.flute_parts.specs.Facts.{fact_at}
+use Rattle.flute_parts.specs.Addresses.{info_address}
+use Rattle.flute_parts.specs.declared.fact.Fact.TheVariants.{Info}
 use Rattle.flute_parts.specs.Partition.{symbol_id, ids}
 use Rattle.flute_parts.specs.declared.key.Key.{Key}
 use Rattle.flute_parts.specs.declared.symbol_id.SymbolId.{SymbolId}
@@ -20,7 +25,8 @@ use Rattle.flute_store.specs.declared.status.Wanted.{Wanted}
 use Rattle.flute_store.specs.Objects.{Whole, wants, runs, listed, same_reason, AreRuns}
 use Rattle.flute_store.specs.Wanted.{want_cell, with_reason, wanted}
 use Rattle.flute_store.specs.Found.{IsTold}
-use Rattle.flute_store.specs.Status.{how_many, IsCount, Adds, IsPartial}
+use Rattle.flute_store.specs.declared.status.Status.TheVariants.{Partial, Whole as WholeObject}
+use Rattle.flute_store.specs.Status.{how_many, IsCount, Adds, IsPartial, status_of, TellsStatus}
 use Rattle.flute_store.proofs.Runs.{runs-are, runs-listed}
 use Rattle.flute_store.proofs.WholeObjects.{gapless-whole}
 use Rattle.flute_store.proofs.ToldObjects.{wants-told, told-information}
@@ -28,11 +34,14 @@ use Rattle.flute_store.proofs.ToldObjects.{wants-told, told-information}
 abbrev Want : Type 0
 Want = SymbolId × Reason
 
+abbrev all_zero : Wanted → Bool
+all_zero count = (count.missing == 0) && ((count.conflicting == 0) && (count.misfit == 0))
+
 abbrev step : Bool → ℕ → ℕ
 step true n = suc n
 step false n = n
 
-how-nil : (r : Reason) → how_many r [] ≡ 0
+pub how-nil : (r : Reason) → how_many r [] ≡ 0
 unfolding how_many
 how-nil r = refl
 
@@ -84,6 +93,13 @@ how-range r s n a (suc k) = how-cons r (symbol_id n a, s) (map (λ i. (symbol_id
 pub how-listed : (r : Reason) (g : Gap) → how_many r (listed g) ≡ times (same_reason r g.reason) (g.last + 1 - g.first)
 how-listed r g = how-range r g.reason g.sbn g.first (g.last + 1 - g.first)
 
+range-length : (r : Reason) (n a k : ℕ) → length {A = SymbolId × Reason} (map (λ i. (symbol_id n i, r)) (range_with_len a k)) ≡ k
+range-length r n a zero = refl
+range-length r n a (suc k) = ap suc (range-length r n (a + 1) k)
+
+pub listed-length : (g : Gap) → length (listed g) ≡ g.last + 1 - g.first
+listed-length g = range-length g.reason g.sbn g.first (g.last + 1 - g.first)
+
 pub adds-reason : (g : Gap) (old new : Wanted) (r : Reason) → g.reason ≡ r → new.missing ≡ old.missing + times (same_reason Missing r) (g.last + 1 - g.first)
     → new.conflicting ≡ old.conflicting + times (same_reason Conflicting r) (g.last + 1 - g.first) → new.misfit ≡ old.misfit + times (same_reason Misfit r) (g.last + 1 - g.first) → Adds g old new
 adds-reason g old new r e m n f =
@@ -117,6 +133,15 @@ counts-few count all rest c l =
     let t = how-all all in
     (omega (arith, m, t, l), omega (arith, n, t, l), omega (arith, f, t, l))
 
+-- nothing was counted yet
+pub counts-none : (count : Wanted) (all : List Want) → IsCount count [] → Counts count all all
+counts-none count all i =
+    let m = i.missing in let c = i.conflicting in let f = i.misfit in
+    record { missing = omega (arith, m, how-nil Missing); conflicting = omega (arith, c, how-nil Conflicting); misfit = omega (arith, f, how-nil Misfit) }
+
+pub none-counted : (count : Wanted) → count.missing ≡ 0 → count.conflicting ≡ 0 → count.misfit ≡ 0 → IsCount count []
+none-counted count m c f = record { missing = m ∙ sym (how-nil Missing); conflicting = c ∙ sym (how-nil Conflicting); misfit = f ∙ sym (how-nil Misfit) }
+
 pub counts-all : (count : Wanted) (all : List Want) → Counts count all [] → IsCount count all
 unfolding how_many
 counts-all count all c =
@@ -145,31 +170,45 @@ are-runs ws gs e = subst AreRuns (sym e) (runs-are ws)
 
 -- ---- the status of an object
 
-module _ {n : ℕ} (F : List Fact) (key : Key) (x : Object n) (info : Information) (held : List (SymbolId × Cell (List ℕ))) (gs : List Gap) (count : Wanted)
-    (t : IsTold F key x) (e : x.info ≡ One info) (h : held ≡ x.symbols) (g : gs ≡ runs (wanted info held (ids info))) (c : IsCount count (flat_map listed gs)) where
-  are_wants : flat_map listed gs ≡ wants F key info
-  are_wants = ap (flat_map listed) g ∙ runs-listed (wanted info held (ids info)) ∙ ap (λ s. wanted info s (ids info)) h ∙ sym (wants-told F key x info t)
-
+module _ (F : List Fact) (key : Key) (info : Information) (count : Wanted) (i : fact_at F (info_address key) ≡ Some (Info key info)) (c : IsCount count (wants F key info)) where
   total : length (wants F key info) ≡ count.missing + count.conflicting + count.misfit
   total =
-      let a = how-all (flat_map listed gs) in
+      let a = how-all (wants F key info) in
       let m = c.missing in let n = c.conflicting in let f = c.misfit in
-      let b : length (flat_map listed gs) ≡ length (wants F key info) = ap (λ (x : List Want). length x) are_wants in
-      omega (arith, a, b, m, n, f)
+      omega (arith, a, m, n, f)
 
-  pub is-whole : count.missing ≡ 0 → count.conflicting ≡ 0 → count.misfit ≡ 0 → Whole F key info
+  is-whole : count.missing ≡ 0 → count.conflicting ≡ 0 → count.misfit ≡ 0 → Whole F key info
   unfolding runs
-  is-whole a b d = let s = total in gapless-whole F key info (told-information F key x info t e) (ap runs (nil_from_length (wants F key info) (omega (arith, s, a, b, d))))
+  is-whole a b d = let s = total in gapless-whole F key info i (ap runs (nil_from_length (wants F key info) (omega (arith, s, a, b, d))))
 
-  pub is-partial : (count.missing ≡ 0 → count.conflicting ≡ 0 → count.misfit ≡ 0 → ⊥) → IsPartial F key count.missing count.conflicting count.misfit
+  is-partial : (count.missing ≡ 0 → count.conflicting ≡ 0 → count.misfit ≡ 0 → ⊥) → IsPartial F key count.missing count.conflicting count.misfit
   is-partial z = record {
     info = info;
-    information = told-information F key x info t e;
+    information = i;
     some = λ w. let s = total in let l : length (wants F key info) ≡ 0 = ap (λ (x : List Want). length x) w in z (omega (arith, s, l)) (omega (arith, s, l)) (omega (arith, s, l));
-    missing_are = c.missing ∙ ap (how_many Missing) are_wants;
-    conflicting_are = c.conflicting ∙ ap (how_many Conflicting) are_wants;
-    misfit_are = c.misfit ∙ ap (how_many Misfit) are_wants;
+    missing_are = c.missing;
+    conflicting_are = c.conflicting;
+    misfit_are = c.misfit;
   }
+
+  pub tells-status : (n : ℕ) → n ≡ info.transfer_length → TellsStatus F key (status_of count n)
+  tells-status n l = elim (cases_Bool (all_zero count)) [
+    | inl t ↦
+        let p = both (count.missing == 0) ((count.conflicting == 0) && (count.misfit == 0)) t in
+        let q = both (count.conflicting == 0) (count.misfit == 0) p.1 in
+        subst (λ b. TellsStatus F key (cond b (WholeObject n) (Partial count.missing count.conflicting count.misfit))) (sym t)
+        (info, is-whole (eqb-true count.missing 0 p.0) (eqb-true count.conflicting 0 q.0) (eqb-true count.misfit 0 q.1), l)
+    | inr t ↦
+        subst (λ b. TellsStatus F key (cond b (WholeObject n) (Partial count.missing count.conflicting count.misfit))) (sym t)
+        (is-partial (λ a b d. false≢true (sym t ∙ (λ i. eq-eqb count.missing 0 a i && (eq-eqb count.conflicting 0 b i && eq-eqb count.misfit 0 d i)))))
+  ]
+
+module _ {n : ℕ} (F : List Fact) (key : Key) (x : Object n) (info : Information) (held : List (SymbolId × Cell (List ℕ))) (gs : List Gap) (count : Wanted)
+    (t : IsTold F key x) (e : x.info ≡ One info) (h : held ≡ x.symbols) (g : gs ≡ runs (wanted info held (ids info))) (c : IsCount count (flat_map listed gs)) where
+  pub store-status : (n : ℕ) → n ≡ info.transfer_length → TellsStatus F key (status_of count n)
+  store-status =
+      tells-status F key info count (told-information F key x info t e)
+      (subst (IsCount count) (ap (flat_map listed) g ∙ runs-listed (wanted info held (ids info)) ∙ ap (λ s. wanted info s (ids info)) h ∙ sym (wants-told F key x info t)) c)
 
 -- ---- gap after gap
 

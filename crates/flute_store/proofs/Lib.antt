@@ -20,6 +20,12 @@ pub mod Looks
 pub mod GapSteps
 pub mod Found
 pub mod ToldObjects
+pub mod Turns
+pub mod Shown
+pub mod HeldTurns
+pub mod Places
+pub mod ScanTurns
+pub mod ScanSteps
 pub mod HowMany
 pub mod ObjectLength
 pub mod BytesSteps

@@ -1,5 +1,5 @@
 -- What comes next on a walk, and what is left then.
-use Rattle.std.proofs.Common.{◌≡◌, ◌≢◌, ℕ, ◌+◌, ◌<◌, ◌≤◌, Bool, cond, List, [], ◌∷◌, ◌++◌, length, drop, Option, Some, None, refl, sym, ap, ◌∙◌, subst, inl, inr, arith, append_assoc, ◌-◌}
+use Rattle.std.proofs.Common.{◌≡◌, ◌≢◌, ℕ, ◌+◌, ◌<◌, ◌≤◌, cond, List, [], ◌∷◌, ◌++◌, length, drop, Option, Some, None, refl, sym, ap, ◌∙◌, subst, inl, inr, arith, append_assoc, ◌-◌}
 use Rattle.std.specs.Prelude.{◌==◌, option_map}
 use Rattle.std.specs.List.{cons_option}
 use Rattle.std.specs.Map.{keys_of}
@@ -17,19 +17,19 @@ use Rattle.flute_parts.specs.Equality.{symbol_id_place}
 use Rattle.flute_parts.specs.Partition.{symbol_id}
 use Rattle.flute_parts.specs.declared.symbol_id.SymbolId.{SymbolId}
 use Rattle.flute_store.specs.declared.gap.Reason.{Reason}
+use Rattle.flute_store.specs.declared.gap.Gap.{Gap}
 use Rattle.flute_store.specs.declared.gap_walk.Look.{Look}
 use Rattle.flute_store.specs.declared.gap_walk.Look.TheVariants.{End, BlockEnd, Passed, Fitting, Wanted, NotHeld}
-use Rattle.flute_store.specs.declared.gap_walk.GapWalk.{GapWalk}
 use Rattle.flute_store.specs.Wanted.{want_cell, with_reason, wanted, block_from, blocks_from}
-use Rattle.flute_store.specs.GapWalk.{symbols_left, left, bound, IsBehind, IsWalk, IsAhead, Keeps, after_pass, after_take, after_begin, look_wanted, look_held, look_of}
+use Rattle.flute_store.specs.GapWalk.{Walk, symbols_left, left, pending, IsBehind, EndsBefore, IsWalk, IsAhead, Keeps, after_pass, after_take, after_begin, look_wanted, look_held, look_of}
 use Rattle.flute_store.proofs.SortedSymbols.{Above, Later, above-before, above-block, later-blocks, block_from-first, block_from-end, blocks_from-next}
 use Rattle.flute_store.proofs.Lookups.{Entry, wanted-past, wanted-here}
 
-abbrev pub here : GapWalk → SymbolId
+abbrev pub here : Walk → SymbolId
 here w = symbol_id w.sbn w.esi
 
 -- the next symbol is held, and this is why it is wanted, if it is
-pub record AtHere (w : GapWalk) (why : Option Reason) : Type 0 where
+pub record AtHere (w : Walk) (why : Option Reason) : Type 0 where
   pub inside : w.esi ≢ w.size
   pub first : Entry
   pub others : List Entry
@@ -37,7 +37,7 @@ pub record AtHere (w : GapWalk) (why : Option Reason) : Type 0 where
   pub at_here : first.0 ≡ here w
   pub why_is : want_cell w.partition (here w) (Some first.1) ≡ why
 
-pub record AtPassed (w : GapWalk) : Type 0 where
+pub record AtPassed (w : Walk) : Type 0 where
   pub inside : w.esi ≢ w.size
   pub first : Entry
   pub others : List Entry
@@ -49,7 +49,7 @@ abbrev pub FirstAfter : SymbolId → List Entry → Type 0
 FirstAfter p [] = Unit {0}
 FirstAfter p (e ∷ es) = symbol_id_cmp e.0 p ≡ Greater
 
-abbrev pub Tells : GapWalk → Look → Type 0
+abbrev pub Tells : Walk → Look → Type 0
 Tells w End = (w.esi ≡ w.size) × (w.begun ≡ length (sizes w.partition))
 Tells w BlockEnd = (w.esi ≡ w.size) × (w.begun ≢ length (sizes w.partition))
 Tells w Passed = AtPassed w
@@ -57,11 +57,11 @@ Tells w Fitting = AtHere w None
 Tells w (Wanted reason) = AtHere w (Some reason)
 Tells w NotHeld = (w.esi ≢ w.size) × FirstAfter (here w) w.held
 
-tells-wanted : (w : GapWalk) (o : Option Reason) → AtHere w o → Tells w (look_wanted o)
+tells-wanted : (w : Walk) (o : Option Reason) → AtHere w o → Tells w (look_wanted o)
 tells-wanted w None h = h
 tells-wanted w (Some r) h = h
 
-tells-held : (w : GapWalk) (held : List Entry) → w.held ≡ held → w.esi ≢ w.size → Tells w (look_held w.partition (here w) held)
+tells-held : (w : Walk) (held : List Entry) → w.held ≡ held → w.esi ≢ w.size → Tells w (look_held w.partition (here w) held)
 tells-held w [] h i = (i, subst (FirstAfter (here w)) (sym h) tt)
 tells-held w (e ∷ es) h i = by_order (symbol_id_cmp e.0 (here w)) refl
   where
@@ -72,7 +72,7 @@ tells-held w (e ∷ es) h i = by_order (symbol_id_cmp e.0 (here w)) refl
         tells-wanted w (want_cell w.partition e.0 (Some e.1)) (record { inside = i; first = e; others = es; held = h; at_here = p; why_is = ap (λ x. want_cell w.partition x (Some e.1)) (sym p) })
     by_order Greater l = (i, subst (FirstAfter (here w)) (sym h) l)
 
-pub tells : (w : GapWalk) → Tells w (look_of w)
+pub tells : (w : Walk) → Tells w (look_of w)
 unfolding look_of
 tells w = elim (cases_Bool (w.esi == w.size)) [
   | inr f ↦
@@ -87,24 +87,24 @@ tells w = elim (cases_Bool (w.esi == w.size)) [
       ])
 ]
 
-pub told : (w : GapWalk) (l : Look) → look_of w ≡ l → Tells w l
+pub told : (w : Walk) (l : Look) → look_of w ≡ l → Tells w l
 told w l h = subst (Tells w) h (tells w)
 
 -- ---- the symbols that are left
 
-abbrev pub others_left : GapWalk → List SymbolId
+abbrev pub others_left : Walk → List SymbolId
 others_left w = block_from w.sbn (w.esi + 1) w.size ++ blocks_from w.partition w.begun
 
-pub symbols-first : (w : GapWalk) → w.esi < w.size → symbols_left w ≡ here w ∷ others_left w
+pub symbols-first : (w : Walk) → w.esi < w.size → symbols_left w ≡ here w ∷ others_left w
 symbols-first w l = ap (λ xs. xs ++ blocks_from w.partition w.begun) (block_from-first w.sbn w.esi w.size l)
 
-pub blocks-later : (w : GapWalk) → IsWalk w → 0 < w.size → Later w.sbn (blocks_from w.partition w.begun)
+pub blocks-later : (w : Walk) → IsWalk w → 0 < w.size → Later w.sbn (blocks_from w.partition w.begun)
 blocks-later w p l = let e = p.in_block l in later-blocks w.partition w.sbn w.begun (omega (arith, e))
 
-pub others-above : (w : GapWalk) → IsWalk w → w.esi < w.size → Above (here w) (others_left w)
+pub others-above : (w : Walk) → IsWalk w → w.esi < w.size → Above (here w) (others_left w)
 others-above w p l = above-block w.sbn w.esi w.size (blocks_from w.partition w.begun) (blocks-later w p (omega (arith, l)))
 
-pub inside-less : (w : GapWalk) → IsWalk w → w.esi ≢ w.size → w.esi < w.size
+pub inside-less : (w : Walk) → IsWalk w → w.esi ≢ w.size → w.esi < w.size
 inside-less w p i = let l = p.within in omega (arith, l, i)
 
 -- ---- steps
@@ -131,7 +131,7 @@ pub sorted-first : (e : Entry) (es : List Entry) → IsOrdered symbol_id_cmp (e 
 unfolding IsStrictlySortedBy
 sorted-first e es s = s.0
 
-behind-first : (w : GapWalk) (e : Entry) (es : List Entry) → w.held ≡ e ∷ es → e.0 ≡ here w → IsOrdered symbol_id_cmp w.held → IsBehind w.sbn (w.esi + 1 - 1) (drop 1 w.held)
+behind-first : (w : Walk) (e : Entry) (es : List Entry) → w.held ≡ e ∷ es → e.0 ≡ here w → IsOrdered symbol_id_cmp w.held → IsBehind w.sbn (w.esi + 1 - 1) (drop 1 w.held)
 behind-first w e es h p s =
     let a : Above e.0 (keys_of es) = sorted-first e es (subst (IsOrdered symbol_id_cmp) h s) in
     let k : w.esi ≡ w.esi + 1 - 1 = omega arith in
@@ -141,13 +141,13 @@ behind-first w e es h p s =
 -- ---- how far a walk is
 
 -- a walk on which the first held symbol was passed
-passed-first : (w : GapWalk) (e : Entry) (es : List Entry) → w.held ≡ e ∷ es → w.held ≡ (e ∷ []) ++ drop 1 w.held
+passed-first : (w : Walk) (e : Entry) (es : List Entry) → w.held ≡ e ∷ es → w.held ≡ (e ∷ []) ++ drop 1 w.held
 passed-first w e es h = h ∙ ap (λ (x : List Entry). e ∷ drop 1 x) (sym h)
 
-pub ahead-none : (v w : GapWalk) → w.held ≡ v.held → w.begun ≡ v.begun → w.partition ≡ v.partition → IsAhead v w
+pub ahead-none : (v w : Walk) → w.held ≡ v.held → w.begun ≡ v.begun → w.partition ≡ v.partition → IsAhead v w
 ahead-none v w h b p = record { passed = []; held_is = sym h; onward = omega (arith, b); partition_is = p }
 
-pub ahead-trans : (u v w : GapWalk) → IsAhead u v → IsAhead v w → IsAhead u w
+pub ahead-trans : (u v w : Walk) → IsAhead u v → IsAhead v w → IsAhead u w
 ahead-trans u v w a b =
     let m = a.onward in
     let n = b.onward in
@@ -158,16 +158,14 @@ ahead-trans u v w a b =
       partition_is = b.partition_is ∙ a.partition_is;
     }
 
-pub keeps-trans : (u v w : GapWalk) → Keeps u v → Keeps v w → Keeps u w
-keeps-trans u v w k l = record { walk = l.walk; left_is = l.left_is ∙ k.left_is; bound_is = l.bound_is ∙ k.bound_is; ended_is = l.ended_is ∙ k.ended_is; ahead = ahead-trans u v w k.ahead l.ahead }
+pub ahead-first : (w x : Walk) (e : Entry) (es : List Entry) → w.held ≡ e ∷ es → x.held ≡ drop 1 w.held → x.begun ≡ w.begun → x.partition ≡ w.partition → IsAhead w x
+ahead-first w x e es h d b p = record { passed = e ∷ []; held_is = passed-first w e es h ∙ ap (λ (y : List Entry). e ∷ y) (sym d); onward = omega (arith, b); partition_is = p }
 
-pub step-pass : (w : GapWalk) → IsWalk w → AtPassed w → Keeps w (after_pass w)
+pub step-pass : (w : Walk) → IsWalk w → AtPassed w → Keeps w (after_pass w)
 unfolding left
 step-pass w p t =
     let l = inside-less w p t.inside in
     let n = held-length w.held t.first t.others t.held in
-    let b : bound (after_pass w) ≡ bound w = omega (arith, n) in
-    let f = p.few in
     record {
       walk = record {
         ordered = held-ordered w.held t.first t.others t.held p.ordered;
@@ -177,28 +175,26 @@ step-pass w p t =
         longest = p.longest;
         in_block = p.in_block;
         behind = λ z. behind-rest w.sbn (w.esi - 1) w.held t.first t.others t.held (p.behind z);
-        few = omega (arith, b, f);
+        running = p.running;
       };
-      ended_is = refl;
-      ahead = record { passed = t.first ∷ []; held_is = passed-first w t.first t.others t.held; onward = omega arith; partition_is = refl };
+      ahead = ahead-first w (after_pass w) t.first t.others t.held refl refl refl;
       left_is =
-          ap (λ (x : List Entry). wanted w.partition (drop 1 x) (symbols_left w)) t.held
+          ap (λ ws. pending w.run ++ ws)
+          (ap (λ (x : List Entry). wanted w.partition (drop 1 x) (symbols_left w)) t.held
           ∙ ap (wanted w.partition t.others) (symbols-first w l)
           ∙ sym (wanted-past w.partition t.first t.others (here w ∷ others_left w) (t.before, above-before t.first.0 (here w) (others_left w) t.before (others-above w p l)))
           ∙ ap (wanted w.partition (t.first ∷ t.others)) (sym (symbols-first w l))
-          ∙ ap (λ (x : List Entry). wanted w.partition x (symbols_left w)) (sym t.held);
-      bound_is = b;
+          ∙ ap (λ (x : List Entry). wanted w.partition x (symbols_left w)) (sym t.held));
+      fewer = omega (arith, n);
     }
 
--- a held symbol of the partition is passed
-pub take-bound : (w : GapWalk) (why : Option Reason) → AtHere w why → bound (after_take w) ≡ bound w
-take-bound w why t = let n = held-length w.held t.first t.others t.held in omega (arith, n)
+-- a held symbol of the partition is passed, with this run behind it
+abbrev pub taken : Option Gap → Walk → Walk
+taken run w = record w { held = drop 1 w.held; esi = w.esi + 1; run = run }
 
-pub take-walk : (w : GapWalk) (why : Option Reason) → IsWalk w → AtHere w why → IsWalk (after_take w)
-take-walk w why p t =
+pub taken-walk : (run : Option Gap) (w : Walk) (why : Option Reason) → IsWalk w → AtHere w why → EndsBefore w.sbn (w.esi + 1) run → IsWalk (taken run w)
+taken-walk run w why p t r =
     let l = inside-less w p t.inside in
-    let b = take-bound w why t in
-    let f = p.few in
     record {
       ordered = held-ordered w.held t.first t.others t.held p.ordered;
       known = held-known w.held t.first t.others t.held p.known;
@@ -207,15 +203,12 @@ take-walk w why p t =
       longest = p.longest;
       in_block = p.in_block;
       behind = λ z. behind-first w t.first t.others t.held t.at_here p.ordered;
-      few = omega (arith, b, f);
+      running = r;
     }
 
-pub take-ahead : (w : GapWalk) (why : Option Reason) → AtHere w why → IsAhead w (after_take w)
-take-ahead w why t = record { passed = t.first ∷ []; held_is = passed-first w t.first t.others t.held; onward = omega arith; partition_is = refl }
-
-pub take-left : (w : GapWalk) (why : Option Reason) → IsWalk w → AtHere w why → left w ≡ cons_option (option_map (with_reason (here w)) why) (left (after_take w))
+pub taken-left : (run : Option Gap) (w : Walk) (why : Option Reason) → IsWalk w → AtHere w why → left w ≡ cons_option (option_map (with_reason (here w)) why) (left (taken run w))
 unfolding left
-take-left w why p t =
+taken-left run w why p t =
     let l = inside-less w p t.inside in
     ap (λ (x : List Entry). wanted w.partition x (symbols_left w)) t.held
     ∙ ap (wanted w.partition (t.first ∷ t.others)) (symbols-first w l)
@@ -223,21 +216,26 @@ take-left w why p t =
     ∙ ap (λ o. cons_option (option_map (with_reason (here w)) o) (wanted w.partition t.others (others_left w))) t.why_is
     ∙ ap (λ (x : List Entry). cons_option (option_map (with_reason (here w)) why) (wanted w.partition (drop 1 x) (others_left w))) (sym t.held)
 
-pub step-take : (w : GapWalk) → IsWalk w → AtHere w None → Keeps w (after_take w)
-step-take w p t = record { walk = take-walk w None p t; left_is = sym (take-left w None p t); bound_is = take-bound w None t; ended_is = refl; ahead = take-ahead w None t }
+pub taken-keeps : (run : Option Gap) (w : Walk) (why : Option Reason) → IsWalk w → AtHere w why → EndsBefore w.sbn (w.esi + 1) run → pending run ++ left (taken run w) ≡ pending w.run ++ left w → Keeps w (taken run w)
+taken-keeps run w why p t r e =
+    let n = held-length w.held t.first t.others t.held in
+    record { walk = taken-walk run w why p t r; left_is = e; fewer = omega (arith, n); ahead = ahead-first w (taken run w) t.first t.others t.held refl refl refl }
+
+pub step-take : (w : Walk) → IsWalk w → AtHere w None → w.run ≡ None → Keeps w (after_take w)
+step-take w p t r =
+    taken-keeps w.run w None p t (subst (EndsBefore w.sbn (w.esi + 1)) (sym r) tt)
+    (ap (λ ws. pending w.run ++ ws) (sym (taken-left w.run w None p t)))
 
 -- where the block has no symbol left, those of the other blocks are
-pub symbols-end : (w : GapWalk) → w.esi ≡ w.size → symbols_left w ≡ blocks_from w.partition w.begun
+pub symbols-end : (w : Walk) → w.esi ≡ w.size → symbols_left w ≡ blocks_from w.partition w.begun
 symbols-end w e = ap (λ k. block_from w.sbn k w.size ++ blocks_from w.partition w.begun) e ∙ ap (λ xs. xs ++ blocks_from w.partition w.begun) (block_from-end w.sbn w.size)
 
-pub step-begin : (w : GapWalk) → IsWalk w → Tells w BlockEnd → (after_begin w).size ≤ 65536 → Keeps w (after_begin w)
+pub step-begin : (w : Walk) → IsWalk w → Tells w BlockEnd → w.run ≡ None → (after_begin w).size ≤ 65536 → Keeps w (after_begin w)
 unfolding left
-step-begin w p t s =
+step-begin w p t r s =
     let c = p.begun in
     let d = t.1 in
     let l : w.begun < length (sizes w.partition) = omega (arith, c, d) in
-    let b : bound (after_begin w) ≡ bound w = omega (arith, l) in
-    let f = p.few in
     record {
       walk = record {
         ordered = p.ordered;
@@ -247,40 +245,40 @@ step-begin w p t s =
         longest = s;
         in_block = λ z. refl;
         behind = λ z. absurd (omega (arith, z));
-        few = omega (arith, b, f);
+        running = subst (EndsBefore w.begun 0) (sym r) tt;
       };
-      ended_is = refl;
       ahead = record { passed = []; held_is = refl; onward = omega arith; partition_is = refl };
-      left_is = ap (wanted w.partition w.held) (sym (blocks_from-next w.partition w.begun l) ∙ sym (symbols-end w t.0));
-      bound_is = b;
+      left_is = ap (λ xs. pending w.run ++ wanted w.partition w.held xs) (sym (blocks_from-next w.partition w.begun l) ∙ sym (symbols-end w t.0));
+      fewer = omega (arith, l);
     }
 
 -- ---- what comes next, from its parts
 
-pub look-end : (w : GapWalk) → w.esi ≡ w.size → w.begun ≡ length (sizes w.partition) → End ≡ look_of w
+pub look-end : (w : Walk) → w.esi ≡ w.size → w.begun ≡ length (sizes w.partition) → End ≡ look_of w
 unfolding look_of
 look-end w e f = sym (ap (λ b. cond b (cond (w.begun == length (sizes w.partition)) End BlockEnd) (look_held w.partition (here w) w.held)) (eq-eqb w.esi w.size e) ∙ ap (λ b. cond b End BlockEnd) (eq-eqb w.begun (length (sizes w.partition)) f))
 
-pub look-block_end : (w : GapWalk) → w.esi ≡ w.size → w.begun ≢ length (sizes w.partition) → BlockEnd ≡ look_of w
+pub look-block_end : (w : Walk) → w.esi ≡ w.size → w.begun ≢ length (sizes w.partition) → BlockEnd ≡ look_of w
 unfolding look_of
 look-block_end w e f = sym (ap (λ b. cond b (cond (w.begun == length (sizes w.partition)) End BlockEnd) (look_held w.partition (here w) w.held)) (eq-eqb w.esi w.size e) ∙ ap (λ b. cond b End BlockEnd) (ne_eqb w.begun (length (sizes w.partition)) f))
 
-look-inside : (w : GapWalk) (held : List Entry) → w.esi ≢ w.size → w.held ≡ held → look_held w.partition (here w) held ≡ look_of w
+look-inside : (w : Walk) (held : List Entry) → w.esi ≢ w.size → w.held ≡ held → look_held w.partition (here w) held ≡ look_of w
 unfolding look_of
 look-inside w held i h = ap (look_held w.partition (here w)) (sym h) ∙ sym (ap (λ b. cond b (cond (w.begun == length (sizes w.partition)) End BlockEnd) (look_held w.partition (here w) w.held)) (ne_eqb w.esi w.size i))
 
-pub look-none : (w : GapWalk) → w.esi ≢ w.size → w.held ≡ [] → NotHeld ≡ look_of w
+pub look-none : (w : Walk) → w.esi ≢ w.size → w.held ≡ [] → NotHeld ≡ look_of w
 look-none w i h = look-inside w [] i h
 
-pub look-first : (w : GapWalk) (e : Entry) (es : List Entry) (o : Ordering) → w.esi ≢ w.size → w.held ≡ e ∷ es → symbol_id_cmp e.0 (here w) ≡ o → match_ordering o Passed (look_wanted (want_cell w.partition e.0 (Some e.1))) NotHeld ≡ look_of w
+pub look-first : (w : Walk) (e : Entry) (es : List Entry) (o : Ordering) → w.esi ≢ w.size → w.held ≡ e ∷ es → symbol_id_cmp e.0 (here w) ≡ o → match_ordering o Passed (look_wanted (want_cell w.partition e.0 (Some e.1))) NotHeld ≡ look_of w
 look-first w e es o i h c = ap (λ o. match_ordering o Passed (look_wanted (want_cell w.partition e.0 (Some e.1))) NotHeld) (sym c) ∙ look-inside w (e ∷ es) i h
 
-pub here-small : (w : GapWalk) (why : Option Reason) → IsWalk w → AtHere w why → w.esi < 65536
+pub here-small : (w : Walk) (why : Option Reason) → IsWalk w → AtHere w why → w.esi < 65536
 here-small w why p t = let l = inside-less w p t.inside in let m = p.longest in omega (arith, l, m)
 
-pub block-left : (w : GapWalk) → IsWalk w → Tells w BlockEnd → w.begun < length (sizes w.partition)
+pub block-left : (w : Walk) → IsWalk w → Tells w BlockEnd → w.begun < length (sizes w.partition)
 block-left w p t = let c = p.begun in let d = t.1 in omega (arith, c, d)
 
-pub left-ended : (w : GapWalk) (b : Bool) (t : ℕ) → left (record w { ended = b; ticks = t }) ≡ left w
+-- what is left does not depend on the run
+pub left-run : (w : Walk) (run : Option Gap) → left (record w { run = run }) ≡ left w
 unfolding left
-left-ended w b t = refl
+left-run w run = refl

@@ -17,7 +17,7 @@ use Rattle.flute_store.proofs.Lookups.{Elsewhere}
 abbrev Want : Type 0
 Want = SymbolId × Reason
 
-reason_same : (r s : Reason) → same_reason r s ≡ true → r ≡ s
+pub reason_same : (r s : Reason) → same_reason r s ≡ true → r ≡ s
 reason_same Missing Missing h = refl
 reason_same Conflicting Conflicting h = refl
 reason_same Misfit Misfit h = refl
@@ -28,12 +28,12 @@ reason_same Conflicting Misfit h = absurd (false≢true h)
 reason_same Misfit Missing h = absurd (false≢true h)
 reason_same Misfit Conflicting h = absurd (false≢true h)
 
-reason_itself : (r : Reason) → same_reason r r ≡ true
+pub reason_itself : (r : Reason) → same_reason r r ≡ true
 reason_itself Missing = refl
 reason_itself Conflicting = refl
 reason_itself Misfit = refl
 
-goes_on-sbn : (g h : Gap) → goes_on g h ≡ true → g.sbn ≡ h.sbn
+pub goes_on-sbn : (g h : Gap) → goes_on g h ≡ true → g.sbn ≡ h.sbn
 goes_on-sbn g h e =
     let p = both (g.sbn == h.sbn) ((g.last + 1 == h.first) && same_reason g.reason h.reason) e in
     let t = p.0 in grind (arith, nat_tests)

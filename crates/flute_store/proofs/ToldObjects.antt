@@ -25,7 +25,7 @@ use Rattle.flute_store.specs.GapAnswers.{GivesGaps}
 use Rattle.flute_store.proofs.SortedSymbols.{blocks_from-all}
 use Rattle.flute_store.proofs.HeldIds.{ids_told}
 
-want-symbol : (info : Information) (key : Key) (id : SymbolId) (found : Option (Cell (List ℕ))) → want info id (symbol_fact key id found) ≡ want_cell info id found
+pub want-symbol : (info : Information) (key : Key) (id : SymbolId) (found : Option (Cell (List ℕ))) → want info id (symbol_fact key id found) ≡ want_cell info id found
 want-symbol info key id None = refl
 want-symbol info key id (Some Absent) = refl
 want-symbol info key id (Some (One b)) = refl

@@ -1,4 +1,5 @@
 pub mod HeldSymbol
+pub mod HeldWalk
 pub mod ObjectJoin
 pub mod Content
 pub mod WellFormed
@@ -16,10 +17,13 @@ pub mod Examples
 pub mod HeldLeft
 pub mod Wanted
 pub mod GapWalk
+pub mod Shown
 pub mod Found
 pub mod GapsLeft
 pub mod GapAnswers
 pub mod Status
 pub mod BytesLeft
 pub mod Extract
+pub mod Scan
+pub mod Scans
 pub mod Sent

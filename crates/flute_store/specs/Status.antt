@@ -1,5 +1,5 @@
 -- How much of an object is held.
-use Rattle.std.specs.Prelude.{◌≡◌, ◌≢◌, ℕ, ◌+◌, List, [], length, filter, Some}
+use Rattle.std.specs.Prelude.{◌≡◌, ◌≢◌, ℕ, ◌+◌, ◌<◌, ◌≤◌, ◌^◌, ◌==◌, ◌&&◌, if◌then◌else◌, List, [], length, filter, Option, Some}
 use Rattle.flute_parts.specs.Information.{Information}
 use Rattle.flute_parts.specs.Addresses.{info_address}
 use Rattle.flute_parts.specs.Facts.{fact_at}
@@ -12,6 +12,7 @@ use Rattle.flute_store.specs.declared.gap.Reason.TheVariants.{Missing, Conflicti
 use Rattle.flute_store.specs.declared.gap.Gap.{Gap}
 use Rattle.flute_store.specs.declared.status.Status.{Status}
 use Rattle.flute_store.specs.declared.status.Status.TheVariants.{NoInformation, ConflictingInformation, Partial, Whole as WholeObject}
+use Rattle.flute_store.specs.declared.turn.Turn.{Turn}
 use Rattle.flute_store.specs.declared.status.Wanted.{Wanted}
 use Rattle.flute_store.specs.Objects.{Whole, wants, same_reason, listed}
 use Rattle.flute_store.specs.GapAnswers.{LacksInformation, HasConflict}
@@ -29,6 +30,19 @@ pub record Adds (gap : Gap) (old new : Wanted) : Type 0 where
   pub missing : new.missing ≡ old.missing + how_many Missing (listed gap)
   pub conflicting : new.conflicting ≡ old.conflicting + how_many Conflicting (listed gap)
   pub misfit : new.misfit ≡ old.misfit + how_many Misfit (listed gap)
+
+-- a turn may give a gap, of at least one symbol, to counts that are not too large
+abbrev pub CanAdd : Option Turn → Wanted → Type 0
+CanAdd (Some (Turn.Gap gap)) old = (gap.first ≤ gap.last) × (old.missing + old.conflicting + old.misfit < 2 ^ 33)
+CanAdd turn old = Unit {0}
+
+abbrev pub AddsTurn : Option Turn → Wanted → Wanted → Type 0
+AddsTurn (Some (Turn.Gap gap)) old new = Adds gap old new
+AddsTurn turn old new = new ≡ old
+
+-- how much is held of an object of so many bytes, of which so many symbols are wanted
+abbrev pub status_of : Wanted → ℕ → Status
+status_of count n = if (count.missing == 0) && ((count.conflicting == 0) && (count.misfit == 0)) then WholeObject n else Partial count.missing count.conflicting count.misfit
 
 -- the object has this one information, and some symbols are wanted, so many for each reason
 pub record IsPartial (F : List Fact) (key : Key) (missing conflicting misfit : ℕ) : Type 0 where

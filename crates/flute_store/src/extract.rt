@@ -1,20 +1,21 @@
 //! Whole objects.
-ghost use Rattle.std.specs.Prelude.{◌≡◌, ◌+◌, ◌<◌, ◌≤◌, ◌^◌, [], length, take, MatchOption, if◌then◌else◌, is_ok};
-ghost use Rattle.std.specs.Bool.{OnTrue, OnFalse};
+ghost use Rattle.std.specs.Prelude.{◌≡◌, ◌+◌, ◌<◌, ◌^◌, [], length, take, MatchOption, if◌then◌else◌, is_ok};
 ghost use Rattle.flute_join.specs.Cell.{IsKnown};
 ghost use Rattle.flute_join.specs.JoinMap.{IsOrdered, EachValue};
 ghost use Rattle.flute_parts.specs.Order.{symbol_id_cmp};
 ghost use Rattle.flute_parts.specs.Partition.{ids};
 ghost use Rattle.flute_parts.specs.Devices.{Writes};
 ghost use Rattle.flute_store.specs.Wanted.{wanted};
-ghost use Rattle.flute_store.specs.GapWalk.{left, IsWalk, look_of};
-ghost use Rattle.flute_store.specs.BytesLeft.{cell_bytes, held_bytes, bytes_left, KeepsBytes, IsNext, GivesBytes};
+ghost use Rattle.flute_store.specs.GapWalk.{all_left};
+ghost use Rattle.flute_store.specs.HeldWalk.{walk_in, IsHeldWalk};
+ghost use Rattle.flute_store.specs.BytesLeft.{cell_bytes, held_bytes, bytes_left, GivesBytes};
 ghost use Rattle.flute_store.specs.Extract.{Extracts, failed};
 
-use crate::gap_walk::{GapWalk, Look};
 use crate::gaps::Gaps;
 use crate::held_symbol::HeldSymbol;
+use crate::held_walk::HeldWalk;
 use crate::store::Store;
+use crate::turn::Turn;
 use flute_join::Cell;
 use flute_parts::{DeviceFault, Info, Key, Sink, SymbolId};
 use std::collections::btree_map;
@@ -64,47 +65,37 @@ fn up_to(bytes: &[u8], len: u64) -> &[u8]
     }
 }
 
-impl<'a> GapWalk<'a> {
-    // Passes a held symbol that stands before the next symbol, or begins the next block.
-    fn pass_before(&mut self) -> bool
-        requires { IsWalk self.old }
-        ensures keeps { KeepsBytes self.old self.new }
-        ensures rises { self.old.ticks ≤ self.new.ticks }
-        ensures ticks { OnTrue result (self.old.ticks < self.new.ticks) }
-        ensures stop { OnFalse result (IsNext (look_of self.new)) }
-    {
-        match self.look() {
-            Look::BlockEnd => self.begin(),
-            Look::Passed => self.pass(),
-            _ => return false,
-        }
-        true
-    }
-
+impl<'a> HeldWalk<'a> {
     // The bytes of the next symbol, which is passed. No symbol that is left is wanted.
     fn next_bytes(&mut self) -> Option<&'a [u8]>
-        requires walk { IsWalk self.old }
-        requires whole { left self.old ≡ [] }
+        requires walk { IsHeldWalk self.old }
+        requires whole { all_left (walk_in self.old) ≡ [] }
         ensures { GivesBytes self.old result self.new }
     {
-        while self.pass_before() {}
-        match self.look() {
-            Look::Fitting => {}
-            _ => return None,
+        loop {
+            let first = self.held.first();
+            match self.turn() {
+                Some(Turn::Fitting) => {
+                    let Some((_, held)) = first else {
+                        return None;
+                    };
+                    return Some(bytes_in(held));
+                }
+                Some(Turn::Passed) => {}
+                None => {}
+                Some(Turn::Wanted) => return None,
+                Some(Turn::Gap(_)) => return None,
+                Some(Turn::End) => return None,
+            }
         }
-        let Some((_, cell)) = self.held.first() else {
-            return None;
-        };
-        self.take();
-        Some(bytes_in(cell))
     }
 
     // Writes the symbols that are left one behind the other, up to `len` bytes. None of them is wanted.
     fn write<W: Sink>(&mut self, sink: &mut W, len: u64) -> Result<(), DeviceFault>
-        requires walk { IsWalk self.old }
-        requires whole { left self.old ≡ [] }
+        requires walk { IsHeldWalk self.old }
+        requires whole { all_left (walk_in self.old) ≡ [] }
         ensures bytes { Writes (W.written sink.old) (W.written sink.new)
-            (take len (bytes_left self.old)) result }
+            (take len (bytes_left (walk_in self.old))) result }
         ensures failures { W.failures sink.new
             ≡ W.failures sink.old + (if is_ok result then 0 else 1) }
     {
@@ -132,7 +123,7 @@ fn write_object<W: Sink>(
         (take info.now.transfer_length (held_bytes symbols.entry (ids info.now))) result }
     ensures failures { W.failures sink.new ≡ W.failures sink.old + (if is_ok result then 0 else 1) }
 {
-    let mut walk = GapWalk::new(info, symbols);
+    let mut walk = HeldWalk::new(info, symbols);
     walk.write(sink, info.length())
 }
 

@@ -1,21 +1,15 @@
 //! The walk over the held symbols and the blocks of an object, side by side.
-ghost use Rattle.std.specs.Prelude.{◌≡◌, ◌-◌, ◌<◌, ◌≤◌, ◌^◌, [], length, IfSome, IfNone};
-ghost use Rattle.std.specs.Bool.{OnTrue, OnFalse};
-ghost use Rattle.std.specs.Iterator.{YieldsFirst};
+ghost use Rattle.std.specs.Prelude.{◌≡◌, ◌+◌, ◌<◌, ◌≤◌, ◌^◌, ℕ, List, Some, None, length, IfNone};
+ghost use Rattle.flute_join.specs.declared.cell.Cell.{Cell};
+ghost use Rattle.flute_parts.specs.declared.symbol_id.SymbolId.{SymbolId as Id};
 ghost use Rattle.flute_parts.specs.Information.{sizes};
 ghost use Rattle.flute_parts.specs.Partition.{symbol_id, ids};
-ghost use Rattle.flute_parts.specs.Order.{symbol_id_cmp};
-ghost use Rattle.flute_join.specs.Cell.{IsKnown};
-ghost use Rattle.flute_join.specs.JoinMap.{IsOrdered, EachValue};
-ghost use Rattle.flute_store.specs.Wanted.{want_cell};
-ghost use Rattle.flute_store.specs.GapWalk.{at_start, after_pass, after_begin, after_take, gaps_left, bound, IsWalk, look_of, IsStop, Keeps, until_of, IsAhead, PassesGap, HasEnded, GivesGap, GoesOn, EndsRun, RunsOn};
+ghost use Rattle.flute_store.specs.GapWalk.{at_start, walk_of, IsPlace, look_at, until_next, ended_run, missing_gap, after_missing, after_wanted, after_block, turn_of, want_length};
 
 use crate::gap::{Gap, Reason};
-use crate::held_left::HeldLeft;
-use crate::held_symbol::HeldSymbol;
+use crate::turn::Turn;
 use flute_parts::{Info, Partition, SymbolId};
 use std::cmp::Ordering;
-use std::collections::btree_map;
 
 /// What comes next on a walk.
 #[derive(Clone, Copy)]
@@ -34,55 +28,40 @@ pub enum Look {
     NotHeld,
 }
 
-/// A walk over the held symbols and the blocks of an object.
+/// A held symbol: its ID, and how many bytes its one value has. None where two were told.
+pub type Held = (SymbolId, Option<usize>);
+
+/// A walk over the blocks of an object, beside the symbols that are held of it, which are shown to
+/// it one after another.
 #[derive(Drop)]
-pub struct GapWalk<'a> {
+pub struct GapWalk {
     pub partition: Partition,
-    /// The held symbols that are not passed.
-    pub held: HeldLeft<'a>,
     /// The block that was begun last, its next symbol and its length.
     pub sbn: u16,
     pub esi: u32,
     pub size: u32,
     /// How many blocks were begun.
     pub begun: u32,
-    pub ticks: u64,
-    /// Whether it was found that nothing is left.
-    pub ended: bool,
+    /// The wanted held symbols just before the next one, of which no gap was given yet.
+    pub run: Option<Gap>,
 }
 
-// Why a held symbol is wanted, if it is.
-fn want(partition: &Partition, id: SymbolId, held: &HeldSymbol) -> Option<Reason>
-    ensures { result ≡ want_cell partition.now id (Some held.now) }
-{
-    match held.value() {
-        Some(bytes) if partition.fits(id, bytes.len()) => None,
-        Some(_) => Some(Reason::Misfit),
-        None => Some(Reason::Conflicting),
-    }
-}
-
-impl<'a> GapWalk<'a> {
-    /// A walk over an object with this information and these symbols.
-    pub fn new(info: &Info, symbols: btree_map::Iter<'a, SymbolId, HeldSymbol>) -> GapWalk<'a>
-        requires ordered { IsOrdered symbol_id_cmp symbols }
-        requires known { EachValue IsKnown symbols }
-        requires few { length symbols < 2 ^ 32 }
-        ensures start { result ≡ at_start info.now symbols.entry }
-        ensures walk { IsWalk result }
+impl GapWalk {
+    /// A walk over an object with this information.
+    pub fn new(info: &Info) -> GapWalk
+        ensures start { (held : List (Id × Cell (List ℕ))) → walk_of result held ≡ at_start info.now held }
+        ensures place { IsPlace result }
         ensures few { length (ids info.now) ≤ 2 ^ 32 }
     {
         let partition = Partition::of(info);
         let _limits = (partition.blocks(), partition.symbols());
         GapWalk {
             partition,
-            held: HeldLeft::new(symbols),
             sbn: 0,
             esi: 0,
             size: 0,
             begun: 0,
-            ticks: 0,
-            ended: false,
+            run: None,
         }
     }
 
@@ -98,9 +77,9 @@ impl<'a> GapWalk<'a> {
     }
 
     // What comes next.
-    pub fn look(&self) -> Look
-        requires { IsWalk self.now }
-        ensures { result ≡ look_of self.now }
+    fn look(&self, next: &Option<Held>) -> Look
+        requires { IsPlace self.now }
+        ensures { result ≡ look_at self.now next.now }
     {
         if self.esi == self.size {
             return if self.begun == self.partition.blocks() {
@@ -109,12 +88,12 @@ impl<'a> GapWalk<'a> {
                 Look::BlockEnd
             };
         }
-        let Some((id, cell)) = self.held.first() else {
+        let Some((id, length)) = next else {
             return Look::NotHeld;
         };
         match id.cmp(&self.here()) {
             Ordering::Less => Look::Passed,
-            Ordering::Equal => match want(&self.partition, id, cell) {
+            Ordering::Equal => match want(&self.partition, *id, *length) {
                 Some(reason) => Look::Wanted(reason),
                 None => Look::Fitting,
             },
@@ -122,30 +101,21 @@ impl<'a> GapWalk<'a> {
         }
     }
 
-    // Passes the first held symbol.
-    pub fn pass(&mut self)
-        requires { self.old.ticks < 2 ^ 64 - 1 }
-        ensures { self.new ≡ after_pass self.old }
+    // The run, where what comes next ends it.
+    fn ended_run(&self, look: Look) -> Option<Gap>
+        ensures { result ≡ ended_run self.now.run look }
     {
-        self.held.pass();
-        self.ticks += 1;
-    }
-
-    // Passes the first held symbol and the next symbol of the block, which it is.
-    pub fn take(&mut self)
-        requires ticks { self.old.ticks < 2 ^ 64 - 1 }
-        requires esi { self.old.esi < 65536 }
-        ensures { self.new ≡ after_take self.old }
-    {
-        self.pass();
-        self.esi += 1;
+        match (self.run, look) {
+            (None, _) | (Some(_), Look::Passed) => None,
+            (Some(gap), Look::Wanted(reason)) if gap.reason == reason => None,
+            (Some(gap), _) => Some(gap),
+        }
     }
 
     // Begins the next block.
-    pub fn begin(&mut self)
-        requires ticks { self.old.ticks < 2 ^ 64 - 1 }
-        requires block { self.old.begun < length (sizes self.old.partition) }
-        ensures block { self.new ≡ after_begin self.old }
+    fn begin(&mut self)
+        requires { self.old.begun < length (sizes self.old.partition) }
+        ensures block { self.new ≡ after_block self.old }
         ensures longest { self.new.size ≤ 65536 }
     {
         let _blocks = self.partition.blocks();
@@ -153,45 +123,34 @@ impl<'a> GapWalk<'a> {
         self.esi = 0;
         self.size = self.partition.block_len(self.sbn);
         self.begun += 1;
-        self.ticks += 1;
     }
 
-    // Passes one thing that is not wanted, or says that what comes next is wanted or the end.
-    fn pass_one(&mut self) -> bool
-        requires { IsWalk self.old }
-        ensures keeps { Keeps self.old self.new }
-        ensures ticks { OnTrue result (self.old.ticks < self.new.ticks) }
-        ensures stop { OnFalse result (IsStop (look_of self.new)) }
+    // Adds the next symbol to the run.
+    fn want(&mut self, reason: Reason)
+        requires { self.old.esi < 65536 }
+        ensures { self.new ≡ after_wanted self.old reason }
     {
-        match self.look() {
-            Look::BlockEnd => self.begin(),
-            Look::Passed => self.pass(),
-            Look::Fitting => self.take(),
-            _ => return false,
-        }
-        true
-    }
-
-    // Up to where the symbols of the block from the next one on are not held.
-    fn until(&self) -> u32
-        requires { IsWalk self.now }
-        ensures { result ≡ until_of self.now }
-    {
-        match self.held.first() {
-            Some((id, _)) if id.sbn == self.sbn && u32::from(id.esi) < self.size => {
-                u32::from(id.esi)
-            }
-            _ => self.size,
-        }
+        let esi = self.esi as u16;
+        self.run = Some(match self.run {
+            Some(gap) => Gap { last: esi, ..gap },
+            None => Gap {
+                sbn: self.sbn,
+                first: esi,
+                last: esi,
+                reason,
+            },
+        });
+        self.esi += 1;
     }
 
     // The gap of the symbols that are not held from the next one on.
-    fn missing(&mut self) -> Gap
-        requires walk { IsWalk self.old }
-        requires look { look_of self.old ≡ Look.NotHeld }
-        ensures { GivesGap self.old result self.new }
+    fn missing(&mut self, next: &Option<Held>) -> Gap
+        requires some { self.old.esi < until_next self.old.sbn self.old.size next.now }
+        requires place { IsPlace self.old }
+        ensures gap { result ≡ missing_gap self.old next.now }
+        ensures walk { self.new ≡ after_missing self.old next.now }
     {
-        let until = self.until();
+        let until = self.until(next);
         let gap = Gap {
             sbn: self.sbn,
             first: self.esi as u16,
@@ -202,81 +161,58 @@ impl<'a> GapWalk<'a> {
         gap
     }
 
-    // Passes a held symbol if it stands before the next symbol, or is that and wanted for this reason.
-    fn go_on(&mut self, reason: Reason) -> bool
-        requires { IsWalk self.old }
-        ensures yes { OnTrue result (GoesOn reason self.old self.new) }
-        ensures no { OnFalse result ((self.new ≡ self.old) × EndsRun reason (look_of self.old)) }
+    // Up to where the symbols of the block from the next one on are not held.
+    fn until(&self, next: &Option<Held>) -> u32
+        ensures { result ≡ until_next self.now.sbn self.now.size next.now }
     {
-        match self.look() {
-            Look::Passed => self.pass(),
-            Look::Wanted(why) if why == reason => self.take(),
-            _ => return false,
-        }
-        true
-    }
-
-    // Passes the symbols that are wanted for this reason from the next one on.
-    fn run_on(&mut self, reason: Reason)
-        requires { IsWalk self.old }
-        ensures { RunsOn reason self.old self.new }
-    {
-        while self.go_on(reason) {}
-    }
-
-    // The gap of the held symbols that are wanted for this reason from the next one on.
-    fn run(&mut self, reason: Reason) -> Gap
-        requires walk { IsWalk self.old }
-        requires look { look_of self.old ≡ Look.Wanted reason }
-        ensures { GivesGap self.old result self.new }
-    {
-        let sbn = self.sbn;
-        let first = self.esi as u16;
-        self.take();
-        self.run_on(reason);
-        Gap {
-            sbn,
-            first,
-            last: (self.esi - 1) as u16,
-            reason,
+        match next {
+            Some((id, _)) if id.sbn == self.sbn && u32::from(id.esi) < self.size => {
+                u32::from(id.esi)
+            }
+            _ => self.size,
         }
     }
 
-    // Notes that nothing is left.
-    fn end(&mut self)
-        requires walk { IsWalk self.old }
-        requires look { look_of self.old ≡ Look.End }
-        ensures walk { IsWalk self.new }
-        ensures left { gaps_left self.old ≡ [] }
-        ensures none { gaps_left self.new ≡ [] }
-        ensures bound { bound self.new ≡ bound self.old }
-        ensures ahead { IsAhead self.old self.new }
-        ensures ended { HasEnded self.new }
+    /// What comes next, given the next held symbol that was not passed, if one is left. None where a
+    /// block was begun.
+    pub fn turn(&mut self, next: &Option<Held>) -> Option<Turn>
+        requires { IsPlace self.old }
+        ensures turn { (result, self.new) ≡ turn_of self.old next.now }
+        ensures place { IsPlace self.new }
+        ensures begun { IfNone result (self.new.begun ≡ self.old.begun + 1) }
     {
-        if !self.ended {
-            self.ended = true;
-            self.ticks += 1;
+        let look = self.look(next);
+        if let Some(gap) = self.ended_run(look) {
+            self.run = None;
+            return Some(Turn::Gap(gap));
         }
-    }
-
-    /// The next gap.
-    pub fn next(&mut self) -> Option<Gap>
-        requires { IsWalk self.old }
-        ensures walk { IsWalk self.new }
-        ensures gives { YieldsFirst gaps_left self.old result self.new }
-        ensures bound { bound self.new ≡ bound self.old }
-        ensures ahead { IsAhead self.old self.new }
-        ensures past { IfSome result (PassesGap self.old self.new) }
-        ensures ended { IfNone result (HasEnded self.new) }
-    {
-        while self.pass_one() {}
-        match self.look() {
-            Look::Wanted(reason) => Some(self.run(reason)),
-            Look::NotHeld => Some(self.missing()),
-            _ => {
-                self.end();
+        match look {
+            Look::End => Some(Turn::End),
+            Look::BlockEnd => {
+                self.begin();
                 None
             }
+            Look::Passed => Some(Turn::Passed),
+            Look::Fitting => {
+                self.esi += 1;
+                Some(Turn::Fitting)
+            }
+            Look::Wanted(reason) => {
+                self.want(reason);
+                Some(Turn::Wanted)
+            }
+            Look::NotHeld => Some(Turn::Gap(self.missing(next))),
         }
+    }
+}
+
+// Why a held symbol is wanted, if it is.
+fn want(partition: &Partition, id: SymbolId, length: Option<usize>) -> Option<Reason>
+    ensures { result ≡ want_length partition.now id length }
+{
+    match length {
+        Some(length) if partition.fits(id, length) => None,
+        Some(_) => Some(Reason::Misfit),
+        None => Some(Reason::Conflicting),
     }
 }

@@ -13,8 +13,8 @@ ghost use Rattle.flute_store.specs.GapsLeft.{Ticks, IsPast, IsAtEnd};
 ghost use Rattle.flute_store.specs.GapAnswers.{GivesGaps, TellsGapFault};
 
 use crate::gap::Gap;
-use crate::gap_walk::GapWalk;
 use crate::held_symbol::HeldSymbol;
+use crate::held_walk::HeldWalk;
 use crate::store::Store;
 use flute_join::Cell;
 use flute_parts::{Info, Key, SymbolId};
@@ -42,7 +42,7 @@ pub enum GapFault {
 /// take no more ticks than there are blocks and held symbols, and one. It takes no memory.
 #[derive(Drop)]
 pub struct Gaps<'a> {
-    walk: GapWalk<'a>,
+    walk: HeldWalk<'a>,
 }
 
 impl<'a> Model for Gaps<'a> {
@@ -53,19 +53,20 @@ impl<'a> Model for Gaps<'a> {
 
     ghost Value = { GapsLeft };
 
-    ghost use Rattle.flute_store.specs.GapWalk.{gaps_left, bound, IsWalk};
+    ghost use Rattle.flute_store.specs.GapWalk.{gaps_left};
+    ghost use Rattle.flute_store.specs.HeldWalk.{walk_in, bound, IsHeldWalk};
 
     ghost view = { λ g. record {
-      gaps = gaps_left g.walk;
+      gaps = gaps_left (walk_in g.walk);
       held = keys_of g.walk.held;
-      begun = g.walk.begun;
-      blocks = length (sizes g.walk.partition);
+      begun = g.walk.walk.begun;
+      blocks = length (sizes g.walk.walk.partition);
       ended = g.walk.ended;
       ticks = g.walk.ticks;
       bound = bound g.walk;
     } };
 
-    ghost invariant = { λ g. IsWalk g.walk };
+    ghost invariant = { λ g. IsHeldWalk g.walk };
 }
 
 impl<'a> Gaps<'a> {
@@ -84,7 +85,7 @@ impl<'a> Gaps<'a> {
         ensures few { length (ids info.now) ≤ 2 ^ 32 }
     {
         Gaps {
-            walk: GapWalk::new(info, symbols),
+            walk: HeldWalk::new(info, symbols),
         }
     }
 

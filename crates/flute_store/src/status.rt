@@ -1,12 +1,13 @@
 //! How much of an object is held.
-ghost use Rattle.std.specs.Prelude.{◌≡◌, ◌<◌, ◌≤◌, ◌^◌, MatchOption, length, flat_map};
+ghost use Rattle.std.specs.Prelude.{◌≡◌, ◌<◌, ◌≤◌, ◌^◌, MatchOption, [], length, flat_map};
 ghost use Rattle.flute_store.specs.Objects.{listed, AreRuns};
-ghost use Rattle.flute_store.specs.Status.{Adds, IsCount, TellsStatus};
+ghost use Rattle.flute_store.specs.Status.{Adds, CanAdd, AddsTurn, IsCount, status_of, TellsStatus};
 ghost use Rattle.flute_store.specs.Found.{IsUnheard};
 
 use crate::gap::{Gap, Reason};
 use crate::gaps::Gaps;
 use crate::store::Store;
+use crate::turn::Turn;
 use flute_join::Cell;
 use flute_parts::Key;
 
@@ -33,17 +34,28 @@ pub enum Status {
     },
 }
 
-// How many symbols are wanted for each reason.
+/// How many symbols are wanted for each reason.
 #[derive(Drop)]
-struct Wanted {
-    missing: u64,
-    conflicting: u64,
-    misfit: u64,
+pub struct Wanted {
+    pub missing: u64,
+    pub conflicting: u64,
+    pub misfit: u64,
 }
 
 impl Wanted {
-    // Adds the symbols of a gap.
-    fn add(&mut self, gap: Gap)
+    /// None.
+    pub fn none() -> Wanted
+        ensures { IsCount result [] }
+    {
+        Wanted {
+            missing: 0,
+            conflicting: 0,
+            misfit: 0,
+        }
+    }
+
+    /// Adds the symbols of a gap.
+    pub fn add(&mut self, gap: Gap)
         requires order { gap.first ≤ gap.last }
         requires missing { self.old.missing < 2 ^ 33 }
         requires conflicting { self.old.conflicting < 2 ^ 33 }
@@ -58,21 +70,41 @@ impl Wanted {
         }
     }
 
+    /// Adds the symbols of the gap that a turn gave, if it gave one.
+    pub fn add_turn(&mut self, turn: &Option<Turn>)
+        requires { CanAdd turn.now self.old }
+        ensures { AddsTurn turn.now self.old self.new }
+    {
+        if let Some(Turn::Gap(gap)) = turn {
+            self.add(*gap);
+        }
+    }
+
     // The symbols of all these gaps.
     fn count(mut gaps: Gaps<'_>) -> Wanted
         requires runs { AreRuns gaps.gaps }
         requires few { length (flat_map listed gaps.gaps) ≤ 2 ^ 32 }
         ensures { IsCount result (flat_map listed gaps.entry.gaps) }
     {
-        let mut wanted = Wanted {
-            missing: 0,
-            conflicting: 0,
-            misfit: 0,
-        };
+        let mut wanted = Wanted::none();
         while let Some(gap) = gaps.next() {
             wanted.add(gap);
         }
         wanted
+    }
+
+    /// How much is held of an object of so many bytes, of which these are wanted.
+    pub fn status(&self, length: u64) -> Status
+        ensures { result ≡ status_of self.now length }
+    {
+        if self.missing == 0 && self.conflicting == 0 && self.misfit == 0 {
+            return Status::Whole { length };
+        }
+        Status::Partial {
+            missing: self.missing,
+            conflicting: self.conflicting,
+            misfit: self.misfit,
+        }
     }
 }
 
@@ -99,15 +131,6 @@ impl<const SESSIONS: u32, const OBJECTS: u32, const SYMBOLS: u32> Store<
             Cell::One(info) => info,
         };
         let wanted = Wanted::count(Gaps::new(info, object.symbols.iter()));
-        if wanted.missing == 0 && wanted.conflicting == 0 && wanted.misfit == 0 {
-            return Some(Status::Whole {
-                length: info.length(),
-            });
-        }
-        Some(Status::Partial {
-            missing: wanted.missing,
-            conflicting: wanted.conflicting,
-            misfit: wanted.misfit,
-        })
+        Some(wanted.status(info.length()))
     }
 }

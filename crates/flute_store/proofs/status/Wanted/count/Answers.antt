@@ -1,6 +1,6 @@
 use Rattle.std.specs.Prelude.{flat_map}
 use Rattle.flute_store.specs.Objects.{listed}
-use Rattle.flute_store.proofs.HowMany.{first-gap, last-gap, counts-few, counts-more}
+use Rattle.flute_store.proofs.HowMany.{first-gap, last-gap, counts-few, counts-more, counts-none}
 use Rattle.flute_store.proofs.status.Wanted.count.Goals as goal
 
 pub add-requires-clause-order : goal.add-requires-clause-order
@@ -22,3 +22,6 @@ loop-gap-preserved c =
 
 pub returns : goal.returns
 returns c = last-gap _ _ _ c.in_default.ensures.steps.0 c.loop-gap.invariant.1
+
+pub loop-gap-init : goal.loop-gap-init
+loop-gap-init c = (c.requires.runs, counts-none _ _ c.none-wanted.ensures)

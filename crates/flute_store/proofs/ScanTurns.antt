@@ -1,0 +1,160 @@
+-- What a turn of a scan passes and gives.
+use Rattle.std.proofs.Common.{◌≡◌, ℕ, zero, suc, ◌+◌, ◌-◌, ◌<◌, Bool, true, false, cond, List, [], ◌∷◌, ◌++◌, length, map, Option, Some, None, refl, sym, ap, ◌∙◌, subst, arith}
+use Rattle.std.specs.Prelude.{flat_map, IfSome}
+use Rattle.std.specs.Borrow.{Bor}
+use Rattle.std.specs.List.{range_with_len, AllByRecursion}
+use Rattle.std.specs.List.Sorted.{IsStrictlySortedBy}
+use Rattle.std.specs.Map.{keys_of}
+use Rattle.std.specs.declared.cmp.Ordering.TheVariants.{Less}
+use Rattle.std.specs.Ordering.{is_eq}
+use Rattle.std.proofs.lemmas.Option.{none-some}
+use Rattle.flute_join.specs.Cell.{IsKnown}
+use Rattle.flute_join.specs.JoinMap.{value_at, IsOrdered}
+use Rattle.flute_join.specs.declared.cell.Cell.{Cell}
+use Rattle.flute_join.specs.declared.cell.Cell.TheVariants.{One, Conflict}
+use Rattle.flute_parts.specs.Information.{Information, sizes}
+use Rattle.flute_parts.specs.Order.{symbol_id_cmp}
+use Rattle.flute_parts.specs.Equality.{key_itself}
+use Rattle.flute_parts.specs.Partition.{symbol_id, ids}
+use Rattle.flute_parts.specs.declared.key.Key.{Key}
+use Rattle.flute_parts.specs.declared.symbol_id.SymbolId.{SymbolId}
+use Rattle.flute_parts.specs.declared.fact.Fact.{Fact}
+use Rattle.flute_store.specs.declared.gap.Reason.TheVariants.{Missing, Conflicting, Misfit}
+use Rattle.flute_store.specs.declared.status.Wanted.{Wanted as Counted}
+use Rattle.flute_store.specs.Status.{IsCount}
+use Rattle.flute_store.specs.BytesLeft.{held_bytes}
+use Rattle.flute_store.specs.declared.gap_walk.GapWalk.{GapWalk}
+use Rattle.flute_store.specs.Objects.{wants, listed}
+use Rattle.flute_store.specs.Wanted.{block_from, blocks_from}
+use Rattle.flute_store.specs.GapWalk.{Walk, walk_of, at_start, symbols_left, gaps_left, IsWalk, ShowsNext, after_block}
+use Rattle.flute_store.specs.Shown.{shown_by, shown}
+use Rattle.flute_store.specs.Scan.{Scanned, told, told_next, CanCome, at_begin, GaveAll}
+use Rattle.flute_store.specs.Scans.{Next, announced, held_next, run_length, IsWithin, ScanState, ComesAs, one_run, IsDone, Scans}
+use Rattle.flute_store.proofs.Lookups.{Entry, value-past, value-here}
+use Rattle.flute_store.proofs.SortedSymbols.{block_from-first, block_from-end, blocks_from-next, blocks_from-end, blocks_from-all}
+use Rattle.flute_store.proofs.KeyLists.{none_in}
+use Rattle.flute_store.proofs.Runs.{runs-listed}
+use Rattle.flute_store.proofs.HowMany.{how-nil}
+use Rattle.flute_store.proofs.HeldTurns.{start-walk}
+use Rattle.flute_store.proofs.ToldObjects.{start-left}
+
+-- ---- what comes next, as an entry
+
+abbrev pub cell_of : Option (Bor (List ℕ)) → Cell (List ℕ)
+cell_of None = Conflict
+cell_of (Some bytes) = One bytes.now
+
+pub shown-told : (key : Key) (n : SymbolId × Option (Bor (List ℕ))) → shown_by key (told key n) ≡ (n.0, cell_of n.1) ∷ []
+shown-told key (id, Some b) = ap (λ t. cond t ((id, One b.now) ∷ []) []) (key_itself key)
+shown-told key (id, None) = ap (λ t. cond t ((id, Conflict) ∷ []) []) (key_itself key)
+
+pub known-cell : (v : Option (Bor (List ℕ))) → IsKnown (cell_of v)
+known-cell None = λ e. cc
+known-cell (Some b) = λ e. cc
+
+pub shows-next : (key : Key) (next : Next) (more : List Entry) → ComesAs key (told_next key next) more → ShowsNext more (held_next next)
+shows-next key None more h = h
+shows-next key (Some (id, Some b)) more h = (One b.now, h.0, h.1 ∙ ap (λ es. es ++ h.0) (shown-told key (id, Some b)), refl)
+shows-next key (Some (id, None)) more h = (Conflict, h.0, h.1 ∙ ap (λ es. es ++ h.0) (shown-told key (id, None)), refl)
+
+-- ---- what was said to come next
+
+can_come : (key : Key) (f : Option Fact) (more : List Entry) (said : Option (Option Fact)) → IfSome said (λ c. c ≡ f) → ComesAs key f more → IfSome said (λ c. ComesAs key c more)
+can_come key f more None e h = tt
+can_come key f more (Some c) e h = subst (λ c. ComesAs key c more) (sym e) h
+
+same-done : (s t : Scanned) (w : GapWalk) (said : Option (Option Fact)) (bytes : Option (List ℕ)) → IfSome bytes (λ b. IsDone s w b) → t ≡ record s { coming = said; ahead = t.ahead } → IfSome bytes (λ b. IsDone t w b)
+same-done s t w said None d e = tt
+same-done s t w said (Some b) d e =
+    subst (λ (t : Scanned). IsDone t w b) (sym e)
+    (record { done = d.done; all = d.all; held = d.held; values = d.values; no_run = d.no_run; no_gap = d.no_gap })
+
+pub announce : (o : ScanState) (s : Scanned) (next : Next) → Scans o s → CanCome s next → Scans o (announced s next)
+announce o s next q can = record {
+  key_is = q.key_is;
+  info_is = q.info_is;
+  begins = q.begins;
+  walks = λ more r k h. let w = q.walks more r k (can_come s.key (told_next s.key next) more s.coming can h) in record { walk = w.walk; gaps_are = w.gaps_are };
+  done = same-done s (announced s next) o.walk (Some (told_next s.key next)) s.bytes q.done refl;
+  counts = q.counts;
+  ahead_is = q.ahead_is;
+}
+
+-- ---- the symbols that are left
+
+length-block : (n a k : ℕ) → length (map (symbol_id n) (range_with_len a k)) ≡ k
+length-block n a zero = refl
+length-block n a (suc k) = let h = length-block n (a + 1) k in omega (arith, h)
+
+length-both : (xs ys : List SymbolId) → length (xs ++ ys) ≡ length xs + length ys
+length-both [] ys = omega arith
+length-both (x ∷ xs) ys = let h = length-both xs ys in omega (arith, h)
+
+pub length-left : (w : Walk) → length (symbols_left w) ≡ (w.size - w.esi) + length (blocks_from w.partition w.begun)
+length-left w = length-both (block_from w.sbn w.esi w.size) (blocks_from w.partition w.begun) ∙ ap (λ k. k + length (blocks_from w.partition w.begun)) (length-block w.sbn w.esi (w.size - w.esi))
+
+-- none at the end
+pub end-symbols : (w : GapWalk) → w.esi ≡ w.size → w.begun ≡ length (sizes w.partition) → symbols_left (walk_of w []) ≡ []
+end-symbols w e f =
+    ap (λ k. block_from w.sbn k w.size ++ blocks_from w.partition w.begun) e
+    ∙ ap (λ xs. xs ++ blocks_from w.partition w.begun) (block_from-end w.sbn w.size)
+    ∙ ap (blocks_from w.partition) f ∙ blocks_from-end w.partition
+
+-- a block that is begun changes none of them
+pub begin-symbols : (w : GapWalk) → w.esi ≡ w.size → w.begun < length (sizes w.partition) → symbols_left (walk_of (after_block w) []) ≡ symbols_left (walk_of w [])
+begin-symbols w e l =
+    sym (ap (λ k. block_from w.sbn k w.size ++ blocks_from w.partition w.begun) e
+    ∙ ap (λ xs. xs ++ blocks_from w.partition w.begun) (block_from-end w.sbn w.size)
+    ∙ blocks_from-next w.partition w.begun l)
+
+-- the next one is passed
+pub take-symbols : (w : GapWalk) → w.esi < w.size → symbols_left (walk_of w []) ≡ symbol_id w.sbn w.esi ∷ symbols_left (walk_of (record w { esi = w.esi + 1 }) [])
+take-symbols w l = ap (λ xs. xs ++ blocks_from w.partition w.begun) (block_from-first w.sbn w.esi w.size l)
+
+-- ---- looking up in what was passed, with one more behind it
+
+pub value-more : (es more : List Entry) (id : SymbolId) (c : Cell (List ℕ)) → value_at symbol_id_cmp es id ≡ Some c → value_at symbol_id_cmp (es ++ more) id ≡ Some c
+value-more [] more id c h = absurd (none-some c h)
+value-more (e ∷ es) more id c h = by_test (is_eq (symbol_id_cmp id e.0)) h (λ g. value-more es more id c g)
+  where
+    by_test : (b : Bool) → cond b (Some e.1) (value_at symbol_id_cmp es id) ≡ Some c → (value_at symbol_id_cmp es id ≡ Some c → value_at symbol_id_cmp (es ++ more) id ≡ Some c) → cond b (Some e.1) (value_at symbol_id_cmp (es ++ more) id) ≡ Some c
+    by_test true g k = g
+    by_test false g k = k g
+
+above-last : (p : SymbolId) (es : List Entry) (e : Entry) → AllByRecursion (λ x. symbol_id_cmp p x ≡ Less) (keys_of (es ++ e ∷ [])) → symbol_id_cmp p e.0 ≡ Less
+above-last p [] e a = a.0
+above-last p (x ∷ es) e a = above-last p es e a.1
+
+pub value-last : (es : List Entry) (e : Entry) → IsOrdered symbol_id_cmp (es ++ e ∷ []) → value_at symbol_id_cmp (es ++ e ∷ []) e.0 ≡ Some e.1
+unfolding IsStrictlySortedBy
+value-last [] e r = value-here e [] e.0 refl
+value-last (x ∷ es) e r = value-past x (es ++ e ∷ []) e.0 (above-last x.0 es e r.0) ∙ value-last es e r.1
+
+-- ---- the start
+
+pub new-scan : (key : Key) (info : Information) (w : GapWalk) (c : Counted) → ((held : List Entry) → walk_of w held ≡ at_start info held) → IsCount c [] → Scans (record { key = key; info = info; walk = w; wanted = c }) (at_begin key info)
+unfolding shown held_bytes
+new-scan key info w c e i =
+    let start : symbols_left (walk_of w []) ≡ ids info = ap symbols_left (e []) ∙ blocks_from-all info in
+    let run : w.run ≡ None = ap (λ (y : Walk). y.run) (e []) in
+    record {
+      key_is = refl;
+      info_is = refl;
+      begins = ([], refl);
+      walks = λ more r k h. record {
+        walk = subst IsWalk (sym (e more)) (start-walk info more r k);
+        gaps_are = sym (ap gaps_left (e more) ∙ start-left info more);
+      };
+      done = record { done = []; all = sym start; held = λ id c. absurd (none_in id c); values = refl; no_run = run; no_gap = refl };
+      counts = i;
+      ahead_is = (let z = ap (λ (xs : List SymbolId). length xs) start in let o = ap one_run run in omega (arith, z, o));
+    }
+
+pub new-within : (w : GapWalk) (c : Counted) → IsCount c [] → w.run ≡ None → IsWithin w c
+new-within w c i r =
+    let m = i.missing in let n = i.conflicting in let f = i.misfit in
+    let o = ap run_length r in
+    omega (arith, m, n, f, o, how-nil Missing, how-nil Conflicting, how-nil Misfit)
+
+pub counts-wants : (o : ScanState) (s : Scanned) (F : List Fact) → Scans o s → GaveAll s F → IsCount o.wanted (wants F s.key s.info)
+counts-wants o s F q g = subst (IsCount o.wanted) (ap (flat_map listed) (sym g.gaps_are) ∙ runs-listed (wants F s.key s.info)) q.counts

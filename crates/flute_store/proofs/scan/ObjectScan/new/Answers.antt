@@ -1,0 +1,14 @@
+use Rattle.std.proofs.Common.{[], ap}
+use Rattle.flute_store.specs.GapWalk.{Walk}
+use Rattle.flute_store.proofs.ScanTurns.{new-scan, new-within}
+use Rattle.flute_store.proofs.scan.ObjectScan.new.Goals as goal
+
+pub invariant_of-result : goal.invariant_of-result
+invariant_of-result c = record {
+  place = c.new.ensures.place;
+  within = new-within c.new.result c.none.result c.none.ensures (ap (λ (y : Walk). y.run) (c.new.ensures.start []));
+  partition = ap (λ (y : Walk). y.partition) (c.new.ensures.start []);
+}
+
+pub returns : goal.returns
+returns c = new-scan _ _ _ _ c.new.ensures.start c.none.ensures
