@@ -36,3 +36,4 @@ pub mod StreamStops
 pub mod StreamStates
 pub mod Twos
 pub mod ListedFacts
+pub mod ChosenFacts

@@ -36,3 +36,6 @@ pub mod OrFulls
 pub mod Besides
 pub mod Replacing
 pub mod FilesSoFar
+pub mod Sessions
+pub mod ChosenStreams
+pub mod SessionExamples

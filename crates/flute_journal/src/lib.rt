@@ -3,6 +3,7 @@
 
 mod advance;
 mod beside;
+mod chosen;
 mod datagram_reader;
 mod datagram_writing;
 mod either;
@@ -26,6 +27,7 @@ mod reader;
 mod reading;
 mod replaced;
 mod save;
+mod sessions;
 mod stopped;
 mod stream;
 mod streams;
@@ -34,6 +36,7 @@ mod walk_stream;
 mod within;
 
 pub use beside::Beside;
+pub use chosen::Chosen;
 pub use datagram_reader::DatagramReader;
 pub use datagram_writing::write_datagrams;
 pub use either::Either;
@@ -50,6 +53,7 @@ pub use owned_journal_stream::OwnedJournalStream;
 pub use reader::JournalReader;
 pub use replaced::Replaced;
 pub use save::write_store;
+pub use sessions::Sessions;
 pub use stream::Stream;
 pub use streams::{Pair, Slice, Streams};
 pub use streams_fault::{InputFault, StreamsFault};

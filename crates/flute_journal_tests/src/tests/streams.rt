@@ -84,6 +84,26 @@ fn a_journal_over_limits_stops(rt: HostRuntime) -> Result<(), Fail> {
     Ok(())
 }
 
+/// Of one journal a session is taken that it has, and of another one that it has not.
+#[test]
+fn chosen_sessions_are_merged(rt: HostRuntime) -> Result<(), Fail> {
+    let whole = bytes(rt.alloc(), WHOLE)?;
+    let mut taken = MemorySource::new(&whole);
+    let mut passed = MemorySource::new(&whole);
+    let mut seventh = Sessions::all();
+    let mut eighth = Sessions::all();
+    assert!(rt; seventh.is_all() && seventh.add(7) && eighth.add(8));
+    assert!(rt; seventh.takes(7) && !seventh.takes(8) && !seventh.is_all());
+    let mut first = Chosen::new(JournalStream::new(&mut taken, MANY), seventh);
+    let mut second = Chosen::new(JournalStream::new(&mut passed, MANY), eighth);
+    let mut sink = MemorySink::new(rt.alloc());
+    let joined = merge_two::<4, 4, 4, _, _, _>(rt.alloc(), &mut first, &mut second, &mut sink)?;
+    assert!(rt; joined.entries == 3 && joined.within);
+    assert!(rt; first.others == 0 && second.others == 3);
+    assert!(rt; sink.as_slice() == bytes(rt.alloc(), written::WHOLE)?.as_slice());
+    Ok(())
+}
+
 /// The sink fails behind 20 bytes, and all is read and counted.
 #[test]
 fn a_join_goes_on_behind_a_failure(rt: HostRuntime) -> Result<(), Fail> {

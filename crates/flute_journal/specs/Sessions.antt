@@ -1,0 +1,22 @@
+-- The sessions that are taken.
+use Rattle.std.specs.Prelude.{ℕ, List, Bool, ◌||◌, take, filter, nat_eq, length}
+use Rattle.std.specs.List.{list_any}
+use Rattle.flute_parts.specs.Addresses.{address}
+use Rattle.flute_parts.specs.declared.fact.Fact.{Fact}
+use Rattle.flute_journal.specs.declared.sessions.Sessions.{Sessions}
+
+-- the Transport Session Identifiers that are listed
+abbrev pub listed : Sessions → List ℕ
+listed sessions = take sessions.count sessions.tsis
+
+-- an identifier is listed, or none is
+abbrev pub takes : List ℕ → ℕ → Bool
+takes tsis tsi = nat_eq (length tsis) 0 || list_any (λ listed. nat_eq listed tsi) tsis
+
+-- the session of a fact is taken
+abbrev pub is_chosen : List ℕ → Fact → Bool
+is_chosen tsis fact = takes tsis (address fact).key.session.tsi
+
+-- the facts of the sessions that are taken: of those whose identifiers are listed, or of all
+abbrev pub chosen : List ℕ → List Fact → List Fact
+chosen tsis facts = filter (is_chosen tsis) facts
