@@ -1,60 +1,240 @@
--- What is written of an object is the same of all facts that come to the same.
-use Rattle.std.proofs.Common.{◌≡◌, ℕ, List, length, Option, sym, subst, ◌∙◌}
+-- What is written of an object, by the entries of a journal that passed.
+use Rattle.std.proofs.Common.{◌≡◌, ℕ, ◌+◌, Bool, true, false, List, [], ◌∷◌, ◌++◌, length, Option, Some, None, Result, Ok, Err, inl, inr, refl, sym, ◌∙◌, subst, append-nil, arith}
+use Rattle.std.specs.Prelude.{◌⊎◌, IfSome, IfErr}
 use Rattle.std.specs.Io.KnownBytes.{Appends}
+use Rattle.std.proofs.KnownBytes.{Consumes-whole}
+use Rattle.std.proofs.lemmas.Option.{none-some}
 use Rattle.flute_parts.specs.Addresses.{info_address}
 use Rattle.flute_parts.specs.Devices.{AppendsPart}
-use Rattle.flute_parts.specs.Facts.{Same}
+use Rattle.flute_parts.specs.Facts.{IsRising, Same}
+use Rattle.flute_parts.specs.Tally.{Counts}
 use Rattle.flute_parts.specs.declared.fact.Fact.{Fact}
 use Rattle.flute_parts.specs.declared.key.Key.{Key}
+use Rattle.flute_parts.specs.declared.tally.Tally.{Tally}
+use Rattle.flute_parts.proofs.Facts.{fact_at-nil, Same-itself}
+use Rattle.flute_parts.specs.Limits.{Over}
 use Rattle.flute_store.proofs.WholeObjects.{Whole-same, object-same, gaps-same}
-use Rattle.flute_store.specs.Extract.{WritesWhole, TellsExtractFault}
-use Rattle.flute_store.specs.declared.extract.ExtractFault.{ExtractFault}
-use Rattle.flute_store.specs.declared.extract.ExtractFault.TheVariants.{NoObject, NoInformation, ConflictingInformation, NotWhole, Write}
-use Rattle.flutejoin.specs.Extract.{ExtractFails}
-use Rattle.flutejoin.specs.Status.{of_extract}
+use Rattle.flute_journal.specs.Format.{spelling_in}
+use Rattle.flute_journal.specs.Journal.{IsJournalWithin}
+use Rattle.flute_journal.specs.JournalWriters.{times_failed}
+use Rattle.flute_journal.specs.Reading.{Gives, GivesEntry, GivesEnd, GivesFault}
+use Rattle.flute_journal.specs.SoFar.{Sofar}
+use Rattle.flute_journal.specs.Stores.{BeginsWith, FailsToLoad}
+use Rattle.flute_journal.specs.declared.fault.LoadFault.{LoadFault}
+use Rattle.flute_journal.specs.declared.fault.LoadFault.TheVariants as load
+use Rattle.flute_journal.specs.declared.fault.ReadFault.{ReadFault}
+use Rattle.flute_journal.specs.declared.reader.Stage.{Stage}
+use Rattle.flute_journal.proofs.Loading.{Loaded, loaded-over}
+use Rattle.flute_journal.proofs.Whole.{sofar-next, sofar-stops, side-from}
+use Rattle.flutejoin.specs.Extract.{OfJournal, AnswersFrom, Extracts, FirstWritten, WritesFirst, SinkFails}
+use Rattle.flutejoin.specs.ObjectWriters.{WroteFirst, IsUntouched, TellsUntouched, FailedBy, Stands, PassesAll}
+use Rattle.flutejoin.specs.Show.{FailsToRead}
+use Rattle.flutejoin.specs.Status.{of_load}
+use Rattle.flutejoin.specs.declared.command_fault.CommandFault.{CommandFault}
+use Rattle.flutejoin.specs.declared.command_fault.CommandFault.TheVariants.{Input, Full, NoObject, NoInformation, ConflictingInformation, NotWhole, CannotWrite}
+use Rattle.flutejoin.specs.declared.limits.TheConstants.{MAX_ENTRIES}
+use Rattle.flutejoin.specs.declared.object_writer.Found.{Found}
+use Rattle.flutejoin.specs.declared.object_writer.ObjectWriter.{ObjectWriter}
+use Rattle.flutejoin.proofs.ObjectWriters.{wrote-some}
+use Rattle.flutejoin.proofs.Shown.{fails_same}
 
-module _ {W : Type 0} (written : W → Option (List ℕ)) (F : List Fact) (key : Key) (old new : W) where
-  pub fault_told : (fault : ExtractFault) → TellsExtractFault written F key old new fault → ExtractFails written F key old new (of_extract fault)
-  fault_told NoObject h = h
-  fault_told NoInformation h = h
-  fault_told ConflictingInformation h = h
-  fault_told (NotWhole first) h = h
-  fault_told Write h = h
+-- these entries were read, counted and passed, and nothing else
+pub record Passing (input left : Option (List ℕ)) (stage : Stage) (tally : Tally 64 4096 1048576) (writer : ObjectWriter) (start now : Option (List ℕ)) : Type 0 where
+  pub entries : List Fact
+  pub sofar : Sofar MAX_ENTRIES input left stage entries
+  pub counts : Counts 64 4096 1048576 entries tally
+  pub stands : Stands entries writer start now
 
-module _ {W : Type 0} (written : W → Option (List ℕ)) (F G : List Fact) (key : Key) (old new : W) (same : Same F G) where
-  pub whole_alike : (n : ℕ) → WritesWhole written F key old new n → WritesWhole written G key old new n
-  whole_alike n w =
-      let P : List ℕ → Type 0 = λ bytes. Appends (written old) (written new) bytes in
-      let e = object-same F G key w.info same in
+begins_at : (u v : Option (List ℕ)) (stage : Stage) (es : List Fact) → Sofar MAX_ENTRIES u v stage es → (es ≡ []) ⊎ IfSome u (λ bytes. BeginsWith MAX_ENTRIES bytes es)
+begins_at u v stage [] s = inl refl
+begins_at None v stage (e ∷ es) s = inr tt
+begins_at (Some x) None stage (e ∷ es) s = absurd s.read
+begins_at (Some x) (Some z) stage (e ∷ es) s = inr (record { are_entries = s.are_entries; rest = z; whole = s.read })
+
+module _ {u v w : Option (List ℕ)} {from to : Stage} {tally : Tally 64 4096 1048576} {writer : ObjectWriter} {s t : Option (List ℕ)} (p : Passing u v from tally writer s t) where
+  pub passing-next : (f : Fact) (next : Tally 64 4096 1048576) (new : ObjectWriter) (t' : Option (List ℕ)) → GivesEntry MAX_ENTRIES from to v w f
+      → ((F : List Fact) → IsRising (F ++ f ∷ []) → Counts 64 4096 1048576 F tally → Counts 64 4096 1048576 (F ++ f ∷ []) next)
+      → ((P : List Fact) → IsRising (P ++ f ∷ []) → Stands P writer s t → Stands (P ++ f ∷ []) new s t') → Passing u w to next new s t'
+  passing-next f next new t' g counts stands =
+      let more = sofar-next MAX_ENTRIES u v w from to p.entries f p.sofar g in
       record {
-        info = w.info;
-        whole = Whole-same F G key w.info same w.whole;
-        bytes = subst P e w.bytes;
-        length_is = w.length_is;
-        exact = subst (λ bytes. length bytes ≡ n) e w.exact;
+        entries = p.entries ++ f ∷ [];
+        sofar = more;
+        counts = counts p.entries more.are_entries.rising p.counts;
+        stands = stands p.entries more.are_entries.rising p.stands;
       }
 
-  pub fault_alike : (fault : ExtractFault) → TellsExtractFault written F key old new fault → ExtractFails written G key old new (of_extract fault)
-  fault_alike NoObject h = (λ part. sym (same.each (record { key = key; part = part })) ∙ h.0 part, h.1)
-  fault_alike NoInformation h =
-      (((h.0.0.0, λ none. h.0.0.1 (same.each (record { key = key; part = h.0.0.0 }) ∙ none)), sym (same.each (info_address key)) ∙ h.0.1), h.1)
-  fault_alike ConflictingInformation h = (sym (same.each (info_address key)) ∙ h.0, h.1)
-  fault_alike (NotWhole first) h =
-      let n = h.0 in (
-        record {
-          info = n.info;
-          information = sym (same.each (info_address key)) ∙ n.information;
-          gap = n.gap;
-          others = n.others;
-          gaps_are = sym (gaps-same F G key n.info same) ∙ n.gaps_are;
-          first_is = n.first_is;
-        },
-        h.1,
-      )
-  fault_alike Write h =
-      let P : List ℕ → Type 0 = λ bytes. AppendsPart (written old) (written new) bytes in
+  pub passing-fault : (f : ReadFault) → GivesFault MAX_ENTRIES from to v w f → PassesAll u w writer s t (Err (load.Read f))
+  passing-fault f g = record {
+    entries = p.entries;
+    rising = p.sofar.are_entries.rising;
+    begins = begins_at u v from p.entries p.sofar;
+    stands = p.stands;
+    ended = (p.entries, p.counts.within, (sofar-stops MAX_ENTRIES u v w from to p.entries f p.sofar g).0);
+  }
+
+  pub passing-full : (f : Fact) → GivesEntry MAX_ENTRIES from to v w f
+      → ((F : List Fact) → IsRising (F ++ f ∷ []) → Counts 64 4096 1048576 F tally → Over (F ++ f ∷ []) 64 4096 1048576) → PassesAll u w writer s t (Err load.Full)
+  passing-full f g over =
+      let more = sofar-next MAX_ENTRIES u v w from to p.entries f p.sofar g in
+      let loaded : Loaded 64 4096 1048576 MAX_ENTRIES u v from p.entries = record { entries = p.entries; sofar = p.sofar; same = Same-itself p.entries; fits = p.counts.within } in
+      record {
+        entries = p.entries;
+        rising = p.sofar.are_entries.rising;
+        begins = begins_at u v from p.entries p.sofar;
+        stands = p.stands;
+        ended = loaded-over 64 4096 1048576 MAX_ENTRIES u v w from to p.entries f loaded g (over p.entries more.are_entries.rising p.counts);
+      }
+
+  pub passing-end : GivesEnd from to v w → PassesAll u w writer s t (Ok tt)
+  passing-end g =
+      let end = side-from MAX_ENTRIES u v w from to p.entries None p.sofar g in
+      let journal =
+      Consumes-whole u w (spelling_in end.are_entries.version p.entries) (λ bytes. IsJournalWithin MAX_ENTRIES bytes p.entries) end.read end.at_end
+      (record { are_entries = end.are_entries; bytes_are = refl }) in
+      record {
+        entries = p.entries;
+        rising = p.sofar.are_entries.rising;
+        begins = begins_at u v from p.entries p.sofar;
+        stands = p.stands;
+        ended = (journal, end.at_end, p.counts.within);
+      }
+
+-- What a reader gave.
+
+pub given-fault : (limit bound : ℕ) (v w : Option (List ℕ)) (old new : Stage) (f : ReadFault) → bound ≡ limit → GivesFault bound old new v w f → GivesFault limit old new v w f
+given-fault limit bound v w old new f e h = subst (λ n. GivesFault n old new v w f) e h
+
+pub given-end : (bound : ℕ) (v w : Option (List ℕ)) (old new : Stage) (given : Option Fact) → given ≡ None → Gives bound old new v w (Ok given) → GivesEnd old new v w
+given-end bound v w old new given e h = subst (λ (o : Option Fact). Gives bound old new v w (Ok o)) e h
+
+-- What the command answers.
+
+pub of_source : {R : Type 0} (unread : R → Option (List ℕ)) (x y : R) (left : Option (List ℕ)) (writer : ObjectWriter) (s t : Option (List ℕ)) (r : Result (Unit {0}) LoadFault) → x ≡ y
+    → PassesAll (unread x) left writer s t r → PassesAll (unread y) left writer s t r
+of_source {R} unread x y left writer s t r e p = subst (λ (z : R). PassesAll (unread z) left writer s t r) e p
+
+pub if_err : (r : Result ℕ CommandFault) (X : Type 0) → X → IfErr r (λ _. X)
+if_err (Ok n) X x = tt
+if_err (Err f) X x = x
+
+module _ {W : Type 0} (written : W → Option (List ℕ)) (key : Key) (old new : W) where
+  -- as with the sink
+  pub lifted : (F : List Fact) (what : Found) (r : Result ℕ CommandFault) → Extracts (λ x. x) F key (written old) (written new) r → IfErr r (TellsUntouched what)
+      → (IsUntouched what → new ≡ old) → Extracts written F key old new r
+  lifted F what (Ok n) h t same = record { info = h.info; whole = h.whole; bytes = h.bytes; length_is = h.length_is; exact = h.exact }
+  lifted F what (Err NoObject) h t same = (h.0, same t)
+  lifted F what (Err NoInformation) h t same = (h.0, same t)
+  lifted F what (Err ConflictingInformation) h t same = (h.0, same t)
+  lifted F what (Err (NotWhole sbn esi)) h t same = h
+  lifted F what (Err CannotWrite) h t same = record { info = h.info; whole = h.whole; bytes = h.bytes }
+  lifted F what (Err fault) h t same = absurd h
+
+  -- the same of all that comes to the same
+  pub alike : (F G : List Fact) (r : Result ℕ CommandFault) → Same F G → Extracts written F key old new r → Extracts written G key old new r
+  alike F G (Ok n) same h =
+      let P : List ℕ → Type 0 = λ bytes. Appends (written old) (written new) bytes in
+      let e = object-same F G key h.info same in
       record {
         info = h.info;
         whole = Whole-same F G key h.info same h.whole;
-        bytes = subst P (object-same F G key h.info same) h.bytes;
+        bytes = subst P e h.bytes;
+        length_is = h.length_is;
+        exact = subst (λ bytes. length bytes ≡ n) e h.exact;
       }
+  alike F G (Err NoObject) same h = (λ part. sym (same.each (record { key = key; part = part })) ∙ h.0 part, h.1)
+  alike F G (Err NoInformation) same h =
+      (((h.0.0.0, λ none. h.0.0.1 (same.each (record { key = key; part = h.0.0.0 }) ∙ none)), sym (same.each (info_address key)) ∙ h.0.1), h.1)
+  alike F G (Err ConflictingInformation) same h = (sym (same.each (info_address key)) ∙ h.0, h.1)
+  alike F G (Err (NotWhole sbn esi)) same h = record {
+    info = h.info;
+    information = sym (same.each (info_address key)) ∙ h.information;
+    gap = h.gap;
+    others = h.others;
+    gaps_are = sym (gaps-same F G key h.info same) ∙ h.gaps_are;
+    first_is = h.first_is;
+  }
+  alike F G (Err CannotWrite) same h =
+      let P : List ℕ → Type 0 = λ bytes. AppendsPart (written old) (written new) bytes in
+      record { info = h.info; whole = Whole-same F G key h.info same h.whole; bytes = subst P (object-same F G key h.info same) h.bytes }
+  alike F G (Err fault) same h = absurd h
+
+  -- of a journal that was read to its end
+  pub answered : (input left : Option (List ℕ)) (F : List Fact) (r : Result ℕ CommandFault) (P : List Fact → Type 0) → Extracts written F key old new r → OfJournal input left P
+      → AnswersFrom input left P r
+  answered input left F (Ok n) P h o = o
+  answered input left F (Err (Input number fault)) P h o = absurd h
+  answered input left F (Err Full) P h o = absurd h
+  answered input left F (Err fault) P h o = o
+
+  -- what is told by facts that are told the same
+  pub record Answers (input left : Option (List ℕ)) (r : Result ℕ CommandFault) : Type 0 where
+    pub extracts : AnswersFrom input left (λ F. Extracts written F key old new r) r
+    pub as_others : (others : List Fact) → AnswersFrom input left (λ F. Same F others → Extracts written others key old new r) r
+    pub reads : (n m : ℕ) → m ≡ n → FailsToRead n m r
+
+  read_none : (F : List Fact) (r : Result ℕ CommandFault) → Extracts written F key old new r → (n m : ℕ) → m ≡ n → FailsToRead n m r
+  read_none F (Ok n) h k m e = e
+  read_none F (Err (Input number fault)) h k m e = absurd h
+  read_none F (Err fault) h k m e = e
+
+  pub answers : (input left : Option (List ℕ)) (writer : ObjectWriter) (x : Unit {0}) (r : Result ℕ CommandFault) → PassesAll input left writer (written old) (written new) (Ok x) → writer.key ≡ key
+      → (IsUntouched writer.found → new ≡ old)
+      → ((P : List Fact) (start now : Option (List ℕ)) → IsRising P → Stands P writer start now → Extracts (λ x. x) P writer.key start now r) → IfErr r (TellsUntouched writer.found)
+      → Answers input left r
+  answers input left writer x r p is same tells t =
+      let F = p.entries in
+      let here = subst (λ k. Extracts (λ x. x) F k (written old) (written new) r) is (tells F (written old) (written new) p.rising p.stands) in
+      let h = lifted F writer.found r here t same in
+      record {
+        extracts = answered input left F r (λ F. Extracts written F key old new r) h (record { entries = F; journal = p.ended.0; read = p.ended.1; within = p.ended.2; holds = h });
+        as_others = λ others.
+            answered input left F r (λ F. Same F others → Extracts written others key old new r) h
+            (record { entries = F; journal = p.ended.0; read = p.ended.1; within = p.ended.2; holds = λ s. alike F others r s h });
+        reads = read_none F r h;
+      }
+
+  pub first_part : (input left : Option (List ℕ)) (writer : ObjectWriter) (r : Result (Unit {0}) LoadFault) → PassesAll input left writer (written old) (written new) r → writer.key ≡ key
+      → (IsUntouched writer.found → new ≡ old) → WritesFirst written input key old new
+  first_part input left writer r p is same = elim (wrote-some p.entries writer.key writer.failed (written old) (written new) writer.found p.stands) [
+    | inl none ↦ inl (same none)
+    | inr w ↦ inr (begun p.entries p.rising p.begins (subst (λ k. WroteFirst p.entries k (written old) (written new)) is w))
+  ]
+    where
+      begun : (F : List Fact) → IsRising F → (F ≡ []) ⊎ IfSome input (λ bytes. BeginsWith MAX_ENTRIES bytes F) → WroteFirst F key (written old) (written new)
+          → FirstWritten input (written old) (written new) key
+      begun F rising (inl e) w = absurd (none-some _ (sym (fact_at-nil (info_address key)) ∙ (w.held [] [] (sym (append-nil F ∙ e)) tt).information))
+      begun F rising (inr b) w = record { entries = F; begins = b; info = w.info; bytes = w.bytes; held = w.held F [] (sym (append-nil F)) rising; count = w.count; appended = w.appended }
+
+-- how often the sink failed
+pub sink_fails : (n m : ℕ) (failed : Bool) (r : Result ℕ CommandFault) → m ≡ n + times_failed failed → FailedBy failed r → SinkFails n m r
+sink_fails n m false (Ok k) e f = omega (arith, e)
+sink_fails n m true (Ok k) e f = absurd cc
+sink_fails n m true (Err CannotWrite) e f = e
+sink_fails n m false (Err CannotWrite) e f = absurd cc
+sink_fails n m false (Err fault) e f = inl (omega (arith, e))
+sink_fails n m true (Err fault) e f = inr e
+
+-- The fault is that of the journal.
+
+pub journal_fault : (input left : Option (List ℕ)) (writer : ObjectWriter) (s t : Option (List ℕ)) (f : LoadFault) (fault : CommandFault) → fault ≡ of_load 1 f → (P : List Fact → Type 0)
+    → PassesAll input left writer s t (Err f) → AnswersFrom input left P (Err fault)
+journal_fault input left writer s t f fault e P p = subst (λ x. AnswersFrom input left P (Err x)) (sym e) (told f p)
+  where
+    told : (g : LoadFault) → PassesAll input left writer s t (Err g) → AnswersFrom input left P (Err (of_load 1 g))
+    told (load.Read g) p = (refl, p.ended)
+    told load.Full p = p.ended
+    told load.OutOfMemory p = absurd p.ended
+
+pub fault_reads : (n m : ℕ) (f : LoadFault) → FailsToLoad {T = Unit {0}} n m (Err f) → FailsToRead {T = ℕ} n m (Err (of_load 1 f))
+fault_reads n m (load.Read f) h = fails_same (Unit {0}) ℕ f n m h
+fault_reads n m load.Full h = h
+fault_reads n m load.OutOfMemory h = h
+
+pub fault_fails : (n m : ℕ) (failed : Bool) (f : LoadFault) → m ≡ n + times_failed failed → SinkFails n m (Err (of_load 1 f))
+fault_fails n m false (load.Read f) e = inl (omega (arith, e))
+fault_fails n m true (load.Read f) e = inr e
+fault_fails n m false load.Full e = inl (omega (arith, e))
+fault_fails n m true load.Full e = inr e
+fault_fails n m false load.OutOfMemory e = inl (omega (arith, e))
+fault_fails n m true load.OutOfMemory e = inr e

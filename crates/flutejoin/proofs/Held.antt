@@ -11,12 +11,11 @@ use Rattle.flute_parts.specs.declared.fact.Fact.{Fact}
 use Rattle.flute_parts.specs.Facts.{Same}
 use Rattle.flute_parts.proofs.Facts.{Same-itself, Same-trans, Same-append, Below-from_Same}
 use Rattle.flute_parts.proofs.Named.{Over-below}
-use Rattle.flute_wire.specs.Reading.{facts}
 use Rattle.flutejoin.specs.declared.command_fault.CommandFault.{CommandFault}
 use Rattle.flutejoin.specs.declared.command_fault.CommandFault.TheVariants.{Full, Input}
 use Rattle.flutejoin.specs.declared.joined.Joined.{Joined}
 use Rattle.flutejoin.specs.declared.held_file.HeldFile.{HeldFile}
-use Rattle.flutejoin.specs.Joined.{TakesDatagram, TakesDatagrams, StoreFails, HoldsAll, HoldsDatagrams}
+use Rattle.flutejoin.specs.Joined.{Choice, facts_by, TakesDatagram, TakesDatagrams, StoreFails, HoldsAll, HoldsDatagrams}
 use Rattle.flutejoin.specs.Refused.{is_refused}
 use Rattle.flutejoin.specs.Shelves.{IsOverShelf}
 use Rattle.flutejoin.proofs.Receptions.{Below-left}
@@ -28,19 +27,19 @@ store_over : (F : List Fact) (fault : CommandFault) → StoreFails F fault → f
 store_over F fault (inl full) is = full.1
 store_over F fault (inr memory) is = let e = sym memory ∙ is in absurd cc
 
--- the sender of all datagrams
-module _ (sender : ℕ) where
-  flat_more : (ds : List (List ℕ)) (d : List ℕ) → flat_map (facts sender) (ds ++ d ∷ []) ≡ flat_map (facts sender) ds ++ facts sender d
-  flat_more ds d = flat_map-append (facts sender) ds (d ∷ []) ∙ ap (λ F. flat_map (facts sender) ds ++ F) (append-nil (facts sender d))
+-- the choice of all datagrams
+module _ (choice : Choice) where
+  flat_more : (ds : List (List ℕ)) (d : List ℕ) → flat_map (facts_by choice) (ds ++ d ∷ []) ≡ flat_map (facts_by choice) ds ++ facts_by choice d
+  flat_more ds d = flat_map-append (facts_by choice) ds (d ∷ []) ∙ ap (λ F. flat_map (facts_by choice) ds ++ F) (append-nil (facts_by choice d))
 
-  takes_more : (before now after : Joined) (ds : List (List ℕ)) (d : List ℕ) → TakesDatagrams sender before ds now → TakesDatagram sender now d after → TakesDatagrams sender before (ds ++ d ∷ []) after
+  takes_more : (before now after : Joined) (ds : List (List ℕ)) (d : List ℕ) → TakesDatagrams choice before ds now → TakesDatagram (facts_by choice d) now d after → TakesDatagrams choice before (ds ++ d ∷ []) after
   takes_more before now after ds d all one =
       let length_is = length-append ds (d ∷ []) in
       record {
         content = rw (flat_more ds d)
-            (subst (λ F. Same after.store F) (append_assoc before.store (flat_map (facts sender) ds) (facts sender d))
-            (Same-trans after.store (now.store ++ facts sender d) ((before.store ++ flat_map (facts sender) ds) ++ facts sender d) one.content
-            (Same-append now.store (before.store ++ flat_map (facts sender) ds) (facts sender d) (facts sender d) all.content (Same-itself (facts sender d)))));
+            (subst (λ F. Same after.store F) (append_assoc before.store (flat_map (facts_by choice) ds) (facts_by choice d))
+            (Same-trans after.store (now.store ++ facts_by choice d) ((before.store ++ flat_map (facts_by choice) ds) ++ facts_by choice d) one.content
+            (Same-append now.store (before.store ++ flat_map (facts_by choice) ds) (facts_by choice d) (facts_by choice d) all.content (Same-itself (facts_by choice d)))));
         count = omega (arith, one.datagrams, all.count, length_is);
         refused = rw (sum_by_push (λ x. cond (is_refused x) 1 0) ds d, one.refused) (counted before.refused now.refused (count_by is_refused ds) (is_refused d) all.refused);
       }
@@ -49,22 +48,22 @@ module _ (sender : ℕ) where
       counted m n k true e = omega (arith, e)
       counted m n k false e = omega (arith, e)
 
-  over_more : (ds : List (List ℕ)) (d : List ℕ) → IsOverShelf (flat_map (facts sender) ds) → IsOverShelf (flat_map (facts sender) (ds ++ d ∷ []))
-  over_more ds d over = rw (flat_more ds d) (Over-below (flat_map (facts sender) ds) (flat_map (facts sender) ds ++ facts sender d) 64 4096 1048576 (Below-left (flat_map (facts sender) ds) (facts sender d)) over)
+  over_more : (ds : List (List ℕ)) (d : List ℕ) → IsOverShelf (flat_map (facts_by choice) ds) → IsOverShelf (flat_map (facts_by choice) (ds ++ d ∷ []))
+  over_more ds d over = rw (flat_more ds d) (Over-below (flat_map (facts_by choice) ds) (flat_map (facts_by choice) ds ++ facts_by choice d) 64 4096 1048576 (Below-left (flat_map (facts_by choice) ds) (facts_by choice d)) over)
 
-  over_with : (told : Joined) (ds : List (List ℕ)) (d : List ℕ) → TakesDatagrams sender none ds told → IsOverShelf (told.store ++ facts sender d) → IsOverShelf (flat_map (facts sender) (ds ++ d ∷ []))
+  over_with : (told : Joined) (ds : List (List ℕ)) (d : List ℕ) → TakesDatagrams choice none ds told → IsOverShelf (told.store ++ facts_by choice d) → IsOverShelf (flat_map (facts_by choice) (ds ++ d ∷ []))
   over_with told ds d all over =
       rw (flat_more ds d)
-      (Over-below (told.store ++ facts sender d) (flat_map (facts sender) ds ++ facts sender d) 64 4096 1048576
-      (Below-from_Same (told.store ++ facts sender d) (flat_map (facts sender) ds ++ facts sender d) (Same-append told.store (flat_map (facts sender) ds) (facts sender d) (facts sender d) all.content (Same-itself (facts sender d)))) over)
+      (Over-below (told.store ++ facts_by choice d) (flat_map (facts_by choice) ds ++ facts_by choice d) 64 4096 1048576
+      (Below-from_Same (told.store ++ facts_by choice d) (flat_map (facts_by choice) ds ++ facts_by choice d) (Same-append told.store (flat_map (facts_by choice) ds) (facts_by choice d) (facts_by choice d) all.content (Same-itself (facts_by choice d)))) over)
 
-  holding : (b c : Bool) (told : Joined) (ds : List (List ℕ)) → b ≡ c → HoldsAll sender c told ds → HoldsAll sender b told ds
-  holding b c told ds e h = subst (λ x. HoldsAll sender x told ds) (sym e) h
+  holding : (b c : Bool) (told : Joined) (ds : List (List ℕ)) → b ≡ c → HoldsAll choice c told ds → HoldsAll choice b told ds
+  holding b c told ds e h = subst (λ x. HoldsAll choice x told ds) (sym e) h
 
-  held_as : (b c : Bool) (told : Joined) (ds : List (List ℕ)) → b ≡ c → HoldsAll sender b told ds → HoldsAll sender c told ds
-  held_as b c told ds e h = subst (λ x. HoldsAll sender x told ds) e h
+  held_as : (b c : Bool) (told : Joined) (ds : List (List ℕ)) → b ≡ c → HoldsAll choice b told ds → HoldsAll choice c told ds
+  held_as b c told ds e h = subst (λ x. HoldsAll choice x told ds) e h
 
-  pub holds_none : (file : HeldFile) → file.told.store ≡ [] → file.told.datagrams ≡ 0 → file.told.refused ≡ 0 → file.fits ≡ true → HoldsDatagrams sender file []
+  pub holds_none : (file : HeldFile) → file.told.store ≡ [] → file.told.datagrams ≡ 0 → file.told.refused ≡ 0 → file.fits ≡ true → HoldsDatagrams choice file []
   holds_none file store datagrams refused fits = record {
     few = omega (arith, datagrams);
     few_refused = omega (arith, datagrams, refused);
@@ -72,8 +71,8 @@ module _ (sender : ℕ) where
   }
 
   -- a datagram more was taken
-  pub holds_more : (old new : HeldFile) (ds : List (List ℕ)) (d : List ℕ) → old.fits ≡ true → new.fits ≡ true → TakesDatagram sender old.told d new.told → HoldsDatagrams sender old ds
-      → HoldsDatagrams sender new (ds ++ d ∷ [])
+  pub holds_more : (old new : HeldFile) (ds : List (List ℕ)) (d : List ℕ) → old.fits ≡ true → new.fits ≡ true → TakesDatagram (facts_by choice d) old.told d new.told → HoldsDatagrams choice old ds
+      → HoldsDatagrams choice new (ds ++ d ∷ [])
   holds_more old new ds d fits still one h = record {
     few = omega (arith, one.datagrams, h.few, length-append ds (d ∷ []));
     few_refused = fewer (is_refused d) one.refused;
@@ -85,27 +84,38 @@ module _ (sender : ℕ) where
       fewer false e = omega (arith, e, one.datagrams, h.few_refused)
 
   -- it found no room
-  pub holds_over : (old new : HeldFile) (ds : List (List ℕ)) (d : List ℕ) (fault : CommandFault) → old.fits ≡ true → new.fits ≡ false → StoreFails (old.told.store ++ facts sender d) fault → fault ≡ Full
-      → (new.told.datagrams ≡ old.told.datagrams) × (new.told.refused ≡ old.told.refused) → HoldsDatagrams sender old ds → HoldsDatagrams sender new (ds ++ d ∷ [])
-  holds_over old new ds d fault fits over fails full counts h = record {
+  pub holds_over : (old new : HeldFile) (ds : List (List ℕ)) (d : List ℕ) (told : List Fact) (fault : CommandFault) → old.fits ≡ true → new.fits ≡ false → facts_by choice d ≡ told → StoreFails (old.told.store ++ told) fault → fault ≡ Full
+      → (new.told.datagrams ≡ old.told.datagrams) × (new.told.refused ≡ old.told.refused) → HoldsDatagrams choice old ds → HoldsDatagrams choice new (ds ++ d ∷ [])
+  holds_over old new ds d told fault fits over e fails full counts h = record {
     few = omega (arith, counts.0, h.few, length-append ds (d ∷ []));
     few_refused = omega (arith, counts.0, counts.1, h.few_refused);
-    holds = holding new.fits false new.told (ds ++ d ∷ []) over (over_with old.told ds d (held_as old.fits true old.told ds fits h.holds) (store_over _ fault fails full));
+    holds = holding new.fits false new.told (ds ++ d ∷ []) over (over_with old.told ds d (held_as old.fits true old.told ds fits h.holds) (subst (λ F. IsOverShelf (old.told.store ++ F)) (sym e) (store_over _ fault fails full)));
   }
 
   -- there had been none before
-  pub holds_past : (file : HeldFile) (ds : List (List ℕ)) (d : List ℕ) → file.fits ≡ false → HoldsDatagrams sender file ds → HoldsDatagrams sender file (ds ++ d ∷ [])
+  pub holds_past : (file : HeldFile) (ds : List (List ℕ)) (d : List ℕ) → file.fits ≡ false → HoldsDatagrams choice file ds → HoldsDatagrams choice file (ds ++ d ∷ [])
   holds_past file ds d fits h = record {
     few = omega (arith, h.few, length-append ds (d ∷ []));
     few_refused = h.few_refused;
     holds = holding file.fits false file.told (ds ++ d ∷ []) fits (over_more ds d (held_as file.fits false file.told ds fits h.holds));
   }
 
+  -- a datagram of another session was counted
+  pub holds_passed : (old new : HeldFile) (ds : List (List ℕ)) (d : List ℕ) → old.fits ≡ true → new.fits ≡ true → facts_by choice d ≡ [] → is_refused d ≡ false → new.told ≡ record { store = old.told.store; datagrams = old.told.datagrams + 1; refused = old.told.refused }
+      → HoldsDatagrams choice old ds → HoldsDatagrams choice new (ds ++ d ∷ [])
+  holds_passed old new ds d fits still none kept is h =
+      holds_more old new ds d fits still
+      (record {
+        content = rw (none, is, append-nil old.told.store) (Same-itself old.told.store);
+        datagrams = ap (λ t. t.datagrams) is;
+        refused = rw kept (ap (λ t. t.refused) is);
+      }) h
+
   -- what a taken datagram comes to
-  pub holds_taken : (r : Result (Unit {0}) CommandFault) (old new : HeldFile) (d : List ℕ) → old.fits ≡ true → new.fits ≡ true → OnOk r (TakesDatagram sender old.told d new.told)
-      → OnOk r ((ds : List (List ℕ)) → HoldsDatagrams sender old ds → HoldsDatagrams sender new (ds ++ d ∷ []))
-  holds_taken (Ok t) old new d fits still h = λ ds holds. holds_more old new ds d fits still h holds
-  holds_taken (Err f) old new d fits still h = tt
+  pub holds_taken : (r : Result (Unit {0}) CommandFault) (old new : HeldFile) (d : List ℕ) (told : List Fact) → old.fits ≡ true → new.fits ≡ true → facts_by choice d ≡ told → OnOk r (TakesDatagram told old.told d new.told)
+      → OnOk r ((ds : List (List ℕ)) → HoldsDatagrams choice old ds → HoldsDatagrams choice new (ds ++ d ∷ []))
+  holds_taken (Ok t) old new d told fits still e h = λ ds holds. holds_more old new ds d fits still (subst (λ F. TakesDatagram F old.told d new.told) (sym e) h) holds
+  holds_taken (Err f) old new d told fits still e h = tt
 
 -- A record that was read as the input with this number.
 

@@ -18,6 +18,7 @@ use Rattle.flute_journal.proofs.MergeBytes.{journal_parts}
 use Rattle.flute_journal.specs.Journal.{Journal, Collects}
 use Rattle.flute_journal.specs.JournalWriters.{Written}
 use Rattle.flute_journal.specs.Kinds.{HasKind}
+use Rattle.flute_journal.specs.Sessions.{chosen}
 use Rattle.flute_journal.specs.Listed.{listed_behaviour}
 use Rattle.flute_journal.specs.Stores.{BeginsWith}
 use Rattle.flute_journal.specs.Streams.{Behaviour, IsNew, option_list}
@@ -41,7 +42,7 @@ use Rattle.flutejoin.specs.declared.command_fault.CommandFault.{CommandFault}
 use Rattle.flutejoin.specs.declared.command_fault.CommandFault.TheVariants.{Input, Full, OutOfMemory, CannotWrite}
 use Rattle.flutejoin.specs.declared.held_file.HeldFile.{HeldFile}
 use Rattle.flutejoin.specs.JoinInputs.{JoinInput, failures_of, NoneFailed, OneFailed}
-use Rattle.flutejoin.specs.Joined.{told_facts, TellsWithin, FirstInput, IsKnown, IsOverAlone, IsJournalAt, IsFileAt, JoinFails, HoldsAll, FileFails}
+use Rattle.flutejoin.specs.Joined.{Choice, told_facts, TellsWithin, FirstInput, IsKnown, IsOverAlone, IsJournalAt, IsFileAt, JoinFails, HoldsAll, FileFails}
 use Rattle.flutejoin.specs.Joining.{JoinsTo, AllTell, JoinToFails, of_inputs, of_device, of_sink, NamesOneOf, LookFails, of_kind, of_file, SomeLookFails, IsLooked, AreReady, AreLooked, IsReady, JoinsLooked, IsHeldStream, IsStreamOf, SumsUp}
 use Rattle.flutejoin.specs.Shelves.{IsOverShelf}
 use Rattle.flutejoin.specs.Status.{of_load}
@@ -99,16 +100,16 @@ held_stream held rest file s fits within new is few = record {
   fails = λ now fault e. let d : Some fault ≡ None = e in cc;
 }
 
-module _ (sender : ℕ) {R : Type 0} (unread : R → Option (List ℕ)) (failures : R → ℕ) {S : Type 0} (b : Behaviour S) where
-  told_before : (xs : List (JoinInput R)) (fs : List (Option HeldFile)) (os : List (Option (OrFull S))) (contents : List (List ℕ)) (n : ℕ) → Stands sender unread failures b xs fs os → Looks sender unread failures b xs fs contents
-      → TellBefore (joins sender unread failures b) n (replaced xs os) → AllByRecursion (TellsWithin sender) (take n contents)
+module _ (choice : Choice) {R : Type 0} (unread : R → Option (List ℕ)) (failures : R → ℕ) {S : Type 0} (b : Behaviour S) where
+  told_before : (xs : List (JoinInput R)) (fs : List (Option HeldFile)) (os : List (Option (OrFull S))) (contents : List (List ℕ)) (n : ℕ) → Stands choice unread failures b xs fs os → Looks choice unread failures b xs fs contents
+      → TellBefore (joins choice unread failures b) n (replaced xs os) → AllByRecursion (TellsWithin choice) (take n contents)
   told_before xs fs os contents zero h l t = tt
   told_before [] [] [] [] (suc n) h l t = tt
   told_before (x ∷ xs) (None ∷ fs) (None ∷ os) (bytes ∷ contents) (suc n) h l t =
-      let one = tells_one sender unread failures b x None None bytes (First x) t.0.0 refl h.0.0 h.0.1 l.0 t.0.1 in
+      let one = tells_one choice unread failures b x None None bytes (First x) t.0.0 refl h.0.0 h.0.1 l.0 t.0.1 in
       ((one.told, one.tells, one.within), told_before xs fs os contents n h.1 l.1 t.1)
   told_before (x ∷ xs) (Some f ∷ fs) (Some s ∷ os) (bytes ∷ contents) (suc n) h l t =
-      let one = tells_one sender unread failures b x (Some f) (Some s) bytes (Second (record { stream = s; beside = x })) t.0.0 refl h.0.0 h.0.1 l.0 t.0.1 in
+      let one = tells_one choice unread failures b x (Some f) (Some s) bytes (Second (record { stream = s; beside = x })) t.0.0 refl h.0.0 h.0.1 l.0 t.0.1 in
       ((one.told, one.tells, one.within), told_before xs fs os contents n h.1 l.1 t.1)
   told_before (x ∷ xs) (None ∷ fs) (Some s ∷ os) contents (suc n) h l t = absurd h.0.1
   told_before (x ∷ xs) (Some f ∷ fs) (None ∷ os) contents (suc n) h l t = absurd h.0.1
@@ -122,51 +123,52 @@ module _ (sender : ℕ) {R : Type 0} (unread : R → Option (List ℕ)) (failure
   told_before (x ∷ xs) (Some f ∷ fs) (Some s ∷ os) [] (suc n) h l t = elim l [ ]
 
   module _ (contents : List (List ℕ)) (n : ℕ) (bytes : List ℕ) (here : slice_get contents n ≡ Some bytes) (known : AllByRecursion IsKnown contents) (all : AllByRecursion IsKnown (take n contents))
-      (before : AllByRecursion (TellsWithin sender) (take n contents)) where
-    over_alone : (IsOverAlone sender) bytes → JoinToFails sender contents Full
-    over_alone h = of_inputs (known, inl (n + 1, first_at (TellsWithin sender) (IsOverAlone sender) contents n bytes here before h))
+      (before : AllByRecursion (TellsWithin choice) (take n contents)) where
+    over_alone : (IsOverAlone choice) bytes → JoinToFails choice contents Full
+    over_alone h = of_inputs (known, inl (n + 1, first_at (TellsWithin choice) (IsOverAlone choice) contents n bytes here before h))
 
-    journal_stops : (x : JoinInput R) (fault : LoadFault) → IsReady unread failures x None → IsLooked unread sender x None bytes → (joins sender unread failures b).stops (First x) fault → JoinToFails sender contents (of_load (n + 1) fault)
+    journal_stops : (x : JoinInput R) (fault : LoadFault) → IsReady unread failures x None → IsLooked unread choice x None bytes → (joins choice unread failures b).stops (First x) fault → JoinToFails choice contents (of_load (n + 1) fault)
     journal_stops x (load.Read f) ready looked (inl h) =
-        let P : Option (List ℕ) → Type 0 = λ o. HasFault x.stream.max_entries o f in
+        let P : Option (List ℕ) → Type 0 = λ o. HasFault x.stream.stream.max_entries o f in
         let Q : ℕ → Type 0 = λ m. HasFault m (Some bytes) f in
         elim (read_or_not f) [
           | inl is ↦ of_device (n + 1) (ap (Input (n + 1)) is) (first_at IsKnown (λ bs. ⊤) contents n bytes here all tt)
-          | inr other ↦ of_inputs (inr (known, first_at (TellsWithin sender) (IsJournalAt f) contents n bytes here before (looked.0, subst Q (ready refl).2 (subst P looked.1 h), other)))
+          | inr other ↦ of_inputs (inr (known, first_at (TellsWithin choice) (IsJournalAt f) contents n bytes here before (looked.0, subst Q (ready refl).2 (subst P looked.1 h), other)))
         ]
     journal_stops x load.Full ready looked (inl h) = absurd h
     journal_stops x load.OutOfMemory ready looked (inl h) = absurd h
     journal_stops x (load.Read f) ready looked (inr h) = let e = h.0 in absurd cc
     journal_stops x load.Full ready looked (inr h) =
-        let P : Option (List ℕ) → Type 0 = λ o. IfSome o (λ bs. BeginsWith x.stream.max_entries bs h.1.0) in
-        let Q : ℕ → Type 0 = λ m. BeginsWith m bytes h.1.0 in
-        over_alone (inl (looked.0, (h.1.0, subst Q (ready refl).2 (subst P looked.1 h.1.1), h.1.2)))
+        let P : Option (List ℕ) → Type 0 = λ o. IfSome o (λ bs. BeginsWith x.stream.stream.max_entries bs h.1.1.0) in
+        let Q : ℕ → Type 0 = λ m. BeginsWith m bytes h.1.1.0 in
+        let is : h.1.0 ≡ chosen choice.tsis h.1.1.0 = h.1.1.2 ∙ ap (λ tsis. chosen tsis h.1.1.0) looked.2 in
+        over_alone (inl (looked.0, h.1.1.0, subst Q (ready refl).2 (subst P looked.1 h.1.1.1), subst IsOverShelf is h.1.2))
     journal_stops x load.OutOfMemory ready looked (inr h) = let e = h.0 in absurd cc
 
-    file_stops : (x : JoinInput R) (file : HeldFile) (s : OrFull S) (fault : LoadFault) → IsStreamOf b (Some file) (Some s) → IsLooked unread sender x (Some file) bytes → (joins sender unread failures b).stops (Second (record { stream = s; beside = x })) fault
-        → JoinToFails sender contents (of_load (n + 1) fault)
+    file_stops : (x : JoinInput R) (file : HeldFile) (s : OrFull S) (fault : LoadFault) → IsStreamOf b (Some file) (Some s) → IsLooked unread choice x (Some file) bytes → (joins choice unread failures b).stops (Second (record { stream = s; beside = x })) fault
+        → JoinToFails choice contents (of_load (n + 1) fault)
     file_stops x file (orfull.Stream s) fault stream looked h = absurd (stream.stops fault h)
     file_stops x file orfull.Full fault stream looked h =
-        let P : Bool → Type 0 = λ c. HoldsAll sender c file.told looked.0 in
-        subst (λ f. JoinToFails sender contents (of_load (n + 1) f)) (sym h) (over_alone (inr (looked.0, looked.1, subst P stream looked.2.holds)))
+        let P : Bool → Type 0 = λ c. HoldsAll choice c file.told looked.0 in
+        subst (λ f. JoinToFails choice contents (of_load (n + 1) f)) (sym h) (over_alone (inr (looked.0, looked.1, subst P stream looked.2.holds)))
 
-    one_stops : (x : JoinInput R) (f : Option HeldFile) (o : Option (OrFull S)) (s : Either (JoinInput R) (Beside (JoinInput R) (OrFull S))) (fault : LoadFault) → IsReady unread failures x f → IsStreamOf b f o → IsLooked unread sender x f bytes
-        → replaced (x ∷ []) (o ∷ []) ≡ s ∷ [] → (joins sender unread failures b).stops s fault → JoinToFails sender contents (of_load (n + 1) fault)
-    one_stops x None None s fault ready stream looked e h = let is : First x ≡ s = cc in journal_stops x fault ready looked (subst (λ t. (joins sender unread failures b).stops t fault) (sym is) h)
+    one_stops : (x : JoinInput R) (f : Option HeldFile) (o : Option (OrFull S)) (s : Either (JoinInput R) (Beside (JoinInput R) (OrFull S))) (fault : LoadFault) → IsReady unread failures x f → IsStreamOf b f o → IsLooked unread choice x f bytes
+        → replaced (x ∷ []) (o ∷ []) ≡ s ∷ [] → (joins choice unread failures b).stops s fault → JoinToFails choice contents (of_load (n + 1) fault)
+    one_stops x None None s fault ready stream looked e h = let is : First x ≡ s = cc in journal_stops x fault ready looked (subst (λ t. (joins choice unread failures b).stops t fault) (sym is) h)
     one_stops x (Some file) (Some t) s fault ready stream looked e h =
         let is : Second (record { stream = t; beside = x }) ≡ s = cc in
-        file_stops x file t fault stream looked (subst (λ u. (joins sender unread failures b).stops u fault) (sym is) h)
+        file_stops x file t fault stream looked (subst (λ u. (joins choice unread failures b).stops u fault) (sym is) h)
     one_stops x None (Some t) s fault ready stream looked e h = absurd stream
     one_stops x (Some file) None s fault ready stream looked e h = absurd stream
 
   -- the first fault is told as that of its input
   pub first_fails : (xs : List (JoinInput R)) (fs : List (Option HeldFile)) (os : List (Option (OrFull S))) (contents : List (List ℕ)) (now : List (Either (JoinInput R) (Beside (JoinInput R) (OrFull S)))) (first : InputFault)
-      → Stands sender unread failures b xs fs os → length fs ≡ length xs → AreLooked unread sender xs fs contents → FirstFault (joins sender unread failures b) (replaced xs os) now first → JoinToFails sender contents (of_load (first.number + 1) first.fault)
+      → Stands choice unread failures b xs fs os → length fs ≡ length xs → AreLooked unread choice xs fs contents → FirstFault (joins choice unread failures b) (replaced xs os) now first → JoinToFails choice contents (of_load (first.number + 1) first.fault)
   first_fails xs fs os contents now first h many looked fault =
       let n = first.number in
-      let p = place sender unread failures b xs fs os n fault.stopped.new h fault.stopped.was in
-      let l = looks sender unread failures b xs fs contents many looked in
-      let known = all_known sender unread failures b xs fs contents l in
+      let p = place choice unread failures b xs fs os n fault.stopped.new h fault.stopped.was in
+      let l = looks choice unread failures b xs fs contents many looked in
+      let known = all_known choice unread failures b xs fs contents l in
       let within = slice_get_within xs n p.input p.own in
       let here = at_place contents n (omega (arith, within, looked.as_many)) in
       one_stops contents n here.0 here.1 known (taken_known n contents known) (told_before xs fs os contents n h l fault.before) p.input p.file p.other fault.stopped.new first.fault p.ready p.stream
@@ -177,10 +179,10 @@ module _ (sender : ℕ) {R : Type 0} (unread : R → Option (List ℕ)) (failure
       taken_known (suc n) [] all = tt
       taken_known (suc n) (c ∷ cs) all = (all.0, taken_known n cs all.1)
 
-  pub first_within : (xs : List (JoinInput R)) (fs : List (Option HeldFile)) (os : List (Option (OrFull S))) (now : List (Either (JoinInput R) (Beside (JoinInput R) (OrFull S)))) (first : InputFault) → Stands sender unread failures b xs fs os
-      → FirstFault (joins sender unread failures b) (replaced xs os) now first → first.number < length xs
+  pub first_within : (xs : List (JoinInput R)) (fs : List (Option HeldFile)) (os : List (Option (OrFull S))) (now : List (Either (JoinInput R) (Beside (JoinInput R) (OrFull S)))) (first : InputFault) → Stands choice unread failures b xs fs os
+      → FirstFault (joins choice unread failures b) (replaced xs os) now first → first.number < length xs
   first_within xs fs os now first h fault =
-      let p = place sender unread failures b xs fs os first.number fault.stopped.new h fault.stopped.was in
+      let p = place choice unread failures b xs fs os first.number fault.stopped.new h fault.stopped.was in
       slice_get_within xs first.number p.input p.own
 
   -- What has failed.
@@ -201,8 +203,8 @@ module _ (sender : ℕ) {R : Type 0} (unread : R → Option (List ℕ)) (failure
   own_at (x ∷ xs) (Some t ∷ os) (suc n) s e = let r = own_at xs os n s e in record { input = r.input; other = r.other; own = r.own; is = r.is }
 
   failed_once : (x y : JoinInput R) (f : Option HeldFile) (o p : Option (OrFull S)) (s t : Either (JoinInput R) (Beside (JoinInput R) (OrFull S))) → replaced (x ∷ []) (o ∷ []) ≡ s ∷ [] → replaced (y ∷ []) (p ∷ []) ≡ t ∷ [] → IsStreamOf b f o
-      → (joins sender unread failures b).fails s t (Some (load.Read Read)) → failures_of failures y ≡ failures_of failures x + 1
-  failed_once x y f o p s t e d stream h = go f o p stream (subst (λ v. (joins sender unread failures b).fails v t (Some (load.Read Read))) (own_is x o s e) h)
+      → (joins choice unread failures b).fails s t (Some (load.Read Read)) → failures_of failures y ≡ failures_of failures x + 1
+  failed_once x y f o p s t e d stream h = go f o p stream (subst (λ v. (joins choice unread failures b).fails v t (Some (load.Read Read))) (own_is x o s e) h)
     where
       head_is : {X : Type 0} (u v : X) → u ∷ [] ≡ v ∷ [] → u ≡ v
       head_is u v same = cc
@@ -218,7 +220,7 @@ module _ (sender : ℕ) {R : Type 0} (unread : R → Option (List ℕ)) (failure
       own_is : (z : JoinInput R) (q : Option (OrFull S)) (v : Either (JoinInput R) (Beside (JoinInput R) (OrFull S))) → replaced (z ∷ []) (q ∷ []) ≡ v ∷ [] → v ≡ chosen z q
       own_is z q v same = head_is v (chosen z q) (sym same ∙ chosen_is z q)
 
-      one : (q r : Option (OrFull S)) (g : Option HeldFile) → IsStreamOf b g q → (joins sender unread failures b).fails (chosen x q) (chosen y r) (Some (load.Read Read)) → failures_of failures y ≡ failures_of failures x + 1
+      one : (q r : Option (OrFull S)) (g : Option HeldFile) → IsStreamOf b g q → (joins choice unread failures b).fails (chosen x q) (chosen y r) (Some (load.Read Read)) → failures_of failures y ≡ failures_of failures x + 1
       one None None g i (inl k) = k
       one None None g i (inr k) = let e = k.0 in absurd cc
       one None (Some u) g i k = absurd k
@@ -233,14 +235,14 @@ module _ (sender : ℕ) {R : Type 0} (unread : R → Option (List ℕ)) (failure
           neither (inl e) = cc
           neither (inr e) = cc
 
-      go : (g : Option HeldFile) (q r : Option (OrFull S)) → IsStreamOf b g o → (joins sender unread failures b).fails (chosen x o) t (Some (load.Read Read)) → failures_of failures y ≡ failures_of failures x + 1
-      go g q r i k = one o p g i (subst (λ v. (joins sender unread failures b).fails (chosen x o) v (Some (load.Read Read))) (own_is y p t d) k)
+      go : (g : Option HeldFile) (q r : Option (OrFull S)) → IsStreamOf b g o → (joins choice unread failures b).fails (chosen x o) t (Some (load.Read Read)) → failures_of failures y ≡ failures_of failures x + 1
+      go g q r i k = one o p g i (subst (λ v. (joins choice unread failures b).fails (chosen x o) v (Some (load.Read Read))) (own_is y p t d) k)
 
-  pub read_failed : (xs ys : List (JoinInput R)) (fs : List (Option HeldFile)) (os ps : List (Option (OrFull S))) (first : InputFault) → Stands sender unread failures b xs fs os
-      → FirstFault (joins sender unread failures b) (replaced xs os) (replaced ys ps) first → (number : ℕ) → of_load (first.number + 1) first.fault ≡ Input number Read → OneFailed failures number xs ys
+  pub read_failed : (xs ys : List (JoinInput R)) (fs : List (Option HeldFile)) (os ps : List (Option (OrFull S))) (first : InputFault) → Stands choice unread failures b xs fs os
+      → FirstFault (joins choice unread failures b) (replaced xs os) (replaced ys ps) first → (number : ℕ) → of_load (first.number + 1) first.fault ≡ Input number Read → OneFailed failures number xs ys
   read_failed xs ys fs os ps first h fault number e =
       let n = first.number in
-      let p = place sender unread failures b xs fs os n fault.stopped.new h fault.stopped.was in
+      let p = place choice unread failures b xs fs os n fault.stopped.new h fault.stopped.was in
       let q = own_at ys ps n fault.stopped.stop.stream fault.stopped.stop.is in
       let told = told_read first.fault (n + 1) number e in
       record {
@@ -251,7 +253,7 @@ module _ (sender : ℕ) {R : Type 0} (unread : R → Option (List ℕ)) (failure
         was = p.own;
         is = q.own;
         failed = failed_once p.input q.input p.file p.other q.other fault.stopped.new fault.stopped.stop.stream p.is q.is p.stream
-            (subst (λ f. (joins sender unread failures b).fails fault.stopped.new fault.stopped.stop.stream (Some f)) told.0 fault.stopped.stop.fails);
+            (subst (λ f. (joins choice unread failures b).fails fault.stopped.new fault.stopped.stop.stream (Some f)) told.0 fault.stopped.stop.fails);
       }
     where
       told_read : (f : LoadFault) (m number : ℕ) → of_load m f ≡ Input number Read → (f ≡ load.Read Read) × (number ≡ m)
@@ -259,7 +261,7 @@ module _ (sender : ℕ) {R : Type 0} (unread : R → Option (List ℕ)) (failure
       told_read load.Full m number e = absurd cc
       told_read load.OutOfMemory m number e = absurd cc
 
-  none_at : (xs ys : List (JoinInput R)) (os ps : List (Option (OrFull S))) → length ys ≡ length xs → length os ≡ length xs → length ps ≡ length xs → NoneFails (joins sender unread failures b) (replaced xs os) (replaced ys ps)
+  none_at : (xs ys : List (JoinInput R)) (os ps : List (Option (OrFull S))) → length ys ≡ length xs → length os ≡ length xs → length ps ≡ length xs → NoneFails (joins choice unread failures b) (replaced xs os) (replaced ys ps)
       → (k : ℕ) (x y : JoinInput R) → slice_get xs k ≡ Some x → slice_get ys k ≡ Some y → failures_of failures y ≡ failures_of failures x
   none_at [] ys os ps e d c h k x y was is = let w : None ≡ Some x = was in absurd cc
   none_at (z ∷ xs) [] os ps e d c h k x y was is = absurd (omega (arith, e))
@@ -268,7 +270,7 @@ module _ (sender : ℕ) {R : Type 0} (unread : R → Option (List ℕ)) (failure
   none_at (z ∷ xs) (w ∷ ys) (None ∷ os) (None ∷ ps) e d c h zero x y was is =
       let a : z ≡ x = cc in let f : w ≡ y = cc in ap (failures_of failures) (sym f) ∙ kept h.0 ∙ ap (failures_of failures) a
     where
-      kept : (joins sender unread failures b).fails (First z) (First w) None → failures_of failures w ≡ failures_of failures z
+      kept : (joins choice unread failures b).fails (First z) (First w) None → failures_of failures w ≡ failures_of failures z
       kept (inl q) = q
       kept (inr q) = let e = q.0 in absurd cc
   none_at (z ∷ xs) (w ∷ ys) (Some s ∷ os) (Some t ∷ ps) e d c h zero x y was is =
@@ -278,7 +280,7 @@ module _ (sender : ℕ) {R : Type 0} (unread : R → Option (List ℕ)) (failure
   none_at (z ∷ xs) (w ∷ ys) (None ∷ os) (None ∷ ps) e d c h (suc k) x y was is = none_at xs ys os ps (omega (arith, e)) (omega (arith, d)) (omega (arith, c)) h.1 k x y was is
   none_at (z ∷ xs) (w ∷ ys) (Some s ∷ os) (Some t ∷ ps) e d c h (suc k) x y was is = none_at xs ys os ps (omega (arith, e)) (omega (arith, d)) (omega (arith, c)) h.1 k x y was is
 
-  pub none_failed : (xs ys : List (JoinInput R)) (os ps : List (Option (OrFull S))) → length ys ≡ length xs → length os ≡ length xs → length ps ≡ length xs → NoneFails (joins sender unread failures b) (replaced xs os) (replaced ys ps)
+  pub none_failed : (xs ys : List (JoinInput R)) (os ps : List (Option (OrFull S))) → length ys ≡ length xs → length os ≡ length xs → length ps ≡ length xs → NoneFails (joins choice unread failures b) (replaced xs os) (replaced ys ps)
       → NoneFailed failures xs ys
   none_failed xs ys os ps e d c h = record { as_many = e; each = none_at xs ys os ps e d c h }
 
@@ -288,18 +290,18 @@ module _ (sender : ℕ) {R : Type 0} (unread : R → Option (List ℕ)) (failure
   limits_same F G true same h = λ over. h (over_same G F (Same-sym F G same) over)
   limits_same F G false same h = over_same F G same h
 
-  pub joins_looked : (xs : List (JoinInput R)) (fs : List (Option HeldFile)) (os : List (Option (OrFull S))) (contents : List (List ℕ)) (joined : Merged) (w w' : Option (List ℕ)) → Stands sender unread failures b xs fs os → length fs ≡ length xs
-      → AreLooked unread sender xs fs contents → MergedAll (joins sender unread failures b) (replaced xs os) 64 4096 1048576 joined w w' → JoinsLooked sender contents fs joined w w'
+  pub joins_looked : (xs : List (JoinInput R)) (fs : List (Option HeldFile)) (os : List (Option (OrFull S))) (contents : List (List ℕ)) (joined : Merged) (w w' : Option (List ℕ)) → Stands choice unread failures b xs fs os → length fs ≡ length xs
+      → AreLooked unread choice xs fs contents → MergedAll (joins choice unread failures b) (replaced xs os) 64 4096 1048576 joined w w' → JoinsLooked choice contents fs joined w w'
   joins_looked xs fs os contents joined w w' h many looked m =
-      let t = tells_each sender unread failures b xs fs os contents m.told h (looks sender unread failures b xs fs contents many looked) m.tell in
+      let t = tells_each choice unread failures b xs fs os contents m.told h (looks choice unread failures b xs fs contents many looked) m.tell in
       record {
         told = t.told;
         tell = t.tell;
         alone = t.alone;
         entries = m.entries;
-        collects = record { valid = m.collects.valid; rising = m.collects.rising; same = Same-trans (flat_map (told_facts sender) t.told) (all_of m.told) m.entries (Same-sym (all_of m.told) (flat_map (told_facts sender) t.told) t.same) m.collects.same };
+        collects = record { valid = m.collects.valid; rising = m.collects.rising; same = Same-trans (flat_map (told_facts choice) t.told) (all_of m.told) m.entries (Same-sym (all_of m.told) (flat_map (told_facts choice) t.told) t.same) m.collects.same };
         count = m.count;
-        limits = limits_same (all_of m.told) (flat_map (told_facts sender) t.told) joined.within t.same m.limits;
+        limits = limits_same (all_of m.told) (flat_map (told_facts choice) t.told) joined.within t.same m.limits;
         written = m.written;
         datagrams = t.datagrams;
         refused = t.refused;
@@ -318,25 +320,25 @@ no_sink n load.OutOfMemory e = cc
 
 -- What the whole join comes to.
 
-file_not_held : {sender : ℕ} (P : List ℕ → Type 0) (inputs : List (List ℕ)) (number : ℕ) (first : FirstInput IsKnown P number inputs) (fault : CommandFault) → HasKind kinds.Datagrams first.bytes → FileFails number (Some first.bytes) fault
-    → JoinToFails sender inputs fault
-file_not_held {sender} P inputs number first (Input told f) kind h =
+file_not_held : {choice : Choice} (P : List ℕ → Type 0) (inputs : List (List ℕ)) (number : ℕ) (first : FirstInput IsKnown P number inputs) (fault : CommandFault) → HasKind kinds.Datagrams first.bytes → FileFails number (Some first.bytes) fault
+    → JoinToFails choice inputs fault
+file_not_held {choice} P inputs number first (Input told f) kind h =
     elim (read_or_not f) [
       | inl is ↦ of_device number (ap (λ m. Input m f) h.0 ∙ ap (Input number) is) (first_with IsKnown P (λ bytes. ⊤) number inputs first tt)
       | inr other ↦
-          let Q : CommandFault → Type 0 = λ g. JoinFails sender inputs g in
+          let Q : CommandFault → Type 0 = λ g. JoinFails choice inputs g in
           of_inputs (subst Q (sym (ap (λ m. Input m f) h.0)) (inl (first_with IsKnown P (IsFileAt f) number inputs first (kind, h.1, other))))
     ]
-file_not_held {sender} P inputs number first OutOfMemory kind h = of_inputs tt
-file_not_held {sender} P inputs number first fault kind h = absurd h
+file_not_held {choice} P inputs number first OutOfMemory kind h = of_inputs tt
+file_not_held {choice} P inputs number first fault kind h = absurd h
 
-pub not_looked : {sender : ℕ} (inputs : List (List ℕ)) (fault : CommandFault) → SomeLookFails inputs fault → JoinToFails sender inputs fault
-not_looked {sender} inputs fault (inr memory) = let P : CommandFault → Type 0 = λ g. JoinToFails sender inputs g in subst P (sym memory) (of_inputs tt)
-not_looked {sender} inputs fault (inl h) = go h.1.here
+pub not_looked : {choice : Choice} (inputs : List (List ℕ)) (fault : CommandFault) → SomeLookFails inputs fault → JoinToFails choice inputs fault
+not_looked {choice} inputs fault (inr memory) = let P : CommandFault → Type 0 = λ g. JoinToFails choice inputs g in subst P (sym memory) (of_inputs tt)
+not_looked {choice} inputs fault (inl h) = go h.1.here
   where
-    go : LookFails h.0 h.1.bytes fault → JoinToFails sender inputs fault
+    go : LookFails h.0 h.1.bytes fault → JoinToFails choice inputs fault
     go (of_kind is neither) =
-        let P : CommandFault → Type 0 = λ g. JoinToFails sender inputs g in
+        let P : CommandFault → Type 0 = λ g. JoinToFails choice inputs g in
         subst P (sym is) (of_inputs (first_with IsKnown (λ bytes. LookFails h.0 bytes fault) (λ bytes. Rattle.flute_journal.specs.Kinds.IsNeither bytes) h.0 inputs h.1 neither))
     go (of_file kind fails) = file_not_held (λ bytes. LookFails h.0 bytes fault) inputs h.0 h.1 fault kind fails
 
@@ -346,12 +348,12 @@ others_too F entries w w' c a others m bytes j =
     let one : j.0 ≡ entries = rising_unique j.0 entries j.1.rising c.rising same in
     subst (Appends w w') (sym (j.3 ∙ ap spelling one)) a
 
-pub joins_to : {sender : ℕ} (inputs : List (List ℕ)) (fs : List (Option HeldFile)) (joined : Merged) (datagrams refused : ℕ) (w w' : Option (List ℕ)) → JoinsLooked sender inputs fs joined w w' → joined.within ≡ true → joined.cut ≡ false
+pub joins_to : {choice : Choice} (inputs : List (List ℕ)) (fs : List (Option HeldFile)) (joined : Merged) (datagrams refused others : ℕ) (w w' : Option (List ℕ)) → JoinsLooked choice inputs fs joined w w' → joined.within ≡ true → joined.cut ≡ false
     → datagrams ≡ Rattle.std.specs.Prelude.sum_by Rattle.flutejoin.specs.Joining.datagrams_of fs → refused ≡ Rattle.std.specs.Prelude.sum_by Rattle.flutejoin.specs.Joining.refused_of fs
-    → JoinsTo sender inputs (record { datagrams = datagrams; refused = refused; entries = joined.entries }) w w'
-joins_to {sender} inputs fs joined datagrams refused w w' h within whole d r =
+    → JoinsTo choice inputs (record { datagrams = datagrams; refused = refused; others = others; entries = joined.entries }) w w'
+joins_to {choice} inputs fs joined datagrams refused others w w' h within whole d r =
     let P : Bool → Type 0 = λ c. Written c w w' (spelling h.entries) in
-    let Q : Bool → Type 0 = λ c. IsWithinLimits 64 4096 1048576 (flat_map (told_facts sender) h.told) c in
+    let Q : Bool → Type 0 = λ c. IsWithinLimits 64 4096 1048576 (flat_map (told_facts choice) h.told) c in
     let appended = subst P whole h.written in
     record {
       told = h.told;
@@ -363,32 +365,32 @@ joins_to {sender} inputs fs joined datagrams refused w w' h within whole d r =
       datagrams = d ∙ h.datagrams;
       refused = r ∙ h.refused;
       appended = appended;
-      as_others = others_too (flat_map (told_facts sender) h.told) h.entries w w' h.collects appended;
+      as_others = others_too (flat_map (told_facts choice) h.told) h.entries w w' h.collects appended;
     }
 
-all_known_of : {sender : ℕ} (inputs : List (List ℕ)) (fs : List (Option HeldFile)) (joined : Merged) (w w' : Option (List ℕ)) → JoinsLooked sender inputs fs joined w w' → joined.within ≡ true → AllTell sender inputs
-all_known_of {sender} inputs fs joined w w' h within =
-    let Q : Bool → Type 0 = λ c. IsWithinLimits 64 4096 1048576 (flat_map (told_facts sender) h.told) c in
+all_known_of : {choice : Choice} (inputs : List (List ℕ)) (fs : List (Option HeldFile)) (joined : Merged) (w w' : Option (List ℕ)) → JoinsLooked choice inputs fs joined w w' → joined.within ≡ true → AllTell choice inputs
+all_known_of {choice} inputs fs joined w w' h within =
+    let Q : Bool → Type 0 = λ c. IsWithinLimits 64 4096 1048576 (flat_map (told_facts choice) h.told) c in
     record { told = h.told; tell = h.tell; alone = h.alone; together = subst Q within h.limits }
 
-pub not_written : {sender : ℕ} (inputs : List (List ℕ)) (fs : List (Option HeldFile)) (joined : Merged) (w w' : Option (List ℕ)) → JoinsLooked sender inputs fs joined w w' → joined.within ≡ true → JoinToFails sender inputs CannotWrite
-not_written {sender} inputs fs joined w w' h within = of_sink refl (all_known_of inputs fs joined w w' h within)
+pub not_written : {choice : Choice} (inputs : List (List ℕ)) (fs : List (Option HeldFile)) (joined : Merged) (w w' : Option (List ℕ)) → JoinsLooked choice inputs fs joined w w' → joined.within ≡ true → JoinToFails choice inputs CannotWrite
+not_written {choice} inputs fs joined w w' h within = of_sink refl (all_known_of inputs fs joined w w' h within)
 
-pub over_together : {sender : ℕ} (inputs : List (List ℕ)) (fs : List (Option HeldFile)) (joined : Merged) (w w' : Option (List ℕ)) → AllByRecursion IsKnown inputs → JoinsLooked sender inputs fs joined w w' → joined.within ≡ false → JoinToFails sender inputs Full
-over_together {sender} inputs fs joined w w' known h over =
-    let Q : Bool → Type 0 = λ c. IsWithinLimits 64 4096 1048576 (flat_map (told_facts sender) h.told) c in
+pub over_together : {choice : Choice} (inputs : List (List ℕ)) (fs : List (Option HeldFile)) (joined : Merged) (w w' : Option (List ℕ)) → AllByRecursion IsKnown inputs → JoinsLooked choice inputs fs joined w w' → joined.within ≡ false → JoinToFails choice inputs Full
+over_together {choice} inputs fs joined w w' known h over =
+    let Q : Bool → Type 0 = λ c. IsWithinLimits 64 4096 1048576 (flat_map (told_facts choice) h.told) c in
     of_inputs (known, inr (h.alone, (h.told, h.tell, subst Q over h.limits)))
 
 -- inputs that were looked at are known
-pub known_of : {sender : ℕ} {R : Type 0} (unread : R → Option (List ℕ)) (failures : R → ℕ) (xs : List (JoinInput R)) (fs : List (Option HeldFile)) (inputs : List (List ℕ)) → length fs ≡ length xs → AreLooked unread sender xs fs inputs → AllByRecursion IsKnown inputs
-known_of {sender} {R} unread failures xs fs inputs many h =
-    all_known sender unread failures (listed_behaviour {S = List Fact} (λ s. None) (λ s. s) (λ _. Unit {0})) xs fs inputs (looks sender unread failures (listed_behaviour {S = List Fact} (λ s. None) (λ s. s) (λ _. Unit {0})) xs fs inputs many h)
+pub known_of : {choice : Choice} {R : Type 0} (unread : R → Option (List ℕ)) (failures : R → ℕ) (xs : List (JoinInput R)) (fs : List (Option HeldFile)) (inputs : List (List ℕ)) → length fs ≡ length xs → AreLooked unread choice xs fs inputs → AllByRecursion IsKnown inputs
+known_of {choice} {R} unread failures xs fs inputs many h =
+    all_known choice unread failures (listed_behaviour {S = List Fact} (λ s. None) (λ s. s) (λ _. Unit {0})) xs fs inputs (looks choice unread failures (listed_behaviour {S = List Fact} (λ s. None) (λ s. s) (λ _. Unit {0})) xs fs inputs many h)
 
 -- all files have their streams
-pub stands_of : (sender : ℕ) {R S : Type 0} (unread : R → Option (List ℕ)) (failures : R → ℕ) {b : Behaviour S} {files : List (Option HeldFile)} {others : List (Option (OrFull S))} {k : ℕ} (xs : List (JoinInput R)) (ys : List (Option (OrFull S)))
-    → StreamsSoFar b files others k → length files ≤ k → AreReady unread failures xs files → ys ≡ others → Stands sender unread failures b xs files ys
-stands_of sender unread failures {b} {files} {others} xs ys h past ready e =
-    subst (Stands sender unread failures b xs files) (sym e) (stands sender unread failures b xs files others ready.as_many (omega (arith, h.as_many, h.few, past)) ready.each h.each)
+pub stands_of : (choice : Choice) {R S : Type 0} (unread : R → Option (List ℕ)) (failures : R → ℕ) {b : Behaviour S} {files : List (Option HeldFile)} {others : List (Option (OrFull S))} {k : ℕ} (xs : List (JoinInput R)) (ys : List (Option (OrFull S)))
+    → StreamsSoFar b files others k → length files ≤ k → AreReady unread failures xs files → ys ≡ others → Stands choice unread failures b xs files ys
+stands_of choice unread failures {b} {files} {others} xs ys h past ready e =
+    subst (Stands choice unread failures b xs files) (sym e) (stands choice unread failures b xs files others ready.as_many (omega (arith, h.as_many, h.few, past)) ready.each h.each)
 
 pub others_many : {S : Type 0} {b : Behaviour S} {files : List (Option HeldFile)} {others : List (Option (OrFull S))} {k : ℕ} (ys : List (Option (OrFull S))) → StreamsSoFar b files others k → length files ≤ k → ys ≡ others → length ys ≡ length files
 others_many ys h past e = ap length e ∙ omega (arith, h.as_many, h.few, past)

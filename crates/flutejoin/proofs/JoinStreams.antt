@@ -9,8 +9,8 @@ use Rattle.flute_parts.specs.Facts.{Same}
 use Rattle.flute_parts.specs.declared.fact.Fact.{Fact}
 use Rattle.flute_parts.proofs.Facts.{Same-itself, Same-sym, Same-append, Below-from_Same}
 use Rattle.flute_parts.proofs.Named.{Over-below}
-use Rattle.flute_wire.specs.Reading.{facts}
 use Rattle.flute_journal.specs.Journal.{IsJournalWithin}
+use Rattle.flute_journal.specs.Sessions.{chosen}
 use Rattle.flute_journal.specs.Streams.{Behaviour, IsNew, most_of}
 use Rattle.flute_journal.specs.Advances.{AreNew}
 use Rattle.flute_journal.specs.Replacing.{replaced}
@@ -23,7 +23,7 @@ use Rattle.flute_journal.specs.declared.or_full.OrFull.TheVariants as orfull
 use Rattle.flute_journal.specs.OrFulls.{or_full_behaviour}
 use Rattle.flutejoin.specs.declared.held_file.HeldFile.{HeldFile}
 use Rattle.flutejoin.specs.JoinInputs.{JoinInput, input_behaviour}
-use Rattle.flutejoin.specs.Joined.{Told, of_journal, of_file, told_facts, told_datagrams, TellAll, TellsWithin, IsKnown, HoldsAll, HoldsDatagrams}
+use Rattle.flutejoin.specs.Joined.{Choice, facts_by, Told, of_journal, of_file, told_facts, told_datagrams, TellAll, TellsWithin, IsKnown, HoldsAll, HoldsDatagrams}
 use Rattle.flutejoin.specs.Joining.{datagrams_of, refused_of, IsLooked, AreLooked, IsReady, IsHeldStream, IsFileStream, IsStreamOf, joined_behaviour}
 use Rattle.flutejoin.specs.Refused.{is_refused}
 use Rattle.flutejoin.specs.Shelves.{IsOverShelf}
@@ -35,7 +35,7 @@ over_same F G same over = Over-below F G 64 4096 1048576 (Below-from_Same F G sa
 count_by-append : {X : Type 0} (p : X → Bool) (xs ys : List X) → count_by p (xs ++ ys) ≡ count_by p xs + count_by p ys
 count_by-append p xs ys = sum_by-append _ xs ys
 
-module _ (sender : ℕ) {R : Type 0} (unread : R → Option (List ℕ)) (failures : R → ℕ) {S : Type 0} (b : Behaviour S) where
+module _ (choice : Choice) {R : Type 0} (unread : R → Option (List ℕ)) (failures : R → ℕ) {S : Type 0} (b : Behaviour S) where
   abbrev pub joins : Behaviour (Either (JoinInput R) (Beside (JoinInput R) (OrFull S)))
   joins = joined_behaviour unread failures (or_full_behaviour b)
 
@@ -99,10 +99,10 @@ module _ (sender : ℕ) {R : Type 0} (unread : R → Option (List ℕ)) (failure
 
   abbrev pub Looks : List (JoinInput R) → List (Option HeldFile) → List (List ℕ) → Type 0
   Looks [] [] [] = Unit {0}
-  Looks (x ∷ xs) (f ∷ fs) (bytes ∷ contents) = IsLooked unread sender x f bytes × Looks xs fs contents
+  Looks (x ∷ xs) (f ∷ fs) (bytes ∷ contents) = IsLooked unread choice x f bytes × Looks xs fs contents
   Looks _ _ _ = ⊥
 
-  pub looks : (xs : List (JoinInput R)) (fs : List (Option HeldFile)) (contents : List (List ℕ)) → length fs ≡ length xs → AreLooked unread sender xs fs contents → Looks xs fs contents
+  pub looks : (xs : List (JoinInput R)) (fs : List (Option HeldFile)) (contents : List (List ℕ)) → length fs ≡ length xs → AreLooked unread choice xs fs contents → Looks xs fs contents
   looks [] [] [] e h = tt
   looks [] [] (bytes ∷ contents) e h = absurd (omega (arith, h.as_many))
   looks [] (f ∷ fs) contents e h = absurd (omega (arith, e))
@@ -115,7 +115,7 @@ module _ (sender : ℕ) {R : Type 0} (unread : R → Option (List ℕ)) (failure
 
   pub all_known : (xs : List (JoinInput R)) (fs : List (Option HeldFile)) (contents : List (List ℕ)) → Looks xs fs contents → AllByRecursion IsKnown contents
   all_known [] [] [] h = tt
-  all_known (x ∷ xs) (f ∷ fs) (bytes ∷ contents) h = (is_known sender unread x f bytes h.0, all_known xs fs contents h.1)
+  all_known (x ∷ xs) (f ∷ fs) (bytes ∷ contents) h = (is_known choice unread x f bytes h.0, all_known xs fs contents h.1)
   all_known [] [] (bytes ∷ contents) h = elim h [ ]
   all_known [] (f ∷ fs) contents h = elim h [ ]
   all_known (x ∷ xs) [] contents h = elim h [ ]
@@ -125,45 +125,47 @@ module _ (sender : ℕ) {R : Type 0} (unread : R → Option (List ℕ)) (failure
   pub record TellsOne (f : Option HeldFile) (bytes : List ℕ) (F : List Fact) : Type 0 where
     pub told : Told
     pub tells : Rattle.flutejoin.specs.Joined.Tells bytes told
-    pub within : ¬ IsOverShelf (told_facts sender told)
-    pub same : Same F (told_facts sender told)
+    pub within : ¬ IsOverShelf (told_facts choice told)
+    pub same : Same F (told_facts choice told)
     pub datagrams : datagrams_of f ≡ length (told_datagrams told)
     pub refused : refused_of f ≡ count_by is_refused (told_datagrams told)
 
-  tells_journal : (x : JoinInput R) (bytes : List ℕ) (F : List Fact) → IsReady unread failures x None → IsLooked unread sender x None bytes → (input_behaviour unread failures).tells x F → TellsOne None bytes F
+  tells_journal : (x : JoinInput R) (bytes : List ℕ) (F : List Fact) → IsReady unread failures x None → IsLooked unread choice x None bytes → (input_behaviour unread failures).tells x F → TellsOne None bytes F
   tells_journal x bytes F ready looked h =
-      let P : Option (List ℕ) → Type 0 = λ o. IfSome o (λ bs. IsJournalWithin x.stream.max_entries bs F) in
-      let Q : ℕ → Type 0 = λ n. IsJournalWithin n bytes F in
+      let all = h.0.0 in
+      let P : Option (List ℕ) → Type 0 = λ o. IfSome o (λ bs. IsJournalWithin x.stream.stream.max_entries bs all) in
+      let Q : ℕ → Type 0 = λ n. IsJournalWithin n bytes all in
+      let is : F ≡ chosen choice.tsis all = h.0.2 ∙ ap (λ tsis. chosen tsis all) looked.2 in
       record {
-        told = of_journal F;
-        tells = subst Q (ready refl).2 (subst P looked.1 h.0);
-        within = h.1;
-        same = Same-itself F;
+        told = of_journal all;
+        tells = subst Q (ready refl).2 (subst P looked.1 h.0.1);
+        within = subst (λ l. ¬ IsOverShelf l) is h.1;
+        same = subst (Same F) is (Same-itself F);
         datagrams = refl;
         refused = refl;
       }
 
-  tells_file : (file : HeldFile) (s : S) (bytes : List ℕ) (F : List Fact) (x : JoinInput R) → IsHeldStream b file s → IsLooked unread sender x (Some file) bytes → b.tells s F → TellsOne (Some file) bytes F
+  tells_file : (file : HeldFile) (s : S) (bytes : List ℕ) (F : List Fact) (x : JoinInput R) → IsHeldStream b file s → IsLooked unread choice x (Some file) bytes → b.tells s F → TellsOne (Some file) bytes F
   tells_file file s bytes F x held looked h =
-      let P : Bool → Type 0 = λ c. HoldsAll sender c file.told looked.0 in
+      let P : Bool → Type 0 = λ c. HoldsAll choice c file.told looked.0 in
       let all = subst P held.fits looked.2.holds in
-      let same : Same file.told.store (flat_map (facts sender) looked.0) = all.content in
+      let same : Same file.told.store (flat_map (facts_by choice) looked.0) = all.content in
       record {
         told = of_file looked.0;
         tells = looked.1;
-        within = λ over. held.within (over_same (flat_map (facts sender) looked.0) file.told.store (Same-sym file.told.store (flat_map (facts sender) looked.0) same) over);
-        same = subst (λ G. Same G (flat_map (facts sender) looked.0)) (sym (held.tells F h)) same;
+        within = λ over. held.within (over_same (flat_map (facts_by choice) looked.0) file.told.store (Same-sym file.told.store (flat_map (facts_by choice) looked.0) same) over);
+        same = subst (λ G. Same G (flat_map (facts_by choice) looked.0)) (sym (held.tells F h)) same;
         datagrams = omega (arith, all.count);
         refused = omega (arith, all.refused);
       }
 
-  tells_second : (file : HeldFile) (s : OrFull S) (bytes : List ℕ) (F : List Fact) (x : JoinInput R) → IsFileStream b file s → IsLooked unread sender x (Some file) bytes
+  tells_second : (file : HeldFile) (s : OrFull S) (bytes : List ℕ) (F : List Fact) (x : JoinInput R) → IsFileStream b file s → IsLooked unread choice x (Some file) bytes
       → joins.tells (Second (record { stream = s; beside = x })) F → TellsOne (Some file) bytes F
   tells_second file (orfull.Stream s) bytes F x held looked h = tells_file file s bytes F x held looked h
   tells_second file orfull.Full bytes F x held looked h = absurd h
 
   pub tells_one : (x : JoinInput R) (f : Option HeldFile) (o : Option (OrFull S)) (bytes : List ℕ) (s : Either (JoinInput R) (Beside (JoinInput R) (OrFull S))) (F : List Fact) → replaced (x ∷ []) (o ∷ []) ≡ s ∷ []
-      → IsReady unread failures x f → IsStreamOf b f o → IsLooked unread sender x f bytes → joins.tells s F → TellsOne f bytes F
+      → IsReady unread failures x f → IsStreamOf b f o → IsLooked unread choice x f bytes → joins.tells s F → TellsOne f bytes F
   tells_one x None None bytes s F e ready stream looked h =
       let is : First x ≡ s = cc in
       tells_journal x bytes F ready looked (subst (λ t. joins.tells t F) (sym is) h)
@@ -177,8 +179,8 @@ module _ (sender : ℕ) {R : Type 0} (unread : R → Option (List ℕ)) (failure
   pub record TellsEach (fs : List (Option HeldFile)) (contents : List (List ℕ)) (given : List (List Fact)) : Type 0 where
     pub told : List Told
     pub tell : TellAll contents told
-    pub alone : AllByRecursion (TellsWithin sender) contents
-    pub same : Same (all_of given) (flat_map (told_facts sender) told)
+    pub alone : AllByRecursion (TellsWithin choice) contents
+    pub same : Same (all_of given) (flat_map (told_facts choice) told)
     pub datagrams : sum_by datagrams_of fs ≡ length (flat_map told_datagrams told)
     pub refused : sum_by refused_of fs ≡ count_by is_refused (flat_map told_datagrams told)
 
@@ -194,7 +196,7 @@ module _ (sender : ℕ) {R : Type 0} (unread : R → Option (List ℕ)) (failure
     told = one.told ∷ all.told;
     tell = (one.tells, all.tell);
     alone = ((one.told, one.tells, one.within), all.alone);
-    same = Same-append F (told_facts sender one.told) (all_of given) (flat_map (told_facts sender) all.told) one.same all.same;
+    same = Same-append F (told_facts choice one.told) (all_of given) (flat_map (told_facts choice) all.told) one.same all.same;
     datagrams = sum_more datagrams_of f fs one.datagrams all.datagrams ∙ sym (length-append (told_datagrams one.told) (flat_map told_datagrams all.told));
     refused = sum_more refused_of f fs one.refused all.refused ∙ sym (count_by-append is_refused (told_datagrams one.told) (flat_map told_datagrams all.told));
   }

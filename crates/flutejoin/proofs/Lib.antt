@@ -5,6 +5,11 @@ mod Shown
 mod Mapped
 mod Written
 mod Listed
+mod ObjectsListed
+mod Opened
+mod Keys
+mod Scanning
+mod GapsRead
 mod Told
 mod Receptions
 mod Taking
@@ -26,3 +31,6 @@ mod Begun
 mod MemoryFacts
 mod Infos
 mod Extracted
+mod ObjectFacts
+mod ObjectWriters
+pub mod Chosen

@@ -16,7 +16,7 @@ use Rattle.flutejoin.specs.declared.command_fault.CommandFault.TheVariants.{Inpu
 use Rattle.flutejoin.specs.declared.held_file.HeldFile.{HeldFile}
 use Rattle.flutejoin.specs.declared.looking.Looked.{Looked}
 use Rattle.flutejoin.specs.JoinInputs.{JoinInput, IsInput, AreInputs, failures_of, NoneFailed, OneFailed}
-use Rattle.flutejoin.specs.Joined.{IsKnown}
+use Rattle.flutejoin.specs.Joined.{Choice, IsKnown}
 use Rattle.flutejoin.specs.Joining.{NamesOnly, NamesOneOf, LookFails, of_kind, SomeLookFails, datagrams_of, refused_of, IsFew, SumsUp, IsLooked, AreLooked, IsReady, AreReady}
 use Rattle.flutejoin.specs.Show.{FailsToRead}
 use Rattle.flutejoin.proofs.Driving.{slice_get-set_other, slice_get-set_same}
@@ -46,11 +46,11 @@ last_is (z ∷ zs) x y e = last_is zs x y e
 pub one_is : {X : Type 0} (xs : List X) (k : ℕ) (x y : X) → slice_get xs k ≡ Some x → slice_get xs k ≡ Some y → x ≡ y
 one_is xs k x y e h = some_same _ x y e h
 
-pub is_known : (sender : ℕ) {R : Type 0} (unread : R → Option (List ℕ)) (input : JoinInput R) (file : Option HeldFile) (bytes : List ℕ) → IsLooked unread sender input file bytes → IsKnown bytes
-is_known sender unread input None bytes h = inl h.0
-is_known sender unread input (Some file) bytes h = inr (h.0, h.1)
+pub is_known : (choice : Choice) {R : Type 0} (unread : R → Option (List ℕ)) (input : JoinInput R) (file : Option HeldFile) (bytes : List ℕ) → IsLooked unread choice input file bytes → IsKnown bytes
+is_known choice unread input None bytes h = inl h.0
+is_known choice unread input (Some file) bytes h = inr (h.0, h.1)
 
-module _ (sender : ℕ) {R : Type 0} (unread : R → Option (List ℕ)) (failures : R → ℕ) where
+module _ (choice : Choice) {R : Type 0} (unread : R → Option (List ℕ)) (failures : R → ℕ) where
   -- the first inputs were looked at, and the others are as they were
   pub record LookedSoFar (start now : List (JoinInput R)) (looked : Looked) (k : ℕ) : Type 0 where
     pub as_many : length now ≡ length start
@@ -58,7 +58,7 @@ module _ (sender : ℕ) {R : Type 0} (unread : R → Option (List ℕ)) (failure
     pub later : (j : ℕ) → k ≤ j → slice_get now j ≡ slice_get start j
     pub ready : (j : ℕ) (input : JoinInput R) (file : Option HeldFile) → slice_get now j ≡ Some input → slice_get looked.files.items j ≡ Some file → IsReady unread failures input file
     pub looks : (contents : List (List ℕ)) → AreInputs unread start contents → (j : ℕ) (input : JoinInput R) (file : Option HeldFile) (bytes : List ℕ)
-        → slice_get now j ≡ Some input → slice_get looked.files.items j ≡ Some file → slice_get contents j ≡ Some bytes → IsLooked unread sender input file bytes
+        → slice_get now j ≡ Some input → slice_get looked.files.items j ≡ Some file → slice_get contents j ≡ Some bytes → IsLooked unread choice input file bytes
     pub sums : SumsUp looked
     pub few : looked.datagrams ≤ k * 16777216
     pub few_refused : looked.refused ≤ looked.datagrams
@@ -91,7 +91,7 @@ module _ (sender : ℕ) {R : Type 0} (unread : R → Option (List ℕ)) (failure
         (here.0, here.1, inputs.each k one here.0 was here.1)
 
     pub looked_more : (new : JoinInput R) (file : Option HeldFile) (after : Looked) → after.files.items ≡ looked.files.items ++ file ∷ [] → after.datagrams ≡ looked.datagrams + datagrams_of file
-        → after.refused ≡ looked.refused + refused_of file → IsFew file → IsReady unread failures new file → ((bytes : List ℕ) → IsInput unread one bytes → IsLooked unread sender new file bytes)
+        → after.refused ≡ looked.refused + refused_of file → IsFew file → IsReady unread failures new file → ((bytes : List ℕ) → IsInput unread one bytes → IsLooked unread choice new file bytes)
         → failures_of failures new ≡ failures_of failures one → LookedSoFar start (set now k new) after (k + 1)
     looked_more new file after files datagrams refused few ready looks failed =
         let within = slice_get_within now k one at in
@@ -149,7 +149,7 @@ module _ (sender : ℕ) {R : Type 0} (unread : R → Option (List ℕ)) (failure
         let within = slice_get_within now k one at in
         let input = at_place now j (omega (arith, below, within)) in
         let file = at_place looked.files.items j (omega (arith, below, h.files)) in
-        is_known sender unread input.0 file.0 bytes (h.looks contents inputs j input.0 file.0 bytes input.1 file.1 here))
+        is_known choice unread input.0 file.0 bytes (h.looks contents inputs j input.0 file.0 bytes input.1 file.1 here))
 
     pub look_fails : (fault : CommandFault) → ((bytes : List ℕ) → IsInput unread one bytes → LookFails (k + 1) bytes fault) → (contents : List (List ℕ)) → AreInputs unread start contents
         → SomeLookFails contents fault
@@ -174,7 +174,7 @@ module _ (sender : ℕ) {R : Type 0} (unread : R → Option (List ℕ)) (failure
   look_reads k fault names e = subst (NamesOnly (k + 1)) e names
 
   pub looked_all : {start now : List (JoinInput R)} {looked : Looked} {k : ℕ} → LookedSoFar start now looked k → length start ≤ k → (contents : List (List ℕ)) → AreInputs unread start contents
-      → AreLooked unread sender now looked.files.items contents
+      → AreLooked unread choice now looked.files.items contents
   looked_all {start} {now} {looked} {k} h past contents inputs = record { as_many = h.as_many ∙ inputs.as_many; each = h.looks contents inputs }
 
   pub ready_all : {start now : List (JoinInput R)} {looked : Looked} {k : ℕ} → LookedSoFar start now looked k → k ≡ length start → AreReady unread failures now looked.files.items

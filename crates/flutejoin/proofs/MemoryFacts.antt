@@ -11,19 +11,19 @@ use Rattle.flute_journal.specs.declared.fault.ReadFault.TheVariants.{Read}
 use Rattle.flutejoin.specs.declared.command_fault.CommandFault.{CommandFault}
 use Rattle.flutejoin.specs.declared.command_fault.CommandFault.TheVariants.{Input, UnknownKind, Full, OutOfMemory}
 use Rattle.flutejoin.specs.declared.join_counts.JoinCounts.{JoinCounts}
-use Rattle.flutejoin.specs.Joined.{Joins, JoinFails, told_facts}
+use Rattle.flutejoin.specs.Joined.{Choice, Joins, JoinFails, told_facts}
 use Rattle.flutejoin.specs.Joining.{JoinsTo, JoinToFails, of_inputs, of_device, of_sink}
 use Rattle.flutejoin.specs.Memory.{in_memory}
 
--- the sender of all datagrams
-module _ {sender : ℕ} where
-  pub memory_fails : (inputs : List (List ℕ)) (fault : CommandFault) → JoinToFails sender inputs fault → JoinFails sender inputs (in_memory fault)
-  memory_fails inputs fault (of_device number is first) = let P : CommandFault → Type 0 = λ f. JoinFails sender inputs (in_memory f) in subst P (sym is) tt
-  memory_fails inputs fault (of_sink is all) = let P : CommandFault → Type 0 = λ f. JoinFails sender inputs (in_memory f) in subst P (sym is) tt
+-- the choice of all datagrams
+module _ {choice : Choice} where
+  pub memory_fails : (inputs : List (List ℕ)) (fault : CommandFault) → JoinToFails choice inputs fault → JoinFails choice inputs (in_memory fault)
+  memory_fails inputs fault (of_device number is first) = let P : CommandFault → Type 0 = λ f. JoinFails choice inputs (in_memory f) in subst P (sym is) tt
+  memory_fails inputs fault (of_sink is all) = let P : CommandFault → Type 0 = λ f. JoinFails choice inputs (in_memory f) in subst P (sym is) tt
   memory_fails inputs (UnknownKind number) (of_inputs h) = h
   memory_fails inputs (Input number f) (of_inputs h) = read f h
     where
-      read : (f : ReadFault) → JoinFails sender inputs (Input number f) → JoinFails sender inputs (in_memory (Input number f))
+      read : (f : ReadFault) → JoinFails choice inputs (Input number f) → JoinFails choice inputs (in_memory (Input number f))
       read Read h = tt
       read f h = h
   memory_fails inputs Full (of_inputs h) = h
@@ -32,12 +32,12 @@ module _ {sender : ℕ} where
 
   -- the journal that was written is read as what it tells
   pub joins_of : (inputs : List (List ℕ)) (counts : JoinCounts) (bytes : List ℕ) (store : List Fact) → counts.entries < 2 ^ 64 → ((bs : List ℕ) (F G : List Fact) → IsJournal bs F → IsJournal bs G → Same F G)
-      → ((bs : List ℕ) (limit : ℕ) (F : List Fact) → limit < 2 ^ 64 → IsJournalOf limit bs F → IsJournal bs F) → JoinsTo sender inputs counts (Some []) (Some bytes) → IsJournalOf counts.entries bytes store
-      → Joins sender inputs (record { store = store; datagrams = counts.datagrams; refused = counts.refused })
+      → ((bs : List ℕ) (limit : ℕ) (F : List Fact) → limit < 2 ^ 64 → IsJournalOf limit bs F → IsJournal bs F) → JoinsTo choice inputs counts (Some []) (Some bytes) → IsJournalOf counts.entries bytes store
+      → Joins choice inputs (record { store = store; datagrams = counts.datagrams; refused = counts.refused })
   joins_of inputs counts bytes store few one is_one h journal = record {
     told = h.told;
     tell = h.tell;
-    content = one bytes store (flat_map (told_facts sender) h.told) (is_one bytes counts.entries store few journal) (written_journal bytes (flat_map (told_facts sender) h.told) (h.entries, h.collects, omega (arith, few, h.count), h.appended));
+    content = one bytes store (flat_map (told_facts choice) h.told) (is_one bytes counts.entries store few journal) (written_journal bytes (flat_map (told_facts choice) h.told) (h.entries, h.collects, omega (arith, few, h.count), h.appended));
     datagrams = h.datagrams;
     refused = h.refused;
   }

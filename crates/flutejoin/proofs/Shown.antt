@@ -69,7 +69,7 @@ journal_at (Some x) (Some y) es a =
     let v = a.are_entries.version in
     record { are_entries = a.are_entries; bytes_are = a.read ∙ ap (λ (z : List ℕ). spelling_in v es ++ z) a.at_end ∙ append-nil (spelling_in v es) }
 
-whole : (u v w : Option (List ℕ)) (from to : Stage) (es : List Fact) → Sofar MAX_ENTRIES u v from es → GivesEnd from to v w → IfSome u (λ x. IsJournalWithin MAX_ENTRIES x es)
+pub whole : (u v w : Option (List ℕ)) (from to : Stage) (es : List Fact) → Sofar MAX_ENTRIES u v from es → GivesEnd from to v w → IfSome u (λ x. IsJournalWithin MAX_ENTRIES x es)
 whole u v w from to es h g = journal_at u w es (side-from MAX_ENTRIES u v w from to es None h g)
 
 pub shown-all : (u v w : Option (List ℕ)) (from to : Stage) (s t t' : Option (List ℕ)) (count : ℕ) → Shown u v from s t count
@@ -102,16 +102,16 @@ no_read_failure (Ok x) o true n m k e h i = omega (arith, h, i)
 no_read_failure (Ok x) o false n m k e h i = omega (arith, h, i)
 no_read_failure (Err x) o b n m k e h i = absurd cc
 
-fails_same : (T X : Type 0) (f : ReadFault) (n m : ℕ) → Fails {T = T} n m (Err f) → Fails {T = X} n m (Err f)
+pub fails_same : (T X : Type 0) (f : ReadFault) (n m : ℕ) → Fails {T = T} n m (Err f) → Fails {T = X} n m (Err f)
 fails_same T X faults.Read n m h = h
 fails_same T X f n m h = h
 
 -- a fault that the reader met now
-pub read_failures : (T : Type 0) (u v : Option (List ℕ)) (stage : Stage) (s t : Option (List ℕ)) (count : ℕ) (r : Result (Option Fact) ReadFault) (f : ReadFault) (number n m k : ℕ)
-    → Shown u v stage s t count → r ≡ Err f → FailsIf (is_open stage) m n r → m ≡ k → FailsToRead {T = T} k n (Err (Input number f))
-read_failures T u v stage s t count r f number n m k h is fails e =
+pub read_failures : (T : Type 0) (u v : Option (List ℕ)) (stage : Stage) (es : List Fact) (r : Result (Option Fact) ReadFault) (f : ReadFault) (number n m k : ℕ)
+    → Sofar MAX_ENTRIES u v stage es → r ≡ Err f → FailsIf (is_open stage) m n r → m ≡ k → FailsToRead {T = T} k n (Err (Input number f))
+read_failures T u v stage es r f number n m k h is fails e =
     let P : Bool → Type 0 = λ b. FailsIf b m n r in
-    let now : Fails m n r = subst P (open_behind MAX_ENTRIES u v stage h.entries h.sofar) fails in
+    let now : Fails m n r = subst P (open_behind MAX_ENTRIES u v stage es h) fails in
     let Q : Result (Option Fact) ReadFault → Type 0 = λ x. Fails m n x in
     let N : ℕ → Type 0 = λ i. Fails {T = T} i n (Err f) in
     subst N e (fails_same (Option Fact) T f m n (subst Q is now))

@@ -3,22 +3,28 @@ use Rattle.std.specs.Prelude.{◌≡◌, ℕ, ◌+◌, List, length, take, drop,
 use Rattle.std.specs.Borrow.{MutBor}
 use Rattle.std.specs.Io.KnownBytes.{prepend_known}
 use Rattle.flute_journal.specs.declared.within.Within.{Within}
+use Rattle.flute_journal.specs.declared.chosen.Chosen.{Chosen}
 use Rattle.flute_journal.specs.declared.owned_journal_stream.OwnedJournalStream.{OwnedJournalStream}
+use Rattle.flute_journal.specs.ChosenStreams.{chosen_behaviour}
 use Rattle.flute_journal.specs.OwnedStreams.{owned_behaviour}
 use Rattle.flute_journal.specs.Streams.{Behaviour}
 use Rattle.flute_journal.specs.Withins.{within_behaviour}
 use Rattle.flutejoin.specs.declared.peeked_source.PeekedSource.{PeekedSource}
 
 abbrev pub JoinInput : Type 0 → Type 0
-JoinInput R = Within 64 4096 1048576 (OwnedJournalStream (PeekedSource R))
+JoinInput R = Within 64 4096 1048576 (Chosen (OwnedJournalStream (PeekedSource R)))
 
--- its first bytes, which were read ahead
+-- its source, of which the first bytes were read ahead
+abbrev pub peeked : {R : Type 0} → JoinInput R → PeekedSource R
+peeked input = input.stream.stream.source
+
+-- these bytes
 abbrev pub front_of : {R : Type 0} → JoinInput R → List ℕ
-front_of input = take input.stream.source.first.count input.stream.source.first.bytes
+front_of input = take (peeked input).first.count (peeked input).first.bytes
 
 -- the source of the others
 abbrev pub source_in : {R : Type 0} → JoinInput R → MutBor R
-source_in input = input.stream.source.source
+source_in input = (peeked input).source
 
 module _ {R : Type 0} (unread : R → Option (List ℕ)) where
   -- what a source has left: of the bytes that were read ahead, and behind them
@@ -27,7 +33,7 @@ module _ {R : Type 0} (unread : R → Option (List ℕ)) where
 
   -- the input is these bytes, of which the first were read ahead
   pub record IsInput (input : JoinInput R) (bytes : List ℕ) : Type 0 where
-    pub bytes_are : left input.stream.source ≡ Some bytes
+    pub bytes_are : left (peeked input) ≡ Some bytes
     pub front : take 4 (front_of input) ≡ take 4 bytes
 
   -- each of the inputs is the bytes at its place
@@ -38,7 +44,7 @@ module _ {R : Type 0} (unread : R → Option (List ℕ)) where
   module _ (failures : R → ℕ) where
     -- what is said of an input as a stream
     abbrev pub input_behaviour : Behaviour (JoinInput R)
-    input_behaviour = within_behaviour 64 4096 1048576 (owned_behaviour left (λ source. failures source.source.now))
+    input_behaviour = within_behaviour 64 4096 1048576 (chosen_behaviour (owned_behaviour left (λ source. failures source.source.now)))
 
 module _ {R : Type 0} (failures : R → ℕ) where
   abbrev pub failures_of : JoinInput R → ℕ

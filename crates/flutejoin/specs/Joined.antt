@@ -5,11 +5,14 @@ use Rattle.flute_parts.specs.Facts.{Same}
 use Rattle.flute_parts.specs.declared.fact.Fact.{Fact}
 use Rattle.flute_wire.specs.Reading.{facts}
 use Rattle.flute_journal.specs.Journal.{IsJournalWithin}
+use Rattle.flute_journal.specs.Sessions.{listed, chosen}
+use Rattle.flute_journal.specs.declared.sessions.Sessions.{Sessions}
+use Rattle.flute_journal.specs.Stores.{BeginsWith}
 use Rattle.flute_journal.specs.Records.{IsFileWithin, HasFileFault}
 use Rattle.flute_journal.specs.Whole.{HasFault}
 use Rattle.flute_journal.specs.declared.fault.ReadFault.{ReadFault}
 use Rattle.flute_journal.specs.declared.fault.ReadFault.TheVariants.{Read}
-use Rattle.flutejoin.specs.Shelves.{IsOverShelf, BeginsOverShelf}
+use Rattle.flutejoin.specs.Shelves.{IsOverShelf}
 use Rattle.flutejoin.specs.Refused.{is_refused}
 use Rattle.flutejoin.specs.declared.limits.TheConstants.{MAX_ENTRIES}
 use Rattle.flutejoin.specs.declared.joined.Joined.{Joined}
@@ -24,9 +27,27 @@ pub data Told : Type 0 where
   of_journal : (entries : List Fact) → Told
   of_file : (datagrams : List (List ℕ)) → Told
 
-abbrev pub told_facts : ℕ → Told → List Fact
-told_facts sender (of_journal entries) = entries
-told_facts sender (of_file datagrams) = flat_map (facts sender) datagrams
+-- what of the inputs is joined: the sender that datagrams have, and the identifiers of the sessions that are taken, all if none is listed
+pub record Choice : Type 0 where
+  pub sender : ℕ
+  pub tsis : List ℕ
+
+-- this sender and these sessions
+abbrev pub choice_of : ℕ → Sessions → Choice
+choice_of sender sessions = record { sender = sender; tsis = listed sessions }
+
+-- all sessions
+abbrev pub everything : ℕ → Choice
+everything sender = record { sender = sender; tsis = [] }
+
+-- the facts of a datagram that are joined
+abbrev pub facts_by : Choice → List ℕ → List Fact
+facts_by choice datagram = chosen choice.tsis (facts choice.sender datagram)
+
+-- those of an input
+abbrev pub told_facts : Choice → Told → List Fact
+told_facts choice (of_journal entries) = chosen choice.tsis entries
+told_facts choice (of_file datagrams) = flat_map (facts_by choice) datagrams
 
 abbrev pub told_datagrams : Told → List (List ℕ)
 told_datagrams (of_journal entries) = []
@@ -44,10 +65,10 @@ TellAll (bytes ∷ inputs) (one ∷ told) = Tells bytes one × TellAll inputs to
 TellAll _ _ = ⊥
 
 -- what the inputs come to: the facts of all, and how many datagrams they have, and refused ones
-pub record Joins (sender : ℕ) (inputs : List (List ℕ)) (joined : Joined) : Type 0 where
+pub record Joins (choice : Choice) (inputs : List (List ℕ)) (joined : Joined) : Type 0 where
   pub told : List Told
   pub tell : TellAll inputs told
-  pub content : Same joined.store (flat_map (told_facts sender) told)
+  pub content : Same joined.store (flat_map (told_facts choice) told)
   pub datagrams : joined.datagrams ≡ length (flat_map told_datagrams told)
   pub refused : joined.refused ≡ count_by is_refused (flat_map told_datagrams told)
 
@@ -66,18 +87,18 @@ abbrev pub IsKnown : List ℕ → Type 0
 IsKnown bytes = HasKind Journal bytes ⊎ ((datagrams : List (List ℕ)) × IsFileWithin MAX_ENTRIES bytes datagrams)
 
 -- an input that tells facts within the limits of a store
-abbrev pub TellsWithin : ℕ → List ℕ → Type 0
-TellsWithin sender bytes = (told : Told) × Tells bytes told × ¬ IsOverShelf (told_facts sender told)
+abbrev pub TellsWithin : Choice → List ℕ → Type 0
+TellsWithin choice bytes = (told : Told) × Tells bytes told × ¬ IsOverShelf (told_facts choice told)
 
 -- an input that is over these limits alone
-abbrev pub IsOverAlone : ℕ → List ℕ → Type 0
-IsOverAlone sender bytes =
-    (HasKind Journal bytes × BeginsOverShelf bytes)
-    ⊎ ((datagrams : List (List ℕ)) × IsFileWithin MAX_ENTRIES bytes datagrams × IsOverShelf (flat_map (facts sender) datagrams))
+abbrev pub IsOverAlone : Choice → List ℕ → Type 0
+IsOverAlone choice bytes =
+    (HasKind Journal bytes × (entries : List Fact) × BeginsWith MAX_ENTRIES bytes entries × IsOverShelf (chosen choice.tsis entries))
+    ⊎ ((datagrams : List (List ℕ)) × IsFileWithin MAX_ENTRIES bytes datagrams × IsOverShelf (flat_map (facts_by choice) datagrams))
 
 -- inputs that are over them together
-abbrev pub TellOver : ℕ → List (List ℕ) → Type 0
-TellOver sender inputs = (told : List Told) × TellAll inputs told × IsOverShelf (flat_map (told_facts sender) told)
+abbrev pub TellOver : Choice → List (List ℕ) → Type 0
+TellOver choice inputs = (told : List Told) × TellAll inputs told × IsOverShelf (flat_map (told_facts choice) told)
 
 -- a journal, or a datagram file, with this fault; memory may run out at any entry or record
 abbrev pub IsJournalAt : ReadFault → List ℕ → Type 0
@@ -88,12 +109,12 @@ IsFileAt fault bytes = HasKind Datagrams bytes × HasFileFault MAX_ENTRIES (Some
 
 -- why inputs were not joined: the first that is of no known kind, or a datagram file at fault; else the first that is a journal at fault, or
 -- over the limits alone; else all are over them together
-abbrev pub JoinFails : ℕ → List (List ℕ) → CommandFault → Type 0
-JoinFails sender inputs (UnknownKind number) = FirstInput IsKnown IsNeither number inputs
-JoinFails sender inputs (Input number fault) = FirstInput IsKnown (IsFileAt fault) number inputs ⊎ (AllByRecursion IsKnown inputs × FirstInput (TellsWithin sender) (IsJournalAt fault) number inputs)
-JoinFails sender inputs Full = AllByRecursion IsKnown inputs × (((number : ℕ) × FirstInput (TellsWithin sender) (IsOverAlone sender) number inputs) ⊎ (AllByRecursion (TellsWithin sender) inputs × TellOver sender inputs))
-JoinFails sender inputs OutOfMemory = ⊤
-JoinFails sender inputs _ = ⊥
+abbrev pub JoinFails : Choice → List (List ℕ) → CommandFault → Type 0
+JoinFails choice inputs (UnknownKind number) = FirstInput IsKnown IsNeither number inputs
+JoinFails choice inputs (Input number fault) = FirstInput IsKnown (IsFileAt fault) number inputs ⊎ (AllByRecursion IsKnown inputs × FirstInput (TellsWithin choice) (IsJournalAt fault) number inputs)
+JoinFails choice inputs Full = AllByRecursion IsKnown inputs × (((number : ℕ) × FirstInput (TellsWithin choice) (IsOverAlone choice) number inputs) ⊎ (AllByRecursion (TellsWithin choice) inputs × TellOver choice inputs))
+JoinFails choice inputs OutOfMemory = ⊤
+JoinFails choice inputs _ = ⊥
 
 -- What the parts of a join answer.
 
@@ -101,28 +122,28 @@ JoinFails sender inputs _ = ⊥
 abbrev pub StoreFails : List Fact → CommandFault → Type 0
 StoreFails told fault = ((fault ≡ Full) × IsOverShelf told) ⊎ (fault ≡ OutOfMemory)
 
--- one more datagram, and whether it is refused, are counted, and its facts are held
-pub record TakesDatagram (sender : ℕ) (before : Joined) (datagram : List ℕ) (now : Joined) : Type 0 where
-  pub content : Same now.store (before.store ++ facts sender datagram)
+-- one more datagram, and whether it is refused, are counted, and these facts of it are held
+pub record TakesDatagram (told : List Fact) (before : Joined) (datagram : List ℕ) (now : Joined) : Type 0 where
+  pub content : Same now.store (before.store ++ told)
   pub datagrams : now.datagrams ≡ before.datagrams + 1
   pub refused : now.refused ≡ (if is_refused datagram then before.refused + 1 else before.refused)
 
 -- datagrams are counted, and their facts held
-pub record TakesDatagrams (sender : ℕ) (before : Joined) (datagrams : List (List ℕ)) (now : Joined) : Type 0 where
-  pub content : Same now.store (before.store ++ flat_map (facts sender) datagrams)
+pub record TakesDatagrams (choice : Choice) (before : Joined) (datagrams : List (List ℕ)) (now : Joined) : Type 0 where
+  pub content : Same now.store (before.store ++ flat_map (facts_by choice) datagrams)
   pub count : now.datagrams ≡ before.datagrams + length datagrams
   pub refused : now.refused ≡ before.refused + count_by is_refused datagrams
 
 -- a store of these datagrams; or their facts alone are over its limits
-abbrev pub HoldsAll : ℕ → Bool → Joined → List (List ℕ) → Type 0
-HoldsAll sender true told datagrams = TakesDatagrams sender (record { store = []; datagrams = 0; refused = 0 }) datagrams told
-HoldsAll sender false told datagrams = IsOverShelf (flat_map (facts sender) datagrams)
+abbrev pub HoldsAll : Choice → Bool → Joined → List (List ℕ) → Type 0
+HoldsAll choice true told datagrams = TakesDatagrams choice (record { store = []; datagrams = 0; refused = 0 }) datagrams told
+HoldsAll choice false told datagrams = IsOverShelf (flat_map (facts_by choice) datagrams)
 
 -- the datagrams of a file are held as what they tell
-pub record HoldsDatagrams (sender : ℕ) (file : HeldFile) (datagrams : List (List ℕ)) : Type 0 where
+pub record HoldsDatagrams (choice : Choice) (file : HeldFile) (datagrams : List (List ℕ)) : Type 0 where
   pub few : file.told.datagrams ≤ length datagrams
   pub few_refused : file.told.refused ≤ file.told.datagrams
-  pub holds : HoldsAll sender file.fits file.told datagrams
+  pub holds : HoldsAll choice file.fits file.told datagrams
 
 -- why a datagram file was not held
 abbrev pub FileFails : ℕ → Option (List ℕ) → CommandFault → Type 0

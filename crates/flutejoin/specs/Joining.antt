@@ -9,6 +9,7 @@ use Rattle.flute_journal.specs.Journal.{Journal, Collects}
 use Rattle.flute_journal.specs.JournalWriters.{Written}
 use Rattle.flute_journal.specs.Kinds.{HasKind, IsNeither}
 use Rattle.flute_journal.specs.Records.{IsFileWithin}
+use Rattle.flute_journal.specs.Sessions.{listed}
 use Rattle.flute_journal.specs.StreamMerges.{IsWithinLimits}
 use Rattle.flute_journal.specs.Streams.{Behaviour, IsNew}
 use Rattle.flute_journal.specs.Besides.{beside_behaviour}
@@ -21,8 +22,8 @@ use Rattle.flute_journal.specs.declared.or_full.OrFull.TheVariants.{Stream, Full
 use Rattle.flute_journal.specs.declared.fault.ReadFault.TheVariants.{Read}
 use Rattle.flute_journal.specs.declared.kind.Kind.TheVariants as kinds
 use Rattle.flute_journal.specs.declared.merging.Joined.{Joined as Merged}
-use Rattle.flutejoin.specs.JoinInputs.{JoinInput, left, input_behaviour}
-use Rattle.flutejoin.specs.Joined.{Told, told_facts, told_datagrams, TellAll, TellsWithin, FirstInput, IsKnown, JoinFails, HoldsDatagrams, FileFails}
+use Rattle.flutejoin.specs.JoinInputs.{JoinInput, peeked, left, input_behaviour}
+use Rattle.flutejoin.specs.Joined.{Choice, Told, told_facts, told_datagrams, TellAll, TellsWithin, FirstInput, IsKnown, JoinFails, HoldsDatagrams, FileFails}
 use Rattle.flutejoin.specs.Refused.{is_refused}
 use Rattle.flutejoin.specs.Shelves.{IsOverShelf}
 use Rattle.flutejoin.specs.declared.command_fault.CommandFault.{CommandFault}
@@ -34,30 +35,30 @@ use Rattle.flutejoin.specs.declared.looking.Looked.{Looked}
 
 -- Each input tells some facts. The journal of all of them was appended, and the numbers are right. Whatever other facts have the same
 -- members, in any order, however often and however grouped: that is their journal too.
-pub record JoinsTo (sender : ℕ) (inputs : List (List ℕ)) (counts : JoinCounts) (old new : Option (List ℕ)) : Type 0 where
+pub record JoinsTo (choice : Choice) (inputs : List (List ℕ)) (counts : JoinCounts) (old new : Option (List ℕ)) : Type 0 where
   pub told : List Told
   pub tell : TellAll inputs told
   pub entries : List Fact
-  pub collects : Collects (flat_map (told_facts sender) told) entries
-  pub within : ¬ IsOverShelf (flat_map (told_facts sender) told)
+  pub collects : Collects (flat_map (told_facts choice) told) entries
+  pub within : ¬ IsOverShelf (flat_map (told_facts choice) told)
   pub count : counts.entries ≡ length entries
   pub datagrams : counts.datagrams ≡ length (flat_map told_datagrams told)
   pub refused : counts.refused ≡ count_by is_refused (flat_map told_datagrams told)
   pub appended : Appends old new (spelling entries)
-  pub as_others : (others : List Fact) → SameMembers (flat_map (told_facts sender) told) others → (bytes : List ℕ) → Journal bytes others → Appends old new bytes
+  pub as_others : (others : List Fact) → SameMembers (flat_map (told_facts choice) told) others → (bytes : List ℕ) → Journal bytes others → Appends old new bytes
 
 -- each tells facts within the limits of a store, and so do all together
-pub record AllTell (sender : ℕ) (inputs : List (List ℕ)) : Type 0 where
+pub record AllTell (choice : Choice) (inputs : List (List ℕ)) : Type 0 where
   pub told : List Told
   pub tell : TellAll inputs told
-  pub alone : AllByRecursion (TellsWithin sender) inputs
-  pub together : ¬ IsOverShelf (flat_map (told_facts sender) told)
+  pub alone : AllByRecursion (TellsWithin choice) inputs
+  pub together : ¬ IsOverShelf (flat_map (told_facts choice) told)
 
 -- why inputs were not joined: as those in memory; or a device failed, the sink only where all the inputs could be joined
-pub data JoinToFails (sender : ℕ) (inputs : List (List ℕ)) (fault : CommandFault) : Type 0 where
-  of_inputs : JoinFails sender inputs fault → JoinToFails sender inputs fault
-  of_device : (number : ℕ) → fault ≡ Input number Read → FirstInput IsKnown (λ bytes. ⊤) number inputs → JoinToFails sender inputs fault
-  of_sink : fault ≡ CannotWrite → AllTell sender inputs → JoinToFails sender inputs fault
+pub data JoinToFails (choice : Choice) (inputs : List (List ℕ)) (fault : CommandFault) : Type 0 where
+  of_inputs : JoinFails choice inputs fault → JoinToFails choice inputs fault
+  of_device : (number : ℕ) → fault ≡ Input number Read → FirstInput IsKnown (λ bytes. ⊤) number inputs → JoinToFails choice inputs fault
+  of_sink : fault ≡ CannotWrite → AllTell choice inputs → JoinToFails choice inputs fault
 
 -- What the parts of a join answer.
 
@@ -103,33 +104,33 @@ pub record SumsUp (looked : Looked) : Type 0 where
 
 module _ {R : Type 0} (unread : R → Option (List ℕ)) where
   -- an input was looked at: a datagram file is held, and a journal is still to be read
-  abbrev pub IsLooked : ℕ → JoinInput R → Option HeldFile → List ℕ → Type 0
-  IsLooked sender input None bytes = HasKind kinds.Journal bytes × (left unread input.stream.source ≡ Some bytes)
-  IsLooked sender input (Some file) bytes = (datagrams : List (List ℕ)) × IsFileWithin MAX_ENTRIES bytes datagrams × HoldsDatagrams sender file datagrams
+  abbrev pub IsLooked : Choice → JoinInput R → Option HeldFile → List ℕ → Type 0
+  IsLooked choice input None bytes = HasKind kinds.Journal bytes × (left unread (peeked input) ≡ Some bytes) × (listed input.stream.sessions ≡ choice.tsis)
+  IsLooked choice input (Some file) bytes = (datagrams : List (List ℕ)) × IsFileWithin MAX_ENTRIES bytes datagrams × HoldsDatagrams choice file datagrams
 
-  pub record AreLooked (sender : ℕ) (inputs : List (JoinInput R)) (files : List (Option HeldFile)) (contents : List (List ℕ)) : Type 0 where
+  pub record AreLooked (choice : Choice) (inputs : List (JoinInput R)) (files : List (Option HeldFile)) (contents : List (List ℕ)) : Type 0 where
     pub as_many : length inputs ≡ length contents
     pub each : (k : ℕ) (input : JoinInput R) (file : Option HeldFile) (bytes : List ℕ) → slice_get inputs k ≡ Some input → slice_get files k ≡ Some file → slice_get contents k ≡ Some bytes
-        → IsLooked sender input file bytes
+        → IsLooked choice input file bytes
 
   module _ (failures : R → ℕ) where
     -- of an input that is no datagram file, nothing was read as a journal
     abbrev pub IsReady : JoinInput R → Option HeldFile → Type 0
-    IsReady input file = file ≡ None → IsNew (input_behaviour unread failures) input × ((input_behaviour unread failures).most input ≡ MAX_ENTRIES) × (input.stream.max_entries ≡ MAX_ENTRIES)
+    IsReady input file = file ≡ None → IsNew (input_behaviour unread failures) input × ((input_behaviour unread failures).most input ≡ MAX_ENTRIES) × (input.stream.stream.max_entries ≡ MAX_ENTRIES)
 
     pub record AreReady (inputs : List (JoinInput R)) (files : List (Option HeldFile)) : Type 0 where
       pub as_many : length files ≡ length inputs
       pub each : (k : ℕ) (input : JoinInput R) (file : Option HeldFile) → slice_get inputs k ≡ Some input → slice_get files k ≡ Some file → IsReady input file
 
 -- inputs that were looked at were joined
-pub record JoinsLooked (sender : ℕ) (contents : List (List ℕ)) (files : List (Option HeldFile)) (joined : Merged) (old new : Option (List ℕ)) : Type 0 where
+pub record JoinsLooked (choice : Choice) (contents : List (List ℕ)) (files : List (Option HeldFile)) (joined : Merged) (old new : Option (List ℕ)) : Type 0 where
   pub told : List Told
   pub tell : TellAll contents told
-  pub alone : AllByRecursion (TellsWithin sender) contents
+  pub alone : AllByRecursion (TellsWithin choice) contents
   pub entries : List Fact
-  pub collects : Collects (flat_map (told_facts sender) told) entries
+  pub collects : Collects (flat_map (told_facts choice) told) entries
   pub count : joined.entries ≡ length entries
-  pub limits : IsWithinLimits 64 4096 1048576 (flat_map (told_facts sender) told) joined.within
+  pub limits : IsWithinLimits 64 4096 1048576 (flat_map (told_facts choice) told) joined.within
   pub written : Written joined.cut old new (spelling entries)
   pub datagrams : sum_by datagrams_of files ≡ length (flat_map told_datagrams told)
   pub refused : sum_by refused_of files ≡ count_by is_refused (flat_map told_datagrams told)

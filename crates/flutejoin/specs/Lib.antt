@@ -8,6 +8,7 @@ pub mod Objects
 pub mod Shelves
 pub mod Load
 pub mod Extract
+pub mod ObjectWriters
 pub mod Held
 pub mod Steps
 pub mod Known
@@ -29,3 +30,5 @@ pub mod Joining
 pub mod Sources
 pub mod Memory
 pub mod Info
+pub mod Listing
+pub mod Gaps

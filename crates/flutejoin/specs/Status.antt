@@ -4,8 +4,6 @@ use Rattle.flutejoin.specs.declared.command_fault.CommandFault.{CommandFault}
 use Rattle.flutejoin.specs.declared.command_fault.CommandFault.TheVariants.{CommandLine, NotText, BadNumber, BadSource, BadKey, TooManyInputs, OutputIsInput, BadInformation, BadHex, Refused, CannotSend, TooLarge, CannotOpen, Input, UnknownKind, Full, NoObject, NoInformation, ConflictingInformation, NotWhole, OutOfMemory, CannotCreate, CannotWrite}
 use Rattle.flutejoin.specs.declared.line.Line.{Line}
 use Rattle.flutejoin.specs.declared.line.Line.TheVariants.{Join}
-use Rattle.flute_store.specs.declared.extract.ExtractFault.{ExtractFault}
-use Rattle.flute_store.specs.declared.extract.ExtractFault.TheVariants as extracts
 use Rattle.flute_journal.specs.declared.fault.ReadFault.{ReadFault}
 use Rattle.flute_journal.specs.declared.fault.ReadFault.TheVariants as faults
 use Rattle.flute_journal.specs.declared.fault.LoadFault.{LoadFault}
@@ -64,7 +62,7 @@ of_blob number blobs.OutOfMemory = OutOfMemory
 
 -- no more inputs than are joined
 abbrev pub HasFewInputs : Line → Type 0
-HasFewInputs (Join out sender inputs) = length inputs.items ≤ 64
+HasFewInputs (Join out sender sessions inputs) = length inputs.items ≤ 64
 HasFewInputs _ = ⊤
 
 -- what the fault of a journal with this number, read into a store, is
@@ -72,11 +70,3 @@ abbrev pub of_load : ℕ → LoadFault → CommandFault
 of_load number (loads.Read fault) = Input number fault
 of_load number loads.Full = Full
 of_load number loads.OutOfMemory = OutOfMemory
-
--- what the fault of an object that was not written is
-abbrev pub of_extract : ExtractFault → CommandFault
-of_extract extracts.NoObject = NoObject
-of_extract extracts.NoInformation = NoInformation
-of_extract extracts.ConflictingInformation = ConflictingInformation
-of_extract (extracts.NotWhole first) = NotWhole first.sbn first.esi
-of_extract extracts.Write = CannotWrite

@@ -2,6 +2,7 @@
 ghost use Rattle.std.specs.Prelude.{◌≡◌, ◌≤◌, ◌+◌, List, ℕ, length, OnOk, IfOk, IfErr};
 ghost use Rattle.flute_journal.specs.StreamMerges.{AppendsNoJournal};
 ghost use Rattle.flutejoin.specs.declared.command_fault.CommandFault.TheVariants.{CannotWrite};
+ghost use Rattle.flutejoin.specs.Joined.{choice_of};
 ghost use Rattle.flutejoin.specs.Joining.{JoinsTo, JoinToFails, NamesOneOf};
 ghost use Rattle.flutejoin.specs.Sources.{AreBegun};
 
@@ -10,6 +11,7 @@ use crate::first_bytes::FirstBytes;
 use crate::join_counts::JoinCounts;
 use crate::join_input::input_of;
 use crate::joining::join_to;
+use flute_journal::Sessions;
 use flute_parts::{Sender, Sink, Source};
 use std::alloc::Global;
 
@@ -30,15 +32,17 @@ pub struct BegunSource<R> {
 pub fn join_sources<R: Source + Drop, W: Sink>(
     alloc: Global,
     sender: Sender,
+    sessions: &Sessions,
     sources: Vec<BegunSource<R>>,
     sink: &mut W,
 ) -> Result<JoinCounts, CommandFault>
     requires few { length sources.items ≤ 64 }
     ensures joined { (contents : List (List ℕ)) → AreBegun R.unread sources.items contents
         → IfOk result
-        (λ counts. JoinsTo sender contents counts (W.written sink.old) (W.written sink.new)) }
+        (λ counts. JoinsTo (choice_of sender sessions.now) contents counts
+        (W.written sink.old) (W.written sink.new)) }
     ensures failed { (contents : List (List ℕ)) → AreBegun R.unread sources.items contents
-        → IfErr result (JoinToFails sender contents) }
+        → IfErr result (JoinToFails (choice_of sender sessions.now) contents) }
     ensures short { IfErr result
         (λ _. AppendsNoJournal (W.written sink.old) (W.written sink.new)) }
     ensures names { IfErr result (NamesOneOf (length sources.items)) }
@@ -56,5 +60,5 @@ pub fn join_sources<R: Source + Drop, W: Sink>(
             return Err(CommandFault::OutOfMemory);
         }
     }
-    join_to(alloc, sender, &mut inputs, sink)
+    join_to(alloc, sender, sessions, &mut inputs, sink)
 }

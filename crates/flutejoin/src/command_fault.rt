@@ -6,6 +6,7 @@ use crate::blob::BlobFault;
 use flute_journal::{LoadFault, ReadFault};
 use flute_parts::{DeviceFault, InfoFault};
 use flute_wire::{Refusal, WriteFault};
+use std::alloc::AllocError;
 use thiserror::Error;
 
 /// Why a command failed. Shown, it is the line that the program writes to standard error.
@@ -108,6 +109,17 @@ impl CommandFault {
             CommandFault::CannotOpen(_) | CommandFault::CannotCreate => 3,
             CommandFault::OutOfMemory | CommandFault::CannotWrite => 3,
         }
+    }
+}
+
+impl From<AllocError> for CommandFault {
+    ghost use Rattle.std.specs.Prelude.{◌≡◌};
+    ghost use Rattle.flutejoin.specs.declared.command_fault.CommandFault.TheVariants.{OutOfMemory};
+
+    ghost from_gives = { λ why fault. fault ≡ OutOfMemory };
+
+    fn from(_why: AllocError) -> CommandFault {
+        CommandFault::OutOfMemory
     }
 }
 

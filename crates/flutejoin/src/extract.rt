@@ -1,76 +1,95 @@
-//! The command `extract`: an object that is whole.
-ghost use Rattle.std.specs.Prelude.{◌≡◌, ◌+◌, List, OnOk, IfErr, MatchResult};
+//! The command `extract`: an object that is whole, written as its journal is read.
+ghost use Rattle.std.specs.Prelude.{◌≡◌, ◌+◌, ℕ, false, List, [], Option, IfErr};
 ghost use Rattle.flute_parts.specs.Facts.{Same};
 ghost use Rattle.flute_parts.specs.declared.fact.Fact.{Fact as Known};
-ghost use Rattle.flute_store.specs.Extract.{WritesWhole};
-ghost use Rattle.flutejoin.specs.Packet.{write_failures};
-ghost use Rattle.flutejoin.specs.Extract.{IsWhole, IsNoWhole, ExtractFails};
-ghost use Rattle.flutejoin.specs.Status.{of_extract};
+ghost use Rattle.flute_journal.specs.JournalWriters.{times_failed};
+ghost use Rattle.flute_journal.specs.Readers.{source_of, limit_of, stage_of};
+ghost use Rattle.flute_journal.specs.Stores.{FailsToLoad};
+ghost use Rattle.flute_journal.specs.declared.reader.Stage.TheVariants as Stage;
+ghost use Rattle.flutejoin.specs.declared.limits.TheConstants.{MAX_ENTRIES};
+ghost use Rattle.flutejoin.specs.Extract.{AnswersFrom, Extracts, WritesFirst, SinkFails};
+ghost use Rattle.flutejoin.specs.ObjectWriters.{IsUntouched, PassesAll, Stands};
+ghost use Rattle.flutejoin.specs.Show.{FailsToRead};
 
-use crate::command_fault::CommandFault;
-use flute_parts::{Key, Sink};
-use flute_store::{ExtractFault, GapFault, Shelf};
+use crate::command_fault::{CommandFault, load_fault};
+use crate::limits::MAX_ENTRIES;
+use crate::object_writer::ObjectWriter;
+use flute_journal::{JournalReader, LoadFault};
+use flute_parts::{Key, Sink, Source, Tally};
+use std::alloc::Global;
 
-/// Whether the object is whole.
+/// Writes the object that a journal of at most 16,777,216 entries makes whole, and answers how many
+/// bytes it has: its symbols in the order of the partition, without the padding of the last one.
+/// They are written as they are read, and one entry is held. Of whatever else comes to the same as
+/// the journal's facts, it is the same object that is written, and the same fault that is told.
 ///
 /// # Errors
 ///
-/// The first that applies: `NoObject` where nothing of the object is held, `NoInformation` where no
-/// information of it is, `ConflictingInformation` where two values of it were told, and `NotWhole`
-/// with the first symbol of its partition that is not held as one fitting value.
-pub fn check_whole(shelf: &Shelf, key: &Key) -> Result<(), CommandFault>
-    ensures whole { OnOk result (IsWhole shelf.now key.now) }
-    ensures fault { IfErr result (IsNoWhole shelf.now key.now) }
+/// The first of these that applies, wherever in the journal it is found:
+///
+/// - `Input` with the fault of the journal, as input 1, and `Full` where it has more sessions,
+///   objects or symbols than a store holds, whichever is met first;
+/// - `NoObject` where nothing of the object is held, `NoInformation` where no information of it is,
+///   `ConflictingInformation` where two values of it were told: nothing was written then;
+/// - `NotWhole` with the first symbol of its partition that is not held as one fitting value;
+/// - `CannotWrite` where the sink failed: it took a first part of the object, and not all.
+///
+/// What was written is then a first part of the symbols that are held, and no symbol behind one
+/// that is not.
+pub fn extract_to<R: Source, W: Sink>(
+    alloc: Global,
+    source: &mut R,
+    key: &Key,
+    sink: &mut W,
+) -> Result<u64, CommandFault>
+    ensures extracts { AnswersFrom (R.unread source.old) (R.unread source.new)
+        (λ F. Extracts W.written F key.now sink.old sink.new result) result }
+    ensures as_others { (others : List Known)
+        → AnswersFrom (R.unread source.old) (R.unread source.new)
+        (λ F. Same F others → Extracts W.written others key.now sink.old sink.new result) result }
+    ensures short { IfErr result
+        (λ _. WritesFirst W.written (R.unread source.old) key.now sink.old sink.new) }
+    ensures read_failures { FailsToRead (R.failures source.old) (R.failures source.new) result }
+    ensures failures { SinkFails (W.failures sink.old) (W.failures sink.new) result }
 {
-    match shelf.gaps(key) {
-        Ok(mut gaps) => match gaps.next() {
-            Some(gap) => Err(CommandFault::NotWhole {
-                sbn: gap.sbn,
-                esi: gap.first,
-            }),
-            None => Ok(()),
-        },
-        Err(GapFault::NoObject) => Err(CommandFault::NoObject),
-        Err(GapFault::NoInformation) => Err(CommandFault::NoInformation),
-        Err(GapFault::ConflictingInformation) => Err(CommandFault::ConflictingInformation),
+    let mut writer = ObjectWriter::new(*key);
+    let mut reader = JournalReader::new(source, MAX_ENTRIES);
+    match read_into(alloc, &mut reader, &mut writer, sink) {
+        Ok(()) => writer.end(),
+        Err(fault) => Err(load_fault(1, fault)),
     }
 }
 
-/// Writes the object, if it is whole, and answers how many bytes it has. Of whatever else comes to
-/// the same as what is held, it is the same object that is written, and the same fault that is
-/// told.
-///
-/// # Errors
-///
-/// Those of [`check_whole`], and nothing was written then; `CannotWrite` where the sink failed: it
-/// took a first part of the object, and not all.
-pub fn extract_to<W: Sink>(shelf: &Shelf, key: &Key, sink: &mut W) -> Result<u64, CommandFault>
-    ensures extracts { MatchResult result
-        (WritesWhole W.written shelf.now key.now sink.old sink.new)
-        (ExtractFails W.written shelf.now key.now sink.old sink.new) }
-    ensures as_others { (others : List Known) → Same shelf.now others → MatchResult result
-        (WritesWhole W.written others key.now sink.old sink.new)
-        (ExtractFails W.written others key.now sink.old sink.new) }
-    ensures failures { W.failures sink.new ≡ W.failures sink.old + write_failures result }
+// Shows all entries of a new journal to a new writer, up to a fault of the journal.
+fn read_into<R: Source, W: Sink>(
+    alloc: Global,
+    reader: &mut JournalReader<'_, R>,
+    writer: &mut ObjectWriter,
+    sink: &mut W,
+) -> Result<(), LoadFault>
+    requires new { stage_of reader.old ≡ Stage.Header }
+    requires limit { limit_of reader.old ≡ MAX_ENTRIES }
+    requires none { (start : Option (List ℕ)) → Stands [] writer.old start start }
+    requires untouched { IsUntouched writer.old.found }
+    requires good { writer.old.failed ≡ false }
+    ensures same_source { (source_of reader.new).ghost_name ≡ (source_of reader.old).ghost_name }
+    ensures same_key { writer.new.key ≡ writer.old.key }
+    ensures passed { PassesAll (R.unread (source_of reader.old).now)
+        (R.unread (source_of reader.new).now) writer.new
+        (W.written sink.old) (W.written sink.new) result }
+    ensures untouched { IsUntouched writer.new.found → sink.new ≡ sink.old }
+    ensures read_failures { FailsToLoad (R.failures (source_of reader.old).now)
+        (R.failures (source_of reader.new).now) result }
+    ensures failures { W.failures sink.new ≡ W.failures sink.old + times_failed writer.new.failed }
 {
-    match shelf.extract(key, sink) {
-        Ok(length) => Ok(length),
-        Err(fault) => Err(extract_fault(fault)),
+    let mut tally = Tally::<64, 4096, 1_048_576>::new();
+    let mut spare = Vec::new(alloc);
+    while let Some(fact) = reader.next_with(alloc, spare)? {
+        if !tally.count(&fact.address()) {
+            return Err(LoadFault::Full);
+        }
+        writer.pass(&fact, sink);
+        spare = fact.into_vec(alloc);
     }
-}
-
-// Why an object was not written.
-fn extract_fault(fault: ExtractFault) -> CommandFault
-    ensures { result ≡ of_extract fault }
-{
-    match fault {
-        ExtractFault::NoObject => CommandFault::NoObject,
-        ExtractFault::NoInformation => CommandFault::NoInformation,
-        ExtractFault::ConflictingInformation => CommandFault::ConflictingInformation,
-        ExtractFault::NotWhole { first } => CommandFault::NotWhole {
-            sbn: first.sbn,
-            esi: first.esi,
-        },
-        ExtractFault::Write => CommandFault::CannotWrite,
-    }
+    Ok(())
 }

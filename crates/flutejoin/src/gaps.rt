@@ -1,19 +1,18 @@
-//! The command `gaps`: what is held of each object, and what is missing.
-ghost use Rattle.std.specs.Prelude.{◌≡◌, ◌+◌, ◌≤◌, ◌++◌, length, if◌then◌else◌, is_ok, IfErr, OnOk, flat_map};
+//! The command `gaps` of a store: what is held of each object, and what is missing.
+ghost use Rattle.std.specs.Prelude.{◌≡◌, ◌+◌, if◌then◌else◌, is_ok, IfErr, OnOk, flat_map};
 ghost use Rattle.std.specs.Iterator.{YieldsFirst};
 ghost use Rattle.std.specs.Io.KnownBytes.{Appends};
 ghost use Rattle.flute_parts.specs.Devices.{Writes, AppendsPart};
 ghost use Rattle.flute_store.specs.Held.{HoldsObject};
-ghost use Rattle.flutejoin.specs.Lines.{status_words, status_line, reason_words, gap_line};
+ghost use Rattle.flutejoin.specs.Lines.{status_line, gap_line};
 ghost use Rattle.flutejoin.specs.Objects.{object_lines, OfObjects, FailsToWrite};
 ghost use Rattle.flutejoin.specs.Packet.{write_failures};
 
 use crate::command_fault::CommandFault;
-use crate::lines::push_key;
-use crate::text::Text;
+use crate::held_lines::{gap_text, status_text};
 use crate::writing::write_words;
 use flute_parts::{DeviceFault, Key, Sink};
-use flute_store::{Gap, Gaps, Reason, Shelf, Status};
+use flute_store::{Gap, Gaps, Shelf, Status};
 
 /// Writes how much is held of each object, in the order of their keys: a line for the object, and
 /// where some symbols are missing, in conflict or of a length that does not fit, a line for each
@@ -57,38 +56,7 @@ fn write_status<W: Sink>(sink: &mut W, key: &Key, status: Status) -> Result<(), 
         (status_line key.now status) result }
     ensures failures { W.failures sink.new ≡ W.failures sink.old + (if is_ok result then 0 else 1) }
 {
-    let mut text = Text::new();
-    push_key(&mut text, key);
-    text.push(" ");
-    push_status(&mut text, status);
-    write_words(sink, text)
-}
-
-fn push_status(text: &mut Text, status: Status)
-    requires { length text.old + 200 ≤ 512 }
-    ensures text { text.new ≡ text.old ++ status_words status }
-    ensures len { length text.new ≤ length text.old + 200 }
-{
-    match status {
-        Status::NoInformation => text.push("no information"),
-        Status::ConflictingInformation => text.push("conflicting information"),
-        Status::Whole { length } => {
-            text.push("whole ");
-            text.push_number(length);
-        }
-        Status::Partial {
-            missing,
-            conflicting,
-            misfit,
-        } => {
-            text.push("partial missing ");
-            text.push_number(missing);
-            text.push(" conflicting ");
-            text.push_number(conflicting);
-            text.push(" misfit ");
-            text.push_number(misfit);
-        }
-    }
+    write_words(sink, status_text(key, status))
 }
 
 fn write_gaps<W: Sink>(sink: &mut W, mut gaps: Gaps<'_>) -> Result<(), DeviceFault>
@@ -113,24 +81,5 @@ fn write_gap<W: Sink>(sink: &mut W, gap: &Gap) -> Result<(), DeviceFault>
     ensures line { Writes (W.written sink.old) (W.written sink.new) (gap_line gap.now) result }
     ensures failures { W.failures sink.new ≡ W.failures sink.old + (if is_ok result then 0 else 1) }
 {
-    let mut text = Text::new();
-    text.push("gap ");
-    text.push_number(gap.sbn);
-    text.push("/");
-    text.push_number(gap.first);
-    text.push("-");
-    text.push_number(gap.last);
-    text.push(reason_words(gap.reason));
-    write_words(sink, text)
-}
-
-fn reason_words(reason: Reason) -> &'static str
-    ensures words { result.now ≡ reason_words reason }
-    ensures len { length result.now ≤ 20 }
-{
-    match reason {
-        Reason::Missing => " missing",
-        Reason::Conflicting => " conflicting",
-        Reason::Misfit => " misfit",
-    }
+    write_words(sink, gap_text(gap))
 }

@@ -1,17 +1,21 @@
 //! Datagram files that are held as what they tell.
-ghost use Rattle.std.specs.Prelude.{◌≡◌, true, ◌≤◌, ◌<◌, ◌+◌, ◌^◌, List, ℕ, ◌++◌, ◌∷◌, [], OnOk, IfOk, IfErr, IfSome};
+ghost use Rattle.std.specs.Prelude.{◌≡◌, true, false, ◌≤◌, ◌<◌, ◌+◌, ◌^◌, List, ℕ, ◌++◌, ◌∷◌, [], OnOk, IfOk, IfErr, IfSome};
 ghost use Rattle.flute_journal.specs.Records.{IsFileWithin};
 ghost use Rattle.flutejoin.specs.declared.limits.TheConstants.{MAX_ENTRIES};
 ghost use Rattle.flutejoin.specs.declared.command_fault.CommandFault.TheVariants as faults;
-ghost use Rattle.flutejoin.specs.Joined.{HoldsDatagrams, FileFails};
+ghost use Rattle.flute_journal.specs.Sessions.{listed, chosen};
+ghost use Rattle.flute_wire.specs.Reading.{facts};
+ghost use Rattle.flutejoin.specs.Joined.{Choice, choice_of, HoldsDatagrams, FileFails};
+ghost use Rattle.flutejoin.specs.Refused.{is_refused};
 ghost use Rattle.flutejoin.specs.Show.{FailsToRead};
 
 use crate::command_fault::{CommandFault, at_input};
 use crate::joined::Joined;
 use crate::limits::MAX_ENTRIES;
-use flute_journal::DatagramReader;
 use flute_journal::laws::a_file_is_read_record_by_record;
+use flute_journal::{DatagramReader, Sessions};
 use flute_parts::{Sender, Source};
+use flute_wire::{computed_reading, read};
 use std::alloc::Global;
 
 /// What a datagram file tells.
@@ -22,29 +26,45 @@ pub(crate) struct HeldFile {
     pub(crate) told: Joined,
     /// Whether all its facts are held.
     pub(crate) fits: bool,
+    /// How many of its datagrams are of other sessions.
+    pub(crate) others: u64,
 }
 
 impl HeldFile {
     // A file of no datagrams.
     fn new(alloc: Global) -> HeldFile
-        ensures { (sender : ℕ) → HoldsDatagrams sender result [] }
+        ensures { (choice : Choice) → HoldsDatagrams choice result [] }
     {
         HeldFile {
             told: Joined::new(alloc),
             fits: true,
+            others: 0,
         }
     }
 
-    // Takes a datagram of this sender, if what came before was held.
-    fn take(&mut self, alloc: Global, sender: Sender, datagram: &[u8]) -> Result<(), CommandFault>
+    // Takes a datagram of this sender, if what came before was held, and it is of one of these
+    // sessions.
+    fn take(
+        &mut self,
+        alloc: Global,
+        sender: Sender,
+        sessions: &Sessions,
+        datagram: &[u8],
+    ) -> Result<(), CommandFault>
         requires datagrams { self.now.told.datagrams + 1 < 2 ^ 64 }
         requires refused { self.now.told.refused ≤ self.now.told.datagrams }
         ensures taken { OnOk result ((before : List (List ℕ))
-            → HoldsDatagrams sender self.old before
-            → HoldsDatagrams sender self.new (before ++ datagram.now ∷ [])) }
+            → HoldsDatagrams (choice_of sender sessions.now) self.old before
+            → HoldsDatagrams (choice_of sender sessions.now) self.new
+            (before ++ datagram.now ∷ [])) }
         ensures memory { IfErr result (λ fault. fault ≡ faults.OutOfMemory) }
     {
         if !self.fits {
+            return Ok(());
+        }
+        if is_of_others(sessions, datagram) {
+            self.told.datagrams += 1;
+            self.others = self.others.saturating_add(1);
             return Ok(());
         }
         match self.told.take(alloc, sender, datagram) {
@@ -57,8 +77,27 @@ impl HeldFile {
     }
 }
 
-/// What the datagrams of this sender tell that the source holds as a file, at most 16,777,216. It is read
-/// record by record, and one record of it is held beside what it tells.
+// Whether a datagram is a packet of a session that is not taken.
+fn is_of_others(sessions: &Sessions, datagram: &[u8]) -> bool
+    ensures others { result ≡ true → (sender : ℕ)
+        → chosen (listed sessions.now) (facts sender datagram.now) ≡ [] }
+    ensures packet { result ≡ true → is_refused datagram.now ≡ false }
+    ensures taken { result ≡ false → (sender : ℕ)
+        → chosen (listed sessions.now) (facts sender datagram.now) ≡ facts sender datagram.now }
+{
+    // By this the proof knows what a datagram tells.
+    computed_reading();
+    if sessions.is_all() {
+        return false;
+    }
+    match read(datagram) {
+        Ok(packet) => !sessions.takes(packet.tsi()),
+        Err(_) => false,
+    }
+}
+
+/// What the datagrams that the source holds as a file, at most 16,777,216, tell of these sessions
+/// of this sender. It is read record by record, and one record of it is held beside what it tells.
 ///
 /// # Errors
 ///
@@ -68,11 +107,12 @@ pub(crate) fn read_file<R: Source>(
     alloc: Global,
     number: usize,
     sender: Sender,
+    sessions: &Sessions,
     source: &mut R,
 ) -> Result<HeldFile, CommandFault>
     ensures held { IfOk result (λ file. IfSome (R.unread source.old) (λ bytes.
         (datagrams : List (List ℕ)) × IsFileWithin MAX_ENTRIES bytes datagrams
-        × HoldsDatagrams sender file datagrams)) }
+        × HoldsDatagrams (choice_of sender sessions.now) file datagrams)) }
     ensures datagrams { IfOk result (λ file. file.told.datagrams ≤ MAX_ENTRIES) }
     ensures refused { IfOk result (λ file. file.told.refused ≤ file.told.datagrams) }
     ensures failed { IfErr result (FileFails number (R.unread source.old)) }
@@ -84,7 +124,7 @@ pub(crate) fn read_file<R: Source>(
     let mut reader = DatagramReader::new(source, MAX_ENTRIES);
     let mut spare = Vec::new(alloc);
     while let Some(datagram) = at_input(number, reader.next_with(alloc, spare))? {
-        file.take(alloc, sender, datagram.as_slice())?;
+        file.take(alloc, sender, sessions, datagram.as_slice())?;
         spare = datagram.into_vec();
     }
     Ok(file)

@@ -6,12 +6,18 @@ ghost use Rattle.flutejoin.specs.JoinInputs.{IsInput, source_in};
 use crate::first_bytes::FirstBytes;
 use crate::limits::MAX_ENTRIES;
 use crate::peeked_source::PeekedSource;
-use flute_journal::{OwnedJournalStream, Within};
+use flute_journal::{Chosen, OwnedJournalStream, Sessions, Within};
 use flute_parts::Source;
 
 /// An input of a join, of which the first bytes were read, which tell what it is: a journal, whose
-/// entries are counted against the limits of a store as they are read, or a datagram file.
-pub type JoinInput<'a, R> = Within<64, 4096, 1_048_576, OwnedJournalStream<PeekedSource<'a, R>>>;
+/// entries of the sessions that are taken are counted against the limits of a store as they are
+/// read, or a datagram file.
+pub type JoinInput<'a, R> = Within<
+    64,
+    4096,
+    1_048_576,
+    Chosen<OwnedJournalStream<PeekedSource<'a, R>>>,
+>;
 
 /// The input that has these first bytes, and then those that the source has left. It takes no
 /// memory, and reads nothing yet.
@@ -22,5 +28,6 @@ pub fn input_of<'a, R: Source>(first: FirstBytes, source: &'a mut R) -> JoinInpu
     ensures source { (source_in result).now ≡ source.old }
 {
     let source = PeekedSource::new(first, source);
-    Within::new(OwnedJournalStream::new(source, MAX_ENTRIES))
+    let journal = OwnedJournalStream::new(source, MAX_ENTRIES);
+    Within::new(Chosen::new(journal, Sessions::all()))
 }

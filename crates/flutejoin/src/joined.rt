@@ -43,7 +43,8 @@ impl Joined {
     ) -> Result<(), CommandFault>
         requires datagrams { self.now.datagrams + 1 < 2 ^ 64 }
         requires refused { self.now.refused ≤ self.now.datagrams }
-        ensures taken { OnOk result (TakesDatagram sender self.old datagram.now self.new) }
+        ensures taken { OnOk result (TakesDatagram (facts sender datagram.now) self.old
+            datagram.now self.new) }
         ensures failed { IfErr result (StoreFails (self.old.store ++ facts sender datagram.now)) }
         ensures counts { OnErr result ((self.new.datagrams ≡ self.old.datagrams)
             × (self.new.refused ≡ self.old.refused)) }

@@ -10,6 +10,7 @@ ghost use Rattle.flute_journal.specs.Replacing.{replaced};
 ghost use Rattle.flute_journal.specs.StreamMerges.{MergedAll, AppendsNoJournal, NoneFails};
 ghost use Rattle.flutejoin.specs.declared.command_fault.CommandFault.TheVariants.{Input, CannotWrite};
 ghost use Rattle.flutejoin.specs.JoinInputs.{AreInputs, NoneFailed, OneFailed};
+ghost use Rattle.flutejoin.specs.Joined.{Choice, choice_of};
 ghost use Rattle.flutejoin.specs.Joining.{JoinsTo, JoinToFails, NamesOneOf, AreLooked, AreReady, JoinsLooked, IsStreamOf, joined_behaviour};
 
 use crate::command_fault::{CommandFault, load_fault};
@@ -18,16 +19,18 @@ use crate::join_counts::JoinCounts;
 use crate::join_input::JoinInput;
 use crate::looking::look_at_all;
 use flute_journal::{
-    InputFault, Joined as Merged, OrFull, Replaced, Stream, WalkStream, join_streams,
+    InputFault, Joined as Merged, OrFull, Replaced, Sessions, Stream, WalkStream, join_streams,
 };
 use flute_parts::{Sender, Sink, Source};
 use flute_store::Objects;
 use std::alloc::Global;
 
-/// Writes the journal of all that the inputs tell together, each a journal or a datagram file, as
-/// its first four bytes say. There may be up to 64, and none tells nothing. A datagram that is
-/// refused tells nothing, and is counted. Whatever else tells the same facts, in any order, number
-/// and grouping: its journal is the same, byte for byte.
+/// Writes the journal of all that the inputs tell together of these sessions, each a journal or a
+/// datagram file, as its first four bytes say. What they tell of other sessions is passed over, and
+/// counted: entries, and datagrams that are packets.
+/// There may be up to 64 inputs, and none tells nothing. A datagram that is refused tells nothing,
+/// and is counted. Whatever else tells the same facts, in any order, number and grouping: its
+/// journal is the same, byte for byte.
 ///
 /// First the datagram files are read, record by record, and held as what they tell. Then the
 /// journals are read, and the journal of all is written meanwhile: one entry of each is held.
@@ -49,15 +52,17 @@ use std::alloc::Global;
 pub fn join_to<R: Source, W: Sink>(
     alloc: Global,
     sender: Sender,
+    sessions: &Sessions,
     inputs: &mut [JoinInput<'_, R>],
     sink: &mut W,
 ) -> Result<JoinCounts, CommandFault>
     requires few { length inputs.old ≤ 64 }
     ensures joined { (contents : List (List ℕ)) → AreInputs R.unread inputs.old contents
         → IfOk result
-        (λ counts. JoinsTo sender contents counts (W.written sink.old) (W.written sink.new)) }
+        (λ counts. JoinsTo (choice_of sender sessions.now) contents counts
+        (W.written sink.old) (W.written sink.new)) }
     ensures failed { (contents : List (List ℕ)) → AreInputs R.unread inputs.old contents
-        → IfErr result (JoinToFails sender contents) }
+        → IfErr result (JoinToFails (choice_of sender sessions.now) contents) }
     ensures short { IfErr result
         (λ _. AppendsNoJournal (W.written sink.old) (W.written sink.new)) }
     ensures names { IfErr result (NamesOneOf (length inputs.old)) }
@@ -68,7 +73,7 @@ pub fn join_to<R: Source, W: Sink>(
     ensures write_failed { IfErr result
         (λ fault. fault ≡ CannotWrite → W.failures sink.new ≡ W.failures sink.old + 1) }
 {
-    let looked = look_at_all(alloc, sender, inputs)?;
+    let looked = look_at_all(alloc, sender, sessions, inputs)?;
     let joined = join_looked(alloc, inputs, &looked.files, sink)?;
     if !joined.within {
         return Err(CommandFault::Full);
@@ -79,8 +84,18 @@ pub fn join_to<R: Source, W: Sink>(
     Ok(JoinCounts {
         datagrams: looked.datagrams,
         refused: looked.refused,
+        others: others_of(looked.others, inputs),
         entries: joined.entries,
     })
+}
+
+// How many entries and datagrams were of other sessions.
+fn others_of<R: Source>(of_files: u64, inputs: &[JoinInput<'_, R>]) -> u64 {
+    let mut others = of_files;
+    for input in inputs {
+        others = others.saturating_add(input.stream.others);
+    }
+    others
 }
 
 // Joins inputs that were looked at.
@@ -92,13 +107,13 @@ fn join_looked<R: Source, W: Sink>(
 ) -> Result<Merged, CommandFault>
     requires few { length inputs.old ≤ 64 }
     requires ready { AreReady R.unread R.failures inputs.old files.now }
-    ensures joined { (sender : ℕ) (contents : List (List ℕ))
-        → AreLooked R.unread sender inputs.old files.now contents
-        → IfOk result (λ joined. JoinsLooked sender contents files.now joined
+    ensures joined { (choice : Choice) (contents : List (List ℕ))
+        → AreLooked R.unread choice inputs.old files.now contents
+        → IfOk result (λ joined. JoinsLooked choice contents files.now joined
         (W.written sink.old) (W.written sink.new)) }
-    ensures failed { (sender : ℕ) (contents : List (List ℕ))
-        → AreLooked R.unread sender inputs.old files.now contents
-        → IfErr result (JoinToFails sender contents) }
+    ensures failed { (choice : Choice) (contents : List (List ℕ))
+        → AreLooked R.unread choice inputs.old files.now contents
+        → IfErr result (JoinToFails choice contents) }
     ensures cut { IfOk result (λ joined. joined.cut ≡ true
         → AppendsNoJournal (W.written sink.old) (W.written sink.new)) }
     ensures over { IfOk result (λ joined. joined.within ≡ false → joined.cut ≡ true) }

@@ -48,7 +48,7 @@ pub fn equal_journals_mean_one_content()
 {}
 
 /// What is read of the journal of some facts comes to the same as any facts with the same members.
-/// So `extract_to` writes the same of any inputs that tell these facts, once they are joined.
+/// So `extract_to` writes the same of the journal of any inputs that tell these facts.
 pub fn a_journal_is_read_as_what_was_joined()
     ensures { (held joined others : List Known) (bs : List ℕ) → IsJournalOf MAX_ENTRIES bs held
         → IsJournal bs joined → SameMembers joined others → Same held others }

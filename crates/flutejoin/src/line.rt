@@ -4,10 +4,11 @@ ghost use Rattle.flutejoin.specs.Status.{HasFewInputs, IsLineFault};
 
 use crate::command_fault::CommandFault;
 use crate::limits::MAX_INPUTS;
-use crate::numbers::{key_numbers, number_below, source};
+use crate::numbers::{key_numbers, number_below, sessions, source};
 use crate::parser::command;
 use clap::ArgMatches;
 use clap::error::ErrorKind;
+use flute_journal::Sessions;
 use flute_parts::{Key, Sender};
 use std::alloc::Global;
 
@@ -44,11 +45,12 @@ pub enum Line<'a> {
         block: u32,
         j: &'a str,
     },
-    /// Join the journals and datagram files `inputs`, 1 to 64 of them, into the journal `out`. The
-    /// datagrams of the files are of this sender.
+    /// Join what the journals and datagram files `inputs`, 1 to 64 of them, have of these sessions
+    /// into the journal `out`. The datagrams of the files are of this sender.
     Join {
         out: &'a str,
         sender: Sender,
+        sessions: Sessions,
         inputs: Vec<&'a str>,
     },
     /// Merge the journals `a` and `b` into the journal `out`.
@@ -74,7 +76,8 @@ pub enum Line<'a> {
 ///
 /// `CommandLine` with the parser's text where that refuses the words, or where they ask for help or
 /// the version; `BadNumber` with the first option, in the order `--tsi`, `--toi`, `--fdt`,
-/// `--length`, `--symbol`, `--block`, that is not a number of its range; `BadSource` where
+/// `--length`, `--symbol`, `--block`, that is not a number of its range, or with `--tsi` where `join`
+/// has it more than 64 times; `BadSource` where
 /// `--source` is not 32 or 8 hexadecimal digits; `BadKey` where `--fdt` does not go with `--toi`;
 /// `TooManyInputs` where `join` has more than 64 inputs; `OutputIsInput` where `merge` is to write
 /// one of its inputs; and `OutOfMemory`.
@@ -138,6 +141,7 @@ fn join_of<'a>(alloc: Global, matches: &ArgMatches<'a>) -> Result<Line<'a>, Comm
     ensures few { IfOk result HasFewInputs }
     ensures fault { IfErr result IsLineFault }
 {
+    let sessions = sessions(matches)?;
     let sender = source(matches)?;
     let inputs = matches.get_strs("INPUT").unwrap_or(&[]);
     if inputs.len() > MAX_INPUTS {
@@ -147,6 +151,7 @@ fn join_of<'a>(alloc: Global, matches: &ArgMatches<'a>) -> Result<Line<'a>, Comm
         Ok(inputs) => Ok(Line::Join {
             out: text(matches, "OUT"),
             sender,
+            sessions,
             inputs,
         }),
         Err(_) => Err(CommandFault::OutOfMemory),

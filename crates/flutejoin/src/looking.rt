@@ -4,7 +4,8 @@ ghost use Rattle.flute_journal.specs.declared.fault.ReadFault.TheVariants.{Read}
 ghost use Rattle.flute_journal.specs.Streams.{IsNew};
 ghost use Rattle.flutejoin.specs.declared.command_fault.CommandFault.TheVariants.{Input, OutOfMemory, CannotWrite};
 ghost use Rattle.flutejoin.specs.declared.limits.TheConstants.{MAX_ENTRIES};
-ghost use Rattle.flutejoin.specs.JoinInputs.{IsInput, AreInputs, front_of, input_behaviour, failures_of, NoneFailed, OneFailed};
+ghost use Rattle.flutejoin.specs.JoinInputs.{IsInput, AreInputs, peeked, front_of, input_behaviour, failures_of, NoneFailed, OneFailed};
+ghost use Rattle.flutejoin.specs.Joined.{choice_of};
 ghost use Rattle.flutejoin.specs.Joining.{NamesOnly, NamesOneOf, LookFails, SomeLookFails, datagrams_of, refused_of, IsFew, IsLooked, AreLooked, IsReady, AreReady, SumsUp};
 ghost use Rattle.flutejoin.specs.Show.{FailsToRead};
 
@@ -12,7 +13,7 @@ use crate::command_fault::CommandFault;
 use crate::held_file::{HeldFile, read_file};
 use crate::join_input::JoinInput;
 use crate::limits::MAX_ENTRIES;
-use flute_journal::{Kind, kind_of};
+use flute_journal::{Kind, Sessions, kind_of};
 use flute_parts::{Sender, Source, Tally};
 use std::alloc::Global;
 
@@ -25,6 +26,8 @@ pub(crate) struct Looked {
     pub(crate) datagrams: u64,
     /// How many of these are refused.
     pub(crate) refused: u64,
+    /// How many of them are of other sessions.
+    pub(crate) others: u64,
 }
 
 impl Looked {
@@ -42,6 +45,7 @@ impl Looked {
         if let Some(file) = &file {
             self.datagrams += file.told.datagrams;
             self.refused += file.told.refused;
+            self.others = self.others.saturating_add(file.others);
         }
         match self.files.push(file) {
             Ok(()) => Ok(()),
@@ -61,6 +65,7 @@ impl Looked {
 pub(crate) fn look_at_all<R: Source>(
     alloc: Global,
     sender: Sender,
+    sessions: &Sessions,
     inputs: &mut [JoinInput<'_, R>],
 ) -> Result<Looked, CommandFault>
     requires { length inputs.old ≤ 64 }
@@ -68,7 +73,7 @@ pub(crate) fn look_at_all<R: Source>(
         (λ looked. AreReady R.unread R.failures inputs.new looked.files.items) }
     ensures looked { (contents : List (List ℕ)) → AreInputs R.unread inputs.old contents
         → IfOk result
-        (λ looked. AreLooked R.unread sender inputs.new looked.files.items contents) }
+        (λ looked. AreLooked R.unread (choice_of sender sessions.now) inputs.new looked.files.items contents) }
     ensures sums { IfOk result SumsUp }
     ensures failed { (contents : List (List ℕ)) → AreInputs R.unread inputs.old contents
         → IfErr result (SomeLookFails contents) }
@@ -82,9 +87,10 @@ pub(crate) fn look_at_all<R: Source>(
         files: Vec::new(alloc),
         datagrams: 0,
         refused: 0,
+        others: 0,
     };
     for k in 0..inputs.len() {
-        let file = look_at(alloc, k + 1, sender, &mut inputs[k])?;
+        let file = look_at(alloc, k + 1, sender, sessions, &mut inputs[k])?;
         looked.add(file)?;
     }
     Ok(looked)
@@ -96,11 +102,12 @@ fn look_at<R: Source>(
     alloc: Global,
     number: usize,
     sender: Sender,
+    sessions: &Sessions,
     input: &mut JoinInput<'_, R>,
 ) -> Result<Option<HeldFile>, CommandFault>
     ensures ready { IfOk result (IsReady R.unread R.failures input.new) }
     ensures looked { (bytes : List ℕ) → IsInput R.unread input.old bytes
-        → IfOk result (λ file. IsLooked R.unread sender input.new file bytes) }
+        → IfOk result (λ file. IsLooked R.unread (choice_of sender sessions.now) input.new file bytes) }
     ensures few { IfOk result IsFew }
     ensures failed { (bytes : List ℕ) → IsInput R.unread input.old bytes
         → IfErr result (LookFails number bytes) }
@@ -108,26 +115,35 @@ fn look_at<R: Source>(
     ensures failures { FailsToRead (failures_of R.failures input.old)
         (failures_of R.failures input.new) result }
 {
-    match kind_of(input.stream.source.front()) {
+    match kind_of(input.stream.stream.source.front()) {
         Some(Kind::Journal) => {
-            restart(input);
+            restart(sessions, input);
             Ok(None)
         }
         Some(Kind::Datagrams) => {
-            let file = read_file(alloc, number, sender, &mut input.stream.source)?;
+            let file = read_file(
+                alloc,
+                number,
+                sender,
+                sessions,
+                &mut input.stream.stream.source,
+            )?;
             Ok(Some(file))
         }
         None => Err(CommandFault::UnknownKind(number)),
     }
 }
 
-// An input as a journal of which nothing was read.
-fn restart<R: Source>(input: &mut JoinInput<'_, R>)
-    ensures source { input.new.stream.source ≡ input.old.stream.source }
+// An input as a journal of which nothing was read, and these sessions are taken.
+fn restart<R: Source>(sessions: &Sessions, input: &mut JoinInput<'_, R>)
+    ensures source { peeked input.new ≡ peeked input.old }
+    ensures sessions { input.new.stream.sessions ≡ sessions.now }
     ensures new { IsNew (input_behaviour R.unread R.failures) input.new }
     ensures most { (input_behaviour R.unread R.failures).most input.new ≡ MAX_ENTRIES }
-    ensures limit { input.new.stream.max_entries ≡ MAX_ENTRIES }
+    ensures limit { input.new.stream.stream.max_entries ≡ MAX_ENTRIES }
 {
     input.tally = Tally::new();
-    input.stream.restart(MAX_ENTRIES);
+    input.stream.sessions = *sessions;
+    input.stream.others = 0;
+    input.stream.stream.restart(MAX_ENTRIES);
 }

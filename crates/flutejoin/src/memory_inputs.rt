@@ -1,6 +1,6 @@
 //! Inputs in memory, joined into a store.
 ghost use Rattle.std.specs.Prelude.{◌≡◌, ◌≤◌, length, map, IfOk, IfErr};
-ghost use Rattle.flutejoin.specs.Joined.{Joins, JoinFails};
+ghost use Rattle.flutejoin.specs.Joined.{everything, Joins, JoinFails};
 ghost use Rattle.flutejoin.specs.Joining.{JoinsTo};
 ghost use Rattle.flutejoin.specs.Memory.{in_memory};
 
@@ -11,7 +11,7 @@ use crate::first_bytes::FirstBytes;
 use crate::join_counts::JoinCounts;
 use crate::joined::Joined;
 use flute_journal::laws::{a_journal_has_one_content, a_journal_within_a_bound_is_one};
-use flute_journal::{ReadFault, read_store};
+use flute_journal::{ReadFault, Sessions, read_store};
 use flute_parts::{MemorySink, MemorySource, Sender, Sink};
 use std::alloc::Global;
 
@@ -24,8 +24,8 @@ use std::alloc::Global;
 /// Those of [`join_to`], but `OutOfMemory` in place of a device's.
 pub fn join_inputs(alloc: Global, sender: Sender, inputs: &[Blob]) -> Result<Joined, CommandFault>
     requires { length inputs.now ≤ 64 }
-    ensures joined { IfOk result (Joins sender inputs.now) }
-    ensures failed { IfErr result (JoinFails sender inputs.now) }
+    ensures joined { IfOk result (Joins (everything sender) inputs.now) }
+    ensures failed { IfErr result (JoinFails (everything sender) inputs.now) }
 {
     // By these the proof knows that a journal that was written is read as what it tells.
     a_journal_has_one_content();
@@ -52,9 +52,9 @@ fn join_blobs(
     sink: &mut MemorySink,
 ) -> Result<JoinCounts, CommandFault>
     requires { length inputs.now ≤ 64 }
-    ensures joined { IfOk result (λ counts. JoinsTo sender inputs.now counts
+    ensures joined { IfOk result (λ counts. JoinsTo (everything sender) inputs.now counts
         (⟦<MemorySink as Sink>⟧.written sink.old) (⟦<MemorySink as Sink>⟧.written sink.new)) }
-    ensures failed { IfErr result (JoinFails sender inputs.now) }
+    ensures failed { IfErr result (JoinFails (everything sender) inputs.now) }
 {
     let mut sources = Vec::new(alloc);
     for input in inputs {
@@ -66,7 +66,7 @@ fn join_blobs(
             return Err(CommandFault::OutOfMemory);
         }
     }
-    match join_sources(alloc, sender, sources, sink) {
+    match join_sources(alloc, sender, &Sessions::all(), sources, sink) {
         Ok(counts) => Ok(counts),
         Err(fault) => Err(in_memory(fault)),
     }

@@ -5,6 +5,7 @@ ghost use Rattle.flutejoin.specs.Status.{IsLineFault};
 use crate::command_fault::CommandFault;
 use crate::sender::sender_of;
 use clap::ArgMatches;
+use flute_journal::Sessions;
 use flute_parts::{Key, ObjectKey, Sender, SessionKey};
 
 /// The numbers that name an object, each within its range.
@@ -54,6 +55,27 @@ pub fn key_numbers(matches: &ArgMatches<'_>) -> Result<KeyNumbers, CommandFault>
         None => None,
     };
     Ok(KeyNumbers { tsi, toi, instance })
+}
+
+/// The sessions of `--tsi`, or all where it is left out.
+///
+/// # Errors
+///
+/// `BadNumber` where one of its numbers is not below 2^48, or where there are more than 64.
+pub fn sessions(matches: &ArgMatches<'_>) -> Result<Sessions, CommandFault>
+    ensures { IfErr result IsLineFault }
+{
+    let mut sessions = Sessions::all();
+    for text in matches.get_strs("tsi").unwrap_or(&[]) {
+        let number = match decimal(text) {
+            Some(number) if number < 1 << 48 => number as u64,
+            _ => return Err(CommandFault::BadNumber("tsi")),
+        };
+        if !sessions.add(number) {
+            return Err(CommandFault::BadNumber("tsi"));
+        }
+    }
+    Ok(sessions)
 }
 
 /// The sender of `--source`, or 0 where that is left out.

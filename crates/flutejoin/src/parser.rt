@@ -3,17 +3,77 @@
 use clap::{Arg, ArgAction, Command};
 use std::alloc::Global;
 
+/// What journals are read and written, behind the number that `--version` tells.
+const VERSION: &str = "\
+0.1.0
+Journals of versions 1 and 2 are read, and those of version 2 written.";
+
 /// An example that the help texts of datagrams end with.
 const DATAGRAM_EXAMPLE: &str = "\
 A datagram is given as hexadecimal digits, two for each byte. Example:
   flutejoin packet 10A004000000000000000007000000010000000068656C6C";
 
+/// What the help text of the program ends with.
+const PROGRAM_HELP: &str = "\
+A journal is what a station received; a datagram file has UDP payloads of one sender.
+Example: a file is sent as datagrams, these are received, and the file comes out.
+  seq 1000000 1004999 > file
+  flutejoin carousel -o sent --tsi 7 --toi 1 --symbol 1000 --block 16 file
+  flutejoin join -o station1 sent
+  flutejoin gaps station1
+  flutejoin extract -o out --tsi 7 --toi 1 station1
+  flutejoin packet 10A004000000000000000007000000010000000068656C6C
+
+A journal has up to 16,777,216 entries, and a datagram file as many records.
+A store holds up to 64 sessions, 4,096 objects of each, and 1,048,576 symbols of each object.
+
+A fault is one line on standard error.
+Status 0: all was done. 1: an input is at fault. 2: the command line. 3: memory or a device.";
+
+// What the help texts of the commands end with.
+const SHOW_HELP: &str = "\
+Prints a line for each entry, and then: entries N. Example:
+  flutejoin show station1";
+
+const GAPS_HELP: &str = "\
+Prints a line for each object: whole, partial, no information or conflicting information.
+Behind partial a line for each gap follows: gap BLOCK/FIRST-LAST, and whether these symbols are
+missing, conflicting or misfit.
+The journal may have as much as a store holds. Example:
+  flutejoin gaps station1";
+
+const EXTRACT_HELP: &str = "\
+Prints: bytes N. Of an object that is not whole nothing is written.
+The journal may have as much as a store holds. Example:
+  flutejoin extract -o out --tsi 7 --toi 1 station1";
+
+const INFO_HELP: &str = "\
+Prints: entries N. It is for an object whose packets do not tell its information.
+The journal may have as much as a store holds. Example:
+  flutejoin info -o known --tsi 7 --toi 1 --length 40000 --symbol 1000 --block 16 station1";
+
+const JOIN_HELP: &str = "\
+Prints: datagrams N, refused N (those of them that are not taken) and entries N.
+With --tsi only these sessions are taken; others N then counts the entries and datagrams of others.
+--source is the sender of all datagram files of the call; journals keep theirs.
+All inputs together may have as much as a store holds. Example:
+  flutejoin join -o all station1 station2";
+
+const MERGE_HELP: &str = "\
+Prints: entries N. The limits of a store do not apply. OUT is no input. Example:
+  flutejoin merge -o both station1 station2";
+
+const CAROUSEL_HELP: &str = "\
+Prints: datagrams N. FILE has up to 4,294,967,295 bytes. Example:
+  flutejoin carousel -o sent --tsi 7 --toi 1 --symbol 1000 --block 16 file";
+
 /// The program's command, with a subcommand for each of its commands.
 pub fn command<'a>(alloc: Global) -> Result<Command<'a>, clap::Error> {
     let command = Command::new(alloc, "flutejoin")
         .version("0.1.0")
+        .long_version(VERSION)
         .about("Reads FLUTE version 2 datagrams (RFC 6726), and journals of what was received")
-        .after_help(DATAGRAM_EXAMPLE)
+        .after_help(PROGRAM_HELP)
         .no_binary_name(true)
         .bin_name("flutejoin")?
         .subcommand_required(true)
@@ -41,6 +101,7 @@ fn packet_command<'a>(alloc: Global) -> Result<Command<'a>, clap::Error> {
 fn show_command<'a>(alloc: Global) -> Result<Command<'a>, clap::Error> {
     let command = Command::new(alloc, "show")
         .about("Prints the entries of a journal, a line each")
+        .after_help(SHOW_HELP)
         .arg(journal(alloc))?;
     Ok(command)
 }
@@ -48,6 +109,7 @@ fn show_command<'a>(alloc: Global) -> Result<Command<'a>, clap::Error> {
 fn gaps_command<'a>(alloc: Global) -> Result<Command<'a>, clap::Error> {
     let command = Command::new(alloc, "gaps")
         .about("Prints how much of each object a journal has, and which symbols are missing")
+        .after_help(GAPS_HELP)
         .arg(journal(alloc))?;
     Ok(command)
 }
@@ -55,6 +117,7 @@ fn gaps_command<'a>(alloc: Global) -> Result<Command<'a>, clap::Error> {
 fn extract_command<'a>(alloc: Global) -> Result<Command<'a>, clap::Error> {
     let command = Command::new(alloc, "extract")
         .about("Writes an object that a journal has whole to a file")
+        .after_help(EXTRACT_HELP)
         .arg(output(alloc))?
         .arg(source(alloc))?
         .arg(session(alloc))?
@@ -70,6 +133,7 @@ fn info_command<'a>(alloc: Global) -> Result<Command<'a>, clap::Error> {
         .help("The transfer length: how many bytes the object has");
     let command = Command::new(alloc, "info")
         .about("Writes a journal with an object's transmission information added")
+        .after_help(INFO_HELP)
         .arg(output(alloc))?
         .arg(source(alloc))?
         .arg(session(alloc))?
@@ -88,10 +152,15 @@ fn join_command<'a>(alloc: Global) -> Result<Command<'a>, clap::Error> {
         .action(ArgAction::Append)
         .num_args(1..)
         .help("Journals and datagram files, at most 64");
+    let sessions = number(alloc, "tsi").action(ArgAction::Append).help(
+        "A session that is taken; up to 64 times; left out, all are",
+    );
     let command = Command::new(alloc, "join")
         .about("Joins what several journals and datagram files have into one journal")
+        .after_help(JOIN_HELP)
         .arg(output(alloc))?
         .arg(source(alloc))?
+        .arg(sessions)?
         .arg(inputs)?;
     Ok(command)
 }
@@ -99,6 +168,7 @@ fn join_command<'a>(alloc: Global) -> Result<Command<'a>, clap::Error> {
 fn merge_command<'a>(alloc: Global) -> Result<Command<'a>, clap::Error> {
     let command = Command::new(alloc, "merge")
         .about("Merges two journals into one, entry by entry")
+        .after_help(MERGE_HELP)
         .arg(output(alloc))?
         .arg(input(alloc, "A").help("A journal"))?
         .arg(input(alloc, "B").help("Another journal"))?;
@@ -108,6 +178,7 @@ fn merge_command<'a>(alloc: Global) -> Result<Command<'a>, clap::Error> {
 fn carousel_command<'a>(alloc: Global) -> Result<Command<'a>, clap::Error> {
     let command = Command::new(alloc, "carousel")
         .about("Writes the datagrams that send an object to a datagram file")
+        .after_help(CAROUSEL_HELP)
         .arg(output(alloc))?
         .arg(session(alloc))?
         .arg(object(alloc))?

@@ -6,15 +6,17 @@ ghost use Rattle.std.specs.Prelude.{◌≤◌, length};
 mod inputs;
 mod outputs;
 
-use crate::inputs::{OpenInput, open_input, open_inputs};
-use crate::outputs::{Report, create_output, finish, nothing, standard_output};
+use crate::inputs::{Input, OpenInput, open_input, open_inputs};
+use crate::outputs::{
+    Folder, Report, create_in, create_output, finish, folder_at, nothing, standard_output,
+};
+use flute_journal::Sessions;
 use flute_output::{FileId, take_standard_streams};
-use flute_parts::{Info, Key, Sender, StdSink};
-use flute_store::Shelf;
+use flute_parts::{Info, Key, MemorySink, Sender, Sink, StdSink};
 use flute_wire::Datagrams;
 use flutejoin::{
-    Blob, CommandFault, Line, blob_fault, check_whole, count_to, datagrams_of, extract_to, gaps_to,
-    info_to, is_too_large, join_sources, line_of, load, merge_to, packet_to, send_to, show_to,
+    Blob, CommandFault, Line, blob_fault, count_to, datagrams_of, extract_to, gaps_from, info_to,
+    is_too_large, join_sources, line_of, merge_to, packet_to, send_to, show_to,
 };
 use std::env;
 use std::io::{self, ErrorKind};
@@ -53,8 +55,9 @@ fn run(rt: &HostRuntime) -> Result<(), CommandFault> {
         Line::Join {
             out,
             sender,
+            sessions,
             inputs,
-        } => join(rt, out, sender, inputs.as_slice()),
+        } => join(rt, out, sender, &sessions, inputs.as_slice()),
         Line::Merge { out, a, b } => merge(rt, out, a, b),
         Line::Carousel {
             out,
@@ -106,19 +109,70 @@ fn show(rt: &HostRuntime, j: &str) -> Result<(), CommandFault> {
 }
 
 fn gaps(rt: &HostRuntime, j: &str) -> Result<(), CommandFault> {
-    let (shelf, _) = loaded(rt, j)?;
+    let mut input = open_input(rt, 1, j)?;
     let mut output = standard_output(rt)?;
-    gaps_to(&shelf, &mut output)?;
+    gaps_from(rt.alloc(), &mut input.source, &mut output)?;
     output.flush().map_err(|_| CommandFault::CannotWrite)
 }
 
-/// Creates the output only where the object is whole.
+/// Writes the object to an output that is created once the input is open, and before it is read, where
+/// it becomes OUT whole or not at all.
 fn extract(rt: &HostRuntime, out: &str, key: &Key, j: &str) -> Result<(), CommandFault> {
-    let (shelf, file) = loaded(rt, j)?;
-    check_whole(&shelf, key)?;
-    let mut output = create_output(rt, out, &file)?;
-    let extracted = extract_to(&shelf, key, &mut output);
+    let mut input = open_input(rt, 1, j)?;
+    let file = files_of(rt, &input)?;
+    match folder_at(rt, out, &file) {
+        Ok(folder) if folder.is_beside() => extract_in(rt, folder, key, &mut input.source),
+        Ok(folder) => extract_held(rt, folder, key, &mut input.source),
+        Err(fault) => extract_nowhere(rt, fault, key, &mut input.source),
+    }
+}
+
+/// Writes the object as it is read to an output that becomes OUT whole or not at all.
+fn extract_in(
+    rt: &HostRuntime,
+    folder: Folder<'_>,
+    key: &Key,
+    source: &mut Input,
+) -> Result<(), CommandFault> {
+    let mut output = match create_in(folder) {
+        Ok(output) => output,
+        Err(fault) => return extract_nowhere(rt, fault, key, source),
+    };
+    let extracted = extract_to(rt.alloc(), source, key, &mut output);
     let (bytes, report) = finish(output, extracted)?;
+    tell_count(rt, report, "bytes", bytes)
+}
+
+/// Tells why there is no output, unless the input or the object has a fault, which is told first.
+fn extract_nowhere(
+    rt: &HostRuntime,
+    fault: CommandFault,
+    key: &Key,
+    source: &mut Input,
+) -> Result<(), CommandFault> {
+    extract_to(rt.alloc(), source, key, &mut nothing())?;
+    Err(fault)
+}
+
+/// Holds the object in memory before it opens an output that takes its bytes itself: nothing goes to a
+/// pipe or a device of an object that is not whole.
+fn extract_held(
+    rt: &HostRuntime,
+    folder: Folder<'_>,
+    key: &Key,
+    source: &mut Input,
+) -> Result<(), CommandFault> {
+    let mut held = MemorySink::new(rt.alloc());
+    let bytes = match extract_to(rt.alloc(), source, key, &mut held) {
+        Err(CommandFault::CannotWrite) => return Err(CommandFault::OutOfMemory),
+        extracted => extracted?,
+    };
+    let mut output = create_in(folder)?;
+    let written = match output.write_all(held.as_slice()) {
+        Ok(()) => Ok(bytes),
+        Err(_) => Err(CommandFault::CannotWrite),
+    };
+    let (bytes, report) = finish(output, written)?;
     tell_count(rt, report, "bytes", bytes)
 }
 
@@ -147,7 +201,13 @@ fn add_information(
 
 /// Creates the output once all inputs are open and their first bytes were read, and before they are
 /// read further. Where that cannot be, a fault of the inputs is told first.
-fn join(rt: &HostRuntime, out: &str, sender: Sender, paths: &[&str]) -> Result<(), CommandFault>
+fn join(
+    rt: &HostRuntime,
+    out: &str,
+    sender: Sender,
+    sessions: &Sessions,
+    paths: &[&str],
+) -> Result<(), CommandFault>
     requires { length paths.now ≤ 64 }
 {
     let mut files = Vec::new(rt.alloc());
@@ -155,14 +215,17 @@ fn join(rt: &HostRuntime, out: &str, sender: Sender, paths: &[&str]) -> Result<(
     let mut output = match create_output(rt, out, &files) {
         Ok(output) => output,
         Err(fault) => {
-            join_sources(rt.alloc(), sender, inputs, &mut nothing())?;
+            join_sources(rt.alloc(), sender, sessions, inputs, &mut nothing())?;
             return Err(fault);
         }
     };
-    let joined = join_sources(rt.alloc(), sender, inputs, &mut output);
+    let joined = join_sources(rt.alloc(), sender, sessions, inputs, &mut output);
     let (counts, report) = finish(output, joined)?;
     tell_count(rt, report, "datagrams", counts.datagrams)?;
     tell_count(rt, report, "refused", counts.refused)?;
+    if !sessions.is_all() {
+        tell_count(rt, report, "others", counts.others)?;
+    }
     tell_count(rt, report, "entries", counts.entries)
 }
 
@@ -224,14 +287,6 @@ fn tell_count(rt: &HostRuntime, report: Report, word: &str, count: u64) -> Resul
         Report::StandardOutput => count_to(word, count, &mut StdSink::new(rt.stdout())),
         Report::StandardError => count_to(word, count, &mut StdSink::new(rt.stderr())),
     }
-}
-
-/// The store that a journal makes, and which file that is.
-fn loaded(rt: &HostRuntime, path: &str) -> Result<(Shelf, Vec<FileId>), CommandFault> {
-    let mut input = open_input(rt, 1, path)?;
-    let file = files_of(rt, &input)?;
-    let shelf = load(rt.alloc(), &mut input.source)?;
-    Ok((shelf, file))
 }
 
 /// Which file the input is, as a list.

@@ -8,7 +8,9 @@ use std::io::{self, BufWriter, Printer, Sink as Nothing};
 /// How many bytes of lines are written at once.
 const BUFFER: usize = 131_072;
 
-pub type OutputFile<'a> = Output<DiskFolder<'a, HostRuntime>>;
+pub type Folder<'a> = DiskFolder<'a, HostRuntime>;
+
+pub type OutputFile<'a> = Output<Folder<'a>>;
 
 pub type Lines<'a> = StdSink<BufWriter<Printer<'a, HostRuntime>>>;
 
@@ -19,22 +21,35 @@ pub enum Report {
     StandardError,
 }
 
-/// Creates the output at this path, which may be one of the inputs. All memory that it
-/// needs is asked for first.
+/// What the path of an output leads to; the output may be one of the inputs. All memory that it needs
+/// is asked for, and nothing is made.
+pub fn folder_at<'a>(
+    rt: &'a HostRuntime,
+    path: &str,
+    inputs: &'a [FileId],
+) -> Result<Folder<'a>, CommandFault> {
+    match DiskFolder::new(rt, rt.alloc(), path, inputs) {
+        Ok(folder) => Ok(folder),
+        Err(OpenFault::CannotCreate) => Err(CommandFault::CannotCreate),
+        Err(OpenFault::OutOfMemory) => Err(CommandFault::OutOfMemory),
+    }
+}
+
+/// Creates the output in its folder.
+pub fn create_in(folder: Folder<'_>) -> Result<OutputFile<'_>, CommandFault> {
+    match Output::create(folder) {
+        Ok(output) => Ok(output),
+        Err(_) => Err(CommandFault::CannotCreate),
+    }
+}
+
+/// Creates the output at this path, which may be one of the inputs.
 pub fn create_output<'a>(
     rt: &'a HostRuntime,
     path: &str,
     inputs: &'a [FileId],
 ) -> Result<OutputFile<'a>, CommandFault> {
-    let folder = match DiskFolder::new(rt, rt.alloc(), path, inputs) {
-        Ok(folder) => folder,
-        Err(OpenFault::CannotCreate) => return Err(CommandFault::CannotCreate),
-        Err(OpenFault::OutOfMemory) => return Err(CommandFault::OutOfMemory),
-    };
-    match Output::create(folder) {
-        Ok(output) => Ok(output),
-        Err(_) => Err(CommandFault::CannotCreate),
-    }
+    create_in(folder_at(rt, path, inputs)?)
 }
 
 /// Ends the output after the work that wrote it: it is kept where that was done, and

@@ -8,7 +8,7 @@ use crate::vectors::{
     DATAGRAMS, OLD_SYMBOLS, OLD_WHOLE, SYMBOLS_OF_SENDER, WHOLE, WHOLE_OF_BOTH, WHOLE_OF_SENDER,
 };
 use anyhow::Result;
-use flute_journal::ReadFault;
+use flute_journal::{ReadFault, Sessions};
 use flute_parts::{Info, Key, MemorySink, MemorySource, Sender};
 use flutejoin::{
     BegunSource, Blob, BlobFault, CommandFault, FirstBytes, JoinCounts, MAX_INPUTS, at_input,
@@ -84,7 +84,7 @@ impl Inputs<'_> {
         if sources.len() > MAX_INPUTS {
             return Err(CommandFault::TooManyInputs);
         }
-        join_sources(alloc, Sender::new(0), sources, sink)
+        join_sources(alloc, Sender::new(0), &Sessions::all(), sources, sink)
     }
 }
 
@@ -112,6 +112,7 @@ impl Case for Streams<'_> {
         let counts = JoinCounts {
             datagrams: 2,
             refused: 0,
+            others: 0,
             entries: self.entries,
         };
         let joined = answer.is_ok_and(|answer| answer == counts);

@@ -1,11 +1,12 @@
 //! What commands write.
 
 use super::*;
+use flute_journal::ReadFault;
 use flute_parts::{Info, MemorySink, MemorySource};
 use flute_store::Shelf;
 use flutejoin::{
-    CommandFault, Line, extract_to, gaps_to, info_to, line_of, load, merge_to, packet_to, save_to,
-    show_to,
+    CommandFault, Line, extract_to, gaps_from, gaps_to, info_to, line_of, load, merge_to,
+    packet_to, save_to, show_to,
 };
 use std::alloc::Global;
 use test_vectors::{bytes, journals, written};
@@ -52,12 +53,59 @@ fn gaps_are_printed(rt: HostRuntime) -> Result<(), Fail> {
     Ok(())
 }
 
+/// The rows of `gaps`: the lines of each journal, as they are read and by the store that it makes.
+#[test]
+fn gaps_are_printed_as_the_journal_is_read(rt: HostRuntime) -> Result<(), Fail> {
+    let rows = [
+        (journals::NOTHING, ""),
+        (journals::WHOLE, "session 7 object 1 whole 5\n"),
+        (journals::SYMBOLS, "session 7 object 1 no information\n"),
+        (
+            journals::CONFLICT,
+            "session 7 object 1 conflicting information\n",
+        ),
+        (
+            journals::JOINED,
+            "session 7 object 1 partial missing 0 conflicting 1 misfit 0\ngap 0/1-1 conflicting\n",
+        ),
+    ];
+    for (journal, lines) in rows {
+        let bytes = bytes(rt.alloc(), journal)?;
+        let mut streamed = MemorySink::new(rt.alloc());
+        gaps_from(rt.alloc(), &mut MemorySource::new(&bytes), &mut streamed)?;
+        assert!(rt; streamed.as_slice() == lines.as_bytes());
+        let mut sink = MemorySink::new(rt.alloc());
+        gaps_to(&loaded(rt.alloc(), journal)?, &mut sink)?;
+        assert!(rt; sink.as_slice() == lines.as_bytes());
+    }
+    Ok(())
+}
+
+/// Nothing is written before the whole journal was found right.
+#[test]
+fn gaps_of_a_cut_journal_are_not_printed(rt: HostRuntime) -> Result<(), Fail> {
+    let mut cut = bytes(rt.alloc(), journals::WHOLE)?;
+    cut.pop();
+    let mut sink = MemorySink::new(rt.alloc());
+    let fault = gaps_from(rt.alloc(), &mut MemorySource::new(&cut), &mut sink);
+    assert!(rt; matches!(fault, Err(CommandFault::Input(1, ReadFault::Cut))));
+    assert!(rt; sink.as_slice().is_empty());
+    Ok(())
+}
+
 #[test]
 fn an_object_is_extracted(rt: HostRuntime) -> Result<(), Fail> {
-    let shelf = loaded(rt.alloc(), journals::WHOLE)?;
+    let journal = bytes(rt.alloc(), journals::WHOLE)?;
     let key = file().ok_or("a key")?;
     let mut sink = MemorySink::new(rt.alloc());
-    assert!(rt; extract_to(&shelf, &key, &mut sink)? == 5);
+    assert!(rt;
+        extract_to(
+            rt.alloc(),
+            &mut MemorySource::new(&journal),
+            &key,
+            &mut sink
+        )? == 5
+    );
     assert!(rt; sink.as_slice() == "hello".as_bytes());
     Ok(())
 }

@@ -1,7 +1,7 @@
 //! What inputs come to together, in memory and as they are read.
 
 use super::*;
-use flute_journal::write_store;
+use flute_journal::{Sessions, write_store};
 use flute_parts::{MemorySink, MemorySource, Sender, ShortSource};
 use flutejoin::{
     BegunSource, Blob, FirstBytes, JoinCounts, Joined, MAX_INPUTS, join_inputs, join_sources,
@@ -86,10 +86,17 @@ fn inputs_that_are_read_are_joined(rt: HostRuntime) -> Result<(), Fail> {
         return Err(Fail::from("too many inputs"));
     }
     let mut sink = MemorySink::new(rt.alloc());
-    let counts = join_sources(rt.alloc(), Sender::new(0), sources, &mut sink)?;
+    let counts = join_sources(
+        rt.alloc(),
+        Sender::new(0),
+        &Sessions::all(),
+        sources,
+        &mut sink,
+    )?;
     let wanted = JoinCounts {
         datagrams: 2,
         refused: 0,
+        others: 0,
         entries: 4,
     };
     assert!(rt; counts == wanted);

@@ -4,8 +4,7 @@ use super::*;
 use flute_parts::{Info, MemorySink, MemorySource};
 use flute_store::{ExtractFault, Shelf};
 use flutejoin::{
-    CommandFault, check_whole, extract_to, gaps_to, info_to, load, merge_to, save_to, sender_of,
-    show_to,
+    CommandFault, extract_to, gaps_to, info_to, load, merge_to, save_to, sender_of, show_to,
 };
 use std::alloc::Global;
 use test_vectors::journals::{END_4, HELL, INFO, LETTER_O, WHOLE};
@@ -60,12 +59,25 @@ fn gaps_of_another_sender_are_printed(rt: HostRuntime) -> Result<(), Fail> {
 
 #[test]
 fn an_object_is_of_its_sender_alone(rt: HostRuntime) -> Result<(), Fail> {
-    let shelf = loaded(rt.alloc())?;
+    let journal = bytes(rt.alloc(), WHOLE_OF_SENDER)?;
     let key = file_of(other_sender()).ok_or("a key")?;
     let mut sink = MemorySink::new(rt.alloc());
-    assert!(rt; extract_to(&shelf, &key, &mut sink)? == 5);
+    assert!(rt;
+        extract_to(
+            rt.alloc(),
+            &mut MemorySource::new(&journal),
+            &key,
+            &mut sink
+        )? == 5
+    );
     assert!(rt; sink.as_slice() == "hello".as_bytes());
-    let fault = check_whole(&shelf, &file().ok_or("a key")?);
+    let key = file().ok_or("a key")?;
+    let fault = extract_to(
+        rt.alloc(),
+        &mut MemorySource::new(&journal),
+        &key,
+        &mut sink,
+    );
     assert!(rt; matches!(fault, Err(CommandFault::NoObject)));
     Ok(())
 }

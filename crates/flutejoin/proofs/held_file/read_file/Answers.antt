@@ -2,7 +2,7 @@
 use Rattle.std.proofs.Common.{rules, refl, Some, Ok, ap, ◌∙◌, subst, ◌∷◌, [], ◌++◌}
 use Rattle.std.proofs.lemmas.Result.{err_from_is_err_and}
 use Rattle.flute_journal.specs.Records.{GivesOfFile, HasFileFault}
-use Rattle.flutejoin.specs.Joined.{HoldsDatagrams}
+use Rattle.flutejoin.specs.Joined.{choice_of, HoldsDatagrams}
 use Rattle.flutejoin.proofs.Held.{read_some, read_err, none_failed}
 use Rattle.flutejoin.proofs.held_file.read_file.Goals as goal
 
@@ -16,7 +16,7 @@ returns-in_err-datagram-clause-failed g c =
     rw (e.1, e.2, why.is) (refl, subst (λ n. HasFileFault n (g.R.Source.unread c.args.source.now) why.why) c.loop-file.invariant.limit stops)
 
 pub loop-file-init : goal.loop-file-init
-loop-file-init g c = search (rules, c.new-file.ensures c.args.sender)
+loop-file-init g c = search (rules, c.new-file.ensures (choice_of c.args.sender c.args.sessions.now))
 
 pub loop-file-preserved : goal.loop-file-preserved
 loop-file-preserved g c =
@@ -25,7 +25,7 @@ loop-file-preserved g c =
     let gives = subst (GivesOfFile c.loop-file.reader.max_records c.loop-file.reader.stage c.next_with.new.self.stage (g.R.Source.unread c.loop-file.reader.source.now) (g.R.Source.unread c.next_with.new.self.source.now)) is c.next_with.ensures.gives in
     let more = c.a_file_is_read_record_by_record.ensures.goes_on _ _ _ _ _ _ all.0 c.in-Some.datagram all.1 gives in
     record {
-      so_far = (all.0 ++ c.in-Some.datagram ∷ [], rw c.next_with.ensures.limit more, subst (λ d. HoldsDatagrams c.args.sender c.take.new.self (all.0 ++ d ∷ [])) c.as_slice.ensures.bytes (c.in_ok-take.ensures.taken all.0 all.2));
+      so_far = (all.0 ++ c.in-Some.datagram ∷ [], rw c.next_with.ensures.limit more, subst (λ d. HoldsDatagrams (choice_of c.args.sender c.args.sessions.now) c.take.new.self (all.0 ++ d ∷ [])) c.as_slice.ensures.bytes (c.in_ok-take.ensures.taken all.0 all.2));
       limit = c.next_with.ensures.limit ∙ c.loop-file.invariant.limit;
       same_source = c.next_with.ensures.source ∙ c.loop-file.invariant.same_source;
       failures = none_failed _ _ _ c.next_with.result (Some c.in-Some.datagram) is c.next_with.ensures.failures ∙ c.loop-file.invariant.failures;

@@ -2,13 +2,13 @@
 use Rattle.std.proofs.Common.{◌≡◌, ℕ, ◌-◌, List}
 use Rattle.flute_journal.specs.FilesSoFar.{FileSofar}
 use Rattle.flute_journal.specs.Records.{given}
-use Rattle.flutejoin.specs.Joined.{HoldsDatagrams}
+use Rattle.flutejoin.specs.Joined.{choice_of, HoldsDatagrams}
 use Rattle.flutejoin.proofs.held_file.read_file.Given as goal
 
 abbrev pub invariant-loop-file : goal.invariant-loop-file
 invariant-loop-file g l = record {
   so_far : (datagrams : List (List ℕ)) × FileSofar l.reader.max_records (g.R.Source.unread l.fn.source) (g.R.Source.unread l.reader.source.now) l.reader.stage datagrams
-      × HoldsDatagrams l.fn.sender l.file datagrams;
+      × HoldsDatagrams (choice_of l.fn.sender l.fn.sessions) l.file datagrams;
   limit : l.reader.max_records ≡ 16777216;
   same_source : l.reader.source.ghost_name ≡ l.initial.reader.source.ghost_name;
   failures : g.R.Source.failures l.reader.source.now ≡ g.R.Source.failures l.fn.source;

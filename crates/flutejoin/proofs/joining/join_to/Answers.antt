@@ -2,6 +2,7 @@
 use Rattle.std.proofs.Common.{◌≡◌, Bool, true, false, not, refl, ◌∙◌, sym, ap, subst, length}
 use Rattle.std.specs.Prelude.{sum_by}
 use Rattle.std.proofs.lemmas.Result.{err_from_is_err_and}
+use Rattle.flutejoin.specs.Joined.{choice_of}
 use Rattle.flutejoin.specs.Joining.{AreLooked, datagrams_of, refused_of}
 use Rattle.flutejoin.proofs.JoinStops.{not_looked, one_failed_more, none_failed_more, known_of, over_together, not_written, joins_to}
 use Rattle.flutejoin.proofs.joining.join_to.Goals as goal
@@ -26,23 +27,23 @@ returns-in_err-joined-clause-read_failed g c =
 
 pub returns-then-not-joined-clause-failed : goal.returns-then-not-joined-clause-failed
 returns-then-not-joined-clause-failed g c = λ contents inputs.
-    let looked = subst (λ l. AreLooked g.R.Source.unread c.args.sender c.look_at_all.new.inputs l contents) (sym c.deref.ensures.value) (c.in_ok-looked.ensures.looked contents inputs) in
-    let joined = c.in_ok-joined.ensures.joined c.args.sender contents looked in
+    let looked = subst (λ l. AreLooked g.R.Source.unread (choice_of c.args.sender c.args.sessions.now) c.look_at_all.new.inputs l contents) (sym c.deref.ensures.value) (c.in_ok-looked.ensures.looked contents inputs) in
+    let joined = c.in_ok-joined.ensures.joined (choice_of c.args.sender c.args.sessions.now) contents looked in
     let many = ap length c.deref.ensures.value ∙ c.in_ok-looked.ensures.ready.as_many in
     over_together contents c.deref.result.now c.in_ok-joined.joined _ _ (known_of g.R.Source.unread g.R.Source.failures c.look_at_all.new.inputs c.deref.result.now contents many looked) joined (not_true c.in_ok-joined.joined.within c.if-not-joined.true)
 
 pub returns-then-joined-clause-failed : goal.returns-then-joined-clause-failed
 returns-then-joined-clause-failed g c = λ contents inputs.
-    let looked = subst (λ l. AreLooked g.R.Source.unread c.args.sender c.look_at_all.new.inputs l contents) (sym c.deref.ensures.value) (c.in_ok-looked.ensures.looked contents inputs) in
-    let joined = c.in_ok-joined.ensures.joined c.args.sender contents looked in
+    let looked = subst (λ l. AreLooked g.R.Source.unread (choice_of c.args.sender c.args.sessions.now) c.look_at_all.new.inputs l contents) (sym c.deref.ensures.value) (c.in_ok-looked.ensures.looked contents inputs) in
+    let joined = c.in_ok-joined.ensures.joined (choice_of c.args.sender c.args.sessions.now) contents looked in
     not_written contents c.deref.result.now c.in_ok-joined.joined _ _ joined (not_false c.in_ok-joined.joined.within c.if-not-joined.false)
 
 pub returns-clause-joined : goal.returns-clause-joined
 returns-clause-joined g c = λ contents inputs.
-    let looked = subst (λ l. AreLooked g.R.Source.unread c.args.sender c.look_at_all.new.inputs l contents) (sym c.deref.ensures.value) (c.in_ok-looked.ensures.looked contents inputs) in
-    let joined = c.in_ok-joined.ensures.joined c.args.sender contents looked in
+    let looked = subst (λ l. AreLooked g.R.Source.unread (choice_of c.args.sender c.args.sessions.now) c.look_at_all.new.inputs l contents) (sym c.deref.ensures.value) (c.in_ok-looked.ensures.looked contents inputs) in
+    let joined = c.in_ok-joined.ensures.joined (choice_of c.args.sender c.args.sessions.now) contents looked in
     let sums = c.in_ok-looked.ensures.sums in
-    joins_to contents c.deref.result.now c.in_ok-joined.joined c.in_ok-looked.looked.datagrams c.in_ok-looked.looked.refused _ _ joined (not_false c.in_ok-joined.joined.within c.if-not-joined.false) c.if-joined.false
+    joins_to contents c.deref.result.now c.in_ok-joined.joined c.in_ok-looked.looked.datagrams c.in_ok-looked.looked.refused c.others_of.result _ _ joined (not_false c.in_ok-joined.joined.within c.if-not-joined.false) c.if-joined.false
     (sums.datagrams ∙ ap (sum_by datagrams_of) (sym c.deref.ensures.value)) (sums.refused ∙ ap (sum_by refused_of) (sym c.deref.ensures.value))
 
 pub returns-clause-none_failed : goal.returns-clause-none_failed

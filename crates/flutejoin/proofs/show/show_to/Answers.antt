@@ -28,7 +28,7 @@ pub returns-in_err-fact-clause-read_failures : goal.returns-in_err-fact-clause-r
 returns-in_err-fact-clause-read_failures g c =
     let r = read_failed c.next_with.result c.at_input.result 1 c.in_err-fact.field-0.0 c.at_input.ensures c.in_err-fact.was in
     let e = err_from_is_err_and c.from_residual.result c.from_residual.ensures.1 in
-    let here = read_failures (Unit {0}) _ _ _ _ _ _ c.next_with.result r.0 1 _ _ _ c.loop-fact.invariant.shown r.1 c.next_with.ensures.failures c.loop-fact.invariant.reads in
+    let here = read_failures (Unit {0}) _ _ _ c.loop-fact.invariant.shown.entries c.next_with.result r.0 1 _ _ _ c.loop-fact.invariant.shown.sofar r.1 c.next_with.ensures.failures c.loop-fact.invariant.reads in
     let P : ℕ → Type 0 = λ n. FailsToRead {T = Unit {0}} (g.R.Source.failures c.args.source.now) n (Err (Input 1 r.0)) in
     let at : (x : g.row.R.Denot) → c.next_with.new.self.source.now ≡ x → P (g.R.Source.failures x) = λ x same. subst (λ (y : g.row.R.Denot). P (g.R.Source.failures y)) same here in
     rw (e.1 ∙ ap Err (e.2 ∙ r.2)) (at _ (search rules))

@@ -1,5 +1,5 @@
 use Rattle.std.proofs.Common.{append_assoc, refl}
-use Rattle.flutejoin.proofs.gaps.push_status.Goals as goal
+use Rattle.flutejoin.proofs.held_lines.push_status.Goals as goal
 
 pub returns-in-Partial-clause-text : goal.returns-in-Partial-clause-text
 returns-in-Partial-clause-text c =

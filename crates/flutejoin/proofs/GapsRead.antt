@@ -1,0 +1,85 @@
+-- A journal whose objects are listed as it is read.
+use Rattle.std.proofs.Common.{◌≡◌, ℕ, List, [], ◌∷◌, ◌++◌, Option, None, refl, sym, subst}
+use Rattle.std.specs.Prelude.{IfSome}
+use Rattle.std.specs.Io.KnownBytes.{IsAtEnd}
+use Rattle.flute_parts.specs.Facts.{IsRising}
+use Rattle.flute_parts.specs.Limits.{Over}
+use Rattle.flute_parts.specs.Tally.{Counts}
+use Rattle.flute_parts.specs.declared.fact.Fact.{Fact}
+use Rattle.flute_parts.specs.declared.tally.Tally.{Tally}
+use Rattle.flute_parts.proofs.Facts.{Same-itself}
+use Rattle.flute_journal.specs.declared.fault.ReadFault.{ReadFault}
+use Rattle.flute_journal.specs.declared.reader.Stage.{Stage}
+use Rattle.flute_journal.specs.declared.reader.Stage.TheVariants.{Header}
+use Rattle.flute_journal.specs.Reading.{GivesEntry, GivesEnd, GivesFault}
+use Rattle.flute_journal.specs.SoFar.{Sofar}
+use Rattle.flute_journal.proofs.Loading.{loaded-over}
+use Rattle.flute_journal.proofs.Whole.{sofar-none, sofar-next, sofar-stops, side-from}
+use Rattle.flutejoin.specs.Gaps.{ListsJournal}
+use Rattle.flutejoin.specs.Load.{LoadFails}
+use Rattle.flutejoin.specs.Listing.{AreListed, Lists}
+use Rattle.flutejoin.specs.Shelves.{BeginsOverShelf}
+use Rattle.flutejoin.specs.declared.command_fault.CommandFault.TheVariants.{Input}
+use Rattle.flutejoin.specs.declared.limits.TheConstants.{MAX_ENTRIES}
+use Rattle.flutejoin.specs.declared.listing.Listing.{Listing}
+use Rattle.flutejoin.proofs.Shown.{whole}
+
+-- these entries were read, counted and listed, and nothing else
+pub record ListsRead (first now : Option (List ℕ)) (stage : Stage) (tally : Tally 64 4096 1048576) (listing : Listing) : Type 0 where
+  pub entries : List Fact
+  pub sofar : Sofar MAX_ENTRIES first now stage entries
+  pub counts : Counts 64 4096 1048576 entries tally
+  pub lists : Lists entries listing
+
+pub none_read : (u v : Option (List ℕ)) (stage : Stage) (tally : Tally 64 4096 1048576) (listing : Listing) → v ≡ u → stage ≡ Header → Counts 64 4096 1048576 [] tally → Lists [] listing
+    → ListsRead u v stage tally listing
+none_read u v stage tally listing e is c l = record {
+  entries = [];
+  sofar = subst (λ (x : Option (List ℕ)). Sofar MAX_ENTRIES u x stage []) (sym e) (subst (λ (x : Stage). Sofar MAX_ENTRIES u u x []) (sym is) (sofar-none MAX_ENTRIES u));
+  counts = c;
+  lists = l;
+}
+
+module _ (u v w : Option (List ℕ)) (from to : Stage) (tally : Tally 64 4096 1048576) (listing : Listing) (h : ListsRead u v from tally listing) where
+  module _ (f : Fact) (g : GivesEntry MAX_ENTRIES from to v w f) where
+    pub entry_rises : IsRising (h.entries ++ f ∷ [])
+    entry_rises = (sofar-next MAX_ENTRIES u v w from to h.entries f h.sofar g).are_entries.rising
+
+    pub one_more_read : (tally' : Tally 64 4096 1048576) (listing' : Listing) → Counts 64 4096 1048576 (h.entries ++ f ∷ []) tally' → Lists (h.entries ++ f ∷ []) listing' → ListsRead u w to tally' listing'
+    one_more_read tally' listing' c l = record {
+      entries = h.entries ++ f ∷ [];
+      sofar = sofar-next MAX_ENTRIES u v w from to h.entries f h.sofar g;
+      counts = c;
+      lists = l;
+    }
+
+    pub full_read : Over (h.entries ++ f ∷ []) 64 4096 1048576 → IfSome u BeginsOverShelf
+    full_read over =
+        loaded-over 64 4096 1048576 MAX_ENTRIES u v w from to h.entries f (record { entries = h.entries; sofar = h.sofar; same = Same-itself h.entries; fits = h.counts.within }) g over
+
+  pub fault_read : (f : ReadFault) → GivesFault MAX_ENTRIES from to v w f → LoadFails 1 u w (Input 1 f)
+  fault_read f g = (refl, (h.entries, h.counts.within, (sofar-stops MAX_ENTRIES u v w from to h.entries f h.sofar g).0))
+
+  module _ (g : GivesEnd from to v w) where
+    pub end_read : IsAtEnd w
+    end_read = (side-from MAX_ENTRIES u v w from to h.entries None h.sofar g).at_end
+
+    pub all_read : (lines : List ℕ) → AreListed h.entries lines → ListsJournal u (λ all. lines ≡ all)
+    all_read lines l = record {
+      entries = h.entries;
+      journal = whole u v w from to h.entries h.sofar g;
+      within = h.counts.within;
+      lines = l;
+    }
+
+  pub read_rises : IsRising h.entries
+  read_rises = h.sofar.are_entries.rising
+
+-- P holds of the lines, if it does of these
+pub of_lines : (u : Option (List ℕ)) (lines : List ℕ) (P : List ℕ → Type 0) → ListsJournal u (λ all. lines ≡ all) → P lines → ListsJournal u P
+of_lines u lines P h p = record {
+  entries = h.entries;
+  journal = h.journal;
+  within = h.within;
+  lines = record { keys = h.lines.keys; rising = h.lines.rising; held = h.lines.held; lines = subst P h.lines.lines p };
+}

@@ -1,0 +1,64 @@
+-- The lines of objects, made as their facts come in the order of their addresses.
+use Rattle.std.specs.Prelude.{◌≡◌, ℕ, List, [], ◌∷◌, ◌++◌, Contains, Option, Some, None}
+use Rattle.std.specs.Borrow.{Bor}
+use Rattle.std.specs.List.{flat_map}
+use Rattle.flute_parts.specs.Addresses.{address, info_address}
+use Rattle.flute_parts.specs.Facts.{fact_at}
+use Rattle.flute_parts.specs.declared.address.Part.TheVariants.{Info as InfoPart}
+use Rattle.flute_parts.specs.declared.key.Key.{Key}
+use Rattle.flute_parts.specs.declared.symbol_id.SymbolId.{SymbolId}
+use Rattle.flute_parts.specs.declared.fact.Fact.{Fact}
+use Rattle.flute_parts.specs.declared.fact.Fact.TheVariants.{InfoConflict}
+use Rattle.flute_store.specs.declared.status.Status.{Status}
+use Rattle.flute_store.specs.Scan.{Scanned, told, Follows, GaveAll}
+use Rattle.flute_store.specs.Scans.{Scans}
+use Rattle.flute_store.specs.Status.{TellsStatus}
+use Rattle.flutejoin.specs.Lines.{gap_line}
+use Rattle.flutejoin.specs.Objects.{gaps_at, OfObjects}
+use Rattle.flutejoin.specs.declared.listing.ObjectState.{ObjectState}
+use Rattle.flutejoin.specs.declared.listing.ObjectState.TheVariants.{NoInformation, ConflictingInformation, OneInformation}
+use Rattle.flutejoin.specs.declared.listing.OpenObject.{OpenObject}
+use Rattle.flutejoin.specs.declared.listing.Listing.{Listing}
+
+-- these are the lines of all objects of the facts
+abbrev pub AreListed : List Fact → List ℕ → Type 0
+AreListed F lines = OfObjects F (λ all. lines ≡ all)
+
+-- none of the facts is of the object
+abbrev pub IsFirstOf : List Fact → Key → Type 0
+IsFirstOf before key = (f : Fact) → Contains before f → (address f).key ≡ key → ⊥
+
+-- what these facts of an object tell of it, and the lines of the gaps that were found
+abbrev pub StateIs : Key → List Fact → List ℕ → ObjectState → Type 0
+StateIs key mine gap_lines NoInformation = ((f : Fact) → Contains mine f → (address f).part ≡ InfoPart → ⊥) × (gap_lines ≡ [])
+StateIs key mine gap_lines ConflictingInformation = Contains mine (InfoConflict key) × (gap_lines ≡ [])
+StateIs key mine gap_lines (OneInformation scan) =
+    (s : Scanned) × Scans scan s × (s.key ≡ key) × (s.facts ≡ mine) × (s.coming ≡ None) × (gap_lines ≡ flat_map gap_line s.given)
+
+-- the lines of the objects before the open one, of which the last of the facts are
+pub record HasOpen (F : List Fact) (lines gap_lines : List ℕ) (key : Key) (state : ObjectState) : Type 0 where
+  pub before : List Fact
+  pub mine : List Fact
+  pub all : F ≡ before ++ mine
+  pub listed : AreListed before lines
+  pub first : IsFirstOf before key
+  pub of_object : (f : Fact) → Contains mine f → (address f).key ≡ key
+  pub some : (f : Fact) × Contains mine f
+  pub state_is : StateIs key mine gap_lines state
+
+abbrev pub ListsWith : List Fact → List ℕ → List ℕ → Option OpenObject → Type 0
+ListsWith F lines gap_lines None = (F ≡ []) × (lines ≡ []) × (gap_lines ≡ [])
+ListsWith F lines gap_lines (Some o) = HasOpen F lines gap_lines o.key o.state
+
+-- these facts came, and nothing else
+abbrev pub Lists : List Fact → Listing → Type 0
+Lists F l = ListsWith F l.lines.items l.gap_lines.items l.open
+
+-- the symbol was passed, or, where none is left, all gaps were given
+abbrev pub Passes : Scanned → Option (SymbolId × Option (Bor (List ℕ))) → Scanned → Type 0
+Passes s (Some next) t = (t.key ≡ s.key) × (t.facts ≡ s.facts ++ told s.key next ∷ []) × (t.coming ≡ None)
+Passes s None t = (t.key ≡ s.key) × (t.facts ≡ s.facts) × ((F : List Fact) → Follows t None F → GaveAll t F)
+
+-- how much is held of the object, and the lines of its gaps
+abbrev pub TellsAll : List Fact → Key → Status → List ℕ → Type 0
+TellsAll F key status gap_lines = TellsStatus F key status × (gap_lines ≡ flat_map gap_line (gaps_at F key (fact_at F (info_address key))))

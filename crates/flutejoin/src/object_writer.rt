@@ -1,0 +1,281 @@
+//! An object that is written as what is known of it passes, in the order of a journal.
+ghost use Rattle.std.specs.Prelude.{◌≡◌, ◌+◌, ◌-◌, ℕ, Bool, false, List, [], ◌∷◌, ◌++◌, length, take, Option, IfErr};
+ghost use Rattle.flute_parts.specs.Addresses.{address};
+ghost use Rattle.flute_parts.specs.Facts.{IsRising};
+ghost use Rattle.flute_parts.specs.declared.fact.Fact.{Fact as Known};
+ghost use Rattle.flute_parts.specs.declared.fact.Fact.TheVariants.{Info as InfoFact, InfoConflict};
+ghost use Rattle.flute_parts.specs.declared.key.Key.{Key as Name};
+ghost use Rattle.flute_journal.specs.JournalWriters.{PutsBytes, times_failed};
+ghost use Rattle.flute_store.specs.Scan.{told};
+ghost use Rattle.flutejoin.specs.Extract.{Extracts};
+ghost use Rattle.flutejoin.specs.ObjectWriters.{IsUntouched, Stands, Scanning, ScansOn, EndsScan, TellsUntouched, FailedBy};
+
+use crate::command_fault::CommandFault;
+use flute_parts::{Fact, Info, Key, Sink, SymbolId};
+use flute_store::{ObjectScan, Turn};
+
+/// Writes the symbols of an object as the facts of a journal pass, for as long as it may be whole.
+#[derive(Drop)]
+pub struct ObjectWriter {
+    key: Key,
+    found: Found,
+    /// Whether the sink has failed. Nothing is written any more then.
+    failed: bool,
+}
+
+/// What the facts that passed tell of the object.
+#[derive(Drop)]
+enum Found {
+    /// Nothing.
+    Nothing,
+    /// Symbols, and no information.
+    Symbols,
+    /// Two values of its information.
+    Conflict,
+    /// This symbol is the first of its partition that is not held as one fitting value.
+    NotWhole(SymbolId),
+    /// Each symbol of its partition so far is held as one fitting value.
+    Whole(WholeSoFar),
+}
+
+/// An object, as far as it is whole and was written.
+#[derive(Drop)]
+struct WholeSoFar {
+    scan: ObjectScan,
+    /// How many bytes it has.
+    size: u64,
+    /// How many of them are not written.
+    left: u64,
+}
+
+impl ObjectWriter {
+    /// A writer of the object with this key, of which nothing was told.
+    pub fn new(key: Key) -> ObjectWriter
+        ensures none { (start : Option (List ℕ)) → Stands [] result start start }
+        ensures key { result.key ≡ key }
+        ensures untouched { IsUntouched result.found }
+        ensures good { result.failed ≡ false }
+    {
+        ObjectWriter {
+            key,
+            found: Found::Nothing,
+            failed: false,
+        }
+    }
+
+    /// Takes the next fact, and writes the symbol that it tells of the object.
+    #[inline(always)]
+    pub fn pass<W: Sink>(&mut self, fact: &Fact, sink: &mut W)
+        ensures passed { (P : List Known) (start : Option (List ℕ)) → IsRising (P ++ fact.now ∷ [])
+            → Stands P self.old start (W.written sink.old)
+            → Stands (P ++ fact.now ∷ []) self.new start (W.written sink.new) }
+        ensures key { self.new.key ≡ self.old.key }
+        ensures untouched { IsUntouched self.new.found
+            → IsUntouched self.old.found × (sink.new ≡ sink.old) }
+        ensures failures { W.failures sink.new + times_failed self.old.failed
+            ≡ W.failures sink.old + times_failed self.new.failed }
+    {
+        if fact.address().key == self.key {
+            self.pass_own(fact, sink);
+        }
+    }
+
+    // Takes the next fact, which is of the object.
+    #[inline(always)]
+    fn pass_own<W: Sink>(&mut self, fact: &Fact, sink: &mut W)
+        requires { (address fact.now).key ≡ self.old.key }
+        ensures passed { (P : List Known) (start : Option (List ℕ)) → IsRising (P ++ fact.now ∷ [])
+            → Stands P self.old start (W.written sink.old)
+            → Stands (P ++ fact.now ∷ []) self.new start (W.written sink.new) }
+        ensures key { self.new.key ≡ self.old.key }
+        ensures untouched { IsUntouched self.new.found
+            → IsUntouched self.old.found × (sink.new ≡ sink.old) }
+        ensures failures { W.failures sink.new + times_failed self.old.failed
+            ≡ W.failures sink.old + times_failed self.new.failed }
+    {
+        match fact {
+            Fact::Info { info, .. } => self.information(info),
+            Fact::InfoConflict { .. } => self.conflict(),
+            Fact::Symbol { id, bytes, .. } => self.symbol(*id, Some(bytes.as_slice()), sink),
+            Fact::SymbolConflict { id, .. } => self.symbol(*id, None, sink),
+        }
+    }
+
+    // Takes its information.
+    #[inline(never)]
+    fn information(&mut self, info: &Info)
+        ensures passed { (P : List Known) (start now : Option (List ℕ))
+            → IsRising (P ++ InfoFact self.old.key info.now ∷ []) → Stands P self.old start now
+            → Stands (P ++ InfoFact self.old.key info.now ∷ []) self.new start now }
+        ensures key { self.new.key ≡ self.old.key }
+        ensures untouched { IsUntouched self.new.found → IsUntouched self.old.found }
+        ensures failed { self.new.failed ≡ self.old.failed }
+    {
+        if let Found::Nothing = self.found {
+            self.found = Found::Whole(WholeSoFar::new(self.key, info));
+        }
+    }
+
+    // Takes that two values of its information were told.
+    #[inline(never)]
+    fn conflict(&mut self)
+        ensures passed { (P : List Known) (start now : Option (List ℕ))
+            → IsRising (P ++ InfoConflict self.old.key ∷ []) → Stands P self.old start now
+            → Stands (P ++ InfoConflict self.old.key ∷ []) self.new start now }
+        ensures key { self.new.key ≡ self.old.key }
+        ensures untouched { IsUntouched self.new.found → IsUntouched self.old.found }
+        ensures failed { self.new.failed ≡ self.old.failed }
+    {
+        if let Found::Nothing = self.found {
+            self.found = Found::Conflict;
+        }
+    }
+
+    // Takes its next symbol, with its one value, or None where two were told.
+    #[inline(always)]
+    fn symbol<W: Sink>(&mut self, id: SymbolId, value: Option<&[u8]>, sink: &mut W)
+        ensures passed { (P : List Known) (start : Option (List ℕ))
+            → IsRising (P ++ told self.old.key (id, value.entry) ∷ [])
+            → Stands P self.old start (W.written sink.old)
+            → Stands (P ++ told self.old.key (id, value.entry) ∷ []) self.new start
+            (W.written sink.new) }
+        ensures key { self.new.key ≡ self.old.key }
+        ensures untouched { IsUntouched self.new.found
+            → IsUntouched self.old.found × (sink.new ≡ sink.old) }
+        ensures failures { W.failures sink.new + times_failed self.old.failed
+            ≡ W.failures sink.old + times_failed self.new.failed }
+    {
+        match &mut self.found {
+            Found::Whole(object) => {
+                if let Some(first) = object.symbol(id, value, &mut self.failed, sink) {
+                    self.found = Found::NotWhole(first);
+                }
+            }
+            Found::Nothing => self.found = Found::Symbols,
+            _ => {}
+        }
+    }
+
+    /// Answers how many bytes the object has, once all facts passed and where it is whole and was
+    /// written.
+    ///
+    /// # Errors
+    ///
+    /// `NoObject`, `NoInformation`, `ConflictingInformation` or `NotWhole`, as said of the command;
+    /// else `CannotWrite` where the sink has failed.
+    pub fn end(&mut self) -> Result<u64, CommandFault>
+        ensures extracts { (P : List Known) (start now : Option (List ℕ)) → IsRising P
+            → Stands P self.old start now → Extracts (λ x. x) P self.old.key start now result }
+        ensures untouched { IfErr result (TellsUntouched self.old.found) }
+        ensures failed { FailedBy self.old.failed result }
+    {
+        let first = match &mut self.found {
+            Found::Nothing => return Err(CommandFault::NoObject),
+            Found::Symbols => return Err(CommandFault::NoInformation),
+            Found::Conflict => return Err(CommandFault::ConflictingInformation),
+            Found::NotWhole(first) => *first,
+            Found::Whole(object) => match object.end() {
+                Some(first) => first,
+                None if self.failed => return Err(CommandFault::CannotWrite),
+                None => return Ok(object.size),
+            },
+        };
+        Err(CommandFault::NotWhole {
+            sbn: first.sbn,
+            esi: first.esi,
+        })
+    }
+}
+
+impl WholeSoFar {
+    // An object of which no symbol passed.
+    fn new(key: Key, info: &Info) -> WholeSoFar
+        ensures { (P : List Known) (start : Option (List ℕ))
+            → Scanning (P ++ InfoFact key info.now ∷ []) key false start start result }
+    {
+        WholeSoFar {
+            scan: ObjectScan::new(key, info),
+            size: info.length(),
+            left: info.length(),
+        }
+    }
+
+    // Takes the next symbol, and writes it where it is the next of the partition. The first symbol that is not held as one
+    // fitting value, if that is known now.
+    #[inline(always)]
+    fn symbol<W: Sink>(
+        &mut self,
+        id: SymbolId,
+        value: Option<&[u8]>,
+        failed: &mut bool,
+        sink: &mut W,
+    ) -> Option<SymbolId>
+        ensures passed { (P : List Known) (key : Name) (start : Option (List ℕ))
+            → IsRising (P ++ told key (id, value.entry) ∷ [])
+            → Scanning P key failed.old start (W.written sink.old) self.old
+            → ScansOn (P ++ told key (id, value.entry) ∷ []) key failed.new start (W.written sink.new)
+            self.new result }
+        ensures failures { W.failures sink.new + times_failed failed.old
+            ≡ W.failures sink.old + times_failed failed.new }
+    {
+        match self.scan.next(Some((id, value))) {
+            Turn::Fitting => {
+                if let Some(bytes) = value {
+                    write_first(bytes, &mut self.left, failed, sink);
+                }
+                None
+            }
+            Turn::Passed => None,
+            Turn::Gap(gap) => Some(SymbolId {
+                sbn: gap.sbn,
+                esi: gap.first,
+            }),
+            Turn::Wanted | Turn::End => Some(id),
+        }
+    }
+
+    // The first symbol that is not held as one fitting value, where no symbol is left.
+    fn end(&mut self) -> Option<SymbolId>
+        ensures ended { (P : List Known) (key : Name) (failed : Bool) (start now : Option (List ℕ))
+            → IsRising P → Scanning P key failed start now self.old
+            → EndsScan P key failed start now self.old result }
+        ensures size { self.new.size ≡ self.old.size }
+    {
+        match self.scan.next(None) {
+            Turn::Gap(gap) => Some(SymbolId {
+                sbn: gap.sbn,
+                esi: gap.first,
+            }),
+            _ => None,
+        }
+    }
+}
+
+// Writes the first `left` of the bytes, or all of them where there are no more, unless the sink has
+// failed.
+#[inline(always)]
+fn write_first<W: Sink>(bytes: &[u8], left: &mut u64, failed: &mut bool, sink: &mut W)
+    ensures written { PutsBytes failed.old failed.new (W.written sink.old) (W.written sink.new)
+        (take left.old bytes.now) }
+    ensures left { left.new ≡ left.old - length bytes.now }
+    ensures failures { W.failures sink.new + times_failed failed.old
+        ≡ W.failures sink.old + times_failed failed.new }
+{
+    let first = up_to(bytes, *left);
+    *left -= first.len() as u64;
+    if !*failed {
+        *failed = sink.write_all(first).is_err();
+    }
+}
+
+// The first `len` of the bytes, or all of them where there are no more.
+#[inline(always)]
+fn up_to(bytes: &[u8], len: u64) -> &[u8]
+    ensures { result.now ≡ take len bytes.now }
+{
+    if len < bytes.len() as u64 {
+        &bytes[..len as usize]
+    } else {
+        bytes
+    }
+}
