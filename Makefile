@@ -1,11 +1,15 @@
 # make               proves what changed, builds the program and leaves it at bin/flutejoin
 # make test          the whole gate: every proof from nothing, the must-fail edits, the tests, the trials, the
-#                    program, and memory refused in turn
+#                    program, the tools, the sessions of README, of docs/OPERATING.md, the man pages and the
+#                    tutorial, the completion, and memory refused in turn
 # make wrong-bodies  the wrong bodies that the gate leaves out
 # make example       runs a small session: a file sent, received at three stations, joined and written
-# make install       copies the program to $(PREFIX)/bin
+# make install       copies the program to $(PREFIX)/bin, and the tools of the network and of pictures beside it; man pages, the
+#                    completion for bash and the tutorial's script to $(PREFIX)/share
 
 PREFIX ?= /usr/local
+# They find their modules beside themselves, so bin has links to them.
+TOOLS := flutejoin-capture flutejoin-map flutejoin-mend flutejoin-receive
 
 SOURCES := crates.txt $(shell find crates -name out -prune -o -type f -print)
 
@@ -17,6 +21,14 @@ test:
 	tests/trials.sh
 	tests/program.sh crates/flutejoin_cli/out/flutejoin_cli
 	tests/outputs.sh crates/flutejoin_cli/out/flutejoin_cli
+	tests/capture.sh crates/flutejoin_cli/out/flutejoin_cli
+	tests/receive.sh crates/flutejoin_cli/out/flutejoin_cli
+	tests/map.sh crates/flutejoin_cli/out/flutejoin_cli
+	tests/readme.sh crates/flutejoin_cli/out/flutejoin_cli
+	tests/tree.sh crates/flutejoin_cli/out/flutejoin_cli
+	tests/man.sh crates/flutejoin_cli/out/flutejoin_cli
+	tests/completion.sh crates/flutejoin_cli/out/flutejoin_cli
+	tests/tutorial.sh crates/flutejoin_cli/out/flutejoin_cli
 	tests/refused_memory.sh crates/refused_memory/out/refused_memory crates/refused_memory/out/refused_memory.by-rattle
 	tests/refused_program.sh crates/flutejoin_cli/out/flutejoin_cli crates/flutejoin_cli/out/flutejoin_cli.by-rattle
 
@@ -29,6 +41,21 @@ example: bin/flutejoin
 install: bin/flutejoin
 	install -d "$(DESTDIR)$(PREFIX)/bin"
 	install -m 755 bin/flutejoin "$(DESTDIR)$(PREFIX)/bin/flutejoin"
+	install -d "$(DESTDIR)$(PREFIX)/lib/flutejoin"
+	install -m 644 tools/flutejoin_*.py "$(DESTDIR)$(PREFIX)/lib/flutejoin"
+	for tool in $(TOOLS); do \
+		install -m 755 "tools/$$tool" "$(DESTDIR)$(PREFIX)/lib/flutejoin/$$tool" && \
+		ln -sf "../lib/flutejoin/$$tool" "$(DESTDIR)$(PREFIX)/bin/$$tool" || exit 1; \
+	done
+	install -d "$(DESTDIR)$(PREFIX)/share/man/man1"
+	install -m 644 man/*.1 "$(DESTDIR)$(PREFIX)/share/man/man1"
+	install -d "$(DESTDIR)$(PREFIX)/share/bash-completion/completions"
+	install -m 644 completions/flutejoin.bash "$(DESTDIR)$(PREFIX)/share/bash-completion/completions/flutejoin"
+	for tool in $(TOOLS); do \
+		ln -sf flutejoin "$(DESTDIR)$(PREFIX)/share/bash-completion/completions/$$tool" || exit 1; \
+	done
+	install -d "$(DESTDIR)$(PREFIX)/share/flutejoin/examples"
+	install -m 644 examples/captures.py "$(DESTDIR)$(PREFIX)/share/flutejoin/examples"
 
 clean:
 	rm -rf bin crates/*/out

@@ -220,6 +220,28 @@ done
 same 'after a fault of join the output is what it was' all one
 holds 'after a fault of join there is no new output' [ ! -e fresh ]
 
+# The same of extract: the object is whole, and the journal is cut behind it, or the object is not whole.
+head -c $(($(wc -c < both) - 1)) both > cut_both
+first_record=$((8 + $(od -An -tu1 -j6 -N1 sent1) * 256 + $(od -An -tu1 -j7 -N1 sent1)))
+head -c $first_record sent1 > sent_part
+"$program" join -o part sent_part > out || told join 'failed'
+for target in all fresh; do
+    cp one all
+    run extract -o $target --tsi 7 --toi 1 cut_both
+    check "extract of a whole object from a journal that is cut behind it, to $target" 1 '' 'input 1: Cut'
+    alone "a fault behind an object leaves nothing beside $target" $target
+    run extract -o $target --tsi 7 --toi 1 part
+    check "extract of a part, to $target" 1 '' 'not whole: 0/1'
+    alone "extract of a part leaves nothing beside $target" $target
+done
+same 'after a fault of extract the output is what it was' all one
+holds 'after a fault of extract there is no new output' [ ! -e fresh ]
+run extract -o nowhere/out --tsi 7 --toi 1 cut_both
+check 'a fault of extract before an output that cannot be created' 1 '' 'input 1: Cut'
+run extract -o in --tsi 7 --toi 1 in.partial
+check 'an input of extract beside the output' 3 '' 'cannot create output'
+same 'the input of extract beside the output stays' in.partial one
+
 # A file that may not grow: a write fails in the middle.
 head -c 3000000 /dev/urandom > large
 "$program" carousel -o sent3 --tsi 7 --toi 3 --symbol 1400 --block 64 large > out
@@ -324,6 +346,22 @@ wait $first
 "$program" info -o informed2 --tsi 7 --toi 3 --length 5 --symbol 4 --block 2 two > out
 same 'what was added to a journal out of a pipe' fresh2 informed2
 alone 'the leftover of a killed join is gone' fresh2
+# Of extract a part of the object stands beside OUT while the journal is read.
+"$program" extract -o fresh3 --tsi 7 --toi 1 pipe > out2 2> err2 &
+first=$!
+exec 3> pipe
+head -c 100 one >&3
+until_there fresh3.partial
+run extract -o fresh3 --tsi 7 --toi 1 one
+check 'a second extract to one output' 3 '' 'cannot create output'
+kill -9 $first
+wait $first 2> err
+exec 3>&-
+holds 'a killed extract leaves no output' [ ! -e fresh3 ]
+run extract -o fresh3 --tsi 7 --toi 1 one
+check 'the extract after a killed one' 0 'bytes 37' ''
+same 'its object' fresh3 content
+alone 'the leftover of a killed extract is gone' fresh3
 "$program" merge -o taken pipe two > out 2> err &
 first=$!
 exec 3> pipe
@@ -399,6 +437,16 @@ check 'a pipe with a name' 0 'bytes 5' ''
 wait $first
 same 'what went through it' got other
 alone 'nothing beside a pipe' pipe
+mkfifo pipe_in
+cat pipe > got &
+first=$!
+cat two > pipe_in &
+second=$!
+run extract -o pipe --tsi 7 --toi 2 pipe_in
+check 'extract from a pipe to a pipe' 0 'bytes 5' ''
+wait $first
+wait $second
+same 'what went through both' got other
 
 exec 4> nameless
 rm nameless
@@ -430,6 +478,15 @@ for name in - /dev/stdout; do
     "$program" join -o $name two > /dev/full 2> err
     status=$?
     check "a full standard output, by $name" 3 '' 'cannot write'
+    "$program" extract -o $name --tsi 7 --toi 1 one > /dev/full 2> err
+    status=$?
+    check "extract to a full standard output, by $name" 3 '' 'cannot write'
+    "$program" extract -o $name --tsi 7 --toi 1 part 2> err | cat > got
+    check "extract of a part to a pipe, by $name" - '' 'not whole: 0/1'
+    holds "no byte of a part went through it, by $name" [ ! -s got ]
+    "$program" extract -o $name --tsi 7 --toi 1 cut_both 2> err | cat > got
+    check "extract of a journal that is cut, to a pipe, by $name" - '' 'input 1: Cut'
+    holds "no byte of its object went through it, by $name" [ ! -s got ]
 done
 run carousel -o ./- --tsi 7 --toi 2 --symbol 4 --block 2 other
 check 'a file with the name -' 0 'datagrams 2' ''

@@ -720,6 +720,112 @@ check 'join of the sender zero' 0 'datagrams 2
 refused 0
 entries 3' ''
 same 'the journal of the sender that is zero' got whole2
+# Only the sessions that are asked for: 65 others beside them.
+: > strays.body
+for tsi in $(seq 100 164); do
+    "$program" carousel -o stray --tsi "$tsi" --toi 1 --symbol 4 --block 2 content > /dev/null
+    tail -c +7 stray >> strays.body
+done
+(head -c 6 sent; cat strays.body) > strays
+cat sent strays.body > mixed
+run join -o got8 mixed
+check 'join of 66 sessions' 1 '' 'full'
+run join -o got8 strays whole
+check 'join of 65 sessions and a journal' 1 '' 'full'
+for words in '--tsi 7 mixed' '--tsi=7 mixed' '--tsi 7 strays sent' '--tsi 7 sent strays' '--tsi 7 --tsi 7 mixed' '--tsi 007 mixed'; do
+    : > got
+    run join -o got $words
+    check "join of one session: $words" 0 'datagrams 132
+refused 0
+others 130
+entries 3' ''
+    same "the journal of one session: $words" got whole2
+done
+run join -o got --tsi 7 strays
+check 'join of other sessions alone' 0 'datagrams 130
+refused 0
+others 130
+entries 0' ''
+run join -o got --tsi 7 sent
+check 'join of no other session' 0 'datagrams 2
+refused 0
+others 0
+entries 3' ''
+same 'the journal of no other session' got whole2
+run join -o got --source 0a000001 --tsi 7 mixed
+check 'join of one session of a sender' 0 'datagrams 132
+refused 0
+others 130
+entries 3' ''
+same 'the journal of one session of a sender' got hello_v4
+run join -o got --tsi 7 --tsi 100 mixed
+check 'join of two sessions' 0 'datagrams 132
+refused 0
+others 128
+entries 6' ''
+# The same of journals: 64 sessions, and 65 that no store holds.
+(head -c 6 sent; head -c $(($(wc -c < strays.body) / 65 * 64)) strays.body) > strays64
+run join -o journal64 strays64
+check 'join of 64 sessions' 0 'datagrams 128
+refused 0
+entries 192' ''
+run merge -o journal65 journal64 whole
+check 'merge of 65 sessions' 0 'entries 195' ''
+run join -o got8 journal65
+check 'join of a journal of 65 sessions' 1 '' 'full'
+for words in '--tsi 7 journal65' '--tsi 7 journal64 whole' '--tsi 7 whole journal64' '--tsi 7 journal65 whole2' '--tsi 7 journal64 sent'; do
+    : > got
+    run join -o got $words
+    check "join of one session of journals: $words" 0 - ''
+    same "the journal of one session of journals: $words" got whole2
+done
+run join -o got --tsi 7 journal65 journal65
+check 'what was passed over is counted in each journal' 0 'datagrams 0
+refused 0
+others 384
+entries 3' ''
+run join -o got --tsi 7 --tsi 163 journal65 mixed
+check 'join of two sessions of a journal and a file' 0 'datagrams 132
+refused 0
+others 317
+entries 6' ''
+# What is not asked for is read and checked all the same, and a refused datagram is no other session's.
+(cat mixed; printf '\000\002ab') > refused_too
+run join -o got --tsi 7 refused_too
+check 'a refused datagram is no other session' 0 'datagrams 133
+refused 1
+others 130
+entries 3' ''
+head -c $(($(wc -c < journal64) - 1)) journal64 > cut64
+run join -o got8 --tsi 7 whole cut64
+check 'a journal of other sessions at fault' 1 '' 'input 2: Cut'
+head -c $(($(wc -c < strays) - 1)) strays > cut_strays
+run join -o got8 --tsi 7 sent cut_strays
+check 'a file of other sessions at fault' 1 '' 'input 2: Cut'
+# Its numbers: 64 of them, each below 2^48, and looked at before the source.
+many_tsis=$(seq 1 64 | sed 's/^/--tsi /')
+run join -o got $many_tsis mixed
+check 'join of 64 sessions by their numbers' 0 'datagrams 132
+refused 0
+others 130
+entries 3' ''
+run join -o got8 $many_tsis --tsi 65 mixed
+check '65 sessions by their numbers' 2 '' 'bad number: --tsi'
+run join -o got --tsi 281474976710655 sent
+check 'the highest session' 0 'datagrams 2
+refused 0
+others 2
+entries 0' ''
+for number in 281474976710656 -1 seven 0x7 7. 99999999999999999999999999999999999999999; do
+    run join -o got8 --tsi "$number" sent
+    check "the session $number" 2 '' 'bad number: --tsi'
+    run join -o got8 --tsi 7 --source zz --tsi "$number" sent
+    check "the session $number before a bad source" 2 '' 'bad number: --tsi'
+done
+run join -o got8 --tsi '' sent
+check 'a session of no digits' 2 '' 'bad number: --tsi'
+run join -o got8 --tsi 7 --source zz sent
+check 'a bad source behind a session' 2 '' 'bad source'
 # Two senders with one TSI.
 run join -o of_first --source 0a000001 sent
 run join -o of_second --source 0a000002 sent
@@ -865,8 +971,11 @@ check 'help' 0 - ''
 grep -q '10A004000000000000000007000000010000000068656C6C' out || check 'help gives an example' x - -
 run packet --help
 check 'help of packet' 0 - ''
-run --version
+run -V
 check 'version' 0 'flutejoin 0.1.0' ''
+run --version
+check 'version, and those of journals' 0 'flutejoin 0.1.0
+Journals of versions 1 and 2 are read, and those of version 2 written.' ''
 
 run_to /dev/full packet $symbol
 check 'a full standard output' 3 '' 'cannot write'

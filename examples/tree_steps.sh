@@ -1,0 +1,162 @@
+#!/bin/sh
+# The two steps of tree.mk.
+#
+# tree_steps.sh plan INPUTS LIST PATTERN OUT TREE FANIN: puts the inputs into groups, writes the list of each join where it changed, and TREE/plan.mk
+# tree_steps.sh join PROGRAM SOURCE OUTPUT LIST:         joins what a list names, and names the input that is at fault
+#
+# A line of a list is a stamp, a space and a name. The stamp of a station's file changes when the file does.
+set -eu
+LC_ALL=C
+export LC_ALL
+
+stop() {
+    echo "tree.mk: $*" >&2
+    exit 1
+}
+
+# plain WHAT TEXT: names that stand in make's rules
+plain() {
+    case $2 in
+    '' | -* | *[!A-Za-z0-9._+,@/-]*) stop "$1 may have letters, digits and . _ + , @ / - alone, and may not begin with -: '$2'" ;;
+    esac
+}
+
+# within FOLDER PATH: whether the path lies in the folder
+within() {
+    case $(realpath -m -- "$2")/ in
+    "$(realpath -m -- "$1")"/*) true ;;
+    *) false ;;
+    esac
+}
+
+# named INPUTS LIST PATTERN OUT TREE: the names of the inputs, each ended by a line feed
+named() {
+    if [ -n "$2" ]; then
+        [ -z "$1" ] || stop 'INPUTS and LIST are given, and one is taken'
+        [ -r "$2" ] || stop "LIST cannot be read: '$2'"
+        cat -- "$2"
+    else
+        [ -d "$1" ] || stop "INPUTS is no folder: '$1'"
+        ! within "$1" "$4" || stop 'OUT lies in INPUTS, and would be an input'
+        ! within "$1" "$5" || stop 'TREE lies in INPUTS, and would be an input'
+        # A line feed in a name becomes a byte that is refused below.
+        find -L "$1" -type f -name "$3" ! -name '*.partial' -print0 | tr '\n\0' '\001\n' | sort
+    fi
+}
+
+# stamped NAMES: a stamp and the name of each
+stamped() {
+    tr '\n' '\0' < "$1" | xargs -0 -r stat -L --printf '%d:%i:%s:%.9Y:%.9Z %n\n' --
+}
+
+# check NAMES: stops at a name that cannot be handed on
+check() {
+    [ -s "$1" ] || stop 'there are no inputs'
+    if grep -q "$(printf '\001')" "$1"; then stop "a name has a line feed or the byte 1: $(grep -m 1 "$(printf '\001')" "$1" | cat -v)"; fi
+    iconv -f UTF-8 -t UTF-8 < "$1" > /dev/null 2>&1 || stop 'a name is not UTF-8, and flutejoin takes text alone'
+}
+
+plan() {
+    plain OUT "$4"
+    plain TREE "$5"
+    case $6 in '' | *[!0-9]* | ???*) stop "FANIN is a number from 2 to 64: '$6'" ;; esac
+    [ "$6" -ge 2 ] && [ "$6" -le 64 ] || stop "FANIN is a number from 2 to 64: '$6'"
+    mkdir -p -- "$5"
+    work=$(mktemp -d -- "$5/plan.XXXXXX")
+    trap 'rm -rf -- "$work"' EXIT
+    named "$1" "$2" "$3" "$4" "$5" > "$work/all"
+    # No name is an option or standard input, and each stands once.
+    sed -e '/^$/d' -e 's|^-|./-|' "$work/all" | awk '!seen[$0]++' > "$work/names"
+    check "$work/names"
+    stamped "$work/names" > "$work/stamped" || stop 'an input is not there'
+    : > "$work/kept"
+    for list in "$5"/1-*.list; do
+        [ ! -e "$list" ] || sed "s|^|$(basename "$list" .list) |" "$list" >> "$work/kept"
+    done
+    groups "$work" "$6"
+    nodes "$work" "$4" "$5" "$6"
+    replace "$work" "$5"
+}
+
+# groups WORK FANIN: a group for each name. A name stays where it is; a new one fills a place that is free.
+groups() {
+    awk -v fanin="$2" -v kept="$1/kept" '
+        { stamp = $1; name = substr($0, length($1) + 2); names[++count] = name; stamps[name] = stamp }
+        END {
+            free = 0
+            while ((getline line < kept) > 0) {
+                split(line, words, " ")
+                name = substr(line, length(words[1]) + length(words[2]) + 3)
+                group = substr(words[1], 3) + 0
+                if ((name in stamps) && !(name in of) && sizes[group] < fanin) { of[name] = group; sizes[group]++ }
+            }
+            for (i = 1; i <= count; i++) {
+                if (!(names[i] in of)) {
+                    while (sizes[free] >= fanin) free++
+                    of[names[i]] = free; sizes[free]++
+                }
+                print of[names[i]], stamps[names[i]], names[i]
+            }
+        }' "$1/stamped" | sort -s -n -k 1,1 > "$1/grouped"
+}
+
+# nodes WORK OUT TREE FANIN: the list of each join, and the rules. Node N of a level is an input of node N / FANIN of the next.
+nodes() {
+    awk -v work="$1" -v out="$2" -v tree="$3" -v fanin="$4" '
+        function add(level, node, line,   key) {
+            key = level "-" node
+            if (!(key in inputs)) { order[level, ++nodes[level]] = node; inputs[key] = ""; if (node > last[level]) last[level] = node }
+            print line > (work "/" key ".list")
+        }
+        { if ($1 != now) { if (NR > 1) close(work "/1-" now ".list"); now = $1 } add(1, $1, substr($0, length($1) + 2)) }
+        END {
+            close(work "/1-" now ".list")
+            rules = work "/plan.mk"
+            for (level = 1; last[level] + 1 > fanin; level++)
+                for (i = 1; i <= nodes[level]; i++) {
+                    node = order[level, i]; parent = int(node / fanin); file = tree "/" level "-" node ".journal"
+                    if (i > 1 && parent != before) close(work "/" (level + 1) "-" before ".list")
+                    before = parent
+                    add(level + 1, parent, "node " file)
+                    print tree "/" (level + 1) "-" parent ".journal: " file > rules
+                }
+            for (i = 1; i <= nodes[level]; i++) {
+                file = tree "/" level "-" order[level, i] ".journal"
+                print "node " file > (work "/out.list")
+                print out ": " file > rules
+            }
+        }' "$1/grouped"
+}
+
+# replace WORK TREE: the lists that changed, and no list or journal of a join that is none any more
+replace() {
+    for new in "$1"/*.list "$1/plan.mk"; do
+        old=$2/${new##*/}
+        cmp -s "$new" "$old" || mv -f -- "$new" "$old"
+        touch "$1/${new##*/}.known"
+    done
+    for old in "$2"/*-*.list; do
+        [ -e "$1/${old##*/}.known" ] || rm -f -- "${old%.list}.journal" "$old"
+    done
+}
+
+# join PROGRAM SOURCE OUTPUT LIST
+join() {
+    [ "$(wc -l < "$4")" -le 64 ] || stop "$4 names more than 64 inputs"
+    # With -x xargs stops where the names are too long for one command, so that a list is joined in one command or not at all.
+    if told=$(cut -d ' ' -f 2- "$4" | tr '\n' '\0' | xargs -0 -x -n 64 "$1" join -o "$3" ${2:+"--source=$2"} 2>&1); then
+        echo "$3: $(wc -l < "$4" | tr -d ' ') inputs, $(echo "$told" | sed -n 's/^entries //p') entries"
+        return
+    fi
+    at=$(echo "$told" | sed -n 's/.*input \([0-9]*\).*/\1/p' | head -n 1)
+    [ -z "$at" ] || stop "$3 is not joined: $told, which is $(cut -d ' ' -f 2- "$4" | sed -n "${at}p")"
+    stop "$3 is not joined: $told"
+}
+
+step=$1
+shift
+case $step in
+plan) plan "$@" ;;
+join) join "$@" ;;
+*) stop "no such step: $step" ;;
+esac

@@ -1,0 +1,200 @@
+#!/usr/bin/env python3
+"""Compares what flutejoin-map drew with what flutejoin tells, and makes datagram files for its test.
+
+  maps.py PAGE TEXT JOURNAL...   the panels and cells of both are those of flutejoin gaps
+  maps.py cut IN OUT             each datagram without its last byte
+  maps.py forget IN OUT          each datagram without its transmission information
+  maps.py objects IN OUT         212 objects, each with one datagram of IN
+"""
+import re
+import struct
+import subprocess
+import sys
+import xml.etree.ElementTree as ElementTree
+
+NAMES = "held", "missing", "conflicting", "misfit"
+SVG = "{http://www.w3.org/2000/svg}"
+
+
+def run(*words):
+    return subprocess.run(["flutejoin", *words], check=True, capture_output=True, text=True).stdout.splitlines()
+
+
+class Journal:
+    """What flutejoin tells of a journal: of each object the state, the information, the kinds by gaps, and the symbols."""
+
+    def __init__(self, path):
+        self.states, self.gaps, self.infos, self.symbols = {}, {}, {}, {}
+        for line in run("gaps", path):
+            if line.startswith("gap "):
+                place, kind = line.split()[1:]
+                block, first, last = (int(number) for number in re.split("[/-]", place))
+                self.gaps[key] += [(block, number, kind) for number in range(first, last + 1)]
+            else:
+                key, state = re.fullmatch(r"(.*object (?:fdt )?\d+) (whole|partial|no information|conflicting information).*", line).groups()
+                self.states[key], self.gaps[key], self.symbols[key] = state, [], {}
+        for line in run("show", path)[:-1]:
+            key, what, rest = re.fullmatch(r"(.*object (?:fdt )?\d+) (info|symbol) (.*)", line).groups()
+            words = rest.split()
+            if what == "info" and words[0] == "length":
+                self.infos[key] = int(words[1]), int(words[3]), int(words[5])
+            elif what == "symbol":
+                self.symbols[key][tuple(map(int, words[0].split("/")))] = None if words[1] == "conflict" else int(words[2])
+
+    def kinds(self, key, info):
+        """The kind of each symbol in the order of the object."""
+        listing = listing_of(info)
+        if key in self.infos:
+            gaps = {(block, number): kind for block, number, kind in self.gaps[key]}
+            assert len(gaps) == len(self.gaps[key]) and gaps.keys() <= set(listing)
+            return [gaps.get(symbol, "held") for symbol in listing]
+        length, size, _ = info
+        kinds = []
+        for place, symbol in enumerate(listing):
+            if symbol not in self.symbols.get(key, {}):
+                kinds.append("missing")
+            elif self.symbols[key][symbol] is None:
+                kinds.append("conflicting")
+            else:
+                wanted = min(size, length - place * size)
+                kinds.append("held" if self.symbols[key][symbol] == wanted else "misfit")
+        return kinds
+
+
+def listing_of(info):
+    """The symbols of an object (RFC 5052, section 9.1)."""
+    length, size, most = info
+    if not length:
+        return []
+    symbols = (length + size - 1) // size
+    blocks = (symbols + most - 1) // most
+    return [(block, number) for block in range(blocks) for number in range(symbols // blocks + (block < symbols % blocks))]
+
+
+def counts(kinds):
+    return ", ".join(f"{name} {kinds.count(name)}" for name in NAMES)
+
+
+def expected(paths):
+    """Of each object its panels: what is told, the symbols and their kinds."""
+    journals = [(path, Journal(path)) for path in paths]
+    if len(paths) > 1:
+        run("join", "-o", "joined", *paths)
+        journals.append((f"all {len(paths)} joined", Journal("joined")))
+    last = journals[-1][1]
+    for key in last.states:
+        panels = []
+        for name, journal in journals:
+            info = journal.infos.get(key) or last.infos.get(key)
+            words = journal.states.get(key, "nothing of this object")
+            if not info or words == "conflicting information":
+                panels.append((f"{name}: {words}", [], []))
+                continue
+            kinds = journal.kinds(key, info)
+            if words == "no information":
+                state = "whole" if kinds.count("held") == len(kinds) else "partial"
+                words = f"{state}, with the information of other journals; it has none of its own"
+            panels.append((f"{name}: {words}: {counts(kinds)}", listing_of(info), kinds))
+        yield key, panels
+
+
+def compare(one, other, what):
+    if one != other:
+        sys.exit(f"{what}: drawn is {one!r}, and told is {other!r}")
+
+
+def see_page(page, wanted):
+    root = ElementTree.parse(page).getroot()
+    compare(root.tag, f"{SVG}svg", "the page")
+    drawn = [(group.get("aria-label"), [panel for panel in group if panel.tag == f"{SVG}g"]) for group in root if group.tag == f"{SVG}g"]
+    compare([re.sub(r" \(sender .*", "", key) for key, _ in drawn], [key for key, _ in wanted], "the objects")
+    for (key, panels), (_, told) in zip(drawn, wanted):
+        compare([panel.find(f"{SVG}title").text for panel in panels], [words for words, _, _ in told], key)
+        for panel, (words, listing, kinds) in zip(panels, told):
+            legend = [text.text for text in panel.findall(f"{SVG}text") if text.text.split()[0] in NAMES]
+            compare(", ".join(legend), counts(kinds) if ": held " in words else "", f"{words}: its legend")
+            see_cells(panel.findall(f"{SVG}g"), listing, kinds, words)
+
+
+def see_cells(cells, listing, kinds, words):
+    """The runs of cells stand one behind another, and have the symbols that they tell."""
+    places, at = {symbol: place for place, symbol in enumerate(listing)}, 0
+    for cell in cells:
+        title = cell.find(f"{SVG}title").text
+        one, other, told = re.fullmatch(r"(\d+/\d+)(?:(-\d+| to \d+/\d+))?: (.*)", title).groups()
+        first = tuple(map(int, one.split("/")))
+        last = first if not other else (first[0], int(other[1:])) if other[0] == "-" else tuple(map(int, other[4:].split("/")))
+        compare(places[first], at, f"{words}: {title}")
+        at = places[last] + 1
+        part = kinds[places[first] : at]
+        compare(told, ", ".join(f"{name} {part.count(name)}" for name in NAMES if name in part), f"{words}: {title}")
+        compare(len(cell.findall(f"{SVG}rect")), len(set(part)), f"{words}: {title}: its colours")
+    compare(at, len(kinds), f"{words}: all symbols")
+
+
+def sign(part):
+    """The sign of a cell."""
+    for kind, char in ("conflicting", "!"), ("misfit", "?"):
+        if kind in part:
+            return char
+    if len(set(part)) > 1:
+        return str(min(9, max(1, round(10 * part.count("missing") / len(part)))))
+    return {"held": "#", "missing": "."}[part[0]]
+
+
+def see_text(lines, wanted):
+    lines = iter(lines[2:])
+    for key, panels in wanted:
+        compare(next(lines), "", key)
+        compare(re.match(re.escape(key) + r"(?: \(sender [^)]*\))?: ", next(lines)) is not None, True, key)
+        scale = re.compile(r"a row is (?:a block|(\d+) blocks), a cell is (?:a symbol|(\d+) symbols)")
+        of_all = None
+        for words, listing, kinds in panels:
+            line = next(lines)
+            if scale.fullmatch(line):
+                of_all = scale.fullmatch(line)
+                line = next(lines)
+            compare(line, "", words)
+            compare(next(lines), words, key)
+            if not kinds:
+                continue
+            group, size = (int(number or 1) for number in (of_all or scale.fullmatch(next(lines))).groups())
+            rows = {}
+            for (block, _), kind in zip(listing, kinds):
+                rows.setdefault(block // group, []).append(kind)
+            for row, part in rows.items():
+                cells = "".join(sign(part[begin : begin + size]) for begin in range(0, len(part), size))
+                compare(next(lines), f"{row * group:>7} |{cells}|", words)
+    compare(list(lines), [], "the rest")
+
+
+def records(path):
+    data = open(path, "rb").read()
+    place = 6
+    while place < len(data):
+        (length,) = struct.unpack_from(">H", data, place)
+        yield data[place + 2 : place + 2 + length]
+        place += 2 + length
+
+
+def write(path, datagrams):
+    with open(path, "wb") as file:
+        file.write(b"FLDG\0\1" + b"".join(struct.pack(">H", len(datagram)) + datagram for datagram in datagrams))
+
+
+def main():
+    mode, first, *rest = sys.argv[1:]
+    if mode == "cut":
+        write(rest[0], [datagram[:-1] for datagram in records(first)])
+    elif mode == "forget":
+        write(rest[0], [datagram[:2] + b"\4" + datagram[3:16] + datagram[32:] for datagram in records(first)])
+    elif mode == "objects":
+        datagram = next(records(first))
+        write(rest[0], [datagram[:12] + struct.pack(">I", number) + datagram[16:] for number in range(1001, 1213)])
+    else:
+        wanted = list(expected(rest))
+        see_page(mode, wanted)
+        see_text(open(first).read().splitlines(), wanted)
+
+
+main()

@@ -1,0 +1,150 @@
+"""Sockets that receive a group, a group of one sender, or what is sent to this machine."""
+import ipaddress
+import os
+import socket
+import struct
+import sys
+
+from flutejoin_growing import Fault, note
+
+# What Python's socket module does not name. The numbers are Linux's.
+SO_RCVBUFFORCE, SO_MEMINFO, IP_MULTICAST_ALL, IPV6_MULTICAST_ALL, MCAST_JOIN_SOURCE_GROUP = 33, 55, 49, 29, 46
+IP_ADD_SOURCE_MEMBERSHIP, SO_BINDTODEVICE = 39, 25
+LINUX = sys.platform == "linux"
+
+
+class Interface:
+    """Where to receive, by the name of an interface or by one of its addresses. Without either the system chooses."""
+
+    def __init__(self, text):
+        self.text, self.name, self.index, self.address = text, None, 0, None
+        if text is None:
+            return
+        try:
+            self.address = ipaddress.ip_address(text)
+        except ValueError:
+            try:
+                self.name, self.index = text, socket.if_nametoindex(text)
+            except OSError:
+                raise Fault(3, f"there is no interface {text}")
+        if self.address and self.address.version == 6:
+            self.index = self.index_of_address()
+
+    def index_of_address(self):
+        """The number of the interface with this IPv6 address, which the calls for IPv6 groups take alone."""
+        try:
+            with open("/proc/net/if_inet6", encoding="ascii") as table:
+                for line in table:
+                    fields = line.split()
+                    if fields[0] == self.address.packed.hex():
+                        return int(fields[1], 16)
+        except OSError:
+            pass
+        raise Fault(3, f"there is no interface with the address {self.text}")
+
+
+def set_option(udp, level, option, value):
+    """Sets what not every system has, and answers whether it could."""
+    try:
+        udp.setsockopt(level, option, value)
+        return True
+    except OSError:
+        return False
+
+
+def open_socket(options, interface):
+    """A socket that receives what the command line names, and nothing that other programs asked for."""
+    local = options.group or interface.address
+    family = socket.AF_INET if local and local.version == 4 or not socket.has_ipv6 else socket.AF_INET6
+    try:
+        udp = socket.socket(family, socket.SOCK_DGRAM)
+    except OSError:
+        if local:
+            raise
+        family, udp = socket.AF_INET, socket.socket(socket.AF_INET, socket.SOCK_DGRAM)
+    if LINUX:
+        # Else groups and senders that other programs join are received too.
+        set_option(udp, socket.IPPROTO_IP, IP_MULTICAST_ALL, 0)
+        set_option(udp, socket.IPPROTO_IPV6, IPV6_MULTICAST_ALL, 0)
+    if family == socket.AF_INET6:
+        udp.setsockopt(socket.IPPROTO_IPV6, socket.IPV6_V6ONLY, 1 if local else 0)
+    if options.group:
+        # Several runs may receive one group. Of one address the last run would get all, so there the second is refused.
+        udp.setsockopt(socket.SOL_SOCKET, socket.SO_REUSEADDR, 1)
+    elif interface.name:
+        udp.setsockopt(socket.SOL_SOCKET, SO_BINDTODEVICE, interface.name.encode() + b"\0")
+    if family == socket.AF_INET:
+        udp.bind((str(local or ""), options.port))
+    else:
+        udp.bind((str(local or "::"), options.port, 0, interface.index if local else 0))
+    if options.group:
+        join_group(udp, options, interface)
+    udp.setblocking(False)
+    return udp
+
+
+def join_group(udp, options, interface):
+    """Joins the group: of one sender where one is named and the system can, and else of all."""
+    group, sender = options.group, options.sender
+    if sender and LINUX and join_source(udp, group, sender, interface):
+        return
+    if group.version == 4:
+        address = interface.address.packed if interface.address else bytes(4)
+        request = struct.pack("=4s4si", group.packed, address, interface.index) if LINUX else group.packed + address
+        udp.setsockopt(socket.IPPROTO_IP, socket.IP_ADD_MEMBERSHIP, request)
+    else:
+        request = group.packed + struct.pack("@I", interface.index)
+        udp.setsockopt(socket.IPPROTO_IPV6, socket.IPV6_JOIN_GROUP, request)
+    if sender:
+        note(f"this system cannot join {group} of {sender} alone; what others send to it is received and left out")
+
+
+def join_source(udp, group, sender, interface):
+    """Whether the system joined a group of one sender (RFC 4607)."""
+    if interface.address and group.version == 4:
+        request = group.packed + interface.address.packed + sender.packed
+        return set_option(udp, socket.IPPROTO_IP, IP_ADD_SOURCE_MEMBERSHIP, request)
+    level = socket.IPPROTO_IP if group.version == 4 else socket.IPPROTO_IPV6
+    # The number of the interface, and two addresses as the system keeps them, each in 128 bytes.
+    request = struct.pack("@I0L128s128s", interface.index, system_address(group), system_address(sender))
+    return set_option(udp, level, MCAST_JOIN_SOURCE_GROUP, request)
+
+
+def system_address(address):
+    if address.version == 4:
+        return struct.pack("=HH4s", socket.AF_INET, 0, address.packed)
+    return struct.pack("=HHI16sI", socket.AF_INET6, 0, 0, address.packed, 0)
+
+
+def ask_for_buffer(udp, wanted):
+    """Asks for a receive buffer, and tells where the system gives much less. Answers its bytes."""
+    if not LINUX or not set_option(udp, socket.SOL_SOCKET, SO_RCVBUFFORCE, wanted):
+        set_option(udp, socket.SOL_SOCKET, socket.SO_RCVBUF, wanted)
+    got = udp.getsockopt(socket.SOL_SOCKET, socket.SO_RCVBUF)
+    if LINUX:
+        got //= 2  # The other half is for the system's own use.
+    if got < wanted // 2:
+        setting = "net.core.rmem_max" if LINUX else "kern.ipc.maxsockbuf"
+        note(f"asked for a receive buffer of {wanted} bytes and got {got}: `sysctl -w {setting}={wanted}` allows it")
+    return got
+
+
+def dropped_by_system(udp):
+    """How many datagrams the system dropped, or None where it does not tell. (SO_RXQ_OVFL comes with the next datagram, and so never tells
+    of the last.)"""
+    try:
+        counts = udp.getsockopt(socket.SOL_SOCKET, SO_MEMINFO, 36)
+        if len(counts) == 36:
+            return struct.unpack("@9I", counts)[8]
+    except OSError:
+        pass
+    number = str(os.fstat(udp.fileno()).st_ino)
+    try:
+        with open("/proc/net/udp6" if udp.family == socket.AF_INET6 else "/proc/net/udp", encoding="ascii") as table:
+            for line in table:
+                fields = line.split()
+                if fields[9] == number:
+                    return int(fields[-1])
+    except OSError:
+        pass
+    return None
