@@ -5,7 +5,7 @@
 # make wrong-bodies  the wrong bodies that the gate leaves out
 # make example       runs a small session: a file sent, received at three stations, joined and written
 # make install       copies the program to $(PREFIX)/bin, and the tools of the network and of pictures beside it; man pages, the
-#                    completion for bash and the tutorial's script to $(PREFIX)/share
+#                    completion for bash and the examples of the tutorial and of many stations to $(PREFIX)/share
 
 PREFIX ?= /usr/local
 # They find their modules beside themselves, so bin has links to them.
@@ -55,7 +55,8 @@ install: bin/flutejoin
 		ln -sf flutejoin "$(DESTDIR)$(PREFIX)/share/bash-completion/completions/$$tool" || exit 1; \
 	done
 	install -d "$(DESTDIR)$(PREFIX)/share/flutejoin/examples"
-	install -m 644 examples/captures.py "$(DESTDIR)$(PREFIX)/share/flutejoin/examples"
+	install -m 644 examples/captures.py examples/tree.mk "$(DESTDIR)$(PREFIX)/share/flutejoin/examples"
+	install -m 755 examples/tree_steps.sh examples/stations.py "$(DESTDIR)$(PREFIX)/share/flutejoin/examples"
 
 clean:
 	rm -rf bin crates/*/out

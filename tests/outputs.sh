@@ -447,6 +447,24 @@ check 'extract from a pipe to a pipe' 0 'bytes 5' ''
 wait $first
 wait $second
 same 'what went through both' got other
+"$program" gaps two > listed
+cat pipe > got &
+first=$!
+cat two > pipe_in &
+second=$!
+"$program" gaps pipe_in > pipe 2> err
+status=$?
+wait $first
+wait $second
+: > out
+check 'gaps from a pipe to a pipe' 0 - ''
+same 'the lines that went through both' got listed
+holds 'gaps told something' [ -s listed ]
+head -c 60 two > pipe_in &
+second=$!
+run gaps pipe_in
+wait $second
+check 'gaps from a pipe that ends early' 1 '' 'input 1: Cut'
 
 exec 4> nameless
 rm nameless

@@ -827,17 +827,20 @@ check 'a session of no digits' 2 '' 'bad number: --tsi'
 run join -o got8 --tsi 7 --source zz sent
 check 'a bad source behind a session' 2 '' 'bad source'
 # Two senders with one TSI.
+printf 'olleh' > reversed
+run carousel -o reversed_sent --tsi 7 --toi 1 --symbol 4 --block 2 reversed
+check 'carousel of the second sender' 0 'datagrams 2' ''
 run join -o of_first --source 0a000001 sent
-run join -o of_second --source 0a000002 sent
+run join -o of_second --source 0a000002 reversed_sent
 run merge -o of_both of_first of_second
 check 'merge of two senders with one TSI' 0 'entries 6' ''
 run gaps of_both
 check 'two senders with one TSI are no conflict' 0 "source $v4_lower session 7 object 1 whole 5
 source 00000000000000000000ffff0a000002 session 7 object 1 whole 5" ''
-for source in 0a000001 0a000002; do
-    run extract -o got --source $source --tsi 7 --toi 1 of_both
-    check "extract of the sender $source of two" 0 'bytes 5' ''
-    same "the object of the sender $source of two" got content
+for sender in 0a000001=content 0a000002=reversed; do
+    run extract -o got --source ${sender%=*} --tsi 7 --toi 1 of_both
+    check "extract of the sender ${sender%=*} of two" 0 'bytes 5' ''
+    same "the object of the sender ${sender%=*} of two" got ${sender#*=}
 done
 run extract -o got8 --tsi 7 --toi 1 of_both
 check 'extract of the sender zero where it sent nothing' 1 '' 'no object'
@@ -969,8 +972,28 @@ check 'an argument that is not text' 2 '' 'an argument is not text'
 run --help
 check 'help' 0 - ''
 grep -q '10A004000000000000000007000000010000000068656C6C' out || check 'help gives an example' x - -
-run packet --help
-check 'help of packet' 0 - ''
+# The example lines of a help text, which are run as they stand.
+examples() {
+    sed -n '/[Ee]xample/,$ { s/^  \(flutejoin .*\)/\1/p; s/^  \(seq .*\)/\1/p; }' "$1"
+}
+mkdir tried
+mkdir names
+ln -s "$program" names/flutejoin
+cp out tried/help
+for line in program packet show gaps extract info join merge carousel; do
+    if [ $line != program ]; then
+        run $line --help
+        check "help of $line" 0 - ''
+        cp out tried/help
+    fi
+    examples tried/help > tried/lines
+    [ -s tried/lines ] || check "help of $line gives an example" x - -
+    (cd tried && PATH=$work/names:$PATH sh -e ./lines > ../out 2> ../err)
+    status=$?
+    check "the example of $line runs" 0 - ''
+    [ $line != program ] || cp tried/station1 tried/station2
+done
+same 'the file that the examples bring out' tried/file tried/out
 run -V
 check 'version' 0 'flutejoin 0.1.0' ''
 run --version

@@ -3,6 +3,7 @@ import collections
 import errno
 import os
 import shlex
+import signal
 import socket
 import struct
 import sys
@@ -16,6 +17,7 @@ OCCUPIED = "its sender's file cannot be made"
 HEADER = b"FLDG\0\1"
 LENGTH = struct.Struct(">H")
 PARTIAL = ".partial"
+STOPPING = (signal.SIGINT, signal.SIGTERM, signal.SIGHUP)
 
 
 class Unwritable(Exception):
@@ -46,6 +48,12 @@ class Report:
             if stream is sys.stdout and not self.is_mute:
                 self.is_mute = True
                 self.fault(3, "cannot write")
+
+
+def keep_status():
+    """For the end of a run: Python lets signals kill while it ends, and a late Ctrl-C would then take the status away."""
+    for number in STOPPING:
+        signal.signal(number, signal.SIG_IGN)
 
 
 def put(stream, text):

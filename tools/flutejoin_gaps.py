@@ -8,7 +8,7 @@ import signal
 import subprocess
 import sys
 
-STOPPING = (signal.SIGINT, signal.SIGTERM, signal.SIGHUP)
+import flutejoin_files as files
 
 HELD, MISSING, CONFLICTING, MISFIT = range(4)
 REASONS = {b"missing": MISSING, b"conflicting": CONFLICTING, b"misfit": MISFIT}
@@ -68,7 +68,7 @@ class Told:
 def later():
     """Signals that come meanwhile are answered behind it: what was begun by then is known, and is ended with the run."""
     came = []
-    before = {number: signal.signal(number, lambda number, _frame: came.append(number)) for number in STOPPING}
+    before = {number: signal.signal(number, lambda number, _frame: came.append(number)) for number in files.STOPPING}
     try:
         yield
     finally:
