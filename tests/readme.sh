@@ -20,7 +20,16 @@ all_run() {
 }
 
 session 'A short session' short
-all_run 'A short session'
+
+# What the network section captures: the datagrams of the session above
+mkdir "$work/monday"
+cd "$work" || exit 1
+echo 'monday.pcap|10.0.0.1=short/sent' > rows
+python3 "$here/captures.py" make rows monday || told 'the capture' 'cannot be made'
+rm -r monday/*.kept
+session 'From your network' monday
+if cmp -s "$work/short/file" "$work/monday/whole"; then passed=$((passed + 1)); else told 'From your network' 'another file comes out'; fi
+all_run 'A short session' 'From your network'
 
 page=$here/../docs/OPERATING.md
 session 'A session, step by step' session
