@@ -467,7 +467,34 @@ check 'info of an object at the limit' 0 'entries 1048577' ''
 run extract -o got7 --tsi 7 --toi 1 border.joined
 check 'extract of an object at the limit' 0 'bytes 1048576' ''
 same 'the object at the limit' got7 border
+run gaps border.joined
+check 'gaps of an object at the limit' 0 'session 7 object 1 whole 1048576' ''
+run gaps more
+check 'gaps of one symbol more than a store holds' 1 '' 'full'
+run extract -o got8 --tsi 7 --toi 1 more
+check 'extract of one symbol more than a store holds' 1 '' 'full'
+run extract -o got8 --tsi 7 --toi 9 more
+check 'full before an object that is not there' 1 '' 'full'
+[ ! -e got8 ] || check 'no file after a full extract' x - -
 rm -f border* beyond* more got6 got7
+
+# As many objects of one session as a store holds, and one more: each has its information in conflict.
+for count in 4096 4097; do
+    python3 -c "
+import sys
+sys.stdout.buffer.write(b'FLJN\0\1' + b''.join(b'\2' + (7).to_bytes(6, 'big') + b'\1' + n.to_bytes(14, 'big') for n in range(1, $count + 1)))
+sys.stdout.buffer.write(b'\377' + ($count).to_bytes(8, 'big'))" > objects.$count
+done
+run gaps objects.4096
+check 'gaps of as many objects as a store holds' 0 "$(seq 4096 | sed 's/.*/session 7 object & conflicting information/')" ''
+run gaps objects.4097
+check 'gaps of one object more' 1 '' 'full'
+run extract -o got8 --tsi 7 --toi 4096 objects.4096
+check 'extract from as many objects as a store holds' 1 '' 'conflicting information'
+run extract -o got8 --tsi 7 --toi 1 objects.4097
+check 'extract from one object more' 1 '' 'full'
+[ ! -e got8 ] || check 'no file after it' x - -
+rm -f objects.4096 objects.4097
 
 # Journals of version 2. The bytes of `whole2`, all of them by hand:
 file by_hand 464C4A4E 0002 \
