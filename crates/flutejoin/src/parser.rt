@@ -10,7 +10,9 @@ Journals of versions 1 and 2 are read, and those of version 2 written.";
 
 /// An example that the help texts of datagrams end with.
 const DATAGRAM_EXAMPLE: &str = "\
-A datagram is given as hexadecimal digits, two for each byte. Example:
+A datagram is given as hexadecimal digits, two for each byte. Prints four lines: session, object,
+info and symbol.
+Status 0: done. 1: the datagram is at fault. 2: the command line. 3: memory or a device. Example:
   flutejoin packet 10A004000000000000000007000000010000000068656C6C";
 
 /// What the help text of the program ends with.
@@ -26,45 +28,54 @@ Example: a file is sent as datagrams, these are received, and the file comes out
 
 A journal has up to 16,777,216 entries, and a datagram file as many records.
 A store holds up to 64 sessions, 4,096 objects of each, and 1,048,576 symbols of each object.
+A join has up to 64 inputs.
 
 A fault is one line on standard error.
 Status 0: all was done. 1: an input is at fault. 2: the command line. 3: memory or a device.";
 
 // What the help texts of the commands end with.
 const SHOW_HELP: &str = "\
-Prints a line for each entry, and then: entries N. Example:
+Prints a line for each entry, and then: entries N. The journal may have up to 16,777,216 entries.
+Status 0: done. 1: an input is at fault. 2: the command line. 3: memory or a device. Example:
   flutejoin show station1";
 
 const GAPS_HELP: &str = "\
 Prints a line for each object: whole, partial, no information or conflicting information.
 Behind partial a line for each gap follows: gap BLOCK/FIRST-LAST, and whether these symbols are
 missing, conflicting or misfit.
-The journal may have as much as a store holds. Example:
+The journal may have as much as a store holds (flutejoin --help).
+Status 0: done. 1: an input is at fault. 2: the command line. 3: memory or a device. Example:
   flutejoin gaps station1";
 
 const EXTRACT_HELP: &str = "\
 Prints: bytes N. Of an object that is not whole nothing is written.
-The journal may have as much as a store holds. Example:
+The journal may have as much as a store holds (flutejoin --help).
+Status 0: done. 1: an input is at fault. 2: the command line. 3: memory or a device. Example:
   flutejoin extract -o out --tsi 7 --toi 1 station1";
 
 const INFO_HELP: &str = "\
 Prints: entries N. It is for an object whose packets do not tell its information.
-The journal may have as much as a store holds. Example:
+The journal may have as much as a store holds (flutejoin --help).
+Status 0: done. 1: an input is at fault. 2: the command line. 3: memory or a device. Example:
   flutejoin info -o known --tsi 7 --toi 1 --length 40000 --symbol 1000 --block 16 station1";
 
 const JOIN_HELP: &str = "\
 Prints: datagrams N, refused N (those of them that are not taken) and entries N.
 With --tsi only these sessions are taken; others N then counts the entries and datagrams of others.
 --source is the sender of all datagram files of the call; journals keep theirs.
-All inputs together may have as much as a store holds. Example:
+All inputs, at most 64, may together have as much as a store holds (flutejoin --help).
+Status 0: done. 1: an input is at fault. 2: the command line. 3: memory or a device. Example:
   flutejoin join -o all station1 station2";
 
 const MERGE_HELP: &str = "\
-Prints: entries N. The limits of a store do not apply. OUT is no input. Example:
+Prints: entries N. Each journal may have up to 16,777,216 entries; the limits of a store do not
+apply. OUT is no input.
+Status 0: done. 1: an input is at fault. 2: the command line. 3: memory or a device. Example:
   flutejoin merge -o both station1 station2";
 
 const CAROUSEL_HELP: &str = "\
-Prints: datagrams N. FILE has up to 4,294,967,295 bytes. Example:
+Prints: datagrams N. FILE has up to 4,294,967,295 bytes.
+Status 0: done. 1: an input is at fault. 2: the command line. 3: memory or a device. Example:
   flutejoin carousel -o sent --tsi 7 --toi 1 --symbol 1000 --block 16 file";
 
 /// The program's command, with a subcommand for each of its commands.
