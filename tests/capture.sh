@@ -400,27 +400,32 @@ done
 
 # A capture that grows on standard input
 mkfifo pipe
-for signal in INT TERM HUP; do
-    # Under nohup, a hangup is no end.
-    env --default-signal=HUP "$python" "$here/../tools/flutejoin-capture" --port 4001 -o live.$signal - < pipe > out 2> err &
+# grows NAME HANGUP SIGNAL..: the signals end it; HANGUP is how env has a hangup taken
+grows() {
+    name=$1 hangup=$2
+    shift 2
+    env "$hangup" "$python" "$here/../tools/flutejoin-capture" --port 4001 -o "live.$name" - < pipe > out 2> err &
     live=$!
     exec 3> pipe
     head -c 21000 made/ipv6 >&3
-    until_there "live.$signal/10.0.0.1.fldg.partial"
-    kill -$signal $live
+    until_there "live.$name/10.0.0.1.fldg.partial"
+    for signal; do kill "-$signal" $live; done
     # What the program that captures hands over at its end
     tail -c +21001 made/ipv6 | head -c 20000 >&3
     wait $live
     status=$?
     exec 3>&-
-    check "a capture that grows, $signal" 0 - ''
-    holds "its last packets, $signal" [ "$(awk '/fldg: / { sum += $2 } END { print sum }' out)" -gt 30 ]
-    holds "nothing beside, $signal" [ -z "$(ls live.$signal | grep partial)" ]
+    check "a capture that grows, $name" 0 - ''
+    holds "its last packets, $name" [ "$(awk '/fldg: / { sum += $2 } END { print sum }' out)" -gt 30 ]
+    holds "nothing beside, $name" [ -z "$(ls "live.$name" | grep partial)" ]
     grep '^flutejoin join ' out | sh > told
     flutejoin join -o wanted --source 0a000001 got1 > told
-    flutejoin merge -o merged wanted live.$signal/10.0.0.1.journal > told
-    same "what came is right, $signal" merged wanted
-done
+    flutejoin merge -o merged wanted "live.$name/10.0.0.1.journal" > told
+    same "what came is right, $name" merged wanted
+}
+for signal in INT TERM HUP; do grows $signal --default-signal=HUP $signal; done
+# A hangup is none of them where it is ignored. Of two that are, the second ends it at once.
+grows nohup --ignore-signal=HUP HUP INT
 cat made/gzip_pcapng | "$python" "$here/../tools/flutejoin-capture" --port 4001 -o stream - > out 2> err
 status=$?
 check 'a compressed capture from a pipe' 0 - ''
@@ -519,6 +524,31 @@ check 'no output' 2 '' -
 mend --help
 check 'help of mend' 0 - ''
 holds 'nothing was written' [ ! -e whole ]
+# A mend that a signal ends leaves nothing. It waits until its bytes are on the disk, which here never comes to pass.
+cat > waits.py << 'END'
+import os, runpy, sys, time
+os.fsync = lambda _file: time.sleep(20)
+del sys.argv[0]
+sys.path[0] = os.path.dirname(sys.argv[0])
+runpy.run_path(sys.argv[0], run_name="__main__")
+END
+# ended NAME STATUS HANGUP SIGNAL..: the signals end it; HANGUP is how env has a hangup taken
+ended() {
+    name=$1 wanted=$2 hangup=$3
+    shift 3
+    env "$hangup" "$python" waits.py "$here/../tools/flutejoin-mend" -o whole cut.fldg > out 2> err &
+    mending=$!
+    until_there whole.mending
+    for signal; do kill "-$signal" $mending; done
+    wait $mending
+    status=$?
+    check "a mend that is ended, $name" "$wanted" '' ''
+    holds "nothing is left, $name" [ -z "$(ls | grep '^whole')" ]
+}
+ended INT 130 --default-signal=HUP INT
+ended TERM 143 --default-signal=HUP TERM
+ended HUP 129 --default-signal=HUP HUP
+ended nohup 143 --ignore-signal=HUP HUP TERM
 # Other faults are told by the names that the program gives them.
 mkdir faults
 helper damage faults 90 more old small

@@ -265,22 +265,27 @@ check 'closed standard input and error' 0 - ''
 # A run that is told to end, while the program reads, leaves nothing.
 printf '#!/bin/sh\necho $$ > started\nexec sleep 20\n' > slow
 chmod 755 slow
-for number in 2 15 1; do
-    signal=$(kill -l $number)
+# ended NAME STATUS HANGUP SIGNAL..: the signals end it; HANGUP is how env has a hangup taken
+ended() {
+    name=$1 wanted=$2 hangup=$3
+    shift 3
     rm -f started
-    "$python" -c 'import os, signal, sys; signal.signal(signal.SIGINT, signal.SIG_DFL); os.execv(sys.argv[1], sys.argv[1:])' \
-        "$python" "$tool" --flutejoin ./slow -o ended.svg one1 > out 2> err &
+    env --default-signal=INT "$hangup" "$python" "$tool" --flutejoin ./slow -o ended.svg one1 > out 2> err &
     drawing=$!
     for _ in $(seq 100); do
         [ -s started ] && break
         sleep 0.1
     done
-    kill -$number $drawing
+    for signal; do kill "-$signal" $drawing; done
     wait $drawing
     status=$?
-    check "the signal $signal" $((128 + number)) '' ''
-    holds "its program ends, $signal" [ ! -e "/proc/$(cat started)" ]
-done
+    check "the signal $name" "$wanted" '' ''
+    holds "its program ends, $name" [ ! -e "/proc/$(cat started)" ]
+}
+ended INT 130 --default-signal=HUP INT
+ended TERM 143 --default-signal=HUP TERM
+ended HUP 129 --default-signal=HUP HUP
+ended 'HUP under nohup, and TERM' 143 --ignore-signal=HUP HUP TERM
 holds 'no page is left by signals' [ -z "$(ls | grep ended)" ]
 
 # Journals at fault

@@ -327,7 +327,9 @@ check 'a number of datagrams' 0 - ''
 records sent 0 10 > expected
 same 'just as many' counted/127.0.0.1.fldg expected
 for signal in INT TERM HUP; do
+    limit='env --default-signal=HUP'
     start -o by_$signal
+    limit=
     send sent
     kill -$signal $receiver
     finish
@@ -335,6 +337,15 @@ for signal in INT TERM HUP; do
 flutejoin join --source 7f000001 -o by_$signal/127.0.0.1.journal by_$signal/127.0.0.1.fldg" ''
     same "what came before the signal $signal" by_$signal/127.0.0.1.fldg sent
 done
+limit='env --ignore-signal=HUP'
+start -o by_nohup
+limit=
+kill -HUP $receiver
+send sent
+kill -INT $receiver
+finish
+check 'a hangup under nohup' 0 - ''
+same 'what came behind it' by_nohup/127.0.0.1.fldg sent
 start --seconds 0.1 -o nothing
 finish
 check 'nothing came' 1 '' 'flutejoin-receive: no datagrams came'

@@ -10,6 +10,8 @@ import sys
 import time
 import zlib
 
+import flutejoin_files as files
+
 MOST_PACKET = 1 << 20  # bytes; a longer one is damage
 GRACE = 1.0  # seconds that a capture in a pipe has for its last packets after a signal
 SECTION = b"\x0a\x0d\x0d\x0a"  # how pcapng begins
@@ -42,9 +44,7 @@ class Stop:
         self.wakes, wakened = os.pipe()
         os.set_blocking(wakened, False)
         signal.set_wakeup_fd(wakened, warn_on_full_buffer=False)
-        for number in (signal.SIGINT, signal.SIGTERM, signal.SIGHUP):
-            if number != signal.SIGHUP or signal.getsignal(number) != signal.SIG_IGN:  # as under nohup
-                signal.signal(number, self.ask)
+        files.answer_stops(self.ask)
 
     def ask(self, _number, _frame):
         self.asked += 1

@@ -50,6 +50,13 @@ class Report:
                 self.fault(3, "cannot write")
 
 
+def answer_stops(answer):
+    """Has the signals that end a run answered so. A hangup is none of them where it is ignored, as under nohup."""
+    for number in STOPPING:
+        if number != signal.SIGHUP or signal.getsignal(number) != signal.SIG_IGN:
+            signal.signal(number, answer)
+
+
 def keep_status():
     """For the end of a run: Python lets signals kill while it ends, and a late Ctrl-C would then take the status away."""
     for number in STOPPING:
