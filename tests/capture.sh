@@ -377,6 +377,15 @@ done
 capture --help
 check 'help' 0 - ''
 holds 'help has an example' grep -q 'flutejoin-capture --port 4001 -o monday monday.pcap' out
+for tool in capture mend; do
+    "$python" "$here/../tools/flutejoin-$tool" --help > /dev/full 2> err
+    status=$?
+    : > out
+    check "help of $tool to a full standard output" 3 '' "flutejoin-$tool: cannot write"
+    "$python" "$here/../tools/flutejoin-$tool" --help >&- 2> err
+    status=$?
+    check "help of $tool to a closed standard output" 3 '' "flutejoin-$tool: cannot write"
+done
 "$python" "$here/../tools/flutejoin-capture" --port 4001 -o full made/ipv6 > /dev/full 2> err
 status=$?
 : > out

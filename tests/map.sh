@@ -340,6 +340,13 @@ done
 map --help
 check 'help' 0 - ''
 holds 'help has an example' grep -q 'flutejoin-map -o map.svg --tsi 7 --toi 1 station1' out
+"$python" "$tool" --help > /dev/full 2> err
+status=$?
+: > out
+check 'help to a full standard output' 3 '' 'flutejoin-map: cannot write'
+"$python" "$tool" --help >&- 2> err
+status=$?
+check 'help to a closed standard output' 3 '' 'flutejoin-map: cannot write'
 
 echo "map: $passed passed, $failed failed"
 [ $failed = 0 ]

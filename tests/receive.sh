@@ -560,6 +560,13 @@ holds 'no folder is left' [ ! -e folder ]
 status=$?
 check 'help' 0 - ''
 holds 'help has an example' grep -q '^  flutejoin-receive --group ' out
+"$receive" --help > /dev/full 2> err
+status=$?
+: > out
+check 'help to a full standard output' 3 '' 'flutejoin-receive: cannot write'
+"$receive" --help >&- 2> err
+status=$?
+check 'help to a closed standard output' 3 '' 'flutejoin-receive: cannot write'
 
 if unshare -rn sh -c 'ip link set lo up && ip link set lo multicast on && ip route add 224.0.0.0/4 dev lo' 2> held; then
     unshare -rn sh -c 'ip link set lo up && ip link set lo multicast on && ip route add 224.0.0.0/4 dev lo && exec "$@"' sh \

@@ -1,4 +1,5 @@
-"""Datagram files, one or several for each sender, and what the tools tell. A file gets its name once it is whole."""
+"""Datagram files, one or several for each sender, and what the tools take and tell. A file gets its name once it is whole."""
+import argparse
 import collections
 import errno
 import os
@@ -48,6 +49,20 @@ class Report:
             if stream is sys.stdout and not self.is_mute:
                 self.is_mute = True
                 self.fault(3, "cannot write")
+
+
+class CommandLine(argparse.ArgumentParser):
+    """What a tool takes and its help, which is an output like any other: where it cannot be written, that is told."""
+
+    def __init__(self, tool, description, epilog=None):
+        form = argparse.RawDescriptionHelpFormatter
+        super().__init__(prog=tool, description=description, epilog=epilog, formatter_class=form, allow_abbrev=False)
+
+    def print_help(self, file=None):
+        report = Report(self.prog)
+        report.tell(file or sys.stdout, self.format_help()[:-1])
+        if report.status:
+            self.exit(report.status)
 
 
 def answer_stops(answer):
