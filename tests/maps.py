@@ -114,6 +114,7 @@ def see_page(page, wanted):
             legend = [text.text for text in panel.findall(f"{SVG}text") if text.text.split()[0] in NAMES]
             compare(", ".join(legend), counts(kinds) if ": held " in words else "", f"{words}: its legend")
             see_cells(panel.findall(f"{SVG}g"), listing, kinds, words)
+            see_edges(panel, words)
 
 
 def see_cells(cells, listing, kinds, words):
@@ -128,8 +129,24 @@ def see_cells(cells, listing, kinds, words):
         at = places[last] + 1
         part = kinds[places[first] : at]
         compare(told, ", ".join(f"{name} {part.count(name)}" for name in NAMES if name in part), f"{words}: {title}")
-        compare(len(cell.findall(f"{SVG}rect")), len(set(part)), f"{words}: {title}: its colours")
+        compare(len(cell.findall(f"{SVG}path")), len(set(part)), f"{words}: {title}: its colours")
     compare(at, len(kinds), f"{words}: all symbols")
+
+
+def see_edges(panel, words):
+    """Each bar begins with the very number by which its neighbour ends, and the lines between cells stand at these edges."""
+    before, ends = None, set()
+    for cell in panel.findall(f"{SVG}g"):
+        bars = [re.fullmatch(r"M([0-9.]+) ([0-9.]+)H([0-9.]+)V([0-9.]+)H\1Z", bar.get("d")).groups() for bar in cell.findall(f"{SVG}path")]
+        compare([(bar[0], bar[2]) for bar in bars], [(bars[0][0], bars[0][2])] * len(bars), f"{words}: bars one above the other")
+        compare([bar[1] for bar in bars[1:]], [bar[3] for bar in bars[:-1]], f"{words}: bars that meet")
+        left, top, right, bottom = bars[0][0], bars[0][1], bars[0][2], bars[-1][3]
+        if before and before[1] == top:
+            compare((left, bottom), (before[2], before[3]), f"{words}: cells that meet")
+            ends.add(left)
+        before = left, top, right, bottom
+    for lines in panel.findall(f"{SVG}path"):
+        compare(ends - set(re.findall(r"M([0-9.]+) ", lines.get("d"))), set(), f"{words}: cells without a line between them")
 
 
 def sign(part):

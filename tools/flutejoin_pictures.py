@@ -296,21 +296,26 @@ def grid_svg(body, grid, x, y, width):
             body.append(text(x - 5, at + max(height - 1, 8) / 2 + 3, str(row * grid.group), 'font-size="9" text-anchor="end" fill="#666"'))
         for begin, end, counts in grid.row_runs(row):
             body.append(f"<g><title>{grid.range_words(row, begin, end)}: {count_words(counts, True)}</title>"
-                        + "".join(bars(counts, x + begin * cell, at, (end - begin) * cell, height - 1)) + "</g>")
+                        + "".join(bars(counts, x + begin * cell, x + end * cell, at, height - 1)) + "</g>")
     if cell >= 5:
-        lines = "".join(f"M{x + number * cell:.4g} {y}v{grid.rows * height}" for number in range(1, grid.columns))
+        lines = "".join(f"M{edge(x + number * cell)} {edge(y)}v{grid.rows * height}" for number in range(1, grid.columns))
         body.append(f'<path d="{lines}" stroke="#fff" stroke-width=".8"/>')
     return y + grid.rows * height
 
 
-def bars(counts, x, y, width, height):
+def edge(place):
+    """A place as text. An edge that two neighbours have is written by its place in both, so that they meet exactly."""
+    return f"{place:.2f}".rstrip("0").rstrip(".")
+
+
+def bars(counts, left, right, y, height):
     """The share of each kind, one above the other. What is there at all can be seen."""
     kinds = [kind for kind in (MISSING, CONFLICTING, MISFIT, HELD) if counts[kind]]
     parts = {kind: max(1, height * counts[kind] / sum(counts)) for kind in kinds}
     most = max(kinds, key=parts.get)
     parts[most] -= sum(parts.values()) - height
     for kind, part in parts.items():
-        yield f'<rect x="{x:.6g}" y="{y:.6g}" width="{width:.6g}" height="{part:.4g}" fill="{COLOURS[kind]}"/>'
+        yield f'<path d="M{edge(left)} {edge(y)}H{edge(right)}V{edge(y + part)}H{edge(left)}Z" fill="{COLOURS[kind]}"/>'
         y += part
 
 
