@@ -1007,18 +1007,18 @@ mkdir tried
 mkdir names
 ln -s "$program" names/flutejoin
 cp out tried/help
-for line in program packet show gaps extract info join merge carousel; do
-    if [ $line != program ]; then
-        run $line --help
-        check "help of $line" 0 - ''
+for command in program packet show gaps extract info join merge carousel; do
+    if [ $command != program ]; then
+        run $command --help
+        check "help of $command" 0 - ''
         cp out tried/help
     fi
     examples tried/help > tried/lines
-    [ -s tried/lines ] || check "help of $line gives an example" x - -
+    [ -s tried/lines ] || check "help of $command gives an example" x - -
     (cd tried && PATH=$work/names:$PATH sh -e ./lines > ../out 2> ../err)
     status=$?
-    check "the example of $line runs" 0 - ''
-    [ $line != program ] || cp tried/station1 tried/station2
+    check "the example of $command runs" 0 - ''
+    [ $command != program ] || cp tried/station1 tried/station2
 done
 same 'the file that the examples bring out' tried/file tried/out
 run -V
