@@ -3,6 +3,7 @@
 #                    program, the tools, the sessions of README, of docs/OPERATING.md, the man pages and the
 #                    tutorial, the completion, and memory refused in turn
 # make wrong-bodies  the wrong bodies that the gate leaves out
+# make try           reads a first packet with the program as it stands, in about a minute and with nothing proved
 # make example       runs a small session: a file sent, received at three stations, joined and written
 # make install       copies the program to $(PREFIX)/bin, and the tools of the network and of pictures beside it; man pages, the
 #                    completion for bash and the examples of the tutorial and of many stations to $(PREFIX)/share
@@ -35,6 +36,10 @@ test:
 wrong-bodies:
 	tools/wrong_bodies.sh
 
+try:
+	@echo "flutejoin: nothing is proved by this: the program is run before any proof, on one packet" >&2
+	@cd crates/flutejoin_cli && rt try -- packet 10A004000000000000000007000000010000000068656C6C
+
 example: bin/flutejoin
 	@examples/session.sh bin/flutejoin
 
@@ -61,4 +66,4 @@ install: bin/flutejoin
 clean:
 	rm -rf bin crates/*/out
 
-.PHONY: test wrong-bodies example install clean
+.PHONY: test wrong-bodies try example install clean
