@@ -558,6 +558,7 @@ ended INT 130 --default-signal=HUP INT
 ended TERM 143 --default-signal=HUP TERM
 ended HUP 129 --default-signal=HUP HUP
 ended nohup 143 --ignore-signal=HUP HUP TERM
+ended several - --default-signal=HUP HUP TERM INT
 # Other faults are told by the names that the program gives them.
 mkdir faults
 helper damage faults 90 more old small

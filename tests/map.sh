@@ -286,6 +286,7 @@ ended INT 130 --default-signal=HUP INT
 ended TERM 143 --default-signal=HUP TERM
 ended HUP 129 --default-signal=HUP HUP
 ended 'HUP under nohup, and TERM' 143 --ignore-signal=HUP HUP TERM
+ended several - --default-signal=HUP HUP TERM INT
 holds 'no page is left by signals' [ -z "$(ls | grep ended)" ]
 
 # Journals at fault

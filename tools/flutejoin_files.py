@@ -72,6 +72,12 @@ def answer_stops(answer):
             signal.signal(number, answer)
 
 
+def stop(number, _frame):
+    """Ends a run by the first signal. Others that come change nothing: what is left is to clear up."""
+    answer_stops(lambda *_: None)
+    raise KeyboardInterrupt(number)
+
+
 def keep_status():
     """For the end of a run: Python lets signals kill while it ends, and a late Ctrl-C would then take the status away."""
     for number in STOPPING:
