@@ -1,5 +1,5 @@
 //! A map whose values are joined at shared keys.
-ghost use Rattle.std.specs.Prelude.{◌≡◌, ◌≢◌, ℕ, Some, slice_get, ◌<◌, ◌≤◌, [], ◌∷◌, length, is_some, List, IsNone, IfErr, OnOk, OnErr, ◌↔◌};
+ghost use Rattle.std.specs.Prelude.{◌≡◌, ◌≢◌, ℕ, Some, slice_get, ◌<◌, ◌≤◌, [], ◌∷◌, length, is_some, ◌==◌, List, IsNone, IfErr, OnOk, OnErr, ◌↔◌};
 ghost use Rattle.std.specs.declared.cmp.Ordering.TheVariants.{Less};
 ghost use Rattle.std.specs.Bool.{OnTrue, OnFalse};
 ghost use Rattle.std.specs.Option.{option_copied, option_copied_mut, ForSome};
@@ -21,7 +21,7 @@ use std::marker::Model;
 
 /// A map in the order of its keys, with at most `LIMIT` of them. The limit is part of the type, so
 /// two maps that are joined have the same. Only what adds, joins or copies asks for memory.
-#[derive(Drop)]
+#[derive(Debug, Drop)]
 pub struct JoinMap<K: Place, V: Join, const LIMIT: u32> {
     entries: BTreeMap<K, V>,
 }
@@ -61,6 +61,13 @@ impl<K: Place, V: Join, const LIMIT: u32> JoinMap<K, V, LIMIT> {
         ensures ordered { IsOrdered K.cmp self.now }
     {
         self.entries.len() as u32
+    }
+
+    /// Whether no key is held.
+    pub fn is_empty(&self) -> bool
+        ensures { result ≡ (length self.now == 0) }
+    {
+        self.entries.is_empty()
     }
 
     /// The value at a key, or `None` where the key is not held.

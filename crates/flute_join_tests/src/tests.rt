@@ -78,7 +78,9 @@ fn a_map_joins_up_to_its_limit(rt: HostRuntime) -> Result<(), Fail> {
 #[test]
 fn a_map_takes_a_new_key(rt: HostRuntime) -> Result<(), Fail> {
     let mut map: Small = JoinMap::new(rt.alloc());
+    assert!(rt; map.is_empty());
     map.add_new(4, Cell::One(1))?;
+    assert!(rt; !map.is_empty());
     if let Some(cell) = map.get_mut(&4) {
         cell.put(2);
     }
