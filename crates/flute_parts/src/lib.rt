@@ -1,5 +1,18 @@
 //! What FLUTE receptions are made of: names, transmission information, partitions, facts and their
 //! laws, and the devices that bytes come from and go to.
+//!
+//! An object is named by a [`Key`]: its session ([`SessionKey`]: the [`Sender`] and the TSI) and,
+//! in that, an FDT Instance or a file ([`ObjectKey`]). Its [`Info`] says how it is cut into
+//! symbols, and its [`Partition`] which these are (RFC 5052, section 9.1). A [`Fact`] is what is
+//! told at one [`Address`]: the information of an object, one of its symbols, or that there were
+//! two values. Bytes are read from a [`Source`] and written to a [`Sink`].
+//!
+//! Ten symbols in blocks of at most four (from `flute_parts_tests`):
+//!
+//! ```
+//! let partition = Partition::of(&Info::new(10, 1, 4)?);
+//! assert_eq!(rt; (partition.symbols(), partition.blocks()), (10, 3));
+//! ```
 #![tactic(auto)]
 
 mod address;
