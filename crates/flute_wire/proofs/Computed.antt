@@ -7,8 +7,8 @@ use Rattle.std.proofs.lemmas.List.{length-drop, take-append-drop, nil_from_lengt
 use Rattle.flute_parts.specs.Information.{info_fault}
 use Rattle.flute_parts.specs.declared.info.InfoFault.{InfoFault}
 use Rattle.flute_parts.specs.BigEndian.{big_endian}
-use Rattle.flute_wire.specs.Header.{Fields, first_word, tsi_len, toi_len, toi_of, extension_area, after_header}
-use Rattle.flute_wire.specs.Extensions.{Extension, HasExtensions, IsExtension, bytes_of, bodies, ext_fti, ext_fdt, ext_cenc, fti_information, fdt_version, content_encoding, first}
+use Rattle.flute_wire.specs.Header.{Fields, first_word, tsi_len, toi_len, toi_in, extension_area, after_header}
+use Rattle.flute_wire.specs.Extensions.{HeaderExtension, HasExtensions, IsExtension, extension_bytes, bodies, ext_fti, ext_fdt, ext_cenc, fti_information, fdt_version, content_encoding, first}
 use Rattle.flute_wire.specs.Content.{Content}
 use Rattle.flute_wire.specs.Datagram.{Spells}
 use Rattle.flute_wire.specs.Facts.{facts_of}
@@ -23,43 +23,43 @@ use Rattle.flute_wire.proofs.Spelling.{IsWhole, parts_of, has_parts}
 -- ---- the extensions
 
 -- one extension more
-step : (t : Bool) (e : Extension) (o : Option (List Extension)) (es : List Extension) → cond t (option_map (λ more. e ∷ more) o) None ≡ Some es
-    → (t ≡ true) × ((more : List Extension) × (o ≡ Some more) × (e ∷ more ≡ es))
+step : (t : Bool) (e : HeaderExtension) (o : Option (List HeaderExtension)) (es : List HeaderExtension) → cond t (option_map (λ more. e ∷ more) o) None ≡ Some es
+    → (t ≡ true) × ((more : List HeaderExtension) × (o ≡ Some more) × (e ∷ more ≡ es))
 step false e o es h = absurd cc
 step true e None es h = absurd cc
 step true e (Some more) es h = (refl, (more, refl, cc))
 
-made : (t : Bool) (e f : Extension) (o : Option (List Extension)) (fs : List Extension) → t ≡ true → o ≡ Some fs → e ≡ f → cond t (option_map (λ more. e ∷ more) o) None ≡ Some (f ∷ fs)
+made : (t : Bool) (e f : HeaderExtension) (o : Option (List HeaderExtension)) (fs : List HeaderExtension) → t ≡ true → o ≡ Some fs → e ≡ f → cond t (option_map (λ more. e ∷ more) o) None ≡ Some (f ∷ fs)
 made t e f o fs a b c = rw (a, b, c) refl
 
-pub extensions_in-HasExtensions : (n : ℕ) (bs : List ℕ) (es : List Extension) → extensions_in n bs ≡ Some es → HasExtensions bs es
+pub extensions_in-HasExtensions : (n : ℕ) (bs : List ℕ) (es : List HeaderExtension) → extensions_in n bs ≡ Some es → HasExtensions bs es
 unfolding extensions_in
-extensions_in-HasExtensions n [] es h = let e : [] ≡ es = cc in subst (λ (x : List Extension). HasExtensions [] x) e (record { joined = refl; each = tt })
+extensions_in-HasExtensions n [] es h = let e : [] ≡ es = cc in subst (λ (x : List HeaderExtension). HasExtensions [] x) e (record { joined = refl; each = tt })
 extensions_in-HasExtensions zero (het ∷ bs) es h = absurd cc
 extensions_in-HasExtensions (suc n) (het ∷ bs) es h =
     let k = words_at het bs in
     let body = 4 * k - 1 in
-    let e : Extension = record { het = het; body = take body bs } in
+    let e : HeaderExtension = record { het = het; body = take body bs } in
     let s = step (ltb 0 k && leb body (length bs)) e (extensions_in n (drop body bs)) es h in
     let t = and_parts (ltb 0 k) (leb body (length bs)) s.0 in
     let some : 0 < k = ltb-true 0 k t.0 in
     let room : body ≤ length bs = leb-true body (length bs) t.1 in
-    let is : het ∷ bs ≡ bytes_of e ++ drop body bs = ap (λ (l : List ℕ). het ∷ l) (sym (take-append-drop body bs)) in
+    let is : het ∷ bs ≡ extension_bytes e ++ drop body bs = ap (λ (l : List ℕ). het ∷ l) (sym (take-append-drop body bs)) in
     let more = extensions_in-HasExtensions n (drop body bs) s.1.0 s.1.1 in
-    subst (λ (x : List Extension). HasExtensions (het ∷ bs) x) s.1.2
+    subst (λ (x : List HeaderExtension). HasExtensions (het ∷ bs) x) s.1.2
     (goes_on e (het ∷ bs) (drop body bs) is (front het bs k refl some (omega (arith, some, room))) s.1.0 more)
 
-pub extensions_in-Some : (n : ℕ) (bs : List ℕ) (es : List Extension) → length bs ≤ n → HasExtensions bs es → extensions_in n bs ≡ Some es
+pub extensions_in-Some : (n : ℕ) (bs : List ℕ) (es : List HeaderExtension) → length bs ≤ n → HasExtensions bs es → extensions_in n bs ≡ Some es
 unfolding extensions_in
-extensions_in-Some n [] es le x = ap (λ (l : List Extension). Some l) (sym (no_bytes es x))
+extensions_in-Some n [] es le x = ap (λ (l : List HeaderExtension). Some l) (sym (no_bytes es x))
 extensions_in-Some zero (het ∷ bs) es le x = absurd (omega arith)
 extensions_in-Some (suc n) (het ∷ bs) [] le x = let e = x.joined in absurd cc
 extensions_in-Some (suc n) (het ∷ bs) (f ∷ fs) le x =
     let k = words_at het bs in
     let body = 4 * k - 1 in
-    let e : Extension = record { het = het; body = take body bs } in
+    let e : HeaderExtension = record { het = het; body = take body bs } in
     let w = words_first het bs f fs x in
-    let is : het ∷ bs ≡ bytes_of e ++ drop body bs = ap (λ (l : List ℕ). het ∷ l) (sym (take-append-drop body bs)) in
+    let is : het ∷ bs ≡ extension_bytes e ++ drop body bs = ap (λ (l : List ℕ). het ∷ l) (sym (take-append-drop body bs)) in
     let whole : IsExtension e = front het bs k refl w.1 w.0 in
     let s = same_extension e f (drop body bs) _ whole x.each.0 (sym is ∙ x.joined) in
     let more = extensions_in-Some n (drop body bs) fs (omega (arith, length-drop body bs)) (record { joined = s.1; each = x.each.1 }) in
@@ -97,12 +97,12 @@ has_header-true d h =
 -- ---- what the extensions say
 
 -- this profile takes what the extensions say, and what follows the header
-pub record Accepts (d : List ℕ) (es : List Extension) : Type 0 where
+pub record Accepts (d : List ℕ) (es : List HeaderExtension) : Type 0 where
   pub one_fti : length (bodies ext_fti es) ≤ 1
   pub one_fdt : length (bodies ext_fdt es) ≤ 1
   pub one_cenc : length (bodies ext_cenc es) ≤ 1
   pub information : IfSome (first (bodies ext_fti es)) (λ body. (length body ≡ 15) × (info_fault (fti_information body) ≡ None))
-  pub instance : toi_of d ≡ 0 → IsSomeAnd (first (bodies ext_fdt es)) (λ body. fdt_version body ≡ 2)
+  pub instance : toi_in d ≡ 0 → IsSomeAnd (first (bodies ext_fdt es)) (λ body. fdt_version body ≡ 2)
   pub plain : IfSome (first (bodies ext_cenc es)) (λ body. content_encoding body ≡ 0)
   pub payload : (after_header d ≡ []) ⊎ (4 ≤ length (after_header d))
 
@@ -146,7 +146,7 @@ when_zero toi b h e = let t : eqb toi 0 ≡ true = eq-eqb toi 0 e in rw t at h
 if_zero : (toi : ℕ) (b : Bool) → (toi ≡ 0 → b ≡ true) → cond (eqb toi 0) b true ≡ true
 if_zero toi b h = elim (cases_Bool (eqb toi 0)) [ inl same ↦ rw same (h (eqb-true toi 0 same)) | inr other ↦ rw other refl ]
 
-pub is_accepted-Accepts : (d : List ℕ) (es : List Extension) → is_accepted d es ≡ true → Accepts d es
+pub is_accepted-Accepts : (d : List ℕ) (es : List HeaderExtension) → is_accepted d es ≡ true → Accepts d es
 is_accepted-Accepts d es h =
     let a = and_parts _ _ h in
     let b = and_parts _ _ a.1 in
@@ -159,21 +159,21 @@ is_accepted-Accepts d es h =
       one_fdt = leb-true _ _ b.0;
       one_cenc = leb-true _ _ c.0;
       information = fti_passes _ e.0;
-      instance = λ zero. fdt_has _ (when_zero (toi_of d) _ f.0 zero);
+      instance = λ zero. fdt_has _ (when_zero (toi_in d) _ f.0 zero);
       plain = cenc_passes _ g.0;
       payload = elim (or_cases _ _ g.1) [ inl none ↦ inl (nil_from_length _ (eqb-true _ _ none)) | inr four ↦ inr (leb-true _ _ four) ];
     }
 
-pub is_accepted-true : (d : List ℕ) (es : List Extension) → Accepts d es → is_accepted d es ≡ true
+pub is_accepted-true : (d : List ℕ) (es : List HeaderExtension) → Accepts d es → is_accepted d es ≡ true
 is_accepted-true d es h =
     and_from _ _ (le-leb _ _ h.one_fti) (and_from _ _ (le-leb _ _ h.one_fdt) (and_from _ _ (le-leb _ _ h.one_cenc)
-    (and_from _ _ (passes_fti _ h.information) (and_from _ _ (if_zero (toi_of d) _ (λ zero. has_fdt _ (h.instance zero)))
+    (and_from _ _ (passes_fti _ h.information) (and_from _ _ (if_zero (toi_in d) _ (λ zero. has_fdt _ (h.instance zero)))
     (and_from _ _ (passes_cenc _ h.plain)
     (elim h.payload [ inl none ↦ or_left _ _ (eq-eqb _ _ (ap length none)) | inr four ↦ or_right _ _ (le-leb _ _ four) ]))))))
 
 -- ---- the packet
 
-spells_by : (d : List ℕ) (es : List Extension) → IsWhole d (first_word d) → HasExtensions (extension_area d) es → Accepts d es → Spells d (content_by d es)
+spells_by : (d : List ℕ) (es : List HeaderExtension) → IsWhole d (first_word d) → HasExtensions (extension_area d) es → Accepts d es → Spells d (content_by d es)
 unfolding parts_of
 spells_by d es w x a =
     let h = has_parts d es w x in (
@@ -201,7 +201,7 @@ through_if : (t : Bool) (o : Option Content) (c : Content) → cond t o None ≡
 through_if true o c h = (refl, h)
 through_if false o c h = absurd cc
 
-through_then : (f : List Extension → Option Content) (o : Option (List Extension)) (c : Content) → option_and_then f o ≡ Some c → (es : List Extension) × (o ≡ Some es) × (f es ≡ Some c)
+through_then : (f : List HeaderExtension → Option Content) (o : Option (List HeaderExtension)) (c : Content) → option_and_then f o ≡ Some c → (es : List HeaderExtension) × (o ≡ Some es) × (f es ≡ Some c)
 through_then f None c h = absurd cc
 through_then f (Some es) c h = (es, refl, h)
 

@@ -6,8 +6,8 @@ use Rattle.flute_parts.specs.Information.{info_fault}
 use Rattle.flute_parts.specs.declared.info.InfoFault.{InfoFault}
 use Rattle.flute_wire.specs.declared.refusal.Refusal.{Refusal}
 use Rattle.flute_wire.specs.declared.refusal.Refusal.TheVariants.{TooLong, TooShort, LctVersion, HeaderLength, HeaderCut, NoTsi, NoToi, Codepoint, ExtensionLength, Repeated, FtiLength, Information, NoInstance, FluteVersion, ContentEncoded, PayloadIdCut}
-use Rattle.flute_wire.specs.Header.{first_word, fixed_words, header_len, tsi_len, toi_len, toi_of, extension_area, after_header}
-use Rattle.flute_wire.specs.Extensions.{Extension, HasExtensions, bodies, ext_fti, ext_fdt, ext_cenc, fti_information, fdt_version, content_encoding, first}
+use Rattle.flute_wire.specs.Header.{first_word, fixed_words, header_len, tsi_len, toi_len, toi_in, extension_area, after_header}
+use Rattle.flute_wire.specs.Extensions.{HeaderExtension, HasExtensions, bodies, ext_fti, ext_fdt, ext_cenc, fti_information, fdt_version, content_encoding, first}
 use Rattle.flute_wire.specs.Content.{Content}
 use Rattle.flute_wire.specs.Datagram.{Spells}
 use Rattle.flute_wire.specs.Refusals.{Applies, Carries}
@@ -52,7 +52,7 @@ fault_at None = inr (λ f h. h)
 fault_at (Some body) = fault_in (info_fault (fti_information body))
 
 -- what the extensions of a datagram have is decided for the datagram
-carries : (d : List ℕ) (es : List Extension) → HasExtensions (extension_area d) es → (P : List Extension → Type 0) → Either (P es) → Either (Carries d P)
+carries : (d : List ℕ) (es : List HeaderExtension) → HasExtensions (extension_area d) es → (P : List HeaderExtension → Type 0) → Either (P es) → Either (Carries d P)
 carries d es x P (inl p) = inl (es, x, p)
 carries d es x P (inr h) = inr (λ c. h (carried d es x P c))
 
@@ -83,7 +83,7 @@ all_pass d a b c e f g h i j k l m n o p q FluteVersion = o
 all_pass d a b c e f g h i j k l m n o p q ContentEncoded = p
 all_pass d a b c e f g h i j k l m n o p q PayloadIdCut = q
 
-behind : (d : List ℕ) (es : List Extension) → HasExtensions (extension_area d) es → (Applies TooLong d → ⊥) → (Applies TooShort d → ⊥) → (Applies LctVersion d → ⊥) → (Applies HeaderLength d → ⊥)
+behind : (d : List ℕ) (es : List HeaderExtension) → HasExtensions (extension_area d) es → (Applies TooLong d → ⊥) → (Applies TooShort d → ⊥) → (Applies LctVersion d → ⊥) → (Applies HeaderLength d → ⊥)
     → (Applies HeaderCut d → ⊥) → (Applies NoTsi d → ⊥) → (Applies NoToi d → ⊥) → (Applies Codepoint d → ⊥) → Outcome d
 behind d es x a b c e f g h i =
     ask d Repeated (carries d es x (λ es. (1 < length (bodies ext_fti es)) ⊎ ((1 < length (bodies ext_fdt es)) ⊎ (1 < length (bodies ext_cenc es)))) (either _ _ (below 1 (length (bodies ext_fti es))) (either _ _ (below 1 (length (bodies ext_fdt es))) (below 1 (length (bodies ext_cenc es)))))) (λ k.
@@ -91,8 +91,8 @@ behind d es x a b c e f g h i =
     elim (fault_at (first (bodies ext_fti es))) [
       | inl bad ↦ inr (Information bad.0, (es, x, bad.1))
       | inr m ↦
-          ask d NoInstance (both _ _ (cases_eq (toi_of d) 0) (carries d es x (λ es. bodies ext_fdt es ≡ []) (is_empty (bodies ext_fdt es)))) (λ n.
-          ask d FluteVersion (both _ _ (cases_eq (toi_of d) 0) (carries d es x (λ es. IsSomeAnd (first (bodies ext_fdt es)) (λ body. fdt_version body ≡ 2 → ⊥)) (some_such (first (bodies ext_fdt es)) (λ body. fdt_version body ≡ 2 → ⊥) (λ body. other (fdt_version body) 2)))) (λ o.
+          ask d NoInstance (both _ _ (cases_eq (toi_in d) 0) (carries d es x (λ es. bodies ext_fdt es ≡ []) (is_empty (bodies ext_fdt es)))) (λ n.
+          ask d FluteVersion (both _ _ (cases_eq (toi_in d) 0) (carries d es x (λ es. IsSomeAnd (first (bodies ext_fdt es)) (λ body. fdt_version body ≡ 2 → ⊥)) (some_such (first (bodies ext_fdt es)) (λ body. fdt_version body ≡ 2 → ⊥) (λ body. other (fdt_version body) 2)))) (λ o.
           ask d ContentEncoded (carries d es x (λ es. IsSomeAnd (first (bodies ext_cenc es)) (λ body. content_encoding body ≡ 0 → ⊥)) (some_such (first (bodies ext_cenc es)) (λ body. content_encoding body ≡ 0 → ⊥) (λ body. other (content_encoding body) 0))) (λ p.
           ask d PayloadIdCut (both _ _ (below 0 (length (after_header d))) (below (length (after_header d)) 4)) (λ q.
           inl (all_pass d a b c e f g h i (λ none. none es x) k l

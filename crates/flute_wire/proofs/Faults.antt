@@ -15,7 +15,7 @@ use Rattle.flute_wire.specs.declared.writing.WriteFault.TheVariants.{Tsi, Toi, E
 use Rattle.flute_wire.specs.declared.sending.CarouselFault.TheVariants.{Length, Write}
 use Rattle.flute_wire.specs.Content.{Content}
 use Rattle.flute_wire.specs.Writing.{packet_at, spelling, fdt_bytes, fti_bytes, symbol_bytes, write_fault, has_no_byte}
-use Rattle.flute_wire.specs.Carousel.{piece, symbols_of, packets_of, first_fault, carousel_fault}
+use Rattle.flute_wire.specs.Carousel.{piece, symbols_of, packets_of, first_object_fault, carousel_fault}
 use Rattle.flute_wire.proofs.Written.{IsSent, no_fault}
 use Rattle.flute_wire.proofs.Pieces.{symbol_there, begins_within, length-packets_of, packet_there}
 
@@ -70,27 +70,27 @@ all_sent key i content k v whole h none = elim ((slice_get_cases (ids i) k).1) [
       (shorter key (Some i) id _ (piece i content k) (piece i content 0) (omega (arith, len, begins, length_some, whole)) (omega (arith, len, len_0)) one)
 ]
 
-first_some : (cs : List Content) (c : Content) (fault : WriteFault) → slice_get cs 0 ≡ Some c → write_fault c ≡ Some fault → first_fault cs ≡ Some fault
+first_some : (cs : List Content) (c : Content) (fault : WriteFault) → slice_get cs 0 ≡ Some c → write_fault c ≡ Some fault → first_object_fault cs ≡ Some fault
 first_some [] c fault some h = absurd (cc)
 first_some (x ∷ cs) c fault some h =
     let is : x ≡ c = cc in
-    ap (λ (f : Option WriteFault). option_or f (first_fault cs)) (ap write_fault is ∙ h)
+    ap (λ (f : Option WriteFault). option_or f (first_object_fault cs)) (ap write_fault is ∙ h)
 
-first_none : (cs : List Content) → ((k : ℕ) (c : Content) → slice_get cs k ≡ Some c → write_fault c ≡ None) → first_fault cs ≡ None
+first_none : (cs : List Content) → ((k : ℕ) (c : Content) → slice_get cs k ≡ Some c → write_fault c ≡ None) → first_object_fault cs ≡ None
 first_none [] each = refl
-first_none (x ∷ cs) each = ap (λ (f : Option WriteFault). option_or f (first_fault cs)) (each 0 x refl) ∙ first_none cs (λ k c h. each (suc k) c h)
+first_none (x ∷ cs) each = ap (λ (f : Option WriteFault). option_or f (first_object_fault cs)) (each 0 x refl) ∙ first_none cs (λ k c h. each (suc k) c h)
 
 -- the three answers
 pub wrong_length : (key : Key) (i : Information) (content : List ℕ) → (length content ≡ i.transfer_length → ⊥) → carousel_fault key i content ≡ Some Length
 unfolding carousel_fault
 wrong_length key i content h =
-    ap (λ (b : Bool). cond b (option_map (λ fault. Write fault) (first_fault (packets_of key i content))) (Some Length)) (ne_eqb (length content) i.transfer_length h)
+    ap (λ (b : Bool). cond b (option_map (λ fault. Write fault) (first_object_fault (packets_of key i content))) (Some Length)) (ne_eqb (length content) i.transfer_length h)
 
 whole_is : (key : Key) (i : Information) (content : List ℕ) → length content ≡ i.transfer_length
-    → carousel_fault key i content ≡ option_map (λ fault. Write fault) (first_fault (packets_of key i content))
+    → carousel_fault key i content ≡ option_map (λ fault. Write fault) (first_object_fault (packets_of key i content))
 unfolding carousel_fault
 whole_is key i content h =
-    ap (λ (b : Bool). cond b (option_map (λ fault. Write fault) (first_fault (packets_of key i content))) (Some Length)) (eq-eqb (length content) i.transfer_length h)
+    ap (λ (b : Bool). cond b (option_map (λ fault. Write fault) (first_object_fault (packets_of key i content))) (Some Length)) (eq-eqb (length content) i.transfer_length h)
 
 pub first_refused : (key : Key) (i : Information) (content : List ℕ) (fault : WriteFault) → IsValid i → length content ≡ i.transfer_length
     → write_fault (packet_at key (Some i) (slice_get (symbols_of i content) 0)) ≡ Some fault → carousel_fault key i content ≡ Some (Write fault)

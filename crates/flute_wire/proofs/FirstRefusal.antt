@@ -7,8 +7,8 @@ use Rattle.flute_parts.specs.Information.{info_fault}
 use Rattle.flute_parts.specs.declared.info.InfoFault.{InfoFault}
 use Rattle.flute_wire.specs.declared.refusal.Refusal.{Refusal}
 use Rattle.flute_wire.specs.declared.refusal.Refusal.TheVariants.{TooLong, TooShort, LctVersion, HeaderLength, HeaderCut, NoTsi, NoToi, Codepoint, ExtensionLength, Repeated, FtiLength, Information, NoInstance, FluteVersion, ContentEncoded, PayloadIdCut}
-use Rattle.flute_wire.specs.Header.{toi_of, extension_area, after_header}
-use Rattle.flute_wire.specs.Extensions.{Extension, HasExtensions, bodies, ext_fti, ext_fdt, ext_cenc, fti_information, fdt_version, content_encoding, first}
+use Rattle.flute_wire.specs.Header.{toi_in, extension_area, after_header}
+use Rattle.flute_wire.specs.Extensions.{HeaderExtension, HasExtensions, bodies, ext_fti, ext_fdt, ext_cenc, fti_information, fdt_version, content_encoding, first}
 use Rattle.flute_wire.specs.Refusals.{Applies, Carries, PassesUpTo, Refuses, rank}
 use Rattle.flute_wire.specs.Walk.{Finds, RefusesFti, RefusesFdt}
 use Rattle.flute_wire.proofs.Walking.{same_extensions}
@@ -90,7 +90,7 @@ passes_information d before not q lt applies =
     ]
 
 -- what the extensions of a datagram are said to have, they have
-pub carried : (d : List ℕ) (es : List Extension) → HasExtensions (extension_area d) es → (P : List Extension → Type 0) → Carries d P → P es
+pub carried : (d : List ℕ) (es : List HeaderExtension) → HasExtensions (extension_area d) es → (P : List HeaderExtension → Type 0) → Carries d P → P es
 carried d es x P c = subst P (same_extensions (extension_area d) c.0 es c.1 x) c.2
 
 one_at_most : (found : Option (List ℕ)) (bs : List (List ℕ)) → bs ≡ option_to_list found → 1 < length bs → ⊥
@@ -123,11 +123,11 @@ passes_area d fti fdt cenc before f =
     ])
 
 -- a body that is found, in the words of the refusals
-pub carries_found : (d : List ℕ) (het : ℕ) (found : Option (List ℕ)) (es : List Extension) → HasExtensions (extension_area d) es → bodies het es ≡ option_to_list found → (P : List ℕ → Type 0) → IsSomeAnd found P
+pub carries_found : (d : List ℕ) (het : ℕ) (found : Option (List ℕ)) (es : List HeaderExtension) → HasExtensions (extension_area d) es → bodies het es ≡ option_to_list found → (P : List ℕ → Type 0) → IsSomeAnd found P
     → Carries d (λ es. IsSomeAnd (first (bodies het es)) P)
 carries_found d het found es x is P h = (es, x, subst (λ (o : Option (List ℕ)). IsSomeAnd o P) (sym (first_found found (bodies het es) is)) h)
 
-pub found_carried : (d : List ℕ) (het : ℕ) (found : Option (List ℕ)) (es : List Extension) → HasExtensions (extension_area d) es → bodies het es ≡ option_to_list found → (P : List ℕ → Type 0)
+pub found_carried : (d : List ℕ) (het : ℕ) (found : Option (List ℕ)) (es : List HeaderExtension) → HasExtensions (extension_area d) es → bodies het es ≡ option_to_list found → (P : List ℕ → Type 0)
     → Carries d (λ es. IsSomeAnd (first (bodies het es)) P) → IsSomeAnd found P
 found_carried d het found es x is P c =
     subst (λ (o : Option (List ℕ)). IsSomeAnd o P) (first_found found (bodies het es) is) (carried d es x (λ es. IsSomeAnd (first (bodies het es)) P) c)
@@ -180,10 +180,10 @@ some_is (Some b) P h e = cc
 nothing_found : (found : Option (List ℕ)) (bs : List (List ℕ)) → bs ≡ option_to_list found → found ≡ None → bs ≡ []
 nothing_found found bs is none = is ∙ ap option_to_list none
 
-not_here : (d : List ℕ) (fdt : Option (List ℕ)) (es : List Extension) → HasExtensions (extension_area d) es → bodies ext_fdt es ≡ option_to_list fdt → Carries d (λ es. bodies ext_fdt es ≡ []) → fdt ≡ None
+not_here : (d : List ℕ) (fdt : Option (List ℕ)) (es : List HeaderExtension) → HasExtensions (extension_area d) es → bodies ext_fdt es ≡ option_to_list fdt → Carries d (λ es. bodies ext_fdt es ≡ []) → fdt ≡ None
 not_here d fdt es x is c = none_found fdt (bodies ext_fdt es) is (carried d es x (λ es. bodies ext_fdt es ≡ []) c)
 
-pub refuses_fdt : (d : List ℕ) (toi : ℕ) (fti fdt cenc : Option (List ℕ)) → toi ≡ toi_of d → PassesUpTo 13 d → Finds (extension_area d) fti fdt cenc → (r : Refusal) → RefusesFdt toi fdt r → Refuses d r
+pub refuses_fdt : (d : List ℕ) (toi : ℕ) (fti fdt cenc : Option (List ℕ)) → toi ≡ toi_in d → PassesUpTo 13 d → Finds (extension_area d) fti fdt cenc → (r : Refusal) → RefusesFdt toi fdt r → Refuses d r
 refuses_fdt d toi fti fdt cenc is before f NoInstance h =
     record { applies = (sym is ∙ h.0, (f.extensions, f.spelled, nothing_found fdt (bodies ext_fdt f.extensions) f.fdt_is h.1)); first = before }
 refuses_fdt d toi fti fdt cenc is before f FluteVersion h =
@@ -194,7 +194,7 @@ refuses_fdt d toi fti fdt cenc is before f FluteVersion h =
     }
 refuses_fdt d toi fti fdt cenc is before f _ h = absurd h
 
-pub passes_fdt : (d : List ℕ) (toi : ℕ) (fti fdt cenc : Option (List ℕ)) → toi ≡ toi_of d → PassesUpTo 13 d → Finds (extension_area d) fti fdt cenc
+pub passes_fdt : (d : List ℕ) (toi : ℕ) (fti fdt cenc : Option (List ℕ)) → toi ≡ toi_in d → PassesUpTo 13 d → Finds (extension_area d) fti fdt cenc
     → (toi ≡ 0 → IsSomeAnd fdt (λ body. fdt_version body ≡ 2)) → PassesUpTo 15 d
 passes_fdt d toi fti fdt cenc is before f taken =
     let fourteen = passes_more 13 d NoInstance refl (λ e. absurd (omega arith)) before (λ a.

@@ -12,4 +12,4 @@ pub mod Written
 pub mod Pieces
 mod Faults
 pub mod Cut
-pub mod Told
+pub mod DatagramFacts

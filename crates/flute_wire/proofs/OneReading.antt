@@ -11,7 +11,7 @@ use Rattle.flute_parts.specs.BigEndian.{big_endian}
 use Rattle.flute_wire.specs.Header.{fields, first_word, cci_len, tsi_len, toi_len, header_len, fixed_words, tsi_at, toi_at, extensions_at, extension_area, after_header}
 use Rattle.flute_wire.specs.Extensions.{HasExtensions, bodies, ext_fti, ext_fdt, ext_cenc, fti_information, fdt_version, fdt_instance, content_encoding, first}
 use Rattle.flute_wire.specs.Content.{Content}
-use Rattle.flute_wire.specs.Datagram.{Parts, HasParts, IsAccepted, content_of, symbol_of, Spells}
+use Rattle.flute_wire.specs.Datagram.{Parts, HasParts, IsAccepted, content_of, tail_symbol, Spells}
 use Rattle.flute_wire.specs.Refusals.{Applies}
 use Rattle.flute_wire.specs.Reading.{content_by}
 use Rattle.flute_wire.proofs.Walking.{same_extensions}
@@ -68,7 +68,7 @@ by_place d p h =
 pub content_is : (d : List ℕ) (p : Parts) → ByPlace d p → content_of p ≡ content_by d p.extensions
 content_is d p b =
     same_content (content_of p) (content_by d p.extensions) (ap big_endian (sym b.tsi)) (ap big_endian (sym b.toi))
-    (ap (λ (n : ℕ). cond (eqb n 0) (option_map fdt_instance (first (bodies ext_fdt p.extensions))) None) (ap big_endian (sym b.toi))) refl (ap symbol_of (sym b.tail))
+    (ap (λ (n : ℕ). cond (eqb n 0) (option_map fdt_instance (first (bodies ext_fdt p.extensions))) None) (ap big_endian (sym b.toi))) refl (ap tail_symbol (sym b.tail))
 
 -- a datagram spells one packet at most
 pub one_packet : (d : List ℕ) (a b : Content) → Spells d a → Spells d b → a ≡ b

@@ -22,7 +22,7 @@ use Rattle.flute_parts.specs.declared.fact.Fact.{Fact}
 use Rattle.flute_wire.specs.Content.{Content}
 use Rattle.flute_wire.specs.Reading.{facts}
 use Rattle.flute_wire.proofs.Written.{facts_told}
-use Rattle.flute_wire.specs.Writing.{packet_at, told, IsWritten}
+use Rattle.flute_wire.specs.Writing.{packet_at, outgoing_facts, IsWritten}
 use Rattle.flute_wire.specs.Carousel.{piece, with_piece, symbols_of, payloads_of, packets_of, facts_sent}
 
 -- the element at a place, with the place
@@ -165,14 +165,14 @@ one_more key i content k ds d v h all one =
 
 -- what the packets tell
 all_told : (key : Key) (i : Information) (payloads : List (Option (SymbolId × List ℕ))) (ds : List (List ℕ))
-    → AllZip IsWritten ds (map (packet_at key (Some i)) payloads) → flat_map (facts key.session.sender) ds ≡ flat_map (told key (Some i)) payloads
+    → AllZip IsWritten ds (map (packet_at key (Some i)) payloads) → flat_map (facts key.session.sender) ds ≡ flat_map (outgoing_facts key (Some i)) payloads
 all_told key i [] [] all = refl
 all_told key i [] (d ∷ ds) all = absurd all
 all_told key i (p ∷ ps) [] all = absurd all
 all_told key i (p ∷ ps) (d ∷ ds) all =
     let one = facts_told d key (Some i) p all.0 in
     let rest = all_told key i ps ds all.1 in
-    flat_map-cons (facts key.session.sender) d ds ∙ ap (λ (fs : List Fact). fs ++ flat_map (facts key.session.sender) ds) one ∙ ap (λ (fs : List Fact). told key (Some i) p ++ fs) rest ∙ sym (flat_map-cons (told key (Some i)) p ps)
+    flat_map-cons (facts key.session.sender) d ds ∙ ap (λ (fs : List Fact). fs ++ flat_map (facts key.session.sender) ds) one ∙ ap (λ (fs : List Fact). outgoing_facts key (Some i) p ++ fs) rest ∙ sym (flat_map-cons (outgoing_facts key (Some i)) p ps)
 
 pub facts_are_sent : (key : Key) (i : Information) (content : List ℕ) (ds : List (List ℕ)) → AllZip IsWritten ds (packets_of key i content) → flat_map (facts key.session.sender) ds ≡ facts_sent key i content
 unfolding packets_of facts_sent

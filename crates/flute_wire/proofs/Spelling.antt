@@ -9,10 +9,10 @@ use Rattle.flute_parts.specs.declared.symbol_id.SymbolId.{SymbolId}
 use Rattle.flute_parts.specs.Information.{info_fault}
 use Rattle.flute_wire.specs.Header.{Fields}
 use Rattle.flute_wire.specs.declared.refusal.Refusal.TheVariants.{TooLong, TooShort, LctVersion, HeaderLength, HeaderCut, NoTsi, NoToi, Codepoint}
-use Rattle.flute_wire.specs.Header.{first_word, tsi_len, toi_len, header_len, fixed_words, tsi_at, toi_at, extensions_at, tsi_of, toi_of, extension_area, after_header}
-use Rattle.flute_wire.specs.Extensions.{Extension, HasExtensions, bodies, ext_fti, ext_fdt, ext_cenc, fti_information, fdt_version, fdt_instance, content_encoding, first}
+use Rattle.flute_wire.specs.Header.{first_word, tsi_len, toi_len, header_len, fixed_words, tsi_at, toi_at, extensions_at, tsi_in, toi_in, extension_area, after_header}
+use Rattle.flute_wire.specs.Extensions.{HeaderExtension, HasExtensions, bodies, ext_fti, ext_fdt, ext_cenc, fti_information, fdt_version, fdt_instance, content_encoding, first}
 use Rattle.flute_wire.specs.Content.{Content}
-use Rattle.flute_wire.specs.Datagram.{Parts, HasParts, symbol_of, Spells}
+use Rattle.flute_wire.specs.Datagram.{Parts, HasParts, tail_symbol, Spells}
 use Rattle.flute_wire.specs.Refusals.{PassesUpTo}
 use Rattle.flute_wire.specs.Walk.{Finds}
 use Rattle.flute_wire.proofs.FirstRefusal.{first_found}
@@ -66,7 +66,7 @@ is_whole d p =
     }
 
 -- the parts, cut out by place
-unfoldable pub parts_of : List ℕ → List Extension → Parts
+unfoldable pub parts_of : List ℕ → List HeaderExtension → Parts
 parts_of d es = let w = first_word d in record {
   word = take 4 d;
   cci = slice_range d 4 (tsi_at w);
@@ -77,7 +77,7 @@ parts_of d es = let w = first_word d in record {
   tail = after_header d;
 }
 
-pub has_parts : (d : List ℕ) (es : List Extension) → IsWhole d (first_word d) → HasExtensions (extension_area d) es → HasParts d (parts_of d es)
+pub has_parts : (d : List ℕ) (es : List HeaderExtension) → IsWhole d (first_word d) → HasExtensions (extension_area d) es → HasParts d (parts_of d es)
 unfolding parts_of
 has_parts d es h x =
     let w = first_word d in
@@ -116,16 +116,16 @@ same_content a b one two three four five =
 -- what a datagram says, by place
 pub content_at : List ℕ → Option (List ℕ) → Option (List ℕ) → Content
 content_at d fti fdt = record {
-  tsi = tsi_of d;
-  toi = toi_of d;
-  instance = cond (eqb (toi_of d) 0) (option_map fdt_instance fdt) None;
+  tsi = tsi_in d;
+  toi = toi_in d;
+  instance = cond (eqb (toi_in d) 0) (option_map fdt_instance fdt) None;
   info = option_map fti_information fti;
-  symbol = symbol_of (after_header d);
+  symbol = tail_symbol (after_header d);
 }
 
 pub spells : (d : List ℕ) (fti fdt cenc : Option (List ℕ)) → PassesUpTo 9 d → Finds (extension_area d) fti fdt cenc
     → IfSome fti (λ body. (length body ≡ 15) × (info_fault (fti_information body) ≡ None))
-    → (toi_of d ≡ 0 → IsSomeAnd fdt (λ body. fdt_version body ≡ 2))
+    → (toi_in d ≡ 0 → IsSomeAnd fdt (λ body. fdt_version body ≡ 2))
     → IfSome cenc (λ body. content_encoding body ≡ 0)
     → (after_header d ≡ []) ⊎ (4 ≤ length (after_header d))
     → Spells d (content_at d fti fdt)
@@ -156,10 +156,10 @@ spells d fti fdt cenc p f one two three four =
     )
 
 pub spells_content : (d tail : List ℕ) (fti fdt : Option (List ℕ)) (c : Content) → Spells d (content_at d fti fdt) → tail ≡ after_header d
-    → c.tsi ≡ tsi_of d → c.toi ≡ toi_of d → c.instance ≡ cond (eqb c.toi 0) (option_map fdt_instance fdt) None → c.info ≡ option_map fti_information fti → c.symbol ≡ symbol_of tail
+    → c.tsi ≡ tsi_in d → c.toi ≡ toi_in d → c.instance ≡ cond (eqb c.toi 0) (option_map fdt_instance fdt) None → c.info ≡ option_map fti_information fti → c.symbol ≡ tail_symbol tail
     → Spells d c
 unfolding content_at
 spells_content d tail fti fdt c s is one two three four five =
     let same : c ≡ content_at d fti fdt =
-    same_content c (content_at d fti fdt) one two (three ∙ ap (λ (n : ℕ). cond (eqb n 0) (option_map fdt_instance fdt) None) two) four (five ∙ ap symbol_of is) in
+    same_content c (content_at d fti fdt) one two (three ∙ ap (λ (n : ℕ). cond (eqb n 0) (option_map fdt_instance fdt) None) two) four (five ∙ ap tail_symbol is) in
     subst (λ (x : Content). Spells d x) (sym same) s

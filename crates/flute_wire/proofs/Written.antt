@@ -15,13 +15,13 @@ use Rattle.flute_parts.specs.declared.object_key.ObjectName.{ObjectName}
 use Rattle.flute_parts.specs.declared.object_key.ObjectName.TheVariants.{Instance, File}
 use Rattle.flute_wire.specs.declared.writing.WriteFault.TheVariants.{Tsi, Toi, EmptySymbol, TooLong}
 use Rattle.flute_wire.specs.Header.{Fields, fields, cci_len, tsi_len, toi_len, header_len}
-use Rattle.flute_wire.specs.Extensions.{Extension, HasExtensions, bodies, ext_fti, ext_fdt, ext_cenc, fti_information, fdt_version, fdt_instance, content_encoding, first}
+use Rattle.flute_wire.specs.Extensions.{HeaderExtension, HasExtensions, bodies, ext_fti, ext_fdt, ext_cenc, fti_information, fdt_version, fdt_instance, content_encoding, first}
 use Rattle.flute_wire.specs.Content.{Content, HasKey}
-use Rattle.flute_wire.specs.Datagram.{Parts, HasParts, content_of, symbol_of, Spells}
-use Rattle.flute_wire.specs.Writing.{packet_at, told, IsWritten, spelling, fdt_bytes, fti_bytes, symbol_bytes, fdt_words, fti_words, word_bytes, write_fault, has_no_byte}
+use Rattle.flute_wire.specs.Datagram.{Parts, HasParts, content_of, tail_symbol, Spells}
+use Rattle.flute_wire.specs.Writing.{packet_at, outgoing_facts, IsWritten, spelling, fdt_bytes, fti_bytes, symbol_bytes, fdt_words, fti_words, word_bytes, write_fault, has_no_byte}
 use Rattle.flute_wire.specs.Encoding.{HasFittingId, HasFittingInformation, IsEncodable}
 use Rattle.flute_wire.proofs.BigEndian.{big_from-whole}
-use Rattle.flute_wire.specs.Facts.{object_of, key_of}
+use Rattle.flute_wire.specs.Facts.{object_named, key_of}
 use Rattle.flute_wire.specs.Reading.{facts}
 use Rattle.flute_wire.proofs.Spelling.{same_content, few}
 use Rattle.flute_wire.proofs.Computed.{facts-Spells}
@@ -41,11 +41,11 @@ fdt_body instance = big_bytes 3 (2 * 2 ^ 20 + instance)
 abbrev fti_body : Information → List ℕ
 fti_body i = 4 ∷ big_bytes 6 i.transfer_length ++ (big_bytes 2 0 ++ (big_bytes 2 i.symbol_length ++ big_bytes 4 i.max_block_length))
 
-abbrev fdt_extensions : Option ℕ → List Extension
+abbrev fdt_extensions : Option ℕ → List HeaderExtension
 fdt_extensions None = []
 fdt_extensions (Some instance) = record { het = 192; body = fdt_body instance } ∷ []
 
-abbrev fti_extensions : Option Information → List Extension
+abbrev fti_extensions : Option Information → List HeaderExtension
 fti_extensions None = []
 fti_extensions (Some i) = record { het = 64; body = fti_body i } ∷ []
 
@@ -156,7 +156,7 @@ instance_again tsi toi None h z = none_either_way (eqb toi 0)
 instance_again tsi toi (Some n) h z = rw z (ap (λ (x : ℕ). Some x) (fdt_number n h.1).1)
 
 -- the payload says the symbol again
-symbol_again : (s : Option (SymbolId × List ℕ)) → HasFittingId s → has_no_byte s ≡ false → (symbol_of (symbol_bytes s) ≡ s) × ((symbol_bytes s ≡ []) ⊎ (4 ≤ length (symbol_bytes s)))
+symbol_again : (s : Option (SymbolId × List ℕ)) → HasFittingId s → has_no_byte s ≡ false → (tail_symbol (symbol_bytes s) ≡ s) × ((symbol_bytes s ≡ []) ⊎ (4 ≤ length (symbol_bytes s)))
 symbol_again None h some = (refl, inl refl)
 symbol_again (Some (id, [])) h some = absurd (cc)
 symbol_again (Some (id, b ∷ bs)) h some =
@@ -240,12 +240,12 @@ pub written : (d : List ℕ) (c : Content) → d ≡ spelling c → IsEncodable 
 written d c is e z none = record { spelled = subst (λ (x : List ℕ). Spells x c) (sym is) (spelled c e z none); form = is }
 
 -- the key is the packet's, with its own sender
-same_object : (o : ObjectName) → object_of (toi_of o) (instance_of o) ≡ o
+same_object : (o : ObjectName) → object_named (toi_of o) (instance_of o) ≡ o
 same_object (Instance n) = refl
 same_object (File toi) = refl
 
 pub same_key : (key : Key) (i : Option Information) (s : Option (SymbolId × List ℕ)) → key_of key.session.sender (packet_at key i s) ≡ key
 same_key key i s = ap (λ (o : ObjectName). let k : Key = record { session = key.session; object = o } in k) (same_object key.object)
 
-pub facts_told : (d : List ℕ) (key : Key) (i : Option Information) (s : Option (SymbolId × List ℕ)) → IsWritten d (packet_at key i s) → facts key.session.sender d ≡ told key i s
-facts_told d key i s h = facts-Spells key.session.sender d (packet_at key i s) h.spelled ∙ ap (λ (k : Key). told k i s) (same_key key i s)
+pub facts_told : (d : List ℕ) (key : Key) (i : Option Information) (s : Option (SymbolId × List ℕ)) → IsWritten d (packet_at key i s) → facts key.session.sender d ≡ outgoing_facts key i s
+facts_told d key i s h = facts-Spells key.session.sender d (packet_at key i s) h.spelled ∙ ap (λ (k : Key). outgoing_facts k i s) (same_key key i s)

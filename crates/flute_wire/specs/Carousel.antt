@@ -8,7 +8,7 @@ use Rattle.flute_parts.specs.declared.symbol_id.SymbolId.{SymbolId}
 use Rattle.flute_parts.specs.declared.key.Key.{Key}
 use Rattle.flute_parts.specs.declared.fact.Fact.{Fact}
 use Rattle.flute_wire.specs.Content.{Content}
-use Rattle.flute_wire.specs.Writing.{packet_at, told, write_fault}
+use Rattle.flute_wire.specs.Writing.{packet_at, outgoing_facts, write_fault}
 use Rattle.flute_wire.specs.declared.writing.WriteFault.{WriteFault}
 use Rattle.flute_wire.specs.declared.sending.CarouselFault.{CarouselFault}
 use Rattle.flute_wire.specs.declared.sending.CarouselFault.TheVariants.{Length, Write}
@@ -34,14 +34,14 @@ unfoldable pub packets_of : Key → Information → List ℕ → List Content
 packets_of key i content = map (packet_at key (Some i)) (payloads_of i content)
 
 -- why the first packet that is not written isn't
-abbrev pub first_fault : List Content → Option WriteFault
-first_fault [] = None
-first_fault (c ∷ cs) = option_or (write_fault c) (first_fault cs)
+abbrev pub first_object_fault : List Content → Option WriteFault
+first_object_fault [] = None
+first_object_fault (c ∷ cs) = option_or (write_fault c) (first_object_fault cs)
 
 -- why an object is not sent, the first that applies
 unfoldable pub carousel_fault : Key → Information → List ℕ → Option CarouselFault
-carousel_fault key i content = if length content == i.transfer_length then option_map (λ fault. Write fault) (first_fault (packets_of key i content)) else Some Length
+carousel_fault key i content = if length content == i.transfer_length then option_map (λ fault. Write fault) (first_object_fault (packets_of key i content)) else Some Length
 
 -- what the datagrams of an object tell: its information, with each symbol in turn, or once alone
 unfoldable pub facts_sent : Key → Information → List ℕ → List Fact
-facts_sent key i content = flat_map (told key (Some i)) (payloads_of i content)
+facts_sent key i content = flat_map (outgoing_facts key (Some i)) (payloads_of i content)

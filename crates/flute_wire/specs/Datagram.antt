@@ -5,7 +5,7 @@ use Rattle.flute_parts.specs.Information.{info_fault}
 use Rattle.flute_parts.specs.declared.symbol_id.SymbolId.{SymbolId}
 use Rattle.flute_parts.specs.BigEndian.{big_endian}
 use Rattle.flute_wire.specs.Header.{fields, cci_len, tsi_len, toi_len, header_len}
-use Rattle.flute_wire.specs.Extensions.{Extension, HasExtensions, bodies, ext_fti, ext_fdt, ext_cenc, fti_information, fdt_version, fdt_instance, content_encoding, first}
+use Rattle.flute_wire.specs.Extensions.{HeaderExtension, HasExtensions, bodies, ext_fti, ext_fdt, ext_cenc, fti_information, fdt_version, fdt_instance, content_encoding, first}
 use Rattle.flute_wire.specs.Content.{Content}
 
 -- the parts of a datagram, in order
@@ -15,7 +15,7 @@ pub record Parts : Type 0 where
   pub tsi : List ℕ
   pub toi : List ℕ
   pub area : List ℕ
-  pub extensions : List Extension
+  pub extensions : List HeaderExtension
   pub tail : List ℕ
 
 -- the datagram has these parts, each as long as the first word says (RFC 5651, 5.1)
@@ -44,8 +44,8 @@ pub record IsAccepted (d : List ℕ) (p : Parts) : Type 0 where
   pub payload : (p.tail ≡ []) ⊎ (4 ≤ length p.tail)
 
 -- Source Block Number, Encoding Symbol ID and the bytes after them, unless there are none (RFC 5445, 3.2.1)
-abbrev pub symbol_of : List ℕ → Option (SymbolId × List ℕ)
-symbol_of tail = if nat_lt 4 (length tail) then Some (record { sbn = big_endian (take 2 tail); esi = big_endian (slice_range tail 2 4) }, drop 4 tail) else None
+abbrev pub tail_symbol : List ℕ → Option (SymbolId × List ℕ)
+tail_symbol tail = if nat_lt 4 (length tail) then Some (record { sbn = big_endian (take 2 tail); esi = big_endian (slice_range tail 2 4) }, drop 4 tail) else None
 
 -- what the parts say
 abbrev pub content_of : Parts → Content
@@ -54,7 +54,7 @@ content_of p = record {
   toi = big_endian p.toi;
   instance = if big_endian p.toi == 0 then option_map fdt_instance (first (bodies ext_fdt p.extensions)) else None;
   info = option_map fti_information (first (bodies ext_fti p.extensions));
-  symbol = symbol_of p.tail;
+  symbol = tail_symbol p.tail;
 }
 
 -- the datagram is a packet of this content

@@ -5,28 +5,28 @@ use Rattle.flute_parts.specs.Information.{Information, information}
 use Rattle.flute_parts.specs.BigEndian.{big_endian}
 
 -- an extension: its type HET, and the bytes after that (RFC 5651, 5.2)
-pub record Extension : Type 0 where
+pub record HeaderExtension : Type 0 where
   pub het : ℕ
   pub body : List ℕ
 
 -- how many 32-bit words it has: below HET 128 as HEL, the next byte, says, and else one (RFC 5651, 5.2)
-abbrev pub words : Extension → ℕ
+abbrev pub words : HeaderExtension → ℕ
 words e = if nat_lt e.het 128 then slice_index e.body 0 else 1
 
 -- it has that many words, so not none
-abbrev pub IsExtension : Extension → Type 0
+abbrev pub IsExtension : HeaderExtension → Type 0
 IsExtension e = 1 + length e.body ≡ 4 * words e
 
-abbrev pub bytes_of : Extension → List ℕ
-bytes_of e = e.het ∷ e.body
+abbrev pub extension_bytes : HeaderExtension → List ℕ
+extension_bytes e = e.het ∷ e.body
 
 -- the bytes are these extensions, one after another (RFC 5651, 5.2)
-pub record HasExtensions (bs : List ℕ) (es : List Extension) : Type 0 where
-  pub joined : bs ≡ flat_map bytes_of es
+pub record HasExtensions (bs : List ℕ) (es : List HeaderExtension) : Type 0 where
+  pub joined : bs ≡ flat_map extension_bytes es
   pub each : AllByRecursion IsExtension es
 
 -- the bodies of the extensions of one type, in order
-abbrev pub bodies : ℕ → List Extension → List (List ℕ)
+abbrev pub bodies : ℕ → List HeaderExtension → List (List ℕ)
 bodies het es = map (λ e. e.body) (filter (λ e. e.het == het) es)
 
 -- the types that FLUTE reads (RFC 5775, 4.2; RFC 6726, 3.4.1 and 3.4.3)

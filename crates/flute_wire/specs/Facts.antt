@@ -11,13 +11,13 @@ use Rattle.flute_parts.specs.declared.fact.Fact.TheVariants.{Info, Symbol}
 use Rattle.flute_wire.specs.Content.{Content}
 
 -- an FDT Instance by its ID, or a file by its TOI (RFC 6726, 3.4)
-abbrev pub object_of : ℕ → Option ℕ → ObjectName
-object_of toi (Some instance) = Instance instance
-object_of toi None = File toi
+abbrev pub object_named : ℕ → Option ℕ → ObjectName
+object_named toi (Some instance) = Instance instance
+object_named toi None = File toi
 
 -- a session is named by its sender and its TSI (RFC 5651, 5.1)
 abbrev pub key_of : ℕ → Content → Key
-key_of sender c = record { session = session sender c.tsi; object = object_of c.toi c.instance }
+key_of sender c = record { session = session sender c.tsi; object = object_named c.toi c.instance }
 
 abbrev pub info_facts : Key → Option Information → List Fact
 info_facts key None = []

@@ -60,11 +60,11 @@ abbrev pub extensions_at : Fields → ℕ
 extensions_at w = toi_at w + toi_len w
 
 -- the two numbers of the header, the bytes of its extensions, and those after it
-abbrev pub tsi_of : List ℕ → ℕ
-tsi_of d = big_endian (slice_range d (tsi_at (first_word d)) (toi_at (first_word d)))
+abbrev pub tsi_in : List ℕ → ℕ
+tsi_in d = big_endian (slice_range d (tsi_at (first_word d)) (toi_at (first_word d)))
 
-abbrev pub toi_of : List ℕ → ℕ
-toi_of d = big_endian (slice_range d (toi_at (first_word d)) (extensions_at (first_word d)))
+abbrev pub toi_in : List ℕ → ℕ
+toi_in d = big_endian (slice_range d (toi_at (first_word d)) (extensions_at (first_word d)))
 
 abbrev pub extension_area : List ℕ → List ℕ
 extension_area d = slice_range d (extensions_at (first_word d)) (header_len (first_word d))

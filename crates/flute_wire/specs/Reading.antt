@@ -3,10 +3,10 @@ use Rattle.std.specs.Prelude.{ℕ, zero, suc, ◌-◌, ◌*◌, nat_le, nat_lt, 
 use Rattle.std.specs.Option.{option_map, option_and_then}
 use Rattle.flute_parts.specs.Information.{info_fault}
 use Rattle.flute_parts.specs.declared.fact.Fact.{Fact}
-use Rattle.flute_wire.specs.Header.{first_word, fixed_words, header_len, tsi_len, toi_len, tsi_of, toi_of, extension_area, after_header}
-use Rattle.flute_wire.specs.Extensions.{Extension, bodies, ext_fti, ext_fdt, ext_cenc, fti_information, fdt_version, fdt_instance, content_encoding, first}
+use Rattle.flute_wire.specs.Header.{first_word, fixed_words, header_len, tsi_len, toi_len, tsi_in, toi_in, extension_area, after_header}
+use Rattle.flute_wire.specs.Extensions.{HeaderExtension, bodies, ext_fti, ext_fdt, ext_cenc, fti_information, fdt_version, fdt_instance, content_encoding, first}
 use Rattle.flute_wire.specs.Content.{Content}
-use Rattle.flute_wire.specs.Datagram.{symbol_of}
+use Rattle.flute_wire.specs.Datagram.{tail_symbol}
 use Rattle.flute_wire.specs.Facts.{facts_of}
 
 -- how many 32-bit words the extension has that begins with these bytes (RFC 5651, 5.2)
@@ -14,7 +14,7 @@ abbrev pub words_at : ℕ → List ℕ → ℕ
 words_at het bytes = if nat_lt het 128 then slice_index bytes 0 else 1
 
 -- the extensions that bytes are, if they are some: n is no less than their number
-unfoldable pub extensions_in : ℕ → List ℕ → Option (List Extension)
+unfoldable pub extensions_in : ℕ → List ℕ → Option (List HeaderExtension)
 extensions_in n [] = Some []
 extensions_in zero (het ∷ bytes) = None
 extensions_in (suc n) (het ∷ bytes) =
@@ -39,25 +39,25 @@ has p None = false
 has p (Some body) = p body
 
 -- this profile takes what the extensions say, and what follows the header
-abbrev pub is_accepted : List ℕ → List Extension → Bool
+abbrev pub is_accepted : List ℕ → List HeaderExtension → Bool
 is_accepted d es =
     nat_le (length (bodies ext_fti es)) 1 && (nat_le (length (bodies ext_fdt es)) 1 && (nat_le (length (bodies ext_cenc es)) 1
     && (passes (λ body. (length body == 15) && is_none (info_fault (fti_information body))) (first (bodies ext_fti es))
-    && (((if toi_of d == 0 then has (λ body. fdt_version body == 2) (first (bodies ext_fdt es)) else true))
+    && (((if toi_in d == 0 then has (λ body. fdt_version body == 2) (first (bodies ext_fdt es)) else true))
     && (passes (λ body. content_encoding body == 0) (first (bodies ext_cenc es))
     && ((length (after_header d) == 0) || nat_le 4 (length (after_header d))))))))
 
 -- what the datagram says, by place
-abbrev pub content_by : List ℕ → List Extension → Content
+abbrev pub content_by : List ℕ → List HeaderExtension → Content
 content_by d es = record {
-  tsi = tsi_of d;
-  toi = toi_of d;
-  instance = if toi_of d == 0 then option_map fdt_instance (first (bodies ext_fdt es)) else None;
+  tsi = tsi_in d;
+  toi = toi_in d;
+  instance = if toi_in d == 0 then option_map fdt_instance (first (bodies ext_fdt es)) else None;
   info = option_map fti_information (first (bodies ext_fti es));
-  symbol = symbol_of (after_header d);
+  symbol = tail_symbol (after_header d);
 }
 
-abbrev pub accepted : List ℕ → List Extension → Option Content
+abbrev pub accepted : List ℕ → List HeaderExtension → Option Content
 accepted d es = if is_accepted d es then Some (content_by d es) else None
 
 -- the packet that the datagram spells, if it spells one

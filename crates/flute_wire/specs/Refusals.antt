@@ -3,12 +3,12 @@ use Rattle.std.specs.Prelude.{◌≡◌, ◌≢◌, ℕ, ◌<◌, ◌⊎◌, Lis
 use Rattle.flute_parts.specs.Information.{info_fault}
 use Rattle.flute_wire.specs.declared.refusal.Refusal.{Refusal}
 use Rattle.flute_wire.specs.declared.refusal.Refusal.TheVariants.{TooLong, TooShort, LctVersion, HeaderLength, HeaderCut, NoTsi, NoToi, Codepoint, ExtensionLength, Repeated, FtiLength, Information, NoInstance, FluteVersion, ContentEncoded, PayloadIdCut}
-use Rattle.flute_wire.specs.Header.{first_word, tsi_len, toi_len, header_len, fixed_words, toi_of, extension_area, after_header}
-use Rattle.flute_wire.specs.Extensions.{Extension, HasExtensions, bodies, ext_fti, ext_fdt, ext_cenc, fti_information, fdt_version, content_encoding, first}
+use Rattle.flute_wire.specs.Header.{first_word, tsi_len, toi_len, header_len, fixed_words, toi_in, extension_area, after_header}
+use Rattle.flute_wire.specs.Extensions.{HeaderExtension, HasExtensions, bodies, ext_fti, ext_fdt, ext_cenc, fti_information, fdt_version, content_encoding, first}
 
 -- the extensions of the datagram, which are these: they have the property
-abbrev pub Carries : List ℕ → (List Extension → Type 0) → Type 0
-Carries d P = (es : List Extension) × HasExtensions (extension_area d) es × P es
+abbrev pub Carries : List ℕ → (List HeaderExtension → Type 0) → Type 0
+Carries d P = (es : List HeaderExtension) × HasExtensions (extension_area d) es × P es
 
 -- the place of a refusal in the order of the checks
 abbrev pub rank : Refusal → ℕ
@@ -39,12 +39,12 @@ Applies HeaderCut d = length d < header_len (first_word d)
 Applies NoTsi d = tsi_len (first_word d) ≡ 0
 Applies NoToi d = toi_len (first_word d) ≡ 0
 Applies Codepoint d = (first_word d).codepoint ≢ 0
-Applies ExtensionLength d = (es : List Extension) → ¬ HasExtensions (extension_area d) es
+Applies ExtensionLength d = (es : List HeaderExtension) → ¬ HasExtensions (extension_area d) es
 Applies Repeated d = Carries d (λ es. (1 < length (bodies ext_fti es)) ⊎ ((1 < length (bodies ext_fdt es)) ⊎ (1 < length (bodies ext_cenc es))))
 Applies FtiLength d = Carries d (λ es. IsSomeAnd (first (bodies ext_fti es)) (λ body. length body ≢ 15))
 Applies (Information f) d = Carries d (λ es. IsSomeAnd (first (bodies ext_fti es)) (λ body. info_fault (fti_information body) ≡ Some f))
-Applies NoInstance d = (toi_of d ≡ 0) × Carries d (λ es. bodies ext_fdt es ≡ [])
-Applies FluteVersion d = (toi_of d ≡ 0) × Carries d (λ es. IsSomeAnd (first (bodies ext_fdt es)) (λ body. fdt_version body ≢ 2))
+Applies NoInstance d = (toi_in d ≡ 0) × Carries d (λ es. bodies ext_fdt es ≡ [])
+Applies FluteVersion d = (toi_in d ≡ 0) × Carries d (λ es. IsSomeAnd (first (bodies ext_fdt es)) (λ body. fdt_version body ≢ 2))
 Applies ContentEncoded d = Carries d (λ es. IsSomeAnd (first (bodies ext_cenc es)) (λ body. content_encoding body ≢ 0))
 Applies PayloadIdCut d = (0 < length (after_header d)) × (length (after_header d) < 4)
 

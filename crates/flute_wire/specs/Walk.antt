@@ -2,8 +2,7 @@
 use Rattle.std.specs.Prelude.{◌≡◌, ◌≢◌, ◌<◌, ◌⊎◌, ℕ, List, [], ◌∷◌, length, Option, Some, None, IfSome, IsSomeAnd}
 use Rattle.std.specs.Option.{option_to_list}
 use Rattle.flute_parts.specs.Information.{info_fault}
-use Rattle.flute_wire.specs.Extensions.{HasExtensions, bodies, ext_fti, ext_fdt, ext_cenc, fti_information, fdt_version}
-use Rattle.flute_wire.specs.Extensions as spec
+use Rattle.flute_wire.specs.Extensions.{HeaderExtension, HasExtensions, bodies, ext_fti, ext_fdt, ext_cenc, fti_information, fdt_version}
 use Rattle.flute_wire.specs.declared.extensions.Extension.{Extension}
 use Rattle.flute_wire.specs.declared.extensions.Occurrence.{Occurrence}
 use Rattle.flute_wire.specs.declared.extensions.Occurrence.TheVariants.{Absent, Once, Repeated}
@@ -11,7 +10,7 @@ use Rattle.flute_wire.specs.declared.refusal.Refusal.{Refusal}
 use Rattle.flute_wire.specs.declared.refusal.Refusal.TheVariants as refusals
 
 -- an extension without where it lies in memory
-abbrev pub extension_of : Extension → spec.Extension
+abbrev pub extension_of : Extension → HeaderExtension
 extension_of e = record { het = e.het; body = e.body.now }
 
 -- the bodies of one type are none, this one, or more than one
@@ -21,16 +20,16 @@ Occurs (Once body) bs = bs ≡ body.now ∷ []
 Occurs Repeated bs = 1 < length bs
 
 -- some type that FLUTE reads stands twice
-abbrev pub IsRepeated : List spec.Extension → Type 0
+abbrev pub IsRepeated : List HeaderExtension → Type 0
 IsRepeated es = (1 < length (bodies ext_fti es)) ⊎ ((1 < length (bodies ext_fdt es)) ⊎ (1 < length (bodies ext_cenc es)))
 
 -- the bytes of the extensions are refused: they are no extensions, or some type stands twice
 pub record RefusesArea (area : List ℕ) (r : Refusal) : Type 0 where
-  pub cases : ((r ≡ refusals.ExtensionLength) × ((es : List spec.Extension) → HasExtensions area es → ⊥)) ⊎ ((r ≡ refusals.Repeated) × ((es : List spec.Extension) × HasExtensions area es × IsRepeated es))
+  pub cases : ((r ≡ refusals.ExtensionLength) × ((es : List HeaderExtension) → HasExtensions area es → ⊥)) ⊎ ((r ≡ refusals.Repeated) × ((es : List HeaderExtension) × HasExtensions area es × IsRepeated es))
 
 -- the bytes are extensions, and these are the bodies of the types that FLUTE reads
 pub record Finds (area : List ℕ) (fti fdt cenc : Option (List ℕ)) : Type 0 where
-  pub extensions : List spec.Extension
+  pub extensions : List HeaderExtension
   pub spelled : HasExtensions area extensions
   pub fti_is : bodies ext_fti extensions ≡ option_to_list fti
   pub fdt_is : bodies ext_fdt extensions ≡ option_to_list fdt

@@ -17,8 +17,8 @@ abbrev pub packet_at : Key → Option Information → Option (SymbolId × List �
 packet_at key info symbol = record { tsi = key.session.tsi; toi = toi_of key.object; instance = instance_of key.object; info = info; symbol = symbol }
 
 -- what such a datagram tells
-abbrev pub told : Key → Option Information → Option (SymbolId × List ℕ) → List Fact
-told key info symbol = info_facts key info ++ symbol_facts key symbol
+abbrev pub outgoing_facts : Key → Option Information → Option (SymbolId × List ℕ) → List Fact
+outgoing_facts key info symbol = info_facts key info ++ symbol_facts key symbol
 
 -- EXT_FDT of version 2, for an FDT Instance (RFC 6726, 3.4.1)
 abbrev pub fdt_bytes : Option ℕ → List ℕ

@@ -3,6 +3,7 @@
 use crate::datagram::Datagram;
 use std::alloc::{AllocError, Global};
 use std::marker::Model;
+use std::slice;
 
 /// A list of datagrams. [`carousel`](crate::carousel) makes it.
 #[derive(Debug, Drop)]
@@ -19,8 +20,10 @@ impl Model for Datagrams {
 }
 
 impl Datagrams {
-    ghost use Rattle.std.specs.Prelude.{◌≡◌, [], ◌∷◌, ◌++◌, length, slice_get, IfOk, OnOk};
+    ghost use Rattle.std.specs.Prelude.{◌≡◌, [], ◌∷◌, ◌++◌, length, ◌==◌, slice_get, IfOk, OnOk};
     ghost use Rattle.std.specs.Option.{option_copied};
+    ghost use Rattle.std.specs.Slice.Iter.{iter_rest};
+    ghost use Rattle.std.specs.Iterator.Adapters.{IterYieldsInOrder};
 
     /// No datagram, with room for so many.
     pub(crate) fn with_capacity(alloc: Global, capacity: usize) -> Result<Datagrams, AllocError>
@@ -42,6 +45,21 @@ impl Datagrams {
         ensures { result ≡ length self.now }
     {
         self.list.len()
+    }
+
+    /// Whether there is none.
+    pub fn is_empty(&self) -> bool
+        ensures { result ≡ (length self.now == 0) }
+    {
+        self.list.is_empty()
+    }
+
+    /// One after another, in order.
+    pub fn iter(&self) -> slice::Iter<'_, Datagram>
+        ensures rest { iter_rest result ≡ self.now }
+        ensures runs { IterYieldsInOrder Datagram }
+    {
+        self.list.iter()
     }
 
     /// The datagram at this place, from 0. None from their number on.

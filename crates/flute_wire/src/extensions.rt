@@ -2,7 +2,7 @@
 
 ghost use Rattle.std.specs.Prelude.{◌≡◌, ◌≢◌, ◌<◌, ◌≤◌, ◌⊎◌, ◌++◌, [], ◌∷◌, ℕ, List, length, IfSome, IfNone, IfOk, IfErr, OnErr};
 ghost use Rattle.std.specs.Option.{option_copied, option_to_list};
-ghost use Rattle.flute_wire.specs.Extensions.{Extension as Record, IsExtension, HasExtensions, bytes_of, bodies, ext_fti, ext_fdt, ext_cenc};
+ghost use Rattle.flute_wire.specs.Extensions.{HeaderExtension, IsExtension, HasExtensions, extension_bytes, bodies, ext_fti, ext_fdt, ext_cenc};
 ghost use Rattle.flute_wire.specs.Walk.{extension_of, Finds, Occurs, RefusesArea};
 
 use crate::refusal::Refusal;
@@ -19,7 +19,7 @@ const EXT_CENC: u8 = 193;
 
 /// One extension: its type HET and the bytes after that, the length HEL included where there is
 /// one.
-#[derive(Clone, Copy)]
+#[derive(Clone, Copy, Debug)]
 pub struct Extension<'a> {
     het: u8,
     body: &'a [u8],
@@ -29,9 +29,9 @@ pub struct Extension<'a> {
 /// words, or more than there are.
 fn split_extension(bytes: &[u8]) -> Option<(Extension<'_>, &[u8])>
     ensures whole { IfSome result (λ s. IsExtension (extension_of s.0)) }
-    ensures parts { IfSome result (λ s. bytes.now ≡ bytes_of (extension_of s.0) ++ s.1.now) }
+    ensures parts { IfSome result (λ s. bytes.now ≡ extension_bytes (extension_of s.0) ++ s.1.now) }
     ensures none { IfNone result
-        ((e : Record) (rest : List ℕ) → IsExtension e → bytes.now ≢ bytes_of e ++ rest) }
+        ((e : HeaderExtension) (rest : List ℕ) → IsExtension e → bytes.now ≢ extension_bytes e ++ rest) }
 {
     let het = *bytes.first()?;
     let words = if het < 128 { *bytes.get(1)? } else { 1 };
@@ -45,7 +45,7 @@ fn split_extension(bytes: &[u8]) -> Option<(Extension<'_>, &[u8])>
 }
 
 /// How often an extension of one type stands in a header, with its body where that is once.
-#[derive(Clone, Copy)]
+#[derive(Clone, Copy, Debug)]
 pub enum Occurrence<'a> {
     Absent,
     Once(&'a [u8]),
@@ -55,7 +55,7 @@ pub enum Occurrence<'a> {
 impl<'a> Occurrence<'a> {
     /// The occurrence with one more extension, if that has this type.
     fn with(self, het: u8, extension: Extension<'a>) -> Self
-        ensures { (es : List Record) → Occurs self.entry (bodies het es)
+        ensures { (es : List HeaderExtension) → Occurs self.entry (bodies het es)
             → Occurs result (bodies het (es ++ extension_of extension.entry ∷ [])) }
     {
         if extension.het != het {
@@ -89,7 +89,7 @@ impl<'a> Occurrence<'a> {
 
 /// The bodies of the extensions that FLUTE reads: what stands behind their type.
 /// All others are skipped.
-#[derive(Clone, Copy)]
+#[derive(Clone, Copy, Debug)]
 pub struct Known<'a> {
     pub fti: Option<&'a [u8]>,
     pub fdt: Option<&'a [u8]>,

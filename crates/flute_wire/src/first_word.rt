@@ -4,7 +4,7 @@ use std::marker::Model;
 
 /// The first 32-bit word of an LCT header, which says how long the header's fields are
 /// (RFC 5651, section 5.1).
-#[derive(Drop)]
+#[derive(Debug, Drop)]
 pub struct FirstWord {
     bits: u32,
 }

@@ -1,7 +1,7 @@
 //! The LCT header before its extensions (RFC 5651, section 5.1).
 
 ghost use Rattle.std.specs.Prelude.{◌≡◌, ◌<◌, ◌≤◌, ◌^◌, length, IfOk, IfErr, OnOk};
-ghost use Rattle.flute_wire.specs.Header.{first_word, fixed_words, header_len, tsi_len, toi_len, tsi_of, toi_of, extension_area, after_header};
+ghost use Rattle.flute_wire.specs.Header.{first_word, fixed_words, header_len, tsi_len, toi_len, tsi_in, toi_in, extension_area, after_header};
 ghost use Rattle.flute_wire.specs.Refusals.{PassesUpTo, Refuses};
 
 use crate::datagram::MAX_LEN;
@@ -10,7 +10,7 @@ use crate::numbers::{number_of_48_bits, number_of_112_bits, u32_at};
 use crate::refusal::Refusal;
 
 /// What stands in the header, and what follows it.
-#[derive(Drop)]
+#[derive(Debug, Drop)]
 pub struct Header<'a> {
     /// The Transport Session Identifier, below 2^48.
     pub tsi: u64,
@@ -71,9 +71,9 @@ impl<'a> Header<'a> {
     ///
     /// The first of `TooLong` to `Codepoint` that applies.
     pub fn read(datagram: &'a [u8]) -> Result<Self, Refusal>
-        ensures tsi { IfOk result (λ h. h.tsi ≡ tsi_of datagram.now) }
+        ensures tsi { IfOk result (λ h. h.tsi ≡ tsi_in datagram.now) }
         ensures tsi_fits { IfOk result (λ h. h.tsi < 2 ^ 48) }
-        ensures toi { IfOk result (λ h. h.toi ≡ toi_of datagram.now) }
+        ensures toi { IfOk result (λ h. h.toi ≡ toi_in datagram.now) }
         ensures toi_fits { IfOk result (λ h. h.toi < 2 ^ 112) }
         ensures extensions { IfOk result (λ h. h.extensions.now ≡ extension_area datagram.now) }
         ensures tail { IfOk result (λ h. h.tail.now ≡ after_header datagram.now) }

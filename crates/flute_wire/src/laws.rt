@@ -15,13 +15,13 @@ ghost use Rattle.flute_wire.specs.Datagram.{Spells};
 ghost use Rattle.flute_wire.specs.Refusals.{Applies};
 ghost use Rattle.flute_wire.specs.Facts.{facts_of};
 ghost use Rattle.flute_wire.specs.Reading.{packet, facts};
-ghost use Rattle.flute_wire.specs.declared.refusal.Refusal.{Refusal as Reason};
+ghost use Rattle.flute_wire.specs.declared.refusal.Refusal.{Refusal};
 
 /// A datagram spells one packet at most, and one exactly where no refusal applies to it.
 pub fn one_reading()
     ensures one { (d : List ℕ) (p q : Content) → Spells d p → Spells d q → p ≡ q }
-    ensures some { (d : List ℕ) → ((p : Content) × Spells d p) ↔ ((r : Reason) → ¬ Applies r d) }
-    ensures decided { (d : List ℕ) → ((p : Content) × Spells d p) ⊎ ((r : Reason) × Applies r d) }
+    ensures some { (d : List ℕ) → ((p : Content) × Spells d p) ↔ ((r : Refusal) → ¬ Applies r d) }
+    ensures decided { (d : List ℕ) → ((p : Content) × Spells d p) ⊎ ((r : Refusal) × Applies r d) }
 {}
 
 /// The packet of a datagram can be computed, and from it the facts that the datagram tells where
@@ -29,7 +29,7 @@ pub fn one_reading()
 pub fn computed_reading()
     ensures packet { (d : List ℕ) (p : Content) → (packet d ≡ Some p) ↔ Spells d p }
     ensures facts { (s : ℕ) (d : List ℕ) (p : Content) → Spells d p → facts s d ≡ facts_of s p }
-    ensures no_facts { (s : ℕ) (d : List ℕ) (r : Reason) → Applies r d → facts s d ≡ [] }
+    ensures no_facts { (s : ℕ) (d : List ℕ) (r : Refusal) → Applies r d → facts s d ≡ [] }
 {}
 
 /// An object is cut into the symbols of its partition: their bytes joined are the object, each

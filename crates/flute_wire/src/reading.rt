@@ -5,9 +5,9 @@ ghost use Rattle.std.specs.Option.{option_copied, option_map};
 ghost use Rattle.flute_parts.specs.Information.{info_fault};
 ghost use Rattle.flute_wire.specs.Extensions.{fti_information, fdt_version, fdt_instance, content_encoding};
 ghost use Rattle.flute_wire.specs.Content.{Content};
-ghost use Rattle.flute_wire.specs.Datagram.{Spells, symbol_of};
+ghost use Rattle.flute_wire.specs.Datagram.{Spells, tail_symbol};
 ghost use Rattle.flute_wire.specs.Refusals.{Refuses};
-ghost use Rattle.flute_wire.specs.declared.refusal.Refusal.{Refusal as Reason};
+ghost use Rattle.flute_wire.specs.declared.refusal.Refusal.{Refusal};
 ghost use Rattle.flute_wire.specs.Walk.{RefusesFti, RefusesFdt};
 
 use crate::extensions::Known;
@@ -112,7 +112,7 @@ fn check_encoding(cenc: Option<&[u8]>) -> Result<(), Refusal>
 ///
 /// `PayloadIdCut` where 1 to 3 bytes follow the header.
 fn symbol(tail: &[u8]) -> Result<Option<(SymbolId, &[u8])>, Refusal>
-    ensures value { IfOk result (λ s. option_map (λ s. (s.0, s.1.now)) s ≡ symbol_of tail.now) }
+    ensures value { IfOk result (λ s. option_map (λ s. (s.0, s.1.now)) s ≡ tail_symbol tail.now) }
     ensures taken { OnOk result ((tail.now ≡ []) ⊎ (4 ≤ length tail.now)) }
     ensures cut { OnErr result ((0 < length tail.now) × (length tail.now < 4)) }
     ensures refusal { IfErr result (λ r. r ≡ Refusal.PayloadIdCut) }
@@ -162,7 +162,7 @@ pub fn read(datagram: &[u8]) -> Result<Packet<'_>, Refusal>
     ensures spelled { IfOk result (λ p. Spells datagram.now p) }
     ensures refused { IfErr result (λ r. Refuses datagram.now r) }
     ensures packet { (p : Content) → (result ≡ Ok p) ↔ Spells datagram.now p }
-    ensures refusal { (r : Reason) → (result ≡ Err r) ↔ Refuses datagram.now r }
+    ensures refusal { (r : Refusal) → (result ≡ Err r) ↔ Refuses datagram.now r }
 {
     packet_of(datagram)
 }

@@ -3,7 +3,7 @@
 ghost use Rattle.std.specs.Prelude.{◌≡◌, Some, None, IfOk, IfErr, IfSome, OnOk, Err};
 ghost use Rattle.flute_wire.specs.Outgoing.{said};
 ghost use Rattle.flute_wire.specs.Reading.{facts};
-ghost use Rattle.flute_wire.specs.Writing.{IsWritten, told, words_to_write, write_fault};
+ghost use Rattle.flute_wire.specs.Writing.{IsWritten, outgoing_facts, words_to_write, write_fault};
 ghost use Rattle.flute_wire.specs.declared.writing.WriteFault.TheVariants as faults;
 
 use crate::datagram::{Datagram, MAX_LEN};
@@ -83,7 +83,7 @@ pub fn encoded(alloc: Global, outgoing: &Outgoing<'_>, words: u8) -> Result<Data
     requires sound { write_fault (said outgoing.now) ≡ None }
     ensures written { IfOk result (λ datagram. IsWritten datagram (said outgoing.now)) }
     ensures facts { IfOk result (λ datagram. facts outgoing.now.key.session.sender datagram
-        ≡ told outgoing.now.key outgoing.now.info (said outgoing.now).symbol) }
+        ≡ outgoing_facts outgoing.now.key outgoing.now.info (said outgoing.now).symbol) }
 {
     let bytes = bytes_of(alloc, outgoing, words)?;
     Ok(Datagram::of(bytes))
@@ -105,7 +105,7 @@ pub fn encoded(alloc: Global, outgoing: &Outgoing<'_>, words: u8) -> Result<Data
 pub fn write(alloc: Global, outgoing: &Outgoing<'_>) -> Result<Datagram, WriteFault>
     ensures written { IfOk result (λ datagram. IsWritten datagram (said outgoing.now)) }
     ensures facts { IfOk result (λ datagram. facts outgoing.now.key.session.sender datagram
-        ≡ told outgoing.now.key outgoing.now.info (said outgoing.now).symbol) }
+        ≡ outgoing_facts outgoing.now.key outgoing.now.info (said outgoing.now).symbol) }
     ensures fault { IfSome (write_fault (said outgoing.now)) (λ fault. result ≡ Err fault) }
     ensures memory { IfErr result (λ fault. write_fault (said outgoing.now) ≡ None
         → fault ≡ faults.OutOfMemory) }

@@ -78,7 +78,11 @@ fn datagrams_are_written(rt: HostRuntime) -> Result<(), Fail> {
 #[test]
 fn an_object_is_sent(rt: HostRuntime) -> Result<(), Fail> {
     let sent = carousel(rt.alloc(), &file(&rt), &Info::new(5, 4, 2)?, b"hello")?;
-    assert!(rt; sent.len() == 2 && sent.get(2).is_none());
+    assert!(rt; sent.len() == 2 && !sent.is_empty() && sent.get(2).is_none());
+    let mut datagrams = sent.iter();
+    let first = datagrams.next().ok_or("a datagram")?;
+    assert!(rt; first.as_slice() == bytes(rt.alloc(), INFO_AND_FIRST_SYMBOL)?.as_slice());
+    assert!(rt; datagrams.next().is_some() && datagrams.next().is_none());
     for (place, hex) in [(0, INFO_AND_FIRST_SYMBOL), (1, INFO_AND_LAST_SYMBOL)] {
         let datagram = sent.get(place).ok_or("a datagram")?;
         assert!(rt; datagram.as_slice() == bytes(rt.alloc(), hex)?.as_slice());

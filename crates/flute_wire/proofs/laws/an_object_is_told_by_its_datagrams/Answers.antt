@@ -1,5 +1,5 @@
 use Rattle.flute_wire.proofs.Pieces.{facts_are_sent}
-use Rattle.flute_wire.proofs.Told.{told-iff}
+use Rattle.flute_wire.proofs.DatagramFacts.{told-iff}
 use Rattle.flute_wire.proofs.laws.an_object_is_told_by_its_datagrams.Goals as goal
 
 pub returns : goal.returns

@@ -10,7 +10,7 @@ use Rattle.flute_parts.specs.declared.key.Key.{Key}
 use Rattle.flute_parts.specs.declared.fact.Fact.{Fact}
 use Rattle.flute_parts.specs.declared.fact.Fact.TheVariants.{Info, Symbol}
 use Rattle.flute_parts.proofs.Facts.{Member, Member-from, Contains-from}
-use Rattle.flute_wire.specs.Writing.{told}
+use Rattle.flute_wire.specs.Writing.{outgoing_facts}
 use Rattle.flute_wire.specs.Carousel.{symbols_of, facts_sent}
 use Rattle.flute_wire.proofs.Pieces.{payloads_none, payloads_some, length-symbols_of, no_symbol, some_symbol}
 
@@ -51,11 +51,11 @@ module _ (key : Key) (i : Information) where
 
   alone : (content : List ℕ) → i.transfer_length ≡ 0 → facts_sent key i content ≡ Info key i ∷ []
   unfolding facts_sent
-  alone content z = ap (flat_map (told key (Some i))) (payloads_none i content z)
+  alone content z = ap (flat_map (outgoing_facts key (Some i))) (payloads_none i content z)
 
   each : (content : List ℕ) → 0 < i.transfer_length → facts_sent key i content ≡ flat_map both (symbols_of i content)
   unfolding facts_sent both
-  each content l = ap (flat_map (told key (Some i))) (payloads_some i content l) ∙ flat_map-map (told key (Some i)) (λ s. Some s) (symbols_of i content)
+  each content l = ap (flat_map (outgoing_facts key (Some i))) (payloads_some i content l) ∙ flat_map-map (outgoing_facts key (Some i)) (λ s. Some s) (symbols_of i content)
 
   only : (content : List ℕ) (f : Fact) → Member f (facts_sent key i content) → IsSent key i (symbols_of i content) f
   unfolding Member
