@@ -63,13 +63,13 @@ abbrev pub removes : Name → Entries → Entries
 removes Out e = record e { out = None; past = e.past ++ e.out ∷ [] }
 removes Beside e = record e { beside = None; waiting = [] }
 
-abbrev pub bytes_of : Option Stored → List ℕ
-bytes_of None = []
-bytes_of (Some s) = s.bytes
+abbrev pub file_bytes : Option Stored → List ℕ
+file_bytes None = []
+file_bytes (Some s) = s.bytes
 
 -- the bytes that were taken since the file beside OUT was made
 abbrev pub taken : Entries → List ℕ
-taken e = bytes_of e.beside ++ e.waiting
+taken e = file_bytes e.beside ++ e.waiting
 
 -- what OUT is to become: these bytes, which the disk has first where OUT was there
 abbrev pub whole : Entries → List ℕ → Stored

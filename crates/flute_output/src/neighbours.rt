@@ -24,7 +24,7 @@ const NEW_MODE: u32 = 0o666;
 const ACCESS: u32 = 0o777;
 
 /// The two names, and what is known of OUT.
-#[derive(Drop)]
+#[derive(Debug, Drop)]
 pub struct Neighbours {
     out: PathBuf,
     beside: String,

@@ -10,7 +10,7 @@ use std::marker::Model;
 /// finished: OUT is then the file of all these bytes, or what it was.
 ///
 /// Contracts see it as its folder, where the file beside OUT stands.
-#[derive(Drop)]
+#[derive(Debug, Drop)]
 pub struct Output<F: Folder + Drop> {
     folder: F,
 }

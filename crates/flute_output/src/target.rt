@@ -4,7 +4,7 @@ use std::fs::File;
 use std::io::{self, ErrorKind, Print, Printer, Write};
 
 /// What takes the bytes: nothing yet, an open file, or standard output.
-#[derive(Drop)]
+#[derive(Debug, Drop)]
 pub enum Target<'a, R: Print> {
     Closed,
     File(File),
