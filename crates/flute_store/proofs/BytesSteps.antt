@@ -18,14 +18,14 @@ use Rattle.flute_parts.proofs.Appended.{AppendsPart-first, AppendsPart-second}
 use Rattle.flute_store.specs.declared.gap.Reason.{Reason}
 use Rattle.flute_store.specs.declared.gap.Gap.{Gap}
 use Rattle.flute_store.specs.declared.object.Object.{Object}
-use Rattle.flute_store.specs.declared.gap_walk.Look.TheVariants.{End, BlockEnd, Passed, Fitting, Wanted}
-use Rattle.flute_store.specs.declared.held_walk.HeldWalk.{HeldWalk}
+use Rattle.flute_store.specs.declared.partition_scan.Upcoming.TheVariants.{End, BlockEnd, Passed, Fitting, Wanted}
+use Rattle.flute_store.specs.declared.held_scan.HeldScan.{HeldScan}
 use Rattle.flute_store.specs.declared.turn.Turn.{Turn}
-use Rattle.flute_store.specs.Objects.{Whole, object, bytes_of, runs, gaps, listed}
+use Rattle.flute_store.specs.Objects.{Whole, object, value_bytes, runs, gaps, listed}
 use Rattle.flute_store.specs.Found.{symbol_fact, IsTold}
 use Rattle.flute_store.specs.Wanted.{wanted, blocks_from}
-use Rattle.flute_store.specs.GapWalk.{Walk, at_start, symbols_left, left, pending, all_left, gaps_left, IsWalk, after_pass, after_take, after_begin, look_of, Keeps}
-use Rattle.flute_store.specs.HeldWalk.{walk_in, bound, IsHeldWalk, Turns}
+use Rattle.flute_store.specs.PartitionScan.{Walk, at_start, symbols_left, left, pending, all_left, gaps_left, IsWalk, after_pass, after_take, after_begin, upcoming_of, Keeps}
+use Rattle.flute_store.specs.HeldScan.{walk_in, bound, IsHeldScan, Turns}
 use Rattle.flute_store.specs.BytesLeft.{cell_bytes, found_bytes, held_bytes, bytes_left, KeepsBytes, GivesFirst}
 use Rattle.flute_store.proofs.SortedSymbols.{Above, above-before, blocks_from-all, blocks_from-next, blocks_from-end}
 use Rattle.flute_store.proofs.Lookups.{Entry, value-past, value-here}
@@ -34,7 +34,7 @@ use Rattle.flute_store.proofs.WholeObjects.{gapless-whole}
 use Rattle.flute_store.proofs.ToldObjects.{wants-told, told-information}
 use Rattle.flute_store.proofs.ObjectLength.{object-length}
 use Rattle.flute_store.specs.Extract.{IsNotWhole, WritesWhole, WritesPart}
-use Rattle.flute_store.proofs.Looks.{here, AtHere, AtPassed, Tells, told, others_left, symbols-first, symbols-end, others-above, inside-less, block-left, taken, taken-left}
+use Rattle.flute_store.proofs.Upcoming.{here, AtHere, AtPassed, Tells, told, others_left, symbols-first, symbols-end, others-above, inside-less, block-left, taken, taken-left}
 
 -- no bytes are given
 abbrev pub GivesNone : Option Turn → Type 0
@@ -96,11 +96,11 @@ no-rest : (a b : List (SymbolId × Reason)) → a ++ b ≡ [] → b ≡ []
 no-rest [] b h = h
 no-rest (x ∷ a) b h = absurd (not_cons_nil x (a ++ b) h)
 
-no-wanted : (v : Walk) (r : Reason) → IsWalk v → all_left v ≡ [] → look_of v ≡ Wanted r → ⊥
+no-wanted : (v : Walk) (r : Reason) → IsWalk v → all_left v ≡ [] → upcoming_of v ≡ Wanted r → ⊥
 no-wanted v r p h e = not_cons_nil (here v, r) (left (taken None v)) (sym (taken-left None v (Some r) p (told v (Wanted r) e)) ∙ no-rest (pending v.run) (left v) h)
 
 -- what a turn gives where nothing is wanted
-pub no-bytes : (v w : HeldWalk) (t : Option Turn) → IsHeldWalk v → all_left (walk_in v) ≡ [] → Turns v t w → GivesNone t → bytes_left (walk_in v) ≡ []
+pub no-bytes : (v w : HeldScan) (t : Option Turn) → IsHeldScan v → all_left (walk_in v) ≡ [] → Turns v t w → GivesNone t → bytes_left (walk_in v) ≡ []
 no-bytes v w (Some (Turn.Gap g)) p h s n = absurd (no-gap (walk_in v) g (gaps_left (walk_in w)) h s.turns.first)
 no-bytes v w (Some Turn.Wanted) p h s n = absurd (no-wanted (walk_in v) s.turns.1.0 p.walk h s.turns.1.1)
 no-bytes v w (Some Turn.End) p h s n = end-bytes (walk_in v) (told (walk_in v) End s.turns.1)
@@ -108,23 +108,23 @@ no-bytes v w (Some Turn.Fitting) p h s n = absurd n
 no-bytes v w (Some Turn.Passed) p h s n = absurd n
 no-bytes v w None p h s n = absurd n
 
-same-bytes : (v w : HeldWalk) → Keeps (walk_in v) (walk_in w) → IsHeldWalk w → bound w ≡ bound v → w.ticks ≡ v.ticks + 1 → all_left (walk_in v) ≡ [] → bytes_left (walk_in w) ≡ bytes_left (walk_in v) → KeepsBytes v w
+same-bytes : (v w : HeldScan) → Keeps (walk_in v) (walk_in w) → IsHeldScan w → bound w ≡ bound v → w.ticks ≡ v.ticks + 1 → all_left (walk_in v) ≡ [] → bytes_left (walk_in w) ≡ bytes_left (walk_in v) → KeepsBytes v w
 same-bytes v w k p b t h e = record { walk = p; whole = k.left_is ∙ h; bytes = e; bound_is = b; onward = omega (arith, t) }
 
-pub pass-keeps : (v w : HeldWalk) → IsHeldWalk v → all_left (walk_in v) ≡ [] → Turns v (Some Turn.Passed) w → KeepsBytes v w
+pub pass-keeps : (v w : HeldScan) → IsHeldScan v → all_left (walk_in v) ≡ [] → Turns v (Some Turn.Passed) w → KeepsBytes v w
 pass-keeps v w p h s = same-bytes v w s.turns.0 s.walk s.bound_is s.ticks h (ap bytes_left s.turns.2 ∙ pass-bytes (walk_in v) p.walk (told (walk_in v) Passed s.turns.1))
 
-pub begin-keeps : (v w : HeldWalk) → IsHeldWalk v → all_left (walk_in v) ≡ [] → Turns v None w → KeepsBytes v w
+pub begin-keeps : (v w : HeldScan) → IsHeldScan v → all_left (walk_in v) ≡ [] → Turns v None w → KeepsBytes v w
 begin-keeps v w p h s = same-bytes v w s.turns.0 s.walk s.bound_is s.ticks h (ap bytes_left s.turns.2 ∙ begin-bytes (walk_in v) p.walk (told (walk_in v) BlockEnd s.turns.1))
 
-pub keeps-on : (u v w : HeldWalk) → KeepsBytes u v → KeepsBytes v w → KeepsBytes u w
+pub keeps-on : (u v w : HeldScan) → KeepsBytes u v → KeepsBytes v w → KeepsBytes u w
 keeps-on u v w k l =
     let a = k.onward in
     let b = l.onward in
     record { walk = l.walk; whole = l.whole; bytes = l.bytes ∙ k.bytes; bound_is = l.bound_is ∙ k.bound_is; onward = omega (arith, a, b) }
 
 -- a fitting symbol is given
-pub gives-first : (u v w : HeldWalk) (e : Entry) (es : List Entry) → KeepsBytes u v → v.held ≡ e ∷ es → Turns v (Some Turn.Fitting) w → GivesFirst u (cell_bytes e.1) w
+pub gives-first : (u v w : HeldScan) (e : Entry) (es : List Entry) → KeepsBytes u v → v.held ≡ e ∷ es → Turns v (Some Turn.Fitting) w → GivesFirst u (cell_bytes e.1) w
 gives-first u v w e es k h s =
     let t = told (walk_in v) Fitting s.turns.1 in
     let a = k.onward in
@@ -140,7 +140,7 @@ gives-first u v w e es k h s =
     }
 
 -- a fitting symbol is held
-pub fitting-held : (v w : HeldWalk) → v.held ≡ [] → Turns v (Some Turn.Fitting) w → ⊥
+pub fitting-held : (v w : HeldScan) → v.held ≡ [] → Turns v (Some Turn.Fitting) w → ⊥
 fitting-held v w h s = let t = told (walk_in v) Fitting s.turns.1 in not_cons_nil t.first t.others (sym t.held ∙ h)
 
 -- ---- writing
@@ -153,7 +153,7 @@ take-both (suc n) (x ∷ a) b =
     let e : n - length (take n a) ≡ suc n - length (take (suc n) (x ∷ a)) = omega arith in
     ap (λ ys. x ∷ ys) (take-both n a b) ∙ ap (λ k. x ∷ (take n a ++ take k b)) e
 
-pub found-of : (key : Key) (id : SymbolId) (found : Option (Cell (List ℕ))) → bytes_of (symbol_fact key id found) ≡ found_bytes found
+pub found-of : (key : Key) (id : SymbolId) (found : Option (Cell (List ℕ))) → value_bytes (symbol_fact key id found) ≡ found_bytes found
 found-of key id None = refl
 found-of key id (Some Absent) = refl
 found-of key id (Some (One b)) = refl
@@ -162,7 +162,7 @@ found-of key id (Some Conflict) = refl
 -- the object is told by the held symbols
 pub object-told : {n : ℕ} (F : List Fact) (key : Key) (x : Object n) (info : Information) → IsTold F key x → object F key info ≡ take info.transfer_length (held_bytes x.symbols (ids info))
 unfolding object held_bytes
-object-told F key x info t = λ i. take info.transfer_length (flat_map (λ id. (ap bytes_of (t.each id) ∙ found-of key id (value_at symbol_id_cmp x.symbols id)) i) (ids info))
+object-told F key x info t = λ i. take info.transfer_length (flat_map (λ id. (ap value_bytes (t.each id) ∙ found-of key id (value_at symbol_id_cmp x.symbols id)) i) (ids info))
 
 pub no-want : (ws : List (SymbolId × Reason)) → runs ws ≡ [] → ws ≡ []
 no-want ws e = sym (runs-listed ws) ∙ ap (flat_map listed) e

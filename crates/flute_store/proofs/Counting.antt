@@ -25,7 +25,7 @@ use Rattle.flute_parts.proofs.OneMore.{object_of-some, symbol_of-some}
 use Rattle.flute_join.specs.JoinMap.{value_at}
 use Rattle.flute_join.proofs.Sound.{each-value_at}
 use Rattle.flute_store.specs.declared.object.Object.{Object}
-use Rattle.flute_store.specs.Content.{key_of, symbol_facts, object_facts, session_facts, content}
+use Rattle.flute_store.specs.Content.{key_in, symbol_cell_facts, object_facts, session_facts, content}
 use Rattle.flute_store.specs.WellFormed.{IsObject, IsSession, IsStore}
 use Rattle.flute_store.proofs.At.{at-entries}
 use Rattle.flute_store.proofs.StoreJoin.{OrderedObject, OrderedSession, OrderedStore, ordered-session, ordered-store, in_session, in_store, entry_facts, symbols_apart, objects_apart, sessions_apart, object-symbol}
@@ -71,10 +71,10 @@ module _ {n : ℕ} where
   pub at-content : (m : List (Session × List (ObjectName × Object n))) (a : Address) → OrderedStore m → fact_at (content m) a ≡ option_map_or (λ os. fact_at (session_facts a.key.session os) a) (value_at session_cmp m a.key.session) None
   at-content m a p = at-entries session_total session_place in_store a a.key.session (sessions_apart a) m p.ordered
 
-  pub at-session : (os : List (ObjectName × Object n)) (a : Address) → OrderedSession os → fact_at (session_facts a.key.session os) a ≡ option_map_or (λ x. fact_at (object_facts (key_of a.key.session a.key.object) x) a) (value_at object_cmp os a.key.object) None
+  pub at-session : (os : List (ObjectName × Object n)) (a : Address) → OrderedSession os → fact_at (session_facts a.key.session os) a ≡ option_map_or (λ x. fact_at (object_facts (key_in a.key.session a.key.object) x) a) (value_at object_cmp os a.key.object) None
   at-session os a p = at-entries object_total object_place (in_session a.key.session) a a.key.object (objects_apart a) os p.ordered
 
-  pub at-object : (x : Object n) (key : Key) (id : SymbolId) → OrderedObject x → fact_at (object_facts key x) (symbol_address key id) ≡ option_map_or (λ c. fact_at (symbol_facts key id c) (symbol_address key id)) (value_at symbol_id_cmp x.symbols id) None
+  pub at-object : (x : Object n) (key : Key) (id : SymbolId) → OrderedObject x → fact_at (object_facts key x) (symbol_address key id) ≡ option_map_or (λ c. fact_at (symbol_cell_facts key id c) (symbol_address key id)) (value_at symbol_id_cmp x.symbols id) None
   at-object x key id p = object-symbol key id x ∙ at-entries symbol_id_total symbol_id_place (entry_facts key) (symbol_address key id) id (symbols_apart key id) x.symbols p
 
   -- ---- a store within its limits names no more
@@ -106,7 +106,7 @@ module _ {n : ℕ} where
         let c = count-Below same_object object_tells (object_of session) (content m) (keys_of os) (λ x f' k e.
         let a = address f' in
         let q = object_of-some session a x e in
-        let found = some-of (λ v. fact_at (object_facts (key_of a.key.session a.key.object) v) a) (value_at object_cmp os a.key.object) (λ z.
+        let found = some-of (λ v. fact_at (object_facts (key_in a.key.session a.key.object) v) a) (value_at object_cmp os a.key.object) (λ z.
         fact_at-member_some f' (content m) k (at-content m a (ordered-store s o m p) ∙ ap (λ z. option_map_or (λ os. fact_at (session_facts a.key.session os) a) (value_at session_cmp m z) None) q.0 ∙ ap (λ z. option_map_or (λ os. fact_at (session_facts a.key.session os) a) z None) f
         ∙ at-session os a (ordered-session o os sound) ∙ z)) in
         value_at-has object_cmp object_tells os x found.0 (subst (λ z. value_at object_cmp os z ≡ Some found.0) q.1 found.1)) in
@@ -125,7 +125,7 @@ module _ {n : ℕ} where
         let w = known.symbols_are.within in
         let c = count-Below same_symbol_id symbol_id_tells (symbol_of key) (content m) (keys_of v.symbols) (λ x f' k e.
         let q = named_symbol key (address f') x e in
-        let found = some-of (λ c. fact_at (symbol_facts key x c) (symbol_address key x)) (value_at symbol_id_cmp v.symbols x) (λ z.
+        let found = some-of (λ c. fact_at (symbol_cell_facts key x c) (symbol_address key x)) (value_at symbol_id_cmp v.symbols x) (λ z.
         fact_at-member_some f' (content m) k (ap (fact_at (content m)) q ∙ at-content m (symbol_address key x) (ordered-store s o m p) ∙ ap (λ z. option_map_or (λ os. fact_at (session_facts key.session os) (symbol_address key x)) z None) f
         ∙ at-session os (symbol_address key x) (ordered-session o os sound) ∙ ap (λ z. option_map_or (λ v. fact_at (object_facts key v) (symbol_address key x)) z None) h
         ∙ at-object v key x known.symbols_are.ordered ∙ z)) in

@@ -43,14 +43,14 @@ use Rattle.flute_join.proofs.Values.{value_at-map_join, absent_past}
 use Rattle.flute_store.proofs.At.{at-one_here}
 use Rattle.flute_store.proofs.Counting.{count-ge, at-content, at-session, at-object}
 use Rattle.flute_store.specs.declared.object.Object.{Object}
-use Rattle.flute_store.specs.declared.news.News.{News}
-use Rattle.flute_store.specs.declared.news.Told.{Told}
+use Rattle.flute_store.specs.declared.update.Update.{Update}
+use Rattle.flute_store.specs.declared.update.SymbolUpdate.{SymbolUpdate}
 use Rattle.flute_store.specs.ObjectJoin.{object_join, ObjectOver, session_join, store_join, cells, object_join_laws}
-use Rattle.flute_store.specs.Content.{key_of, info_facts, symbol_facts, object_facts, session_facts, content}
-use Rattle.flute_store.specs.News.{told_symbols, IsNews}
+use Rattle.flute_store.specs.Content.{key_in, info_cell_facts, symbol_cell_facts, object_facts, session_facts, content}
+use Rattle.flute_store.specs.Update.{update_symbols, IsUpdate}
 use Rattle.flute_store.specs.WellFormed.{IsObject, IsSession, IsStore}
 use Rattle.flute_store.specs.Beyond.{AnyValue, ObjectBeyond, SessionBeyond, StoreBeyond}
-use Rattle.flute_store.proofs.OnePair.{absent-right, some-right, known-join, known-told, told-some}
+use Rattle.flute_store.proofs.OnePair.{absent-right, some-right, known-join, known-update, update-some}
 use Rattle.flute_store.proofs.OneObject.{one_object, told-ordered}
 use Rattle.flute_store.proofs.StoreJoin.{EachValue-weaker, OrderedObject, OrderedSession, OrderedStore, object-info}
 
@@ -99,18 +99,18 @@ module _ {n : ℕ} where
     each = EachValue-map_join session_cmp session_join SolidSession session-solid v w p.each q.each;
   }
 
-told-known : (o : Option (SymbolId × Told)) → EachValue IsKnown (told_symbols o)
+told-known : (o : Option (SymbolId × SymbolUpdate)) → EachValue IsKnown (update_symbols o)
 told-known None = tt
-told-known (Some (id, t)) = (known-told t, tt)
+told-known (Some (id, t)) = (known-update t, tt)
 
-pub solid-one : (n : ℕ) (key : Key) (news : News) → IsNews news → SolidStore (one_object n key news)
+pub solid-one : (n : ℕ) (key : Key) (update : Update) → IsUpdate update → SolidStore (one_object n key update)
 unfolding IsStrictlySortedBy
-solid-one n key news h = record {
+solid-one n key update h = record {
   ordered = (tt, tt);
   each = (
     record {
       ordered = (tt, tt);
-      each = (record { ordered = told-ordered news.symbol; each = told-known news.symbol; some = λ e. told-some news.symbol (h.some e) }, tt);
+      each = (record { ordered = told-ordered update.symbol; each = told-known update.symbol; some = λ e. update-some update.symbol (h.some e) }, tt);
       some = λ e. cc;
     },
     tt,
@@ -166,12 +166,12 @@ module _ {K X : Type 0} {cmp : K → K → Ordering} (order : IsTotalOrder cmp) 
       ]
 
 -- ---- what stands
-pub info_stands : (key : Key) (c : Cell Information) → IsKnown c → fact_at (info_facts key c) (info_address key) ≢ None
+pub info_stands : (key : Key) (c : Cell Information) → IsKnown c → fact_at (info_cell_facts key c) (info_address key) ≢ None
 info_stands key Absent h e = h refl
 info_stands key (One i) h e = none-some (Info key i) (sym e ∙ at-one_here (Info key i))
 info_stands key Conflict h e = none-some (InfoConflict key) (sym e ∙ at-one_here (InfoConflict key))
 
-cell_stands : (key : Key) (id : SymbolId) (c : Cell (List ℕ)) → IsKnown c → fact_at (symbol_facts key id c) (symbol_address key id) ≢ None
+cell_stands : (key : Key) (id : SymbolId) (c : Cell (List ℕ)) → IsKnown c → fact_at (symbol_cell_facts key id c) (symbol_address key id) ≢ None
 cell_stands key id Absent h e = h refl
 cell_stands key id (One b) h e = none-some (Symbol key id b) (sym e ∙ at-one_here (Symbol key id b))
 cell_stands key id Conflict h e = none-some (SymbolConflict key id) (sym e ∙ at-one_here (SymbolConflict key id))
@@ -202,33 +202,33 @@ module _ {n : ℕ} (m : List (Session × List (ObjectName × Object n))) (p : So
       r : SolidObject x
       r = each-value_at object_cmp SolidObject os o x q.each h
 
-      pub at-held : (part : Part) → fact_at (content m) (record { key = key_of s o; part = part }) ≡ fact_at (object_facts (key_of s o) x) (record { key = key_of s o; part = part })
+      pub at-held : (part : Part) → fact_at (content m) (record { key = key_in s o; part = part }) ≡ fact_at (object_facts (key_in s o) x) (record { key = key_in s o; part = part })
       at-held part =
-          let a : Address = record { key = key_of s o; part = part } in
+          let a : Address = record { key = key_in s o; part = part } in
           at-content m a ordered_store ∙ ap (λ z. option_map_or (λ os. fact_at (session_facts s os) a) z None) f
-          ∙ at-session os a (ordered_session os q) ∙ ap (λ z. option_map_or (λ v. fact_at (object_facts (key_of s o) v) a) z None) h
+          ∙ at-session os a (ordered_session os q) ∙ ap (λ z. option_map_or (λ v. fact_at (object_facts (key_in s o) v) a) z None) h
 
-      pub symbol_stands : (id : SymbolId) (c : Cell (List ℕ)) → value_at symbol_id_cmp x.symbols id ≡ Some c → IsKnown c → fact_at (content m) (symbol_address (key_of s o) id) ≢ None
+      pub symbol_stands : (id : SymbolId) (c : Cell (List ℕ)) → value_at symbol_id_cmp x.symbols id ≡ Some c → IsKnown c → fact_at (content m) (symbol_address (key_in s o) id) ≢ None
       symbol_stands id c g k e =
-          let key = key_of s o in
-          cell_stands key id c k (sym (at-held (SymbolPart id) ∙ at-object x key id r.ordered ∙ ap (λ z. option_map_or (λ c. fact_at (symbol_facts key id c) (symbol_address key id)) z None) g) ∙ e)
+          let key = key_in s o in
+          cell_stands key id c k (sym (at-held (SymbolPart id) ∙ at-object x key id r.ordered ∙ ap (λ z. option_map_or (λ c. fact_at (symbol_cell_facts key id c) (symbol_address key id)) z None) g) ∙ e)
 
-      first_stands : (es : List (SymbolId × Cell (List ℕ))) → es ≡ x.symbols → es ≢ [] → (part : Part) × (fact_at (content m) (record { key = key_of s o; part = part }) ≢ None)
+      first_stands : (es : List (SymbolId × Cell (List ℕ))) → es ≡ x.symbols → es ≢ [] → (part : Part) × (fact_at (content m) (record { key = key_in s o; part = part }) ≢ None)
       first_stands [] e h = absurd (h refl)
       first_stands (d ∷ es) e h =
           let found = subst (λ l. value_at symbol_id_cmp l d.0 ≡ Some d.1) e (first_value symbol_id_total symbol_id_tells d es) in
           (SymbolPart d.0, symbol_stands d.0 d.1 found (each-value_at symbol_id_cmp IsKnown x.symbols d.0 d.1 r.each found))
 
-      pub object_stands : (part : Part) × (fact_at (content m) (record { key = key_of s o; part = part }) ≢ None)
+      pub object_stands : (part : Part) × (fact_at (content m) (record { key = key_in s o; part = part }) ≢ None)
       object_stands = elim (known_or_absent x.info) [
         | inl e ↦ first_stands x.symbols refl (r.some e)
-        | inr k ↦ (InfoPart, λ e. info_stands (key_of s o) x.info k (sym (at-held InfoPart ∙ object-info (key_of s o) x) ∙ e))
+        | inr k ↦ (InfoPart, λ e. info_stands (key_in s o) x.info k (sym (at-held InfoPart ∙ object-info (key_in s o) x) ∙ e))
       ]
 
-      symbols_named : n < length x.symbols → n < length (symbols (content m) (key_of s o))
+      symbols_named : n < length x.symbols → n < length (symbols (content m) (key_in s o))
       unfolding symbols
       symbols_named l =
-          let key = key_of s o in
+          let key = key_in s o in
           let c = count-ge same_symbol_id symbol_id_tells (symbol_of key) (content m) (keys_of x.symbols) (distinct symbol_id_cmp symbol_id_tells (keys_of x.symbols) r.ordered) (λ id k.
           let found = has-value_at symbol_id_total symbol_id_tells x.symbols id k in
           let fact = a_fact (content m) (symbol_address key id) (symbol_stands id found.0 found.1 (each-value_at symbol_id_cmp IsKnown x.symbols id found.0 r.each found.1)) in
@@ -239,7 +239,7 @@ module _ {n : ℕ} (m : List (Session × List (ObjectName × Object n))) (p : So
     first_object [] e h = absurd (h refl)
     first_object (d ∷ es) e h =
         let stands = object_stands d.0 d.1 (subst (λ l. value_at object_cmp l d.0 ≡ Some d.1) e (first_value object_total object_tells d es)) in
-        (key_of s d.0, stands.0, refl, stands.1)
+        (key_in s d.0, stands.0, refl, stands.1)
 
     objects_named : (o : ℕ) → o < length os → o < length (objects (content m) s)
     unfolding objects
@@ -247,7 +247,7 @@ module _ {n : ℕ} (m : List (Session × List (ObjectName × Object n))) (p : So
         let c = count-ge same_object object_tells (object_of s) (content m) (keys_of os) (distinct object_cmp object_tells (keys_of os) q.ordered) (λ k h.
         let found = has-value_at object_total object_tells os k h in
         let stands = object_stands k found.0 found.1 in
-        let fact = a_fact (content m) (record { key = key_of s k; part = stands.0 }) stands.1 in
+        let fact = a_fact (content m) (record { key = key_in s k; part = stands.0 }) stands.1 in
         (fact.0, fact.1, ap (object_of s) fact.2 ∙ ap (λ b. cond b (Some k) None) (session_itself s))) in
         omega (arith, c, length-keys_of os)
 
@@ -267,7 +267,7 @@ module _ {n : ℕ} (m : List (Session × List (ObjectName × Object n))) (p : So
   in_object s o session os f (inr a) =
       let solid = each-value_at session_cmp SolidSession m session os p.each f in
       let found = any-value object_total object_tells ObjectBeyond os solid.ordered a in
-      more_symbols (key_of session found.0) (symbols_named session os f found.0 found.1 found.2 found.3)
+      more_symbols (key_in session found.0) (symbols_named session os f found.0 found.1 found.2 found.3)
 
   pub beyond-over_at : (s o : ℕ) → StoreBeyond s o m → Over (content m) s o n
   beyond-over_at s o (inl l) = more_sessions (sessions_named s l)

@@ -28,20 +28,21 @@ use Rattle.flute_parts.specs.declared.fact.Fact.TheVariants.{Info, InfoConflict,
 use Rattle.flute_parts.proofs.Facts.{fact_at-member_some, fact_at-nil}
 use Rattle.flute_parts.proofs.Named.{symbol_id_tells}
 use Rattle.flute_store.specs.declared.object.Object.{Object}
-use Rattle.flute_store.specs.Content.{info_facts, symbol_facts, object_facts, session_facts, content}
+use Rattle.flute_store.specs.Content.{info_cell_facts, symbol_cell_facts, object_facts, session_facts, content}
 use Rattle.flute_store.specs.WellFormed.{IsObject, IsSession, IsStore}
-use Rattle.flute_store.specs.Found.{IsUnheard, IsHeard, cell_fact, symbol_fact, IsTold}
+use Rattle.flute_store.specs.Found.{IsUnheard, cell_fact, symbol_fact, IsTold}
+use Rattle.flute_store.specs.Held.{HoldsObject}
 use Rattle.flute_store.proofs.At.{at-one_here}
 use Rattle.flute_store.proofs.StoreJoin.{ordered-session, ordered-store, object-info}
 use Rattle.flute_store.proofs.Counting.{value_at-has, count-Below, count-ge, named_symbol, at-content, at-session, at-object}
 use Rattle.flute_store.proofs.Exceeding.{distinct, has-value_at, first_value, a_fact}
 
-info-cell : (key : Key) (c : Cell Information) → fact_at (info_facts key c) (info_address key) ≡ cell_fact (Info key) (InfoConflict key) c
+info-cell : (key : Key) (c : Cell Information) → fact_at (info_cell_facts key c) (info_address key) ≡ cell_fact (Info key) (InfoConflict key) c
 info-cell key Absent = fact_at-nil (info_address key)
 info-cell key (One i) = at-one_here (Info key i)
 info-cell key Conflict = at-one_here (InfoConflict key)
 
-symbol-cell : (key : Key) (id : SymbolId) (found : Option (Cell (List ℕ))) → option_map_or (λ c. fact_at (symbol_facts key id c) (symbol_address key id)) found None ≡ symbol_fact key id found
+symbol-cell : (key : Key) (id : SymbolId) (found : Option (Cell (List ℕ))) → option_map_or (λ c. fact_at (symbol_cell_facts key id c) (symbol_address key id)) found None ≡ symbol_fact key id found
 symbol-cell key id None = refl
 symbol-cell key id (Some Absent) = fact_at-nil (symbol_address key id)
 symbol-cell key id (Some (One b)) = at-one_here (Symbol key id b)
@@ -90,11 +91,11 @@ module _ {n : ℕ} (s o : ℕ) (m : List (Session × List (ObjectName × Object 
       stands id c g e = known-fact key id c (each-value_at symbol_id_cmp IsKnown x.symbols id c sound.symbols_are.each g) (ap (symbol_fact key id) (sym g) ∙ sym (symbol-told id) ∙ e)
 
       -- ---- something is heard
-      by_symbol : (es : List (SymbolId × Cell (List ℕ))) → es ≡ x.symbols → es ≢ [] → IsHeard (content m) key
+      by_symbol : (es : List (SymbolId × Cell (List ℕ))) → es ≡ x.symbols → es ≢ [] → HoldsObject (content m) key
       by_symbol [] e h = absurd (h refl)
       by_symbol (d ∷ es) e h = (SymbolPart d.0, stands d.0 d.1 (subst (λ l. value_at symbol_id_cmp l d.0 ≡ Some d.1) e (first_value symbol_id_total symbol_id_tells d es)))
 
-      by_info : (c : Cell Information) → x.info ≡ c → IsHeard (content m) key
+      by_info : (c : Cell Information) → x.info ≡ c → HoldsObject (content m) key
       by_info Absent e = by_symbol x.symbols refl (sound.some e)
       by_info (One i) e = (InfoPart, λ z. none_info (Some (Info key i)) (sym (info-told ∙ ap (cell_fact (Info key) (InfoConflict key)) e) ∙ z))
         where

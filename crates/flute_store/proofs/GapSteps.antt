@@ -22,15 +22,15 @@ use Rattle.flute_parts.specs.declared.symbol_id.SymbolId.{SymbolId}
 use Rattle.flute_store.specs.declared.gap.Reason.{Reason}
 use Rattle.flute_store.specs.declared.gap.Reason.TheVariants.{Missing, Misfit}
 use Rattle.flute_store.specs.declared.gap.Gap.{Gap}
-use Rattle.flute_store.specs.declared.gap_walk.Look.{Look}
-use Rattle.flute_store.specs.declared.gap_walk.Look.TheVariants.{End, BlockEnd, Passed, Fitting, Wanted, NotHeld}
+use Rattle.flute_store.specs.declared.partition_scan.Upcoming.{Upcoming}
+use Rattle.flute_store.specs.declared.partition_scan.Upcoming.TheVariants.{End, BlockEnd, Passed, Fitting, Wanted, NotHeld}
 use Rattle.flute_store.specs.Objects.{runs, same_reason}
 use Rattle.flute_store.specs.Wanted.{want_cell, wanted, block_from, blocks_from}
-use Rattle.flute_store.specs.GapWalk.{Walk, left, pending, gaps_left, IsBehind, EndsBefore, IsWalk, after_take, after_want, run_with, look_of, until_held, until_of, ended_run, Keeps, GivesGap}
+use Rattle.flute_store.specs.PartitionScan.{Walk, left, pending, gaps_left, IsBehind, EndsBefore, IsWalk, after_take, after_want, run_with, upcoming_of, until_held, until_of, ended_run, Keeps, GivesGap}
 use Rattle.flute_store.proofs.SortedSymbols.{Above, sbn-less, esi-less, above-before, above-later, above-block, blocks_from-end}
 use Rattle.flute_store.proofs.Lookups.{Entry, Elsewhere, value-before, value-here, wanted-missing, elsewhere-above, elsewhere-here}
 use Rattle.flute_store.proofs.Runs.{runs-first, reason_same, reason_itself}
-use Rattle.flute_store.proofs.Looks.{here, AtHere, FirstAfter, Tells, told, others_left, symbols-first, symbols-end, blocks-later, others-above, inside-less, sorted-first, taken, taken-left, taken-keeps, left-run}
+use Rattle.flute_store.proofs.Upcoming.{here, AtHere, FirstAfter, Tells, told, others_left, symbols-first, symbols-end, blocks-later, others-above, inside-less, sorted-first, taken, taken-left, taken-keeps, left-run}
 
 -- ---- the end
 
@@ -38,7 +38,7 @@ pub end-left : (w : Walk) → Tells w End → left w ≡ []
 unfolding left wanted
 end-left w t = ap (wanted w.partition w.held) (symbols-end w t.0 ∙ ap (blocks_from w.partition) t.1 ∙ blocks_from-end w.partition)
 
-pub gaps-end : (w : Walk) → look_of w ≡ End → w.run ≡ None → gaps_left w ≡ []
+pub gaps-end : (w : Walk) → upcoming_of w ≡ End → w.run ≡ None → gaps_left w ≡ []
 unfolding runs
 gaps-end w e r = ap (λ o. runs (pending o ++ left w)) r ∙ ap runs (end-left w (told w End e))
 
@@ -99,7 +99,7 @@ here-known : (w : Walk) (r : Reason) → IsWalk w → AtHere w (Some r) → r �
 here-known w r p t = λ e. known-not_missing w.partition (here w) t.first.1 (first-known w.held t.first t.others t.held p.known) (t.why_is ∙ ap Some e)
 
 -- no symbol that is wanted for the reason comes next
-abbrev EndsRun : Reason → Look → Type 0
+abbrev EndsRun : Reason → Upcoming → Type 0
 EndsRun reason Passed = ⊥
 EndsRun reason (Wanted why) = why ≡ reason → ⊥
 EndsRun reason _ = Unit {0}
@@ -125,7 +125,7 @@ module _ (w : Walk) (r : Reason) (p : IsWalk w) (h : 0 < w.esi) (d : r ≢ Missi
       (λ e. d (sym (same_Some Missing r (sym (ap (want_cell w.partition (here w)) (value-before w.held (here w) (first-above (here w) w.held p.ordered t.1))) ∙ e))))
       (others-above w p l))
 
-  pub stop-elsewhere : (l : Look) → look_of w ≡ l → EndsRun r l → Elsewhere (here w) r (left w)
+  pub stop-elsewhere : (l : Upcoming) → upcoming_of w ≡ l → EndsRun r l → Elsewhere (here w) r (left w)
   stop-elsewhere End e s = at_end (told w End e).0
   stop-elsewhere BlockEnd e s = at_end (told w BlockEnd e).0
   stop-elsewhere Passed e s = absurd s
@@ -141,15 +141,15 @@ step-want w r p t h =
     (run-more w.sbn w.esi r w.run (left (taken run w)) p.running h ∙ ap (λ ws. pending w.run ++ ws) (sym (taken-left run w (Some r) p t)))
 
 -- the run that ends is given
-ends-look : (g : Gap) (l : Look) → ended_run (Some g) l ≡ Some g → EndsRun g.reason l
-ends-look g End h = tt
-ends-look g BlockEnd h = tt
-ends-look g Passed h = absurd (none-some g h)
-ends-look g Fitting h = tt
-ends-look g (Wanted r) h = λ e. absurd (none-some g (sym (ap (λ b. cond b None (Some g)) (ap (same_reason g.reason) e ∙ reason_itself g.reason)) ∙ h))
-ends-look g NotHeld h = tt
+ends-upcoming : (g : Gap) (l : Upcoming) → ended_run (Some g) l ≡ Some g → EndsRun g.reason l
+ends-upcoming g End h = tt
+ends-upcoming g BlockEnd h = tt
+ends-upcoming g Passed h = absurd (none-some g h)
+ends-upcoming g Fitting h = tt
+ends-upcoming g (Wanted r) h = λ e. absurd (none-some g (sym (ap (λ b. cond b None (Some g)) (ap (same_reason g.reason) e ∙ reason_itself g.reason)) ∙ h))
+ends-upcoming g NotHeld h = tt
 
-pub gap-run : (w : Walk) (g : Gap) → IsWalk w → w.run ≡ Some g → ended_run w.run (look_of w) ≡ Some g → GivesGap w g (record w { run = None })
+pub gap-run : (w : Walk) (g : Gap) → IsWalk w → w.run ≡ Some g → ended_run w.run (upcoming_of w) ≡ Some g → GivesGap w g (record w { run = None })
 gap-run w g p e h =
     let q : EndsBefore w.sbn w.esi (Some g) = subst (EndsBefore w.sbn w.esi) e p.running in
     let a = q.1 in
@@ -159,7 +159,7 @@ gap-run w g p e h =
     let k : g.last + 1 - 1 ≡ g.last = omega arith in
     let j : w.esi - 1 ≡ g.last = omega (arith, b) in
     let f : here w ≡ symbol_id g.sbn (g.last + 1) = λ i. symbol_id (sym q.0 i) (y i) in
-    let x : Elsewhere (here w) g.reason (left w) = stop-elsewhere w g.reason p z q.3 (look_of w) refl (ends-look g (look_of w) (ap (λ o. ended_run o (look_of w)) (sym e) ∙ h)) in
+    let x : Elsewhere (here w) g.reason (left w) = stop-elsewhere w g.reason p z q.3 (upcoming_of w) refl (ends-upcoming g (upcoming_of w) (ap (λ o. ended_run o (upcoming_of w)) (sym e) ∙ h)) in
     record {
       walk = record { ordered = p.ordered; known = p.known; begun = p.begun; within = p.within; longest = p.longest; in_block = p.in_block; behind = p.behind; running = tt };
       first = ap (λ o. runs (pending o ++ left w)) e ∙ runs-first g.sbn g.first (g.last + 1) g.reason (left w) (omega (arith, a)) (subst (λ x. Elsewhere x g.reason (left w)) f x) ∙ (λ i. record g { last = k i } ∷ runs (sym (left-run w None) i));
@@ -248,13 +248,13 @@ block-split n a u size l m =
 abbrev pub after_missing : Walk → Walk
 after_missing w = record w { esi = until_of w }
 
-until-walk : (w : Walk) → IsWalk w → look_of w ≡ NotHeld → Until w.sbn w.esi w.size (until_of w) w.held
+until-walk : (w : Walk) → IsWalk w → upcoming_of w ≡ NotHeld → Until w.sbn w.esi w.size (until_of w) w.held
 until-walk w p e = let t = told w NotHeld e in until-is w.sbn w.esi w.size w.held (inside-less w p t.0) p.ordered t.1
 
-pub missing-less : (w : Walk) → IsWalk w → look_of w ≡ NotHeld → w.esi < until_of w
+pub missing-less : (w : Walk) → IsWalk w → upcoming_of w ≡ NotHeld → w.esi < until_of w
 missing-less w p e = (until-walk w p e).less
 
-pub missing-within : (w : Walk) → IsWalk w → look_of w ≡ NotHeld → until_of w ≤ w.size
+pub missing-within : (w : Walk) → IsWalk w → upcoming_of w ≡ NotHeld → until_of w ≤ w.size
 missing-within w p e = (until-walk w p e).within
 
 -- the held symbols stand behind those that are not held
@@ -280,7 +280,7 @@ behind-until n a size (e ∷ es) l s f = elim (cases_Bool ((e.0.sbn == n) && nat
     all : (i : ℕ) → symbol_id_cmp (symbol_id n i) e.0 ≡ Less → IsBehind n i (e ∷ es)
     all i h = (h, above-before (symbol_id n i) e.0 (keys_of es) h (sorted-first e es s))
 
-behind-missing : (w : Walk) → IsWalk w → look_of w ≡ NotHeld → IsBehind w.sbn (until_of w - 1) w.held
+behind-missing : (w : Walk) → IsWalk w → upcoming_of w ≡ NotHeld → IsBehind w.sbn (until_of w - 1) w.held
 behind-missing w p e = let t = told w NotHeld e in behind-until w.sbn w.esi w.size w.held (inside-less w p t.0) p.ordered t.1
 
 missing-walk : (w : Walk) → IsWalk w → w.run ≡ None → until_of w ≤ w.size → IsBehind w.sbn (until_of w - 1) w.held → IsWalk (after_missing w)
@@ -313,7 +313,7 @@ missing-left w u =
 abbrev missing_gap_of : Walk → Gap
 missing_gap_of w = record { sbn = w.sbn; first = w.esi; last = until_of w - 1; reason = Missing }
 
-pub gap-missing : (w : Walk) → IsWalk w → w.run ≡ None → look_of w ≡ NotHeld → GivesGap w (record { sbn = w.sbn; first = w.esi; last = until_of w - 1; reason = Missing }) (after_missing w)
+pub gap-missing : (w : Walk) → IsWalk w → w.run ≡ None → upcoming_of w ≡ NotHeld → GivesGap w (record { sbn = w.sbn; first = w.esi; last = until_of w - 1; reason = Missing }) (after_missing w)
 gap-missing w p r e =
     let u = until-walk w p e in
     let l = u.less in

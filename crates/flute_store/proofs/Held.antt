@@ -22,13 +22,13 @@ use Rattle.flute_parts.specs.Facts.{fact_at}
 use Rattle.flute_parts.specs.declared.address.Part.{Part}
 use Rattle.flute_parts.proofs.Facts.{fact_at-nil}
 use Rattle.flute_store.specs.declared.object.Object.{Object}
-use Rattle.flute_store.specs.Content.{info_facts, symbol_facts, symbols_facts, object_facts, session_facts, content}
+use Rattle.flute_store.specs.Content.{info_cell_facts, symbol_cell_facts, symbols_facts, object_facts, session_facts, content}
 use Rattle.flute_store.specs.WellFormed.{IsObject, IsSession, IsStore}
-use Rattle.flute_store.specs.News.{told_symbols, news_facts, IsHeldSession}
+use Rattle.flute_store.specs.Update.{update_symbols, update_facts, IsHeldSession}
 use Rattle.flute_store.specs.Held.{HoldsObject, HasCell}
 use Rattle.std.specs.List.{AllByRecursion}
-use Rattle.flute_store.specs.declared.news.Told.{Told}
-use Rattle.flute_store.specs.declared.news.Told.TheVariants.{Borrowed as BorrowedTold, Owned as OwnedTold, Conflict as ConflictTold}
+use Rattle.flute_store.specs.declared.update.SymbolUpdate.{SymbolUpdate}
+use Rattle.flute_store.specs.declared.update.SymbolUpdate.TheVariants.{Borrowed as BorrowedUpdate, Owned as OwnedUpdate, Conflict as ConflictUpdate}
 use Rattle.flute_store.proofs.At.{at-one_here}
 use Rattle.flute_store.proofs.StoreJoin.{ordered-session, ordered-store, object-info}
 use Rattle.flute_store.proofs.Counting.{some-of, at-content, at-session, at-object}
@@ -38,12 +38,12 @@ abbrev pub is_known : {T : Type 0} → Cell T → Bool
 is_known Absent = false
 is_known _ = true
 
-info-held : (key : Key) (c : Cell Information) → is_some (fact_at (info_facts key c) (info_address key)) ≡ is_known c
+info-held : (key : Key) (c : Cell Information) → is_some (fact_at (info_cell_facts key c) (info_address key)) ≡ is_known c
 info-held key Absent = ap is_some (fact_at-nil (info_address key))
 info-held key (One i) = ap is_some (at-one_here (Info key i))
 info-held key Conflict = ap is_some (at-one_here (InfoConflict key))
 
-symbol-held : (key : Key) (id : SymbolId) (c : Cell (List ℕ)) → is_some (fact_at (symbol_facts key id c) (symbol_address key id)) ≡ is_known c
+symbol-held : (key : Key) (id : SymbolId) (c : Cell (List ℕ)) → is_some (fact_at (symbol_cell_facts key id c) (symbol_address key id)) ≡ is_known c
 symbol-held key id Absent = ap is_some (fact_at-nil (symbol_address key id))
 symbol-held key id (One b) = ap is_some (at-one_here (Symbol key id b))
 symbol-held key id Conflict = ap is_some (at-one_here (SymbolConflict key id))
@@ -70,7 +70,7 @@ module _ {n : ℕ} (s o : ℕ) (m : List (Session × List (ObjectName × Object 
     of_info key x f h =
         ap is_some (in_session (info_address key) f ∙ ap (λ z. option_map_or (λ x. fact_at (object_facts key x) (info_address key)) z None) h ∙ object-info key x) ∙ info-held key x.info
 
-    of_symbol : (key : Key) (id : SymbolId) (x : Object n) (found : Option (Cell (List ℕ))) → EachValue IsKnown x.symbols → value_at symbol_id_cmp x.symbols id ≡ found → is_some (option_map_or (λ c. fact_at (symbol_facts key id c) (symbol_address key id)) found None) ≡ is_some found
+    of_symbol : (key : Key) (id : SymbolId) (x : Object n) (found : Option (Cell (List ℕ))) → EachValue IsKnown x.symbols → value_at symbol_id_cmp x.symbols id ≡ found → is_some (option_map_or (λ c. fact_at (symbol_cell_facts key id c) (symbol_address key id)) found None) ≡ is_some found
     of_symbol key id x None a f = refl
     of_symbol key id x (Some c) a f = symbol-held key id c ∙ known-is c (each-value_at symbol_id_cmp IsKnown x.symbols id c a f)
 
@@ -94,25 +94,25 @@ module _ {n : ℕ} (s o : ℕ) (m : List (Session × List (ObjectName × Object 
   pub object_held : (key : Key) → HoldsObject (content m) key → (os : List (ObjectName × Object n)) × (x : Object n) × (value_at session_cmp m key.session ≡ Some os) × (value_at object_cmp os key.object ≡ Some x)
   object_held key h = let r = of_part key h.0 h.1 in (r.0, r.1, r.2, r.3)
 
-  held_symbol : (key : Key) (id : SymbolId) (told : Told) → fact_at (content m) (symbol_address key id) ≢ None → (info : Cell Information) → IsHeldSession m key (record { info = info; symbol = Some (id, told) })
+  held_symbol : (key : Key) (id : SymbolId) (told : SymbolUpdate) → fact_at (content m) (symbol_address key id) ≢ None → (info : Cell Information) → IsHeldSession m key (record { info = info; symbol = Some (id, told) })
   held_symbol key id told h info =
       let r = of_part key (SymbolPart id) h in
-      let found = some-of (λ c. fact_at (symbol_facts key id c) (symbol_address key id)) (value_at symbol_id_cmp r.1.symbols id) (λ z. r.4 (at-object r.1 key id r.5.symbols_are.ordered ∙ z)) in
+      let found = some-of (λ c. fact_at (symbol_cell_facts key id c) (symbol_address key id)) (value_at symbol_id_cmp r.1.symbols id) (λ z. r.4 (at-object r.1 key id r.5.symbols_are.ordered ∙ z)) in
       (r.0, r.2, (r.1, r.3, ap is_some found.1))
 
   held_info : (key : Key) → HoldsObject (content m) key → (info : Cell Information) → IsHeldSession m key (record { info = info; symbol = None })
   held_info key h info = let r = of_part key h.0 h.1 in (r.0, r.2, (r.1, r.3, tt))
 
-  of_told : (key : Key) (id : SymbolId) (told : Told) (F : List Fact) → AllByRecursion (HasCell (content m)) (F ++ symbols_facts key (told_symbols (Some (id, told)))) → fact_at (content m) (symbol_address key id) ≢ None
-  of_told key id (BorrowedTold bytes) [] h = h.0
-  of_told key id (OwnedTold bytes) [] h = h.0
-  of_told key id ConflictTold [] h = h.0
+  of_told : (key : Key) (id : SymbolId) (told : SymbolUpdate) (F : List Fact) → AllByRecursion (HasCell (content m)) (F ++ symbols_facts key (update_symbols (Some (id, told)))) → fact_at (content m) (symbol_address key id) ≢ None
+  of_told key id (BorrowedUpdate bytes) [] h = h.0
+  of_told key id (OwnedUpdate bytes) [] h = h.0
+  of_told key id ConflictUpdate [] h = h.0
   of_told key id told (f ∷ F) h = of_told key id told F h.1
 
   -- where each fact that is told has a cell, its session, its object and its symbol are held
-  pub news_held : (key : Key) (info : Cell Information) (symbol : Option (SymbolId × Told)) → (info ≡ Absent → symbol ≢ None)
-      → AllByRecursion (HasCell (content m)) (news_facts key (record { info = info; symbol = symbol })) → IsHeldSession m key (record { info = info; symbol = symbol })
-  news_held key info (Some (id, told)) some h = held_symbol key id told (of_told key id told (info_facts key info) h) info
+  pub news_held : (key : Key) (info : Cell Information) (symbol : Option (SymbolId × SymbolUpdate)) → (info ≡ Absent → symbol ≢ None)
+      → AllByRecursion (HasCell (content m)) (update_facts key (record { info = info; symbol = symbol })) → IsHeldSession m key (record { info = info; symbol = symbol })
+  news_held key info (Some (id, told)) some h = held_symbol key id told (of_told key id told (info_cell_facts key info) h) info
   news_held key Absent None some h = absurd (some refl refl)
   news_held key (One i) None some h = held_info key h.0 (One i)
   news_held key Conflict None some h = held_info key h.0 Conflict

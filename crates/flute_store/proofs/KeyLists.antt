@@ -20,7 +20,7 @@ use Rattle.flute_parts.specs.Totality.{session_total, object_total}
 use Rattle.flute_parts.specs.Equality.{session_place, object_place}
 use Rattle.flute_parts.proofs.Named.{session_tells, object_tells}
 use Rattle.flute_store.specs.declared.object.Object.{Object}
-use Rattle.flute_store.specs.Content.{key_of, content}
+use Rattle.flute_store.specs.Content.{key_in, content}
 use Rattle.flute_store.specs.Keys.{session_keys, store_keys}
 use Rattle.flute_store.specs.Held.{HoldsObject}
 use Rattle.flute_store.specs.WellFormed.{IsStore}
@@ -52,7 +52,7 @@ pub none_in : {X : Type 0} (x : X) → Contains [] x → ⊥
 none_in x c = omega (arith, c.1)
 
 module _ {X : Type 0} where
-  object_before : (s : Session) (o : ObjectName) (es : List (ObjectName × X)) → AllByRecursion (λ y. object_cmp o y ≡ Less) (keys_of es) → Before (key_of s o) (session_keys s es)
+  object_before : (s : Session) (o : ObjectName) (es : List (ObjectName × X)) → AllByRecursion (λ y. object_cmp o y ≡ Less) (keys_of es) → Before (key_in s o) (session_keys s es)
   object_before s o [] p = tt
   object_before s o (e ∷ es) p = (ap (λ r. ordering_then r (object_cmp o e.0)) (tied_itself session_total s) ∙ p.0, object_before s o es p.1)
 
@@ -71,27 +71,27 @@ module _ {X : Type 0} where
 
   all_before : (s : Session) (es : List (ObjectName × X)) (m : List (Session × List (ObjectName × X))) → AllByRecursion (λ y. session_cmp s y ≡ Less) (keys_of m) → AllByRecursion (λ k. Before k (store_keys m)) (session_keys s es)
   all_before s [] m p = tt
-  all_before s (e ∷ es) m p = (sessions_before (key_of s e.0) m p, all_before s es m p)
+  all_before s (e ∷ es) m p = (sessions_before (key_in s e.0) m p, all_before s es m p)
 
   -- ---- a key of the list is looked up
   in_session : (s : Session) (es : List (ObjectName × X)) (k : Key) → IsOrdered object_cmp es → Contains (session_keys s es) k → (k.session ≡ s) × ((v : X) × (value_at object_cmp es k.object ≡ Some v))
   in_session s [] k p c = absurd (none_in k c)
-  in_session s (e ∷ es) k p c = elim (Contains-append_cases (key_of s e.0 ∷ []) (session_keys s es) k c) [
+  in_session s (e ∷ es) k p c = elim (Contains-append_cases (key_in s e.0 ∷ []) (session_keys s es) k c) [
     | inl h ↦
-        let q = one_is (key_of s e.0) k h in
+        let q = one_is (key_in s e.0) k h in
         (sym (ap (λ (z : Key). z.session) q), (e.1, subst (λ (z : Key). value_at object_cmp (e ∷ es) z.object ≡ Some e.1) q (first_value object_total object_tells e es)))
     | inr h ↦
         let r = in_session s es k (sorted_tail object_cmp e.0 (keys_of es) p) h in
         (r.0, (r.1.0, later_value object_total object_tells e es k.object r.1.0 p r.1.1))
   ]
 
-  session_has : (s : Session) (es : List (ObjectName × X)) (o : ObjectName) (v : X) → value_at object_cmp es o ≡ Some v → Contains (session_keys s es) (key_of s o)
+  session_has : (s : Session) (es : List (ObjectName × X)) (o : ObjectName) (v : X) → value_at object_cmp es o ≡ Some v → Contains (session_keys s es) (key_in s o)
   session_has s [] o v f = absurd (none-some v f)
   session_has s (e ∷ es) o v f = by_test (λ g. session_has s es o v g) (is_eq (object_cmp o e.0)) refl f
     where
-      by_test : (value_at object_cmp es o ≡ Some v → Contains (session_keys s es) (key_of s o)) → (b : Bool) → is_eq (object_cmp o e.0) ≡ b → cond b (Some e.1) (value_at object_cmp es o) ≡ Some v → Contains (session_keys s (e ∷ es)) (key_of s o)
-      by_test later true t f = subst (λ z. Contains (session_keys s (e ∷ es)) (key_of s z)) (sym (object_place o e.0 ((Equal-is (object_cmp o e.0)).0 t))) (first_is (key_of s e.0) (session_keys s es))
-      by_test later false t f = Contains-append_right (key_of s e.0 ∷ []) (session_keys s es) (key_of s o) (later f)
+      by_test : (value_at object_cmp es o ≡ Some v → Contains (session_keys s es) (key_in s o)) → (b : Bool) → is_eq (object_cmp o e.0) ≡ b → cond b (Some e.1) (value_at object_cmp es o) ≡ Some v → Contains (session_keys s (e ∷ es)) (key_in s o)
+      by_test later true t f = subst (λ z. Contains (session_keys s (e ∷ es)) (key_in s z)) (sym (object_place o e.0 ((Equal-is (object_cmp o e.0)).0 t))) (first_is (key_in s e.0) (session_keys s es))
+      by_test later false t f = Contains-append_right (key_in s e.0 ∷ []) (session_keys s es) (key_in s o) (later f)
 
 module _ {n : ℕ} where
   -- the keys of a store rise
@@ -116,17 +116,17 @@ module _ {n : ℕ} where
   ]
 
   store_has : (m : List (Session × List (ObjectName × Object n))) (s : Session) (o : ObjectName) (os : List (ObjectName × Object n)) (x : Object n)
-      → value_at session_cmp m s ≡ Some os → value_at object_cmp os o ≡ Some x → Contains (store_keys m) (key_of s o)
+      → value_at session_cmp m s ≡ Some os → value_at object_cmp os o ≡ Some x → Contains (store_keys m) (key_in s o)
   store_has [] s o os x f h = absurd (none-some os f)
   store_has (e ∷ m) s o os x f h = by_test (λ g. store_has m s o os x g h) (is_eq (session_cmp s e.0)) refl f
     where
-      by_test : (value_at session_cmp m s ≡ Some os → Contains (store_keys m) (key_of s o)) → (b : Bool) → is_eq (session_cmp s e.0) ≡ b → cond b (Some e.1) (value_at session_cmp m s) ≡ Some os → Contains (store_keys (e ∷ m)) (key_of s o)
+      by_test : (value_at session_cmp m s ≡ Some os → Contains (store_keys m) (key_in s o)) → (b : Bool) → is_eq (session_cmp s e.0) ≡ b → cond b (Some e.1) (value_at session_cmp m s) ≡ Some os → Contains (store_keys (e ∷ m)) (key_in s o)
       by_test later true t f =
           let same = session_place s e.0 ((Equal-is (session_cmp s e.0)).0 t) in
           let there : os ≡ e.1 = sym (ap (λ z. unwrap_or z os) f) in
-          Contains-append_left (session_keys e.0 e.1) (store_keys m) (key_of s o)
-          (subst (λ z. Contains (session_keys z e.1) (key_of s o)) same (subst (λ z. Contains (session_keys s z) (key_of s o)) there (session_has s os o x h)))
-      by_test later false t f = Contains-append_right (session_keys e.0 e.1) (store_keys m) (key_of s o) (later f)
+          Contains-append_left (session_keys e.0 e.1) (store_keys m) (key_in s o)
+          (subst (λ z. Contains (session_keys z e.1) (key_in s o)) same (subst (λ z. Contains (session_keys s z) (key_in s o)) there (session_has s os o x h)))
+      by_test later false t f = Contains-append_right (session_keys e.0 e.1) (store_keys m) (key_in s o) (later f)
 
   -- they are those of the objects of which something is held
   pub keys_held : (s o : ℕ) (m : List (Session × List (ObjectName × Object n))) → IsStore s o m → (key : Key) → Contains (store_keys m) key ↔ HoldsObject (content m) key

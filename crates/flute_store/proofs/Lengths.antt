@@ -11,7 +11,7 @@ use Rattle.flute_parts.specs.declared.key.Key.{Key}
 use Rattle.flute_parts.specs.declared.fact.Fact.{Fact}
 use Rattle.flute_parts.specs.declared.fact.Fact.TheVariants.{Info, InfoConflict, Symbol, SymbolConflict}
 use Rattle.flute_store.specs.declared.object.Object.{Object}
-use Rattle.flute_store.specs.Content.{key_of, cell_facts, info_facts, symbol_facts, symbols_facts, object_facts, session_facts, content}
+use Rattle.flute_store.specs.Content.{key_in, cell_facts, info_cell_facts, symbol_cell_facts, symbols_facts, object_facts, session_facts, content}
 use Rattle.flute_store.specs.WellFormed.{IsObject, IsSession, IsStore}
 
 cell_length : {T : Type 0} (told : T → Fact) (clash : Fact) (c : Cell T) → length (cell_facts told clash c) ≤ 1
@@ -43,13 +43,13 @@ any_value (e ∷ es) = (tt, any_value es)
 module _ {n : ℕ} where
   object_length : (key : Key) (x : Object n) → IsObject x → length (object_facts key x) ≤ n + 1
   object_length key x p =
-      let a = length-append (info_facts key x.info) (symbols_facts key x.symbols) in
+      let a = length-append (info_cell_facts key x.info) (symbols_facts key x.symbols) in
       let b = cell_length (Info key) (InfoConflict key) x.info in
-      let c = within_limit (λ e. symbol_facts key e.0 e.1) (λ _. Unit {0}) 1 (λ e _. cell_length (Symbol key e.0) (SymbolConflict key e.0) e.1) n x.symbols (any_value x.symbols) p.symbols_are.within in
+      let c = within_limit (λ e. symbol_cell_facts key e.0 e.1) (λ _. Unit {0}) 1 (λ e _. cell_length (Symbol key e.0) (SymbolConflict key e.0) e.1) n x.symbols (any_value x.symbols) p.symbols_are.within in
       omega (arith, a, b, c)
 
   session_length : (o : ℕ) (session : Session) (os : List (ObjectName × Object n)) → IsSession o os → length (session_facts session os) ≤ o * (n + 1)
-  session_length o session os p = within_limit (λ e. object_facts (key_of session e.0) e.1) IsObject (n + 1) (λ e q. object_length (key_of session e.0) e.1 q) o os p.each p.within
+  session_length o session os p = within_limit (λ e. object_facts (key_in session e.0) e.1) IsObject (n + 1) (λ e q. object_length (key_in session e.0) e.1 q) o os p.each p.within
 
   -- each object has its information and no more symbols than the limit
   pub content_length : (s o : ℕ) (m : List (Session × List (ObjectName × Object n))) → IsStore s o m → length (content m) ≤ s * (o * (n + 1))

@@ -16,7 +16,7 @@ pub mod Runs
 pub mod WholeObjects
 pub mod SortedSymbols
 pub mod Lookups
-pub mod Looks
+pub mod Upcoming
 pub mod GapSteps
 pub mod Found
 pub mod ToldObjects

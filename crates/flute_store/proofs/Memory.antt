@@ -20,7 +20,7 @@ use Rattle.flute_parts.specs.Order.{session_cmp, object_cmp, symbol_id_cmp}
 use Rattle.flute_parts.proofs.Facts.{Contains-from, fact_at-nil}
 use Rattle.flute_store.specs.declared.object.Object.{Object}
 use Rattle.flute_store.specs.ObjectJoin.{ObjectNeedsMemory}
-use Rattle.flute_store.specs.Content.{key_of, info_facts, symbol_facts, object_facts, session_facts, content}
+use Rattle.flute_store.specs.Content.{key_in, info_cell_facts, symbol_cell_facts, object_facts, session_facts, content}
 use Rattle.flute_store.specs.Memory.{HasNew}
 use Rattle.flute_store.proofs.StoreJoin.{object-info}
 use Rattle.flute_store.proofs.Counting.{at-content, at-session, at-object}
@@ -40,33 +40,33 @@ module _ {n : ℕ} (m w : List (Session × List (ObjectName × Object n))) (p : 
   none_of_session a f = at-content m a (ordered_store m p) ∙ ap (λ z. option_map_or (λ os. fact_at (session_facts a.key.session os) a) z None) f
 
   module _ (s : Session) (os ws : List (ObjectName × Object n)) (f : value_at session_cmp m s ≡ Some os) (g : value_at session_cmp w s ≡ Some ws) where
-    none_of_object : (o : ObjectName) (part : Part) → value_at object_cmp os o ≡ None → fact_at (content m) (record { key = key_of s o; part = part }) ≡ None
+    none_of_object : (o : ObjectName) (part : Part) → value_at object_cmp os o ≡ None → fact_at (content m) (record { key = key_in s o; part = part }) ≡ None
     none_of_object o part h =
-        let a : Address = record { key = key_of s o; part = part } in
+        let a : Address = record { key = key_in s o; part = part } in
         at-content m a (ordered_store m p) ∙ ap (λ z. option_map_or (λ os. fact_at (session_facts s os) a) z None) f
-        ∙ at-session os a (ordered_session m p os (each-value_at session_cmp SolidSession m s os p.each f)) ∙ ap (λ z. option_map_or (λ v. fact_at (object_facts (key_of s o) v) a) z None) h
+        ∙ at-session os a (ordered_session m p os (each-value_at session_cmp SolidSession m s os p.each f)) ∙ ap (λ z. option_map_or (λ v. fact_at (object_facts (key_in s o) v) a) z None) h
 
     module _ (o : ObjectName) (x y : Object n) (h : value_at object_cmp os o ≡ Some x) (k : value_at object_cmp ws o ≡ Some y) where
       new_info : CellNeedsMemory x.info y.info → HasNew (content m) (content w)
       new_info (e, v) =
-          let key = key_of s o in
+          let key = key_in s o in
           from_address (content m) (content w) (info_address key)
           (λ z. info_stands key y.info (has_value y.info v) (sym (at-held w q s ws g o y k InfoPart ∙ object-info key y) ∙ z))
-          (at-held m p s os f o x h InfoPart ∙ object-info key x ∙ ap (λ c. fact_at (info_facts key c) (info_address key)) e ∙ fact_at-nil (info_address key))
+          (at-held m p s os f o x h InfoPart ∙ object-info key x ∙ ap (λ c. fact_at (info_cell_facts key c) (info_address key)) e ∙ fact_at-nil (info_address key))
 
       new_symbol : (id : SymbolId) (d : Cell (List ℕ)) → value_at symbol_id_cmp y.symbols id ≡ Some d → (found : Option (Cell (List ℕ))) → value_at symbol_id_cmp x.symbols id ≡ found
           → ForSome found (λ c. CellNeedsMemory c d) → HasNew (content m) (content w)
       new_symbol id d b found a needs =
-          let key = key_of s o in
+          let key = key_in s o in
           let known = each-value_at object_cmp SolidObject ws o y (each-value_at session_cmp SolidSession w s ws q.each g).each k in
           from_address (content m) (content w) (symbol_address key id)
           (symbol_stands w q s ws g o y k id d b (each-value_at symbol_id_cmp IsKnown y.symbols id d known.each b))
           (at-held m p s os f o x h (SymbolPart id) ∙ at-object x key id (each-value_at object_cmp SolidObject os o x (each-value_at session_cmp SolidSession m s os p.each f).each h).ordered
-          ∙ ap (λ z. option_map_or (λ c. fact_at (symbol_facts key id c) (symbol_address key id)) z None) a ∙ nothing found needs)
+          ∙ ap (λ z. option_map_or (λ c. fact_at (symbol_cell_facts key id c) (symbol_address key id)) z None) a ∙ nothing found needs)
         where
-          nothing : (found : Option (Cell (List ℕ))) → ForSome found (λ c. CellNeedsMemory c d) → option_map_or (λ c. fact_at (symbol_facts (key_of s o) id c) (symbol_address (key_of s o) id)) found None ≡ None
+          nothing : (found : Option (Cell (List ℕ))) → ForSome found (λ c. CellNeedsMemory c d) → option_map_or (λ c. fact_at (symbol_cell_facts (key_in s o) id c) (symbol_address (key_in s o) id)) found None ≡ None
           nothing None needs = refl
-          nothing (Some c) needs = ap (λ c. fact_at (symbol_facts (key_of s o) id c) (symbol_address (key_of s o) id)) (needs c refl).0 ∙ fact_at-nil (symbol_address (key_of s o) id)
+          nothing (Some c) needs = ap (λ c. fact_at (symbol_cell_facts (key_in s o) id c) (symbol_address (key_in s o) id)) (needs c refl).0 ∙ fact_at-nil (symbol_address (key_in s o) id)
 
       new_in_object : ObjectNeedsMemory x y → HasNew (content m) (content w)
       new_in_object (inl needs) = new_info needs
@@ -76,7 +76,7 @@ module _ {n : ℕ} (m w : List (Session × List (ObjectName × Object n))) (p : 
         → HasNew (content m) (content w)
     new_object o y k None h needs =
         let stands = object_stands w q s ws g o y k in
-        from_address (content m) (content w) (record { key = key_of s o; part = stands.0 }) stands.1 (none_of_object o stands.0 h)
+        from_address (content m) (content w) (record { key = key_in s o; part = stands.0 }) stands.1 (none_of_object o stands.0 h)
     new_object o y k (Some x) h needs = new_in_object o x y h k (needs x refl)
 
   new_session : (s : Session) (ws : List (ObjectName × Object n)) → value_at session_cmp w s ≡ Some ws → (found : Option (List (ObjectName × Object n))) → value_at session_cmp m s ≡ found

@@ -16,7 +16,7 @@ use Rattle.flute_parts.specs.declared.symbol_id.SymbolId.{SymbolId}
 use Rattle.flute_parts.specs.declared.fact.Fact.{Fact}
 use Rattle.flute_parts.proofs.Division.{div_ceil-pos}
 use Rattle.flute_parts.proofs.Split.{places-inverse, ids_counted}
-use Rattle.flute_store.specs.Objects.{Whole, bytes_of, object}
+use Rattle.flute_store.specs.Objects.{Whole, value_bytes, object}
 
 -- each symbol has e bytes, or is the last and has m
 abbrev Each : (SymbolId → List ℕ) → ℕ → ℕ → List SymbolId → Type 0
@@ -60,13 +60,13 @@ fits-length info id n k v l g h =
     ]
 
 symbol_bytes : List Fact → Key → SymbolId → List ℕ
-symbol_bytes F key id = bytes_of (fact_at F (symbol_address key id))
+symbol_bytes F key id = value_bytes (fact_at F (symbol_address key id))
 
 each-symbol : (F : List Fact) (key : Key) (info : Information) → IsValid info → Whole F key info → Each (symbol_bytes F key) info.symbol_length (last_length info) (ids info)
 unfolding symbol_bytes
 each-symbol F key info v w k id l g =
     let held = w.each id (k, l, g) in
-    let e : length (bytes_of (fact_at F (symbol_address key id))) ≡ length held.bytes = ap (λ o. length (bytes_of o)) held.value in
+    let e : length (value_bytes (fact_at F (symbol_address key id))) ≡ length held.bytes = ap (λ o. length (value_bytes o)) held.value in
     elim (fits-length info id (length held.bytes) k v l g held.fitting) [
       | inl p ↦ inl (e ∙ p)
       | inr p ↦ inr (p.0, e ∙ p.1)
@@ -98,12 +98,12 @@ enough info f (x ∷ xs) c p l h =
 pub object-length : (F : List Fact) (key : Key) (info : Information) → IsValid info → Whole F key info → length (object F key info) ≡ info.transfer_length
 unfolding object symbol_bytes
 object-length F key info v w = elim (eq-zero-or-pos info.transfer_length) [
-  | inl z ↦ none info.transfer_length (flat_map (λ id. bytes_of (fact_at F (symbol_address key id))) (ids info)) z
+  | inl z ↦ none info.transfer_length (flat_map (λ id. value_bytes (fact_at F (symbol_address key id))) (ids info)) z
   | inr l ↦
       let h = v.parts l in
       let count = ids_counted info v in
       let pos = div_ceil-pos info.transfer_length info.symbol_length l in
-      length-take-le info.transfer_length (flat_map (λ id. bytes_of (fact_at F (symbol_address key id))) (ids info))
+      length-take-le info.transfer_length (flat_map (λ id. value_bytes (fact_at F (symbol_address key id))) (ids info))
       (enough info (symbol_bytes F key) (ids info) count (omega (arith, count, pos)) (last-short info h.symbol) (each-symbol F key info v w))
 ]
   where

@@ -20,9 +20,9 @@ use Rattle.flute_join.specs.Cell.{cell_join, IsKnown}
 use Rattle.flute_join.specs.declared.cell.Cell.{Cell}
 use Rattle.flute_join.specs.declared.cell.Cell.TheVariants.{Absent, One, Conflict}
 use Rattle.flute_parts.specs.declared.symbol_id.SymbolId.{SymbolId}
-use Rattle.flute_store.specs.declared.news.Told.{Told}
-use Rattle.flute_store.specs.declared.news.Told.TheVariants.{Borrowed as BorrowedTold, Owned as OwnedTold, Conflict as ConflictTold}
-use Rattle.flute_store.specs.News.{told_cell, told_symbols}
+use Rattle.flute_store.specs.declared.update.SymbolUpdate.{SymbolUpdate}
+use Rattle.flute_store.specs.declared.update.SymbolUpdate.TheVariants.{Borrowed as BorrowedUpdate, Owned as OwnedUpdate, Conflict as ConflictUpdate}
+use Rattle.flute_store.specs.Update.{update_cell, update_symbols}
 use Rattle.flute_store.specs.Beyond.{AnyValue}
 
 module _ {K X : Type 0} (cmp : K → K → Ordering) (B : X → Type 0) where
@@ -105,9 +105,9 @@ absent-right eq (One x) (One y) e = absurd (no_choice (eq x y) x e)
 absent-right eq (One x) Conflict e = cc
 absent-right eq Conflict d e = cc
 
-pub told-some : (o : Option (SymbolId × Told)) → o ≢ None → told_symbols o ≢ []
-told-some None h = λ e. h refl
-told-some (Some t) h = λ e. cc
+pub update-some : (o : Option (SymbolId × SymbolUpdate)) → o ≢ None → update_symbols o ≢ []
+update-some None h = λ e. h refl
+update-some (Some t) h = λ e. cc
 
 pub known-join : {T : Type 0} (eq : T → T → Bool) (c d : Cell T) → IsKnown c → IsKnown (cell_join eq c d)
 known-join eq Absent d h = absurd (h refl)
@@ -120,7 +120,7 @@ known-join eq (One x) (One y) h = known_choice (eq x y) x
 known-join eq (One x) Conflict h = λ e. cc
 known-join eq Conflict d h = h
 
-pub known-told : (t : Told) → IsKnown (told_cell t)
-known-told (BorrowedTold bytes) = λ e. cc
-known-told (OwnedTold bytes) = λ e. cc
-known-told ConflictTold = λ e. cc
+pub known-update : (t : SymbolUpdate) → IsKnown (update_cell t)
+known-update (BorrowedUpdate bytes) = λ e. cc
+known-update (OwnedUpdate bytes) = λ e. cc
+known-update ConflictUpdate = λ e. cc

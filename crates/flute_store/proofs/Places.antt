@@ -14,11 +14,11 @@ use Rattle.flute_store.specs.declared.gap.Reason.{Reason}
 use Rattle.flute_store.specs.declared.gap.Reason.TheVariants.{Missing, Misfit}
 use Rattle.flute_store.specs.declared.gap.Gap.{Gap}
 use Rattle.flute_store.specs.declared.turn.Turn.{Turn}
-use Rattle.flute_store.specs.declared.gap_walk.Look.{Look}
-use Rattle.flute_store.specs.declared.gap_walk.Look.TheVariants.{End, BlockEnd, Passed, Fitting, Wanted, NotHeld}
-use Rattle.flute_store.specs.declared.gap_walk.GapWalk.{GapWalk}
-use Rattle.flute_store.specs.GapWalk.{EndsBefore, IsPlace, want_length, look_wanted, look_next, look_at, until_at, ended_run, run_with, missing_gap, after_missing, after_wanted, after_block, turn_after, turn_of}
-use Rattle.flute_store.specs.Scans.{run_length, IsWithin}
+use Rattle.flute_store.specs.declared.partition_scan.Upcoming.{Upcoming}
+use Rattle.flute_store.specs.declared.partition_scan.Upcoming.TheVariants.{End, BlockEnd, Passed, Fitting, Wanted, NotHeld}
+use Rattle.flute_store.specs.declared.partition_scan.PartitionScan.{PartitionScan}
+use Rattle.flute_store.specs.PartitionScan.{EndsBefore, IsPlace, want_length, upcoming_wanted, upcoming_next, upcoming_at, until_at, ended_run, run_with, missing_gap, after_missing, after_wanted, after_block, turn_after, turn_of}
+use Rattle.flute_store.specs.Scans.{run_length, CountsWithin}
 use Rattle.flute_store.specs.declared.status.Wanted.{Wanted as Counted}
 use Rattle.flute_store.proofs.GapSteps.{greater-cases, run-ends}
 use Rattle.flute_store.proofs.Turns.{run-is, no-run}
@@ -28,20 +28,20 @@ Next = Option (SymbolId × Option ℕ)
 
 -- ---- what comes next, from its parts
 
-pub at-end : (w : GapWalk) (next : Next) → w.esi ≡ w.size → w.begun ≡ length (sizes w.partition) → End ≡ look_at w next
-unfolding look_at
-at-end w next e f = sym ((λ i. cond (eq-eqb w.esi w.size e i) (cond (w.begun == length (sizes w.partition)) End BlockEnd) (look_next w.partition (symbol_id w.sbn w.esi) next)) ∙ ap (λ b. cond b End BlockEnd) (eq-eqb w.begun (length (sizes w.partition)) f))
+pub at-end : (w : PartitionScan) (next : Next) → w.esi ≡ w.size → w.begun ≡ length (sizes w.partition) → End ≡ upcoming_at w next
+unfolding upcoming_at
+at-end w next e f = sym ((λ i. cond (eq-eqb w.esi w.size e i) (cond (w.begun == length (sizes w.partition)) End BlockEnd) (upcoming_next w.partition (symbol_id w.sbn w.esi) next)) ∙ ap (λ b. cond b End BlockEnd) (eq-eqb w.begun (length (sizes w.partition)) f))
 
-pub at-block_end : (w : GapWalk) (next : Next) → w.esi ≡ w.size → w.begun ≢ length (sizes w.partition) → BlockEnd ≡ look_at w next
-unfolding look_at
-at-block_end w next e f = sym ((λ i. cond (eq-eqb w.esi w.size e i) (cond (w.begun == length (sizes w.partition)) End BlockEnd) (look_next w.partition (symbol_id w.sbn w.esi) next)) ∙ ap (λ b. cond b End BlockEnd) (ne_eqb w.begun (length (sizes w.partition)) f))
+pub at-block_end : (w : PartitionScan) (next : Next) → w.esi ≡ w.size → w.begun ≢ length (sizes w.partition) → BlockEnd ≡ upcoming_at w next
+unfolding upcoming_at
+at-block_end w next e f = sym ((λ i. cond (eq-eqb w.esi w.size e i) (cond (w.begun == length (sizes w.partition)) End BlockEnd) (upcoming_next w.partition (symbol_id w.sbn w.esi) next)) ∙ ap (λ b. cond b End BlockEnd) (ne_eqb w.begun (length (sizes w.partition)) f))
 
-pub at-inside : (w : GapWalk) (next : Next) → w.esi ≢ w.size → look_next w.partition (symbol_id w.sbn w.esi) next ≡ look_at w next
-unfolding look_at
-at-inside w next i = sym (ap (λ b. cond b (cond (w.begun == length (sizes w.partition)) End BlockEnd) (look_next w.partition (symbol_id w.sbn w.esi) next)) (ne_eqb w.esi w.size i))
+pub at-inside : (w : PartitionScan) (next : Next) → w.esi ≢ w.size → upcoming_next w.partition (symbol_id w.sbn w.esi) next ≡ upcoming_at w next
+unfolding upcoming_at
+at-inside w next i = sym (ap (λ b. cond b (cond (w.begun == length (sizes w.partition)) End BlockEnd) (upcoming_next w.partition (symbol_id w.sbn w.esi) next)) (ne_eqb w.esi w.size i))
 
-pub at-first : (w : GapWalk) (id : SymbolId) (n : Option ℕ) (o : Ordering) → w.esi ≢ w.size → symbol_id_cmp id (symbol_id w.sbn w.esi) ≡ o → match_ordering o Passed (look_wanted (want_length w.partition id n)) NotHeld ≡ look_at w (Some (id, n))
-at-first w id n o i c = ap (λ o. match_ordering o Passed (look_wanted (want_length w.partition id n)) NotHeld) (sym c) ∙ at-inside w (Some (id, n)) i
+pub at-first : (w : PartitionScan) (id : SymbolId) (n : Option ℕ) (o : Ordering) → w.esi ≢ w.size → symbol_id_cmp id (symbol_id w.sbn w.esi) ≡ o → match_ordering o Passed (upcoming_wanted (want_length w.partition id n)) NotHeld ≡ upcoming_at w (Some (id, n))
+at-first w id n o i c = ap (λ o. match_ordering o Passed (upcoming_wanted (want_length w.partition id n)) NotHeld) (sym c) ∙ at-inside w (Some (id, n)) i
 
 -- ---- and what it tells
 
@@ -49,7 +49,7 @@ abbrev IsAfter : SymbolId → Next → Type 0
 IsAfter here None = Unit {0}
 IsAfter here (Some next) = symbol_id_cmp next.0 here ≡ Greater
 
-abbrev TellsAt : GapWalk → Next → Look → Type 0
+abbrev TellsAt : PartitionScan → Next → Upcoming → Type 0
 TellsAt w next End = (w.esi ≡ w.size) × (w.begun ≡ length (sizes w.partition))
 TellsAt w next BlockEnd = (w.esi ≡ w.size) × (w.begun ≢ length (sizes w.partition))
 TellsAt w next Passed = (n : SymbolId × Option ℕ) × (next ≡ Some n)
@@ -57,46 +57,46 @@ TellsAt w next Fitting = (w.esi ≢ w.size) × ((n : ℕ) × (next ≡ Some (sym
 TellsAt w next (Wanted r) = (w.esi ≢ w.size) × (r ≢ Missing) × ((n : Option ℕ) × (next ≡ Some (symbol_id w.sbn w.esi, n)))
 TellsAt w next NotHeld = (w.esi ≢ w.size) × IsAfter (symbol_id w.sbn w.esi) next
 
-tells-wanted : (w : GapWalk) (next : Next) (n : Option ℕ) → w.esi ≢ w.size → next ≡ Some (symbol_id w.sbn w.esi, n) → TellsAt w next (look_wanted (want_length w.partition (symbol_id w.sbn w.esi) n))
+tells-wanted : (w : PartitionScan) (next : Next) (n : Option ℕ) → w.esi ≢ w.size → next ≡ Some (symbol_id w.sbn w.esi, n) → TellsAt w next (upcoming_wanted (want_length w.partition (symbol_id w.sbn w.esi) n))
 tells-wanted w next None i e = (i, (λ e. cc), (None, e))
 tells-wanted w next (Some n) i e = by_test (fits w.partition (symbol_id w.sbn w.esi) n) refl
   where
-    by_test : (b : Bool) → fits w.partition (symbol_id w.sbn w.esi) n ≡ b → TellsAt w next (look_wanted (cond b None (Some Misfit)))
+    by_test : (b : Bool) → fits w.partition (symbol_id w.sbn w.esi) n ≡ b → TellsAt w next (upcoming_wanted (cond b None (Some Misfit)))
     by_test true f = (i, (n, e, f))
     by_test false f = (i, (λ e. cc), (Some n, e))
 
-tells-next : (w : GapWalk) (next : Next) → w.esi ≢ w.size → TellsAt w next (look_next w.partition (symbol_id w.sbn w.esi) next)
+tells-next : (w : PartitionScan) (next : Next) → w.esi ≢ w.size → TellsAt w next (upcoming_next w.partition (symbol_id w.sbn w.esi) next)
 tells-next w None i = (i, tt)
 tells-next w (Some next) i = by_order (symbol_id_cmp next.0 (symbol_id w.sbn w.esi)) refl
   where
-    by_order : (o : Ordering) → symbol_id_cmp next.0 (symbol_id w.sbn w.esi) ≡ o → TellsAt w (Some next) (match_ordering o Passed (look_wanted (want_length w.partition next.0 next.1)) NotHeld)
+    by_order : (o : Ordering) → symbol_id_cmp next.0 (symbol_id w.sbn w.esi) ≡ o → TellsAt w (Some next) (match_ordering o Passed (upcoming_wanted (want_length w.partition next.0 next.1)) NotHeld)
     by_order Less e = (next, refl)
     by_order Equal e =
         let h = symbol_id_place next.0 (symbol_id w.sbn w.esi) e in
-        subst (λ id. TellsAt w (Some next) (look_wanted (want_length w.partition id next.1))) (sym h) (tells-wanted w (Some next) next.1 i (ap (λ id. Some (id, next.1)) h))
+        subst (λ id. TellsAt w (Some next) (upcoming_wanted (want_length w.partition id next.1))) (sym h) (tells-wanted w (Some next) next.1 i (ap (λ id. Some (id, next.1)) h))
     by_order Greater e = (i, e)
 
-tells-at : (w : GapWalk) (next : Next) → TellsAt w next (look_at w next)
-unfolding look_at
+tells-at : (w : PartitionScan) (next : Next) → TellsAt w next (upcoming_at w next)
+unfolding upcoming_at
 tells-at w next = elim (cases_Bool (w.esi == w.size)) [
   | inr f ↦
-      subst (λ b. TellsAt w next (cond b (cond (w.begun == length (sizes w.partition)) End BlockEnd) (look_next w.partition (symbol_id w.sbn w.esi) next))) (sym f)
+      subst (λ b. TellsAt w next (cond b (cond (w.begun == length (sizes w.partition)) End BlockEnd) (upcoming_next w.partition (symbol_id w.sbn w.esi) next))) (sym f)
       (tells-next w next (eqb-false w.esi w.size f))
   | inl t ↦
       let e = eqb-true w.esi w.size t in
-      subst (λ b. TellsAt w next (cond b (cond (w.begun == length (sizes w.partition)) End BlockEnd) (look_next w.partition (symbol_id w.sbn w.esi) next))) (sym t)
+      subst (λ b. TellsAt w next (cond b (cond (w.begun == length (sizes w.partition)) End BlockEnd) (upcoming_next w.partition (symbol_id w.sbn w.esi) next))) (sym t)
       (elim (cases_Bool (w.begun == length (sizes w.partition))) [
         | inl u ↦ subst (λ b. TellsAt w next (cond b End BlockEnd)) (sym u) (e, eqb-true w.begun (length (sizes w.partition)) u)
         | inr u ↦ subst (λ b. TellsAt w next (cond b End BlockEnd)) (sym u) (e, eqb-false w.begun (length (sizes w.partition)) u)
       ])
 ]
 
-pub told-at : (w : GapWalk) (next : Next) (l : Look) → look_at w next ≡ l → TellsAt w next l
+pub told-at : (w : PartitionScan) (next : Next) (l : Upcoming) → upcoming_at w next ≡ l → TellsAt w next l
 told-at w next l h = subst (TellsAt w next) h (tells-at w next)
 
 -- ---- where the next held symbol is
 
-until-beyond : (w : GapWalk) (next : Next) → w.esi < w.size → IsAfter (symbol_id w.sbn w.esi) next → (w.esi < until_at w next) × (until_at w next ≤ w.size)
+until-beyond : (w : PartitionScan) (next : Next) → w.esi < w.size → IsAfter (symbol_id w.sbn w.esi) next → (w.esi < until_at w next) × (until_at w next ≤ w.size)
 until-beyond w None l a = (l, omega arith)
 until-beyond w (Some next) l a = elim (cases_Bool ((next.0.sbn == w.sbn) && nat_lt next.0.esi w.size)) [
   | inl t ↦
@@ -108,24 +108,24 @@ until-beyond w (Some next) l a = elim (cases_Bool ((next.0.sbn == w.sbn) && nat_
   | inr t ↦ subst (λ b. (w.esi < cond b next.0.esi w.size) × (cond b next.0.esi w.size ≤ w.size)) (sym t) (l, omega arith)
 ]
 
-module _ (w : GapWalk) (next : Next) (p : IsPlace w) where
+module _ (w : PartitionScan) (next : Next) (p : IsPlace w) where
   inside : w.esi ≢ w.size → w.esi < w.size
   inside i = let l = p.within in omega (arith, l, i)
 
-  pub until-within : look_at w next ≡ NotHeld → (w.esi < until_at w next) × (until_at w next ≤ w.size)
+  pub until-within : upcoming_at w next ≡ NotHeld → (w.esi < until_at w next) × (until_at w next ≤ w.size)
   until-within h = let t = told-at w next NotHeld h in until-beyond w next (inside t.0) t.1
 
-  pub block-next : look_at w next ≡ BlockEnd → w.begun < length (sizes w.partition)
+  pub block-next : upcoming_at w next ≡ BlockEnd → w.begun < length (sizes w.partition)
   block-next h = let t = told-at w next BlockEnd h in let l = p.begun in let n = t.1 in omega (arith, l, n)
 
-  pub wanted-small : (r : Reason) → look_at w next ≡ Wanted r → w.esi < 65536
+  pub wanted-small : (r : Reason) → upcoming_at w next ≡ Wanted r → w.esi < 65536
   wanted-small r h = let t = told-at w next (Wanted r) h in let l = inside t.0 in let m = p.longest in omega (arith, l, m)
 
-  pub fitting-small : look_at w next ≡ Fitting → w.esi < 65536
+  pub fitting-small : upcoming_at w next ≡ Fitting → w.esi < 65536
   fitting-small h = let l = inside (told-at w next Fitting h).0 in let m = p.longest in omega (arith, l, m)
 
   -- behind a turn a walk is in its place
-  place-on : (l : Look) (o : Option Gap) → look_at w next ≡ l → ended_run w.run l ≡ o → (turn_after w next l o).1.size ≤ 65536 → IsPlace (turn_after w next l o).1
+  place-on : (l : Upcoming) (o : Option Gap) → upcoming_at w next ≡ l → ended_run w.run l ≡ o → (turn_after w next l o).1.size ≤ 65536 → IsPlace (turn_after w next l o).1
   place-on l (Some g) e h s = record { blocks = p.blocks; begun = p.begun; within = p.within; longest = s; running = tt }
   place-on End None e h s = p
   place-on BlockEnd None e h s =
@@ -144,24 +144,24 @@ module _ (w : GapWalk) (next : Next) (p : IsPlace w) where
 
   pub place-turn : (turn_of w next).1.size ≤ 65536 → IsPlace (turn_of w next).1
   unfolding turn_of
-  place-turn s = place-on (look_at w next) (ended_run w.run (look_at w next)) refl refl s
+  place-turn s = place-on (upcoming_at w next) (ended_run w.run (upcoming_at w next)) refl refl s
 
   -- and a walk that a turn led to is
-  pub placed : (answer : Option Turn) (x : GapWalk) → (answer, x) ≡ turn_of w next → x.size ≤ 65536 → IsPlace x
-  placed answer x e s = subst IsPlace (sym (ap (λ (t : Option Turn × GapWalk). t.1) e)) (place-turn (subst (λ (y : GapWalk). y.size ≤ 65536) (ap (λ (t : Option Turn × GapWalk). t.1) e) s))
+  pub placed : (answer : Option Turn) (x : PartitionScan) → (answer, x) ≡ turn_of w next → x.size ≤ 65536 → IsPlace x
+  placed answer x e s = subst IsPlace (sym (ap (λ (t : Option Turn × PartitionScan). t.1) e)) (place-turn (subst (λ (y : PartitionScan). y.size ≤ 65536) (ap (λ (t : Option Turn × PartitionScan). t.1) e) s))
 
 -- ---- what a turn was
 
 -- how the walk x came about
-abbrev pub Kind : GapWalk → Next → Option Turn → GapWalk → Type 0
-Kind w next None x = (look_at w next ≡ BlockEnd) × (w.run ≡ None) × (x ≡ after_block w)
-Kind w next (Some (Turn.Gap g)) x = ((w.run ≡ Some g) × (x ≡ record w { run = None })) ⊎ ((w.run ≡ None) × (look_at w next ≡ NotHeld) × (x ≡ after_missing w next) × (g ≡ missing_gap w next))
-Kind w next (Some Turn.Fitting) x = (look_at w next ≡ Fitting) × (w.run ≡ None) × (x ≡ record w { esi = w.esi + 1 })
-Kind w next (Some Turn.Wanted) x = (r : Reason) × (look_at w next ≡ Wanted r) × (ended_run w.run (Wanted r) ≡ None) × (x ≡ after_wanted w r)
-Kind w next (Some Turn.Passed) x = (look_at w next ≡ Passed) × (x ≡ w)
-Kind w next (Some Turn.End) x = (look_at w next ≡ End) × (w.run ≡ None) × (x ≡ w)
+abbrev pub Kind : PartitionScan → Next → Option Turn → PartitionScan → Type 0
+Kind w next None x = (upcoming_at w next ≡ BlockEnd) × (w.run ≡ None) × (x ≡ after_block w)
+Kind w next (Some (Turn.Gap g)) x = ((w.run ≡ Some g) × (x ≡ record w { run = None })) ⊎ ((w.run ≡ None) × (upcoming_at w next ≡ NotHeld) × (x ≡ after_missing w next) × (g ≡ missing_gap w next))
+Kind w next (Some Turn.Fitting) x = (upcoming_at w next ≡ Fitting) × (w.run ≡ None) × (x ≡ record w { esi = w.esi + 1 })
+Kind w next (Some Turn.Wanted) x = (r : Reason) × (upcoming_at w next ≡ Wanted r) × (ended_run w.run (Wanted r) ≡ None) × (x ≡ after_wanted w r)
+Kind w next (Some Turn.Passed) x = (upcoming_at w next ≡ Passed) × (x ≡ w)
+Kind w next (Some Turn.End) x = (upcoming_at w next ≡ End) × (w.run ≡ None) × (x ≡ w)
 
-kind-on : (w : GapWalk) (next : Next) (l : Look) (o : Option Gap) → look_at w next ≡ l → ended_run w.run l ≡ o → Kind w next (turn_after w next l o).0 (turn_after w next l o).1
+kind-on : (w : PartitionScan) (next : Next) (l : Upcoming) (o : Option Gap) → upcoming_at w next ≡ l → ended_run w.run l ≡ o → Kind w next (turn_after w next l o).0 (turn_after w next l o).1
 kind-on w next l (Some g) e h = inl (run-is w.run l g h, refl)
 kind-on w next End None e h = (e, no-run w.run End tt h, refl)
 kind-on w next BlockEnd None e h = (e, no-run w.run BlockEnd tt h, refl)
@@ -170,9 +170,9 @@ kind-on w next Fitting None e h = (e, no-run w.run Fitting tt h, refl)
 kind-on w next (Wanted r) None e h = (r, e, h, refl)
 kind-on w next NotHeld None e h = inr (no-run w.run NotHeld tt h, e, refl, refl)
 
-pub kind : (w : GapWalk) (next : Next) (t : Option Turn) (x : GapWalk) → (t, x) ≡ turn_of w next → Kind w next t x
+pub kind : (w : PartitionScan) (next : Next) (t : Option Turn) (x : PartitionScan) → (t, x) ≡ turn_of w next → Kind w next t x
 unfolding turn_of
-kind w next t x e = subst (λ (r : Option Turn × GapWalk). Kind w next r.0 r.1) (sym e) (kind-on w next (look_at w next) (ended_run w.run (look_at w next)) refl refl)
+kind w next t x e = subst (λ (r : Option Turn × PartitionScan). Kind w next r.0 r.1) (sym e) (kind-on w next (upcoming_at w next) (ended_run w.run (upcoming_at w next)) refl refl)
 
 -- ---- no more is counted than was passed
 
@@ -181,16 +181,16 @@ abbrev pub NoGap : Option Turn → Type 0
 NoGap (Some (Turn.Gap g)) = ⊥
 NoGap t = Unit {0}
 
-module _ (w : GapWalk) (next : Next) (c : Counted) (p : IsPlace w) (h : IsWithin w c) where
-  pub within-turn : (t : Option Turn) (x : GapWalk) → NoGap t → Kind w next t x → IsWithin x c
+module _ (w : PartitionScan) (next : Next) (c : Counted) (p : IsPlace w) (h : CountsWithin w c) where
+  pub within-turn : (t : Option Turn) (x : PartitionScan) → NoGap t → Kind w next t x → CountsWithin x c
   within-turn None x n k =
-      let r : IsWithin (record w { run = None }) c = subst (λ o. IsWithin (record w { run = o }) c) k.1 h in
+      let r : CountsWithin (record w { run = None }) c = subst (λ o. CountsWithin (record w { run = o }) c) k.1 h in
       let l = p.within in
       let m = p.longest in
-      subst (λ y. IsWithin y c) (sym k.2) (subst (λ o. c.missing + c.conflicting + c.misfit + run_length o ≤ (w.begun + 1) * 65536 + 0) (sym k.1) (omega (arith, r, l, m)))
+      subst (λ y. CountsWithin y c) (sym k.2) (subst (λ o. c.missing + c.conflicting + c.misfit + run_length o ≤ (w.begun + 1) * 65536 + 0) (sym k.1) (omega (arith, r, l, m)))
   within-turn (Some (Turn.Gap g)) x n k = absurd n
-  within-turn (Some Turn.Fitting) x n k = subst (λ y. IsWithin y c) (sym k.2) (let l = h in omega (arith, l))
-  within-turn (Some Turn.Wanted) x n k = subst (λ y. IsWithin y c) (sym k.3) (by_run w.run refl)
+  within-turn (Some Turn.Fitting) x n k = subst (λ y. CountsWithin y c) (sym k.2) (let l = h in omega (arith, l))
+  within-turn (Some Turn.Wanted) x n k = subst (λ y. CountsWithin y c) (sym k.3) (by_run w.run refl)
     where
       by_run : (o : Option Gap) → w.run ≡ o → c.missing + c.conflicting + c.misfit + run_length (Some (run_with w.sbn w.esi k.0 w.run)) ≤ w.begun * 65536 + (w.esi + 1)
       by_run None e =
@@ -202,22 +202,22 @@ module _ (w : GapWalk) (next : Next) (c : Counted) (p : IsPlace w) (h : IsWithin
           let a = q.1 in
           let b = q.2 in
           subst (λ o. c.missing + c.conflicting + c.misfit + run_length (Some (run_with w.sbn w.esi k.0 o)) ≤ w.begun * 65536 + (w.esi + 1)) (sym e) (omega (arith, r, a, b))
-  within-turn (Some Turn.Passed) x n k = subst (λ y. IsWithin y c) (sym k.1) h
-  within-turn (Some Turn.End) x n k = subst (λ y. IsWithin y c) (sym k.2) h
+  within-turn (Some Turn.Passed) x n k = subst (λ y. CountsWithin y c) (sym k.1) h
+  within-turn (Some Turn.End) x n k = subst (λ y. CountsWithin y c) (sym k.2) h
 
   -- a gap has a symbol, and with its symbols counted this holds too
-  pub within-gap : (g : Gap) (x : GapWalk) → Kind w next (Some (Turn.Gap g)) x → (g.first ≤ g.last) × (c.missing + c.conflicting + c.misfit + (g.last + 1 - g.first) + run_length x.run ≤ x.begun * 65536 + x.esi)
+  pub within-gap : (g : Gap) (x : PartitionScan) → Kind w next (Some (Turn.Gap g)) x → (g.first ≤ g.last) × (c.missing + c.conflicting + c.misfit + (g.last + 1 - g.first) + run_length x.run ≤ x.begun * 65536 + x.esi)
   within-gap g x (inl k) =
       let r : c.missing + c.conflicting + c.misfit + (g.last + 1 - g.first) ≤ w.begun * 65536 + w.esi = subst (λ o. c.missing + c.conflicting + c.misfit + run_length o ≤ w.begun * 65536 + w.esi) k.0 h in
       let q : EndsBefore w.sbn w.esi (Some g) = subst (EndsBefore w.sbn w.esi) k.0 p.running in
-      (q.1, subst (λ (y : GapWalk). c.missing + c.conflicting + c.misfit + (g.last + 1 - g.first) + run_length y.run ≤ y.begun * 65536 + y.esi) (sym k.1) (omega (arith, r)))
+      (q.1, subst (λ (y : PartitionScan). c.missing + c.conflicting + c.misfit + (g.last + 1 - g.first) + run_length y.run ≤ y.begun * 65536 + y.esi) (sym k.1) (omega (arith, r)))
   within-gap g x (inr k) =
       let r : c.missing + c.conflicting + c.misfit + 0 ≤ w.begun * 65536 + w.esi = subst (λ o. c.missing + c.conflicting + c.misfit + run_length o ≤ w.begun * 65536 + w.esi) k.0 h in
       let u = until-within w next p k.1 in
       let l = u.0 in
       let a : w.esi ≤ until_at w next - 1 = omega (arith, l) in (
         subst (λ (f : Gap). f.first ≤ f.last) (sym k.3) a,
-        subst (λ (y : GapWalk). c.missing + c.conflicting + c.misfit + (g.last + 1 - g.first) + run_length y.run ≤ y.begun * 65536 + y.esi) (sym k.2)
+        subst (λ (y : PartitionScan). c.missing + c.conflicting + c.misfit + (g.last + 1 - g.first) + run_length y.run ≤ y.begun * 65536 + y.esi) (sym k.2)
             (subst (λ (f : Gap). c.missing + c.conflicting + c.misfit + (f.last + 1 - f.first) + run_length w.run ≤ w.begun * 65536 + until_at w next) (sym k.3)
             (subst (λ o. c.missing + c.conflicting + c.misfit + (until_at w next - 1 + 1 - w.esi) + run_length o ≤ w.begun * 65536 + until_at w next) (sym k.0) (omega (arith, r, l)))),
       )

@@ -22,7 +22,7 @@ use Rattle.flute_join.specs.JoinMap.{IsOrdered, EachValue}
 use Rattle.flute_join.specs.declared.cell.Cell.{Cell}
 use Rattle.flute_join.specs.declared.cell.Cell.TheVariants.{Absent, One, Conflict}
 use Rattle.flute_store.specs.declared.object.Object.{Object}
-use Rattle.flute_store.specs.Content.{key_of, cell_facts, info_facts, symbol_facts, symbols_facts, object_facts, session_facts, content}
+use Rattle.flute_store.specs.Content.{key_in, cell_facts, info_cell_facts, symbol_cell_facts, symbols_facts, object_facts, session_facts, content}
 use Rattle.flute_store.proofs.StoreJoin.{OrderedObject, OrderedSession, OrderedStore}
 
 -- P holds of each address
@@ -91,29 +91,29 @@ after_info key (f ∷ F) s = (ap (address_cmp (info_address key)) s.0.1 ∙ ap (
 module _ {n : ℕ} where
   object-rises : (key : Key) (x : Object n) → OrderedObject x → IsRising (object_facts key x)
   object-rises key x p =
-      rising-append (info_facts key x.info) (symbols_facts key x.symbols) (cell-rises _ _ x.info)
-      (groups-rise symbol_id_cmp (λ e. symbol_facts key e.0 e.1) (λ id a. a ≡ symbol_address key id) (λ _. Unit {0}) (λ e _. cell-rises _ _ e.1) (λ e. cell-stands (λ a. a ≡ symbol_address key e.0) _ _ (λ v. refl) refl e.1)
+      rising-append (info_cell_facts key x.info) (symbols_facts key x.symbols) (cell-rises _ _ x.info)
+      (groups-rise symbol_id_cmp (λ e. symbol_cell_facts key e.0 e.1) (λ id a. a ≡ symbol_address key id) (λ _. Unit {0}) (λ e _. cell-rises _ _ e.1) (λ e. cell-stands (λ a. a ≡ symbol_address key e.0) _ _ (λ v. refl) refl e.1)
       (λ j k a b q r l. (λ i. address_cmp (q i) (r i)) ∙ ap (λ o. ordering_then o (symbol_id_cmp j k)) (same_key key) ∙ l) x.symbols p (any_value x.symbols))
       (cell-stands (λ a. StandAfter a (symbols_facts key x.symbols)) _ _ (λ v. later) later x.info)
     where
       later : StandAfter (info_address key) (symbols_facts key x.symbols)
-      later = after_info key (symbols_facts key x.symbols) (stand-flat_map (λ b. (id : SymbolId) × (b ≡ symbol_address key id)) (λ e. symbol_facts key e.0 e.1) (λ e. cell-stands (λ b. (id : SymbolId) × (b ≡ symbol_address key id)) _ _ (λ v. (e.0, refl)) (e.0, refl) e.1) x.symbols)
+      later = after_info key (symbols_facts key x.symbols) (stand-flat_map (λ b. (id : SymbolId) × (b ≡ symbol_address key id)) (λ e. symbol_cell_facts key e.0 e.1) (λ e. cell-stands (λ b. (id : SymbolId) × (b ≡ symbol_address key id)) _ _ (λ v. (e.0, refl)) (e.0, refl) e.1) x.symbols)
 
   object-stands : (P : Address → Type 0) (key : Key) → ((a : Address) → a.key ≡ key → P a) → (x : Object n) → Stand P (object_facts key x)
   object-stands P key h x =
-      stand-append P (info_facts key x.info) (symbols_facts key x.symbols) (cell-stands P _ _ (λ v. h (info_address key) refl) (h (info_address key) refl) x.info)
-      (stand-flat_map P (λ e. symbol_facts key e.0 e.1) (λ e. cell-stands P _ _ (λ v. h (symbol_address key e.0) refl) (h (symbol_address key e.0) refl) e.1) x.symbols)
+      stand-append P (info_cell_facts key x.info) (symbols_facts key x.symbols) (cell-stands P _ _ (λ v. h (info_address key) refl) (h (info_address key) refl) x.info)
+      (stand-flat_map P (λ e. symbol_cell_facts key e.0 e.1) (λ e. cell-stands P _ _ (λ v. h (symbol_address key e.0) refl) (h (symbol_address key e.0) refl) e.1) x.symbols)
 
   session-rises : (session : Session) (os : List (ObjectName × Object n)) → OrderedSession os → IsRising (session_facts session os)
   session-rises session os p =
-      groups-rise object_cmp (λ e. object_facts (key_of session e.0) e.1) (λ o a. a.key ≡ key_of session o) OrderedObject (λ e q. object-rises (key_of session e.0) e.1 q)
-      (λ e. object-stands (λ a. a.key ≡ key_of session e.0) (key_of session e.0) (λ a q. q) e.1)
+      groups-rise object_cmp (λ e. object_facts (key_in session e.0) e.1) (λ o a. a.key ≡ key_in session o) OrderedObject (λ e q. object-rises (key_in session e.0) e.1 q)
+      (λ e. object-stands (λ a. a.key ≡ key_in session e.0) (key_in session e.0) (λ a q. q) e.1)
       (λ j k a b q r l. (λ i. ordering_then (key_cmp (q i) (r i)) (part_cmp a.part b.part)) ∙ ap (λ o. ordering_then (ordering_then o (object_cmp j k)) (part_cmp a.part b.part)) (tied_itself session_total session) ∙ ap (λ o. ordering_then o (part_cmp a.part b.part)) l)
       os p.ordered p.each
 
   session-stands : (P : Address → Type 0) (session : Session) → ((a : Address) → a.key.session ≡ session → P a) → (os : List (ObjectName × Object n)) → Stand P (session_facts session os)
   session-stands P session h os =
-      stand-flat_map P (λ e. object_facts (key_of session e.0) e.1) (λ e. object-stands P (key_of session e.0) (λ a q. h a (ap (λ (k : Key). k.session) q)) e.1) os
+      stand-flat_map P (λ e. object_facts (key_in session e.0) e.1) (λ e. object-stands P (key_in session e.0) (λ a q. h a (ap (λ (k : Key). k.session) q)) e.1) os
 
   -- the facts of a store stand in the order of their addresses
   pub content-rises : (m : List (Session × List (ObjectName × Object n))) → OrderedStore m → IsRising (content m)

@@ -30,24 +30,24 @@ use Rattle.flute_store.specs.declared.gap.Reason.{Reason}
 use Rattle.flute_store.specs.declared.gap.Reason.TheVariants.{Missing, Conflicting, Misfit}
 use Rattle.flute_store.specs.declared.gap.Gap.{Gap}
 use Rattle.flute_store.specs.declared.turn.Turn.{Turn}
-use Rattle.flute_store.specs.declared.gap_walk.Look.TheVariants as Look
-use Rattle.flute_store.specs.declared.gap_walk.GapWalk.{GapWalk}
+use Rattle.flute_store.specs.declared.partition_scan.Upcoming.TheVariants as Upcoming
+use Rattle.flute_store.specs.declared.partition_scan.PartitionScan.{PartitionScan}
 use Rattle.flute_store.specs.declared.status.Wanted.{Wanted as Counted}
-use Rattle.flute_store.specs.Objects.{want, wants, runs, one, goes_on, before, listed, gaps, object, bytes_of, Whole}
+use Rattle.flute_store.specs.Objects.{want, wants, runs, one, goes_on, before, listed, gaps, object, value_bytes, Whole}
 use Rattle.flute_store.specs.Wanted.{wanted, with_reason}
 use Rattle.flute_store.specs.Status.{how_many, IsCount, Adds, CanAdd, AddsTurn}
 use Rattle.flute_store.specs.BytesLeft.{found_bytes, held_bytes}
-use Rattle.flute_store.specs.GapWalk.{walk_of, symbols_left, left, pending, gaps_left, IsWalk, IsPlace, turn_of, held_after, TurnsTo, after_block, after_missing, until_at}
+use Rattle.flute_store.specs.PartitionScan.{walk_of, symbols_left, left, pending, gaps_left, IsWalk, IsPlace, turn_of, held_after, TurnsTo, after_block, after_missing, until_at}
 use Rattle.flute_store.specs.Shown.{shown_by, shown}
 use Rattle.flute_store.specs.Extract.{IsNotWhole}
-use Rattle.flute_store.specs.Scan.{Scanned, told, told_next, CanFollow, ComeNext, Follows, IsFirstPart, GaveGap, PassedNext, value_of, Turned, PartOf}
-use Rattle.flute_store.specs.Scans.{Next, announced, held_next, passed_at_end, Stepped, ScanState, IsScan, IsWithin, ComesAs, one_run, IsDone, Walks, Scans}
+use Rattle.flute_store.specs.Scan.{Scanned, next_fact, coming_fact, CanFollow, ComeNext, Follows, IsFirstPart, GaveGap, PassedNext, value_of, Turned, PartOf}
+use Rattle.flute_store.specs.Scans.{BeginsBlocks, Next, announced, held_next, passed_at_end, Stepped, ScanState, IsScan, CountsWithin, ComesAs, one_run, FitsSoFar, Walks, Scans}
 use Rattle.flute_store.proofs.Lookups.{Entry}
 use Rattle.flute_store.proofs.KeyLists.{one_is, first_is}
 use Rattle.flute_store.specs.Found.{symbol_fact}
 use Rattle.flute_store.proofs.Runs.{goes_on-sbn}
 use Rattle.flute_store.proofs.HowMany.{how-append, how-all, listed-length}
-use Rattle.flute_store.proofs.Looks.{told as told-look, taken, taken-left, look-end}
+use Rattle.flute_store.proofs.Upcoming.{told as told-upcoming, taken, taken-left, upcoming-end}
 use Rattle.flute_store.proofs.GapSteps.{gaps-end}
 use Rattle.flute_store.proofs.Turns.{turn-turns}
 use Rattle.flute_store.proofs.HeldTurns.{Steps, step-keeps}
@@ -93,7 +93,7 @@ pub wants-shown : (F : List Fact) (key : Key) (info : Information) → IsRising 
 unfolding wants wanted
 wants-shown F key info r = λ i. filter_map (λ id. option_map (with_reason id) ((ap (want info id) (shown-at key id F r) ∙ want-symbol info key id (value_at symbol_id_cmp (shown key F) id)) i)) (ids info)
 
-come-as : (key : Key) (next : Next) (rest : List Fact) → ComeNext key next rest → ComesAs key (told_next key next) (shown key rest)
+come-as : (key : Key) (next : Next) (rest : List Fact) → ComeNext key next rest → ComesAs key (coming_fact key next) (shown key rest)
 unfolding shown
 come-as key None rest h = shown-none key rest h
 come-as key (Some n) rest h = (shown key h.0, ap (shown key) h.1)
@@ -106,7 +106,7 @@ module _ (o : ScanState) (s : Scanned) (next : Next) (q : Scans o (announced s n
   pub ordered-all : IsOrdered symbol_id_cmp (shown s.key s.facts ++ shown s.key f.rest)
   ordered-all = subst (IsOrdered symbol_id_cmp) all-shown (shown-ordered s.key F f.rising)
 
-  pub coming-all : ComesAs s.key (told_next s.key next) (shown s.key f.rest)
+  pub coming-all : ComesAs s.key (coming_fact s.key next) (shown s.key f.rest)
   coming-all = come-as s.key next f.rest f.come
 
   pub walks-all : Walks (announced s next) o.walk (shown s.key f.rest)
@@ -122,26 +122,26 @@ module _ (o : ScanState) (s : Scanned) (next : Next) (q : Scans o (announced s n
   not-whole-all g gs n e = record { info = s.info; information = information-all; gap = g; others = gs; gaps_are = gaps-all ∙ ap (λ xs. xs ++ gaps_left (walk_of o.walk (shown s.key f.rest))) n ∙ e; first_is = refl }
 
 -- ---- a turn
-module _ (o : ScanState) (s : Scanned) (next : Next) (q : Scans o (announced s next)) (t : Option Turn) (x : GapWalk) (e : (t, x) ≡ turn_of o.walk (held_next next)) (pl : IsPlace x) where
-  pub turns-at : (more : List Entry) → IsOrdered symbol_id_cmp (shown s.key s.facts ++ more) → EachValue IsKnown more → ComesAs s.key (told_next s.key next) more → TurnsTo (walk_of o.walk more) t (walk_of x (held_after t more))
+module _ (o : ScanState) (s : Scanned) (next : Next) (q : Scans o (announced s next)) (t : Option Turn) (x : PartitionScan) (e : (t, x) ≡ turn_of o.walk (held_next next)) (pl : IsPlace x) where
+  pub turns-at : (more : List Entry) → IsOrdered symbol_id_cmp (shown s.key s.facts ++ more) → EachValue IsKnown more → ComesAs s.key (coming_fact s.key next) more → TurnsTo (walk_of o.walk more) t (walk_of x (held_after t more))
   turns-at more r k h =
-      subst (λ (y : Option Turn × GapWalk). TurnsTo (walk_of o.walk more) y.0 (walk_of y.1 (held_after y.0 more))) (sym e)
-      (turn-turns o.walk more (held_next next) (shows-next s.key next more h) (q.walks more r k h).walk (subst (λ (y : Option Turn × GapWalk). IsPlace y.1) e pl))
+      subst (λ (y : Option Turn × PartitionScan). TurnsTo (walk_of o.walk more) y.0 (walk_of y.1 (held_after y.0 more))) (sym e)
+      (turn-turns o.walk more (held_next next) (shows-next s.key next more h) (q.walks more r k h).walk (subst (λ (y : Option Turn × PartitionScan). IsPlace y.1) e pl))
 
-symbols-same : (x y : GapWalk) → x ≡ y → symbols_left (walk_of x []) ≡ symbols_left (walk_of y [])
-symbols-same x y e = ap (λ (z : GapWalk). symbols_left (walk_of z [])) e
+symbols-same : (x y : PartitionScan) → x ≡ y → symbols_left (walk_of x []) ≡ symbols_left (walk_of y [])
+symbols-same x y e = ap (λ (z : PartitionScan). symbols_left (walk_of z [])) e
 
-moved-done : (s : Scanned) (w x : GapWalk) (bytes : Option (List ℕ)) → symbols_left (walk_of x []) ≡ symbols_left (walk_of w []) → x.run ≡ w.run → IfSome bytes (λ b. IsDone s w b) → IfSome bytes (λ b. IsDone s x b)
+moved-done : (s : Scanned) (w x : PartitionScan) (bytes : Option (List ℕ)) → symbols_left (walk_of x []) ≡ symbols_left (walk_of w []) → x.run ≡ w.run → IfSome bytes (λ b. FitsSoFar s w b) → IfSome bytes (λ b. FitsSoFar s x b)
 moved-done s w x None a r d = tt
 moved-done s w x (Some b) a r d = record { done = d.done; all = d.all ∙ ap (λ xs. d.done ++ xs) (sym a); held = d.held; values = d.values; no_run = r ∙ d.no_run; no_gap = d.no_gap }
 
 -- a block was begun
-pub scan-begun : (o : ScanState) (s : Scanned) (next : Next) (x : GapWalk) → Scans o (announced s next) → IsScan o → (None, x) ≡ turn_of o.walk (held_next next) → IsPlace x → Scans (record o { walk = x }) (announced s next)
+pub scan-begun : (o : ScanState) (s : Scanned) (next : Next) (x : PartitionScan) → Scans o (announced s next) → IsScan o → (None, x) ≡ turn_of o.walk (held_next next) → IsPlace x → Scans (record o { walk = x }) (announced s next)
 scan-begun o s next x q sc e pl =
     let k = kind o.walk (held_next next) None x e in
-    let l = told-at o.walk (held_next next) Look.BlockEnd k.0 in
+    let l = told-at o.walk (held_next next) Upcoming.BlockEnd k.0 in
     let a : symbols_left (walk_of x []) ≡ symbols_left (walk_of o.walk []) = symbols-same x (after_block o.walk) k.2 ∙ begin-symbols o.walk l.0 (block-next o.walk (held_next next) sc.place k.0) in
-    let r : x.run ≡ o.walk.run = ap (λ (y : GapWalk). y.run) k.2 in
+    let r : x.run ≡ o.walk.run = ap (λ (y : PartitionScan). y.run) k.2 in
     record {
       key_is = q.key_is;
       info_is = q.info_is;
@@ -169,24 +169,24 @@ counted-gap c d given g i a =
       misfit = a.misfit ∙ ap (λ n. n + how_many Misfit (listed g)) i.misfit ∙ sym (how-append Misfit (flat_map listed given) (listed g));
     })
 
-abbrev pub behind-gap : Scanned → Next → Gap → GapWalk → Scanned
-behind-gap s next g x = record s { given = s.given ++ g ∷ []; bytes = None; coming = Some (told_next s.key next); ahead = length (symbols_left (walk_of x [])) + one_run x.run }
+abbrev pub behind-gap : Scanned → Next → Gap → PartitionScan → Scanned
+behind-gap s next g x = record s { given = s.given ++ g ∷ []; bytes = None; coming = Some (coming_fact s.key next); ahead = length (symbols_left (walk_of x [])) + one_run x.run }
 
-first-gap : (o : ScanState) (s : Scanned) (next : Next) (g : Gap) (x : GapWalk) → Scans o (announced s next) → (Some (Turn.Gap g), x) ≡ turn_of o.walk (held_next next) → IsPlace x
-    → (bytes : Option (List ℕ)) → IfSome bytes (λ b. IsDone (announced s next) o.walk b) → IfSome bytes (λ b. (F : List Fact) → Follows s next F → IsNotWhole F s.key (symbol_id g.sbn g.first))
+first-gap : (o : ScanState) (s : Scanned) (next : Next) (g : Gap) (x : PartitionScan) → Scans o (announced s next) → (Some (Turn.Gap g), x) ≡ turn_of o.walk (held_next next) → IsPlace x
+    → (bytes : Option (List ℕ)) → IfSome bytes (λ b. FitsSoFar (announced s next) o.walk b) → IfSome bytes (λ b. (F : List Fact) → Follows s next F → IsNotWhole F s.key (symbol_id g.sbn g.first))
 first-gap o s next g x q e pl None d = tt
 first-gap o s next g x q e pl (Some b) d = λ F f.
     not-whole-all o s next q F f g (gaps_left (walk_of x (shown s.key f.rest))) d.no_gap
     (turns-at o s next q (Some (Turn.Gap g)) x e pl (shown s.key f.rest) (ordered-all o s next q F f) (shown-known s.key f.rest) (coming-all o s next q F f)).first
 
-fewer-symbols : (w x : GapWalk) (next : Option (SymbolId × Option ℕ)) → w.esi < until_at w next → until_at w next ≤ w.size → x ≡ after_missing w next → length (symbols_left (walk_of x [])) < length (symbols_left (walk_of w []))
+fewer-symbols : (w x : PartitionScan) (next : Option (SymbolId × Option ℕ)) → w.esi < until_at w next → until_at w next ≤ w.size → x ≡ after_missing w next → length (symbols_left (walk_of x [])) < length (symbols_left (walk_of w []))
 fewer-symbols w x next l m e =
     let a = length-left (walk_of w []) in
     let b = length-left (walk_of (after_missing w next) []) in
-    let c : length (symbols_left (walk_of x [])) ≡ length (symbols_left (walk_of (after_missing w next) [])) = ap (λ (y : GapWalk). length (symbols_left (walk_of y []))) e in
+    let c : length (symbols_left (walk_of x [])) ≡ length (symbols_left (walk_of (after_missing w next) [])) = ap (λ (y : PartitionScan). length (symbols_left (walk_of y []))) e in
     omega (arith, a, b, c, l, m)
 
-pub gap-given : (o : ScanState) (s : Scanned) (next : Next) (g : Gap) (x : GapWalk) (c : Counted) → Scans o (announced s next) → IsScan o → (Some (Turn.Gap g), x) ≡ turn_of o.walk (held_next next) → IsPlace x → Adds g o.wanted c
+pub gap-given : (o : ScanState) (s : Scanned) (next : Next) (g : Gap) (x : PartitionScan) (c : Counted) → Scans o (announced s next) → IsScan o → (Some (Turn.Gap g), x) ≡ turn_of o.walk (held_next next) → IsPlace x → Adds g o.wanted c
     → GaveGap s next g (behind-gap s next g x) × Scans (record o { walk = x; wanted = c }) (behind-gap s next g x)
 gap-given o s next g x c q sc e pl a = (
   record { now = refl; fewer = fewer; first = first-gap o s next g x q e pl s.bytes q.done },
@@ -212,43 +212,43 @@ gap-given o s next g x c q sc e pl a = (
         by_kind : Kind o.walk (held_next next) (Some (Turn.Gap g)) x → length (symbols_left (walk_of x [])) + one_run x.run < s.ahead
         by_kind (inl k) =
             let h : s.ahead ≡ length (symbols_left (walk_of o.walk [])) + 1 = q.ahead_is ∙ ap (λ r. length (symbols_left (walk_of o.walk [])) + one_run r) k.0 in
-            let i : length (symbols_left (walk_of x [])) + one_run x.run ≡ length (symbols_left (walk_of o.walk [])) + 0 = ap (λ (y : GapWalk). length (symbols_left (walk_of y [])) + one_run y.run) k.1 in
+            let i : length (symbols_left (walk_of x [])) + one_run x.run ≡ length (symbols_left (walk_of o.walk [])) + 0 = ap (λ (y : PartitionScan). length (symbols_left (walk_of y [])) + one_run y.run) k.1 in
             omega (arith, h, i)
         by_kind (inr k) =
             let u = until-within o.walk (held_next next) sc.place k.1 in
             let l = fewer-symbols o.walk x (held_next next) u.0 u.1 k.2 in
             let h : s.ahead ≡ length (symbols_left (walk_of o.walk [])) + 0 = q.ahead_is ∙ ap (λ r. length (symbols_left (walk_of o.walk [])) + one_run r) k.0 in
-            let i : length (symbols_left (walk_of x [])) + one_run x.run ≡ length (symbols_left (walk_of x [])) + 0 = ap (λ r. length (symbols_left (walk_of x [])) + one_run r) (ap (λ (y : GapWalk). y.run) k.2 ∙ k.0) in
+            let i : length (symbols_left (walk_of x [])) + one_run x.run ≡ length (symbols_left (walk_of x [])) + 0 = ap (λ r. length (symbols_left (walk_of x [])) + one_run r) (ap (λ (y : PartitionScan). y.run) k.2 ∙ k.0) in
             omega (arith, l, h, i)
 
 -- ---- a symbol was passed
 
-abbrev pub behind-symbol : Scanned → SymbolId × Option (Bor (List ℕ)) → Option (List ℕ) → GapWalk → Scanned
-behind-symbol s n bytes x = record s { facts = s.facts ++ told s.key n ∷ []; bytes = bytes; coming = None; ahead = length (symbols_left (walk_of x [])) + one_run x.run }
+abbrev pub behind-symbol : Scanned → SymbolId × Option (Bor (List ℕ)) → Option (List ℕ) → PartitionScan → Scanned
+behind-symbol s n bytes x = record s { facts = s.facts ++ next_fact s.key n ∷ []; bytes = bytes; coming = None; ahead = length (symbols_left (walk_of x [])) + one_run x.run }
 
-shown-next : (s : Scanned) (n : SymbolId × Option (Bor (List ℕ))) → shown s.key (s.facts ++ told s.key n ∷ []) ≡ shown s.key s.facts ++ (n.0, cell_of n.1) ∷ []
+shown-next : (s : Scanned) (n : SymbolId × Option (Bor (List ℕ))) → shown s.key (s.facts ++ next_fact s.key n ∷ []) ≡ shown s.key s.facts ++ (n.0, cell_of n.1) ∷ []
 unfolding shown
-shown-next s n = shown-append s.key s.facts (told s.key n ∷ []) ∙ ap (λ es. shown s.key s.facts ++ es) (append-nil (shown_by s.key (told s.key n)) ∙ shown-told s.key n)
+shown-next s n = shown-append s.key s.facts (next_fact s.key n ∷ []) ∙ ap (λ es. shown s.key s.facts ++ es) (append-nil (shown_by s.key (next_fact s.key n)) ∙ shown-told s.key n)
 
 -- whatever follows, what is left is the same behind the symbol
-abbrev pub KeepsAt : ScanState → Scanned → SymbolId × Option (Bor (List ℕ)) → GapWalk → Type 0
+abbrev pub KeepsAt : ScanState → Scanned → SymbolId × Option (Bor (List ℕ)) → PartitionScan → Type 0
 KeepsAt o s n x =
     (more : List Entry) → IsOrdered symbol_id_cmp (shown s.key s.facts ++ ((n.0, cell_of n.1) ∷ more)) → EachValue IsKnown more
     → IsWalk (walk_of x more) × (gaps_left (walk_of x more) ≡ gaps_left (walk_of o.walk ((n.0, cell_of n.1) ∷ more)))
 
-pub next-comes : (s : Scanned) (n : SymbolId × Option (Bor (List ℕ))) (more : List Entry) → ComesAs s.key (told_next s.key (Some n)) ((n.0, cell_of n.1) ∷ more)
+pub next-comes : (s : Scanned) (n : SymbolId × Option (Bor (List ℕ))) (more : List Entry) → ComesAs s.key (coming_fact s.key (Some n)) ((n.0, cell_of n.1) ∷ more)
 next-comes s n more = (more, ap (λ es. es ++ more) (sym (shown-told s.key n)))
 
-pub symbol-passed : (o : ScanState) (s : Scanned) (n : SymbolId × Option (Bor (List ℕ))) (x : GapWalk) (bytes : Option (List ℕ)) → Scans o (announced s (Some n)) → KeepsAt o s n x
-    → IfSome bytes (λ b. IsDone (behind-symbol s n bytes x) x b) → PassedNext s n bytes (behind-symbol s n bytes x) × Scans (record o { walk = x }) (behind-symbol s n bytes x)
+pub symbol-passed : (o : ScanState) (s : Scanned) (n : SymbolId × Option (Bor (List ℕ))) (x : PartitionScan) (bytes : Option (List ℕ)) → Scans o (announced s (Some n)) → KeepsAt o s n x
+    → IfSome bytes (λ b. FitsSoFar (behind-symbol s n bytes x) x b) → PassedNext s n bytes (behind-symbol s n bytes x) × Scans (record o { walk = x }) (behind-symbol s n bytes x)
 symbol-passed o s n x bytes q k d = (
   record { now = refl },
   record {
     key_is = q.key_is;
     info_is = q.info_is;
-    begins = (q.begins.0 ++ told s.key n ∷ [], ap (λ fs. fs ++ told s.key n ∷ []) q.begins.1);
+    begins = (q.begins.0 ++ next_fact s.key n ∷ [], ap (λ fs. fs ++ next_fact s.key n ∷ []) q.begins.1);
     walks = λ more r m h.
-        let p : shown s.key (s.facts ++ told s.key n ∷ []) ++ more ≡ shown s.key s.facts ++ ((n.0, cell_of n.1) ∷ more) = ap (λ es. es ++ more) (shown-next s n) ∙ append_assoc (shown s.key s.facts) ((n.0, cell_of n.1) ∷ []) more in
+        let p : shown s.key (s.facts ++ next_fact s.key n ∷ []) ++ more ≡ shown s.key s.facts ++ ((n.0, cell_of n.1) ∷ more) = ap (λ es. es ++ more) (shown-next s n) ∙ append_assoc (shown s.key s.facts) ((n.0, cell_of n.1) ∷ []) more in
         let r' = subst (IsOrdered symbol_id_cmp) p r in
         let y = k more r' m in
         record {
@@ -265,7 +265,7 @@ symbol-passed o s n x bytes q k d = (
 )
 
 -- where a turn keeps what is left
-pub keeps-at : (o : ScanState) (s : Scanned) (n : SymbolId × Option (Bor (List ℕ))) (t : Option Turn) (x : GapWalk) → Scans o (announced s (Some n)) → Steps t → ((more : List Entry) → held_after t ((n.0, cell_of n.1) ∷ more) ≡ more) → (t, x) ≡ turn_of o.walk (held_next (Some n)) → IsPlace x → KeepsAt o s n x
+pub keeps-at : (o : ScanState) (s : Scanned) (n : SymbolId × Option (Bor (List ℕ))) (t : Option Turn) (x : PartitionScan) → Scans o (announced s (Some n)) → Steps t → ((more : List Entry) → held_after t ((n.0, cell_of n.1) ∷ more) ≡ more) → (t, x) ≡ turn_of o.walk (held_next (Some n)) → IsPlace x → KeepsAt o s n x
 keeps-at o s n t x q st h e pl more r m =
     let es : List Entry = (n.0, cell_of n.1) ∷ more in
     let k = step-keeps (walk_of o.walk es) t (walk_of x (held_after t es)) st (turns-at o s (Some n) q t x e pl es r (known-cell n.1, m) (next-comes s n more)) in (
@@ -274,13 +274,13 @@ keeps-at o s n t x q st h e pl more r m =
     )
 
 -- held symbols behind the last block
-pub keeps-end : (o : ScanState) (s : Scanned) (n : SymbolId × Option (Bor (List ℕ))) (x : GapWalk) → Scans o (announced s (Some n)) → (Some Turn.End, x) ≡ turn_of o.walk (held_next (Some n)) → IsPlace x → KeepsAt o s n x
+pub keeps-end : (o : ScanState) (s : Scanned) (n : SymbolId × Option (Bor (List ℕ))) (x : PartitionScan) → Scans o (announced s (Some n)) → (Some Turn.End, x) ≡ turn_of o.walk (held_next (Some n)) → IsPlace x → KeepsAt o s n x
 keeps-end o s n x q e pl more r m =
     let es : List Entry = (n.0, cell_of n.1) ∷ more in
     let k = kind o.walk (held_next (Some n)) (Some Turn.End) x e in
-    let l = told-at o.walk (held_next (Some n)) Look.End k.0 in
+    let l = told-at o.walk (held_next (Some n)) Upcoming.End k.0 in
     let w = (q.walks es r (known-cell n.1, m) (next-comes s n more)).walk in
-    let g : (held : List Entry) → gaps_left (walk_of o.walk held) ≡ [] = λ held. gaps-end (walk_of o.walk held) (sym (look-end (walk_of o.walk held) l.0 l.1)) k.1 in
+    let g : (held : List Entry) → gaps_left (walk_of o.walk held) ≡ [] = λ held. gaps-end (walk_of o.walk held) (sym (upcoming-end (walk_of o.walk held) l.0 l.1)) k.1 in
     let v : IsWalk (walk_of o.walk more) = record {
       ordered = sorted_tail symbol_id_cmp n.0 (keys_of more) w.ordered;
       known = m;
@@ -291,8 +291,8 @@ keeps-end o s n x q e pl more r m =
       behind = λ z. (w.behind z).1;
       running = w.running;
     } in (
-      subst (λ (y : GapWalk). IsWalk (walk_of y more)) (sym k.2) v,
-      ap (λ (y : GapWalk). gaps_left (walk_of y more)) k.2 ∙ g more ∙ sym (g es),
+      subst (λ (y : PartitionScan). IsWalk (walk_of y more)) (sym k.2) v,
+      ap (λ (y : PartitionScan). gaps_left (walk_of y more)) k.2 ∙ g more ∙ sym (g es),
     )
 
 -- what was done stays so, with one symbol more behind it
@@ -313,7 +313,7 @@ unfolding held_bytes
 one-value es id b h = ap (λ f. found_bytes f ++ []) h ∙ append-nil b
 
 -- nothing of the partition was passed
-pub passed-done : (s : Scanned) (n : SymbolId × Option (Bor (List ℕ))) (w x : GapWalk) (next : Next) (bytes said : Option (List ℕ)) → x ≡ w → IfSome bytes (λ b. IsDone (announced s next) w b) → IfSome bytes (λ b. IsDone (behind-symbol s n said x) x b)
+pub passed-done : (s : Scanned) (n : SymbolId × Option (Bor (List ℕ))) (w x : PartitionScan) (next : Next) (bytes said : Option (List ℕ)) → x ≡ w → IfSome bytes (λ b. FitsSoFar (announced s next) w b) → IfSome bytes (λ b. FitsSoFar (behind-symbol s n said x) x b)
 passed-done s n w x next None said e d = tt
 passed-done s n w x next (Some b) said e d =
     let p = shown-next s n in
@@ -323,7 +323,7 @@ passed-done s n w x next (Some b) said e d =
       all = d.all ∙ ap (λ xs. d.done ++ xs) (sym (symbols-same x w e));
       held = λ id c. let h = d.held id c in (h.0, ap (λ es. value_at symbol_id_cmp es id) p ∙ value-more (shown s.key s.facts) more id (One h.0) h.1, h.2);
       values = d.values ∙ sym (ap (λ es. held_bytes es d.done) p ∙ held-same (shown s.key s.facts) more d.done (λ id c. let h = d.held id c in (One h.0, h.1)));
-      no_run = ap (λ (y : GapWalk). y.run) e ∙ d.no_run;
+      no_run = ap (λ (y : PartitionScan). y.run) e ∙ d.no_run;
       no_gap = d.no_gap;
     }
 
@@ -334,12 +334,12 @@ length-is (id, Some b) here k e =
     let p = same_Some (id, Some (length b.now)) (here, Some k) e in
     (ap (λ (p : SymbolId × Option ℕ). p.0) p, refl, same_Some (length b.now) k (ap (λ (p : SymbolId × Option ℕ). p.1) p))
 
-pub fitting-done : (o : ScanState) (s : Scanned) (n : SymbolId × Option (Bor (List ℕ))) (x : GapWalk) (bytes said : Option (List ℕ)) → IsScan o → s.info ≡ o.info → (Some Turn.Fitting, x) ≡ turn_of o.walk (held_next (Some n))
-    → IsOrdered symbol_id_cmp (shown s.key s.facts ++ (n.0, cell_of n.1) ∷ []) → IfSome bytes (λ b. IsDone (announced s (Some n)) o.walk b) → IfSome (option_map (λ b. b ++ value_of n) bytes) (λ b. IsDone (behind-symbol s n said x) x b)
+pub fitting-done : (o : ScanState) (s : Scanned) (n : SymbolId × Option (Bor (List ℕ))) (x : PartitionScan) (bytes said : Option (List ℕ)) → IsScan o → s.info ≡ o.info → (Some Turn.Fitting, x) ≡ turn_of o.walk (held_next (Some n))
+    → IsOrdered symbol_id_cmp (shown s.key s.facts ++ (n.0, cell_of n.1) ∷ []) → IfSome bytes (λ b. FitsSoFar (announced s (Some n)) o.walk b) → IfSome (option_map (λ b. b ++ value_of n) bytes) (λ b. FitsSoFar (behind-symbol s n said x) x b)
 fitting-done o s n x None said sc i e r d = tt
 fitting-done o s n x (Some b) said sc i e r d =
     let k = kind o.walk (held_next (Some n)) (Some Turn.Fitting) x e in
-    let t = told-at o.walk (held_next (Some n)) Look.Fitting k.0 in
+    let t = told-at o.walk (held_next (Some n)) Upcoming.Fitting k.0 in
     let here = symbol_id o.walk.sbn o.walk.esi in
     let h = length-is n here t.1.0 t.1.1 in
     let w = sc.place.within in
@@ -347,7 +347,7 @@ fitting-done o s n x (Some b) said sc i e r d =
     let l : o.walk.esi < o.walk.size = omega (arith, w, ne) in
     let p = shown-next s n in
     let more : List Entry = (n.0, cell_of n.1) ∷ [] in
-    let es = shown s.key (s.facts ++ told s.key n ∷ []) in
+    let es = shown s.key (s.facts ++ next_fact s.key n ∷ []) in
     let v : value_at symbol_id_cmp es here ≡ Some (One (value_of n)) =
     ap (λ es. value_at symbol_id_cmp es here) p ∙ ap (value_at symbol_id_cmp (shown s.key s.facts ++ more)) (sym h.0) ∙ value-last (shown s.key s.facts) (n.0, cell_of n.1) r ∙ ap Some h.1 in
     let fit : fits s.info here (length (value_of n)) ≡ true = (λ j. fits ((i ∙ sym sc.partition) j) here (h.2 j)) ∙ t.1.2 in
@@ -360,7 +360,7 @@ fitting-done o s n x (Some b) said sc i e r d =
         | inr a ↦ let z = one_is here id a in (value_of n, subst (λ id. value_at symbol_id_cmp es id ≡ Some (One (value_of n))) z v, subst (λ id. fits s.info id (length (value_of n)) ≡ true) z fit)
       ];
       values = (λ j. d.values j ++ value_of n) ∙ sym (bytes-both es d.done (here ∷ []) ∙ (λ j. old j ++ one-value es here (value_of n) v j));
-      no_run = ap (λ (y : GapWalk). y.run) k.2 ∙ k.1;
+      no_run = ap (λ (y : PartitionScan). y.run) k.2 ∙ k.1;
       no_gap = d.no_gap;
     }
 
@@ -380,34 +380,34 @@ here-is : (n : SymbolId × Option (Bor (List ℕ))) (here : SymbolId) (k : Optio
 here-is (id, None) here k e = ap (λ (p : SymbolId × Option ℕ). p.0) (same_Some (id, None) (here, k) e)
 here-is (id, Some b) here k e = ap (λ (p : SymbolId × Option ℕ). p.0) (same_Some (id, Some (length b.now)) (here, k) e)
 
-pub first-wanted : (o : ScanState) (s : Scanned) (n : SymbolId × Option (Bor (List ℕ))) (x : GapWalk) (bytes : Option (List ℕ)) → Scans o (announced s (Some n)) → (Some Turn.Wanted, x) ≡ turn_of o.walk (held_next (Some n)) → IsPlace x
-    → IfSome bytes (λ b. IsDone (announced s (Some n)) o.walk b) → IfSome bytes (λ b. (F : List Fact) → Follows s (Some n) F → IsNotWhole F s.key n.0)
+pub first-wanted : (o : ScanState) (s : Scanned) (n : SymbolId × Option (Bor (List ℕ))) (x : PartitionScan) (bytes : Option (List ℕ)) → Scans o (announced s (Some n)) → (Some Turn.Wanted, x) ≡ turn_of o.walk (held_next (Some n)) → IsPlace x
+    → IfSome bytes (λ b. FitsSoFar (announced s (Some n)) o.walk b) → IfSome bytes (λ b. (F : List Fact) → Follows s (Some n) F → IsNotWhole F s.key n.0)
 first-wanted o s n x None q e pl d = tt
 first-wanted o s n x (Some b) q e pl d = λ F f.
     let more = shown s.key f.rest in
     let v = walk_of o.walk more in
     let k = kind o.walk (held_next (Some n)) (Some Turn.Wanted) x e in
-    let t = told-at o.walk (held_next (Some n)) (Look.Wanted k.0) k.1 in
+    let t = told-at o.walk (held_next (Some n)) (Upcoming.Wanted k.0) k.1 in
     let here = symbol_id o.walk.sbn o.walk.esi in
     let z : n.0 ≡ here = here-is n here t.2.0 t.2.1 in
     let u = turns-at o s (Some n) q (Some Turn.Wanted) x e pl more (ordered-all o s (Some n) q F f) (shown-known s.key f.rest) (coming-all o s (Some n) q F f) in
     let h = runs-head here u.1.0 (left (taken None v)) in
-    let a : gaps_left v ≡ h.0 ∷ h.1 = ap (λ r. runs (pending r ++ left v)) d.no_run ∙ ap runs (taken-left None v (Some u.1.0) (walks-all o s (Some n) q F f).walk (told-look v (Look.Wanted u.1.0) u.1.1)) ∙ h.2 in
+    let a : gaps_left v ≡ h.0 ∷ h.1 = ap (λ r. runs (pending r ++ left v)) d.no_run ∙ ap runs (taken-left None v (Some u.1.0) (walks-all o s (Some n) q F f).walk (told-upcoming v (Upcoming.Wanted u.1.0) u.1.1)) ∙ h.2 in
     subst (λ id. IsNotWhole F s.key id) ((λ i. symbol_id (h.3 i) (h.4 i)) ∙ sym z) (not-whole-all o s (Some n) q F f h.0 h.1 d.no_gap a)
 
 -- ---- the end
 
 values-shown : (F : List Fact) (key : Key) (es more : List Entry) (xs : List SymbolId) → IsRising F → shown key F ≡ es ++ more → ((id : SymbolId) → Contains xs id → (c : Cell (List ℕ)) × (value_at symbol_id_cmp es id ≡ Some c))
-    → held_bytes es xs ≡ flat_map (λ id. bytes_of (fact_at F (symbol_address key id))) xs
+    → held_bytes es xs ≡ flat_map (λ id. value_bytes (fact_at F (symbol_address key id))) xs
 unfolding held_bytes
 values-shown F key es more [] r e h = refl
 values-shown F key es more (x ∷ xs) r e h =
     let f = h x (first_is x xs) in
     let v : value_at symbol_id_cmp (shown key F) x ≡ value_at symbol_id_cmp es x = ap (λ es. value_at symbol_id_cmp es x) e ∙ value-more es more x f.0 f.1 ∙ sym f.1 in
-    (λ i. (ap found_bytes (sym v) ∙ sym (found-of key x (value_at symbol_id_cmp (shown key F) x)) ∙ ap bytes_of (sym (shown-at key x F r))) i ++ values-shown F key es more xs r e (λ id c. h id (Contains-append_right (x ∷ []) xs id c)) i)
+    (λ i. (ap found_bytes (sym v) ∙ sym (found-of key x (value_at symbol_id_cmp (shown key F) x)) ∙ ap value_bytes (sym (shown-at key x F r))) i ++ values-shown F key es more xs r e (λ id c. h id (Contains-append_right (x ∷ []) xs id c)) i)
 
 -- the bytes are a first part of the object
-pub first-part : (s : Scanned) (w : GapWalk) (symbols F before rest : List Fact) (bytes : List ℕ) → IsDone s w bytes → s.facts ≡ Info s.key s.info ∷ symbols → F ≡ before ++ (s.facts ++ rest) → IsRising F → IsFirstPart F s.key s.info bytes
+pub first-part : (s : Scanned) (w : PartitionScan) (symbols F before rest : List Fact) (bytes : List ℕ) → FitsSoFar s w bytes → s.facts ≡ Info s.key s.info ∷ symbols → F ≡ before ++ (s.facts ++ rest) → IsRising F → IsFirstPart F s.key s.info bytes
 first-part s w symbols F before rest bytes d b e r =
     let a = shown-all s symbols F before rest b e r in
     record {
@@ -424,30 +424,30 @@ first-part s w symbols F before rest bytes d b e r =
       values = d.values ∙ values-shown F s.key (shown s.key s.facts) (shown s.key rest) d.done r a (λ id c. let h = d.held id c in (One h.0, h.1));
     }
 
-abbrev pub behind-end : Scanned → GapWalk → Scanned
+abbrev pub behind-end : Scanned → PartitionScan → Scanned
 behind-end s x = record s { coming = Some None; ahead = length (symbols_left (walk_of x [])) + one_run x.run }
 
-ended-done : (s : Scanned) (x : GapWalk) (bytes : Option (List ℕ)) → IfSome bytes (λ b. IsDone (announced s None) x b) → IfSome bytes (λ b. IsDone (behind-end s x) x b)
+ended-done : (s : Scanned) (x : PartitionScan) (bytes : Option (List ℕ)) → IfSome bytes (λ b. FitsSoFar (announced s None) x b) → IfSome bytes (λ b. FitsSoFar (behind-end s x) x b)
 ended-done s x None d = tt
 ended-done s x (Some b) d = record { done = d.done; all = d.all; held = d.held; values = d.values; no_run = d.no_run; no_gap = d.no_gap }
 
-whole-bytes : (s : Scanned) (w : GapWalk) (symbols F before rest : List Fact) (bytes : Option (List ℕ)) → IfSome bytes (λ b. IsDone s w b) → s.facts ≡ Info s.key s.info ∷ symbols → F ≡ before ++ (s.facts ++ rest) → IsRising F
+whole-bytes : (s : Scanned) (w : PartitionScan) (symbols F before rest : List Fact) (bytes : Option (List ℕ)) → IfSome bytes (λ b. FitsSoFar s w b) → s.facts ≡ Info s.key s.info ∷ symbols → F ≡ before ++ (s.facts ++ rest) → IsRising F
     → symbols_left (walk_of w []) ≡ [] → gaps F s.key s.info ≡ s.given → IfSome bytes (λ b. Whole F s.key s.info × (object F s.key s.info ≡ take s.info.transfer_length b))
 unfolding object first-part
 whole-bytes s w symbols F before rest None d b e r l g = tt
 whole-bytes s w symbols F before rest (Some bytes) d b e r l g =
     let p = first-part s w symbols F before rest bytes d b e r in (
       gapless-whole F s.key s.info (information-at s symbols F before rest b e r) (g ∙ d.no_gap),
-      ap (λ xs. take s.info.transfer_length (flat_map (λ id. bytes_of (fact_at F (symbol_address s.key id))) xs)) (d.all ∙ ap (λ xs. d.done ++ xs) l ∙ append-nil d.done)
+      ap (λ xs. take s.info.transfer_length (flat_map (λ id. value_bytes (fact_at F (symbol_address s.key id))) xs)) (d.all ∙ ap (λ xs. d.done ++ xs) l ∙ append-nil d.done)
           ∙ ap (take s.info.transfer_length) (sym p.values),
     )
 
-pub end-given : (o : ScanState) (s : Scanned) (x : GapWalk) → Scans o (announced s None) → IsScan o → (Some Turn.End, x) ≡ turn_of o.walk None → Turned s None Turn.End (behind-end s x) × Scans (record o { walk = x }) (behind-end s x)
+pub end-given : (o : ScanState) (s : Scanned) (x : PartitionScan) → Scans o (announced s None) → IsScan o → (Some Turn.End, x) ≡ turn_of o.walk None → Turned s None Turn.End (behind-end s x) × Scans (record o { walk = x }) (behind-end s x)
 end-given o s x q sc e =
     let k = kind o.walk None (Some Turn.End) x e in
-    let l = told-at o.walk None Look.End k.0 in
-    let same : (more : List Entry) → gaps_left (walk_of x more) ≡ gaps_left (walk_of o.walk more) = λ more. ap (λ (y : GapWalk). gaps_left (walk_of y more)) k.2 in
-    let none : (more : List Entry) → gaps_left (walk_of o.walk more) ≡ [] = λ more. gaps-end (walk_of o.walk more) (sym (look-end (walk_of o.walk more) l.0 l.1)) k.1 in (
+    let l = told-at o.walk None Upcoming.End k.0 in
+    let same : (more : List Entry) → gaps_left (walk_of x more) ≡ gaps_left (walk_of o.walk more) = λ more. ap (λ (y : PartitionScan). gaps_left (walk_of y more)) k.2 in
+    let none : (more : List Entry) → gaps_left (walk_of o.walk more) ≡ [] = λ more. gaps-end (walk_of o.walk more) (sym (upcoming-end (walk_of o.walk more) l.0 l.1)) k.1 in (
       (
         refl,
         λ F f.
@@ -465,8 +465,8 @@ end-given o s x q sc e =
         begins = q.begins;
         walks = λ more d n h.
             let w = q.walks more d n h in
-            record { walk = subst (λ (y : GapWalk). IsWalk (walk_of y more)) (sym k.2) w.walk; gaps_are = w.gaps_are ∙ ap (λ gs. s.given ++ gs) (sym (same more)) };
-        done = ended-done s x s.bytes (moved-done (announced s None) o.walk x s.bytes (symbols-same x o.walk k.2) (ap (λ (y : GapWalk). y.run) k.2) q.done);
+            record { walk = subst (λ (y : PartitionScan). IsWalk (walk_of y more)) (sym k.2) w.walk; gaps_are = w.gaps_are ∙ ap (λ gs. s.given ++ gs) (sym (same more)) };
+        done = ended-done s x s.bytes (moved-done (announced s None) o.walk x s.bytes (symbols-same x o.walk k.2) (ap (λ (y : PartitionScan). y.run) k.2) q.done);
         counts = q.counts;
         ahead_is = refl;
       },
@@ -474,10 +474,10 @@ end-given o s x q sc e =
 
 -- ---- a step of a scan
 
-abbrev state_of : ScanState → GapWalk → Counted → ScanState
+abbrev state_of : ScanState → PartitionScan → Counted → ScanState
 state_of o x c = record o { walk = x; wanted = c }
 
-pub can-add : (o : ScanState) (h : Option (SymbolId × Option ℕ)) (t : Option Turn) (x : GapWalk) → IsScan o → (t, x) ≡ turn_of o.walk h → CanAdd t o.wanted
+pub can-add : (o : ScanState) (h : Option (SymbolId × Option ℕ)) (t : Option Turn) (x : PartitionScan) → IsScan o → (t, x) ≡ turn_of o.walk h → CanAdd t o.wanted
 can-add o h None x sc e = tt
 can-add o h (Some (Turn.Gap g)) x sc e = ((within-gap o.walk h o.wanted sc.place sc.within g x (kind o.walk h (Some (Turn.Gap g)) x e)).0, small o.walk h o.wanted sc.place sc.within)
 can-add o h (Some Turn.Fitting) x sc e = tt
@@ -485,24 +485,47 @@ can-add o h (Some Turn.Wanted) x sc e = tt
 can-add o h (Some Turn.Passed) x sc e = tt
 can-add o h (Some Turn.End) x sc e = tt
 
-scan-same : (o : ScanState) (h : Option (SymbolId × Option ℕ)) (t : Option Turn) (x : GapWalk) (c : Counted) → IsScan o → NoGap t → (t, x) ≡ turn_of o.walk h → IsPlace x → c ≡ o.wanted → x.partition ≡ o.walk.partition → IsScan (state_of o x c)
+scan-same : (o : ScanState) (h : Option (SymbolId × Option ℕ)) (t : Option Turn) (x : PartitionScan) (c : Counted) → IsScan o → NoGap t → (t, x) ≡ turn_of o.walk h → IsPlace x → c ≡ o.wanted → x.partition ≡ o.walk.partition → IsScan (state_of o x c)
 scan-same o h t x c sc n e pl a p = record {
   place = pl;
-  within = subst (IsWithin x) (sym a) (within-turn o.walk h o.wanted sc.place sc.within t x n (kind o.walk h t x e));
+  within = subst (CountsWithin x) (sym a) (within-turn o.walk h o.wanted sc.place sc.within t x n (kind o.walk h t x e));
   partition = p ∙ sc.partition;
 }
 
 -- the partition stays
-pub same-partition : (w : GapWalk) (h : Option (SymbolId × Option ℕ)) (t : Option Turn) (x : GapWalk) → Kind w h t x → x.partition ≡ w.partition
-same-partition w h None x k = ap (λ (y : GapWalk). y.partition) k.2
-same-partition w h (Some (Turn.Gap g)) x (inl k) = ap (λ (y : GapWalk). y.partition) k.1
-same-partition w h (Some (Turn.Gap g)) x (inr k) = ap (λ (y : GapWalk). y.partition) k.2
-same-partition w h (Some Turn.Fitting) x k = ap (λ (y : GapWalk). y.partition) k.2
-same-partition w h (Some Turn.Wanted) x k = ap (λ (y : GapWalk). y.partition) k.3
-same-partition w h (Some Turn.Passed) x k = ap (λ (y : GapWalk). y.partition) k.1
-same-partition w h (Some Turn.End) x k = ap (λ (y : GapWalk). y.partition) k.2
+pub same-partition : (w : PartitionScan) (h : Option (SymbolId × Option ℕ)) (t : Option Turn) (x : PartitionScan) → Kind w h t x → x.partition ≡ w.partition
+same-partition w h None x k = ap (λ (y : PartitionScan). y.partition) k.2
+same-partition w h (Some (Turn.Gap g)) x (inl k) = ap (λ (y : PartitionScan). y.partition) k.1
+same-partition w h (Some (Turn.Gap g)) x (inr k) = ap (λ (y : PartitionScan). y.partition) k.2
+same-partition w h (Some Turn.Fitting) x k = ap (λ (y : PartitionScan). y.partition) k.2
+same-partition w h (Some Turn.Wanted) x k = ap (λ (y : PartitionScan). y.partition) k.3
+same-partition w h (Some Turn.Passed) x k = ap (λ (y : PartitionScan). y.partition) k.1
+same-partition w h (Some Turn.End) x k = ap (λ (y : PartitionScan). y.partition) k.2
 
-pub step-scan : (o : ScanState) (h : Option (SymbolId × Option ℕ)) (t : Option Turn) (x : GapWalk) (c : Counted) → IsScan o → (t, x) ≡ turn_of o.walk h → IsPlace x → AddsTurn t o.wanted c → IsScan (state_of o x c)
+-- no block is begun twice
+onward : (w : PartitionScan) (h : Option (SymbolId × Option ℕ)) (t : Option Turn) (x : PartitionScan) → Kind w h t x → w.begun ≤ x.begun
+onward w h None x k = subst (λ (y : PartitionScan). w.begun ≤ y.begun) (sym k.2) (omega arith)
+onward w h (Some (Turn.Gap g)) x (inl k) = subst (λ (y : PartitionScan). w.begun ≤ y.begun) (sym k.1) (omega arith)
+onward w h (Some (Turn.Gap g)) x (inr k) = subst (λ (y : PartitionScan). w.begun ≤ y.begun) (sym k.2) (omega arith)
+onward w h (Some Turn.Fitting) x k = subst (λ (y : PartitionScan). w.begun ≤ y.begun) (sym k.2) (omega arith)
+onward w h (Some Turn.Wanted) x k = subst (λ (y : PartitionScan). w.begun ≤ y.begun) (sym k.3) (omega arith)
+onward w h (Some Turn.Passed) x k = subst (λ (y : PartitionScan). w.begun ≤ y.begun) (sym k.1) (omega arith)
+onward w h (Some Turn.End) x k = subst (λ (y : PartitionScan). w.begun ≤ y.begun) (sym k.2) (omega arith)
+
+pub begins-blocks : (o old : ScanState) (h : Option (SymbolId × Option ℕ)) (t : Option Turn) (x : PartitionScan) (c : Counted)
+    → o ≡ old → (t, x) ≡ turn_of o.walk h → IsPlace x → BeginsBlocks old (state_of o x c)
+begins-blocks o old h t x c v e p =
+    let k = kind o.walk h t x e in
+    subst (λ (s : ScanState). BeginsBlocks s (state_of o x c)) v
+    (record { partition_is = same-partition o.walk h t x k; onward = onward o.walk h t x k; within = p.begun })
+
+pub begins-more : (a b c : ScanState) → BeginsBlocks a b → BeginsBlocks b c → BeginsBlocks a c
+begins-more a b c h k =
+    let l = h.onward in
+    let m = k.onward in
+    record { partition_is = k.partition_is ∙ h.partition_is; onward = omega (arith, l, m); within = k.within }
+
+pub step-scan : (o : ScanState) (h : Option (SymbolId × Option ℕ)) (t : Option Turn) (x : PartitionScan) (c : Counted) → IsScan o → (t, x) ≡ turn_of o.walk h → IsPlace x → AddsTurn t o.wanted c → IsScan (state_of o x c)
 step-scan o h None x c sc e pl a = scan-same o h None x c sc tt e pl a (same-partition o.walk h None x (kind o.walk h None x e))
 step-scan o h (Some (Turn.Gap g)) x c sc e pl a =
     let k = kind o.walk h (Some (Turn.Gap g)) x e in
@@ -517,25 +540,25 @@ step-scan o h (Some Turn.Passed) x c sc e pl a = scan-same o h (Some Turn.Passed
 step-scan o h (Some Turn.End) x c sc e pl a = scan-same o h (Some Turn.End) x c sc tt e pl a (same-partition o.walk h (Some Turn.End) x (kind o.walk h (Some Turn.End) x e))
 
 ordered-next : (s : Scanned) (n : SymbolId × Option (Bor (List ℕ))) → CanFollow s (Some n) → IsOrdered symbol_id_cmp (shown s.key s.facts ++ (n.0, cell_of n.1) ∷ [])
-ordered-next s n f = subst (IsOrdered symbol_id_cmp) (shown-next s n) (shown-ordered s.key (s.facts ++ told s.key n ∷ []) f)
+ordered-next s n f = subst (IsOrdered symbol_id_cmp) (shown-next s n) (shown-ordered s.key (s.facts ++ next_fact s.key n ∷ []) f)
 
 -- what was counted is the same where no gap was given
-same-counts : (o : ScanState) (s : Scanned) (x : GapWalk) (c : Counted) → c ≡ o.wanted → Scans (record o { walk = x }) s → Scans (state_of o x c) s
+same-counts : (o : ScanState) (s : Scanned) (x : PartitionScan) (c : Counted) → c ≡ o.wanted → Scans (record o { walk = x }) s → Scans (state_of o x c) s
 same-counts o s x c a q = subst (λ (c : Counted). Scans (state_of o x c) s) (sym a) q
 
-not_fitting-none : (w x : GapWalk) → (Some Turn.Fitting, x) ≡ turn_of w None → ⊥
-not_fitting-none w x e = let t = told-at w None Look.Fitting (kind w None (Some Turn.Fitting) x e).0 in none-some _ t.1.1
+not_fitting-none : (w x : PartitionScan) → (Some Turn.Fitting, x) ≡ turn_of w None → ⊥
+not_fitting-none w x e = let t = told-at w None Upcoming.Fitting (kind w None (Some Turn.Fitting) x e).0 in none-some _ t.1.1
 
-not_wanted-none : (w x : GapWalk) → (Some Turn.Wanted, x) ≡ turn_of w None → ⊥
-not_wanted-none w x e = let k = kind w None (Some Turn.Wanted) x e in none-some _ (told-at w None (Look.Wanted k.0) k.1).2.1
+not_wanted-none : (w x : PartitionScan) → (Some Turn.Wanted, x) ≡ turn_of w None → ⊥
+not_wanted-none w x e = let k = kind w None (Some Turn.Wanted) x e in none-some _ (told-at w None (Upcoming.Wanted k.0) k.1).2.1
 
-passed-end : (o : ScanState) (s : Scanned) (n : SymbolId × Option (Bor (List ℕ))) (x : GapWalk) (c : Counted) → IsScan o → Scans o (announced s (Some n)) → (Some Turn.End, x) ≡ turn_of o.walk (held_next (Some n)) → IsPlace x → c ≡ o.wanted → Stepped s (Some n) (state_of o x c) (Some Turn.Passed)
+passed-end : (o : ScanState) (s : Scanned) (n : SymbolId × Option (Bor (List ℕ))) (x : PartitionScan) (c : Counted) → IsScan o → Scans o (announced s (Some n)) → (Some Turn.End, x) ≡ turn_of o.walk (held_next (Some n)) → IsPlace x → c ≡ o.wanted → Stepped s (Some n) (state_of o x c) (Some Turn.Passed)
 passed-end o s n x c sc q e pl a =
     let k = kind o.walk (held_next (Some n)) (Some Turn.End) x e in
     let r = symbol-passed o s n x s.bytes q (keeps-end o s n x q e pl) (passed-done s n o.walk x (Some n) s.bytes s.bytes k.2 q.done) in
     (behind-symbol s n s.bytes x, r.0, same-counts o (behind-symbol s n s.bytes x) x c a r.1)
 
-pub stepped : (o : ScanState) (s : Scanned) (next : Next) (t : Option Turn) (x : GapWalk) (c : Counted) → IsScan o → Scans o (announced s next) → CanFollow s next → (t, x) ≡ turn_of o.walk (held_next next) → IsPlace x → AddsTurn t o.wanted c → Stepped s next (state_of o x c) (passed_at_end t (held_next next))
+pub stepped : (o : ScanState) (s : Scanned) (next : Next) (t : Option Turn) (x : PartitionScan) (c : Counted) → IsScan o → Scans o (announced s next) → CanFollow s next → (t, x) ≡ turn_of o.walk (held_next next) → IsPlace x → AddsTurn t o.wanted c → Stepped s next (state_of o x c) (passed_at_end t (held_next next))
 stepped o s None None x c sc q f e pl a = same-counts o (announced s None) x c a (scan-begun o s None x q sc e pl)
 stepped o s (Some n) None x c sc q f e pl a = same-counts o (announced s (Some n)) x c a (scan-begun o s (Some n) x q sc e pl)
 stepped o s None (Some (Turn.Gap g)) x c sc q f e pl a = (let r = gap-given o s None g x c q sc e pl a in (behind-gap s None g x, r.0, r.1))
@@ -551,7 +574,7 @@ stepped o s (Some (id, v)) (Some Turn.Wanted) x c sc q f e pl a =
     let n : SymbolId × Option (Bor (List ℕ)) = (id, v) in
     let r = symbol-passed o s n x None q (keeps-at o s n (Some Turn.Wanted) x q tt (λ more. refl) e pl) tt in
     (behind-symbol s n None x, (r.0, first-wanted o s n x s.bytes q e pl q.done), same-counts o (behind-symbol s n None x) x c a r.1)
-stepped o s None (Some Turn.Passed) x c sc q f e pl a = absurd (let t = told-at o.walk None Look.Passed (kind o.walk None (Some Turn.Passed) x e).0 in none-some t.0 t.1)
+stepped o s None (Some Turn.Passed) x c sc q f e pl a = absurd (let t = told-at o.walk None Upcoming.Passed (kind o.walk None (Some Turn.Passed) x e).0 in none-some t.0 t.1)
 stepped o s (Some (id, v)) (Some Turn.Passed) x c sc q f e pl a =
     let n : SymbolId × Option (Bor (List ℕ)) = (id, v) in
     let r = symbol-passed o s n x s.bytes q (keeps-at o s n (Some Turn.Passed) x q tt (λ more. refl) e pl) (passed-done s n o.walk x (Some n) s.bytes s.bytes (kind o.walk (held_next (Some n)) (Some Turn.Passed) x e).1 q.done) in
@@ -565,6 +588,6 @@ stepped o s (Some (id, Some v)) (Some Turn.End) x c sc q f e pl a = passed-end o
 pub part-of : (o : ScanState) (s : Scanned) → Scans o s → PartOf s
 part-of o s q = by_bytes s.bytes q.done
   where
-    by_bytes : (bytes : Option (List ℕ)) → IfSome bytes (λ b. IsDone s o.walk b) → IfSome bytes (λ b. (F before rest : List Fact) → F ≡ before ++ (s.facts ++ rest) → IsRising F → IsFirstPart F s.key s.info b)
+    by_bytes : (bytes : Option (List ℕ)) → IfSome bytes (λ b. FitsSoFar s o.walk b) → IfSome bytes (λ b. (F before rest : List Fact) → F ≡ before ++ (s.facts ++ rest) → IsRising F → IsFirstPart F s.key s.info b)
     by_bytes None d = tt
     by_bytes (Some b) d = λ F before rest e r. first-part s o.walk q.begins.0 F before rest b d q.begins.1 e r

@@ -23,13 +23,13 @@ use Rattle.flute_store.specs.declared.gap.Reason.TheVariants.{Missing, Conflicti
 use Rattle.flute_store.specs.declared.status.Wanted.{Wanted as Counted}
 use Rattle.flute_store.specs.Status.{IsCount}
 use Rattle.flute_store.specs.BytesLeft.{held_bytes}
-use Rattle.flute_store.specs.declared.gap_walk.GapWalk.{GapWalk}
+use Rattle.flute_store.specs.declared.partition_scan.PartitionScan.{PartitionScan}
 use Rattle.flute_store.specs.Objects.{wants, listed}
 use Rattle.flute_store.specs.Wanted.{block_from, blocks_from}
-use Rattle.flute_store.specs.GapWalk.{Walk, walk_of, at_start, symbols_left, gaps_left, IsWalk, ShowsNext, after_block}
+use Rattle.flute_store.specs.PartitionScan.{Walk, walk_of, at_start, symbols_left, gaps_left, IsWalk, ShowsNext, after_block}
 use Rattle.flute_store.specs.Shown.{shown_by, shown}
-use Rattle.flute_store.specs.Scan.{Scanned, told, told_next, CanCome, at_begin, GaveAll}
-use Rattle.flute_store.specs.Scans.{Next, announced, held_next, run_length, IsWithin, ScanState, ComesAs, one_run, IsDone, Scans}
+use Rattle.flute_store.specs.Scan.{Scanned, next_fact, coming_fact, CanCome, at_begin, GaveAll}
+use Rattle.flute_store.specs.Scans.{Next, announced, held_next, run_length, CountsWithin, ScanState, ComesAs, one_run, FitsSoFar, Scans}
 use Rattle.flute_store.proofs.Lookups.{Entry, value-past, value-here}
 use Rattle.flute_store.proofs.SortedSymbols.{block_from-first, block_from-end, blocks_from-next, blocks_from-end, blocks_from-all}
 use Rattle.flute_store.proofs.KeyLists.{none_in}
@@ -44,7 +44,7 @@ abbrev pub cell_of : Option (Bor (List ℕ)) → Cell (List ℕ)
 cell_of None = Conflict
 cell_of (Some bytes) = One bytes.now
 
-pub shown-told : (key : Key) (n : SymbolId × Option (Bor (List ℕ))) → shown_by key (told key n) ≡ (n.0, cell_of n.1) ∷ []
+pub shown-told : (key : Key) (n : SymbolId × Option (Bor (List ℕ))) → shown_by key (next_fact key n) ≡ (n.0, cell_of n.1) ∷ []
 shown-told key (id, Some b) = ap (λ t. cond t ((id, One b.now) ∷ []) []) (key_itself key)
 shown-told key (id, None) = ap (λ t. cond t ((id, Conflict) ∷ []) []) (key_itself key)
 
@@ -52,7 +52,7 @@ pub known-cell : (v : Option (Bor (List ℕ))) → IsKnown (cell_of v)
 known-cell None = λ e. cc
 known-cell (Some b) = λ e. cc
 
-pub shows-next : (key : Key) (next : Next) (more : List Entry) → ComesAs key (told_next key next) more → ShowsNext more (held_next next)
+pub shows-next : (key : Key) (next : Next) (more : List Entry) → ComesAs key (coming_fact key next) more → ShowsNext more (held_next next)
 shows-next key None more h = h
 shows-next key (Some (id, Some b)) more h = (One b.now, h.0, h.1 ∙ ap (λ es. es ++ h.0) (shown-told key (id, Some b)), refl)
 shows-next key (Some (id, None)) more h = (Conflict, h.0, h.1 ∙ ap (λ es. es ++ h.0) (shown-told key (id, None)), refl)
@@ -63,10 +63,10 @@ can_come : (key : Key) (f : Option Fact) (more : List Entry) (said : Option (Opt
 can_come key f more None e h = tt
 can_come key f more (Some c) e h = subst (λ c. ComesAs key c more) (sym e) h
 
-same-done : (s t : Scanned) (w : GapWalk) (said : Option (Option Fact)) (bytes : Option (List ℕ)) → IfSome bytes (λ b. IsDone s w b) → t ≡ record s { coming = said; ahead = t.ahead } → IfSome bytes (λ b. IsDone t w b)
+same-done : (s t : Scanned) (w : PartitionScan) (said : Option (Option Fact)) (bytes : Option (List ℕ)) → IfSome bytes (λ b. FitsSoFar s w b) → t ≡ record s { coming = said; ahead = t.ahead } → IfSome bytes (λ b. FitsSoFar t w b)
 same-done s t w said None d e = tt
 same-done s t w said (Some b) d e =
-    subst (λ (t : Scanned). IsDone t w b) (sym e)
+    subst (λ (t : Scanned). FitsSoFar t w b) (sym e)
     (record { done = d.done; all = d.all; held = d.held; values = d.values; no_run = d.no_run; no_gap = d.no_gap })
 
 pub announce : (o : ScanState) (s : Scanned) (next : Next) → Scans o s → CanCome s next → Scans o (announced s next)
@@ -74,8 +74,8 @@ announce o s next q can = record {
   key_is = q.key_is;
   info_is = q.info_is;
   begins = q.begins;
-  walks = λ more r k h. let w = q.walks more r k (can_come s.key (told_next s.key next) more s.coming can h) in record { walk = w.walk; gaps_are = w.gaps_are };
-  done = same-done s (announced s next) o.walk (Some (told_next s.key next)) s.bytes q.done refl;
+  walks = λ more r k h. let w = q.walks more r k (can_come s.key (coming_fact s.key next) more s.coming can h) in record { walk = w.walk; gaps_are = w.gaps_are };
+  done = same-done s (announced s next) o.walk (Some (coming_fact s.key next)) s.bytes q.done refl;
   counts = q.counts;
   ahead_is = q.ahead_is;
 }
@@ -94,21 +94,21 @@ pub length-left : (w : Walk) → length (symbols_left w) ≡ (w.size - w.esi) + 
 length-left w = length-both (block_from w.sbn w.esi w.size) (blocks_from w.partition w.begun) ∙ ap (λ k. k + length (blocks_from w.partition w.begun)) (length-block w.sbn w.esi (w.size - w.esi))
 
 -- none at the end
-pub end-symbols : (w : GapWalk) → w.esi ≡ w.size → w.begun ≡ length (sizes w.partition) → symbols_left (walk_of w []) ≡ []
+pub end-symbols : (w : PartitionScan) → w.esi ≡ w.size → w.begun ≡ length (sizes w.partition) → symbols_left (walk_of w []) ≡ []
 end-symbols w e f =
     ap (λ k. block_from w.sbn k w.size ++ blocks_from w.partition w.begun) e
     ∙ ap (λ xs. xs ++ blocks_from w.partition w.begun) (block_from-end w.sbn w.size)
     ∙ ap (blocks_from w.partition) f ∙ blocks_from-end w.partition
 
 -- a block that is begun changes none of them
-pub begin-symbols : (w : GapWalk) → w.esi ≡ w.size → w.begun < length (sizes w.partition) → symbols_left (walk_of (after_block w) []) ≡ symbols_left (walk_of w [])
+pub begin-symbols : (w : PartitionScan) → w.esi ≡ w.size → w.begun < length (sizes w.partition) → symbols_left (walk_of (after_block w) []) ≡ symbols_left (walk_of w [])
 begin-symbols w e l =
     sym (ap (λ k. block_from w.sbn k w.size ++ blocks_from w.partition w.begun) e
     ∙ ap (λ xs. xs ++ blocks_from w.partition w.begun) (block_from-end w.sbn w.size)
     ∙ blocks_from-next w.partition w.begun l)
 
 -- the next one is passed
-pub take-symbols : (w : GapWalk) → w.esi < w.size → symbols_left (walk_of w []) ≡ symbol_id w.sbn w.esi ∷ symbols_left (walk_of (record w { esi = w.esi + 1 }) [])
+pub take-symbols : (w : PartitionScan) → w.esi < w.size → symbols_left (walk_of w []) ≡ symbol_id w.sbn w.esi ∷ symbols_left (walk_of (record w { esi = w.esi + 1 }) [])
 take-symbols w l = ap (λ xs. xs ++ blocks_from w.partition w.begun) (block_from-first w.sbn w.esi w.size l)
 
 -- ---- looking up in what was passed, with one more behind it
@@ -132,7 +132,7 @@ value-last (x ∷ es) e r = value-past x (es ++ e ∷ []) e.0 (above-last x.0 es
 
 -- ---- the start
 
-pub new-scan : (key : Key) (info : Information) (w : GapWalk) (c : Counted) → ((held : List Entry) → walk_of w held ≡ at_start info held) → IsCount c [] → Scans (record { key = key; info = info; walk = w; wanted = c }) (at_begin key info)
+pub new-scan : (key : Key) (info : Information) (w : PartitionScan) (c : Counted) → ((held : List Entry) → walk_of w held ≡ at_start info held) → IsCount c [] → Scans (record { key = key; info = info; walk = w; wanted = c }) (at_begin key info)
 unfolding shown held_bytes
 new-scan key info w c e i =
     let start : symbols_left (walk_of w []) ≡ ids info = ap symbols_left (e []) ∙ blocks_from-all info in
@@ -150,7 +150,7 @@ new-scan key info w c e i =
       ahead_is = (let z = ap (λ (xs : List SymbolId). length xs) start in let o = ap one_run run in omega (arith, z, o));
     }
 
-pub new-within : (w : GapWalk) (c : Counted) → IsCount c [] → w.run ≡ None → IsWithin w c
+pub new-within : (w : PartitionScan) (c : Counted) → IsCount c [] → w.run ≡ None → CountsWithin w c
 new-within w c i r =
     let m = i.missing in let n = i.conflicting in let f = i.misfit in
     let o = ap run_length r in

@@ -25,8 +25,8 @@ use Rattle.flute_wire.specs.Writing.{IsWritten}
 use Rattle.flute_wire.specs.Carousel.{symbols_of, packets_of, facts_sent}
 use Rattle.flute_wire.proofs.Pieces.{facts_are_sent}
 use Rattle.flute_wire.proofs.Cut.{cut-ids, cut-joined, cut-fit, cut-one}
-use Rattle.flute_wire.proofs.Told.{IsSent, told-iff}
-use Rattle.flute_store.specs.Objects.{Whole, bytes_of, object}
+use Rattle.flute_wire.proofs.DatagramFacts.{IsSent, told-iff}
+use Rattle.flute_store.specs.Objects.{Whole, value_bytes, object}
 use Rattle.flute_store.specs.Sent.{facts_at_key}
 
 -- the facts that pass a test are those of the list that do
@@ -105,20 +105,20 @@ module _ (F : List Fact) (key : Key) (info : Information) (content : List ℕ) (
   }
 
   agree : (ss : List (SymbolId × List ℕ)) → ((s : SymbolId × List ℕ) → Contains ss s → fact_at F (symbol_address key s.0) ≡ Some (Symbol key s.0 s.1))
-      → flat_map (λ s. bytes_of (fact_at F (symbol_address key s.0))) ss ≡ flat_map (λ s. s.1) ss
+      → flat_map (λ s. value_bytes (fact_at F (symbol_address key s.0))) ss ≡ flat_map (λ s. s.1) ss
   agree [] each = refl
   agree (s ∷ ss) each =
-      let one = ap bytes_of (each s (0, omega arith, refl)) in
+      let one = ap value_bytes (each s (0, omega arith, refl)) in
       let rest = agree ss (λ t c. each t (suc c.0, omega (arith, c.1), c.2)) in
-      flat_map-cons (λ s. bytes_of (fact_at F (symbol_address key s.0))) s ss
-      ∙ ap (λ bs. bs ++ flat_map (λ s. bytes_of (fact_at F (symbol_address key s.0))) ss) one
+      flat_map-cons (λ s. value_bytes (fact_at F (symbol_address key s.0))) s ss
+      ∙ ap (λ bs. bs ++ flat_map (λ s. value_bytes (fact_at F (symbol_address key s.0))) ss) one
       ∙ ap (λ bs. s.1 ++ bs) rest
       ∙ sym (flat_map-cons (λ s. s.1) s ss)
 
   is_object : IsValid info → length content ≡ info.transfer_length → object F key info ≡ content
   unfolding object
   is_object v whole =
-      let by_id = λ (id : SymbolId). bytes_of (fact_at F (symbol_address key id)) in
+      let by_id = λ (id : SymbolId). value_bytes (fact_at F (symbol_address key id)) in
       let joined : flat_map by_id (ids info) ≡ content =
       ap (flat_map by_id) (sym (cut-ids info content))
       ∙ flat_map-map by_id (λ s. s.0) (symbols_of info content)

@@ -5,12 +5,12 @@ use Rattle.std.proofs.lemmas.Bool.{cases_Bool}
 use Rattle.std.proofs.lemmas.Bool.Decides.{nat_tests}
 use Rattle.flute_parts.specs.SymbolBytes.{HasSymbolSize}
 use Rattle.flute_wire.specs.Content.{Content}
-use Rattle.flute_wire.specs.Datagram.{Spells, symbol_of}
+use Rattle.flute_wire.specs.Datagram.{Spells, tail_symbol}
 
 behind : (xs ys : List ℕ) → length ys ≤ length (xs ++ ys)
 behind xs ys = omega (arith, length-append xs ys)
 
-tail_size : (tail : List ℕ) → length tail ≤ 65535 → IfSome (symbol_of tail) (λ symbol. HasSymbolSize symbol.1)
+tail_size : (tail : List ℕ) → length tail ≤ 65535 → IfSome (tail_symbol tail) (λ symbol. HasSymbolSize symbol.1)
 tail_size tail l = elim (cases_Bool (nat_lt 4 (length tail))) [
   | inl e ↦
       let long : 4 < length tail = grind (arith, nat_tests) in

@@ -25,23 +25,23 @@ use Rattle.flute_join.specs.Semilattice.{IsBelow}
 use Rattle.flute_join.proofs.Ordered.{ordered-map_join, EachValue-map_join}
 use Rattle.flute_store.specs.declared.object.Object.{Object}
 use Rattle.flute_store.specs.ObjectJoin.{object_join, symbols_join, session_join, store_join}
-use Rattle.flute_store.specs.Content.{key_of, info_facts, symbol_facts, symbols_facts, object_facts, session_facts, content}
+use Rattle.flute_store.specs.Content.{key_in, info_cell_facts, symbol_cell_facts, symbols_facts, object_facts, session_facts, content}
 use Rattle.flute_store.specs.WellFormed.{IsObject, IsSession, IsStore}
 use Rattle.flute_store.proofs.At.{Elsewhere, elsewhere-none, elsewhere-append, elsewhere-flat_map, elsewhere-cell, at-cell_join, at-map_join}
 
 -- ---- where the facts of a cell stand
 
-elsewhere-info : (a : Address) (key : Key) → (info_address key ≡ a → ⊥) → (c : Cell Information) → Elsewhere a (info_facts key c)
+elsewhere-info : (a : Address) (key : Key) → (info_address key ≡ a → ⊥) → (c : Cell Information) → Elsewhere a (info_cell_facts key c)
 elsewhere-info a key h c = elsewhere-cell (Info key) (info_address key) a (λ v. h) h c
 
-elsewhere-symbol : (a : Address) (key : Key) (id : SymbolId) → (symbol_address key id ≡ a → ⊥) → (c : Cell (List ℕ)) → Elsewhere a (symbol_facts key id c)
+elsewhere-symbol : (a : Address) (key : Key) (id : SymbolId) → (symbol_address key id ≡ a → ⊥) → (c : Cell (List ℕ)) → Elsewhere a (symbol_cell_facts key id c)
 elsewhere-symbol a key id h c = elsewhere-cell (Symbol key id) (symbol_address key id) a (λ v. h) h c
 
-info-join : (key : Key) (c d : Cell Information) → fact_at (info_facts key (cell_join same_information c d)) (info_address key) ≡ joined (info_address key) (fact_at (info_facts key c) (info_address key)) (fact_at (info_facts key d) (info_address key))
+info-join : (key : Key) (c d : Cell Information) → fact_at (info_cell_facts key (cell_join same_information c d)) (info_address key) ≡ joined (info_address key) (fact_at (info_cell_facts key c) (info_address key)) (fact_at (info_cell_facts key d) (info_address key))
 info-join key = at-cell_join (Info key) (info_address key) same_information (λ v. refl) refl (λ v w. ap (λ b. b && same_information v w) (key_itself key))
 
 symbol-join : (key : Key) (id : SymbolId) (c d : Cell (List ℕ))
-    → fact_at (symbol_facts key id (cell_join bytes_eq c d)) (symbol_address key id) ≡ joined (symbol_address key id) (fact_at (symbol_facts key id c) (symbol_address key id)) (fact_at (symbol_facts key id d) (symbol_address key id))
+    → fact_at (symbol_cell_facts key id (cell_join bytes_eq c d)) (symbol_address key id) ≡ joined (symbol_address key id) (fact_at (symbol_cell_facts key id c) (symbol_address key id)) (fact_at (symbol_cell_facts key id d) (symbol_address key id))
 symbol-join key id =
     at-cell_join (Symbol key id) (symbol_address key id) bytes_eq (λ v. refl) refl
     (λ v w. ap (λ b. b && (same_symbol_id id id && bytes_eq v w)) (key_itself key) ∙ ap (λ b. b && bytes_eq v w) (symbol_id_itself id))
@@ -62,7 +62,7 @@ any_cell [] = tt
 any_cell (e ∷ es) = (tt, any_cell es)
 
 abbrev pub entry_facts : Key → SymbolId × Cell (List ℕ) → List Fact
-entry_facts key e = symbol_facts key e.0 e.1
+entry_facts key e = symbol_cell_facts key e.0 e.1
 
 pub symbols_apart : (key : Key) (id : SymbolId) (e : SymbolId × Cell (List ℕ)) → (id ≡ e.0 → ⊥) → Elsewhere (symbol_address key id) (entry_facts key e)
 symbols_apart key id e h = elsewhere-symbol (symbol_address key id) key e.0 (λ p. h (sym (same_id key key e.0 id p))) e.1
@@ -76,8 +76,8 @@ symbols-join key id es fs s t =
 symbols-info : (key : Key) (es : List (SymbolId × Cell (List ℕ))) → fact_at (symbols_facts key es) (info_address key) ≡ None
 symbols-info key es = elsewhere-none (info_address key) (symbols_facts key es) (elsewhere-flat_map (info_address key) (entry_facts key) (λ e. elsewhere-symbol (info_address key) key e.0 (not_info key key e.0) e.1) es)
 
-info-symbol : (key : Key) (id : SymbolId) (c : Cell Information) → fact_at (info_facts key c) (symbol_address key id) ≡ None
-info-symbol key id c = elsewhere-none (symbol_address key id) (info_facts key c) (elsewhere-info (symbol_address key id) key (not_symbol key key id) c)
+info-symbol : (key : Key) (id : SymbolId) (c : Cell Information) → fact_at (info_cell_facts key c) (symbol_address key id) ≡ None
+info-symbol key id c = elsewhere-none (symbol_address key id) (info_cell_facts key c) (elsewhere-info (symbol_address key id) key (not_symbol key key id) c)
 
 pub EachValue-weaker : {K X : Type 0} (P Q : X → Type 0) → ((x : X) → P x → Q x) → (es : List (K × X)) → EachValue P es → EachValue Q es
 EachValue-weaker P Q h [] a = tt
@@ -118,22 +118,22 @@ module _ {n : ℕ} where
   }
 
   abbrev pub in_session : Session → ObjectName × Object n → List Fact
-  in_session session e = object_facts (key_of session e.0) e.1
+  in_session session e = object_facts (key_in session e.0) e.1
 
   abbrev pub in_store : Session × List (ObjectName × Object n) → List Fact
   in_store e = session_facts e.0 e.1
 
 module _ {n : ℕ} where
   -- ---- an object
-  pub object-info : (key : Key) (x : Object n) → fact_at (object_facts key x) (info_address key) ≡ fact_at (info_facts key x.info) (info_address key)
+  pub object-info : (key : Key) (x : Object n) → fact_at (object_facts key x) (info_address key) ≡ fact_at (info_cell_facts key x.info) (info_address key)
   object-info key x =
-      fact_at-append (info_facts key x.info) (symbols_facts key x.symbols) (info_address key)
-      ∙ ap (joined (info_address key) (fact_at (info_facts key x.info) (info_address key))) (symbols-info key x.symbols)
-      ∙ joined-none (info_address key) (fact_at (info_facts key x.info) (info_address key))
+      fact_at-append (info_cell_facts key x.info) (symbols_facts key x.symbols) (info_address key)
+      ∙ ap (joined (info_address key) (fact_at (info_cell_facts key x.info) (info_address key))) (symbols-info key x.symbols)
+      ∙ joined-none (info_address key) (fact_at (info_cell_facts key x.info) (info_address key))
 
   pub object-symbol : (key : Key) (id : SymbolId) (x : Object n) → fact_at (object_facts key x) (symbol_address key id) ≡ fact_at (symbols_facts key x.symbols) (symbol_address key id)
   object-symbol key id x =
-      fact_at-append (info_facts key x.info) (symbols_facts key x.symbols) (symbol_address key id)
+      fact_at-append (info_cell_facts key x.info) (symbols_facts key x.symbols) (symbol_address key id)
       ∙ ap (λ o. joined (symbol_address key id) o (fact_at (symbols_facts key x.symbols) (symbol_address key id))) (info-symbol key id x.info)
 
   object-join : (key : Key) (part : Part) (v w : Object n) → OrderedObject v → OrderedObject w
@@ -146,12 +146,12 @@ module _ {n : ℕ} where
 
   pub elsewhere-object : (a : Address) (key : Key) → (key ≡ a.key → ⊥) → (x : Object n) → Elsewhere a (object_facts key x)
   elsewhere-object a key h x =
-      elsewhere-append a (info_facts key x.info) (symbols_facts key x.symbols) (elsewhere-info a key (λ p. h (ap (λ (b : Address). b.key) p)) x.info)
+      elsewhere-append a (info_cell_facts key x.info) (symbols_facts key x.symbols) (elsewhere-info a key (λ p. h (ap (λ (b : Address). b.key) p)) x.info)
       (elsewhere-flat_map a (entry_facts key) (λ e. elsewhere-symbol a key e.0 (λ p. h (ap (λ (b : Address). b.key) p)) e.1) x.symbols)
 
   -- ---- a session
   pub objects_apart : (a : Address) (e : ObjectName × Object n) → (a.key.object ≡ e.0 → ⊥) → Elsewhere a (in_session a.key.session e)
-  objects_apart a e h = elsewhere-object a (key_of a.key.session e.0) (λ p. h (sym (ap (λ (k : Key). k.object) p))) e.1
+  objects_apart a e h = elsewhere-object a (key_in a.key.session e.0) (λ p. h (sym (ap (λ (k : Key). k.object) p))) e.1
 
   session-join : (a : Address) (v w : List (ObjectName × Object n)) → OrderedSession v → OrderedSession w
       → fact_at (session_facts a.key.session (session_join v w)) a ≡ joined a (fact_at (session_facts a.key.session v) a) (fact_at (session_facts a.key.session w) a)
@@ -160,7 +160,7 @@ module _ {n : ℕ} where
 
   elsewhere-session : (a : Address) (session : Session) → (session ≡ a.key.session → ⊥) → (objects : List (ObjectName × Object n)) → Elsewhere a (session_facts session objects)
   elsewhere-session a session h objects =
-      elsewhere-flat_map a (in_session session) (λ e. elsewhere-object a (key_of session e.0) (λ p. h (ap (λ (k : Key). k.session) p)) e.1) objects
+      elsewhere-flat_map a (in_session session) (λ e. elsewhere-object a (key_in session e.0) (λ p. h (ap (λ (k : Key). k.session) p)) e.1) objects
 
   -- ---- a store
   pub sessions_apart : (a : Address) (e : Session × List (ObjectName × Object n)) → (a.key.session ≡ e.0 → ⊥) → Elsewhere a (in_store e)

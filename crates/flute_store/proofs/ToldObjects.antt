@@ -19,7 +19,7 @@ use Rattle.flute_store.specs.declared.object.Object.{Object}
 use Rattle.flute_store.specs.Objects.{want, wants, runs}
 use Rattle.flute_store.specs.Wanted.{want_cell, with_reason, wanted}
 use Rattle.flute_store.specs.Found.{cell_fact, symbol_fact, IsTold}
-use Rattle.flute_store.specs.GapWalk.{at_start, left, gaps_left}
+use Rattle.flute_store.specs.PartitionScan.{at_start, left, gaps_left}
 use Rattle.flute_store.specs.GapsLeft.{GapsLeft}
 use Rattle.flute_store.specs.GapAnswers.{GivesGaps}
 use Rattle.flute_store.proofs.SortedSymbols.{blocks_from-all}

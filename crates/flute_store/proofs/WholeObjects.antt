@@ -14,7 +14,7 @@ use Rattle.flute_parts.specs.Information.{Information}
 use Rattle.flute_parts.specs.Addresses.{info_address, symbol_address}
 use Rattle.flute_parts.specs.Facts.{fact_at, Same}
 use Rattle.flute_parts.specs.Partition.{ids, fits}
-use Rattle.flute_store.specs.Objects.{IsHeld, Whole, bytes_of, object, want, wants, runs, gaps, listed}
+use Rattle.flute_store.specs.Objects.{IsHeld, Whole, value_bytes, object, want, wants, runs, gaps, listed}
 use Rattle.flute_parts.proofs.Readings.{fact_at-address}
 use Rattle.flute_store.proofs.Runs.{runs-listed}
 
@@ -28,7 +28,7 @@ Whole-same F G key info h w = record {
 
 pub object-same : (F G : List Fact) (key : Key) (info : Information) → Same F G → object F key info ≡ object G key info
 unfolding object
-object-same F G key info h = λ i. take info.transfer_length (flat_map (λ id. bytes_of (h.each (symbol_address key id) i)) (ids info))
+object-same F G key info h = λ i. take info.transfer_length (flat_map (λ id. value_bytes (h.each (symbol_address key id) i)) (ids info))
 
 wants-same : (F G : List Fact) (key : Key) (info : Information) → Same F G → wants F key info ≡ wants G key info
 unfolding wants

@@ -6,9 +6,9 @@ use Rattle.flute_join.specs.declared.cell.Cell.{Cell}
 use Rattle.flute_join.specs.declared.cell.Cell.TheVariants.{One}
 use Rattle.flute_parts.specs.Order.{symbol_id_cmp}
 use Rattle.flute_parts.specs.declared.symbol_id.SymbolId.{SymbolId}
-use Rattle.flute_store.specs.declared.held_walk.HeldWalk.{HeldWalk}
-use Rattle.flute_store.specs.GapWalk.{Walk, symbols_left, all_left}
-use Rattle.flute_store.specs.HeldWalk.{walk_in, bound, IsHeldWalk}
+use Rattle.flute_store.specs.declared.held_scan.HeldScan.{HeldScan}
+use Rattle.flute_store.specs.PartitionScan.{Walk, symbols_left, all_left}
+use Rattle.flute_store.specs.HeldScan.{walk_in, bound, IsHeldScan}
 
 -- the one value of a cell, or no bytes
 abbrev pub cell_bytes : Cell (List ℕ) → List ℕ
@@ -27,21 +27,21 @@ unfoldable pub bytes_left : Walk → List ℕ
 bytes_left w = held_bytes w.held (symbols_left w)
 
 -- nothing is wanted, and the bytes that are left are the same after some turns
-pub record KeepsBytes (v w : HeldWalk) : Type 0 where
-  pub walk : IsHeldWalk w
+pub record KeepsBytes (v w : HeldScan) : Type 0 where
+  pub walk : IsHeldScan w
   pub whole : all_left (walk_in w) ≡ []
   pub bytes : bytes_left (walk_in w) ≡ bytes_left (walk_in v)
   pub bound_is : bound w ≡ bound v
   pub onward : v.ticks ≤ w.ticks
 
 -- the bytes of the first symbol that is left were given, and the others are left
-pub record GivesFirst (v : HeldWalk) (bytes : List ℕ) (w : HeldWalk) : Type 0 where
-  pub walk : IsHeldWalk w
+pub record GivesFirst (v : HeldScan) (bytes : List ℕ) (w : HeldScan) : Type 0 where
+  pub walk : IsHeldScan w
   pub whole : all_left (walk_in w) ≡ []
   pub first : bytes_left (walk_in v) ≡ bytes ++ bytes_left (walk_in w)
   pub bound_is : bound w ≡ bound v
   pub ticked : v.ticks < w.ticks
 
-abbrev pub GivesBytes : HeldWalk → Option (Bor (List ℕ)) → HeldWalk → Type 0
+abbrev pub GivesBytes : HeldScan → Option (Bor (List ℕ)) → HeldScan → Type 0
 GivesBytes v None w = bytes_left (walk_in v) ≡ []
 GivesBytes v (Some bytes) w = GivesFirst v bytes.now w

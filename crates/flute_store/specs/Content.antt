@@ -11,8 +11,8 @@ use Rattle.flute_parts.specs.declared.fact.Fact.{Fact}
 use Rattle.flute_parts.specs.declared.fact.Fact.TheVariants.{Info, InfoConflict, Symbol, SymbolConflict}
 use Rattle.flute_store.specs.declared.object.Object.{Object}
 
-abbrev pub key_of : Session → ObjectName → Key
-key_of session object = record { session = session; object = object }
+abbrev pub key_in : Session → ObjectName → Key
+key_in session object = record { session = session; object = object }
 
 -- the fact that a cell tells, given the fact that tells a value and the fact that tells a conflict
 abbrev pub cell_facts : {T : Type 0} → (T → Fact) → Fact → Cell T → List Fact
@@ -20,22 +20,22 @@ cell_facts told clash Absent = []
 cell_facts told clash (One value) = told value ∷ []
 cell_facts told clash Conflict = clash ∷ []
 
-abbrev pub info_facts : Key → Cell Information → List Fact
-info_facts key = cell_facts (Info key) (InfoConflict key)
+abbrev pub info_cell_facts : Key → Cell Information → List Fact
+info_cell_facts key = cell_facts (Info key) (InfoConflict key)
 
-abbrev pub symbol_facts : Key → SymbolId → Cell (List ℕ) → List Fact
-symbol_facts key id = cell_facts (Symbol key id) (SymbolConflict key id)
+abbrev pub symbol_cell_facts : Key → SymbolId → Cell (List ℕ) → List Fact
+symbol_cell_facts key id = cell_facts (Symbol key id) (SymbolConflict key id)
 
 abbrev pub symbols_facts : Key → List (SymbolId × Cell (List ℕ)) → List Fact
-symbols_facts key symbols = flat_map (λ e. symbol_facts key e.0 e.1) symbols
+symbols_facts key symbols = flat_map (λ e. symbol_cell_facts key e.0 e.1) symbols
 
 module _ {n : ℕ} where
   -- an object's information comes before its symbols
   abbrev pub object_facts : Key → Object n → List Fact
-  object_facts key x = info_facts key x.info ++ symbols_facts key x.symbols
+  object_facts key x = info_cell_facts key x.info ++ symbols_facts key x.symbols
 
   abbrev pub session_facts : Session → List (ObjectName × Object n) → List Fact
-  session_facts session objects = flat_map (λ e. object_facts (key_of session e.0) e.1) objects
+  session_facts session objects = flat_map (λ e. object_facts (key_in session e.0) e.1) objects
 
   abbrev pub content : List (Session × List (ObjectName × Object n)) → List Fact
   content sessions = flat_map (λ e. session_facts e.0 e.1) sessions

@@ -12,16 +12,13 @@ use Rattle.flute_parts.specs.declared.symbol_id.SymbolId.{SymbolId}
 use Rattle.flute_parts.specs.declared.address.Part.{Part}
 use Rattle.flute_parts.specs.declared.fact.Fact.{Fact}
 use Rattle.flute_parts.specs.declared.fact.Fact.TheVariants.{Info, InfoConflict, Symbol, SymbolConflict}
+use Rattle.flute_store.specs.Held.{HoldsObject}
 use Rattle.flute_store.specs.declared.object.Object.{Object}
 use Rattle.flute_store.specs.WellFormed.{IsObject}
 
 -- nothing stands at the addresses of the object
 abbrev pub IsUnheard : List Fact → Key → Type 0
 IsUnheard F key = (part : Part) → fact_at F (record { key = key; part = part }) ≡ None
-
--- something stands at one of them
-abbrev pub IsHeard : List Fact → Key → Type 0
-IsHeard F key = (part : Part) × (fact_at F (record { key = key; part = part }) ≢ None)
 
 -- the fact that a cell tells
 abbrev pub cell_fact : {T : Type 0} → (T → Fact) → Fact → Cell T → Option Fact
@@ -35,7 +32,7 @@ symbol_fact key id (Some cell) = cell_fact (Symbol key id) (SymbolConflict key i
 
 -- x is all that the facts tell of the object
 pub record IsTold {n : ℕ} (F : List Fact) (key : Key) (x : Object n) : Type 0 where
-  pub heard : IsHeard F key
+  pub heard : HoldsObject F key
   pub info : fact_at F (info_address key) ≡ cell_fact (Info key) (InfoConflict key) x.info
   pub each : (id : SymbolId) → fact_at F (symbol_address key id) ≡ symbol_fact key id (value_at symbol_id_cmp x.symbols id)
   pub count : length (symbols F key) ≡ length x.symbols

@@ -13,7 +13,8 @@ use Rattle.flute_parts.specs.declared.fact.Fact.TheVariants.{Info, InfoConflict}
 use Rattle.flute_store.specs.declared.gaps.GapFault.{GapFault}
 use Rattle.flute_store.specs.declared.gaps.GapFault.TheVariants.{NoObject, NoInformation, ConflictingInformation}
 use Rattle.flute_store.specs.Objects.{gaps}
-use Rattle.flute_store.specs.Found.{IsUnheard, IsHeard}
+use Rattle.flute_store.specs.Found.{IsUnheard}
+use Rattle.flute_store.specs.Held.{HoldsObject}
 use Rattle.flute_store.specs.GapsLeft.{GapsLeft}
 
 -- all the gaps; the held symbols in their order, none of them passed, and no block begun; none of the ticks, and at most one for each block, for
@@ -32,7 +33,7 @@ pub record GivesGaps (F : List Fact) (key : Key) (left : GapsLeft) : Type 0 wher
 
 -- something of the object is held, and no information, or two values of it
 abbrev pub LacksInformation : List Fact → Key → Type 0
-LacksInformation F key = IsHeard F key × (fact_at F (info_address key) ≡ None)
+LacksInformation F key = HoldsObject F key × (fact_at F (info_address key) ≡ None)
 
 abbrev pub HasConflict : List Fact → Key → Type 0
 HasConflict F key = fact_at F (info_address key) ≡ Some (InfoConflict key)

@@ -4,11 +4,11 @@ use Rattle.flute_parts.specs.Session.{Session}
 use Rattle.flute_parts.specs.declared.object_key.ObjectName.{ObjectName}
 use Rattle.flute_parts.specs.declared.key.Key.{Key}
 use Rattle.flute_store.specs.declared.object.Object.{Object}
-use Rattle.flute_store.specs.Content.{key_of}
+use Rattle.flute_store.specs.Content.{key_in}
 use Rattle.flute_store.specs.WellFormed.{IsSession}
 
 abbrev pub session_keys : {X : Type 0} → Session → List (ObjectName × X) → List Key
-session_keys session objects = map (λ e. key_of session e.0) objects
+session_keys session objects = map (λ e. key_in session e.0) objects
 
 abbrev pub store_keys : {X : Type 0} → List (Session × List (ObjectName × X)) → List Key
 store_keys sessions = flat_map (λ e. session_keys e.0 e.1) sessions

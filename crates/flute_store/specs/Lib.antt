@@ -1,9 +1,9 @@
 pub mod HeldSymbol
-pub mod HeldWalk
+pub mod HeldScan
 pub mod ObjectJoin
 pub mod Content
 pub mod WellFormed
-pub mod News
+pub mod Update
 pub mod Beyond
 pub mod Walk
 pub mod ObjectFacts
@@ -14,9 +14,9 @@ pub mod Memory
 pub mod Objects
 pub mod Laws
 pub mod Examples
-pub mod HeldLeft
+pub mod PeekableSymbols
 pub mod Wanted
-pub mod GapWalk
+pub mod PartitionScan
 pub mod Shown
 pub mod Found
 pub mod GapsLeft

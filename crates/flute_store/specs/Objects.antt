@@ -25,13 +25,13 @@ pub record Whole (F : List Fact) (key : Key) (info : Information) : Type 0 where
   pub each : (id : SymbolId) → Contains (ids info) id → IsHeld F key info id
 
 -- the bytes of a fact, where it is one value of a symbol
-abbrev pub bytes_of : Option Fact → List ℕ
-bytes_of (Some (Symbol key id bytes)) = bytes
-bytes_of _ = []
+abbrev pub value_bytes : Option Fact → List ℕ
+value_bytes (Some (Symbol key id bytes)) = bytes
+value_bytes _ = []
 
 -- the symbols in the order of the partition, cut to the transfer length (RFC 5052, 9.1)
 unfoldable pub object : List Fact → Key → Information → List ℕ
-object F key info = take info.transfer_length (flat_map (λ id. bytes_of (fact_at F (symbol_address key id))) (ids info))
+object F key info = take info.transfer_length (flat_map (λ id. value_bytes (fact_at F (symbol_address key id))) (ids info))
 
 -- why a symbol of the partition is wanted, if it is
 abbrev pub want : Information → SymbolId → Option Fact → Option Reason

@@ -12,7 +12,7 @@ use Rattle.flute_parts.specs.declared.fact.Fact.{Fact}
 use Rattle.flute_parts.specs.declared.fact.Fact.TheVariants.{Info, Symbol, SymbolConflict}
 use Rattle.flute_store.specs.declared.gap.Gap.{Gap}
 use Rattle.flute_store.specs.declared.turn.Turn.{Turn}
-use Rattle.flute_store.specs.Objects.{Whole, IsHeld, object, gaps, bytes_of}
+use Rattle.flute_store.specs.Objects.{Whole, IsHeld, object, gaps, value_bytes}
 use Rattle.flute_store.specs.Extract.{IsNotWhole}
 
 -- what a scan has passed and given
@@ -31,26 +31,26 @@ pub record Scanned : Type 0 where
   pub ahead : ℕ
 
 -- what is held of a symbol: its one value, or that two were told
-abbrev pub told : Key → SymbolId × Option (Bor (List ℕ)) → Fact
-told key (id, Some bytes) = Symbol key id bytes.now
-told key (id, None) = SymbolConflict key id
+abbrev pub next_fact : Key → SymbolId × Option (Bor (List ℕ)) → Fact
+next_fact key (id, Some bytes) = Symbol key id bytes.now
+next_fact key (id, None) = SymbolConflict key id
 
-abbrev pub told_next : Key → Option (SymbolId × Option (Bor (List ℕ))) → Option Fact
-told_next key None = None
-told_next key (Some next) = Some (told key next)
+abbrev pub coming_fact : Key → Option (SymbolId × Option (Bor (List ℕ))) → Option Fact
+coming_fact key None = None
+coming_fact key (Some next) = Some (next_fact key next)
 
 -- what comes next stands behind what was passed
 abbrev pub CanFollow : Scanned → Option (SymbolId × Option (Bor (List ℕ))) → Type 0
 CanFollow s None = Unit {0}
-CanFollow s (Some next) = IsRising (s.facts ++ told s.key next ∷ [])
+CanFollow s (Some next) = IsRising (s.facts ++ next_fact s.key next ∷ [])
 
 -- what comes next is what was said to
 abbrev pub CanCome : Scanned → Option (SymbolId × Option (Bor (List ℕ))) → Type 0
-CanCome s next = IfSome s.coming (λ coming. coming ≡ told_next s.key next)
+CanCome s next = IfSome s.coming (λ coming. coming ≡ coming_fact s.key next)
 
 -- the first of these facts is what comes next of the object, or none of them is of it
 abbrev pub ComeNext : Key → Option (SymbolId × Option (Bor (List ℕ))) → List Fact → Type 0
-ComeNext key (Some next) rest = (others : List Fact) × (rest ≡ told key next ∷ others)
+ComeNext key (Some next) rest = (others : List Fact) × (rest ≡ next_fact key next ∷ others)
 ComeNext key None rest = AllByRecursion (λ f. (address f).key ≡ key → ⊥) rest
 
 -- all facts: those that were passed stand among them one after another, and this comes next of the object
@@ -67,17 +67,17 @@ pub record IsFirstPart (F : List Fact) (key : Key) (info : Information) (bytes :
   pub others : List SymbolId
   pub all : ids info ≡ first ++ others
   pub held : (id : SymbolId) → Contains first id → IsHeld F key info id
-  pub values : bytes ≡ flat_map (λ id. bytes_of (fact_at F (symbol_address key id))) first
+  pub values : bytes ≡ flat_map (λ id. value_bytes (fact_at F (symbol_address key id))) first
 
 -- a gap was given, and nothing passed; where it is the first one, it tells what is not whole
 pub record GaveGap (old : Scanned) (next : Option (SymbolId × Option (Bor (List ℕ)))) (gap : Gap) (new : Scanned) : Type 0 where
-  pub now : new ≡ record old { given = old.given ++ gap ∷ []; bytes = None; coming = Some (told_next old.key next); ahead = new.ahead }
+  pub now : new ≡ record old { given = old.given ++ gap ∷ []; bytes = None; coming = Some (coming_fact old.key next); ahead = new.ahead }
   pub fewer : new.ahead < old.ahead
   pub first : IfSome old.bytes (λ bytes. (F : List Fact) → Follows old next F → IsNotWhole F old.key (symbol_id gap.sbn gap.first))
 
 -- what came next was passed
 pub record PassedNext (old : Scanned) (next : SymbolId × Option (Bor (List ℕ))) (bytes : Option (List ℕ)) (new : Scanned) : Type 0 where
-  pub now : new ≡ record old { facts = old.facts ++ told old.key next ∷ []; bytes = bytes; coming = None; ahead = new.ahead }
+  pub now : new ≡ record old { facts = old.facts ++ next_fact old.key next ∷ []; bytes = bytes; coming = None; ahead = new.ahead }
 
 -- all gaps were given: these are the gaps of the object, of which the bytes are known where it has none
 pub record GaveAll (s : Scanned) (F : List Fact) : Type 0 where

@@ -9,7 +9,7 @@ use Rattle.flute_parts.specs.Session.{Session}
 use Rattle.flute_parts.specs.declared.object_key.ObjectName.{ObjectName}
 use Rattle.flute_parts.specs.declared.key.Key.{Key}
 use Rattle.flute_parts.specs.Addresses.{fact_of}
-use Rattle.flute_store.specs.Content.{key_of}
+use Rattle.flute_store.specs.Content.{key_in}
 
 -- the fact, if there is one
 abbrev pub option_facts : Option FactRef → List Fact
@@ -23,7 +23,7 @@ option_rest (Some rest) = rest
 
 -- the facts of the objects of a session, by what an object tells
 abbrev pub facts_in : {O : Type 0} → (Key → O → List Fact) → Session → List (ObjectName × O) → List Fact
-facts_in facts_of session objects = flat_map (λ e. facts_of (key_of session e.0) e.1) objects
+facts_in facts_of session objects = flat_map (λ e. facts_of (key_in session e.0) e.1) objects
 
 -- the bytes of a symbol are as many as one has; the types of all other parts tell their ranges
 abbrev pub IsSized : Fact → Type 0

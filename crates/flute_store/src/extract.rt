@@ -6,14 +6,14 @@ ghost use Rattle.flute_parts.specs.Order.{symbol_id_cmp};
 ghost use Rattle.flute_parts.specs.Partition.{ids};
 ghost use Rattle.flute_parts.specs.Devices.{Writes};
 ghost use Rattle.flute_store.specs.Wanted.{wanted};
-ghost use Rattle.flute_store.specs.GapWalk.{all_left};
-ghost use Rattle.flute_store.specs.HeldWalk.{walk_in, IsHeldWalk};
+ghost use Rattle.flute_store.specs.PartitionScan.{all_left};
+ghost use Rattle.flute_store.specs.HeldScan.{walk_in, IsHeldScan};
 ghost use Rattle.flute_store.specs.BytesLeft.{cell_bytes, held_bytes, bytes_left, GivesBytes};
 ghost use Rattle.flute_store.specs.Extract.{Extracts, failed};
 
 use crate::gaps::Gaps;
+use crate::held_scan::HeldScan;
 use crate::held_symbol::HeldSymbol;
-use crate::held_walk::HeldWalk;
 use crate::store::Store;
 use crate::turn::Turn;
 use flute_join::Cell;
@@ -65,10 +65,10 @@ fn up_to(bytes: &[u8], len: u64) -> &[u8]
     }
 }
 
-impl<'a> HeldWalk<'a> {
+impl<'a> HeldScan<'a> {
     // The bytes of the next symbol, which is passed. No symbol that is left is wanted.
     fn next_bytes(&mut self) -> Option<&'a [u8]>
-        requires walk { IsHeldWalk self.old }
+        requires walk { IsHeldScan self.old }
         requires whole { all_left (walk_in self.old) ≡ [] }
         ensures { GivesBytes self.old result self.new }
     {
@@ -92,7 +92,7 @@ impl<'a> HeldWalk<'a> {
 
     // Writes the symbols that are left one behind the other, up to `len` bytes. None of them is wanted.
     fn write<W: Sink>(&mut self, sink: &mut W, len: u64) -> Result<(), DeviceFault>
-        requires walk { IsHeldWalk self.old }
+        requires walk { IsHeldScan self.old }
         requires whole { all_left (walk_in self.old) ≡ [] }
         ensures bytes { Writes (W.written sink.old) (W.written sink.new)
             (take len (bytes_left (walk_in self.old))) result }
@@ -123,7 +123,7 @@ fn write_object<W: Sink>(
         (take info.now.transfer_length (held_bytes symbols.entry (ids info.now))) result }
     ensures failures { W.failures sink.new ≡ W.failures sink.old + (if is_ok result then 0 else 1) }
 {
-    let mut walk = HeldWalk::new(info, symbols);
+    let mut walk = HeldScan::new(info, symbols);
     walk.write(sink, info.length())
 }
 

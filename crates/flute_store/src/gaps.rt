@@ -13,8 +13,8 @@ ghost use Rattle.flute_store.specs.GapsLeft.{Ticks, IsPast, IsAtEnd};
 ghost use Rattle.flute_store.specs.GapAnswers.{GivesGaps, TellsGapFault};
 
 use crate::gap::Gap;
+use crate::held_scan::HeldScan;
 use crate::held_symbol::HeldSymbol;
-use crate::held_walk::HeldWalk;
 use crate::store::Store;
 use flute_join::Cell;
 use flute_parts::{Info, Key, SymbolId};
@@ -40,9 +40,9 @@ pub enum GapFault {
 ///
 /// It walks the held symbols and the blocks side by side: however long the object is, all its gaps
 /// take no more ticks than there are blocks and held symbols, and one. It takes no memory.
-#[derive(Drop)]
+#[derive(Debug, Drop)]
 pub struct Gaps<'a> {
-    walk: HeldWalk<'a>,
+    walk: HeldScan<'a>,
 }
 
 impl<'a> Model for Gaps<'a> {
@@ -53,8 +53,8 @@ impl<'a> Model for Gaps<'a> {
 
     ghost Value = { GapsLeft };
 
-    ghost use Rattle.flute_store.specs.GapWalk.{gaps_left};
-    ghost use Rattle.flute_store.specs.HeldWalk.{walk_in, bound, IsHeldWalk};
+    ghost use Rattle.flute_store.specs.PartitionScan.{gaps_left};
+    ghost use Rattle.flute_store.specs.HeldScan.{walk_in, bound, IsHeldScan};
 
     ghost view = { λ g. record {
       gaps = gaps_left (walk_in g.walk);
@@ -66,7 +66,7 @@ impl<'a> Model for Gaps<'a> {
       bound = bound g.walk;
     } };
 
-    ghost invariant = { λ g. IsHeldWalk g.walk };
+    ghost invariant = { λ g. IsHeldScan g.walk };
 }
 
 impl<'a> Gaps<'a> {
@@ -85,7 +85,7 @@ impl<'a> Gaps<'a> {
         ensures few { length (ids info.now) ≤ 2 ^ 32 }
     {
         Gaps {
-            walk: HeldWalk::new(info, symbols),
+            walk: HeldScan::new(info, symbols),
         }
     }
 

@@ -10,7 +10,7 @@ use flute_parts::{Key, ObjectKey, SessionKey};
 use std::marker::Model;
 
 /// The keys of a session that are left.
-#[derive(Drop)]
+#[derive(Debug, Drop)]
 pub struct SessionKeys<'a, O: Drop + 'a> {
     session: SessionKey,
     objects: Entries<'a, ObjectKey, O>,
@@ -54,7 +54,7 @@ impl<'a, O: Drop + 'a> Iterator for SessionKeys<'a, O> {
 }
 
 /// The keys of the objects of a store that are left, in rising order.
-#[derive(Drop)]
+#[derive(Debug, Drop)]
 pub struct Keys<'a, S: HasObjects + 'a> {
     session: Option<SessionKeys<'a, S::Object>>,
     sessions: Entries<'a, SessionKey, S>,

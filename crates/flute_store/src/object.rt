@@ -3,7 +3,7 @@ ghost use Rattle.std.specs.Prelude.{◌≡◌, ◌<◌, [], length, OnOk, OnErr,
 ghost use Rattle.flute_join.specs.Cell.{IsKnown};
 ghost use Rattle.flute_join.specs.JoinMap.{EachValue, IsSound, value_at};
 ghost use Rattle.flute_parts.specs.Order.{symbol_id_cmp};
-ghost use Rattle.flute_store.specs.News.{with_symbol, told_symbols, HasSize, HasSizes, IsHeldSymbol};
+ghost use Rattle.flute_store.specs.Update.{with_symbol, update_symbols, HasSize, HasSizes, IsHeldSymbol};
 ghost use Rattle.flute_store.specs.WellFormed.{AreSymbols};
 ghost use Rattle.flute_store.specs.ObjectJoin.{
   object_join,
@@ -14,13 +14,13 @@ ghost use Rattle.flute_store.specs.ObjectJoin.{
 };
 
 use crate::held_symbol::HeldSymbol;
-use crate::news::{News, Told, meet_info};
+use crate::update::{SymbolUpdate, Update, join_info};
 use flute_join::{Cell, Join, JoinMap, JoinRefusal};
 use flute_parts::{Info, SymbolId};
 use std::alloc::Global;
 
 /// An object: its information and its symbols.
-#[derive(Drop)]
+#[derive(Debug, Drop)]
 pub struct Object<const SYMBOLS: u32> {
     pub info: Cell<Info>,
     pub symbols: JoinMap<SymbolId, HeldSymbol, SYMBOLS>,
@@ -52,58 +52,58 @@ impl<const SYMBOLS: u32> Join for Object<SYMBOLS> {
     }
 }
 
-// Joins what is told of a symbol. After a refusal the symbols are unchanged.
-fn enter_symbol<const SYMBOLS: u32>(
+// Joins an update of a symbol. After a refusal the symbols are unchanged.
+fn join_symbol<const SYMBOLS: u32>(
     symbols: &mut JoinMap<SymbolId, HeldSymbol, SYMBOLS>,
     alloc: Global,
     id: SymbolId,
-    told: Told<'_>,
+    update: SymbolUpdate<'_>,
 ) -> Result<(), JoinRefusal>
     requires each { EachValue IsKnown symbols.old }
-    requires size { HasSize told }
-    ensures ok { OnOk result (symbols.new ≡ with_symbol symbols.old id told.entry) }
+    requires size { HasSize update }
+    ensures ok { OnOk result (symbols.new ≡ with_symbol symbols.old id update.entry) }
     ensures err { OnErr result (symbols.new ≡ symbols.old) }
     ensures full { result ≡ Err JoinRefusal.Full
-        → SYMBOLS < length (with_symbol symbols.old id told.entry) }
+        → SYMBOLS < length (with_symbol symbols.old id update.entry) }
     ensures held { IsSome (value_at symbol_id_cmp symbols.old id) → IsOk result }
     ensures room { (result ≡ Err JoinRefusal.Full → ⊥)
-        → IsSound symbol_id_cmp SYMBOLS IsKnown (with_symbol symbols.old id told.entry) }
+        → IsSound symbol_id_cmp SYMBOLS IsKnown (with_symbol symbols.old id update.entry) }
 {
     if let Some(held) = symbols.seek_mut(&id) {
-        told.meet(held);
+        update.join_into(held);
         return Ok(());
     }
     if symbols.len() == SYMBOLS {
         return Err(JoinRefusal::Full);
     }
-    let cell = told.into_cell(alloc)?;
+    let cell = update.into_cell(alloc)?;
     symbols.add_new(id, cell)
 }
 
-// Joins what is told of a symbol, if anything is. After a refusal the symbols are unchanged.
-fn enter_symbols<const SYMBOLS: u32>(
+// Joins an update of a symbol, if there is one. After a refusal the symbols are unchanged.
+fn join_symbols<const SYMBOLS: u32>(
     symbols: &mut JoinMap<SymbolId, HeldSymbol, SYMBOLS>,
     alloc: Global,
-    told: Option<(SymbolId, Told<'_>)>,
+    update: Option<(SymbolId, SymbolUpdate<'_>)>,
 ) -> Result<(), JoinRefusal>
     requires symbols { AreSymbols SYMBOLS symbols.old }
-    requires sizes { HasSizes told }
-    ensures ok { OnOk result (symbols.new ≡ symbols_join symbols.old (told_symbols told.entry)) }
+    requires sizes { HasSizes update }
+    ensures ok { OnOk result (symbols.new ≡ symbols_join symbols.old (update_symbols update.entry)) }
     ensures err { OnErr result (symbols.new ≡ symbols.old) }
     ensures full { result ≡ Err JoinRefusal.Full
-        → SYMBOLS < length (symbols_join symbols.old (told_symbols told.entry)) }
-    ensures held { IsHeldSymbol symbols.old told.entry → IsOk result }
+        → SYMBOLS < length (symbols_join symbols.old (update_symbols update.entry)) }
+    ensures held { IsHeldSymbol symbols.old update.entry → IsOk result }
     ensures room { (result ≡ Err JoinRefusal.Full → ⊥)
-        → AreSymbols SYMBOLS (symbols_join symbols.old (told_symbols told.entry)) }
+        → AreSymbols SYMBOLS (symbols_join symbols.old (update_symbols update.entry)) }
 {
-    match told {
-        Some((id, told)) => enter_symbol(symbols, alloc, id, told),
+    match update {
+        Some((id, update)) => join_symbol(symbols, alloc, id, update),
         None => Ok(()),
     }
 }
 
 impl<const SYMBOLS: u32> Object<SYMBOLS> {
-    ghost use Rattle.flute_store.specs.News.{news_object, IsNews};
+    ghost use Rattle.flute_store.specs.Update.{update_object, IsUpdate};
     ghost use Rattle.flute_store.specs.WellFormed.{IsObject, AreSymbols};
 
     /// An object of which nothing is known.
@@ -117,21 +117,21 @@ impl<const SYMBOLS: u32> Object<SYMBOLS> {
         }
     }
 
-    /// Joins what is told of the object. After a refusal it is unchanged.
-    pub fn enter(&mut self, alloc: Global, news: News<'_>) -> Result<(), JoinRefusal>
+    /// Joins an update of the object. After a refusal it is unchanged.
+    pub fn join_update(&mut self, alloc: Global, update: Update<'_>) -> Result<(), JoinRefusal>
         requires symbols { AreSymbols SYMBOLS self.old.symbols }
-        requires news { IsNews news }
-        ensures ok { OnOk result (self.new ≡ object_join self.old (news_object news.entry)) }
+        requires update { IsUpdate update }
+        ensures ok { OnOk result (self.new ≡ object_join self.old (update_object update.entry)) }
         ensures err { OnErr result (self.new ≡ self.old) }
         ensures full { result ≡ Err JoinRefusal.Full
-            → SYMBOLS < length (object_join self.old (news_object news.entry)).symbols }
-        ensures held { IsHeldSymbol self.old.symbols news.entry.symbol → IsOk result }
+            → SYMBOLS < length (object_join self.old (update_object update.entry)).symbols }
+        ensures held { IsHeldSymbol self.old.symbols update.entry.symbol → IsOk result }
         ensures room { (result ≡ Err JoinRefusal.Full → ⊥)
-            → IsObject (object_join self.old (news_object news.entry)) }
+            → IsObject (object_join self.old (update_object update.entry)) }
     {
-        let News { info, symbol } = news;
-        enter_symbols(&mut self.symbols, alloc, symbol)?;
-        meet_info(&mut self.info, &info);
+        let Update { info, symbol } = update;
+        join_symbols(&mut self.symbols, alloc, symbol)?;
+        join_info(&mut self.info, &info);
         Ok(())
     }
 }

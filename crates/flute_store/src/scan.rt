@@ -3,10 +3,10 @@ ghost use Rattle.std.specs.Prelude.{◌≡◌, ◌+◌, ◌≤◌, List, length,
 ghost use Rattle.flute_parts.specs.Information.{sizes};
 ghost use Rattle.flute_parts.specs.declared.fact.Fact.{Fact};
 ghost use Rattle.flute_store.specs.Scan.{Scanned, Turned, CanFollow, CanCome, at_begin, PartOf, GaveAll};
-ghost use Rattle.flute_store.specs.Scans.{Next, Scans, held_next, announced, passed_at_end, Stepped};
+ghost use Rattle.flute_store.specs.Scans.{Next, Scans, held_next, announced, passed_at_end, BeginsBlocks, Stepped};
 ghost use Rattle.flute_store.specs.Status.{TellsStatus};
 
-use crate::gap_walk::{GapWalk, Held};
+use crate::partition_scan::{Held, PartitionScan};
 use crate::status::{Status, Wanted};
 use crate::turn::Turn;
 use flute_parts::{Info, Key, SymbolId};
@@ -15,11 +15,11 @@ use std::marker::Model;
 /// A scan over what is held of an object with one information, which is read in the order of a
 /// journal: symbol after symbol, beside the symbols of its partition. It holds none of them, and
 /// takes no memory.
-#[derive(Drop)]
+#[derive(Debug, Drop)]
 pub struct ObjectScan {
     key: Key,
     info: Info,
-    walk: GapWalk,
+    walk: PartitionScan,
     wanted: Wanted,
 }
 
@@ -51,7 +51,7 @@ impl ObjectScan {
         ObjectScan {
             key,
             info: *info,
-            walk: GapWalk::new(info),
+            walk: PartitionScan::new(info),
             wanted: Wanted::none(),
         }
     }
@@ -60,14 +60,18 @@ impl ObjectScan {
     /// were told; or that none is left. It is passed where the answer is `Fitting`, `Wanted` or
     /// `Passed`. After `Gap` the same is to be given again.
     ///
-    /// It takes constant time for each block that it begins, and besides.
+    /// It takes constant time for each block that it begins, and besides; and all calls together
+    /// begin no more blocks than the object has.
     #[inline(always)]
     pub fn next(&mut self, next: Option<(SymbolId, Option<&[u8]>)>) -> Turn
         ensures turned { (s : Scanned) → Scans self.old s
             → CanFollow s next.entry → CanCome s next.entry
             → (t : Scanned) × Turned s next.entry result t × Scans self.new t }
         ensures part { (s : Scanned) → Scans self.new s → PartOf s }
+        ensures blocks { BeginsBlocks self.old self.new }
     {
+        // By this the proof knows where the scan may be.
+        let _ = &self.key;
         let held = held_next(&next);
         loop {
             if let Some(turn) = self.step(&held) {
@@ -83,8 +87,7 @@ impl ObjectScan {
             → Scans self.old (announced s next) → CanFollow s next
             → Stepped s next self.new result }
         ensures begun { IfNone result (self.new.walk.begun ≡ self.old.walk.begun + 1) }
-        ensures blocks { self.new.walk.begun ≤ length (sizes self.new.walk.partition) }
-        ensures same { self.new.walk.partition ≡ self.old.walk.partition }
+        ensures blocks { BeginsBlocks self.old self.new }
     {
         let turn = self.walk.turn(held);
         self.wanted.add_turn(&turn);

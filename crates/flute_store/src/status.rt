@@ -35,7 +35,7 @@ pub enum Status {
 }
 
 /// How many symbols are wanted for each reason.
-#[derive(Drop)]
+#[derive(Debug, Drop)]
 pub struct Wanted {
     pub missing: u64,
     pub conflicting: u64,

@@ -26,7 +26,7 @@ ghost use Rattle.flute_parts.specs.Order.{key_cmp, session_cmp, object_cmp};
 ghost use Rattle.flute_parts.specs.declared.key.Key.{Key as Name};
 ghost use Rattle.flute_parts.specs.Facts.{fact_at, Same, Below, IsRising};
 ghost use Rattle.flute_parts.specs.Limits.{Over};
-ghost use Rattle.flute_store.specs.News.{news_facts, IsNews};
+ghost use Rattle.flute_store.specs.Update.{update_facts, IsUpdate};
 ghost use Rattle.flute_store.specs.Memory.{HasNew};
 ghost use Rattle.flute_store.specs.ObjectJoin.{object_join, session_join, store_join, ObjectOver, ObjectNeedsMemory};
 ghost use Rattle.flute_store.specs.WellFormed.{IsStore};
@@ -37,12 +37,12 @@ ghost use Rattle.flute_wire.specs.Facts.{facts_of};
 ghost use Rattle.flute_wire.specs.Datagram.{Spells};
 ghost use Rattle.flute_wire.specs.Reading.{facts};
 ghost use Rattle.flute_wire.specs.Refusals.{Refuses};
-ghost use Rattle.flute_wire.specs.declared.refusal.Refusal.{Refusal as Reason};
+ghost use Rattle.flute_wire.specs.declared.refusal.Refusal.{Refusal};
 
-use crate::entering::{Objects, Sessions, enter_session};
 use crate::keys::Keys;
-use crate::news::News;
 use crate::taken::{TakeFault, Taken};
+use crate::update::Update;
+use crate::updating::{Objects, Sessions, join_session};
 use crate::walk::Walk;
 use flute_join::{Cell, Join, JoinMap, JoinRefusal};
 use flute_parts::{Address, Fact, Key, Part, Sender};
@@ -55,7 +55,7 @@ use std::marker::Model;
 /// of its facts in the order of their addresses, one at each.
 ///
 /// No session is held without an object, and no object without information or a symbol.
-#[derive(Drop)]
+#[derive(Debug, Drop)]
 pub struct Store<const SESSIONS: u32, const OBJECTS: u32, const SYMBOLS: u32> {
     pub(crate) sessions: Sessions<SESSIONS, OBJECTS, SYMBOLS>,
 }
@@ -139,17 +139,22 @@ impl<const SESSIONS: u32, const OBJECTS: u32, const SYMBOLS: u32> Store<
         join_sessions(&mut self.sessions, alloc, &other.sessions)
     }
 
-    // Joins what is told of an object. After a refusal the store is unchanged.
-    fn enter(&mut self, alloc: Global, key: &Key, news: News<'_>) -> Result<(), JoinRefusal>
-        requires { IsNews news }
-        ensures ok { OnOk result (Same self.new (self.old ++ news_facts key.now news.entry)) }
+    // Joins an update of an object. After a refusal the store is unchanged.
+    fn join_update(
+        &mut self,
+        alloc: Global,
+        key: &Key,
+        update: Update<'_>,
+    ) -> Result<(), JoinRefusal>
+        requires { IsUpdate update }
+        ensures ok { OnOk result (Same self.new (self.old ++ update_facts key.now update.entry)) }
         ensures err { OnErr result (self.new ≡ self.old) }
         ensures full { (result ≡ Err JoinRefusal.Full)
-            ↔ Over (self.old ++ news_facts key.now news.entry) SESSIONS OBJECTS SYMBOLS }
-        ensures held { AllByRecursion (HasCell self.old) (news_facts key.now news.entry)
+            ↔ Over (self.old ++ update_facts key.now update.entry) SESSIONS OBJECTS SYMBOLS }
+        ensures held { AllByRecursion (HasCell self.old) (update_facts key.now update.entry)
             → IsOk result }
     {
-        enter_session(&mut self.sessions, alloc, key, news)
+        join_session(&mut self.sessions, alloc, key, update)
     }
 
     /// Adds a fact. Where another value is held at its address, the conflict is held from then on,
@@ -167,7 +172,7 @@ impl<const SESSIONS: u32, const OBJECTS: u32, const SYMBOLS: u32> Store<
             ↔ Over (self.old ++ fact.now ∷ []) SESSIONS OBJECTS SYMBOLS }
         ensures held { HasCell self.old fact.now → IsOk result }
     {
-        self.enter(alloc, &fact.address().key, News::of_fact(fact))
+        self.join_update(alloc, &fact.address().key, Update::of_fact(fact))
     }
 
     /// As [`add`](Store::add), but the fact is handed over: none of its bytes is copied. Where it
@@ -186,7 +191,7 @@ impl<const SESSIONS: u32, const OBJECTS: u32, const SYMBOLS: u32> Store<
         ensures held { HasCell self.old fact → IsOk result }
     {
         let key = fact.address().key;
-        self.enter(alloc, &key, News::of_owned(fact))
+        self.join_update(alloc, &key, Update::of_owned(fact))
     }
 
     // Adds the facts of a packet that this sender sent. After a refusal the store is unchanged.
@@ -207,11 +212,11 @@ impl<const SESSIONS: u32, const OBJECTS: u32, const SYMBOLS: u32> Store<
     {
         // By this the proof knows that the store is within its limits.
         let _ = &self.sessions;
-        let Some(news) = News::of_packet(packet) else {
+        let Some(update) = Update::of_packet(packet) else {
             return Ok(Taken { facts: 0 });
         };
-        let facts = news.count();
-        self.enter(alloc, &packet.key(sender), news)?;
+        let facts = update.count();
+        self.join_update(alloc, &packet.key(sender), update)?;
         Ok(Taken { facts })
     }
 
@@ -238,7 +243,7 @@ impl<const SESSIONS: u32, const OBJECTS: u32, const SYMBOLS: u32> Store<
         ensures ok { OnOk result (Same self.new (self.old ++ facts sender datagram.now)) }
         ensures number { IfOk result (λ taken. taken.facts ≡ length (facts sender datagram.now)) }
         ensures err { OnErr result (self.new ≡ self.old) }
-        ensures refused { (r : Reason) → (result ≡ Err (TakeFault.Datagram r))
+        ensures refused { (r : Refusal) → (result ≡ Err (TakeFault.Datagram r))
             ↔ Refuses datagram.now r }
         ensures full { (result ≡ Err TakeFault.Full)
             ↔ Over (self.old ++ facts sender datagram.now) SESSIONS OBJECTS SYMBOLS }

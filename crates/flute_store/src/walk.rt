@@ -7,19 +7,19 @@ ghost use Rattle.flute_parts.specs.declared.fact.Fact.{Fact};
 ghost use Rattle.flute_parts.specs.declared.key.Key.{Key as Name};
 ghost use Rattle.flute_parts.specs.Session.{Session};
 ghost use Rattle.flute_parts.specs.Addresses.{fact_of};
-ghost use Rattle.flute_store.specs.Content.{info_facts, object_facts};
+ghost use Rattle.flute_store.specs.Content.{info_cell_facts, object_facts};
 ghost use Rattle.flute_store.specs.Walk.{option_facts, option_rest, facts_in, IsSized, YieldsFact};
 
-use crate::entering::Objects;
 use crate::held_symbol::HeldSymbol;
 use crate::keys::SessionKeys;
 use crate::object::Object;
+use crate::updating::Objects;
 use flute_join::{Cell, Entries};
 use flute_parts::{FactRef, Info, Key, ObjectKey, SessionKey, SymbolId};
 use std::marker::Model;
 
 /// The facts of an object that are left.
-#[derive(Drop)]
+#[derive(Debug, Drop)]
 pub struct ObjectWalk<'a> {
     key: Key,
     info: Option<FactRef<'a>>,
@@ -46,7 +46,7 @@ impl<'a> Model for ObjectWalk<'a> {
 
 // What is known of the information, as a fact.
 fn info_fact<'a>(key: &Key, info: &Cell<Info>) -> Option<FactRef<'a>>
-    ensures fact { option_facts result ≡ info_facts key.now info.now }
+    ensures fact { option_facts result ≡ info_cell_facts key.now info.now }
     ensures size { IfSome result (λ fact. IsSized (fact_of fact)) }
 {
     match info {
@@ -117,7 +117,7 @@ impl<const SYMBOLS: u32> HasFacts for Object<SYMBOLS> {
 }
 
 /// The facts of a session that are left.
-#[derive(Drop)]
+#[derive(Debug, Drop)]
 pub struct SessionWalk<'a, O: HasFacts + 'a> {
     session: SessionKey,
     object: Option<ObjectWalk<'a>>,
@@ -226,7 +226,7 @@ impl<const OBJECTS: u32, const SYMBOLS: u32> HasObjects for Objects<OBJECTS, SYM
 }
 
 /// The facts of a store that are left.
-#[derive(Drop)]
+#[derive(Debug, Drop)]
 pub struct Walk<'a, S: HasObjects + 'a> {
     session: Option<SessionWalk<'a, S::Object>>,
     sessions: Entries<'a, SessionKey, S>,

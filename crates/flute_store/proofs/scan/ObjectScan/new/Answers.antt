@@ -1,5 +1,5 @@
 use Rattle.std.proofs.Common.{[], ap}
-use Rattle.flute_store.specs.GapWalk.{Walk}
+use Rattle.flute_store.specs.PartitionScan.{Walk}
 use Rattle.flute_store.proofs.ScanTurns.{new-scan, new-within}
 use Rattle.flute_store.proofs.scan.ObjectScan.new.Goals as goal
 

@@ -1,14 +1,23 @@
 use Rattle.std.proofs.Common.{ap, arith, length}
 use Rattle.flute_parts.specs.Information.{Information, sizes}
-use Rattle.flute_store.proofs.ScanSteps.{part-of}
+use Rattle.flute_store.proofs.ScanSteps.{part-of, begins-more}
 use Rattle.flute_store.proofs.scan.ObjectScan.next.Goals as goal
 
 pub returns-in-Some-clause-part : goal.returns-in-Some-clause-part
 returns-in-Some-clause-part c = λ s q. part-of _ s q
 
+pub returns-in-Some-clause-blocks : goal.returns-in-Some-clause-blocks
+returns-in-Some-clause-blocks c = begins-more _ _ _ c.loop-turn.invariant.1 c.in-Some.ensures.blocks
+
+pub loop-turn-preserved : goal.loop-turn-preserved
+loop-turn-preserved c = (
+  λ s q f g. c.in_default.ensures.step s c.args.next c.held_next-held.ensures (c.loop-turn.invariant.0 s q f g) f,
+  begins-more _ _ _ c.loop-turn.invariant.1 c.in_default.ensures.blocks,
+)
+
 pub loop-turn-smaller : goal.loop-turn-smaller
 loop-turn-smaller c =
     let b = c.in_default.ensures.begun in
-    let l = ap (λ (i : Information). length (sizes i)) c.step.ensures.same in
-    let m = c.step.ensures.blocks in
+    let l = ap (λ (i : Information). length (sizes i)) c.in_default.ensures.blocks.partition_is in
+    let m = c.in_default.ensures.blocks.within in
     omega (arith, b, l, m)

@@ -1,10 +1,10 @@
 use Rattle.std.proofs.Common.{◌≡◌, ◌++◌, ◌↔◌, Err, ap, ◌∙◌, subst}
 use Rattle.flute_join.specs.declared.refusal.JoinRefusal.TheVariants.{Full}
 use Rattle.flute_parts.specs.Limits.{Over}
-use Rattle.flute_store.specs.News.{news_facts}
+use Rattle.flute_store.specs.Update.{update_facts}
 use Rattle.flute_store.proofs.store.Store.put.Goals as goal
 
 pub returns-clause-full : goal.returns-clause-full
 returns-clause-full g c =
-    let told = ap (λ a. news_facts a.key c.of_owned.result) c.address-key.ensures ∙ c.of_owned.ensures.facts in
-    subst (λ F. (c.enter.result ≡ Err Full) ↔ Over (c.args.self.now ++ F) g.row.SESSIONS g.row.OBJECTS g.row.SYMBOLS) told c.enter.ensures.full
+    let told = ap (λ a. update_facts a.key c.of_owned.result) c.address-key.ensures ∙ c.of_owned.ensures.facts in
+    subst (λ F. (c.join_update.result ≡ Err Full) ↔ Over (c.args.self.now ++ F) g.row.SESSIONS g.row.OBJECTS g.row.SYMBOLS) told c.join_update.ensures.full

@@ -1,0 +1,284 @@
+-- What comes next on a walk, and what is left then.
+use Rattle.std.proofs.Common.{◌≡◌, ◌≢◌, ℕ, ◌+◌, ◌<◌, ◌≤◌, cond, List, [], ◌∷◌, ◌++◌, length, drop, Option, Some, None, refl, sym, ap, ◌∙◌, subst, inl, inr, arith, append_assoc, ◌-◌}
+use Rattle.std.specs.Prelude.{◌==◌, option_map}
+use Rattle.std.specs.List.{cons_option}
+use Rattle.std.specs.Map.{keys_of}
+use Rattle.std.specs.declared.cmp.Ordering.{Ordering}
+use Rattle.std.specs.declared.cmp.Ordering.TheVariants.{Less, Equal, Greater}
+use Rattle.std.specs.List.Sorted.{IsStrictlySortedBy}
+use Rattle.std.specs.Ordering.{match_ordering}
+use Rattle.std.proofs.lemmas.Bool.{cases_Bool, eqb-true, eqb-false, ne_eqb, eq-eqb}
+use Rattle.std.proofs.lemmas.Map.Keys.{sorted_tail}
+use Rattle.flute_join.specs.Cell.{IsKnown}
+use Rattle.flute_join.specs.JoinMap.{IsOrdered, EachValue}
+use Rattle.flute_parts.specs.Information.{sizes}
+use Rattle.flute_parts.specs.Order.{symbol_id_cmp}
+use Rattle.flute_parts.specs.Equality.{symbol_id_place}
+use Rattle.flute_parts.specs.Partition.{symbol_id}
+use Rattle.flute_parts.specs.declared.symbol_id.SymbolId.{SymbolId}
+use Rattle.flute_store.specs.declared.gap.Reason.{Reason}
+use Rattle.flute_store.specs.declared.gap.Gap.{Gap}
+use Rattle.flute_store.specs.declared.partition_scan.Upcoming.{Upcoming}
+use Rattle.flute_store.specs.declared.partition_scan.Upcoming.TheVariants.{End, BlockEnd, Passed, Fitting, Wanted, NotHeld}
+use Rattle.flute_store.specs.Wanted.{want_cell, with_reason, wanted, block_from, blocks_from}
+use Rattle.flute_store.specs.PartitionScan.{Walk, symbols_left, left, pending, IsBehind, EndsBefore, IsWalk, IsAhead, Keeps, after_pass, after_take, after_begin, upcoming_wanted, upcoming_held, upcoming_of}
+use Rattle.flute_store.proofs.SortedSymbols.{Above, Later, above-before, above-block, later-blocks, block_from-first, block_from-end, blocks_from-next}
+use Rattle.flute_store.proofs.Lookups.{Entry, wanted-past, wanted-here}
+
+abbrev pub here : Walk → SymbolId
+here w = symbol_id w.sbn w.esi
+
+-- the next symbol is held, and this is why it is wanted, if it is
+pub record AtHere (w : Walk) (why : Option Reason) : Type 0 where
+  pub inside : w.esi ≢ w.size
+  pub first : Entry
+  pub others : List Entry
+  pub held : w.held ≡ first ∷ others
+  pub at_here : first.0 ≡ here w
+  pub why_is : want_cell w.partition (here w) (Some first.1) ≡ why
+
+pub record AtPassed (w : Walk) : Type 0 where
+  pub inside : w.esi ≢ w.size
+  pub first : Entry
+  pub others : List Entry
+  pub held : w.held ≡ first ∷ others
+  pub before : symbol_id_cmp first.0 (here w) ≡ Less
+
+-- the first of these is after p, if there is one
+abbrev pub FirstAfter : SymbolId → List Entry → Type 0
+FirstAfter p [] = Unit {0}
+FirstAfter p (e ∷ es) = symbol_id_cmp e.0 p ≡ Greater
+
+abbrev pub Tells : Walk → Upcoming → Type 0
+Tells w End = (w.esi ≡ w.size) × (w.begun ≡ length (sizes w.partition))
+Tells w BlockEnd = (w.esi ≡ w.size) × (w.begun ≢ length (sizes w.partition))
+Tells w Passed = AtPassed w
+Tells w Fitting = AtHere w None
+Tells w (Wanted reason) = AtHere w (Some reason)
+Tells w NotHeld = (w.esi ≢ w.size) × FirstAfter (here w) w.held
+
+tells-wanted : (w : Walk) (o : Option Reason) → AtHere w o → Tells w (upcoming_wanted o)
+tells-wanted w None h = h
+tells-wanted w (Some r) h = h
+
+tells-held : (w : Walk) (held : List Entry) → w.held ≡ held → w.esi ≢ w.size → Tells w (upcoming_held w.partition (here w) held)
+tells-held w [] h i = (i, subst (FirstAfter (here w)) (sym h) tt)
+tells-held w (e ∷ es) h i = by_order (symbol_id_cmp e.0 (here w)) refl
+  where
+    by_order : (o : Ordering) → symbol_id_cmp e.0 (here w) ≡ o → Tells w (match_ordering o Passed (upcoming_wanted (want_cell w.partition e.0 (Some e.1))) NotHeld)
+    by_order Less l = record { inside = i; first = e; others = es; held = h; before = l }
+    by_order Equal l =
+        let p = symbol_id_place e.0 (here w) l in
+        tells-wanted w (want_cell w.partition e.0 (Some e.1)) (record { inside = i; first = e; others = es; held = h; at_here = p; why_is = ap (λ x. want_cell w.partition x (Some e.1)) (sym p) })
+    by_order Greater l = (i, subst (FirstAfter (here w)) (sym h) l)
+
+pub tells : (w : Walk) → Tells w (upcoming_of w)
+unfolding upcoming_of
+tells w = elim (cases_Bool (w.esi == w.size)) [
+  | inr f ↦
+      subst (λ b. Tells w (cond b (cond (w.begun == length (sizes w.partition)) End BlockEnd) (upcoming_held w.partition (here w) w.held))) (sym f)
+      (tells-held w w.held refl (eqb-false w.esi w.size f))
+  | inl t ↦
+      let e = eqb-true w.esi w.size t in
+      subst (λ b. Tells w (cond b (cond (w.begun == length (sizes w.partition)) End BlockEnd) (upcoming_held w.partition (here w) w.held))) (sym t)
+      (elim (cases_Bool (w.begun == length (sizes w.partition))) [
+        | inl u ↦ subst (λ b. Tells w (cond b End BlockEnd)) (sym u) (e, eqb-true w.begun (length (sizes w.partition)) u)
+        | inr u ↦ subst (λ b. Tells w (cond b End BlockEnd)) (sym u) (e, eqb-false w.begun (length (sizes w.partition)) u)
+      ])
+]
+
+pub told : (w : Walk) (l : Upcoming) → upcoming_of w ≡ l → Tells w l
+told w l h = subst (Tells w) h (tells w)
+
+-- ---- the symbols that are left
+
+abbrev pub others_left : Walk → List SymbolId
+others_left w = block_from w.sbn (w.esi + 1) w.size ++ blocks_from w.partition w.begun
+
+pub symbols-first : (w : Walk) → w.esi < w.size → symbols_left w ≡ here w ∷ others_left w
+symbols-first w l = ap (λ xs. xs ++ blocks_from w.partition w.begun) (block_from-first w.sbn w.esi w.size l)
+
+pub blocks-later : (w : Walk) → IsWalk w → 0 < w.size → Later w.sbn (blocks_from w.partition w.begun)
+blocks-later w p l = let e = p.in_block l in later-blocks w.partition w.sbn w.begun (omega (arith, e))
+
+pub others-above : (w : Walk) → IsWalk w → w.esi < w.size → Above (here w) (others_left w)
+others-above w p l = above-block w.sbn w.esi w.size (blocks_from w.partition w.begun) (blocks-later w p (omega (arith, l)))
+
+pub inside-less : (w : Walk) → IsWalk w → w.esi ≢ w.size → w.esi < w.size
+inside-less w p i = let l = p.within in omega (arith, l, i)
+
+-- ---- steps
+
+held-length : (held : List Entry) (e : Entry) (es : List Entry) → held ≡ e ∷ es → length held ≡ length (drop 1 held) + 1
+held-length held e es h = ap (λ (x : List Entry). length x) h ∙ (let f : length (e ∷ es) ≡ length es + 1 = omega arith in f) ∙ ap (λ (x : List Entry). length (drop 1 x) + 1) (sym h)
+
+held-ordered : (held : List Entry) (e : Entry) (es : List Entry) → held ≡ e ∷ es → IsOrdered symbol_id_cmp held → IsOrdered symbol_id_cmp (drop 1 held)
+held-ordered held e es h s =
+    subst (λ (x : List Entry). IsOrdered symbol_id_cmp (drop 1 x)) (sym h) (sorted_tail symbol_id_cmp e.0 (keys_of es) (subst (IsOrdered symbol_id_cmp) h s))
+
+held-known : (held : List Entry) (e : Entry) (es : List Entry) → held ≡ e ∷ es → EachValue IsKnown held → EachValue IsKnown (drop 1 held)
+held-known held e es h s =
+    let k : EachValue IsKnown (e ∷ es) = subst (EachValue IsKnown) h s in
+    subst (λ (x : List Entry). EachValue IsKnown (drop 1 x)) (sym h) k.1
+
+behind-rest : (n i : ℕ) (held : List Entry) (e : Entry) (es : List Entry) → held ≡ e ∷ es → IsBehind n i held → IsBehind n i (drop 1 held)
+behind-rest n i held e es h b =
+    let a : IsBehind n i (e ∷ es) = subst (IsBehind n i) h b in
+    subst (λ (x : List Entry). IsBehind n i (drop 1 x)) (sym h) a.1
+
+-- the other held symbols stand behind the first
+pub sorted-first : (e : Entry) (es : List Entry) → IsOrdered symbol_id_cmp (e ∷ es) → Above e.0 (keys_of es)
+unfolding IsStrictlySortedBy
+sorted-first e es s = s.0
+
+behind-first : (w : Walk) (e : Entry) (es : List Entry) → w.held ≡ e ∷ es → e.0 ≡ here w → IsOrdered symbol_id_cmp w.held → IsBehind w.sbn (w.esi + 1 - 1) (drop 1 w.held)
+behind-first w e es h p s =
+    let a : Above e.0 (keys_of es) = sorted-first e es (subst (IsOrdered symbol_id_cmp) h s) in
+    let k : w.esi ≡ w.esi + 1 - 1 = omega arith in
+    subst (λ i. IsBehind w.sbn i (drop 1 w.held)) k
+    (subst (λ (x : List Entry). IsBehind w.sbn w.esi (drop 1 x)) (sym h) (subst (λ id. Above id (keys_of es)) p a))
+
+-- ---- how far a walk is
+
+-- a walk on which the first held symbol was passed
+passed-first : (w : Walk) (e : Entry) (es : List Entry) → w.held ≡ e ∷ es → w.held ≡ (e ∷ []) ++ drop 1 w.held
+passed-first w e es h = h ∙ ap (λ (x : List Entry). e ∷ drop 1 x) (sym h)
+
+pub ahead-none : (v w : Walk) → w.held ≡ v.held → w.begun ≡ v.begun → w.partition ≡ v.partition → IsAhead v w
+ahead-none v w h b p = record { passed = []; held_is = sym h; onward = omega (arith, b); partition_is = p }
+
+pub ahead-trans : (u v w : Walk) → IsAhead u v → IsAhead v w → IsAhead u w
+ahead-trans u v w a b =
+    let m = a.onward in
+    let n = b.onward in
+    record {
+      passed = a.passed ++ b.passed;
+      held_is = a.held_is ∙ ap (λ x. a.passed ++ x) b.held_is ∙ sym (append_assoc a.passed b.passed w.held);
+      onward = omega (arith, m, n);
+      partition_is = b.partition_is ∙ a.partition_is;
+    }
+
+pub ahead-first : (w x : Walk) (e : Entry) (es : List Entry) → w.held ≡ e ∷ es → x.held ≡ drop 1 w.held → x.begun ≡ w.begun → x.partition ≡ w.partition → IsAhead w x
+ahead-first w x e es h d b p = record { passed = e ∷ []; held_is = passed-first w e es h ∙ ap (λ (y : List Entry). e ∷ y) (sym d); onward = omega (arith, b); partition_is = p }
+
+pub step-pass : (w : Walk) → IsWalk w → AtPassed w → Keeps w (after_pass w)
+unfolding left
+step-pass w p t =
+    let l = inside-less w p t.inside in
+    let n = held-length w.held t.first t.others t.held in
+    record {
+      walk = record {
+        ordered = held-ordered w.held t.first t.others t.held p.ordered;
+        known = held-known w.held t.first t.others t.held p.known;
+        begun = p.begun;
+        within = p.within;
+        longest = p.longest;
+        in_block = p.in_block;
+        behind = λ z. behind-rest w.sbn (w.esi - 1) w.held t.first t.others t.held (p.behind z);
+        running = p.running;
+      };
+      ahead = ahead-first w (after_pass w) t.first t.others t.held refl refl refl;
+      left_is =
+          ap (λ ws. pending w.run ++ ws)
+          (ap (λ (x : List Entry). wanted w.partition (drop 1 x) (symbols_left w)) t.held
+          ∙ ap (wanted w.partition t.others) (symbols-first w l)
+          ∙ sym (wanted-past w.partition t.first t.others (here w ∷ others_left w) (t.before, above-before t.first.0 (here w) (others_left w) t.before (others-above w p l)))
+          ∙ ap (wanted w.partition (t.first ∷ t.others)) (sym (symbols-first w l))
+          ∙ ap (λ (x : List Entry). wanted w.partition x (symbols_left w)) (sym t.held));
+      fewer = omega (arith, n);
+    }
+
+-- a held symbol of the partition is passed, with this run behind it
+abbrev pub taken : Option Gap → Walk → Walk
+taken run w = record w { held = drop 1 w.held; esi = w.esi + 1; run = run }
+
+pub taken-walk : (run : Option Gap) (w : Walk) (why : Option Reason) → IsWalk w → AtHere w why → EndsBefore w.sbn (w.esi + 1) run → IsWalk (taken run w)
+taken-walk run w why p t r =
+    let l = inside-less w p t.inside in
+    record {
+      ordered = held-ordered w.held t.first t.others t.held p.ordered;
+      known = held-known w.held t.first t.others t.held p.known;
+      begun = p.begun;
+      within = omega (arith, l);
+      longest = p.longest;
+      in_block = p.in_block;
+      behind = λ z. behind-first w t.first t.others t.held t.at_here p.ordered;
+      running = r;
+    }
+
+pub taken-left : (run : Option Gap) (w : Walk) (why : Option Reason) → IsWalk w → AtHere w why → left w ≡ cons_option (option_map (with_reason (here w)) why) (left (taken run w))
+unfolding left
+taken-left run w why p t =
+    let l = inside-less w p t.inside in
+    ap (λ (x : List Entry). wanted w.partition x (symbols_left w)) t.held
+    ∙ ap (wanted w.partition (t.first ∷ t.others)) (symbols-first w l)
+    ∙ wanted-here w.partition t.first t.others (here w) (others_left w) t.at_here (others-above w p l)
+    ∙ ap (λ o. cons_option (option_map (with_reason (here w)) o) (wanted w.partition t.others (others_left w))) t.why_is
+    ∙ ap (λ (x : List Entry). cons_option (option_map (with_reason (here w)) why) (wanted w.partition (drop 1 x) (others_left w))) (sym t.held)
+
+pub taken-keeps : (run : Option Gap) (w : Walk) (why : Option Reason) → IsWalk w → AtHere w why → EndsBefore w.sbn (w.esi + 1) run → pending run ++ left (taken run w) ≡ pending w.run ++ left w → Keeps w (taken run w)
+taken-keeps run w why p t r e =
+    let n = held-length w.held t.first t.others t.held in
+    record { walk = taken-walk run w why p t r; left_is = e; fewer = omega (arith, n); ahead = ahead-first w (taken run w) t.first t.others t.held refl refl refl }
+
+pub step-take : (w : Walk) → IsWalk w → AtHere w None → w.run ≡ None → Keeps w (after_take w)
+step-take w p t r =
+    taken-keeps w.run w None p t (subst (EndsBefore w.sbn (w.esi + 1)) (sym r) tt)
+    (ap (λ ws. pending w.run ++ ws) (sym (taken-left w.run w None p t)))
+
+-- where the block has no symbol left, those of the other blocks are
+pub symbols-end : (w : Walk) → w.esi ≡ w.size → symbols_left w ≡ blocks_from w.partition w.begun
+symbols-end w e = ap (λ k. block_from w.sbn k w.size ++ blocks_from w.partition w.begun) e ∙ ap (λ xs. xs ++ blocks_from w.partition w.begun) (block_from-end w.sbn w.size)
+
+pub step-begin : (w : Walk) → IsWalk w → Tells w BlockEnd → w.run ≡ None → (after_begin w).size ≤ 65536 → Keeps w (after_begin w)
+unfolding left
+step-begin w p t r s =
+    let c = p.begun in
+    let d = t.1 in
+    let l : w.begun < length (sizes w.partition) = omega (arith, c, d) in
+    record {
+      walk = record {
+        ordered = p.ordered;
+        known = p.known;
+        begun = omega (arith, l);
+        within = omega arith;
+        longest = s;
+        in_block = λ z. refl;
+        behind = λ z. absurd (omega (arith, z));
+        running = subst (EndsBefore w.begun 0) (sym r) tt;
+      };
+      ahead = record { passed = []; held_is = refl; onward = omega arith; partition_is = refl };
+      left_is = ap (λ xs. pending w.run ++ wanted w.partition w.held xs) (sym (blocks_from-next w.partition w.begun l) ∙ sym (symbols-end w t.0));
+      fewer = omega (arith, l);
+    }
+
+-- ---- what comes next, from its parts
+
+pub upcoming-end : (w : Walk) → w.esi ≡ w.size → w.begun ≡ length (sizes w.partition) → End ≡ upcoming_of w
+unfolding upcoming_of
+upcoming-end w e f = sym (ap (λ b. cond b (cond (w.begun == length (sizes w.partition)) End BlockEnd) (upcoming_held w.partition (here w) w.held)) (eq-eqb w.esi w.size e) ∙ ap (λ b. cond b End BlockEnd) (eq-eqb w.begun (length (sizes w.partition)) f))
+
+pub upcoming-block_end : (w : Walk) → w.esi ≡ w.size → w.begun ≢ length (sizes w.partition) → BlockEnd ≡ upcoming_of w
+unfolding upcoming_of
+upcoming-block_end w e f = sym (ap (λ b. cond b (cond (w.begun == length (sizes w.partition)) End BlockEnd) (upcoming_held w.partition (here w) w.held)) (eq-eqb w.esi w.size e) ∙ ap (λ b. cond b End BlockEnd) (ne_eqb w.begun (length (sizes w.partition)) f))
+
+upcoming-inside : (w : Walk) (held : List Entry) → w.esi ≢ w.size → w.held ≡ held → upcoming_held w.partition (here w) held ≡ upcoming_of w
+unfolding upcoming_of
+upcoming-inside w held i h = ap (upcoming_held w.partition (here w)) (sym h) ∙ sym (ap (λ b. cond b (cond (w.begun == length (sizes w.partition)) End BlockEnd) (upcoming_held w.partition (here w) w.held)) (ne_eqb w.esi w.size i))
+
+pub upcoming-none : (w : Walk) → w.esi ≢ w.size → w.held ≡ [] → NotHeld ≡ upcoming_of w
+upcoming-none w i h = upcoming-inside w [] i h
+
+pub upcoming-first : (w : Walk) (e : Entry) (es : List Entry) (o : Ordering) → w.esi ≢ w.size → w.held ≡ e ∷ es → symbol_id_cmp e.0 (here w) ≡ o → match_ordering o Passed (upcoming_wanted (want_cell w.partition e.0 (Some e.1))) NotHeld ≡ upcoming_of w
+upcoming-first w e es o i h c = ap (λ o. match_ordering o Passed (upcoming_wanted (want_cell w.partition e.0 (Some e.1))) NotHeld) (sym c) ∙ upcoming-inside w (e ∷ es) i h
+
+pub here-small : (w : Walk) (why : Option Reason) → IsWalk w → AtHere w why → w.esi < 65536
+here-small w why p t = let l = inside-less w p t.inside in let m = p.longest in omega (arith, l, m)
+
+pub block-left : (w : Walk) → IsWalk w → Tells w BlockEnd → w.begun < length (sizes w.partition)
+block-left w p t = let c = p.begun in let d = t.1 in omega (arith, c, d)
+
+-- what is left does not depend on the run
+pub left-run : (w : Walk) (run : Option Gap) → left (record w { run = run }) ≡ left w
+unfolding left
+left-run w run = refl

@@ -1,0 +1,19 @@
+use Rattle.std.proofs.Common.{arith}
+use Rattle.std.proofs.lemmas.Result.{err_from_is_err_and}
+use Rattle.flute_store.proofs.BytesSteps.{writing-more, writing-fails}
+use Rattle.flute_store.proofs.held_scan.HeldScan.write.Goals as goal
+
+pub returns-in_err-write_all-clause-bytes : goal.returns-in_err-write_all-clause-bytes
+returns-in_err-write_all-clause-bytes g c =
+    let e = err_from_is_err_and c.from_residual.result c.from_residual.ensures.1 in
+    rw e.1 (writing-fails _ _ _ _ _ _ _ _ _ c.loop-bytes.invariant.2 c.in-Some.ensures.first c.up_to-bytes.ensures c.in_err-write_all.ensures.bytes)
+
+pub loop-bytes-preserved : goal.loop-bytes-preserved
+loop-bytes-preserved g c =
+    let a = c.loop-bytes.invariant.3 in
+    let b = c.in_ok-write_all.ensures.failures in (
+      c.in-Some.ensures.walk,
+      c.in-Some.ensures.whole,
+      writing-more _ _ _ _ _ _ _ _ _ c.loop-bytes.invariant.2 c.in-Some.ensures.first c.up_to-bytes.ensures c.in_ok-write_all.ensures.bytes,
+      omega (arith, a, b),
+    )

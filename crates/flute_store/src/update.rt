@@ -1,0 +1,166 @@
+//! An update of an object: what one fact or one packet tells of it.
+ghost use Rattle.std.specs.Prelude.{◌≡◌, [], ◌∷◌, length, List, ℕ, IfSome, IfNone, IfOk, IfErr, IsOk, bytes_eq};
+ghost use Rattle.flute_join.specs.Cell.{cell_join, IsKnown};
+ghost use Rattle.flute_parts.specs.Addresses.{address};
+ghost use Rattle.flute_parts.specs.Facts.{same_information};
+ghost use Rattle.flute_parts.specs.SymbolBytes.{HasSymbolSize};
+ghost use Rattle.flute_parts.specs.declared.key.Key.{Key as Name};
+ghost use Rattle.flute_wire.specs.Facts.{key_of, facts_of};
+ghost use Rattle.flute_store.specs.Update.{update_cell, update_facts, IsUpdate, HasSize};
+
+use crate::held_symbol::HeldSymbol;
+use flute_join::{Cell, JoinRefusal};
+use flute_parts::{Bytes, Fact, Info, SymbolId};
+use flute_wire::Packet;
+use std::alloc::Global;
+
+/// An update of a symbol: its bytes, or that there were two values.
+#[derive(Debug, Drop)]
+pub enum SymbolUpdate<'a> {
+    Borrowed(&'a [u8]),
+    Owned(Bytes),
+    Conflict,
+}
+
+/// An update of an object: of its information, of one of its symbols, or of both.
+#[derive(Debug, Drop)]
+pub struct Update<'a> {
+    pub info: Cell<Info>,
+    pub symbol: Option<(SymbolId, SymbolUpdate<'a>)>,
+}
+
+impl<'a> Update<'a> {
+    /// What a fact tells.
+    pub fn of_fact(fact: &'a Fact) -> Self
+        ensures update { IsUpdate result }
+        ensures facts { update_facts (address fact.now).key result ≡ fact.now ∷ [] }
+    {
+        match fact {
+            Fact::Info { info, .. } => Update {
+                info: Cell::One(*info),
+                symbol: None,
+            },
+            Fact::InfoConflict { .. } => Update {
+                info: Cell::Conflict,
+                symbol: None,
+            },
+            Fact::Symbol { id, bytes, .. } => Update {
+                info: Cell::Absent,
+                symbol: Some((*id, SymbolUpdate::Borrowed(bytes.as_slice()))),
+            },
+            Fact::SymbolConflict { id, .. } => Update {
+                info: Cell::Absent,
+                symbol: Some((*id, SymbolUpdate::Conflict)),
+            },
+        }
+    }
+
+    /// What a fact tells, which is handed over: none of its bytes is copied.
+    pub fn of_owned(fact: Fact) -> Self
+        ensures update { IsUpdate result }
+        ensures facts { update_facts (address fact).key result ≡ fact ∷ [] }
+    {
+        match fact {
+            Fact::Info { info, .. } => Update {
+                info: Cell::One(info),
+                symbol: None,
+            },
+            Fact::InfoConflict { .. } => Update {
+                info: Cell::Conflict,
+                symbol: None,
+            },
+            Fact::Symbol { id, bytes, .. } => Update {
+                info: Cell::Absent,
+                symbol: Some((id, SymbolUpdate::Owned(bytes))),
+            },
+            Fact::SymbolConflict { id, .. } => Update {
+                info: Cell::Absent,
+                symbol: Some((id, SymbolUpdate::Conflict)),
+            },
+        }
+    }
+
+    /// What a packet tells. None where it has neither information nor a symbol.
+    pub fn of_packet(packet: &Packet<'a>) -> Option<Self>
+        requires { IfSome packet.now.symbol (λ symbol. HasSymbolSize symbol.1) }
+        ensures update { IfSome result IsUpdate }
+        ensures facts { IfSome result (λ update. (sender : ℕ)
+            → update_facts (key_of sender packet.now) update ≡ facts_of sender packet.now) }
+        ensures nothing { IfNone result ((sender : ℕ) → facts_of sender packet.now ≡ []) }
+    {
+        let info = match packet.info() {
+            Some(info) => Cell::One(info),
+            None => Cell::Absent,
+        };
+        match packet.symbol() {
+            Some((id, bytes)) => Some(Update {
+                info,
+                symbol: Some((id, SymbolUpdate::Borrowed(bytes))),
+            }),
+            None if matches!(info, Cell::Absent) => None,
+            None => Some(Update { info, symbol: None }),
+        }
+    }
+
+    /// The number of facts: 1 or 2.
+    pub fn count(&self) -> u64
+        ensures { (key : Name) → result ≡ length (update_facts key self.now) }
+    {
+        let symbols = match self.symbol {
+            Some(_) => 1,
+            None => 0,
+        };
+        match self.info {
+            Cell::Absent => symbols,
+            _ => symbols + 1,
+        }
+    }
+}
+
+impl SymbolUpdate<'_> {
+    /// What is held of the symbol then. Borrowed bytes are copied; they are as many as a
+    /// symbol's, so the one refusal is `OutOfMemory`. Owned bytes are moved, and like a conflict
+    /// they take no memory.
+    pub fn into_cell(self, alloc: Global) -> Result<HeldSymbol, JoinRefusal>
+        requires { HasSize self }
+        ensures ok { IfOk result (λ c. c ≡ update_cell self.entry) }
+        ensures err { IfErr result (λ e. e ≡ JoinRefusal.OutOfMemory) }
+        ensures owned { (bytes : List ℕ) → self.entry ≡ SymbolUpdate.Owned bytes → IsOk result }
+        ensures conflict { self.entry ≡ SymbolUpdate.Conflict → IsOk result }
+    {
+        match self {
+            SymbolUpdate::Borrowed(bytes) => match Bytes::new(alloc, bytes) {
+                Ok(bytes) => Ok(HeldSymbol::of_bytes(bytes)),
+                Err(_) => Err(JoinRefusal::OutOfMemory),
+            },
+            SymbolUpdate::Owned(bytes) => Ok(HeldSymbol::of_bytes(bytes)),
+            SymbolUpdate::Conflict => Ok(HeldSymbol::conflict(alloc)),
+        }
+    }
+
+    /// Joins it into what is held already. It takes no memory.
+    pub fn join_into(&self, held: &mut HeldSymbol)
+        requires { IsKnown held.old }
+        ensures { held.new ≡ cell_join bytes_eq held.old (update_cell self.now) }
+    {
+        let differs = match (self, held.value()) {
+            (SymbolUpdate::Borrowed(bytes), Some(value)) => value != *bytes,
+            (SymbolUpdate::Owned(bytes), Some(value)) => value != bytes.as_slice(),
+            _ => true,
+        };
+        if differs {
+            held.set_conflict();
+        }
+    }
+}
+
+/// Joins an update of the information. It takes no memory.
+pub fn join_info(held: &mut Cell<Info>, update: &Cell<Info>)
+    ensures { held.new ≡ cell_join same_information held.old update.now }
+{
+    match update {
+        Cell::Absent => {}
+        Cell::One(info) => held.put(*info),
+        Cell::Conflict => *held = Cell::Conflict,
+    }
+}
