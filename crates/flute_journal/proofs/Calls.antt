@@ -1,8 +1,8 @@
 -- What the calls of a reader come to.
-use Rattle.flute_journal.proofs.Common.{Address, Consumes, Consumes-trans, Entries, Err, Fact, Gives, Header, IfSome, IsFactIn, IsFaultOf, List, None, Ok, Option, ReadFault, ReadsFrom, ReadsNext, Result, Some, Stage, StaysWithin, Two, Version, ap, at_place, count_at, drop, end, end_bytes, entry_in, fault_from, header_fault, header_in, in_entry, in_opening, inr, is_open, next_fault, or_else, position, refl, stage_behind, true, version_at, version_in, ℕ, ◌++◌, ◌∙◌, ◌≡◌}
+use Rattle.flute_journal.proofs.Common.{Address, Consumes, Consumes-trans, Entries, Err, Fact, Gives, Header, IfSome, IsFactIn, IsFaultOf, List, None, Ok, Option, ReadFault, ReadsFrom, ReadsNext, Result, Some, ReaderState, StaysWithin, Two, Version, ap, at_place, count_at, drop, end, end_bytes, entry_in, fault_from, header_fault, header_in, in_entry, in_opening, inr, is_open, next_fault, or_else, position, refl, state_after, true, version_at, version_in, ℕ, ◌++◌, ◌∙◌, ◌≡◌}
 use Rattle.flute_journal.specs.declared.fault.ReadFault.TheVariants as faults
 use Rattle.flute_journal.specs.Input.{Advances}
-use Rattle.flute_journal.proofs.{Fronts.{fault_up_to, fault_up_to-behind}, Parts.{header_passes, version-told}}
+use Rattle.flute_journal.proofs.{ReadsUpTo.{fault_up_to, fault_up_to-behind}, Parts.{header_passes, version-told}}
 
 known_header : (u : Option (List ℕ)) (p q : List ℕ → Option ReadFault) (f : ReadFault) → IfSome u (λ bs. p bs ≡ Some f) → IfSome u (λ bs. or_else (p bs) (q bs) ≡ Some f)
 known_header None p q f h = tt
@@ -45,8 +45,8 @@ reads_first limit version u v w (Err f) took h s = record {
   is_part = in_entry s.0 refl s.2;
 }
 
-pub gives : (limit : ℕ) (version : Version) (old new : Stage) (u v : Option (List ℕ)) (r : Result (Option Fact) ReadFault) → is_open old ≡ true
-    → new ≡ stage_behind (version_at version old) (count_at old) r → ReadsFrom version limit old u v r → Gives limit old new u v r
+pub gives : (limit : ℕ) (version : Version) (old new : ReaderState) (u v : Option (List ℕ)) (r : Result (Option Fact) ReadFault) → is_open old ≡ true
+    → new ≡ state_after (version_at version old) (count_at old) r → ReadsFrom version limit old u v r → Gives limit old new u v r
 gives limit version old new u v (Ok (Some f)) is_open_before e h =
     record { told = version; open_before = is_open_before; valid = h.0; in_order = h.1; within = h.2; goes_on = e; bytes = h.3 }
 gives limit version old new u v (Ok None) is_open_before e h = record { told = version; ended = e; bytes = inr (is_open_before, h.0, h.1) }

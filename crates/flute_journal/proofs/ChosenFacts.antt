@@ -4,7 +4,7 @@ use Rattle.std.specs.Prelude.{filter}
 use Rattle.std.proofs.Common.{inl, inr}
 use Rattle.std.proofs.lemmas.List.Elements.{filter-append}
 use Rattle.flute_parts.specs.declared.address.Address.{Address}
-use Rattle.flute_journal.specs.{declared.chosen.Chosen.{Chosen}, declared.sessions.Sessions.{Sessions}, Sessions.{listed, is_chosen, chosen}, ChosenStreams.{is_passed_over, OfAll, chosen_behaviour}}
+use Rattle.flute_journal.specs.{declared.chosen.Chosen.{Chosen}, declared.sessions.Sessions.{Sessions}, Sessions.{listed_tsis, is_chosen, chosen}, ChosenStreams.{is_passed_over, OfAll, chosen_behaviour}}
 
 module _ (p : Fact → Bool) where
   after_filter : (a : Address) (facts : List Fact) → StandAfter a facts → StandAfter a (filter p facts)
@@ -23,25 +23,25 @@ module _ (p : Fact → Bool) where
 
 module _ (s : Sessions) where
   -- what is held and not passed over is chosen, and else nothing of it is
-  held_chosen : (held : Option Fact) → is_passed_over s held ≡ false → chosen (listed s) (option_list held) ≡ option_list held
+  held_chosen : (held : Option Fact) → is_passed_over s held ≡ false → chosen (listed_tsis s) (option_list held) ≡ option_list held
   held_chosen None e = refl
-  held_chosen (Some f) e = elim (cases_Bool (is_chosen (listed s) f)) [
+  held_chosen (Some f) e = elim (cases_Bool (is_chosen (listed_tsis s) f)) [
     | inl t ↦ rw t refl
     | inr t ↦ absurd (false≢true (sym (subst (λ b. not b ≡ false) t e)))
   ]
 
-  held_other : (held : Option Fact) → is_passed_over s held ≡ true → chosen (listed s) (option_list held) ≡ []
+  held_other : (held : Option Fact) → is_passed_over s held ≡ true → chosen (listed_tsis s) (option_list held) ≡ []
   held_other None e = absurd (false≢true e)
-  held_other (Some f) e = elim (cases_Bool (is_chosen (listed s) f)) [
+  held_other (Some f) e = elim (cases_Bool (is_chosen (listed_tsis s) f)) [
     | inl t ↦ absurd (false≢true (subst (λ b. not b ≡ true) t e))
     | inr t ↦ rw t refl
   ]
 
-  and_held : (all facts : List Fact) (held : Option Fact) → facts ≡ chosen (listed s) all → is_passed_over s held ≡ false → facts ++ option_list held ≡ chosen (listed s) (all ++ option_list held)
-  and_held all facts held e h = ap (λ l. l ++ option_list held) e ∙ ap (λ l. chosen (listed s) all ++ l) (sym (held_chosen held h)) ∙ sym (filter-append (is_chosen (listed s)) all (option_list held))
+  and_held : (all facts : List Fact) (held : Option Fact) → facts ≡ chosen (listed_tsis s) all → is_passed_over s held ≡ false → facts ++ option_list held ≡ chosen (listed_tsis s) (all ++ option_list held)
+  and_held all facts held e h = ap (λ l. l ++ option_list held) e ∙ ap (λ l. chosen (listed_tsis s) all ++ l) (sym (held_chosen held h)) ∙ sym (filter-append (is_chosen (listed_tsis s)) all (option_list held))
 
-  and_other : (all facts : List Fact) (held : Option Fact) → facts ≡ chosen (listed s) all → is_passed_over s held ≡ true → facts ≡ chosen (listed s) (all ++ option_list held)
-  and_other all facts held e h = e ∙ sym (append-nil (chosen (listed s) all)) ∙ ap (λ l. chosen (listed s) all ++ l) (sym (held_other held h)) ∙ sym (filter-append (is_chosen (listed s)) all (option_list held))
+  and_other : (all facts : List Fact) (held : Option Fact) → facts ≡ chosen (listed_tsis s) all → is_passed_over s held ≡ true → facts ≡ chosen (listed_tsis s) (all ++ option_list held)
+  and_other all facts held e h = e ∙ sym (append-nil (chosen (listed_tsis s) all)) ∙ ap (λ l. chosen (listed_tsis s) all ++ l) (sym (held_other held h)) ∙ sym (filter-append (is_chosen (listed_tsis s)) all (option_list held))
 
   module _ {S : Type 0} (b : Behaviour S) where
     -- what a stream gave, of which these are the chosen facts
@@ -50,7 +50,7 @@ module _ (s : Sessions) where
 
     -- it let go of what it held, and of others behind it
     pub record PassesOthers (old now : S) : Type 0 where
-      pub gave : (start : S) (all : List Fact) → b.passes start old all → GaveOf start now (chosen (listed s) (all ++ option_list (b.held old)))
+      pub gave : (start : S) (all : List Fact) → b.passes start old all → GaveOf start now (chosen (listed_tsis s) (all ++ option_list (b.held old)))
       pub fewer : b.most now + length (option_list (b.held old)) ≤ b.most old
 
     pub passes_first : (old now : S) → GoesOn b old now → PassesOthers old now
@@ -98,18 +98,18 @@ module _ (s : Sessions) where
       abbrev given : List Fact
       given = F ++ option_list (b.held x.stream)
 
-      given_is : given ≡ chosen (listed s) (passed.0 ++ option_list (b.held x.stream))
+      given_is : given ≡ chosen (listed_tsis s) (passed.0 ++ option_list (b.held x.stream))
       given_is = and_held passed.0 F (b.held x.stream) passed.2 was_held
 
       gave_given : PassesOthers b x.stream t.stream → GaveOf b start.stream t.stream given
       gave_given h = subst (λ l. GaveOf b start.stream t.stream l) (sym given_is) (h.gave start.stream passed.0 passed.1)
 
-      continues : (all K facts : List Fact) (held : Option Fact) → facts ≡ chosen (listed s) all → OfAll s (λ l. Continues l all held) K → Continues K facts held
+      continues : (all K facts : List Fact) (held : Option Fact) → facts ≡ chosen (listed_tsis s) all → OfAll s (λ l. Continues l all held) K → Continues K facts held
       continues all K facts held e k = record {
-        rest = chosen (listed s) k.1.rest;
-        is = k.2 ∙ ap (chosen (listed s)) k.1.is ∙ filter-append (is_chosen (listed s)) all k.1.rest ∙ ap (λ l. l ++ chosen (listed s) k.1.rest) (sym e);
-        rising = subst IsRising (sym k.2) (rising_filter (is_chosen (listed s)) k.0 k.1.rising);
-        ended = λ n. ap (chosen (listed s)) (k.1.ended n);
+        rest = chosen (listed_tsis s) k.1.rest;
+        is = k.2 ∙ ap (chosen (listed_tsis s)) k.1.is ∙ filter-append (is_chosen (listed_tsis s)) all k.1.rest ∙ ap (λ l. l ++ chosen (listed_tsis s) k.1.rest) (sym e);
+        rising = subst IsRising (sym k.2) (rising_filter (is_chosen (listed_tsis s)) k.0 k.1.rising);
+        ended = λ n. ap (chosen (listed_tsis s)) (k.1.ended n);
       }
 
       goes : PassesOthers b x.stream t.stream → is_passed_over s (b.held t.stream) ≡ false → Gave w start t given
@@ -122,7 +122,7 @@ module _ (s : Sessions) where
             reads = of_start (b.reads start.stream t.stream) given (q.0, q.1.reads, q.2);
             reads_held = of_start (b.reads start.stream t.stream) (given ++ option_list held) (q.0 ++ option_list held, q.1.reads_held, e);
             fails = q.1.fails;
-            rising = subst IsRising (sym e) (rising_filter (is_chosen (listed s)) (q.0 ++ option_list held) q.1.rising);
+            rising = subst IsRising (sym e) (rising_filter (is_chosen (listed_tsis s)) (q.0 ++ option_list held) q.1.rising);
             sized = q.1.sized;
             ended = λ n. of_start (b.tells start.stream) given (q.0, q.1.ended n, q.2);
             begins = of_start (b.begins start.stream) (given ++ option_list held) (q.0 ++ option_list held, q.1.begins, e);

@@ -3,26 +3,26 @@ pub use Rattle.std.proofs.Common.{Bool, Err, IfErr, IfSome, IsTrue, List, MatchB
 pub use Rattle.flute_journal.specs.Advances.{AreNew, GoOnAt, GoesOnAt, StopAt, StopsIn}
 pub use Rattle.flute_journal.specs.Eithers.{either_behaviour}
 pub use Rattle.flute_journal.specs.Faults.{Before, Check, bytes_checks, cut, end_checks, entry_checks, first_fault, header_fault, id_checks, id_in, in_order, info_checks, info_in, is_after, is_key, is_kind, is_name, is_object, is_version, key_in, key_size, named_in, next_fault, object_in, opening_fault, rest_checks, version_fault, version_in}
-pub use Rattle.flute_journal.specs.Format.{body, end, entry, entry_in, front, front_in, header, header_in, id_bytes, info_bytes, key_bytes, key_of, kind, magic, name_bytes, object_bytes, rest_bytes, sender_bytes, sender_size, spelling, spelling_in, symbol_bytes, version_bytes, version_number}
-pub use Rattle.flute_journal.specs.Input.{Fails, FailsIf, Fronts, IsFaultOf, IsFaultUpTo, IsWithin, Reads, StaysWithin, failure, left_by, told}
+pub use Rattle.flute_journal.specs.Format.{body, end, entry, entry_in, front, front_in, header, header_in, id_bytes, info_bytes, key_bytes, fact_key, kind, magic, name_bytes, object_bytes, rest_bytes, sender_bytes, sender_size, spelling, spelling_in, counted_bytes, version_bytes, version_number}
+pub use Rattle.flute_journal.specs.Input.{Fails, FailsIf, ReadsUpTo, IsFaultOf, IsFaultUpTo, IsWithin, Reads, StaysWithin, failure, left_by, or_failed}
 pub use Rattle.flute_journal.specs.Journal.{AreEntries, Collects, HasRoom, IsByte, IsFact, IsFactIn, IsId, IsInfo, IsJournal, IsJournalWithin, IsKey, IsKeyIn, IsSymbol, Journal, JournalIn, OldJournal, Stops, before, behind, in_header, last_of}
 pub use Rattle.flute_journal.specs.JournalStreams.{FailsBy, FailsSince, IsJournalOfAll, ReadAt, ReadWhole, SameLoans, journal_behaviour, lent, lent_behaviour, room, unread_of}
 pub use Rattle.flute_journal.specs.JournalWriters.{PutsBytes, Written, times_failed}
-pub use Rattle.flute_journal.specs.Leads.{IsBelow, Leads, NoneBefore, StandsAt, lower_next, lower_of}
+pub use Rattle.flute_journal.specs.Leads.{IsBelowNext, Leads, NoneBefore, StandsAt, lower_next, lower_of}
 pub use Rattle.flute_journal.specs.Lowest.{IsLowest, IsNotBefore, Lowest}
 pub use Rattle.flute_journal.specs.Merges.{EndsBehind, FirstFails, KeepsUp, MergeGives, Merged, NamesFault, ReadsBehind, SecondFails, StopsShort, written_up_to}
 pub use Rattle.flute_journal.specs.Numbers.{in_bytes, number_at}
-pub use Rattle.flute_journal.specs.Parsing.{BodyIn, BodyIs, FixedIn, FixedIs, IsBody, IsOfBytes, Parses, RestIs, StopsFront, SymbolIs, at_place, body_fault, byte_of, bytes_fault, cut_fault, end_fault, fixed_bytes, fixed_key, fixed_rest, fixed_size, rest_fault, rest_size}
-pub use Rattle.flute_journal.specs.Readers.{limit_of, source_of, stage_of}
-pub use Rattle.flute_journal.specs.Reading.{count_at, last_at, version_at, Gives, GivesEnd, GivesEntry, GivesFault, IsAtFault, IsPart, ReadsEnd, ReadsFrom, ReadsNext, end_bytes, fault_from, in_entry, in_opening, is_open, next_bytes, opening, or_else, position, stage_behind}
-pub use Rattle.flute_journal.specs.Records.{AreDatagrams, FileStops, GivesFileFault, GivesOfFile, GivesRecord, HasFileFault, IsDatagram, IsFileFault, IsFileOf, IsFileWithin, ReadsFileFrom, ReadsRecord, file_fault_from, file_header, file_stage_behind, given, in_record, record_checks, record_fault, record_of}
-pub use Rattle.flute_journal.specs.SoFar.{Sofar, read_of, stage_at}
+pub use Rattle.flute_journal.specs.Parsing.{BodyIn, BodyIs, HeadIn, HeadIs, IsBody, IsOfBytes, Parses, RestIs, StopsReading, SymbolIs, at_place, body_fault, byte_of, bytes_fault, cut_fault, end_fault, head_bytes, head_key, head_rest, head_size, rest_fault, rest_size}
+pub use Rattle.flute_journal.specs.Readers.{limit_of, source_of, state_of}
+pub use Rattle.flute_journal.specs.Reading.{count_at, last_at, version_at, Gives, GivesEnd, GivesEntry, GivesFault, IsAtFault, IsPart, ReadsEnd, ReadsFrom, ReadsNext, end_bytes, fault_from, in_entry, in_opening, is_open, next_bytes, opening, or_else, position, state_after}
+pub use Rattle.flute_journal.specs.Records.{AreDatagrams, FileStops, GivesFileFault, GivesOfFile, GivesRecord, HasFileFault, IsDatagram, IsFileFault, IsFileOf, IsFileWithin, ReadsFileFrom, ReadsRecord, file_fault_from, file_header, file_state_after, given, in_record, record_checks, record_fault, record_of}
+pub use Rattle.flute_journal.specs.SoFar.{Sofar, read_of, state_at}
 pub use Rattle.flute_journal.specs.Stores.{BeginsOver, BeginsWith, FailsToLoad, IsJournalOf, IsLoadFault, refused}
 pub use Rattle.flute_journal.specs.StreamMerges.{AppendsNoJournal, AppendsPartOf, BeginWith, CanGoOn, Each, EachSince, FailAs, GaveBefore, IsCounted, IsWithinLimits, MergedAll, NamesInput, NoneFails, OneFails, ReadsAhead, all_of}
 pub use Rattle.flute_journal.specs.Streams.{Advances, Behaviour, Continues, Gave, GoesOn, Stopped, StopsAt, fact_in, heads, most_of, option_list, place_of}
 pub use Rattle.flute_journal.specs.Whole.{HasFault, ReadsPart, StopsAfter}
-pub use Rattle.flute_journal.specs.declared.{datagram_reader.FileStage.{FileStage}, datagram_reader.FileStage.TheVariants.{Records}, either.Either.{Either}, either.Either.TheVariants.{First, Second}, fault.LoadFault.{LoadFault}, fault.LoadFault.TheVariants.{Full, Read}, fault.ReadFault.{ReadFault}}
-pub use Rattle.flute_journal.specs.declared.{format.Fixed.{Fixed}, format.Kind.{Kind}, format.version.Version.{Version}, format.version.Version.TheVariants.{One, Two}, journal_stream.LentStream.{LentStream}, merging.Joined.{Joined}, reader.Stage.{Stage}, reader.Stage.TheVariants.{Ended, Entries, Failed, Header}, streams_fault.InputFault.{InputFault}}
+pub use Rattle.flute_journal.specs.declared.{datagram_reader.FileState.{FileState}, datagram_reader.FileState.TheVariants.{Records}, either.Either.{Either}, either.Either.TheVariants.{First, Second}, fault.LoadFault.{LoadFault}, fault.LoadFault.TheVariants.{Full, Read}, fault.ReadFault.{ReadFault}}
+pub use Rattle.flute_journal.specs.declared.{format.EntryHead.{EntryHead}, format.Kind.{Kind}, format.version.Version.{Version}, format.version.Version.TheVariants.{One, Two}, journal_stream.LentStream.{LentStream}, all_streams.MergedJournal.{MergedJournal}, journal_reader.ReaderState.{ReaderState}, journal_reader.ReaderState.TheVariants.{Ended, Entries, Failed, Header}, streams_fault.InputFault.{InputFault}}
 pub use Rattle.flute_journal.specs.declared.{streams_fault.StreamsFault.{StreamsFault}, streams_fault.StreamsFault.TheVariants.{Input, Write}}
 pub use Rattle.flute_parts.proofs.Appended.{AppendsPart-first, AppendsPart-second, Writes-behind}
 pub use Rattle.flute_parts.proofs.Facts.{Below-from_Same, Same-append, Same-itself, Same-members, Same-sym, Same-trans, Same-twice, alone, alone-at, alone-elsewhere, fact_at-cons, fact_at-elsewhere, fact_at-here, fact_at-nil}

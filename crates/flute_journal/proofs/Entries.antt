@@ -1,5 +1,5 @@
 -- Entries, one behind the other, are spelled in one way.
-use Rattle.flute_journal.proofs.Common.{none-some, ◌≡◌, ℕ, ◌^◌, ◌<◌, List, [], ◌∷◌, ◌++◌, length, take, drop, refl, sym, ap, ◌∙◌, append_assoc, arith, cases_lt, le-leb, take_at, drop_at, Information, session, ObjectName, Key, SymbolId, Fact, Info, InfoConflict, Symbol, SymbolConflict, Version, One, Two, in_bytes, sender_bytes, name_bytes, key_bytes, id_bytes, symbol_bytes, header_in, entry_in, AllByRecursion, IsKey, HasRoom, IsId, IsInfo, IsFact, IsFactIn}
+use Rattle.flute_journal.proofs.Common.{none-some, ◌≡◌, ℕ, ◌^◌, ◌<◌, List, [], ◌∷◌, ◌++◌, length, take, drop, refl, sym, ap, ◌∙◌, append_assoc, arith, cases_lt, le-leb, take_at, drop_at, Information, session, ObjectName, Key, SymbolId, Fact, Info, InfoConflict, Symbol, SymbolConflict, Version, One, Two, in_bytes, sender_bytes, name_bytes, key_bytes, id_bytes, counted_bytes, header_in, entry_in, AllByRecursion, IsKey, HasRoom, IsId, IsInfo, IsFact, IsFactIn}
 use Rattle.flute_journal.specs.Format.{sender_size}
 use Rattle.flute_journal.proofs.Numbers.{in_bytes-injective}
 
@@ -28,7 +28,7 @@ pub length_fits : (i : Information) → IsInfo i → i.transfer_length < 2 ^ 48
 length_fits i p = grind (arith, cases_lt, le-leb, none-some)
 
 -- bytes behind their number are read in one way, whatever follows them
-pub counted-injective : (a b x y : List ℕ) → length a < 2 ^ 16 → length b < 2 ^ 16 → symbol_bytes a ++ x ≡ symbol_bytes b ++ y → (a ≡ b) × (x ≡ y)
+pub counted-injective : (a b x y : List ℕ) → length a < 2 ^ 16 → length b < 2 ^ 16 → counted_bytes a ++ x ≡ counted_bytes b ++ y → (a ≡ b) × (x ≡ y)
 counted-injective a b x y p q e =
     let grouped = sym (append_assoc (in_bytes 2 (length a)) a x) ∙ e ∙ append_assoc (in_bytes 2 (length b)) b y in
     let s = in_bytes-injective 2 (length a) (length b) (a ++ x) (b ++ y) (omega (arith, p)) (omega (arith, q)) grouped in

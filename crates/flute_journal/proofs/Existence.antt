@@ -1,5 +1,5 @@
 -- What stands where bytes have no fault: they are a journal, or stop at one.
-use Rattle.flute_journal.proofs.Common.{Address, AllByRecursion, Bool, Fact, HasRoom, Info, InfoConflict, InfoFault, IsByte, IsFact, IsFactIn, IsId, IsJournalWithin, IsKey, IsKeyIn, IsRising, IsSymbol, IsTrue, Key, Kind, List, None, One, Option, ReadFault, Some, Stops, Symbol, SymbolConflict, Two, Version, [], address, ap, append_assoc, arith, at_place, before, behind, big_endian, body, body_fault, byte_of, bytes_eq, bytes_eq-Decides, cases_Bool, drop, drop-drop, end, end_checks, entry_checks, entry_in, eqb, eqb-false, eqb-true, false, first_fault, flat_map_more, front_in, header_fault, header_in, id_bytes, id_in, if◌then◌else◌, in_bytes, in_header, info_bytes, info_checks, info_fault, info_in, inl, inr, is_after, is_key, is_kind, is_name, is_version, key_bytes, key_in, key_of, key_size, kind, last_of, leb, leb-false, leb-true, length, length-append, length-drop, length-take, length-take-le, ltb, ltb-false, ltb-true, magic, named_in, next_fault, none-some, not, number_at, opening_fault, pow-le-pow_right, refl, rest_bytes, rest_fault, subst, suc, sym, symbol_bytes, take, take-append-drop, take_all, true, version_bytes, version_fault, version_in, zero, ℕ, ◌&&◌, ◌++◌, ◌<◌, ◌^◌, ◌∙◌, ◌∷◌, ◌≡◌, ◌≤◌, ◌⊎◌}
+use Rattle.flute_journal.proofs.Common.{Address, AllByRecursion, Bool, Fact, HasRoom, Info, InfoConflict, InfoFault, IsByte, IsFact, IsFactIn, IsId, IsJournalWithin, IsKey, IsKeyIn, IsRising, IsSymbol, IsTrue, Key, Kind, List, None, One, Option, ReadFault, Some, Stops, Symbol, SymbolConflict, Two, Version, [], address, ap, append_assoc, arith, at_place, before, behind, big_endian, body, body_fault, byte_of, bytes_eq, bytes_eq-Decides, cases_Bool, drop, drop-drop, end, end_checks, entry_checks, entry_in, eqb, eqb-false, eqb-true, false, first_fault, flat_map_more, front_in, header_fault, header_in, id_bytes, id_in, if◌then◌else◌, in_bytes, in_header, info_bytes, info_checks, info_fault, info_in, inl, inr, is_after, is_key, is_kind, is_name, is_version, key_bytes, key_in, fact_key, key_size, kind, last_of, leb, leb-false, leb-true, length, length-append, length-drop, length-take, length-take-le, ltb, ltb-false, ltb-true, magic, named_in, next_fault, none-some, not, number_at, opening_fault, pow-le-pow_right, refl, rest_bytes, rest_fault, subst, suc, sym, counted_bytes, take, take-append-drop, take_all, true, version_bytes, version_fault, version_in, zero, ℕ, ◌&&◌, ◌++◌, ◌<◌, ◌^◌, ◌∙◌, ◌∷◌, ◌≡◌, ◌≤◌, ◌⊎◌}
 use Rattle.flute_journal.proofs.{Each.{all_more, all_split}, Numbers.{octets-drop, number-below, octets-take, spelled, spelled_pair}, MergeRising.{Rises, rising-rises, rises-rising}, Parts.{entry_least, body_comes, key_spelled, info_spelled}}
 use Rattle.std.proofs.Common.{◌||◌}
 use Rattle.flute_journal.specs.Format.{sender_size}
@@ -63,7 +63,7 @@ pub record RestFound (last : Option Address) (k : Kind) (key : Key) (bytes : Lis
   pub fact : Fact
   pub more : List ℕ
   pub kind_is : kind fact ≡ byte_of k
-  pub key_is : key_of fact ≡ key
+  pub key_is : fact_key fact ≡ key
   pub bytes_are : bytes ≡ rest_bytes fact ++ more
   pub valid : IsFact fact
   pub in_order : is_after last (address fact) ≡ true
@@ -75,7 +75,7 @@ front_length : (n : ℕ) (r : List ℕ) → ltb (length r) n ≡ false → lengt
 front_length n r e = length-take-le n r (ltb-false (length r) n e)
 
 symbol_found : (t : List ℕ) → AllByRecursion IsByte t → ltb (length t) 2 ≡ false → eqb (big_endian (take 2 t)) 0 ≡ false → ltb (length (drop 2 t)) (big_endian (take 2 t)) ≡ false
-    → (b : List ℕ) × (more : List ℕ) × IsSymbol b × (t ≡ symbol_bytes b ++ more)
+    → (b : List ℕ) × (more : List ℕ) × IsSymbol b × (t ≡ counted_bytes b ++ more)
 symbol_found t oct two some fits =
     let n = big_endian (take 2 t) in
     let b = take n (drop 2 t) in
@@ -125,7 +125,7 @@ rest_found last kinds.Symbol key r kv oct e =
       key_is = refl;
       bytes_are = split_at 4 r (id_bytes (id_in front)) (id_spelled front (front_length 4 r a.0) oct')
           ∙ ap (λ (l : List ℕ). id_bytes (id_in front) ++ l) s.3
-          ∙ sym (append_assoc (id_bytes (id_in front)) (symbol_bytes s.0) s.1);
+          ∙ sym (append_assoc (id_bytes (id_in front)) (counted_bytes s.0) s.1);
       valid = (kv, id_valid front oct', s.2);
       in_order = is_true _ o.0;
     }
@@ -185,7 +185,7 @@ entry_found limit count v last k rest few oct e =
     split_at n rest (key_bytes v key) (key_spelled v front (front_length n rest a.0) oct' yes')
     ∙ ap (λ (x : List ℕ). key_bytes v key ++ x) r.bytes_are
     ∙ ap (λ (x : Key). key_bytes v x ++ (rest_bytes r.fact ++ r.more)) (sym r.key_is)
-    ∙ sym (append_assoc (key_bytes v (key_of r.fact)) (rest_bytes r.fact) r.more) in
+    ∙ sym (append_assoc (key_bytes v (fact_key r.fact)) (rest_bytes r.fact) r.more) in
     at_entry r.fact r.more (ap (λ x. x ∷ rest) (sym r.kind_is) ∙ ap (λ (x : List ℕ). kind r.fact ∷ x) bytes)
     (r.valid, subst (λ (x : Key). HasRoom v x.session) (sym r.key_is) valid.1) r.in_order few
 

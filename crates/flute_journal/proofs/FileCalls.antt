@@ -1,8 +1,8 @@
 -- What the calls of a reader of datagrams come to.
-use Rattle.flute_journal.proofs.Common.{Bool, Consumes, Consumes-trans, Err, FileStage, GivesOfFile, IfErr, IsDatagram, IsFaultOf, IsFileFault, List, None, Ok, Option, Parses, ReadFault, ReadsFileFrom, ReadsRecord, Records, Result, Some, StaysWithin, StopsFront, [], ap, arith, bytes_eq, cut, drop, false, file_fault_from, file_header, file_stage_behind, first_fault, front, given, in_record, inr, left_by, not, opening_fault, or_else, record_fault, record_of, refl, rules, subst, take, told, true, ℕ, ◌++◌, ◌∷◌, ◌≡◌}
+use Rattle.flute_journal.proofs.Common.{Bool, Consumes, Consumes-trans, Err, FileState, GivesOfFile, IfErr, IsDatagram, IsFaultOf, IsFileFault, List, None, Ok, Option, Parses, ReadFault, ReadsFileFrom, ReadsRecord, Records, Result, Some, StaysWithin, StopsReading, [], ap, arith, bytes_eq, cut, drop, false, file_fault_from, file_header, file_state_after, first_fault, front, given, in_record, inr, left_by, not, opening_fault, or_else, record_fault, record_of, refl, rules, subst, take, or_failed, true, ℕ, ◌++◌, ◌∷◌, ◌≡◌}
 use Rattle.flute_journal.specs.declared.fault.ReadFault.TheVariants as faults
-use Rattle.flute_journal.specs.{declared.datagram_reader.FileStage.TheVariants.{Header}, Input.{Advances}, Records.{is_open, in_opening}}
-use Rattle.flute_journal.proofs.{Calls.{fault-first}, Fronts.{fault_up_to, fault_up_to-behind}, Files.{file_header_passes}}
+use Rattle.flute_journal.specs.{declared.datagram_reader.FileState.TheVariants.{Header}, Input.{Advances}, Records.{is_file_open, in_opening}}
+use Rattle.flute_journal.proofs.{Calls.{fault-first}, ReadsUpTo.{fault_up_to, fault_up_to-behind}, Files.{file_header_passes}}
 
 -- a header has no other faults
 opening_faults : (a b c d : Bool) (f : ReadFault) → first_fault ((a, faults.Cut) ∷ (b, faults.Magic) ∷ (c, faults.Cut) ∷ (d, faults.Version) ∷ []) ≡ Some f → IsFileFault f
@@ -12,7 +12,7 @@ opening_faults false false true d f e = let is : faults.Cut ≡ f = cc in subst 
 opening_faults false false false true f e = let is : faults.Version ≡ f = cc in subst IsFileFault is tt
 opening_faults false false false false f e = absurd cc
 
-opening_stops : (o front : List ℕ) (f : ReadFault) → StopsFront 6 (opening_fault o) front f → IsFileFault f
+opening_stops : (o front : List ℕ) (f : ReadFault) → StopsReading 6 (opening_fault o) front f → IsFileFault f
 opening_stops o front f s =
     let bs = front ++ [] in
     opening_faults (cut 4 bs).0 (not (bytes_eq (take 4 bs) (take 4 o))) (cut 6 bs).0 (not (bytes_eq (take 2 (drop 4 bs)) (take 2 (drop 4 o)))) f (s.whole [] (λ e. refl))
@@ -22,7 +22,7 @@ left_faults faults.Cut h = tt
 left_faults f h = h
 
 pub opening_told : {T : Type 0} (o : List ℕ) (failed : Bool) (front : List ℕ) (r : Result T ReadFault) (P : List ℕ → Type 0) → Parses 6 (λ _. P front) (opening_fault o) front r
-    → IfErr (told failed r) IsFileFault
+    → IfErr (or_failed failed r) IsFileFault
 opening_told o true front (Ok x) P p = tt
 opening_told o false front (Ok x) P p = tt
 opening_told o true front (Err f) P p = left_faults f (opening_stops o front f p)
@@ -52,15 +52,15 @@ reads_file_first limit u v w (Err f) took h s k = (
   (file_header ++ s.0, Consumes-trans u v w file_header s.0 took s.1, in_record s.0 refl s.2),
 )
 
-pub gives_of_file : (limit : ℕ) (old new : FileStage) (u v : Option (List ℕ)) (r : Result (Option (List ℕ)) ReadFault) → is_open old ≡ true → new ≡ file_stage_behind (given old) r
+pub gives_of_file : (limit : ℕ) (old new : FileState) (u v : Option (List ℕ)) (r : Result (Option (List ℕ)) ReadFault) → is_file_open old ≡ true → new ≡ file_state_after (given old) r
     → ReadsFileFrom limit old u v r → GivesOfFile limit old new u v r
 gives_of_file limit old new u v (Ok (Some d)) is_open_before e h = search rules
 gives_of_file limit old new u v (Ok None) is_open_before e h = record { ended = e; bytes = inr (is_open_before, h.0, h.1) }
 gives_of_file limit old new u v (Err f) is_open_before e h = record { stays = e; found = inr (is_open_before, h.0, h.1, h.2) }
 
--- the same for a stage that is known by an equation
-pub gives_of_file_at : (limit count : ℕ) (at old new : FileStage) (u v w : Option (List ℕ)) (r s : Result (Option (List ℕ)) ReadFault) → old ≡ at → is_open at ≡ true
-    → count ≡ given at → r ≡ s → v ≡ w → new ≡ file_stage_behind count r → ReadsFileFrom limit at u w s → GivesOfFile limit old new u v r
+-- the same for a state that is known by an equation
+pub gives_of_file_at : (limit count : ℕ) (at old new : FileState) (u v w : Option (List ℕ)) (r s : Result (Option (List ℕ)) ReadFault) → old ≡ at → is_file_open at ≡ true
+    → count ≡ given at → r ≡ s → v ≡ w → new ≡ file_state_after count r → ReadsFileFrom limit at u w s → GivesOfFile limit old new u v r
 gives_of_file_at limit count at old new u v w r s is opened counted gave left behind h = grind (arith, gives_of_file)
 
 -- what a reader of datagrams gives, of the record that it read

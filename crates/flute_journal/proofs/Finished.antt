@@ -1,5 +1,5 @@
 -- Streams that are read to their ends, one after another.
-use Rattle.flute_journal.proofs.Common.{Advances, AllByRecursion, AppendsNoJournal, AppendsPart, Behaviour, Bool, CanGoOn, Err, Fact, FactRef, FailAs, Gave, GaveBefore, Input, InputFault, IsFact, Joined, List, LoadFault, NamesInput, None, Ok, OneFails, Option, Some, StreamsFault, Written, [], ap, arith, err_from_is_err_and, fact_in, false, is_some, length, length-set, option_list, refl, same_Some, set, slice_get, spelling, subst, suc, sym, true, zero, ℕ, ◌+◌, ◌<◌, ◌∙◌, ◌∷◌, ◌≡◌, ◌≢◌, ◌≤◌}
+use Rattle.flute_journal.proofs.Common.{Advances, AllByRecursion, AppendsNoJournal, AppendsPart, Behaviour, Bool, CanGoOn, Err, Fact, FactRef, FailAs, Gave, GaveBefore, Input, InputFault, IsFact, MergedJournal, List, LoadFault, NamesInput, None, Ok, OneFails, Option, Some, StreamsFault, Written, [], ap, arith, err_from_is_err_and, fact_in, false, is_some, length, length-set, option_list, refl, same_Some, set, slice_get, spelling, subst, suc, sym, true, zero, ℕ, ◌+◌, ◌<◌, ◌∙◌, ◌∷◌, ◌≡◌, ◌≢◌, ◌≤◌}
 use Rattle.flute_journal.proofs.{MergeBytes.{no_whole_end}, LeadFacts.{set_here, set_elsewhere}}
 use Rattle.flute_journal.specs.FirstFaults.{IsStopOf, HasStopped, TellBefore}
 
@@ -129,7 +129,7 @@ module _ {S : Type 0} (b : Behaviour S) where
       record { new = r.new; was = r.was; stop = record { stream = r.stop.stream; is = r.stop.is; stops = r.stop.stops; fails = r.stop.fails } }
   has-stopped k f old now s e h o = absurd o
 
-  pub stopped_of : (fault : StreamsFault) (i : InputFault) (old now : List S) → fault ≡ Input i → NamesInput b old fault → FailAs b {T = Joined} (Err fault) old now → HasStopped b old now i
+  pub stopped_of : (fault : StreamsFault) (i : InputFault) (old now : List S) → fault ≡ Input i → NamesInput b old fault → FailAs b {T = MergedJournal} (Err fault) old now → HasStopped b old now i
   stopped_of fault i old now e n f = grind (arith, has-stopped)
 
   pub gave_of : (fault : StreamsFault) (i : InputFault) (old now : List S) → fault ≡ Input i → CanGoOn b old now fault → GaveBefore b i.number old now

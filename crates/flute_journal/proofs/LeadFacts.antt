@@ -1,5 +1,5 @@
 -- The stream that holds a fact below those of all others.
-use Rattle.flute_journal.proofs.Common.{◌≡◌, ℕ, zero, suc, ◌+◌, ◌<◌, ◌≤◌, true, eqb, List, [], ◌∷◌, ◌++◌, length, Option, Some, None, Ok, Err, refl, sym, ap, ◌∙◌, subst, inl, inr, arith, set, cases_Bool, eqb-true, eqb-false, slice_get_within, same_Some, ◌≢◌, IfSome, slice_get, if◌then◌else◌, is_lt, AllByRecursion, Ordering, Less, Greater, address_cmp, address, StandAfter, address_total, Address, Fact, joined, fact_at-append, alone-at, fact_at-cons, fact_at-after, LoadFault, Behaviour, Advances, GoesOn, StopsAt, option_list, place_of, heads, GoOnAt, StopAt, IsBelow, NoneBefore, Leads, StandsAt, lower_of, lower_next, IsNotBefore, Lowest, IsLowest}
+use Rattle.flute_journal.proofs.Common.{◌≡◌, ℕ, zero, suc, ◌+◌, ◌<◌, ◌≤◌, true, eqb, List, [], ◌∷◌, ◌++◌, length, Option, Some, None, Ok, Err, refl, sym, ap, ◌∙◌, subst, inl, inr, arith, set, cases_Bool, eqb-true, eqb-false, slice_get_within, same_Some, ◌≢◌, IfSome, slice_get, if◌then◌else◌, is_lt, AllByRecursion, Ordering, Less, Greater, address_cmp, address, StandAfter, address_total, Address, Fact, joined, fact_at-append, alone-at, fact_at-cons, fact_at-after, LoadFault, Behaviour, Advances, GoesOn, StopsAt, option_list, place_of, heads, GoOnAt, StopAt, IsBelowNext, NoneBefore, Leads, StandsAt, lower_of, lower_next, IsNotBefore, Lowest, IsLowest}
 use Rattle.flute_journal.proofs.{Each.{all_append}, GoingOn.{item_at}, LowestFacts.{up_to_itself, up_to_turned, up_to_less, up_to-trans, less_up_to}}
 
 -- The next address.
@@ -45,13 +45,13 @@ module _ {S : Type 0} (b : Behaviour S) (number k : ℕ) (streams : List S) (nex
 
   -- once all were looked at
   pub lead-new : (o : Option Fact) → number < length streams → length streams ≤ k → ((s : S) → slice_get streams number ≡ Some s → o ≡ b.held s) → FirstsFrom b number k streams next
-      → IsBelow o next → Leads b streams number next
+      → IsBelowNext o next → Leads b streams number next
   lead-new o within all held h below =
       let x = item_at streams number within in
       record {
         stream = x.0;
         is = x.1;
-        below = subst (λ y. IsBelow y next) (held x.0 x.1) below;
+        below = subst (λ y. IsBelowNext y next) (held x.0 x.1) below;
         others = λ j s i n. h.none_before j s (let p = slice_get_within streams j s i in omega (arith, p, all)) i n;
       }
 
@@ -63,7 +63,7 @@ module _ {S : Type 0} (b : Behaviour S) (number k : ℕ) (streams : List S) (nex
 abbrev IsOver : Fact → Option Fact → Type 0
 IsOver g o = IfSome o (λ f. address_cmp (address g) (address f) ≡ Less)
 
-over : (g : Fact) (next : Option Address) (o : Option Fact) → IsBelow (Some g) next → NoneBefore next o → IsOver g o
+over : (g : Fact) (next : Option Address) (o : Option Fact) → IsBelowNext (Some g) next → NoneBefore next o → IsOver g o
 over g next None l h = tt
 over g None (Some f) l h = absurd h
 over g (Some a) (Some f) l h = less_up_to (address g) a (address f) (address_cmp a (address f)) l refl h
@@ -135,11 +135,11 @@ module _ {S : Type 0} (b : Behaviour S) where
       first_over h = h zero t refl (apart_zero k)
 
   pub lead-lowest : (streams : List S) (number : ℕ) (next : Option Address) (o : Option Fact) → (l : Leads b streams number next) → o ≡ b.held l.stream → IsLowest (heads b streams) o
-  lead-lowest streams number next None l e = absurd (subst (λ x. IsBelow x next) (sym e) l.below)
+  lead-lowest streams number next None l e = absurd (subst (λ x. IsBelowNext x next) (sym e) l.below)
   lead-lowest streams number next (Some g) l e = lead_lowest g number l.stream streams l.is (sym e) (others_over g (sym e))
     where
       others_over : (g : Fact) → b.held l.stream ≡ Some g → OthersOver g number streams
-      others_over g e j s i n = over g next (b.held s) (subst (λ x. IsBelow x next) e l.below) (l.others j s i n)
+      others_over g e j s i n = over g next (b.held s) (subst (λ x. IsBelowNext x next) e l.below) (l.others j s i n)
 
   -- It goes on alone.
 
@@ -168,10 +168,10 @@ module _ {S : Type 0} (b : Behaviour S) where
   elsewhere streams number next a l at = by_held (b.held l.stream) refl
     where
       by_held : (o : Option Fact) → b.held l.stream ≡ o → OthersElsewhere (Some a) number streams
-      by_held None e = absurd (subst (λ x. IsBelow x next) e l.below)
+      by_held None e = absurd (subst (λ x. IsBelowNext x next) e l.below)
       by_held (Some g) e = λ j s i n.
           let p : Some (address g) ≡ Some a = ap place_of (sym e) ∙ at l.stream l.is in
-          subst (λ x. place_of (b.held s) ≢ x) p (over_place g (b.held s) (over g next (b.held s) (subst (λ x. IsBelow x next) e l.below) (l.others j s i n)))
+          subst (λ x. place_of (b.held s) ≢ x) p (over_place g (b.held s) (over g next (b.held s) (subst (λ x. IsBelowNext x next) e l.below) (l.others j s i n)))
 
   pub lead-goes : (streams new : List S) (number : ℕ) (next : Option Address) (a : Address) → Leads b streams number next → StandsAt b (Some a) streams number → Advances b number streams new (Ok tt) → GoOnAt b (Some a) streams new
   lead-goes streams new number next a l at v =
@@ -197,7 +197,7 @@ module _ {S : Type 0} (b : Behaviour S) where
 
   -- it still leads, where what it holds is below the next address
   pub still-leads : (streams new : List S) (number : ℕ) (next : Option Address) (o : Option Fact) → Leads b streams number next → Advances b number streams new (Ok tt)
-      → ((s : S) → slice_get new number ≡ Some s → o ≡ b.held s) → IsBelow o next → Leads b new number next
+      → ((s : S) → slice_get new number ≡ Some s → o ≡ b.held s) → IsBelowNext o next → Leads b new number next
   still-leads streams new number next o l v held below = grind (arith, set_here, set_elsewhere)
 
 -- one stream more was looked at, or the one that leads was passed over

@@ -3,7 +3,7 @@ pub mod Each
 pub mod Sequences
 pub mod Numbers
 pub mod Entries
-pub mod Fronts
+pub mod ReadsUpTo
 pub mod Parts
 pub mod Written
 pub mod Decoded

@@ -1,14 +1,14 @@
 -- A store that is read entry by entry.
-use Rattle.flute_journal.proofs.Common.{AreEntries, BeginsOver, Below-from_Same, Bool, Consumes, Consumes-whole, Err, Fact, FailsIf, FailsToLoad, Gives, GivesEntry, GivesFault, Header, IfSome, IsAtEnd, IsJournalOf, IsLoadFault, List, MatchBool, None, Ok, Option, Over, Over-below, Read, ReadFault, ReadsPart, Same, Same-append, Same-itself, Same-sym, Same-trans, Sofar, Some, Stage, [], append-nil, arith, behind, count_at, end, err_from_is_err_and, front_in, given, is_open, more_objects, more_sessions, more_symbols, refl, refused, session, spelling_in, subst, sym, ℕ, ◌++◌, ◌∙◌, ◌∷◌, ◌≡◌}
+use Rattle.flute_journal.proofs.Common.{AreEntries, BeginsOver, Below-from_Same, Bool, Consumes, Consumes-whole, Err, Fact, FailsIf, FailsToLoad, Gives, GivesEntry, GivesFault, Header, IfSome, IsAtEnd, IsJournalOf, IsLoadFault, List, MatchBool, None, Ok, Option, Over, Over-below, Read, ReadFault, ReadsPart, Same, Same-append, Same-itself, Same-sym, Same-trans, Sofar, Some, ReaderState, [], append-nil, arith, behind, count_at, end, err_from_is_err_and, front_in, given, is_open, more_objects, more_sessions, more_symbols, refl, refused, session, spelling_in, subst, sym, ℕ, ◌++◌, ◌∙◌, ◌∷◌, ◌≡◌}
 use Rattle.flute_join.specs.declared.refusal.JoinRefusal.{JoinRefusal}
 use Rattle.flute_join.specs.declared.refusal.JoinRefusal.TheVariants as join
 use Rattle.flute_journal.specs.Whole.{behind}
 use Rattle.flute_journal.proofs.{MergeBytes.{within_nil}, Whole.{AtEnd, read_some, side-from, open_at, sofar-none, sofar-next, sofar-stops}}
 
 -- these entries were read, and what they come to is held within the limits
-pub record Loaded (s o y limit : ℕ) (first now : Option (List ℕ)) (stage : Stage) (content : List Fact) : Type 0 where
+pub record Loaded (s o y limit : ℕ) (first now : Option (List ℕ)) (state : ReaderState) (content : List Fact) : Type 0 where
   pub entries : List Fact
-  pub sofar : Sofar limit first now stage entries
+  pub sofar : Sofar limit first now state entries
   pub same : Same content entries
   pub fits : Over entries s o y → ⊥
 
@@ -18,11 +18,11 @@ none-over s o y (more_sessions h) = omega (arith, h)
 none-over s o y (more_objects session h) = omega (arith, h)
 none-over s o y (more_symbols key h) = omega (arith, h)
 
-pub loaded_none : (s o y limit : ℕ) (u v : Option (List ℕ)) (stage : Stage) (content : List Fact) → v ≡ u → stage ≡ Header → content ≡ []
-    → Loaded s o y limit u v stage content
-loaded_none s o y limit u v stage content e is c =
-    subst (λ (x : Option (List ℕ)). Loaded s o y limit u x stage content) (sym e)
-    (subst (λ (x : Stage). Loaded s o y limit u u x content) (sym is)
+pub loaded_none : (s o y limit : ℕ) (u v : Option (List ℕ)) (state : ReaderState) (content : List Fact) → v ≡ u → state ≡ Header → content ≡ []
+    → Loaded s o y limit u v state content
+loaded_none s o y limit u v state content e is c =
+    subst (λ (x : Option (List ℕ)). Loaded s o y limit u x state content) (sym e)
+    (subst (λ (x : ReaderState). Loaded s o y limit u u x content) (sym is)
     (subst (λ (x : List Fact). Loaded s o y limit u u Header x) (sym c)
     (record { entries = []; sofar = sofar-none limit u; same = Same-itself []; fits = none-over s o y })))
 
@@ -32,7 +32,7 @@ over-same F G s o y h = Over-below F G s o y (Below-from_Same F G h)
 one_more : (F G : List Fact) (f : Fact) → Same F G → Same (F ++ f ∷ []) (G ++ f ∷ [])
 one_more F G f h = Same-append F G (f ∷ []) (f ∷ []) h (Same-itself (f ∷ []))
 
-pub loaded-next : (s o y limit : ℕ) (u v w : Option (List ℕ)) (old new : Stage) (F G : List Fact) (f : Fact) → Loaded s o y limit u v old F
+pub loaded-next : (s o y limit : ℕ) (u v w : Option (List ℕ)) (old new : ReaderState) (F G : List Fact) (f : Fact) → Loaded s o y limit u v old F
     → GivesEntry limit old new v w f → Same G (F ++ f ∷ []) → (Over (F ++ f ∷ []) s o y → ⊥) → Loaded s o y limit u w new G
 loaded-next s o y limit u v w old new F G f l h same fits =
     let es = l.entries in
@@ -44,8 +44,8 @@ loaded-next s o y limit u v w old new F G f l h same fits =
       fits = λ over. fits (over-same (es ++ f ∷ []) (F ++ f ∷ []) s o y (Same-sym (F ++ f ∷ []) (es ++ f ∷ []) more) over);
     }
 
-pub loaded-fits : (s o y limit : ℕ) (u v : Option (List ℕ)) (stage : Stage) (F : List Fact) → Loaded s o y limit u v stage F → Over F s o y → ⊥
-loaded-fits s o y limit u v stage F l over = l.fits (over-same F l.entries s o y l.same over)
+pub loaded-fits : (s o y limit : ℕ) (u v : Option (List ℕ)) (state : ReaderState) (F : List Fact) → Loaded s o y limit u v state F → Over F s o y → ⊥
+loaded-fits s o y limit u v state F l over = l.fits (over-same F l.entries s o y l.same over)
 
 begins-over : (s o y limit : ℕ) (u w : Option (List ℕ)) (es : List Fact) (f : Fact) → (a : AreEntries limit (es ++ f ∷ [])) → Consumes u w (front_in a.version (es ++ f ∷ []))
     → Over (es ++ f ∷ []) s o y → IfSome u (BeginsOver s o y limit)
@@ -53,7 +53,7 @@ begins-over s o y limit None w es f a h over = tt
 begins-over s o y limit (Some x) None es f a h over = absurd h
 begins-over s o y limit (Some x) (Some z) es f a h over = (es ++ f ∷ [], record { are_entries = a; rest = z; whole = h }, over)
 
-pub loaded-over : (s o y limit : ℕ) (u v w : Option (List ℕ)) (old new : Stage) (F : List Fact) (f : Fact) → Loaded s o y limit u v old F
+pub loaded-over : (s o y limit : ℕ) (u v w : Option (List ℕ)) (old new : ReaderState) (F : List Fact) (f : Fact) → Loaded s o y limit u v old F
     → GivesEntry limit old new v w f → Over (F ++ f ∷ []) s o y → IfSome u (BeginsOver s o y limit)
 loaded-over s o y limit u v w old new F f l h over =
     let es = l.entries in
@@ -67,14 +67,14 @@ pub record IsLoaded (limit : ℕ) (first last : Option (List ℕ)) (content : Li
   pub at_end : IsAtEnd last
 
 -- how many entries were read
-abbrev pub entries_at : Stage → ℕ
-entries_at stage = count_at stage
+abbrev pub entries_at : ReaderState → ℕ
+entries_at state = count_at state
 
 -- and how often the source failed
 
-pub loaded_failed : (T X : Type 0) (s o y limit : ℕ) (u v : Option (List ℕ)) (stage : Stage) (F : List Fact) (f : ReadFault) (n m k : ℕ) → Loaded s o y limit u v stage F
-    → m ≡ n → FailsIf {T = T} (is_open stage) m k (Err f) → FailsToLoad {T = X} n k (Err (Read f))
-loaded_failed T X s o y limit u v stage F f n m k l e h = grind (arith, open_at)
+pub loaded_failed : (T X : Type 0) (s o y limit : ℕ) (u v : Option (List ℕ)) (state : ReaderState) (F : List Fact) (f : ReadFault) (n m k : ℕ) → Loaded s o y limit u v state F
+    → m ≡ n → FailsIf {T = T} (is_open state) m k (Err f) → FailsToLoad {T = X} n k (Err (Read f))
+loaded_failed T X s o y limit u v state F f n m k l e h = grind (arith, open_at)
 
 -- no failure is counted where something was given
 pub loaded-read : (b : Bool) (n m k : ℕ) → m ≡ n → MatchBool b (k ≡ m) (k ≡ m) → k ≡ n
@@ -82,17 +82,17 @@ loaded-read b n m k e h = grind (arith)
 
 -- What a reader gave, and what became of it in the store.
 
-pub given-entry : (limit bound : ℕ) (v w : Option (List ℕ)) (old new : Stage) (given : Option Fact) (f : Fact) → bound ≡ limit → given ≡ Some f → Gives bound old new v w (Ok given)
+pub given-entry : (limit bound : ℕ) (v w : Option (List ℕ)) (old new : ReaderState) (given : Option Fact) (f : Fact) → bound ≡ limit → given ≡ Some f → Gives bound old new v w (Ok given)
     → GivesEntry limit old new v w f
 given-entry limit bound v w old new given f b e h = grind (arith)
 
-pub loaded-given : {X : Type 0} (s o y limit bound : ℕ) (u v w : Option (List ℕ)) (old new : Stage) (F G : List Fact) (given : Option Fact) (f : Fact) (x : X)
+pub loaded-given : {X : Type 0} (s o y limit bound : ℕ) (u v w : Option (List ℕ)) (old new : ReaderState) (F G : List Fact) (given : Option Fact) (f : Fact) (x : X)
     → Loaded s o y limit u v old F → bound ≡ limit → given ≡ Some f → Gives bound old new v w (Ok given) → Same G (F ++ f ∷ [])
     → (Over (F ++ f ∷ []) s o y → Ok x ≡ Err join.Full) → Loaded s o y limit u w new G
 loaded-given s o y limit bound u v w old new F G given f x l b e h same full =
     loaded-next s o y limit u v w old new F G f l (given-entry limit bound v w old new given f b e h) same (λ over. let is = full over in absurd cc)
 
-pub loaded-full : (s o y limit bound : ℕ) (u v w z : Option (List ℕ)) (old new : Stage) (F : List Fact) (given : Option Fact) (f : Fact) (why : JoinRefusal)
+pub loaded-full : (s o y limit bound : ℕ) (u v w z : Option (List ℕ)) (old new : ReaderState) (F : List Fact) (given : Option Fact) (f : Fact) (why : JoinRefusal)
     → Loaded s o y limit u v old F → bound ≡ limit → given ≡ Some f → Gives bound old new v w (Ok given)
     → (why ≡ join.Full → Over (F ++ f ∷ []) s o y) → IsLoadFault s o y limit u z (refused why)
 loaded-full s o y limit bound u v w z old new F given f join.Full l b e h full =
@@ -103,26 +103,26 @@ journal-at : (limit : ℕ) (u w : Option (List ℕ)) (es F : List Fact) → AtEn
 journal-at limit u w es F s same =
     Consumes-whole u w (spelling_in s.are_entries.version es) (λ bytes. IsJournalOf limit bytes F) s.read s.at_end (es, record { are_entries = s.are_entries; bytes_are = refl }, same)
 
-pub loaded_all : (s o y limit bound : ℕ) (u v w : Option (List ℕ)) (old new : Stage) (F : List Fact) (given : Option Fact) → Loaded s o y limit u v old F
+pub loaded_all : (s o y limit bound : ℕ) (u v w : Option (List ℕ)) (old new : ReaderState) (F : List Fact) (given : Option Fact) → Loaded s o y limit u v old F
     → bound ≡ limit → given ≡ None → Gives bound old new v w (Ok given) → IsLoaded limit u w F
 loaded_all s o y limit bound u v w old new F None l b e h =
     let end = side-from limit u v w old new l.entries None l.sofar (subst (λ (n : ℕ). Gives n old new v w (Ok None)) b (subst (λ (x : Option Fact). Gives bound old new v w (Ok x)) e h)) in
     record { journal = journal-at limit u w l.entries F end l.same; at_end = end.at_end }
 loaded_all s o y limit bound u v w old new F (Some f) l b e h = absurd cc
 
-pub loaded-stops : (s o y limit bound : ℕ) (u v w : Option (List ℕ)) (old new : Stage) (F : List Fact) (f : ReadFault) → Loaded s o y limit u v old F
+pub loaded-stops : (s o y limit bound : ℕ) (u v w : Option (List ℕ)) (old new : ReaderState) (F : List Fact) (f : ReadFault) → Loaded s o y limit u v old F
     → bound ≡ limit → GivesFault bound old new v w f → IsLoadFault s o y limit u w (Read f)
 loaded-stops s o y limit bound u v w old new F f l b h =
     (l.entries, l.fits, (sofar-stops limit u v w old new l.entries f l.sofar (subst (λ (n : ℕ). GivesFault n old new v w f) b h)).0)
 
 -- What was read where no store was.
 
-pub fault-part : (s o y limit bound : ℕ) (u v w : Option (List ℕ)) (old new : Stage) (F : List Fact) (f : ReadFault) → Loaded s o y limit u v old F
+pub fault-part : (s o y limit bound : ℕ) (u v w : Option (List ℕ)) (old new : ReaderState) (F : List Fact) (f : ReadFault) → Loaded s o y limit u v old F
     → bound ≡ limit → GivesFault bound old new v w f → (entries : List Fact) × ReadsPart limit u w entries
 fault-part s o y limit bound u v w old new F f l b h =
     (l.entries, (sofar-stops limit u v w old new l.entries f l.sofar (subst (λ (n : ℕ). GivesFault n old new v w f) b h)).1)
 
-pub refused-part : (s o y limit bound : ℕ) (u v w : Option (List ℕ)) (old new : Stage) (F : List Fact) (given : Option Fact) (f : Fact) → Loaded s o y limit u v old F
+pub refused-part : (s o y limit bound : ℕ) (u v w : Option (List ℕ)) (old new : ReaderState) (F : List Fact) (given : Option Fact) (f : Fact) → Loaded s o y limit u v old F
     → bound ≡ limit → given ≡ Some f → Gives bound old new v w (Ok given) → (entries : List Fact) × ReadsPart limit u w entries
 refused-part s o y limit bound u v w old new F given f l b e h =
     let es = l.entries ++ f ∷ [] in

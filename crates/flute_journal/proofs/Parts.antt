@@ -1,5 +1,5 @@
 -- What was spelled passes the checks, part by part.
-use Rattle.flute_journal.proofs.Common.{Address, AllByRecursion, Before, Bool, Check, Fact, File, HasRoom, Instance, IsBody, IsByte, IsFact, IsFactIn, IsId, IsKey, IsObjectName, IsTrue, IsWithin, Key, Kind, List, None, ObjectName, One, Option, Some, Symbol, SymbolId, Two, Version, [], ap, append_assoc, arith, at_place, big_endian, body, body_fault, byte_of, bytes_checks, bytes_eq, bytes_fault, cut, cut_fault, drop, drop-drop, drop_at, end_checks, entry_in, eq-eqb, eqb, false, first_fault, fixed_size, front, header_fault, header_in, id_bytes, id_checks, id_in, in_bytes, in_order, info_bytes, info_checks, info_fault, info_in, is_after, is_key, is_kind, is_name, is_object, is_version, key_bytes, key_in, key_of, key_size, le-leb, le-ltb, length, length-append, length-bytes_high_first, length-drop, length-take, length-take-le, lt-leb, lt-ltb, ltb, magic, name_bytes, named_in, ne_eqb, next_fault, not, number_at, object_bytes, object_in, refl, rest_bytes, rest_checks, rest_fault, sender_bytes, sender_size, slice_get, spelling, suc, sym, symbol_address, take, take-append-drop, take_all, take_at, true, version_bytes, version_fault, version_in, zero, ℕ, ◌++◌, ◌<◌, ◌^◌, ◌∙◌, ◌∷◌, ◌≡◌, ◌≤◌}
+use Rattle.flute_journal.proofs.Common.{Address, AllByRecursion, Before, Bool, Check, Fact, File, HasRoom, Instance, IsBody, IsByte, IsFact, IsFactIn, IsId, IsKey, IsObjectName, IsTrue, IsWithin, Key, Kind, List, None, ObjectName, One, Option, Some, Symbol, SymbolId, Two, Version, [], ap, append_assoc, arith, at_place, big_endian, body, body_fault, byte_of, bytes_checks, bytes_eq, bytes_fault, cut, cut_fault, drop, drop-drop, drop_at, end_checks, entry_in, eq-eqb, eqb, false, first_fault, head_size, front, header_fault, header_in, id_bytes, id_checks, id_in, in_bytes, in_order, info_bytes, info_checks, info_fault, info_in, is_after, is_key, is_kind, is_name, is_object, is_version, key_bytes, key_in, fact_key, key_size, le-leb, le-ltb, length, length-append, length-bytes_high_first, length-drop, length-take, length-take-le, lt-leb, lt-ltb, ltb, magic, name_bytes, named_in, ne_eqb, next_fault, not, number_at, object_bytes, object_in, refl, rest_bytes, rest_checks, rest_fault, sender_bytes, sender_size, slice_get, spelling, suc, sym, symbol_address, take, take-append-drop, take_all, take_at, true, version_bytes, version_fault, version_in, zero, ℕ, ◌++◌, ◌<◌, ◌^◌, ◌∙◌, ◌∷◌, ◌≡◌, ◌≤◌}
 use Rattle.flute_journal.proofs.{Numbers.{number-in_bytes, in_bytes-injective, spelled, octets-take, octets-drop, spelled_pair}, Entries.{key-injective, id-injective, make_id, make_key}}
 use Rattle.flute_journal.specs.declared.format.Kind.TheVariants as kinds
 use Rattle.flute_journal.specs.declared.fault.ReadFault.TheVariants as faults
@@ -211,19 +211,19 @@ pub within-short : {T : Type 0} (spelling : T → List ℕ) (IsValid : T → Typ
     → ((x : T) → IsValid x → n ≤ length (spelling x)) → length p ≤ n → IsWithin spelling IsValid p
 within-short spelling IsValid n p least few x more v e = grind (arith, nothing_left)
 
-pub body_least : (v : Version) (k : Kind) (f : Fact) → IsBody v k f → fixed_size v k ≤ length (body v f)
+pub body_least : (v : Version) (k : Kind) (f : Fact) → IsBody v k f → head_size v k ≤ length (body v f)
 body_least v k f h = grind (arith, length-key_bytes, length-append)
 
-pub body_within-short : (v : Version) (k : Kind) (p : List ℕ) → length p ≤ fixed_size v k → IsWithin (body v) (IsBody v k) p
-body_within-short v k p few = within-short (body v) (IsBody v k) (fixed_size v k) p (body_least v k) few
+pub body_within-short : (v : Version) (k : Kind) (p : List ℕ) → length p ≤ head_size v k → IsWithin (body v) (IsBody v k) p
+body_within-short v k p few = within-short (body v) (IsBody v k) (head_size v k) p (body_least v k) few
 
 pub entry_least : (v : Version) (f : Fact) → IsFactIn v f → 22 ≤ length (entry_in v f)
-entry_least v f h = omega (arith, length-key_bytes v (key_of f), length-append (key_bytes v (key_of f)) (rest_bytes f))
+entry_least v f h = omega (arith, length-key_bytes v (fact_key f), length-append (key_bytes v (fact_key f)) (rest_bytes f))
 
 pub entry_within-short : (v : Version) (p : List ℕ) → length p ≤ 22 → IsWithin (entry_in v) (IsFactIn v) p
 entry_within-short v p few = within-short (entry_in v) (IsFactIn v) 22 p (entry_least v) few
 
-pub key_valid : (f : Fact) → IsFact f → IsKey (key_of f)
+pub key_valid : (f : Fact) → IsFact f → IsKey (fact_key f)
 key_valid f h = grind (arith)
 
 pub entry_within : (v : Version) (k : Kind) (p : List ℕ) → IsWithin (body v) (IsBody v k) p → IsWithin (entry_in v) (IsFactIn v) (byte_of k ∷ p)

@@ -1,5 +1,5 @@
 -- What was spelled has no fault, and where bytes that begin like a journal stop.
-use Rattle.flute_journal.proofs.Common.{Address, AllByRecursion, Before, Below, Fact, Info, InfoConflict, Information, IsFact, IsFactIn, IsInfo, IsRising, IsSymbol, JournalIn, Kind, List, None, Option, ReadFault, Same, Same-append, Same-itself, Same-twice, Some, Stops, Symbol, SymbolConflict, Version, [], address, ap, append_assoc, arith, at_place, before, behind, byte_of, bytes_fault, end, entry_in, flat_map, front, front_in, header_fault, header_in, id_bytes, in_bytes, in_header, info_address, info_bytes, info_in, is_after, key_bytes, key_of, last_of, length, length-append, next_fault, none-some, refl, rest_bytes, rest_fault, same_Some, spelling_in, subst, sym, symbol_address, symbol_bytes, true, ℕ, ◌++◌, ◌<◌, ◌^◌, ◌∙◌, ◌∷◌, ◌≡◌, ◌≤◌}
+use Rattle.flute_journal.proofs.Common.{Address, AllByRecursion, Before, Below, Fact, Info, InfoConflict, Information, IsFact, IsFactIn, IsInfo, IsRising, IsSymbol, JournalIn, Kind, List, None, Option, ReadFault, Same, Same-append, Same-itself, Same-twice, Some, Stops, Symbol, SymbolConflict, Version, [], address, ap, append_assoc, arith, at_place, before, behind, byte_of, bytes_fault, end, entry_in, flat_map, front, front_in, header_fault, header_in, id_bytes, in_bytes, in_header, info_address, info_bytes, info_in, is_after, key_bytes, fact_key, last_of, length, length-append, next_fault, none-some, refl, rest_bytes, rest_fault, same_Some, spelling_in, subst, sym, symbol_address, counted_bytes, true, ℕ, ◌++◌, ◌<◌, ◌^◌, ◌∙◌, ◌∷◌, ◌≡◌, ◌≤◌}
 use Rattle.flute_journal.proofs.{Sequences.{one_stop, stop_at_bound}, MergeBytes.{fronts, journal_parts}, Each.{all_split}, Numbers.{number-in_bytes}, MergeRising.{Rises, rising-rises}, Entries.{length_fits, entry_injective, not_end, header-injective}}
 use Rattle.flute_journal.specs.declared.format.Kind.TheVariants as kinds
 use Rattle.flute_journal.specs.declared.fault.ReadFault.TheVariants as faults
@@ -8,7 +8,7 @@ use Rattle.flute_journal.proofs.Parts.{id_comes, order_passes, symbol_comes, ent
 info_reads : (i : Information) → IsInfo i → info_in (info_bytes i) ≡ i
 info_reads i p = grind (arith, number-in_bytes, length_fits)
 
-symbol_none : (b r : List ℕ) → IsSymbol b → bytes_fault (symbol_bytes b ++ r) ≡ None
+symbol_none : (b r : List ℕ) → IsSymbol b → bytes_fault (counted_bytes b ++ r) ≡ None
 symbol_none b r p = grind (arith, number-in_bytes, length_passes, first-pass, cut-passes)
 
 abbrev kind_of : Fact → Kind
@@ -17,23 +17,23 @@ kind_of (InfoConflict key) = kinds.InfoConflict
 kind_of (Symbol key id bytes) = kinds.Symbol
 kind_of (SymbolConflict key id) = kinds.SymbolConflict
 
-rest_passes : (last : Option Address) (f : Fact) (r : List ℕ) → IsFact f → is_after last (address f) ≡ true → rest_fault last (kind_of f) (key_of f) (rest_bytes f ++ r) ≡ None
+rest_passes : (last : Option Address) (f : Fact) (r : List ℕ) → IsFact f → is_after last (address f) ≡ true → rest_fault last (kind_of f) (fact_key f) (rest_bytes f ++ r) ≡ None
 rest_passes last (Info key info) r p e = grind (arith, order_passes, info_passes, info_reads)
 rest_passes last (InfoConflict key) r p e = order_passes last (info_address key) [] e
-rest_passes last (Symbol key id b) r p e = cc (append_assoc (id_bytes id) (symbol_bytes b) r, symbol_comes last key id (symbol_bytes b ++ r) p.1 e, symbol_none b r p.2)
+rest_passes last (Symbol key id b) r p e = cc (append_assoc (id_bytes id) (counted_bytes b) r, symbol_comes last key id (counted_bytes b ++ r) p.1 e, symbol_none b r p.2)
 rest_passes last (SymbolConflict key id) r p e = cc (id_comes last key id r [] p.1, order_passes last (symbol_address key id) [] e)
 
-entry_split : (v : Version) (f : Fact) (r : List ℕ) → entry_in v f ++ r ≡ (byte_of (kind_of f) ∷ key_bytes v (key_of f)) ++ (rest_bytes f ++ r)
+entry_split : (v : Version) (f : Fact) (r : List ℕ) → entry_in v f ++ r ≡ (byte_of (kind_of f) ∷ key_bytes v (fact_key f)) ++ (rest_bytes f ++ r)
 entry_split v f r = grind (arith, append_assoc)
 
 -- an entry in order and within the bound has no fault
 pub entry-passes : (limit count : ℕ) (v : Version) (last : Option Address) (f : Fact) (r : List ℕ) → IsFactIn v f → count < limit → is_after last (address f) ≡ true
     → next_fault (at_place v count last) limit (entry_in v f ++ r) ≡ None
 entry-passes limit count v last f r p few e =
-    cc (entry_split v f r, entry_comes limit count v last (kind_of f) (key_of f) (rest_bytes f ++ r) few (key_valid f p.0) p.1, rest_passes last f r p.0 e)
+    cc (entry_split v f r, entry_comes limit count v last (kind_of f) (fact_key f) (rest_bytes f ++ r) few (key_valid f p.0) p.1, rest_passes last f r p.0 e)
 
 pub entry-too_many : (limit : ℕ) (b : Before) (v : Version) (f : Fact) (r : List ℕ) → limit ≤ b.count → next_fault b limit (entry_in v f ++ r) ≡ Some faults.TooMany
-entry-too_many limit b v f r many = cc (entry_split v f r, too_many b limit (kind_of f) (byte_of (kind_of f) ∷ []) (key_bytes v (key_of f) ++ (rest_bytes f ++ r)) refl many)
+entry-too_many limit b v f r many = cc (entry_split v f r, too_many b limit (kind_of f) (byte_of (kind_of f) ∷ []) (key_bytes v (fact_key f) ++ (rest_bytes f ++ r)) refl many)
 
 pub end-passes : (limit count : ℕ) (v : Version) (last : Option Address) → count < 2 ^ 64 → next_fault (at_place v count last) limit (end count) ≡ None
 end-passes limit count v last small = end_counts count (in_bytes 8 count) [] refl (number-in_bytes 8 count (omega (arith, small)))

@@ -1,8 +1,8 @@
 -- The records of a datagram file.
-use Rattle.flute_journal.proofs.Common.{◌≡◌, ℕ, ◌+◌, ◌^◌, ◌<◌, ◌≤◌, Bool, leb, List, [], ◌∷◌, ◌++◌, length, take, drop, Option, Some, None, Result, Ok, Err, inl, inr, refl, sym, ap, ◌∙◌, subst, append_assoc, arith, le-leb, lt-leb, nil_from_length, take_at, drop_at, length-append, append-nil, flat_map_more, flat_map, AllByRecursion, Consumes, IsAtEnd, Consumes-trans, Consumes-nil, IfSome, big_endian, ReadFault, FileStage, Records, in_bytes, first_fault, cut, opening_fault, Fronts, IsFaultOf, IsFaultUpTo, IsWithin, StaysWithin, told, IsByte, cut_fault, or_else, file_header, record_of, IsDatagram, AreDatagrams, FileStops, HasFileFault, ReadsRecord, record_checks, record_fault, given, file_fault_from, GivesRecord, GivesFileFault, IsFileWithin, length-bytes_high_first}
-use Rattle.flute_journal.proofs.{Parts.{first-pass, first-stop, cut-passes, nothing_left, within-short}, Each.{all_more}, Numbers.{in_bytes-injective}, Fronts.{fault-behind, fault_up_to}, Existence.{opening_is}}
+use Rattle.flute_journal.proofs.Common.{◌≡◌, ℕ, ◌+◌, ◌^◌, ◌<◌, ◌≤◌, Bool, leb, List, [], ◌∷◌, ◌++◌, length, take, drop, Option, Some, None, Result, Ok, Err, inl, inr, refl, sym, ap, ◌∙◌, subst, append_assoc, arith, le-leb, lt-leb, nil_from_length, take_at, drop_at, length-append, append-nil, flat_map_more, flat_map, AllByRecursion, Consumes, IsAtEnd, Consumes-trans, Consumes-nil, IfSome, big_endian, ReadFault, FileState, Records, in_bytes, first_fault, cut, opening_fault, ReadsUpTo, IsFaultOf, IsFaultUpTo, IsWithin, StaysWithin, or_failed, IsByte, cut_fault, or_else, file_header, record_of, IsDatagram, AreDatagrams, FileStops, HasFileFault, ReadsRecord, record_checks, record_fault, given, file_fault_from, GivesRecord, GivesFileFault, IsFileWithin, length-bytes_high_first}
+use Rattle.flute_journal.proofs.{Parts.{first-pass, first-stop, cut-passes, nothing_left, within-short}, Each.{all_more}, Numbers.{in_bytes-injective}, ReadsUpTo.{fault-behind, fault_up_to}, Existence.{opening_is}}
 use Rattle.flute_journal.specs.declared.fault.ReadFault.TheVariants as faults
-use Rattle.flute_journal.specs.{declared.datagram_reader.FileStage.TheVariants.{Header, Ended, Failed}, Input.{Advances}, Records.{in_header, behind, opening, GivesNone}, FilesSoFar.{file_stage_at, file_read_of, FileSofar}}
+use Rattle.flute_journal.specs.{declared.datagram_reader.FileState.TheVariants.{Header, Ended, Failed}, Input.{Advances}, Records.{in_header, behind, file_opening, GivesNone}, FilesSoFar.{file_stage_at, file_read_of, FileSofar}}
 
 -- a byte follows as many records as there may be
 pub too_many_records : (limit count : ℕ) (front r : List ℕ) → 0 < length front → limit ≤ count → record_fault limit count (front ++ r) ≡ Some faults.TooMany
@@ -56,11 +56,11 @@ given_is : (ds : List (List ℕ)) → given (file_stage_at ds) ≡ length ds
 given_is [] = refl
 given_is (d ∷ ds) = refl
 
-stage_more : (ds : List (List ℕ)) (d : List ℕ) → Records (length ds + 1) ≡ file_stage_at (ds ++ d ∷ [])
-stage_more [] d = refl
-stage_more (e ∷ ds) d = ap Records (let n : length (e ∷ ds) + 1 ≡ length (e ∷ (ds ++ d ∷ [])) = omega (arith, length-append ds (d ∷ [])) in n)
+state_more : (ds : List (List ℕ)) (d : List ℕ) → Records (length ds + 1) ≡ file_stage_at (ds ++ d ∷ [])
+state_more [] d = refl
+state_more (e ∷ ds) d = ap Records (let n : length (e ∷ ds) + 1 ≡ length (e ∷ (ds ++ d ∷ [])) = omega (arith, length-append ds (d ∷ [])) in n)
 
-read_more : (ds : List (List ℕ)) (d : List ℕ) → file_read_of ds ++ (opening (file_stage_at ds) ++ record_of d) ≡ file_read_of (ds ++ d ∷ [])
+read_more : (ds : List (List ℕ)) (d : List ℕ) → file_read_of ds ++ (file_opening (file_stage_at ds) ++ record_of d) ≡ file_read_of (ds ++ d ∷ [])
 read_more [] d = flat_map_more record_of file_header [] d
 read_more (e ∷ ds) d = flat_map_more record_of file_header (e ∷ ds) d
 
@@ -70,9 +70,9 @@ datagrams_more limit ds d a v few = record { valid = all_more IsDatagram ds d a.
 pub file_sofar_none : (limit : ℕ) (u : Option (List ℕ)) → FileSofar limit u u Header []
 file_sofar_none limit u = grind (arith, Consumes-nil)
 
-pub file_sofar_next : (limit : ℕ) (u v w : Option (List ℕ)) (old new : FileStage) (ds : List (List ℕ)) (d : List ℕ) → FileSofar limit u v old ds
+pub file_sofar_next : (limit : ℕ) (u v w : Option (List ℕ)) (old new : FileState) (ds : List (List ℕ)) (d : List ℕ) → FileSofar limit u v old ds
     → GivesRecord limit old new v w d → FileSofar limit u w new (ds ++ d ∷ [])
-file_sofar_next limit u v w old new ds d s h = grind (arith, datagrams_more, given_is, stage_more, read_more, Consumes-trans)
+file_sofar_next limit u v w old new ds d s h = grind (arith, datagrams_more, given_is, state_more, read_more, Consumes-trans)
 
 file_whole : (limit : ℕ) (u w : Option (List ℕ)) (ds : List (List ℕ)) → AreDatagrams limit ds → Consumes u w (file_header ++ flat_map record_of ds) → IsAtEnd w
     → IfSome u (λ bytes. IsFileWithin limit bytes ds)
@@ -84,11 +84,11 @@ not_ended : (ds : List (List ℕ)) → file_stage_at ds ≡ Ended → ⊥
 not_ended [] e = cc
 not_ended (d ∷ ds) e = cc
 
-read_all : (ds : List (List ℕ)) → file_read_of ds ++ opening (file_stage_at ds) ≡ file_header ++ flat_map record_of ds
+read_all : (ds : List (List ℕ)) → file_read_of ds ++ file_opening (file_stage_at ds) ≡ file_header ++ flat_map record_of ds
 read_all [] = sym (append-nil file_header)
 read_all (d ∷ ds) = append-nil (file_header ++ flat_map record_of (d ∷ ds))
 
-pub file_sofar_end : (limit : ℕ) (u v w : Option (List ℕ)) (old new : FileStage) (ds : List (List ℕ)) → FileSofar limit u v old ds → GivesNone old new v w
+pub file_sofar_end : (limit : ℕ) (u v w : Option (List ℕ)) (old new : FileState) (ds : List (List ℕ)) → FileSofar limit u v old ds → GivesNone old new v w
     → IfSome u (λ bytes. IsFileWithin limit bytes ds)
 file_sofar_end limit u v w old new ds s h = grind (arith, not_ended, file_whole, read_all, Consumes-trans)
 
@@ -119,16 +119,16 @@ fault_at limit u v w last ds faults.Read a took h = tt
 fault_at limit u v w last ds faults.OutOfMemory a took h = tt
 fault_at limit u v w last ds f a took h = known_stops limit u v ds f a took h
 
-pub file_sofar_fault : (limit : ℕ) (u v w : Option (List ℕ)) (old new : FileStage) (ds : List (List ℕ)) (f : ReadFault) → FileSofar limit u v old ds
+pub file_sofar_fault : (limit : ℕ) (u v w : Option (List ℕ)) (old new : FileState) (ds : List (List ℕ)) (f : ReadFault) → FileSofar limit u v old ds
     → GivesFileFault limit old new v w f → HasFileFault limit u f
 file_sofar_fault limit u v w old new ds f s h = elim h.found [
-  | inl p ↦ absurd (not_failed ds f (sym s.stage_is ∙ p.0))
-  | inr p ↦ fault_at limit u v w (opening old) ds f s.are_datagrams s.read (subst (λ (x : FileStage). IsFaultUpTo (opening old) (file_fault_from x limit) v w f) s.stage_is p.1)
+  | inl p ↦ absurd (not_failed ds f (sym s.state_is ∙ p.0))
+  | inr p ↦ fault_at limit u v w (file_opening old) ds f s.are_datagrams s.read (subst (λ (x : FileState). IsFaultUpTo (file_opening old) (file_fault_from x limit) v w f) s.state_is p.1)
 ]
 
 -- no record: the end of the input, or a source that failed
-pub no_record : (limit count : ℕ) (failed : Bool) (u v : Option (List ℕ)) (front : List ℕ) → Fronts u v 2 failed front → length front ≡ 0
-    → ReadsRecord limit count u v (told failed (Ok None))
+pub no_record : (limit count : ℕ) (failed : Bool) (u v : Option (List ℕ)) (front : List ℕ) → ReadsUpTo u v 2 failed front → length front ≡ 0
+    → ReadsRecord limit count u v (or_failed failed (Ok None))
 no_record limit count failed u v front a none = grind (arith, nil_from_length)
 
 -- a file before its first record, behind one more and at its end

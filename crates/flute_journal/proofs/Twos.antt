@@ -1,22 +1,22 @@
 -- What a merge of two streams of journals comes to, said of the journals.
-use Rattle.flute_journal.proofs.Common.{AppendsPartOf, BeginWith, Behaviour, Collects, Each, EachSince, Either, Err, Fact, FailAs, First, FirstFails, Input, Joined, Journal, KeepsUp, LentStream, List, LoadFault, MergeGives, Merged, MergedAll, NamesFault, NamesInput, None, OneFails, Option, Read, ReadFault, ReadsAhead, Same, Same-append, Same-sym, Same-trans, Second, SecondFails, Some, StopsShort, StreamsFault, Write, [], all_of, ap, append-nil, arith, either_behaviour, false, joined, lent, lent_behaviour, limit_of, rules, slice_get, source_of, subst, suc, sym, told, unread_of, written_up_to, zero, ℕ, ◌++◌, ◌∙◌, ◌∷◌, ◌≡◌}
-use Rattle.flute_journal.specs.{declared.merge.MergeFault.{MergeFault}, Merges.{BeginsWith}, Pairs.{fault_at, IsFaultAt, IsFaultOfTwo, IsOfReading}}
+use Rattle.flute_journal.proofs.Common.{AppendsPartOf, BeginWith, Behaviour, Collects, Each, EachSince, Either, Err, Fact, FailAs, First, FirstFails, Input, MergedJournal, Journal, KeepsUp, LentStream, List, LoadFault, MergeGives, Merged, MergedAll, NamesFault, NamesInput, None, OneFails, Option, Read, ReadFault, ReadsAhead, Same, Same-append, Same-sym, Same-trans, Second, SecondFails, Some, StopsShort, StreamsFault, Write, [], all_of, ap, append-nil, arith, either_behaviour, false, joined, lent, lent_behaviour, limit_of, rules, slice_get, source_of, subst, suc, sym, or_failed, unread_of, written_up_to, zero, ℕ, ◌++◌, ◌∙◌, ◌∷◌, ◌≡◌}
+use Rattle.flute_journal.specs.{declared.two_streams.MergeFault.{MergeFault}, Merges.{AppendedUpTo}, Pairs.{fault_at, IsFaultAt, IsFaultOfTwo, IsOfReading}}
 use Rattle.flute_journal.proofs.{MergeBytes.{journal_parts}, WrittenSoFar.{written-whole}}
 
 -- journals of both inputs and of all their facts have entries that come to the same
 same_entries : (es fs ws F G : List Fact) → Same F es → Same G fs → Same (F ++ G) ws → Same (es ++ fs) ws
 same_entries es fs ws F G p q r = Same-trans (es ++ fs) (F ++ G) ws (Same-append es F fs G (Same-sym F es p) (Same-sym G fs q)) r
 
-begins_at : (k : ℕ) (f : ReadFault) (bytes : List ℕ) (entries : List Fact) → bytes ≡ written_up_to entries → BeginsWith (fault_at k f) bytes entries
+begins_at : (k : ℕ) (f : ReadFault) (bytes : List ℕ) (entries : List Fact) → bytes ≡ written_up_to entries → AppendedUpTo (fault_at k f) bytes entries
 begins_at zero f bytes entries e = e
 begins_at (suc k) f bytes entries e = e
 
-begins : (k : ℕ) (f : LoadFault) (merge : MergeFault) (bytes : List ℕ) (entries : List Fact) → IsFaultAt k f merge → bytes ≡ written_up_to entries → BeginsWith merge bytes entries
-begins k (Read f) merge bytes entries is e = subst (λ x. BeginsWith x bytes entries) (sym is) (begins_at k f bytes entries e)
+begins : (k : ℕ) (f : LoadFault) (merge : MergeFault) (bytes : List ℕ) (entries : List Fact) → IsFaultAt k f merge → bytes ≡ written_up_to entries → AppendedUpTo merge bytes entries
+begins k (Read f) merge bytes entries is e = subst (λ x. AppendedUpTo x bytes entries) (sym is) (begins_at k f bytes entries e)
 begins k f merge bytes entries is e = absurd is
 
-begins_two : (fault : StreamsFault) (merge : MergeFault) (bytes : List ℕ) (entries : List Fact) → IsFaultOfTwo fault merge → BeginWith fault bytes entries → BeginsWith merge bytes entries
-begins_two Write merge bytes entries is h = subst (λ x. BeginsWith x bytes entries) (sym is) h
+begins_two : (fault : StreamsFault) (merge : MergeFault) (bytes : List ℕ) (entries : List Fact) → IsFaultOfTwo fault merge → BeginWith fault bytes entries → AppendedUpTo merge bytes entries
+begins_two Write merge bytes entries is h = subst (λ x. AppendedUpTo x bytes entries) (sym is) h
 begins_two (Input fault) merge bytes entries is h = begins fault.number fault.fault merge bytes entries is h
 
 module _ {A B : Type 0} (ua : A → Option (List ℕ)) (fa : A → ℕ) (ub : B → Option (List ℕ)) (fb : B → ℕ) where
@@ -37,29 +37,29 @@ module _ {A B : Type 0} (ua : A → Option (List ℕ)) (fa : A → ℕ) (ub : B 
     after = First s' ∷ Second t' ∷ []
 
     -- the facts of both
-    record Two (P Q : List Fact → Type 0) (told : List (List Fact)) : Type 0 where
+    record Two (P Q : List Fact → Type 0) (or_failed : List (List Fact)) : Type 0 where
       pub first : List Fact
       pub second : List Fact
       pub of_first : P first
       pub of_second : Q second
-      pub all : all_of told ≡ first ++ second
+      pub all : all_of or_failed ≡ first ++ second
 
-    each_two : (P : Either (LentStream A) (LentStream B) → List Fact → Type 0) (told : List (List Fact)) → Each P inputs told → Two (P (First s)) (P (Second t)) told
+    each_two : (P : Either (LentStream A) (LentStream B) → List Fact → Type 0) (or_failed : List (List Fact)) → Each P inputs or_failed → Two (P (First s)) (P (Second t)) or_failed
     each_two P [] h = absurd h
     each_two P (F ∷ []) h = absurd h.1
     each_two P (F ∷ G ∷ []) h = record { first = F; second = G; of_first = h.0; of_second = h.1.0; all = ap (λ (l : List Fact). F ++ l) (append-nil G) }
-    each_two P (F ∷ G ∷ H ∷ told) h = absurd h.1.1
+    each_two P (F ∷ G ∷ H ∷ or_failed) h = absurd h.1.1
 
-    pub merged_two : (x o y : ℕ) (joined : Joined) (w w' : Option (List ℕ)) → limit_of t.reader.now ≡ limit_of s.reader.now → joined.cut ≡ false → MergedAll both inputs x o y joined w w'
+    pub merged_two : (x o y : ℕ) (joined : MergedJournal) (w w' : Option (List ℕ)) → limit_of t.reader.now ≡ limit_of s.reader.now → joined.cut ≡ false → MergedAll both inputs x o y joined w w'
         → Merged (limit_of s.reader.now) joined.entries u v w w'
     merged_two x o y joined w w' same done m = search (rules, each_two, written-whole)
 
-    since_two : (P : Either (LentStream A) (LentStream B) → Either (LentStream A) (LentStream B) → List Fact → Type 0) (told : List (List Fact)) → EachSince P inputs after told
-        → Two (P (First s) (First s')) (P (Second t) (Second t')) told
+    since_two : (P : Either (LentStream A) (LentStream B) → Either (LentStream A) (LentStream B) → List Fact → Type 0) (or_failed : List (List Fact)) → EachSince P inputs after or_failed
+        → Two (P (First s) (First s')) (P (Second t) (Second t')) or_failed
     since_two P [] h = absurd h
     since_two P (F ∷ []) h = absurd h.1
     since_two P (F ∷ G ∷ []) h = record { first = F; second = G; of_first = h.0; of_second = h.1.0; all = ap (λ (l : List Fact). F ++ l) (append-nil G) }
-    since_two P (F ∷ G ∷ H ∷ told) h = absurd h.1.1
+    since_two P (F ∷ G ∷ H ∷ or_failed) h = absurd h.1.1
 
     journal_of : (es fs : List Fact) (whole : List ℕ) (F G : List Fact) → Same F es → Same G fs → Journal whole (F ++ G) → Journal whole (es ++ (fs ++ []))
     journal_of es fs whole F G p q j = grind (arith, append-nil, same_entries)
@@ -143,6 +143,6 @@ module _ {A B : Type 0} (ua : A → Option (List ℕ)) (fa : A → ℕ) (ub : B 
     fail_of k (Read f) merge is h = subst FailTwo (sym is) (fail_at k f h)
     fail_of k f merge is h = absurd is
 
-    pub fail_two : (fault : StreamsFault) (merge : MergeFault) → IsFaultOfTwo fault merge → FailAs both {T = Joined} (Err fault) inputs after → FailTwo merge
+    pub fail_two : (fault : StreamsFault) (merge : MergeFault) → IsFaultOfTwo fault merge → FailAs both {T = MergedJournal} (Err fault) inputs after → FailTwo merge
     fail_two Write merge is h = subst FailTwo (sym is) (record { first = h.0.0.failed_as; second = h.1.0.0.failed_as })
     fail_two (Input fault) merge is h = fail_of fault.number fault.fault merge is h

@@ -1,7 +1,7 @@
 -- A stream of which only some sessions are taken.
 use Rattle.std.specs.Prelude.{◌≡◌, Bool, false, not, List, Option, Some, None}
 use Rattle.flute_parts.specs.declared.fact.Fact.{Fact}
-use Rattle.flute_journal.specs.Sessions.{listed, is_chosen, chosen}
+use Rattle.flute_journal.specs.Sessions.{listed_tsis, is_chosen, chosen}
 use Rattle.flute_journal.specs.Streams.{Behaviour}
 use Rattle.flute_journal.specs.declared.chosen.Chosen.{Chosen}
 use Rattle.flute_journal.specs.declared.sessions.Sessions.{Sessions}
@@ -9,11 +9,11 @@ use Rattle.flute_journal.specs.declared.sessions.Sessions.{Sessions}
 -- what is held is of a session that is not taken
 abbrev pub is_passed_over : Sessions → Option Fact → Bool
 is_passed_over sessions None = false
-is_passed_over sessions (Some fact) = not (is_chosen (listed sessions) fact)
+is_passed_over sessions (Some fact) = not (is_chosen (listed_tsis sessions) fact)
 
 -- so it is with some facts of which these are the chosen ones
 abbrev pub OfAll : Sessions → (List Fact → Type 0) → List Fact → Type 0
-OfAll sessions So facts = (all : List Fact) × So all × (facts ≡ chosen (listed sessions) all)
+OfAll sessions So facts = (all : List Fact) × So all × (facts ≡ chosen (listed_tsis sessions) all)
 
 module _ {S : Type 0} (b : Behaviour S) where
   -- it let go of facts of which these are the chosen ones, and holds no other

@@ -57,8 +57,8 @@ abbrev pub info_bytes : Information → List ℕ
 info_bytes i = in_bytes 6 i.transfer_length ++ in_bytes 2 i.symbol_length ++ in_bytes 4 i.max_block_length
 
 -- the number of the bytes of a symbol, and then they
-abbrev pub symbol_bytes : List ℕ → List ℕ
-symbol_bytes bytes = in_bytes 2 (length bytes) ++ bytes
+abbrev pub counted_bytes : List ℕ → List ℕ
+counted_bytes bytes = in_bytes 2 (length bytes) ++ bytes
 
 abbrev pub kind : Fact → ℕ
 kind (Info key info) = 1
@@ -66,19 +66,19 @@ kind (InfoConflict key) = 2
 kind (Symbol key id bytes) = 3
 kind (SymbolConflict key id) = 4
 
-abbrev pub key_of : Fact → Key
-key_of f = (address f).key
+abbrev pub fact_key : Fact → Key
+fact_key f = (address f).key
 
 -- what stands behind the key
 abbrev pub rest_bytes : Fact → List ℕ
 rest_bytes (Info key info) = info_bytes info
 rest_bytes (InfoConflict key) = []
-rest_bytes (Symbol key id bytes) = id_bytes id ++ symbol_bytes bytes
+rest_bytes (Symbol key id bytes) = id_bytes id ++ counted_bytes bytes
 rest_bytes (SymbolConflict key id) = id_bytes id
 
 -- what stands behind the kind
 abbrev pub body : Version → Fact → List ℕ
-body version f = key_bytes version (key_of f) ++ rest_bytes f
+body version f = key_bytes version (fact_key f) ++ rest_bytes f
 
 abbrev pub entry_in : Version → Fact → List ℕ
 entry_in version f = kind f ∷ body version f

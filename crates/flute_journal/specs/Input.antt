@@ -20,7 +20,7 @@ failure true = 1
 failure false = 0
 
 -- these bytes were read: n of them, or fewer at the end of the input, or where the source failed
-pub record Fronts (old new : Option (List ℕ)) (n : ℕ) (failed : Bool) (bytes : List ℕ) : Type 0 where
+pub record ReadsUpTo (old new : Option (List ℕ)) (n : ℕ) (failed : Bool) (bytes : List ℕ) : Type 0 where
   pub read : Consumes old new bytes
   pub most : length bytes ≤ n
   pub fewer : length bytes < n → failed ≡ false → IsAtEnd new
@@ -36,11 +36,11 @@ abbrev pub left_by : ReadFault → ReadFault
 left_by faults.Cut = faults.Read
 left_by f = f
 
--- what is told of bytes behind which the source may have failed
-abbrev pub told : {T : Type 0} → Bool → Result T ReadFault → Result T ReadFault
-told false result = result
-told true (Ok x) = Err faults.Read
-told true (Err f) = Err (left_by f)
+-- what is or_failed of bytes behind which the source may have failed
+abbrev pub or_failed : {T : Type 0} → Bool → Result T ReadFault → Result T ReadFault
+or_failed false result = result
+or_failed true (Ok x) = Err faults.Read
+or_failed true (Err f) = Err (left_by f)
 
 -- How often the source failed in a call that gave this: once at `Read`; never where a value was given, the input ended or
 -- memory ran out; and at most once where the bytes before it have another fault.

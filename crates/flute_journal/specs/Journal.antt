@@ -14,7 +14,7 @@ use Rattle.flute_parts.specs.Facts.{Same, IsRising}
 use Rattle.flute_journal.specs.declared.fault.ReadFault.{ReadFault}
 use Rattle.flute_journal.specs.declared.format.version.Version.{Version}
 use Rattle.flute_journal.specs.declared.format.version.Version.TheVariants.{One, Two}
-use Rattle.flute_journal.specs.Format.{sender_size, key_of, front_in, spelling_in, spelling}
+use Rattle.flute_journal.specs.Format.{sender_size, fact_key, front_in, spelling_in, spelling}
 use Rattle.flute_journal.specs.Faults.{Before, header_fault, next_fault}
 
 abbrev pub IsByte : ℕ → Type 0
@@ -54,7 +54,7 @@ IsKeyIn version key = IsKey key × HasRoom version key.session
 
 -- a fact that is spelled as an entry of this version
 abbrev pub IsFactIn : Version → Fact → Type 0
-IsFactIn version f = IsFact f × HasRoom version (key_of f).session
+IsFactIn version f = IsFact f × HasRoom version (fact_key f).session
 
 -- the entries of a journal of these facts: one for each address, in rising order, with what the facts come to there
 pub record Collects (facts entries : List Fact) : Type 0 where

@@ -6,15 +6,15 @@ use Rattle.flute_parts.specs.declared.fact.Fact.{Fact}
 use Rattle.flute_journal.specs.declared.fault.ReadFault.{ReadFault}
 use Rattle.flute_journal.specs.declared.fault.LoadFault.{LoadFault}
 use Rattle.flute_journal.specs.declared.fault.LoadFault.TheVariants.{Read, Full, OutOfMemory}
-use Rattle.flute_journal.specs.declared.reader.Stage.{Stage}
-use Rattle.flute_journal.specs.declared.reader.Stage.TheVariants.{Header, Entries, Ended, Failed}
+use Rattle.flute_journal.specs.declared.journal_reader.ReaderState.{ReaderState}
+use Rattle.flute_journal.specs.declared.journal_reader.ReaderState.TheVariants.{Header, Entries, Ended, Failed}
 use Rattle.flute_journal.specs.declared.journal_stream.JournalStream.{JournalStream}
 use Rattle.flute_journal.specs.declared.journal_stream.LentStream.{LentStream}
 use Rattle.flute_journal.specs.declared.format.version.Version.{Version}
 use Rattle.flute_journal.specs.Format.{spelling_in}
 use Rattle.flute_journal.specs.Input.{Fails}
 use Rattle.flute_journal.specs.Journal.{IsFactIn, AreEntries, IsJournalWithin}
-use Rattle.flute_journal.specs.Readers.{source_of, limit_of, stage_of}
+use Rattle.flute_journal.specs.Readers.{source_of, limit_of, state_of}
 use Rattle.flute_journal.specs.SoFar.{Sofar}
 use Rattle.flute_journal.specs.Stores.{BeginsWith}
 use Rattle.flute_journal.specs.Whole.{HasFault}
@@ -28,13 +28,13 @@ pub record ReadWhole (limit : ℕ) (first now : Option (List ℕ)) (entries : Li
   pub read : ReadsBehind first now entries
 
 -- by where its reader stands: these entries were given, and one more is held
-abbrev pub ReadAt : ℕ → Option (List ℕ) → Option (List ℕ) → Stage → List Fact → Option Fact → Type 0
+abbrev pub ReadAt : ℕ → Option (List ℕ) → Option (List ℕ) → ReaderState → List Fact → Option Fact → Type 0
 ReadAt limit first now Ended entries held = ReadWhole limit first now entries × (held ≡ None)
 ReadAt limit first now (Failed fault) entries held = ⊥
-ReadAt limit first now stage entries held = Sofar limit first now stage (entries ++ option_list held)
+ReadAt limit first now state entries held = Sofar limit first now state (entries ++ option_list held)
 
 -- as many entries as may still be read
-abbrev pub room : ℕ → Stage → ℕ
+abbrev pub room : ℕ → ReaderState → ℕ
 room limit Header = limit
 room limit (Entries version count last) = limit - count
 room limit Ended = 0
@@ -72,12 +72,12 @@ module _ {R : Type 0} (unread : R → Option (List ℕ)) (failures : R → ℕ) 
   pub record PassesSince (start now : JournalStream R) (entries : List Fact) : Type 0 where
     pub fails : FailsSince start now None
     pub same_limit : limit_of now.reader ≡ limit_of start.reader
-    pub read : ReadAt (limit_of start.reader) (unread_of start) (unread_of now) (stage_of now.reader) entries now.held
+    pub read : ReadAt (limit_of start.reader) (unread_of start) (unread_of now) (state_of now.reader) entries now.held
 
   abbrev pub journal_behaviour : Behaviour (JournalStream R)
   journal_behaviour = record {
     held = λ s. s.held;
-    most = λ s. length (option_list s.held) + room (limit_of s.reader) (stage_of s.reader);
+    most = λ s. length (option_list s.held) + room (limit_of s.reader) (state_of s.reader);
     tells = λ s F. IfSome (unread_of s) (λ bytes. IsJournalWithin (limit_of s.reader) bytes F);
     knows = λ s F. IsJournalOfAll (unread_of s) F;
     begins = λ s F. IfSome (unread_of s) (λ bytes. BeginsWith (limit_of s.reader) bytes F);

@@ -10,10 +10,10 @@ use Rattle.flute_journal.specs.Streams.{Behaviour, place_of}
 use Rattle.flute_journal.specs.Lowest.{IsNotBefore}
 
 -- a fact is held, below that address, where there is one
-abbrev pub IsBelow : Option Fact → Option Address → Type 0
-IsBelow None next = ⊥
-IsBelow (Some f) None = Unit {0}
-IsBelow (Some f) (Some a) = address_cmp (address f) a ≡ Less
+abbrev pub IsBelowNext : Option Fact → Option Address → Type 0
+IsBelowNext None next = ⊥
+IsBelowNext (Some f) None = Unit {0}
+IsBelowNext (Some f) (Some a) = address_cmp (address f) a ≡ Less
 
 -- no fact is held before that address, and none at all where there is none
 abbrev pub NoneBefore : Option Address → Option Fact → Type 0
@@ -26,7 +26,7 @@ module _ {S : Type 0} (b : Behaviour S) where
   pub record Leads (streams : List S) (number : ℕ) (next : Option Address) : Type 0 where
     pub stream : S
     pub is : slice_get streams number ≡ Some stream
-    pub below : IsBelow (b.held stream) next
+    pub below : IsBelowNext (b.held stream) next
     pub others : (k : ℕ) (s : S) → slice_get streams k ≡ Some s → k ≢ number → NoneBefore next (b.held s)
 
   -- the stream that leads stands at that place

@@ -3,8 +3,8 @@ use Rattle.std.specs.Prelude.{◌≡◌, ◌≢◌, ℕ, ◌<◌, ◌≤◌, ◌
 use Rattle.std.specs.List.{AllByRecursion}
 use Rattle.std.specs.Io.KnownBytes.{Appends, Consumes}
 use Rattle.flute_parts.specs.declared.fact.Fact.{Fact}
-use Rattle.flute_journal.specs.declared.merge.MergeFault.{MergeFault}
-use Rattle.flute_journal.specs.declared.merge.MergeFault.TheVariants.{First, Second, Write}
+use Rattle.flute_journal.specs.declared.two_streams.MergeFault.{MergeFault}
+use Rattle.flute_journal.specs.declared.two_streams.MergeFault.TheVariants.{First, Second, Write}
 use Rattle.flute_journal.specs.declared.format.version.Version.{Version}
 use Rattle.flute_journal.specs.Format.{header, entry_in, front_in, front, spelling}
 use Rattle.flute_journal.specs.Input.{Fails, IsWithin}
@@ -41,9 +41,9 @@ written_up_to [] = []
 written_up_to (f ∷ fs) = front (f ∷ fs)
 
 -- The bytes begin with what is written up to these entries, and are no more than that where an input was at fault.
-abbrev pub BeginsWith : MergeFault → List ℕ → List Fact → Type 0
-BeginsWith Write bytes entries = (rest : List ℕ) × (bytes ≡ written_up_to entries ++ rest)
-BeginsWith fault bytes entries = bytes ≡ written_up_to entries
+abbrev pub AppendedUpTo : MergeFault → List ℕ → List Fact → Type 0
+AppendedUpTo Write bytes entries = (rest : List ℕ) × (bytes ≡ written_up_to entries ++ rest)
+AppendedUpTo fault bytes entries = bytes ≡ written_up_to entries
 
 -- the bytes are no more than a header's, or these whole entries and then no byte behind one entry more
 pub data EndsBehind (version : Version) (entries : List Fact) (bytes : List ℕ) : Type 0 where
@@ -70,7 +70,7 @@ pub record KeepsUp (first first_left second second_left old new : Option (List �
   pub collects : Collects (first_entries ++ second_entries) entries
   pub bytes : List ℕ
   pub appended : Appends old new bytes
-  pub begins : BeginsWith fault bytes entries
+  pub begins : AppendedUpTo fault bytes entries
 
 -- the fault that is told of an input is that of its bytes, if it is one of theirs
 abbrev pub NamesFault : ℕ → Option (List ℕ) → Option (List ℕ) → MergeFault → Type 0

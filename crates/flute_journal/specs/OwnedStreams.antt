@@ -2,7 +2,7 @@
 use Rattle.std.specs.Prelude.{◌≡◌, ℕ, ◌+◌, List, length, Option, None, IfSome}
 use Rattle.flute_parts.specs.declared.fact.Fact.{Fact}
 use Rattle.flute_journal.specs.declared.owned_journal_stream.OwnedJournalStream.{OwnedJournalStream}
-use Rattle.flute_journal.specs.declared.reader.Stage.{Stage}
+use Rattle.flute_journal.specs.declared.journal_reader.ReaderState.{ReaderState}
 use Rattle.flute_journal.specs.Journal.{IsJournalWithin}
 use Rattle.flute_journal.specs.Stores.{BeginsWith}
 use Rattle.flute_journal.specs.Whole.{HasFault}
@@ -11,12 +11,12 @@ use Rattle.flute_journal.specs.Streams.{Behaviour, option_list}
 use Rattle.flute_journal.specs.JournalStreams.{ReadAt, room, StopsReading, FailsBy, IsJournalOfAll}
 
 -- how many entries its journal may have
-abbrev pub limit_of : {R : Type 0} → OwnedJournalStream R → ℕ
-limit_of s = s.max_entries
+abbrev pub owned_limit : {R : Type 0} → OwnedJournalStream R → ℕ
+owned_limit s = s.max_entries
 
 -- where its reader stands
-abbrev pub stage_of : {R : Type 0} → OwnedJournalStream R → Stage
-stage_of s = s.stage
+abbrev pub owned_state : {R : Type 0} → OwnedJournalStream R → ReaderState
+owned_state s = s.state
 
 -- the entry that it holds
 abbrev pub held_of : {R : Type 0} → OwnedJournalStream R → Option Fact
@@ -27,12 +27,12 @@ module _ {R : Type 0} (unread : R → Option (List ℕ)) (failures : R → ℕ) 
   pub record OwnedPasses (start now : OwnedJournalStream R) (entries : List Fact) : Type 0 where
     pub fails : FailsBy (failures start.source) (failures now.source) None
     pub same_limit : now.max_entries ≡ start.max_entries
-    pub read : ReadAt start.max_entries (unread start.source) (unread now.source) now.stage entries now.held
+    pub read : ReadAt start.max_entries (unread start.source) (unread now.source) now.state entries now.held
 
   abbrev pub owned_behaviour : Behaviour (OwnedJournalStream R)
   owned_behaviour = record {
     held = λ s. s.held;
-    most = λ s. length (option_list s.held) + room s.max_entries s.stage;
+    most = λ s. length (option_list s.held) + room s.max_entries s.state;
     tells = λ s F. IfSome (unread s.source) (λ bytes. IsJournalWithin s.max_entries bytes F);
     knows = λ s F. IsJournalOfAll (unread s.source) F;
     begins = λ s F. IfSome (unread s.source) (λ bytes. BeginsWith s.max_entries bytes F);

@@ -8,12 +8,12 @@ use Rattle.flute_parts.specs.declared.fact.Fact.{Fact}
 use Rattle.flute_journal.specs.declared.format.version.Version.{Version}
 use Rattle.flute_journal.specs.declared.format.Kind.{Kind}
 use Rattle.flute_journal.specs.declared.format.Kind.TheVariants as kinds
-use Rattle.flute_journal.specs.declared.format.Fixed.{Fixed}
-use Rattle.flute_journal.specs.declared.format.Fixed.TheVariants.{Whole, Symbol}
+use Rattle.flute_journal.specs.declared.format.EntryHead.{EntryHead}
+use Rattle.flute_journal.specs.declared.format.EntryHead.TheVariants.{Whole, Symbol}
 use Rattle.flute_journal.specs.declared.fault.ReadFault.{ReadFault}
 use Rattle.flute_journal.specs.declared.fault.ReadFault.TheVariants as faults
 use Rattle.flute_journal.specs.Numbers.{in_bytes}
-use Rattle.flute_journal.specs.Format.{key_bytes, id_bytes, rest_bytes, key_of, kind}
+use Rattle.flute_journal.specs.Format.{key_bytes, id_bytes, rest_bytes, fact_key, kind}
 use Rattle.flute_journal.specs.Faults.{Before, is_after, key_size, first_fault, cut, bytes_checks, rest_checks, body_checks, end_checks}
 use Rattle.flute_journal.specs.Journal.{IsKey, IsId, IsFact, IsFactIn, HasRoom}
 
@@ -31,23 +31,23 @@ rest_size kinds.Symbol = 6
 rest_size kinds.SymbolConflict = 4
 
 -- and how many behind the kind
-abbrev pub fixed_size : Version → Kind → ℕ
-fixed_size version k = key_size version + rest_size k
+abbrev pub head_size : Version → Kind → ℕ
+head_size version k = key_size version + rest_size k
 
 abbrev pub at_place : Version → ℕ → Option Address → Before
 at_place version count last = record { version = version; count = count; last = last }
 
-abbrev pub fixed_key : Fixed → Key
-fixed_key (Whole f) = key_of f
-fixed_key (Symbol key id n) = key
+abbrev pub head_key : EntryHead → Key
+head_key (Whole f) = fact_key f
+head_key (Symbol key id n) = key
 
 -- what stands behind the key
-abbrev pub fixed_rest : Fixed → List ℕ
-fixed_rest (Whole f) = rest_bytes f
-fixed_rest (Symbol key id n) = id_bytes id ++ in_bytes 2 n
+abbrev pub head_rest : EntryHead → List ℕ
+head_rest (Whole f) = rest_bytes f
+head_rest (Symbol key id n) = id_bytes id ++ in_bytes 2 n
 
-abbrev pub fixed_bytes : Version → Fixed → List ℕ
-fixed_bytes version x = key_bytes version (fixed_key x) ++ fixed_rest x
+abbrev pub head_bytes : Version → EntryHead → List ℕ
+head_bytes version x = key_bytes version (head_key x) ++ head_rest x
 
 -- a fact of this kind, in order
 pub record BodyIs (last : Option Address) (k : Kind) (f : Fact) : Type 0 where
@@ -68,20 +68,20 @@ pub record SymbolIs (last : Option Address) (k : Kind) (key : Key) (id : SymbolI
   pub some : 0 < n
   pub short : n < 2 ^ 16
 
-abbrev pub FixedIs : Option Address → Kind → Fixed → Type 0
-FixedIs last k (Whole f) = BodyIs last k f
-FixedIs last k (Symbol key id n) = SymbolIs last k key id n
+abbrev pub HeadIs : Option Address → Kind → EntryHead → Type 0
+HeadIs last k (Whole f) = BodyIs last k f
+HeadIs last k (Symbol key id n) = SymbolIs last k key id n
 
 -- what was read behind a key
-abbrev pub RestIs : Option Address → Kind → Key → List ℕ → Fixed → Type 0
-RestIs last k key bytes x = FixedIs last k x × (fixed_key x ≡ key) × (fixed_rest x ≡ bytes)
+abbrev pub RestIs : Option Address → Kind → Key → List ℕ → EntryHead → Type 0
+RestIs last k key bytes x = HeadIs last k x × (head_key x ≡ key) × (head_rest x ≡ bytes)
 
 -- the same in an entry of this version, which has room for the sender
 abbrev pub BodyIn : Version → Option Address → Kind → Fact → Type 0
-BodyIn version last k f = BodyIs last k f × HasRoom version (key_of f).session
+BodyIn version last k f = BodyIs last k f × HasRoom version (fact_key f).session
 
-abbrev pub FixedIn : Version → Option Address → Kind → Fixed → Type 0
-FixedIn version last k x = FixedIs last k x × HasRoom version (fixed_key x).session
+abbrev pub HeadIn : Version → Option Address → Kind → EntryHead → Type 0
+HeadIn version last k x = HeadIs last k x × HasRoom version (head_key x).session
 
 -- The first faults of parts.
 
@@ -107,11 +107,11 @@ IsOfBytes faults.OutOfMemory = ⊥
 IsOfBytes f = ⊤
 
 -- bytes that begin so have the fault, whatever follows; they are cut only where nothing follows and there are fewer than n
-pub record StopsFront (n : ℕ) (fault : List ℕ → Option ReadFault) (front : List ℕ) (f : ReadFault) : Type 0 where
+pub record StopsReading (n : ℕ) (fault : List ℕ → Option ReadFault) (front : List ℕ) (f : ReadFault) : Type 0 where
   pub of_bytes : IsOfBytes f
   pub short : f ≡ faults.Cut → length front < n
   pub whole : (rest : List ℕ) → (f ≡ faults.Cut → rest ≡ []) → fault (front ++ rest) ≡ Some f
 
 -- at most n bytes say what is wanted, or they are at fault
 abbrev pub Parses : {T : Type 0} → ℕ → (T → Type 0) → (List ℕ → Option ReadFault) → List ℕ → Result T ReadFault → Type 0
-Parses n IsIt fault bytes result = MatchResult result IsIt (StopsFront n fault bytes)
+Parses n IsIt fault bytes result = MatchResult result IsIt (StopsReading n fault bytes)

@@ -1,8 +1,8 @@
 -- What a reader is made of, for the contracts of its calls.
 use Rattle.std.specs.Prelude.{ℕ}
 use Rattle.std.specs.Borrow.{MutBor}
-use Rattle.flute_journal.specs.declared.reader.Stage.{Stage}
-use Rattle.flute_journal.specs.declared.reader.JournalReader.{JournalReader}
+use Rattle.flute_journal.specs.declared.journal_reader.ReaderState.{ReaderState}
+use Rattle.flute_journal.specs.declared.journal_reader.JournalReader.{JournalReader}
 
 -- the source that it reads
 abbrev pub source_of : {R : Type 0} → JournalReader R → MutBor R
@@ -13,5 +13,5 @@ abbrev pub limit_of : {R : Type 0} → JournalReader R → ℕ
 limit_of reader = reader.max_entries
 
 -- where it stands
-abbrev pub stage_of : {R : Type 0} → JournalReader R → Stage
-stage_of reader = reader.stage
+abbrev pub state_of : {R : Type 0} → JournalReader R → ReaderState
+state_of reader = reader.state

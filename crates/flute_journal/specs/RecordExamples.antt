@@ -21,8 +21,8 @@ short_header = refl
 pub other_magic : opening_fault file_header (0x46 ∷ 0x4C ∷ 0x4A ∷ 0x4E ∷ 0x00 ∷ []) ≡ Some Magic
 other_magic = refl
 
-pub other_version : opening_fault file_header (0x46 ∷ 0x4C ∷ 0x44 ∷ 0x47 ∷ 0x00 ∷ 0x02 ∷ []) ≡ Some Version
-other_version = refl
+pub other_file_version : opening_fault file_header (0x46 ∷ 0x4C ∷ 0x44 ∷ 0x47 ∷ 0x00 ∷ 0x02 ∷ []) ≡ Some Version
+other_file_version = refl
 
 -- behind two records: nothing, a record, one that is cut in its length or in its bytes, and one beyond the bound
 pub the_end : record_fault 2 2 [] ≡ None

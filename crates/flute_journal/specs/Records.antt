@@ -5,8 +5,8 @@ use Rattle.std.specs.Io.KnownBytes.{Consumes, Keeps, IsAtEnd}
 use Rattle.flute_parts.specs.BigEndian.{big_endian}
 use Rattle.flute_journal.specs.declared.fault.ReadFault.{ReadFault}
 use Rattle.flute_journal.specs.declared.fault.ReadFault.TheVariants as faults
-use Rattle.flute_journal.specs.declared.datagram_reader.FileStage.{FileStage}
-use Rattle.flute_journal.specs.declared.datagram_reader.FileStage.TheVariants.{Header, Records, Ended, Failed}
+use Rattle.flute_journal.specs.declared.datagram_reader.FileState.{FileState}
+use Rattle.flute_journal.specs.declared.datagram_reader.FileState.TheVariants.{Header, Records, Ended, Failed}
 use Rattle.flute_journal.specs.Numbers.{in_bytes}
 use Rattle.flute_journal.specs.Faults.{Check, first_fault, cut, opening_fault}
 use Rattle.flute_journal.specs.Input.{IsFaultUpTo, IsWithin}
@@ -80,44 +80,44 @@ ReadsRecord limit count old new (Ok None) = Consumes old new [] × IsAtEnd new
 ReadsRecord limit count old new (Err f) = IsFaultUpTo [] (record_fault limit count) old new f
 
 -- more may be read
-abbrev pub is_open : FileStage → Bool
-is_open Header = true
-is_open (Records count) = true
-is_open Ended = false
-is_open (Failed f) = false
+abbrev pub is_file_open : FileState → Bool
+is_file_open Header = true
+is_file_open (Records count) = true
+is_file_open Ended = false
+is_file_open (Failed f) = false
 
 -- how many records were given
-abbrev pub given : FileStage → ℕ
+abbrev pub given : FileState → ℕ
 given (Records count) = count
 given _ = 0
 
 -- what stands between this place and the next record
-abbrev pub opening : FileStage → List ℕ
-opening Header = file_header
-opening _ = []
+abbrev pub file_opening : FileState → List ℕ
+file_opening Header = file_header
+file_opening _ = []
 
 -- the fault of the bytes that are left, up to the next record
-abbrev pub file_fault_from : FileStage → ℕ → List ℕ → Option ReadFault
+abbrev pub file_fault_from : FileState → ℕ → List ℕ → Option ReadFault
 file_fault_from Header limit bytes = or_else (opening_fault file_header bytes) (record_fault limit 0 (drop 6 bytes))
-file_fault_from stage limit bytes = record_fault limit (given stage) bytes
+file_fault_from state limit bytes = record_fault limit (given state) bytes
 
 -- the next record was given, and no byte past it was read
-pub record GivesRecord (limit : ℕ) (old new : FileStage) (left after : Option (List ℕ)) (d : List ℕ) : Type 0 where
-  pub open_before : IsTrue (is_open old)
+pub record GivesRecord (limit : ℕ) (old new : FileState) (left after : Option (List ℕ)) (d : List ℕ) : Type 0 where
+  pub open_before : IsTrue (is_file_open old)
   pub valid : IsDatagram d
   pub within : given old < limit
   pub goes_on : new ≡ Records (given old + 1)
-  pub bytes : Consumes left after (opening old ++ record_of d)
+  pub bytes : Consumes left after (file_opening old ++ record_of d)
 
 -- the end was found, now or before
-pub record GivesNone (old new : FileStage) (left after : Option (List ℕ)) : Type 0 where
+pub record GivesNone (old new : FileState) (left after : Option (List ℕ)) : Type 0 where
   pub ended : new ≡ Ended
-  pub bytes : ((old ≡ Ended) × Keeps left after) ⊎ (IsTrue (is_open old) × Consumes left after (opening old) × IsAtEnd after)
+  pub bytes : ((old ≡ Ended) × Keeps left after) ⊎ (IsTrue (is_file_open old) × Consumes left after (file_opening old) × IsAtEnd after)
 
 -- What a failed call has read: no more bytes than stand before the next record, or all these and nothing behind a whole record.
-pub data IsFilePart (old : FileStage) (part : List ℕ) : Type 0 where
-  in_opening : length part ≤ length (opening old) → IsFilePart old part
-  in_record : (more : List ℕ) → part ≡ opening old ++ more → IsWithin record_of IsDatagram more → IsFilePart old part
+pub data IsFilePart (old : FileState) (part : List ℕ) : Type 0 where
+  in_opening : length part ≤ length (file_opening old) → IsFilePart old part
+  in_record : (more : List ℕ) → part ≡ file_opening old ++ more → IsWithin record_of IsDatagram more → IsFilePart old part
 
 -- why a file is not read, whatever its source tells
 abbrev pub IsFileFault : ReadFault → Type 0
@@ -130,24 +130,24 @@ IsFileFault faults.OutOfMemory = ⊤
 IsFileFault _ = ⊥
 
 -- a fault was found, now or before
-pub record GivesFileFault (limit : ℕ) (old new : FileStage) (left after : Option (List ℕ)) (f : ReadFault) : Type 0 where
+pub record GivesFileFault (limit : ℕ) (old new : FileState) (left after : Option (List ℕ)) (f : ReadFault) : Type 0 where
   pub stays : new ≡ Failed f
-  pub found : ((old ≡ Failed f) × Keeps left after) ⊎ (IsTrue (is_open old) × IsFaultUpTo (opening old) (file_fault_from old limit) left after f × IsFileFault f × ((part : List ℕ) × Consumes left after part × IsFilePart old part))
+  pub found : ((old ≡ Failed f) × Keeps left after) ⊎ (IsTrue (is_file_open old) × IsFaultUpTo (file_opening old) (file_fault_from old limit) left after f × IsFileFault f × ((part : List ℕ) × Consumes left after part × IsFilePart old part))
 
--- reading on from an open stage: the next record, the end, or a fault
-abbrev pub ReadsFileFrom : ℕ → FileStage → Option (List ℕ) → Option (List ℕ) → Result (Option (List ℕ)) ReadFault → Type 0
-ReadsFileFrom limit old left after (Ok (Some d)) = IsDatagram d × (given old < limit) × Consumes left after (opening old ++ record_of d)
-ReadsFileFrom limit old left after (Ok None) = Consumes left after (opening old) × IsAtEnd after
+-- reading on from an open state: the next record, the end, or a fault
+abbrev pub ReadsFileFrom : ℕ → FileState → Option (List ℕ) → Option (List ℕ) → Result (Option (List ℕ)) ReadFault → Type 0
+ReadsFileFrom limit old left after (Ok (Some d)) = IsDatagram d × (given old < limit) × Consumes left after (file_opening old ++ record_of d)
+ReadsFileFrom limit old left after (Ok None) = Consumes left after (file_opening old) × IsAtEnd after
 ReadsFileFrom limit old left after (Err f) =
-    IsFaultUpTo (opening old) (file_fault_from old limit) left after f × IsFileFault f × ((part : List ℕ) × Consumes left after part × IsFilePart old part)
+    IsFaultUpTo (file_opening old) (file_fault_from old limit) left after f × IsFileFault f × ((part : List ℕ) × Consumes left after part × IsFilePart old part)
 
 -- where a reader stands behind what it gave, if so many records stood before
-abbrev pub file_stage_behind : ℕ → Result (Option (List ℕ)) ReadFault → FileStage
-file_stage_behind count (Ok (Some d)) = Records (count + 1)
-file_stage_behind count (Ok None) = Ended
-file_stage_behind count (Err f) = Failed f
+abbrev pub file_state_after : ℕ → Result (Option (List ℕ)) ReadFault → FileState
+file_state_after count (Ok (Some d)) = Records (count + 1)
+file_state_after count (Ok None) = Ended
+file_state_after count (Err f) = Failed f
 
-abbrev pub GivesOfFile : ℕ → FileStage → FileStage → Option (List ℕ) → Option (List ℕ) → Result (Option (List ℕ)) ReadFault → Type 0
+abbrev pub GivesOfFile : ℕ → FileState → FileState → Option (List ℕ) → Option (List ℕ) → Result (Option (List ℕ)) ReadFault → Type 0
 GivesOfFile limit old new left after (Ok (Some d)) = GivesRecord limit old new left after d
 GivesOfFile limit old new left after (Ok None) = GivesNone old new left after
 GivesOfFile limit old new left after (Err f) = GivesFileFault limit old new left after f

@@ -6,12 +6,12 @@ use Rattle.flute_parts.specs.declared.fact.Fact.{Fact}
 use Rattle.flute_journal.specs.declared.sessions.Sessions.{Sessions}
 
 -- the Transport Session Identifiers that are listed
-abbrev pub listed : Sessions → List ℕ
-listed sessions = take sessions.count sessions.tsis
+abbrev pub listed_tsis : Sessions → List ℕ
+listed_tsis sessions = take sessions.count sessions.tsis
 
 -- an identifier is listed, or none is
 abbrev pub takes : List ℕ → ℕ → Bool
-takes tsis tsi = nat_eq (length tsis) 0 || list_any (λ listed. nat_eq listed tsi) tsis
+takes tsis tsi = nat_eq (length tsis) 0 || list_any (λ listed_tsis. nat_eq listed_tsis tsi) tsis
 
 -- the session of a fact is taken
 abbrev pub is_chosen : List ℕ → Fact → Bool

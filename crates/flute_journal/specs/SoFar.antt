@@ -2,16 +2,16 @@
 use Rattle.std.specs.Prelude.{◌≡◌, ℕ, List, [], ◌∷◌, length, Option, None}
 use Rattle.std.specs.Io.KnownBytes.{Consumes}
 use Rattle.flute_parts.specs.declared.fact.Fact.{Fact}
-use Rattle.flute_journal.specs.declared.reader.Stage.{Stage}
-use Rattle.flute_journal.specs.declared.reader.Stage.TheVariants.{Header, Entries}
+use Rattle.flute_journal.specs.declared.journal_reader.ReaderState.{ReaderState}
+use Rattle.flute_journal.specs.declared.journal_reader.ReaderState.TheVariants.{Header, Entries}
 use Rattle.flute_journal.specs.declared.format.version.Version.{Version}
 use Rattle.flute_journal.specs.Format.{front_in}
 use Rattle.flute_journal.specs.Journal.{last_of, AreEntries}
 
 -- where a reader stands behind these entries
-abbrev pub stage_at : Version → List Fact → Stage
-stage_at version [] = Header
-stage_at version (f ∷ fs) = Entries version (length (f ∷ fs)) (last_of None (f ∷ fs))
+abbrev pub state_at : Version → List Fact → ReaderState
+state_at version [] = Header
+state_at version (f ∷ fs) = Entries version (length (f ∷ fs)) (last_of None (f ∷ fs))
 
 -- what was read up to the next entry, without what stands before it
 abbrev pub read_of : Version → List Fact → List ℕ
@@ -19,7 +19,7 @@ read_of version [] = []
 read_of version (f ∷ fs) = front_in version (f ∷ fs)
 
 -- these entries were read, and nothing else
-pub record Sofar (limit : ℕ) (first now : Option (List ℕ)) (stage : Stage) (entries : List Fact) : Type 0 where
+pub record Sofar (limit : ℕ) (first now : Option (List ℕ)) (state : ReaderState) (entries : List Fact) : Type 0 where
   pub are_entries : AreEntries limit entries
-  pub stage_is : stage ≡ stage_at are_entries.version entries
+  pub state_is : state ≡ state_at are_entries.version entries
   pub read : Consumes first now (read_of are_entries.version entries)

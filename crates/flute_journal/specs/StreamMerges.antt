@@ -7,7 +7,7 @@ use Rattle.flute_parts.specs.Facts.{SameMembers}
 use Rattle.flute_parts.specs.Limits.{Over}
 use Rattle.flute_parts.specs.Tally.{Counts}
 use Rattle.flute_journal.specs.declared.fault.LoadFault.{LoadFault}
-use Rattle.flute_journal.specs.declared.merging.Joined.{Joined}
+use Rattle.flute_journal.specs.declared.all_streams.MergedJournal.{MergedJournal}
 use Rattle.flute_journal.specs.declared.streams_fault.StreamsFault.{StreamsFault}
 use Rattle.flute_journal.specs.declared.streams_fault.StreamsFault.TheVariants.{Input, Write}
 use Rattle.flute_journal.specs.Format.{spelling}
@@ -90,7 +90,7 @@ module _ {S : Type 0} (b : Behaviour S) where
   -- Each input tells some facts. The journal of all of them was appended, or a part of it, with so many entries,
   -- and it was told whether they are within the limits of a store. Whatever other facts have the same members, in any order, however often and however grouped: that is
   -- their journal too.
-  pub record MergedAll (inputs : List S) (s o y : ℕ) (joined : Joined) (old new : Option (List ℕ)) : Type 0 where
+  pub record MergedAll (inputs : List S) (s o y : ℕ) (joined : MergedJournal) (old new : Option (List ℕ)) : Type 0 where
     pub told : List (List Fact)
     pub tell : Each b.tells inputs told
     pub entries : List Fact

@@ -4,6 +4,6 @@ use Rattle.flute_parts.specs.declared.fact.Fact.{Fact}
 use Rattle.flute_parts.specs.declared.fact.Fact.TheVariants.{Symbol}
 
 -- the bytes of the symbol, which end an entry
-abbrev pub symbol_of : Fact → List ℕ
-symbol_of (Symbol key id bytes) = bytes
-symbol_of f = []
+abbrev pub symbol_value : Fact → List ℕ
+symbol_value (Symbol key id bytes) = bytes
+symbol_value f = []

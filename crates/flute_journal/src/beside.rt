@@ -7,7 +7,7 @@ use flute_parts::FactRef;
 use std::alloc::Global;
 
 /// A stream, and something beside it that stays as it is.
-#[derive(Drop)]
+#[derive(Debug, Drop)]
 pub struct Beside<A, S> {
     pub stream: S,
     pub beside: A,

@@ -10,7 +10,7 @@ use flute_parts::FactRef;
 use std::alloc::Global;
 
 /// A stream whose facts of other sessions are passed over, and counted.
-#[derive(Drop)]
+#[derive(Debug, Drop)]
 pub struct Chosen<S> {
     pub stream: S,
     /// The sessions that are taken.

@@ -7,14 +7,14 @@ ghost use Rattle.flute_journal.specs.Input.{Advances, Fails, FailsIf, Reads, Sta
 ghost use Rattle.flute_journal.specs.Journal.{IsByte};
 ghost use Rattle.flute_journal.specs.Faults.{opening_fault};
 ghost use Rattle.flute_journal.specs.Parsing.{cut_fault};
-ghost use Rattle.flute_journal.specs.Records.{file_header, record_of, is_open, GivesOfFile, IsDatagram, IsFileFault, ReadsFileFrom, ReadsRecord, file_stage_behind};
+ghost use Rattle.flute_journal.specs.Records.{file_header, record_of, is_file_open, GivesOfFile, IsDatagram, IsFileFault, ReadsFileFrom, ReadsRecord, file_state_after};
 ghost use Rattle.flute_journal.specs.DatagramReaders.{datagrams_source_of, records_limit_of, file_stage_of};
 ghost use Rattle.flute_journal.specs.declared.fault.ReadFault.TheVariants.{OutOfMemory};
 
 use crate::fault::ReadFault;
 use crate::format::check_opening;
 use crate::format::number::length_in;
-use crate::input::{octets, read_front};
+use crate::input::{read_exact, read_up_to};
 use crate::lent::take_record;
 use flute_parts::Source;
 use flute_wire::Datagram;
@@ -24,8 +24,8 @@ use std::alloc::Global;
 pub const FILE_HEADER: [u8; 6] = *b"FLDG\x00\x01";
 
 /// Where a reader stands.
-#[derive(Clone, Copy)]
-pub enum FileStage {
+#[derive(Clone, Copy, Debug)]
+pub enum FileState {
     /// Before the header.
     Header,
     /// Behind so many whole records.
@@ -37,11 +37,11 @@ pub enum FileStage {
 }
 
 /// A datagram file that is read record by record. It never reads past what it has given.
-#[derive(Drop)]
+#[derive(Debug, Drop)]
 pub struct DatagramReader<'a, R> {
     source: &'a mut R,
     max_records: u64,
-    stage: FileStage,
+    state: FileState,
 }
 
 impl<'a, R: Source> DatagramReader<'a, R> {
@@ -51,12 +51,12 @@ impl<'a, R: Source> DatagramReader<'a, R> {
         ensures source { (datagrams_source_of result).ghost_name ≡ source.entry.ghost_name }
         ensures unread { (datagrams_source_of result).now ≡ source.old }
         ensures limit { records_limit_of result ≡ max_records }
-        ensures stage { file_stage_of result ≡ FileStage.Header }
+        ensures state { file_stage_of result ≡ FileState.Header }
     {
         DatagramReader {
             source,
             max_records,
-            stage: FileStage::Header,
+            state: FileState::Header,
         }
     }
 
@@ -87,7 +87,7 @@ impl<'a, R: Source> DatagramReader<'a, R> {
             (file_stage_of self.new)
             (R.unread (datagrams_source_of self.old).now)
             (R.unread (datagrams_source_of self.new).now) result }
-        ensures failures { FailsIf (is_open (file_stage_of self.old))
+        ensures failures { FailsIf (is_file_open (file_stage_of self.old))
             (R.failures (datagrams_source_of self.old).now)
             (R.failures (datagrams_source_of self.new).now) result }
     {
@@ -112,20 +112,20 @@ impl<'a, R: Source> DatagramReader<'a, R> {
             (file_stage_of self.new)
             (R.unread (datagrams_source_of self.old).now)
             (R.unread (datagrams_source_of self.new).now) result }
-        ensures failures { FailsIf (is_open (file_stage_of self.old))
+        ensures failures { FailsIf (is_file_open (file_stage_of self.old))
             (R.failures (datagrams_source_of self.old).now)
             (R.failures (datagrams_source_of self.new).now) result }
     {
-        let (count, given) = match self.stage {
-            FileStage::Ended => return Ok(None),
-            FileStage::Failed(fault) => return Err(fault),
-            FileStage::Header => (0, read_first(alloc, self.source, self.max_records)),
-            FileStage::Records { count } => (
+        let (count, given) = match self.state {
+            FileState::Ended => return Ok(None),
+            FileState::Failed(fault) => return Err(fault),
+            FileState::Header => (0, read_first(alloc, self.source, self.max_records)),
+            FileState::Records { count } => (
                 count,
                 read_record(alloc, self.source, self.max_records, count, spare),
             ),
         };
-        self.stage = stage_behind(count, &given);
+        self.state = state_after(count, &given);
         given
     }
 }
@@ -137,7 +137,7 @@ fn read_first<R: Source>(
     source: &mut R,
     max_records: u64,
 ) -> Result<Option<Datagram>, ReadFault>
-    ensures reads { ReadsFileFrom max_records FileStage.Header (R.unread source.old)
+    ensures reads { ReadsFileFrom max_records FileState.Header (R.unread source.old)
         (R.unread source.new) result }
     ensures faults { IfErr result IsFileFault }
     ensures failures { Fails (R.failures source.old) (R.failures source.new) result }
@@ -147,7 +147,7 @@ fn read_first<R: Source>(
 }
 
 // Reads the magic number and the version.
-#[tactic(auto, using(crate::proofs::Fronts::parsed_fails, crate::proofs::Fronts::parsed_memory))]
+#[tactic(auto, using(crate::proofs::ReadsUpTo::parsed_fails, crate::proofs::ReadsUpTo::parsed_memory))]
 fn read_header<R: Source>(source: &mut R) -> Result<(), ReadFault>
     ensures reads { Reads (λ _. file_header) (λ _. Unit {0}) (opening_fault file_header)
         (R.unread source.old) (R.unread source.new) result }
@@ -157,8 +157,8 @@ fn read_header<R: Source>(source: &mut R) -> Result<(), ReadFault>
     ensures failures { Fails (R.failures source.old) (R.failures source.new) result }
 {
     let mut buffer = [0; 6];
-    let front = read_front(source, &mut buffer);
-    front.told(check_opening(&FILE_HEADER, front.bytes))
+    let read = read_up_to(source, &mut buffer);
+    read.or_failed(check_opening(&FILE_HEADER, read.bytes))
 }
 
 // Reads the next record behind so many, if a byte follows. A file may have `max_records`. The bytes
@@ -204,17 +204,17 @@ fn read_fields<R: Source>(
     ensures failures { Fails (R.failures source.old) (R.failures source.new) result }
 {
     let mut buffer = [0; 2];
-    let front = read_front(source, &mut buffer);
-    if front.bytes.is_empty() {
-        return front.told(Ok(None));
+    let read = read_up_to(source, &mut buffer);
+    if read.bytes.is_empty() {
+        return read.or_failed(Ok(None));
     }
     if count >= max_records {
         return Err(ReadFault::TooMany);
     }
-    if front.bytes.len() < 2 {
-        return Err(front.shortage());
+    if read.bytes.len() < 2 {
+        return Err(read.shortage());
     }
-    let datagram = read_datagram(alloc, source, length_in(front.bytes))?;
+    let datagram = read_datagram(alloc, source, length_in(read.bytes))?;
     Ok(Some(datagram))
 }
 
@@ -230,20 +230,20 @@ fn read_datagram<R: Source>(
     ensures faults { IfErr result IsFileFault }
     ensures failures { Fails (R.failures source.old) (R.failures source.new) result }
 {
-    match Datagram::from_vec(octets(alloc, source, length)?) {
+    match Datagram::from_vec(read_exact(alloc, source, length)?) {
         Ok(datagram) => Ok(datagram),
         Err(_) => Err(ReadFault::OutOfMemory),
     }
 }
 
 // Where a reader stands behind what it gave, if so many records stood before.
-fn stage_behind(count: u64, given: &Result<Option<Datagram>, ReadFault>) -> FileStage
+fn state_after(count: u64, given: &Result<Option<Datagram>, ReadFault>) -> FileState
     requires { IfOk given.now (λ o. IfSome o (λ _. count + 1 < 2 ^ 64)) }
-    ensures { result ≡ file_stage_behind count given.now }
+    ensures { result ≡ file_state_after count given.now }
 {
     match given {
-        Ok(Some(_)) => FileStage::Records { count: count + 1 },
-        Ok(None) => FileStage::Ended,
-        Err(fault) => FileStage::Failed(*fault),
+        Ok(Some(_)) => FileState::Records { count: count + 1 },
+        Ok(None) => FileState::Ended,
+        Err(fault) => FileState::Failed(*fault),
     }
 }

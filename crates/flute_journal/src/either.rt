@@ -7,7 +7,7 @@ use flute_parts::FactRef;
 use std::alloc::Global;
 
 /// A stream of one kind or of another.
-#[derive(Drop)]
+#[derive(Debug, Drop)]
 pub enum Either<A, B> {
     /// Of the one.
     First(A),

@@ -10,7 +10,7 @@ use flute_parts::{Fact, FactRef};
 use std::alloc::Global;
 
 /// The stream of one fact.
-#[derive(Drop)]
+#[derive(Debug, Drop)]
 pub struct FactStream {
     pub next: Option<Fact>,
     pub held: Option<Fact>,

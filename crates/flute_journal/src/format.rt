@@ -2,7 +2,7 @@
 //! knows an entry's bytes.
 ghost use Rattle.std.specs.Prelude.{◌≡◌, ◌≤◌, false, MatchOption};
 ghost use Rattle.flute_journal.specs.Faults.{is_kind};
-ghost use Rattle.flute_journal.specs.Parsing.{byte_of, fixed_size};
+ghost use Rattle.flute_journal.specs.Parsing.{byte_of, head_size};
 
 mod decode;
 mod encode;
@@ -10,7 +10,7 @@ pub mod number;
 mod version;
 
 pub use decode::{check_end, check_header, check_opening, parse, symbol_in};
-pub use encode::{Head, end_of, head_of, symbol_of};
+pub use encode::{HeadBytes, end_of, put_head, symbol_value};
 use flute_parts::{Fact, Key, SymbolId};
 pub use version::Version;
 
@@ -24,7 +24,7 @@ pub const END: u8 = 255;
 pub const LONGEST: usize = 49;
 
 /// What an entry tells.
-#[derive(Clone, Copy, PartialEq, Eq)]
+#[derive(Clone, Copy, Debug, PartialEq, Eq)]
 pub enum Kind {
     /// The transmission information.
     Info,
@@ -37,8 +37,8 @@ pub enum Kind {
 }
 
 /// What an entry says up to the bytes of its symbol.
-#[derive(Drop)]
-pub enum Fixed {
+#[derive(Debug, Drop)]
+pub enum EntryHead {
     /// All of it.
     Whole(Fact),
     /// A symbol, and how many bytes of it follow.
@@ -60,8 +60,8 @@ impl Kind {
     }
 
     /// How many bytes follow the kind in a journal of this version, up to those of a symbol.
-    pub fn fixed_size(self, version: Version) -> usize
-        ensures size { result ≡ fixed_size version self }
+    pub fn head_size(self, version: Version) -> usize
+        ensures size { result ≡ head_size version self }
         ensures most { result ≤ 49 }
     {
         let size = match self {

@@ -1,7 +1,7 @@
 //! Bytes out of a source that hands them out in any pieces.
 ghost use Rattle.std.specs.Prelude.{◌≡◌, ℕ, ◌+◌, ◌<◌, ◌≤◌, IfOk, IfErr, length, length as length_of, take, slice_index};
 ghost use Rattle.std.specs.List.{AllByRecursion};
-ghost use Rattle.flute_journal.specs.Input.{Advances, Fails, Fills, Fronts, Reads, failure, shortage, told};
+ghost use Rattle.flute_journal.specs.Input.{Advances, Fails, Fills, ReadsUpTo, Reads, failure, shortage, or_failed};
 ghost use Rattle.flute_journal.specs.Journal.{IsByte};
 ghost use Rattle.flute_journal.specs.Records.{IsFileFault};
 ghost use Rattle.flute_journal.specs.Parsing.{cut_fault};
@@ -13,15 +13,15 @@ use std::alloc::Global;
 
 /// What was read of a source up to some number of bytes: so many, or fewer at the end of the input
 /// or where the source failed.
-#[derive(Clone, Copy)]
-pub struct Front<'b> {
+#[derive(Clone, Copy, Debug)]
+pub struct ReadUpTo<'b> {
     /// The bytes.
     pub bytes: &'b [u8],
     /// Whether the source failed behind them.
     pub failed: bool,
 }
 
-impl Front<'_> {
+impl ReadUpTo<'_> {
     /// The fault where these bytes are too few.
     pub fn shortage(self) -> ReadFault
         ensures { result ≡ shortage self.entry.failed }
@@ -31,8 +31,8 @@ impl Front<'_> {
 
     /// What was found in the bytes, where the source may have failed behind them: a fault that they
     /// have is told as it is, and else `Read`.
-    pub fn told<T: Drop>(self, found: Result<T, ReadFault>) -> Result<T, ReadFault>
-        ensures { result ≡ told self.entry.failed found }
+    pub fn or_failed<T: Drop>(self, found: Result<T, ReadFault>) -> Result<T, ReadFault>
+        ensures { result ≡ or_failed self.entry.failed found }
     {
         if !self.failed {
             return found;
@@ -56,14 +56,14 @@ fn shortage(failed: bool) -> ReadFault
 }
 
 /// Reads until the buffer is full, up to the end of the input, or until the source fails.
-pub fn read_front<'b, R: Source>(source: &mut R, buffer: &'b mut [u8]) -> Front<'b>
-    ensures filled { Fronts (R.unread source.old) (R.unread source.new)
+pub fn read_up_to<'b, R: Source>(source: &mut R, buffer: &'b mut [u8]) -> ReadUpTo<'b>
+    ensures filled { ReadsUpTo (R.unread source.old) (R.unread source.new)
         (length buffer.old) result.failed result.bytes.now }
     ensures advances { Advances (R.unread source.old) (R.unread source.new) (length buffer.old) }
     ensures failures { R.failures source.new ≡ R.failures source.old + failure result.failed }
 {
-    let (count, failed) = fill_front(source, buffer);
-    Front {
+    let (count, failed) = fill_up_to(source, buffer);
+    ReadUpTo {
         bytes: &buffer[..count],
         failed,
     }
@@ -83,7 +83,7 @@ pub fn fill<R: Source>(source: &mut R, buffer: &mut [u8]) -> Result<usize, ReadF
     ensures advances { Advances (R.unread source.old) (R.unread source.new) (length buffer.new) }
     ensures failures { Fails (R.failures source.old) (R.failures source.new) result }
 {
-    match fill_front(source, buffer) {
+    match fill_up_to(source, buffer) {
         (count, false) => Ok(count),
         (_, true) => Err(ReadFault::Read),
     }
@@ -91,8 +91,8 @@ pub fn fill<R: Source>(source: &mut R, buffer: &mut [u8]) -> Result<usize, ReadF
 
 // Reads until the buffer is full, up to the end of the input, or until the source fails. Answers
 // how many bytes were read, and whether the source failed.
-fn fill_front<R: Source>(source: &mut R, buffer: &mut [u8]) -> (usize, bool)
-    ensures filled { Fronts (R.unread source.old) (R.unread source.new) (length buffer.new) result.1
+fn fill_up_to<R: Source>(source: &mut R, buffer: &mut [u8]) -> (usize, bool)
+    ensures filled { ReadsUpTo (R.unread source.old) (R.unread source.new) (length buffer.new) result.1
         (take result.0 buffer.new) }
     ensures within { result.0 ≤ length buffer.new }
     ensures size { length buffer.new ≡ length buffer.old }
@@ -111,7 +111,11 @@ fn fill_front<R: Source>(source: &mut R, buffer: &mut [u8]) -> (usize, bool)
 }
 
 /// Reads so many bytes, into memory of their own.
-pub fn octets<R: Source>(alloc: Global, source: &mut R, length: u16) -> Result<Vec<u8>, ReadFault>
+pub fn read_exact<R: Source>(
+    alloc: Global,
+    source: &mut R,
+    length: u16,
+) -> Result<Vec<u8>, ReadFault>
     ensures reads { Reads (λ v. v.items) (λ v. (length_of v.items ≡ length) × AllByRecursion IsByte
         v.items) (cut_fault length) (R.unread source.old) (R.unread source.new) result }
     ensures advances { Advances (R.unread source.old) (R.unread source.new) length }
@@ -121,7 +125,7 @@ pub fn octets<R: Source>(alloc: Global, source: &mut R, length: u16) -> Result<V
     let Ok(mut octets) = vec![in alloc; 0; usize::from(length)] else {
         return Err(ReadFault::OutOfMemory);
     };
-    let (count, failed) = fill_front(source, &mut octets);
+    let (count, failed) = fill_up_to(source, &mut octets);
     if count < usize::from(length) {
         return Err(shortage(failed));
     }

@@ -1,18 +1,18 @@
 //! A journal as a stream.
 ghost use Rattle.std.specs.Prelude.{◌≡◌, None};
-ghost use Rattle.flute_journal.specs.Readers.{source_of, limit_of, stage_of};
+ghost use Rattle.flute_journal.specs.Readers.{source_of, limit_of, state_of};
 ghost use Rattle.flute_journal.specs.Streams.{IsNew};
 ghost use Rattle.flute_journal.specs.JournalStreams.{journal_behaviour, lent_behaviour};
-ghost use Rattle.flute_journal.specs.declared.reader.Stage.TheVariants as Stage;
+ghost use Rattle.flute_journal.specs.declared.journal_reader.ReaderState.TheVariants as ReaderState;
 
 use crate::fault::LoadFault;
-use crate::reader::JournalReader;
+use crate::journal_reader::JournalReader;
 use crate::stream::Stream;
 use flute_parts::{Fact, FactRef, Source};
 use std::alloc::Global;
 
 /// A journal that is read entry by entry, of which one entry is held.
-#[derive(Drop)]
+#[derive(Debug, Drop)]
 pub struct JournalStream<'a, R> {
     pub reader: JournalReader<'a, R>,
     pub held: Option<Fact>,
@@ -25,7 +25,7 @@ impl<'a, R: Source> JournalStream<'a, R> {
         ensures source { (source_of result.reader).ghost_name ≡ source.entry.ghost_name }
         ensures unread { (source_of result.reader).now ≡ source.old }
         ensures limit { limit_of result.reader ≡ max_entries }
-        ensures stage { stage_of result.reader ≡ Stage.Header }
+        ensures state { state_of result.reader ≡ ReaderState.Header }
         ensures held { result.held ≡ None }
         ensures new { IsNew (journal_behaviour R.unread R.failures) result }
         ensures most { (journal_behaviour R.unread R.failures).most result ≡ max_entries }
@@ -62,7 +62,7 @@ impl<'a, R: Source> Stream for JournalStream<'a, R> {
 }
 
 /// The stream of a journal whose reader, and the place for the entry that is held, are lent to it.
-#[derive(Drop)]
+#[derive(Debug, Drop)]
 pub struct LentStream<'r, 'a, R> {
     pub reader: &'r mut JournalReader<'a, R>,
     pub held: &'r mut Option<Fact>,

@@ -6,11 +6,11 @@ ghost use Rattle.flute_journal.specs.Format.{header, entry, end};
 ghost use Rattle.flute_journal.specs.Journal.{IsFact};
 ghost use Rattle.flute_journal.specs.JournalWriters.{Puts};
 
-use crate::format::{HEADER, end_of, head_of, symbol_of};
+use crate::format::{HEADER, HeadBytes, end_of, put_head, symbol_value};
 use flute_parts::{FactRef, Sink};
 
 /// Writes a journal into a sink, until that fails. What is written behind a failure is dropped.
-#[derive(Drop)]
+#[derive(Debug, Drop)]
 pub struct JournalWriter<'a, W> {
     pub sink: &'a mut W,
     /// Whether the sink has failed.
@@ -43,9 +43,10 @@ impl<'a, W: Sink> JournalWriter<'a, W> {
         ensures valid { IsFact (fact_of fact.now) }
         ensures puts { Puts W.written W.failures (entry (fact_of fact.now)) self.old self.new }
     {
-        let head = head_of(fact);
+        let mut head = HeadBytes::new();
+        put_head(&mut head, fact);
         self.put(head.as_slice());
-        self.put(symbol_of(fact));
+        self.put(symbol_value(fact));
     }
 
     /// Writes the end of a journal of so many entries.

@@ -14,8 +14,8 @@ ghost use Rattle.flute_journal.specs.Stores.{BeginsWith, IsJournalOf};
 ghost use Rattle.flute_journal.specs.declared.fault.ReadFault.TheVariants as faults;
 ghost use Rattle.flute_journal.specs.Records.{IsFileOf, IsFileWithin, FileStops, GivesRecord, GivesNone, GivesFileFault, HasFileFault};
 ghost use Rattle.flute_journal.specs.FilesSoFar.{FileSofar};
-ghost use Rattle.flute_journal.specs.declared.datagram_reader.FileStage.{FileStage};
-ghost use Rattle.flute_journal.specs.declared.datagram_reader.FileStage.TheVariants as FileStages;
+ghost use Rattle.flute_journal.specs.declared.datagram_reader.FileState.{FileState};
+ghost use Rattle.flute_journal.specs.declared.datagram_reader.FileState.TheVariants as FileStages;
 
 /// What an entry spells is read in one way, whatever follows it, in each version.
 #[tactic(auto, using(crate::proofs::Entries::entry_injective))]
@@ -148,13 +148,13 @@ pub fn a_file_stops_at_the_bound()
 pub fn a_file_is_read_record_by_record()
     ensures begins { (limit : ℕ) (first : Option (List ℕ)) → FileSofar limit first first
         FileStages.Header [] }
-    ensures goes_on { (limit : ℕ) (first now next : Option (List ℕ)) (old new : FileStage)
+    ensures goes_on { (limit : ℕ) (first now next : Option (List ℕ)) (old new : FileState)
         (ds : List (List ℕ)) (d : List ℕ) → FileSofar limit first now old ds
         → GivesRecord limit old new now next d → FileSofar limit first next new (ds ++ d ∷ []) }
-    ensures ends { (limit : ℕ) (first now next : Option (List ℕ)) (old new : FileStage)
+    ensures ends { (limit : ℕ) (first now next : Option (List ℕ)) (old new : FileState)
         (ds : List (List ℕ)) → FileSofar limit first now old ds
         → GivesNone old new now next → IfSome first (λ bytes. IsFileWithin limit bytes ds) }
-    ensures stops { (limit : ℕ) (first now next : Option (List ℕ)) (old new : FileStage)
+    ensures stops { (limit : ℕ) (first now next : Option (List ℕ)) (old new : FileState)
         (ds : List (List ℕ)) (f : Fault) → FileSofar limit first now old ds
         → GivesFileFault limit old new now next f → HasFileFault limit first f }
 {}

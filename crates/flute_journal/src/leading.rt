@@ -6,7 +6,7 @@ ghost use Rattle.flute_parts.specs.Order.{address_cmp};
 ghost use Rattle.flute_parts.specs.Addresses.{address, fact_of};
 ghost use Rattle.flute_journal.specs.Streams.{fact_in, place_of, heads};
 ghost use Rattle.flute_journal.specs.Lowest.{IsLowest};
-ghost use Rattle.flute_journal.specs.Leads.{Leads, IsBelow, StandsAt, lower_of, lower_next};
+ghost use Rattle.flute_journal.specs.Leads.{Leads, IsBelowNext, StandsAt, lower_of, lower_next};
 ghost use Rattle.flute_journal.specs.Advances.{GoOnAt, StopsIn};
 
 use crate::advance::advance_at;
@@ -17,7 +17,7 @@ use flute_parts::{Address, FactRef};
 use std::alloc::Global;
 
 /// The stream that leads: it holds a fact below those of all others.
-#[derive(Clone, Copy)]
+#[derive(Clone, Copy, Debug)]
 pub struct Lead {
     /// Whether one is known to lead.
     known: bool,
@@ -142,7 +142,7 @@ impl Lead {
 // Whether a stream that holds this stands below an address. Where there is none, anything does.
 #[inline(always)]
 fn is_below(head: &Option<FactRef<'_>>, next: &Option<Address>) -> bool
-    ensures { result ≡ true → IsBelow (fact_in head.now) next.now }
+    ensures { result ≡ true → IsBelowNext (fact_in head.now) next.now }
 {
     match (head, next) {
         (Some(fact), Some(next)) => is_before(fact, next),

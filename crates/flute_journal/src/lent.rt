@@ -53,10 +53,10 @@ fn entry_in<'a>(
     let Some(Kind::Symbol) = Kind::from_byte(first) else {
         return None;
     };
-    let (fixed, rest) = rest.split_at_checked(Kind::Symbol.fixed_size(version))?;
-    let (key, id, length) = symbol_in(version, last, fixed)?;
+    let (head, rest) = rest.split_at_checked(Kind::Symbol.head_size(version))?;
+    let (key, id, length) = symbol_in(version, last, head)?;
     let symbol = rest.get(..usize::from(length))?;
-    Some((key, id, symbol, 1 + fixed.len() + symbol.len()))
+    Some((key, id, symbol, 1 + head.len() + symbol.len()))
 }
 
 /// Takes the next record of a datagram file, if it lies whole in the source's buffer.

@@ -1,61 +1,76 @@
 //! Journals: the facts of a reception as bytes, each address once and in rising order.
+//!
+//! A content has one journal ([`write_store`] writes it), and every list of bytes is a journal or
+//! has one first fault ([`JournalReader`] tells it). Journals, stores and facts are merged as
+//! [`Stream`]s, in memory that does not grow with them ([`merge_all`], [`join_streams`]): the
+//! result is the one journal of all that they tell, in whatever order or grouping. Datagram files
+//! are read by a [`DatagramReader`].
+//!
+//! The journal of both of two stations (from `reception_sample`):
+//!
+//! ```
+//! let mut first = MemorySource::new(first);
+//! let mut second = MemorySource::new(second);
+//! let mut merged = MemorySink::new(alloc);
+//! merge_streams(alloc, &mut first, &mut second, &mut merged, MANY)?;
+//! ```
 #![tactic(auto)]
 
 mod advance;
+mod all_streams;
 mod beside;
 mod chosen;
+mod datagram_file;
 mod datagram_reader;
-mod datagram_writing;
 mod either;
+mod entry_fields;
 mod fact_stream;
 mod fault;
 mod format;
 mod input;
+mod journal_of_store;
+mod journal_reader;
 mod journal_stream;
 mod journal_writer;
 mod kind;
 pub mod laws;
 mod leading;
 mod lent;
-mod load;
 mod lowest;
-mod merge;
-mod merging;
 mod or_full;
 mod owned_journal_stream;
-mod reader;
-mod reading;
 mod replaced;
-mod save;
 mod sessions;
 mod stopped;
+mod store_from_journal;
 mod stream;
 mod streams;
 mod streams_fault;
+mod two_streams;
 mod walk_stream;
 mod within;
 
+pub use all_streams::{MergedJournal, join_streams, merge_all, merge_slice};
 pub use beside::Beside;
 pub use chosen::Chosen;
+pub use datagram_file::write_datagrams;
 pub use datagram_reader::DatagramReader;
-pub use datagram_writing::write_datagrams;
 pub use either::Either;
 pub use fact_stream::FactStream;
 pub use fault::{LoadFault, ReadFault, SaveFault};
 pub use input::fill;
+pub use journal_of_store::write_store;
+pub use journal_reader::JournalReader;
 pub use journal_stream::{JournalStream, LentStream};
 pub use kind::{Kind, kind_of};
-pub use load::read_store;
-pub use merge::{MergeFault, merge_streams, merge_two};
-pub use merging::{Joined, join_streams, merge_all, merge_slice};
 pub use or_full::OrFull;
 pub use owned_journal_stream::OwnedJournalStream;
-pub use reader::JournalReader;
 pub use replaced::Replaced;
-pub use save::write_store;
 pub use sessions::Sessions;
+pub use store_from_journal::read_store;
 pub use stream::Stream;
 pub use streams::{Pair, Slice, Streams};
 pub use streams_fault::{InputFault, StreamsFault};
+pub use two_streams::{MergeFault, merge_streams, merge_two};
 pub use walk_stream::WalkStream;
 pub use within::Within;

@@ -34,7 +34,7 @@ pub fn lowest_held<G: Streams>(streams: &G) -> Option<FactRef<'_>>
 }
 
 /// How what facts come to at the lowest of their addresses changes by one fact more.
-#[derive(Clone, Copy)]
+#[derive(Clone, Copy, Debug)]
 pub enum Change {
     /// It stands below them, or is the first.
     Lower,

@@ -12,7 +12,7 @@ use flute_parts::FactRef;
 use std::alloc::Global;
 
 /// A stream, or one that is known to be over the limits of a store before a fact of it is given.
-#[derive(Drop)]
+#[derive(Debug, Drop)]
 pub enum OrFull<S> {
     /// The stream.
     Stream(S),

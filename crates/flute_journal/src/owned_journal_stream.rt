@@ -1,22 +1,22 @@
 //! A journal as a stream, with its source.
 ghost use Rattle.std.specs.Prelude.{◌≡◌, None};
 ghost use Rattle.flute_journal.specs.Streams.{IsNew};
-ghost use Rattle.flute_journal.specs.OwnedStreams.{limit_of, stage_of, held_of, owned_behaviour};
-ghost use Rattle.flute_journal.specs.declared.reader.Stage.TheVariants as Stage;
+ghost use Rattle.flute_journal.specs.OwnedStreams.{owned_limit, owned_state, held_of, owned_behaviour};
+ghost use Rattle.flute_journal.specs.declared.journal_reader.ReaderState.TheVariants as ReaderState;
 
 use crate::fault::LoadFault;
+use crate::journal_reader::{ReaderState, read_at};
 use crate::journal_stream::spare_of;
-use crate::reader::{Stage, read_at};
 use crate::stream::Stream;
 use flute_parts::{Fact, FactRef, Source};
 use std::alloc::Global;
 
 /// A journal that is read as a stream, with its source. One entry of it is held.
-#[derive(Drop)]
+#[derive(Debug, Drop)]
 pub struct OwnedJournalStream<R> {
     pub source: R,
     max_entries: u64,
-    stage: Stage,
+    state: ReaderState,
     held: Option<Fact>,
 }
 
@@ -25,8 +25,8 @@ impl<R: Source> OwnedJournalStream<R> {
     /// entries. It takes no memory, and reads nothing yet.
     pub fn new(source: R, max_entries: u64) -> Self
         ensures source { result.source ≡ source }
-        ensures limit { limit_of result ≡ max_entries }
-        ensures stage { stage_of result ≡ Stage.Header }
+        ensures limit { owned_limit result ≡ max_entries }
+        ensures state { owned_state result ≡ ReaderState.Header }
         ensures held { held_of result ≡ None }
         ensures new { IsNew (owned_behaviour R.unread R.failures) result }
         ensures most { (owned_behaviour R.unread R.failures).most result ≡ max_entries }
@@ -34,7 +34,7 @@ impl<R: Source> OwnedJournalStream<R> {
         OwnedJournalStream {
             source,
             max_entries,
-            stage: Stage::Header,
+            state: ReaderState::Header,
             held: None,
         }
     }
@@ -47,7 +47,7 @@ impl<R: Source> OwnedJournalStream<R> {
         ensures most { (owned_behaviour R.unread R.failures).most self.new ≡ max_entries }
     {
         self.max_entries = max_entries;
-        self.stage = Stage::Header;
+        self.state = ReaderState::Header;
         self.held = None;
     }
 }
@@ -67,7 +67,7 @@ impl<R: Source> Stream for OwnedJournalStream<R> {
     fn advance(&mut self, alloc: Global) -> Result<(), LoadFault> {
         let spare = spare_of(alloc, self.held.take());
         let source = &mut self.source;
-        match read_at(alloc, source, self.max_entries, &mut self.stage, spare) {
+        match read_at(alloc, source, self.max_entries, &mut self.state, spare) {
             Ok(held) => {
                 self.held = held;
                 Ok(())

@@ -12,7 +12,7 @@ use std::alloc::Global;
 
 /// The streams of a slice, but others in the places of some. Of two slices that are not as long as
 /// each other, those of the longer that have no place in the other are left out.
-#[derive(Drop)]
+#[derive(Debug, Drop)]
 pub struct Replaced<'a, 'b, A, B> {
     pub streams: &'a mut [A],
     pub others: &'b mut [Option<B>],

@@ -1,6 +1,6 @@
 //! The sessions that are taken.
 ghost use Rattle.std.specs.Prelude.{◌≡◌, ◌++◌, ◌∷◌, [], true, false, length, nat_eq};
-ghost use Rattle.flute_journal.specs.Sessions.{listed, takes};
+ghost use Rattle.flute_journal.specs.Sessions.{listed_tsis, takes};
 
 /// The sessions whose entries and datagrams are taken: all, or those with one of at most 64
 /// Transport Session Identifiers (RFC 5651, section 5.1), whoever their sender is.
@@ -13,7 +13,7 @@ pub struct Sessions {
 impl Sessions {
     /// All sessions: no identifier is listed.
     pub fn all() -> Sessions
-        ensures { listed result ≡ [] }
+        ensures { listed_tsis result ≡ [] }
     {
         Sessions {
             tsis: [0; 64],
@@ -23,9 +23,9 @@ impl Sessions {
 
     /// Lists one identifier more. False, and nothing changes, if 64 are listed.
     pub fn add(&mut self, tsi: u64) -> bool
-        ensures added { result ≡ true → listed self.new ≡ listed self.old ++ tsi ∷ [] }
+        ensures added { result ≡ true → listed_tsis self.new ≡ listed_tsis self.old ++ tsi ∷ [] }
         ensures full { result ≡ false
-            → (self.new ≡ self.old) × (length (listed self.old) ≡ 64) }
+            → (self.new ≡ self.old) × (length (listed_tsis self.old) ≡ 64) }
     {
         if self.count >= 64 {
             return false;
@@ -38,7 +38,7 @@ impl Sessions {
     /// Whether all are taken: no identifier is listed.
     #[inline(always)]
     pub fn is_all(&self) -> bool
-        ensures { result ≡ nat_eq (length (listed self.now)) 0 }
+        ensures { result ≡ nat_eq (length (listed_tsis self.now)) 0 }
     {
         self.tsis[..self.count.min(64)].is_empty()
     }
@@ -46,7 +46,7 @@ impl Sessions {
     /// Whether the sessions with this identifier are taken: it is listed, or none is.
     #[inline(always)]
     pub fn takes(&self, tsi: u64) -> bool
-        ensures { result ≡ takes (listed self.now) tsi }
+        ensures { result ≡ takes (listed_tsis self.now) tsi }
     {
         let listed = &self.tsis[..self.count.min(64)];
         listed.is_empty() || listed.contains(&tsi)

@@ -41,7 +41,7 @@ pub trait Streams {
 }
 
 /// The streams of a slice.
-#[derive(Drop)]
+#[derive(Debug, Drop)]
 pub struct Slice<'a, S> {
     streams: &'a mut [S],
 }
@@ -82,7 +82,7 @@ impl<'a, S: Stream> Streams for Slice<'a, S> {
 }
 
 /// Two streams, of whatever kinds.
-#[derive(Drop)]
+#[derive(Debug, Drop)]
 pub struct Pair<'a, 'b, A, B> {
     pub first: &'a mut A,
     pub second: &'b mut B,

@@ -15,7 +15,7 @@ use std::alloc::Global;
 /// A stream that stops with `Full` where its facts alone are over limits: more than `SESSIONS`
 /// sessions, `OBJECTS` objects of one session or `SYMBOLS` symbols of one object. Its other faults
 /// are those of the stream that it counts.
-#[derive(Drop)]
+#[derive(Debug, Drop)]
 pub struct Within<const SESSIONS: u32, const OBJECTS: u32, const SYMBOLS: u32, S> {
     pub stream: S,
     pub tally: Tally<SESSIONS, OBJECTS, SYMBOLS>,

@@ -7,20 +7,19 @@ ghost use Rattle.flute_parts.specs.BigEndian.{big_endian};
 ghost use Rattle.flute_journal.specs.Format.{header_in, sender_size, id_bytes};
 ghost use Rattle.flute_journal.specs.Faults.{is_after, is_name, is_key, key_size, named_in, key_in as key_of_bytes, info_in as info_of_bytes, opening_fault, header_fault};
 ghost use Rattle.flute_journal.specs.Journal.{IsKey, IsKeyIn, IsId, IsInfo};
-ghost use Rattle.flute_journal.specs.Parsing.{FixedIn, RestIs, Parses, StopsFront, fixed_bytes, fixed_size, rest_size, body_fault, rest_fault, bytes_fault, end_fault};
-ghost use Rattle.flute_journal.specs.declared.format.Fixed.TheVariants.{Symbol};
+ghost use Rattle.flute_journal.specs.Parsing.{HeadIn, RestIs, Parses, StopsReading, head_bytes, head_size, rest_size, body_fault, rest_fault, bytes_fault, end_fault};
+ghost use Rattle.flute_journal.specs.declared.format.EntryHead.TheVariants.{Symbol};
 ghost use Rattle.flute_journal.specs.declared.format.Kind.TheVariants as kinds;
 ghost use Rattle.flute_journal.specs.declared.fault.ReadFault.TheVariants.{Order, Cut};
 
 use super::number::{number, number_of_14};
 use super::version::Version;
-use super::{Fixed, HEADER, Kind};
+use super::{EntryHead, HEADER, Kind};
 use crate::fault::ReadFault;
 use byteorder::{BigEndian, ByteOrder};
 use flute_parts::{
     Address, Fact, Info, InfoFault, Key, ObjectKey, Part, Sender, SessionKey, SymbolId,
 };
-use std::cmp::Ordering;
 
 /// Looks at the first six bytes of a file: its magic number and its version.
 pub fn check_opening(opening: &[u8; 6], bytes: &[u8]) -> Result<(), ReadFault>
@@ -85,10 +84,10 @@ pub fn parse(
     kind: Kind,
     last: &Option<Address>,
     bytes: &[u8],
-) -> Result<Fixed, ReadFault>
-    requires { length bytes.now ≤ fixed_size version kind }
-    ensures { Parses (fixed_size version kind) (λ x. FixedIn version last.now kind x
-        × (fixed_bytes version x ≡ bytes.now)) (body_fault version last.now kind) bytes.now result }
+) -> Result<EntryHead, ReadFault>
+    requires { length bytes.now ≤ head_size version kind }
+    ensures { Parses (head_size version kind) (λ x. HeadIn version last.now kind x
+        × (head_bytes version x ≡ bytes.now)) (body_fault version last.now kind) bytes.now result }
 {
     let Some((field, rest)) = bytes.split_at_checked(version.sender_size() + 21) else {
         return Err(ReadFault::Cut);
@@ -100,7 +99,7 @@ pub fn parse(
         Kind::Info => information_at(last, key, rest),
         Kind::InfoConflict => information_conflict_at(last, key, rest),
         Kind::Symbol => match symbol_at(last, &key, rest) {
-            Ok((id, length)) => Ok(Fixed::Symbol { key, id, length }),
+            Ok((id, length)) => Ok(EntryHead::Symbol { key, id, length }),
             Err(fault) => Err(fault),
         },
         Kind::SymbolConflict => symbol_conflict_at(last, key, rest),
@@ -115,9 +114,9 @@ pub fn symbol_in(
     last: &Option<Address>,
     bytes: &[u8],
 ) -> Option<(Key, SymbolId, u16)>
-    requires { length bytes.now ≤ fixed_size version kinds.Symbol }
-    ensures { IfSome result (λ s. FixedIn version last.now kinds.Symbol (Symbol s.0 s.1 s.2)
-        × (fixed_bytes version (Symbol s.0 s.1 s.2) ≡ bytes.now)) }
+    requires { length bytes.now ≤ head_size version kinds.Symbol }
+    ensures { IfSome result (λ s. HeadIn version last.now kinds.Symbol (Symbol s.0 s.1 s.2)
+        × (head_bytes version (Symbol s.0 s.1 s.2) ≡ bytes.now)) }
 {
     let (field, rest) = bytes.split_at_checked(version.sender_size() + 21)?;
     let key = key_in(version, field)?;
@@ -168,7 +167,9 @@ fn named_in(sender: Sender, bytes: &[u8]) -> Option<Key>
     Some(Key { session, object })
 }
 
-// Whether a part of the object stands after the entry before.
+// Whether a part of the object stands after the entry before. It is never inlined: where a reader is
+// inlined too, the key that it looks at would be kept in memory twice.
+#[inline(never)]
 fn in_order(last: &Option<Address>, key: &Key, part: Part) -> Result<(), ReadFault>
     ensures { MatchResult result
         (λ _. IsTrue (is_after last.now (record { key = key.now; part = part })))
@@ -181,22 +182,22 @@ fn in_order(last: &Option<Address>, key: &Key, part: Part) -> Result<(), ReadFau
     }
 }
 
+// Most entries are of the object of the one before.
+#[tactic(auto, using(crate::proofs::Decoded::same_object_after))]
+#[inline(always)]
 fn is_after(last: &Option<Address>, key: &Key, part: Part) -> bool
     ensures { result ≡ is_after last.now (record { key = key.now; part = part }) }
 {
     match last {
         None => true,
-        Some(last) => match last.key.cmp(key) {
-            Ordering::Less => true,
-            Ordering::Equal => last.part < part,
-            Ordering::Greater => false,
-        },
+        Some(last) if last.key == *key => last.part < part,
+        Some(last) => last.cmp(&Address { key: *key, part }).is_lt(),
     }
 }
 
 // What stands behind the key of an entry of information.
 #[tactic(auto, using(crate::proofs::Decoded::info_read, crate::proofs::Numbers::octets))]
-fn information_at(last: &Option<Address>, key: Key, bytes: &[u8]) -> Result<Fixed, ReadFault>
+fn information_at(last: &Option<Address>, key: Key, bytes: &[u8]) -> Result<EntryHead, ReadFault>
     requires key { IsKey key }
     requires most { length bytes.now ≤ 12 }
     ensures { Parses 12 (RestIs last.now kinds.Info key bytes.now)
@@ -207,7 +208,7 @@ fn information_at(last: &Option<Address>, key: Key, bytes: &[u8]) -> Result<Fixe
         return Err(ReadFault::Cut);
     }
     match info_in(bytes) {
-        Ok(info) => Ok(Fixed::Whole(Fact::Info { key, info })),
+        Ok(info) => Ok(EntryHead::Whole(Fact::Info { key, info })),
         Err(fault) => Err(ReadFault::Information(fault)),
     }
 }
@@ -230,14 +231,14 @@ fn information_conflict_at(
     last: &Option<Address>,
     key: Key,
     bytes: &[u8],
-) -> Result<Fixed, ReadFault>
+) -> Result<EntryHead, ReadFault>
     requires key { IsKey key }
     requires most { length bytes.now ≤ 0 }
     ensures { Parses 0 (RestIs last.now kinds.InfoConflict key bytes.now)
         (rest_fault last.now kinds.InfoConflict key) bytes.now result }
 {
     in_order(last, &key, Part::Info)?;
-    Ok(Fixed::Whole(Fact::InfoConflict { key }))
+    Ok(EntryHead::Whole(Fact::InfoConflict { key }))
 }
 
 // The id and the number of the bytes of a symbol, which stand behind the key of its entry.
@@ -257,7 +258,11 @@ fn symbol_at(last: &Option<Address>, key: &Key, bytes: &[u8]) -> Result<(SymbolI
 }
 
 // What stands behind the key of an entry of a symbol conflict.
-fn symbol_conflict_at(last: &Option<Address>, key: Key, bytes: &[u8]) -> Result<Fixed, ReadFault>
+fn symbol_conflict_at(
+    last: &Option<Address>,
+    key: Key,
+    bytes: &[u8],
+) -> Result<EntryHead, ReadFault>
     requires key { IsKey key }
     requires most { length bytes.now ≤ 4 }
     ensures { Parses 4 (RestIs last.now kinds.SymbolConflict key bytes.now)
@@ -265,7 +270,7 @@ fn symbol_conflict_at(last: &Option<Address>, key: Key, bytes: &[u8]) -> Result<
 {
     let (id, _) = id_at(bytes)?;
     in_order(last, &key, Part::Symbol(id))?;
-    Ok(Fixed::Whole(Fact::SymbolConflict { key, id }))
+    Ok(EntryHead::Whole(Fact::SymbolConflict { key, id }))
 }
 
 // The id at the front of the bytes, and the rest.

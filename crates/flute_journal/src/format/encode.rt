@@ -1,5 +1,5 @@
 //! From facts to their bytes.
-ghost use Rattle.std.specs.Prelude.{◌≡◌, ℕ, ◌+◌, ◌/◌, ◌%◌, ◌<◌, ◌≤◌, ◌^◌, ◌++◌, length};
+ghost use Rattle.std.specs.Prelude.{◌≡◌, ℕ, ◌+◌, ◌/◌, ◌%◌, ◌<◌, ◌≤◌, ◌^◌, ◌++◌, [], length};
 ghost use Rattle.arrayvec.specs.ArrayVec.{array_vec_len};
 ghost use Rattle.flute_parts.specs.Addresses.{fact_of};
 ghost use Rattle.std.specs.List.{AllByRecursion};
@@ -8,7 +8,7 @@ ghost use Rattle.flute_journal.specs.Numbers.{in_bytes};
 ghost use Rattle.flute_journal.specs.Format.{key_bytes, id_bytes, info_bytes, entry, end};
 ghost use Rattle.flute_journal.specs.declared.format.version.Version.TheVariants.{Two};
 ghost use Rattle.flute_journal.specs.Journal.{IsByte, IsKey, IsId, IsInfo, IsFact};
-ghost use Rattle.flute_journal.specs.Writing.{symbol_of};
+ghost use Rattle.flute_journal.specs.Writing.{symbol_value};
 
 use super::END;
 use super::number::length_field;
@@ -16,44 +16,44 @@ use arrayvec::ArrayVec;
 use flute_parts::{FactRef, Info, Key, SymbolId};
 
 /// The front of an entry, up to the bytes of a symbol.
-pub type Head = ArrayVec<u8, 50>;
+pub type HeadBytes = ArrayVec<u8, 50>;
 
-/// The front of an entry.
+/// Puts the front of an entry where nothing is yet.
 #[inline(always)]
-pub fn head_of(fact: &FactRef<'_>) -> Head
+pub fn put_head(head: &mut HeadBytes, fact: &FactRef<'_>)
+    requires empty { head.old.items ≡ [] }
+    requires room { array_vec_len head.old ≡ 0 }
     requires sized { IsSized (fact_of fact.now) }
-    ensures bytes { result.items ++ symbol_of (fact_of fact.now) ≡ entry (fact_of fact.now) }
+    ensures bytes { head.new.items ++ symbol_value (fact_of fact.now) ≡ entry (fact_of fact.now) }
     ensures valid { IsFact (fact_of fact.now) }
 {
-    let mut head = Head::new();
     match fact {
         FactRef::Info { key, info } => {
-            put(&mut head, &[1]);
-            put_key(&mut head, key);
-            put_info(&mut head, info);
+            put(head, &[1]);
+            put_key(head, key);
+            put_info(head, info);
         }
         FactRef::InfoConflict { key } => {
-            put(&mut head, &[2]);
-            put_key(&mut head, key);
+            put(head, &[2]);
+            put_key(head, key);
         }
         FactRef::Symbol { key, id, bytes } => {
-            put(&mut head, &[3]);
-            put_key(&mut head, key);
-            put_id(&mut head, *id);
-            put_length(&mut head, bytes);
+            put(head, &[3]);
+            put_key(head, key);
+            put_id(head, *id);
+            put_length(head, bytes);
         }
         FactRef::SymbolConflict { key, id } => {
-            put(&mut head, &[4]);
-            put_key(&mut head, key);
-            put_id(&mut head, *id);
+            put(head, &[4]);
+            put_key(head, key);
+            put_id(head, *id);
         }
     }
-    head
 }
 
 /// The bytes of the symbol, which end its entry: none of another fact.
-pub fn symbol_of<'a>(fact: &FactRef<'a>) -> &'a [u8]
-    ensures { result.now ≡ symbol_of (fact_of fact.now) }
+pub fn symbol_value<'a>(fact: &FactRef<'a>) -> &'a [u8]
+    ensures { result.now ≡ symbol_value (fact_of fact.now) }
 {
     match *fact {
         FactRef::Symbol { bytes, .. } => bytes,
@@ -72,7 +72,7 @@ pub fn end_of(count: u64) -> ArrayVec<u8, 9>
 }
 
 // Appends bytes for which there is room.
-fn put(head: &mut Head, bytes: &[u8])
+fn put(head: &mut HeadBytes, bytes: &[u8])
     requires { array_vec_len head.old + length bytes.now ≤ 50 }
     ensures items { head.new.items ≡ head.old.items ++ bytes.now }
     ensures len { array_vec_len head.new ≡ array_vec_len head.old + length bytes.now }
@@ -81,7 +81,7 @@ fn put(head: &mut Head, bytes: &[u8])
 }
 
 #[inline(always)]
-fn put_key(head: &mut Head, key: &Key)
+fn put_key(head: &mut HeadBytes, key: &Key)
     requires { array_vec_len head.old ≤ 1 }
     ensures items { head.new.items ≡ head.old.items ++ key_bytes Two key.now }
     ensures len { array_vec_len head.new ≡ array_vec_len head.old + 37 }
@@ -109,7 +109,7 @@ fn halves(number: u128) -> (u64, u64)
     ((number >> 64) as u64, (number % (1 << 64)) as u64)
 }
 
-fn put_id(head: &mut Head, id: SymbolId)
+fn put_id(head: &mut HeadBytes, id: SymbolId)
     requires { array_vec_len head.old ≤ 38 }
     ensures items { head.new.items ≡ head.old.items ++ id_bytes id }
     ensures len { array_vec_len head.new ≡ array_vec_len head.old + 4 }
@@ -119,7 +119,7 @@ fn put_id(head: &mut Head, id: SymbolId)
     put(head, &id.esi.to_be_bytes());
 }
 
-fn put_info(head: &mut Head, info: &Info)
+fn put_info(head: &mut HeadBytes, info: &Info)
     requires { array_vec_len head.old ≤ 38 }
     ensures items { head.new.items ≡ head.old.items ++ info_bytes info.now }
     ensures len { array_vec_len head.new ≡ array_vec_len head.old + 12 }
@@ -131,7 +131,7 @@ fn put_info(head: &mut Head, info: &Info)
 }
 
 // Appends the number of the bytes of a symbol.
-fn put_length(head: &mut Head, bytes: &[u8])
+fn put_length(head: &mut HeadBytes, bytes: &[u8])
     requires room { array_vec_len head.old ≤ 42 }
     requires short { length bytes.now < 2 ^ 16 }
     ensures items { head.new.items ≡ head.old.items ++ in_bytes 2 (length bytes.now) }

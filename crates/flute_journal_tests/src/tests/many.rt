@@ -11,7 +11,7 @@ fn merge_journals<R: Source + Drop, W: Sink>(
     alloc: Global,
     sources: Vec<R>,
     sink: &mut W,
-) -> Result<Result<Joined, StreamsFault>, Fail> {
+) -> Result<Result<MergedJournal, StreamsFault>, Fail> {
     let mut sources = sources;
     let mut streams = Vec::new(alloc);
     for source in &mut sources {

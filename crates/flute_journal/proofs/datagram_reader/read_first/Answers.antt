@@ -1,5 +1,5 @@
 use Rattle.flute_journal.proofs.{Common.{Err, sym, ap, ◌∙◌, subst, err_from_is_err_and, ReadsFileFrom}, FileCalls.{reads_file_header}}
-use Rattle.flute_journal.specs.declared.datagram_reader.FileStage.TheVariants.{Header}
+use Rattle.flute_journal.specs.declared.datagram_reader.FileState.TheVariants.{Header}
 use Rattle.flute_journal.proofs.datagram_reader.read_first.Goals as goal
 
 pub returns-in_err-read_header-clause-reads : goal.returns-in_err-read_header-clause-reads

@@ -1,5 +1,5 @@
 use Rattle.std.proofs.Common.{arith, Ok, Err}
-use Rattle.flute_journal.specs.declared.format.Fixed.TheVariants.{Symbol}
+use Rattle.flute_journal.specs.declared.format.EntryHead.TheVariants.{Symbol}
 use Rattle.flute_journal.specs.declared.format.Kind.TheVariants as kinds
 use Rattle.flute_journal.proofs.{Numbers.{octets}, Decoded.{key_wrong, parsed_at}}
 use Rattle.flute_journal.proofs.format.decode.parse.Goals as goal

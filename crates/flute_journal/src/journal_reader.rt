@@ -1,0 +1,223 @@
+//! Reading a journal, entry by entry.
+ghost use Rattle.std.specs.Prelude.{◌≡◌, ℕ, ◌+◌, ◌<◌, ◌^◌, IfOk, IfSome, Some, None};
+ghost use Rattle.flute_journal.specs.Input.{Fails, FailsIf};
+ghost use Rattle.flute_journal.specs.Readers.{source_of, limit_of, state_of};
+ghost use Rattle.flute_journal.specs.Reading.{Gives, is_open, state_after};
+
+use crate::entry_fields::{read_entry, read_header};
+use crate::fault::ReadFault;
+use crate::format::Version;
+use crate::lent::take_entry;
+use flute_parts::{Address, Fact, Source};
+use std::alloc::Global;
+
+/// Where a reader stands.
+#[derive(Clone, Copy, Debug)]
+pub enum ReaderState {
+    /// Before the header.
+    Header,
+    /// Behind whole entries.
+    Entries {
+        /// The version of the journal.
+        version: Version,
+        /// How many there are.
+        count: u64,
+        /// The address of the last.
+        last: Option<Address>,
+    },
+    /// Behind the end.
+    Ended,
+    /// At a fault, for good.
+    Failed(ReadFault),
+}
+
+/// A journal that is read entry by entry. It never reads past what it has given.
+#[derive(Debug, Drop)]
+pub struct JournalReader<'a, R> {
+    source: &'a mut R,
+    max_entries: u64,
+    state: ReaderState,
+}
+
+impl<'a, R: Source> JournalReader<'a, R> {
+    /// A reader of the journal that the source holds, which may have at most `max_entries` entries.
+    /// It takes no memory, and reads nothing yet.
+    pub fn new(source: &'a mut R, max_entries: u64) -> JournalReader<'a, R>
+        ensures source { (source_of result).ghost_name ≡ source.entry.ghost_name }
+        ensures unread { (source_of result).now ≡ source.old }
+        ensures limit { limit_of result ≡ max_entries }
+        ensures state { state_of result ≡ ReaderState.Header }
+    {
+        JournalReader {
+            source,
+            max_entries,
+            state: ReaderState::Header,
+        }
+    }
+
+    /// The next entry. None once the end was read and nothing follows it, and from then on.
+    ///
+    /// The entry of a symbol, behind the first entry, is looked at in the source's buffer where it
+    /// lies whole there; any other is read field by field. No byte past it is taken. The bytes of a
+    /// symbol are the only memory that is asked for.
+    ///
+    /// # Errors
+    ///
+    /// The first fault of what stands there, in the order of the fields:
+    ///
+    /// - `Magic` and `Version` of the header;
+    /// - `Kind` of the first byte of an entry, and `TooMany` where that is a kind and `max_entries`
+    ///   entries were given;
+    /// - `Key` where the tag or the number of the object is out of range;
+    /// - `Order` where the address is not above that of the entry before;
+    /// - `Information` where transmission information is not valid, `EmptySymbol` where a
+    ///   symbol has no byte;
+    /// - `Count` where the number at the end is not that of the entries given, `Trailing` where
+    ///   a byte follows it;
+    /// - `Cut` where the input ends within a field;
+    /// - `Read` where the source fails in this call, and `OutOfMemory` where there is no
+    ///   memory for a symbol.
+    ///
+    /// The fields that came whole before the source failed are looked at first: `Read` stands
+    /// where the fault would be `Cut` if the input ended there, or where the end was read and the
+    /// source fails behind it.
+    ///
+    /// Each later call answers the same fault, and reads nothing.
+    pub fn next(&mut self, alloc: Global) -> Result<Option<Fact>, ReadFault>
+        ensures source { (source_of self.new).ghost_name ≡ (source_of self.old).ghost_name }
+        ensures limit { limit_of self.new ≡ limit_of self.old }
+        ensures gives { Gives (limit_of self.old) (state_of self.old) (state_of self.new)
+            (R.unread (source_of self.old).now) (R.unread (source_of self.new).now) result }
+        ensures failures { FailsIf (is_open (state_of self.old))
+            (R.failures (source_of self.old).now) (R.failures (source_of self.new).now) result }
+    {
+        self.next_with(alloc, Vec::new(alloc))
+    }
+
+    /// The same, but the bytes of a symbol that is looked at in the source's buffer are put into
+    /// the memory of `spare`: a caller that lets go of each entry before it reads the next hands
+    /// its vector on, and memory is taken only where that is too small, or for a symbol that is
+    /// read field by field.
+    #[inline(always)]
+    pub fn next_with(&mut self, alloc: Global, spare: Vec<u8>) -> Result<Option<Fact>, ReadFault>
+        ensures source { (source_of self.new).ghost_name ≡ (source_of self.old).ghost_name }
+        ensures limit { limit_of self.new ≡ limit_of self.old }
+        ensures gives { Gives (limit_of self.old) (state_of self.old) (state_of self.new)
+            (R.unread (source_of self.old).now) (R.unread (source_of self.new).now) result }
+        ensures failures { FailsIf (is_open (state_of self.old))
+            (R.failures (source_of self.old).now) (R.failures (source_of self.new).now) result }
+    {
+        read_at(alloc, self.source, self.max_entries, &mut self.state, spare)
+    }
+}
+
+// The next entry of a journal whose reader stands there, and where it stands behind it.
+#[tactic(auto, using(crate::proofs::Calls::gives, crate::proofs::Calls::reads_entries))]
+#[inline(always)]
+pub(crate) fn read_at<R: Source>(
+    alloc: Global,
+    source: &mut R,
+    max_entries: u64,
+    state: &mut ReaderState,
+    spare: Vec<u8>,
+) -> Result<Option<Fact>, ReadFault>
+    ensures gives { Gives max_entries state.old state.new
+        (R.unread source.old) (R.unread source.new) result }
+    ensures failures { FailsIf (is_open state.old)
+        (R.failures source.old) (R.failures source.new) result }
+{
+    if let ReaderState::Entries {
+        version,
+        count,
+        last,
+    } = state
+    {
+        if *count < max_entries {
+            match take_entry(source, *version, last, spare) {
+                Ok(Some(fact)) => {
+                    *count += 1;
+                    *last = Some(fact.address());
+                    return Ok(Some(fact));
+                }
+                Ok(None) => {}
+                Err(fault) => {
+                    *state = ReaderState::Failed(fault);
+                    return Err(fault);
+                }
+            }
+        }
+    }
+    read_fields(alloc, source, max_entries, state)
+}
+
+// The same, but what stands there is read field by field.
+#[tactic(auto, using(crate::proofs::Calls::gives, crate::proofs::Calls::reads_entries))]
+#[inline(never)]
+fn read_fields<R: Source>(
+    alloc: Global,
+    source: &mut R,
+    max_entries: u64,
+    state: &mut ReaderState,
+) -> Result<Option<Fact>, ReadFault>
+    ensures gives { Gives max_entries state.old state.new
+        (R.unread source.old) (R.unread source.new) result }
+    ensures failures { FailsIf (is_open state.old)
+        (R.failures source.old) (R.failures source.new) result }
+{
+    match *state {
+        ReaderState::Ended => Ok(None),
+        ReaderState::Failed(fault) => Err(fault),
+        ReaderState::Header => read_first(alloc, source, max_entries, state),
+        ReaderState::Entries {
+            version,
+            count,
+            last,
+        } => {
+            let given = read_entry(alloc, source, max_entries, version, count, last);
+            *state = state_after(version, count, &given);
+            given
+        }
+    }
+}
+
+// Reads the header, and then the first entry or the end, and puts into `state` where the reader
+// stands then.
+#[inline(never)]
+fn read_first<R: Source>(
+    alloc: Global,
+    source: &mut R,
+    max_entries: u64,
+    state: &mut ReaderState,
+) -> Result<Option<Fact>, ReadFault>
+    ensures gives { Gives max_entries ReaderState.Header state.new (R.unread source.old)
+        (R.unread source.new) result }
+    ensures failures { Fails (R.failures source.old) (R.failures source.new) result }
+{
+    match read_header(source) {
+        Ok(version) => {
+            let given = read_entry(alloc, source, max_entries, version, 0, None);
+            *state = state_after(version, 0, &given);
+            given
+        }
+        Err(fault) => {
+            *state = ReaderState::Failed(fault);
+            Err(fault)
+        }
+    }
+}
+
+// Where a reader stands behind what it gave, if so many entries of this version stood before.
+fn state_after(version: Version, count: u64, given: &Result<Option<Fact>, ReadFault>) -> ReaderState
+    requires { IfOk given.now (λ o. IfSome o (λ _. count + 1 < 2 ^ 64)) }
+    ensures { result ≡ state_after version count given.now }
+{
+    match given {
+        Ok(Some(fact)) => ReaderState::Entries {
+            version,
+            count: count + 1,
+            last: Some(fact.address()),
+        },
+        Ok(None) => ReaderState::Ended,
+        Err(fault) => ReaderState::Failed(*fault),
+    }
+}
