@@ -9,7 +9,7 @@ use Rattle.flutejoin.specs.Begins.{Begins}
 use Rattle.flutejoin.specs.JoinInputs.{JoinInput, IsInput, AreInputs}
 use Rattle.flutejoin.specs.Sources.{AreBegun}
 use Rattle.flutejoin.proofs.Firsts.{at_place}
-use Rattle.flutejoin.proofs.Looks.{last_or_before, last_is, one_is}
+use Rattle.flutejoin.proofs.Inspections.{last_or_before, last_is, one_is}
 
 nothing : {X : Type 0} (xs : List X) → length xs ≡ 0 → xs ≡ []
 nothing [] e = refl

@@ -23,11 +23,11 @@ use Rattle.flute_journal.specs.Stores.{BeginsWith, FailsToLoad}
 use Rattle.flute_journal.specs.declared.fault.LoadFault.{LoadFault}
 use Rattle.flute_journal.specs.declared.fault.LoadFault.TheVariants as load
 use Rattle.flute_journal.specs.declared.fault.ReadFault.{ReadFault}
-use Rattle.flute_journal.specs.declared.reader.Stage.{Stage}
+use Rattle.flute_journal.specs.declared.journal_reader.ReaderState.{ReaderState}
 use Rattle.flute_journal.proofs.Loading.{Loaded, loaded-over}
 use Rattle.flute_journal.proofs.Whole.{sofar-next, sofar-stops, side-from}
 use Rattle.flutejoin.specs.Extract.{OfJournal, AnswersFrom, Extracts, FirstWritten, WritesFirst, SinkFails}
-use Rattle.flutejoin.specs.ObjectWriters.{WroteFirst, IsUntouched, TellsUntouched, FailedBy, Stands, PassesAll}
+use Rattle.flutejoin.specs.ObjectWriters.{WroteFirst, WritesNothing, TellsUntouched, FailedBy, Stands, PassesAll}
 use Rattle.flutejoin.specs.Show.{FailsToRead}
 use Rattle.flutejoin.specs.Status.{of_load}
 use Rattle.flutejoin.specs.declared.command_fault.CommandFault.{CommandFault}
@@ -39,19 +39,19 @@ use Rattle.flutejoin.proofs.ObjectWriters.{wrote-some}
 use Rattle.flutejoin.proofs.Shown.{fails_same}
 
 -- these entries were read, counted and passed, and nothing else
-pub record Passing (input left : Option (List ℕ)) (stage : Stage) (tally : Tally 64 4096 1048576) (writer : ObjectWriter) (start now : Option (List ℕ)) : Type 0 where
+pub record Passing (input left : Option (List ℕ)) (state : ReaderState) (tally : Tally 64 4096 1048576) (writer : ObjectWriter) (start now : Option (List ℕ)) : Type 0 where
   pub entries : List Fact
-  pub sofar : Sofar MAX_ENTRIES input left stage entries
+  pub sofar : Sofar MAX_ENTRIES input left state entries
   pub counts : Counts 64 4096 1048576 entries tally
   pub stands : Stands entries writer start now
 
-begins_at : (u v : Option (List ℕ)) (stage : Stage) (es : List Fact) → Sofar MAX_ENTRIES u v stage es → (es ≡ []) ⊎ IfSome u (λ bytes. BeginsWith MAX_ENTRIES bytes es)
-begins_at u v stage [] s = inl refl
-begins_at None v stage (e ∷ es) s = inr tt
-begins_at (Some x) None stage (e ∷ es) s = absurd s.read
-begins_at (Some x) (Some z) stage (e ∷ es) s = inr (record { are_entries = s.are_entries; rest = z; whole = s.read })
+begins_at : (u v : Option (List ℕ)) (state : ReaderState) (es : List Fact) → Sofar MAX_ENTRIES u v state es → (es ≡ []) ⊎ IfSome u (λ bytes. BeginsWith MAX_ENTRIES bytes es)
+begins_at u v state [] s = inl refl
+begins_at None v state (e ∷ es) s = inr tt
+begins_at (Some x) None state (e ∷ es) s = absurd s.read
+begins_at (Some x) (Some z) state (e ∷ es) s = inr (record { are_entries = s.are_entries; rest = z; whole = s.read })
 
-module _ {u v w : Option (List ℕ)} {from to : Stage} {tally : Tally 64 4096 1048576} {writer : ObjectWriter} {s t : Option (List ℕ)} (p : Passing u v from tally writer s t) where
+module _ {u v w : Option (List ℕ)} {from to : ReaderState} {tally : Tally 64 4096 1048576} {writer : ObjectWriter} {s t : Option (List ℕ)} (p : Passing u v from tally writer s t) where
   pub passing-next : (f : Fact) (next : Tally 64 4096 1048576) (new : ObjectWriter) (t' : Option (List ℕ)) → GivesEntry MAX_ENTRIES from to v w f
       → ((F : List Fact) → IsRising (F ++ f ∷ []) → Counts 64 4096 1048576 F tally → Counts 64 4096 1048576 (F ++ f ∷ []) next)
       → ((P : List Fact) → IsRising (P ++ f ∷ []) → Stands P writer s t → Stands (P ++ f ∷ []) new s t') → Passing u w to next new s t'
@@ -102,10 +102,10 @@ module _ {u v w : Option (List ℕ)} {from to : Stage} {tally : Tally 64 4096 10
 
 -- What a reader gave.
 
-pub given-fault : (limit bound : ℕ) (v w : Option (List ℕ)) (old new : Stage) (f : ReadFault) → bound ≡ limit → GivesFault bound old new v w f → GivesFault limit old new v w f
+pub given-fault : (limit bound : ℕ) (v w : Option (List ℕ)) (old new : ReaderState) (f : ReadFault) → bound ≡ limit → GivesFault bound old new v w f → GivesFault limit old new v w f
 given-fault limit bound v w old new f e h = subst (λ n. GivesFault n old new v w f) e h
 
-pub given-end : (bound : ℕ) (v w : Option (List ℕ)) (old new : Stage) (given : Option Fact) → given ≡ None → Gives bound old new v w (Ok given) → GivesEnd old new v w
+pub given-end : (bound : ℕ) (v w : Option (List ℕ)) (old new : ReaderState) (given : Option Fact) → given ≡ None → Gives bound old new v w (Ok given) → GivesEnd old new v w
 given-end bound v w old new given e h = subst (λ (o : Option Fact). Gives bound old new v w (Ok o)) e h
 
 -- What the command answers.
@@ -121,7 +121,7 @@ if_err (Err f) X x = x
 module _ {W : Type 0} (written : W → Option (List ℕ)) (key : Key) (old new : W) where
   -- as with the sink
   pub lifted : (F : List Fact) (what : Found) (r : Result ℕ CommandFault) → Extracts (λ x. x) F key (written old) (written new) r → IfErr r (TellsUntouched what)
-      → (IsUntouched what → new ≡ old) → Extracts written F key old new r
+      → (WritesNothing what → new ≡ old) → Extracts written F key old new r
   lifted F what (Ok n) h t same = record { info = h.info; whole = h.whole; bytes = h.bytes; length_is = h.length_is; exact = h.exact }
   lifted F what (Err NoObject) h t same = (h.0, same t)
   lifted F what (Err NoInformation) h t same = (h.0, same t)
@@ -179,7 +179,7 @@ module _ {W : Type 0} (written : W → Option (List ℕ)) (key : Key) (old new :
   read_none F (Err fault) h k m e = e
 
   pub answers : (input left : Option (List ℕ)) (writer : ObjectWriter) (x : Unit {0}) (r : Result ℕ CommandFault) → PassesAll input left writer (written old) (written new) (Ok x) → writer.key ≡ key
-      → (IsUntouched writer.found → new ≡ old)
+      → (WritesNothing writer.found → new ≡ old)
       → ((P : List Fact) (start now : Option (List ℕ)) → IsRising P → Stands P writer start now → Extracts (λ x. x) P writer.key start now r) → IfErr r (TellsUntouched writer.found)
       → Answers input left r
   answers input left writer x r p is same tells t =
@@ -195,7 +195,7 @@ module _ {W : Type 0} (written : W → Option (List ℕ)) (key : Key) (old new :
       }
 
   pub first_part : (input left : Option (List ℕ)) (writer : ObjectWriter) (r : Result (Unit {0}) LoadFault) → PassesAll input left writer (written old) (written new) r → writer.key ≡ key
-      → (IsUntouched writer.found → new ≡ old) → WritesFirst written input key old new
+      → (WritesNothing writer.found → new ≡ old) → WritesFirst written input key old new
   first_part input left writer r p is same = elim (wrote-some p.entries writer.key writer.failed (written old) (written new) writer.found p.stands) [
     | inl none ↦ inl (same none)
     | inr w ↦ inr (begun p.entries p.rising p.begins (subst (λ k. WroteFirst p.entries k (written old) (written new)) is w))

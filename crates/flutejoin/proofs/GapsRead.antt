@@ -9,8 +9,8 @@ use Rattle.flute_parts.specs.declared.fact.Fact.{Fact}
 use Rattle.flute_parts.specs.declared.tally.Tally.{Tally}
 use Rattle.flute_parts.proofs.Facts.{Same-itself}
 use Rattle.flute_journal.specs.declared.fault.ReadFault.{ReadFault}
-use Rattle.flute_journal.specs.declared.reader.Stage.{Stage}
-use Rattle.flute_journal.specs.declared.reader.Stage.TheVariants.{Header}
+use Rattle.flute_journal.specs.declared.journal_reader.ReaderState.{ReaderState}
+use Rattle.flute_journal.specs.declared.journal_reader.ReaderState.TheVariants.{Header}
 use Rattle.flute_journal.specs.Reading.{GivesEntry, GivesEnd, GivesFault}
 use Rattle.flute_journal.specs.SoFar.{Sofar}
 use Rattle.flute_journal.proofs.Loading.{loaded-over}
@@ -25,22 +25,22 @@ use Rattle.flutejoin.specs.declared.listing.Listing.{Listing}
 use Rattle.flutejoin.proofs.Shown.{whole}
 
 -- these entries were read, counted and listed, and nothing else
-pub record ListsRead (first now : Option (List ℕ)) (stage : Stage) (tally : Tally 64 4096 1048576) (listing : Listing) : Type 0 where
+pub record ListsRead (first now : Option (List ℕ)) (state : ReaderState) (tally : Tally 64 4096 1048576) (listing : Listing) : Type 0 where
   pub entries : List Fact
-  pub sofar : Sofar MAX_ENTRIES first now stage entries
+  pub sofar : Sofar MAX_ENTRIES first now state entries
   pub counts : Counts 64 4096 1048576 entries tally
   pub lists : Lists entries listing
 
-pub none_read : (u v : Option (List ℕ)) (stage : Stage) (tally : Tally 64 4096 1048576) (listing : Listing) → v ≡ u → stage ≡ Header → Counts 64 4096 1048576 [] tally → Lists [] listing
-    → ListsRead u v stage tally listing
-none_read u v stage tally listing e is c l = record {
+pub none_read : (u v : Option (List ℕ)) (state : ReaderState) (tally : Tally 64 4096 1048576) (listing : Listing) → v ≡ u → state ≡ Header → Counts 64 4096 1048576 [] tally → Lists [] listing
+    → ListsRead u v state tally listing
+none_read u v state tally listing e is c l = record {
   entries = [];
-  sofar = subst (λ (x : Option (List ℕ)). Sofar MAX_ENTRIES u x stage []) (sym e) (subst (λ (x : Stage). Sofar MAX_ENTRIES u u x []) (sym is) (sofar-none MAX_ENTRIES u));
+  sofar = subst (λ (x : Option (List ℕ)). Sofar MAX_ENTRIES u x state []) (sym e) (subst (λ (x : ReaderState). Sofar MAX_ENTRIES u u x []) (sym is) (sofar-none MAX_ENTRIES u));
   counts = c;
   lists = l;
 }
 
-module _ (u v w : Option (List ℕ)) (from to : Stage) (tally : Tally 64 4096 1048576) (listing : Listing) (h : ListsRead u v from tally listing) where
+module _ (u v w : Option (List ℕ)) (from to : ReaderState) (tally : Tally 64 4096 1048576) (listing : Listing) (h : ListsRead u v from tally listing) where
   module _ (f : Fact) (g : GivesEntry MAX_ENTRIES from to v w f) where
     pub entry_rises : IsRising (h.entries ++ f ∷ [])
     entry_rises = (sofar-next MAX_ENTRIES u v w from to h.entries f h.sofar g).are_entries.rising

@@ -22,7 +22,7 @@ use Rattle.flute_journal.specs.declared.fact_stream.FactStream.{FactStream}
 use Rattle.flute_journal.specs.declared.fault.LoadFault.{LoadFault}
 use Rattle.flute_journal.specs.declared.fault.LoadFault.TheVariants as load
 use Rattle.flute_journal.specs.declared.journal_stream.JournalStream.{JournalStream}
-use Rattle.flute_journal.specs.declared.merging.Joined.{Joined as Merged}
+use Rattle.flute_journal.specs.declared.all_streams.MergedJournal.{MergedJournal}
 use Rattle.flute_journal.specs.declared.streams_fault.InputFault.{InputFault}
 use Rattle.flute_journal.specs.declared.within.Within.{Within}
 use Rattle.flutejoin.specs.declared.command_fault.CommandFault.TheVariants.{Full}
@@ -73,7 +73,7 @@ module _ {R : Type 0} (unread : R → Option (List ℕ)) (failures : R → ℕ) 
     written_whole false w w' bytes e h = h
     written_whole true w w' bytes e h = absurd cc
 
-    pub adds_facts : (joined : Merged) (w w' : Option (List ℕ)) → limit_of j.stream.reader ≡ MAX_ENTRIES → joined.cut ≡ false → MergedAll both inputs 64 4096 1048576 joined w w'
+    pub adds_facts : (joined : MergedJournal) (w w' : Option (List ℕ)) → limit_of j.stream.reader ≡ MAX_ENTRIES → joined.cut ≡ false → MergedAll both inputs 64 4096 1048576 joined w w'
         → AddsFacts bytes_of (option_list f.next) w w' joined.entries
     adds_facts joined w w' limit whole m =
         let t = two m.told limit m.tell in
@@ -87,7 +87,7 @@ module _ {R : Type 0} (unread : R → Option (List ℕ)) (failures : R → ℕ) 
         } in
         if_some bytes_of P Q (λ bytes is. (t.entries, is, writes)) t.tells
 
-    pub over_with : (joined : Merged) (w w' : Option (List ℕ)) → limit_of j.stream.reader ≡ MAX_ENTRIES → joined.within ≡ false → MergedAll both inputs 64 4096 1048576 joined w w'
+    pub over_with : (joined : MergedJournal) (w w' : Option (List ℕ)) → limit_of j.stream.reader ≡ MAX_ENTRIES → joined.within ≡ false → MergedAll both inputs 64 4096 1048576 joined w w'
         → InfoFails bytes_of (option_list f.next) Full
     over_with joined w w' limit out m =
         let t = two m.told limit m.tell in

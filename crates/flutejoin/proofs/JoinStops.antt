@@ -34,7 +34,7 @@ use Rattle.flute_journal.specs.declared.fault.LoadFault.TheVariants as load
 use Rattle.flute_journal.specs.declared.fault.ReadFault.{ReadFault}
 use Rattle.flute_journal.specs.declared.fault.ReadFault.TheVariants.{Read}
 use Rattle.flute_journal.specs.declared.kind.Kind.TheVariants as kinds
-use Rattle.flute_journal.specs.declared.merging.Joined.{Joined as Merged}
+use Rattle.flute_journal.specs.declared.all_streams.MergedJournal.{MergedJournal}
 use Rattle.flute_journal.specs.declared.or_full.OrFull.{OrFull}
 use Rattle.flute_journal.specs.declared.or_full.OrFull.TheVariants as orfull
 use Rattle.flute_journal.specs.declared.streams_fault.InputFault.{InputFault}
@@ -42,13 +42,13 @@ use Rattle.flutejoin.specs.declared.command_fault.CommandFault.{CommandFault}
 use Rattle.flutejoin.specs.declared.command_fault.CommandFault.TheVariants.{Input, Full, OutOfMemory, CannotWrite}
 use Rattle.flutejoin.specs.declared.held_file.HeldFile.{HeldFile}
 use Rattle.flutejoin.specs.JoinInputs.{JoinInput, failures_of, NoneFailed, OneFailed}
-use Rattle.flutejoin.specs.Joined.{Choice, told_facts, TellsWithin, FirstInput, IsKnown, IsOverAlone, IsJournalAt, IsFileAt, JoinFails, HoldsAll, FileFails}
-use Rattle.flutejoin.specs.Joining.{JoinsTo, AllTell, JoinToFails, of_inputs, of_device, of_sink, NamesOneOf, LookFails, of_kind, of_file, SomeLookFails, IsLooked, AreReady, AreLooked, IsReady, JoinsLooked, IsHeldStream, IsStreamOf, SumsUp}
+use Rattle.flutejoin.specs.Joined.{Choice, content_facts, TellsWithin, FirstInput, HasKnownKind, IsOverAlone, IsJournalAt, IsFileAt, JoinFails, HoldsAll, FileFails}
+use Rattle.flutejoin.specs.Joining.{JoinsTo, AllTell, JoinToFails, of_inputs, of_device, of_sink, NamesOneOf, InspectionFails, of_kind, of_file, SomeInspectionFails, IsInspected, AreReady, AreInspected, IsReady, JoinsInspected, IsHeldStream, IsStreamOf, SumsUp}
 use Rattle.flutejoin.specs.Shelves.{IsOverShelf}
 use Rattle.flutejoin.specs.Status.{of_load}
 use Rattle.flutejoin.proofs.Firsts.{at_place, first_at, first_with}
-use Rattle.flutejoin.proofs.Looks.{last_or_before, last_is, one_is}
-use Rattle.flutejoin.proofs.JoinStreams.{joins, Stands, Looks, place, stands, looks, all_known, tells_one, tells_each, over_same}
+use Rattle.flutejoin.proofs.Inspections.{last_or_before, last_is, one_is}
+use Rattle.flutejoin.proofs.JoinStreams.{joins, Stands, Inspects, place, stands, looks, all_known, tells_one, tells_each, over_same}
 
 -- nothing was appended
 pub nothing_appended : (w : Option (List ℕ)) → AppendsNoJournal w w
@@ -101,7 +101,7 @@ held_stream held rest file s fits within new is few = record {
 }
 
 module _ (choice : Choice) {R : Type 0} (unread : R → Option (List ℕ)) (failures : R → ℕ) {S : Type 0} (b : Behaviour S) where
-  told_before : (xs : List (JoinInput R)) (fs : List (Option HeldFile)) (os : List (Option (OrFull S))) (contents : List (List ℕ)) (n : ℕ) → Stands choice unread failures b xs fs os → Looks choice unread failures b xs fs contents
+  told_before : (xs : List (JoinInput R)) (fs : List (Option HeldFile)) (os : List (Option (OrFull S))) (contents : List (List ℕ)) (n : ℕ) → Stands choice unread failures b xs fs os → Inspects choice unread failures b xs fs contents
       → TellBefore (joins choice unread failures b) n (replaced xs os) → AllByRecursion (TellsWithin choice) (take n contents)
   told_before xs fs os contents zero h l t = tt
   told_before [] [] [] [] (suc n) h l t = tt
@@ -122,59 +122,59 @@ module _ (choice : Choice) {R : Type 0} (unread : R → Option (List ℕ)) (fail
   told_before (x ∷ xs) (Some f ∷ fs) [] contents (suc n) h l t = elim h [ ]
   told_before (x ∷ xs) (Some f ∷ fs) (Some s ∷ os) [] (suc n) h l t = elim l [ ]
 
-  module _ (contents : List (List ℕ)) (n : ℕ) (bytes : List ℕ) (here : slice_get contents n ≡ Some bytes) (known : AllByRecursion IsKnown contents) (all : AllByRecursion IsKnown (take n contents))
+  module _ (contents : List (List ℕ)) (n : ℕ) (bytes : List ℕ) (here : slice_get contents n ≡ Some bytes) (known : AllByRecursion HasKnownKind contents) (all : AllByRecursion HasKnownKind (take n contents))
       (before : AllByRecursion (TellsWithin choice) (take n contents)) where
     over_alone : (IsOverAlone choice) bytes → JoinToFails choice contents Full
     over_alone h = of_inputs (known, inl (n + 1, first_at (TellsWithin choice) (IsOverAlone choice) contents n bytes here before h))
 
-    journal_stops : (x : JoinInput R) (fault : LoadFault) → IsReady unread failures x None → IsLooked unread choice x None bytes → (joins choice unread failures b).stops (First x) fault → JoinToFails choice contents (of_load (n + 1) fault)
-    journal_stops x (load.Read f) ready looked (inl h) =
+    journal_stops : (x : JoinInput R) (fault : LoadFault) → IsReady unread failures x None → IsInspected unread choice x None bytes → (joins choice unread failures b).stops (First x) fault → JoinToFails choice contents (of_load (n + 1) fault)
+    journal_stops x (load.Read f) ready inspected (inl h) =
         let P : Option (List ℕ) → Type 0 = λ o. HasFault x.stream.stream.max_entries o f in
         let Q : ℕ → Type 0 = λ m. HasFault m (Some bytes) f in
         elim (read_or_not f) [
-          | inl is ↦ of_device (n + 1) (ap (Input (n + 1)) is) (first_at IsKnown (λ bs. ⊤) contents n bytes here all tt)
-          | inr other ↦ of_inputs (inr (known, first_at (TellsWithin choice) (IsJournalAt f) contents n bytes here before (looked.0, subst Q (ready refl).2 (subst P looked.1 h), other)))
+          | inl is ↦ of_device (n + 1) (ap (Input (n + 1)) is) (first_at HasKnownKind (λ bs. ⊤) contents n bytes here all tt)
+          | inr other ↦ of_inputs (inr (known, first_at (TellsWithin choice) (IsJournalAt f) contents n bytes here before (inspected.0, subst Q (ready refl).2 (subst P inspected.1 h), other)))
         ]
-    journal_stops x load.Full ready looked (inl h) = absurd h
-    journal_stops x load.OutOfMemory ready looked (inl h) = absurd h
-    journal_stops x (load.Read f) ready looked (inr h) = let e = h.0 in absurd cc
-    journal_stops x load.Full ready looked (inr h) =
+    journal_stops x load.Full ready inspected (inl h) = absurd h
+    journal_stops x load.OutOfMemory ready inspected (inl h) = absurd h
+    journal_stops x (load.Read f) ready inspected (inr h) = let e = h.0 in absurd cc
+    journal_stops x load.Full ready inspected (inr h) =
         let P : Option (List ℕ) → Type 0 = λ o. IfSome o (λ bs. BeginsWith x.stream.stream.max_entries bs h.1.1.0) in
         let Q : ℕ → Type 0 = λ m. BeginsWith m bytes h.1.1.0 in
-        let is : h.1.0 ≡ chosen choice.tsis h.1.1.0 = h.1.1.2 ∙ ap (λ tsis. chosen tsis h.1.1.0) looked.2 in
-        over_alone (inl (looked.0, h.1.1.0, subst Q (ready refl).2 (subst P looked.1 h.1.1.1), subst IsOverShelf is h.1.2))
-    journal_stops x load.OutOfMemory ready looked (inr h) = let e = h.0 in absurd cc
+        let is : h.1.0 ≡ chosen choice.tsis h.1.1.0 = h.1.1.2 ∙ ap (λ tsis. chosen tsis h.1.1.0) inspected.2 in
+        over_alone (inl (inspected.0, h.1.1.0, subst Q (ready refl).2 (subst P inspected.1 h.1.1.1), subst IsOverShelf is h.1.2))
+    journal_stops x load.OutOfMemory ready inspected (inr h) = let e = h.0 in absurd cc
 
-    file_stops : (x : JoinInput R) (file : HeldFile) (s : OrFull S) (fault : LoadFault) → IsStreamOf b (Some file) (Some s) → IsLooked unread choice x (Some file) bytes → (joins choice unread failures b).stops (Second (record { stream = s; beside = x })) fault
+    file_stops : (x : JoinInput R) (file : HeldFile) (s : OrFull S) (fault : LoadFault) → IsStreamOf b (Some file) (Some s) → IsInspected unread choice x (Some file) bytes → (joins choice unread failures b).stops (Second (record { stream = s; beside = x })) fault
         → JoinToFails choice contents (of_load (n + 1) fault)
-    file_stops x file (orfull.Stream s) fault stream looked h = absurd (stream.stops fault h)
-    file_stops x file orfull.Full fault stream looked h =
-        let P : Bool → Type 0 = λ c. HoldsAll choice c file.told looked.0 in
-        subst (λ f. JoinToFails choice contents (of_load (n + 1) f)) (sym h) (over_alone (inr (looked.0, looked.1, subst P stream looked.2.holds)))
+    file_stops x file (orfull.Stream s) fault stream inspected h = absurd (stream.stops fault h)
+    file_stops x file orfull.Full fault stream inspected h =
+        let P : Bool → Type 0 = λ c. HoldsAll choice c file.told inspected.0 in
+        subst (λ f. JoinToFails choice contents (of_load (n + 1) f)) (sym h) (over_alone (inr (inspected.0, inspected.1, subst P stream inspected.2.holds)))
 
-    one_stops : (x : JoinInput R) (f : Option HeldFile) (o : Option (OrFull S)) (s : Either (JoinInput R) (Beside (JoinInput R) (OrFull S))) (fault : LoadFault) → IsReady unread failures x f → IsStreamOf b f o → IsLooked unread choice x f bytes
+    one_stops : (x : JoinInput R) (f : Option HeldFile) (o : Option (OrFull S)) (s : Either (JoinInput R) (Beside (JoinInput R) (OrFull S))) (fault : LoadFault) → IsReady unread failures x f → IsStreamOf b f o → IsInspected unread choice x f bytes
         → replaced (x ∷ []) (o ∷ []) ≡ s ∷ [] → (joins choice unread failures b).stops s fault → JoinToFails choice contents (of_load (n + 1) fault)
-    one_stops x None None s fault ready stream looked e h = let is : First x ≡ s = cc in journal_stops x fault ready looked (subst (λ t. (joins choice unread failures b).stops t fault) (sym is) h)
-    one_stops x (Some file) (Some t) s fault ready stream looked e h =
+    one_stops x None None s fault ready stream inspected e h = let is : First x ≡ s = cc in journal_stops x fault ready inspected (subst (λ t. (joins choice unread failures b).stops t fault) (sym is) h)
+    one_stops x (Some file) (Some t) s fault ready stream inspected e h =
         let is : Second (record { stream = t; beside = x }) ≡ s = cc in
-        file_stops x file t fault stream looked (subst (λ u. (joins choice unread failures b).stops u fault) (sym is) h)
-    one_stops x None (Some t) s fault ready stream looked e h = absurd stream
-    one_stops x (Some file) None s fault ready stream looked e h = absurd stream
+        file_stops x file t fault stream inspected (subst (λ u. (joins choice unread failures b).stops u fault) (sym is) h)
+    one_stops x None (Some t) s fault ready stream inspected e h = absurd stream
+    one_stops x (Some file) None s fault ready stream inspected e h = absurd stream
 
   -- the first fault is told as that of its input
   pub first_fails : (xs : List (JoinInput R)) (fs : List (Option HeldFile)) (os : List (Option (OrFull S))) (contents : List (List ℕ)) (now : List (Either (JoinInput R) (Beside (JoinInput R) (OrFull S)))) (first : InputFault)
-      → Stands choice unread failures b xs fs os → length fs ≡ length xs → AreLooked unread choice xs fs contents → FirstFault (joins choice unread failures b) (replaced xs os) now first → JoinToFails choice contents (of_load (first.number + 1) first.fault)
-  first_fails xs fs os contents now first h many looked fault =
+      → Stands choice unread failures b xs fs os → length fs ≡ length xs → AreInspected unread choice xs fs contents → FirstFault (joins choice unread failures b) (replaced xs os) now first → JoinToFails choice contents (of_load (first.number + 1) first.fault)
+  first_fails xs fs os contents now first h many inspected fault =
       let n = first.number in
       let p = place choice unread failures b xs fs os n fault.stopped.new h fault.stopped.was in
-      let l = looks choice unread failures b xs fs contents many looked in
+      let l = looks choice unread failures b xs fs contents many inspected in
       let known = all_known choice unread failures b xs fs contents l in
       let within = slice_get_within xs n p.input p.own in
-      let here = at_place contents n (omega (arith, within, looked.as_many)) in
+      let here = at_place contents n (omega (arith, within, inspected.as_many)) in
       one_stops contents n here.0 here.1 known (taken_known n contents known) (told_before xs fs os contents n h l fault.before) p.input p.file p.other fault.stopped.new first.fault p.ready p.stream
-      (looked.each n p.input p.file here.0 p.own p.held here.1) p.is fault.stopped.stop.stops
+      (inspected.each n p.input p.file here.0 p.own p.held here.1) p.is fault.stopped.stop.stops
     where
-      taken_known : (n : ℕ) (cs : List (List ℕ)) → AllByRecursion IsKnown cs → AllByRecursion IsKnown (take n cs)
+      taken_known : (n : ℕ) (cs : List (List ℕ)) → AllByRecursion HasKnownKind cs → AllByRecursion HasKnownKind (take n cs)
       taken_known zero cs all = tt
       taken_known (suc n) [] all = tt
       taken_known (suc n) (c ∷ cs) all = (all.0, taken_known n cs all.1)
@@ -290,18 +290,18 @@ module _ (choice : Choice) {R : Type 0} (unread : R → Option (List ℕ)) (fail
   limits_same F G true same h = λ over. h (over_same G F (Same-sym F G same) over)
   limits_same F G false same h = over_same F G same h
 
-  pub joins_looked : (xs : List (JoinInput R)) (fs : List (Option HeldFile)) (os : List (Option (OrFull S))) (contents : List (List ℕ)) (joined : Merged) (w w' : Option (List ℕ)) → Stands choice unread failures b xs fs os → length fs ≡ length xs
-      → AreLooked unread choice xs fs contents → MergedAll (joins choice unread failures b) (replaced xs os) 64 4096 1048576 joined w w' → JoinsLooked choice contents fs joined w w'
-  joins_looked xs fs os contents joined w w' h many looked m =
-      let t = tells_each choice unread failures b xs fs os contents m.told h (looks choice unread failures b xs fs contents many looked) m.tell in
+  pub joins_inspected : (xs : List (JoinInput R)) (fs : List (Option HeldFile)) (os : List (Option (OrFull S))) (contents : List (List ℕ)) (joined : MergedJournal) (w w' : Option (List ℕ)) → Stands choice unread failures b xs fs os → length fs ≡ length xs
+      → AreInspected unread choice xs fs contents → MergedAll (joins choice unread failures b) (replaced xs os) 64 4096 1048576 joined w w' → JoinsInspected choice contents fs joined w w'
+  joins_inspected xs fs os contents joined w w' h many inspected m =
+      let t = tells_each choice unread failures b xs fs os contents m.told h (looks choice unread failures b xs fs contents many inspected) m.tell in
       record {
         told = t.told;
         tell = t.tell;
         alone = t.alone;
         entries = m.entries;
-        collects = record { valid = m.collects.valid; rising = m.collects.rising; same = Same-trans (flat_map (told_facts choice) t.told) (all_of m.told) m.entries (Same-sym (all_of m.told) (flat_map (told_facts choice) t.told) t.same) m.collects.same };
+        collects = record { valid = m.collects.valid; rising = m.collects.rising; same = Same-trans (flat_map (content_facts choice) t.told) (all_of m.told) m.entries (Same-sym (all_of m.told) (flat_map (content_facts choice) t.told) t.same) m.collects.same };
         count = m.count;
-        limits = limits_same (all_of m.told) (flat_map (told_facts choice) t.told) joined.within t.same m.limits;
+        limits = limits_same (all_of m.told) (flat_map (content_facts choice) t.told) joined.within t.same m.limits;
         written = m.written;
         datagrams = t.datagrams;
         refused = t.refused;
@@ -320,27 +320,27 @@ no_sink n load.OutOfMemory e = cc
 
 -- What the whole join comes to.
 
-file_not_held : {choice : Choice} (P : List ℕ → Type 0) (inputs : List (List ℕ)) (number : ℕ) (first : FirstInput IsKnown P number inputs) (fault : CommandFault) → HasKind kinds.Datagrams first.bytes → FileFails number (Some first.bytes) fault
+file_not_held : {choice : Choice} (P : List ℕ → Type 0) (inputs : List (List ℕ)) (number : ℕ) (first : FirstInput HasKnownKind P number inputs) (fault : CommandFault) → HasKind kinds.Datagrams first.bytes → FileFails number (Some first.bytes) fault
     → JoinToFails choice inputs fault
 file_not_held {choice} P inputs number first (Input told f) kind h =
     elim (read_or_not f) [
-      | inl is ↦ of_device number (ap (λ m. Input m f) h.0 ∙ ap (Input number) is) (first_with IsKnown P (λ bytes. ⊤) number inputs first tt)
+      | inl is ↦ of_device number (ap (λ m. Input m f) h.0 ∙ ap (Input number) is) (first_with HasKnownKind P (λ bytes. ⊤) number inputs first tt)
       | inr other ↦
           let Q : CommandFault → Type 0 = λ g. JoinFails choice inputs g in
-          of_inputs (subst Q (sym (ap (λ m. Input m f) h.0)) (inl (first_with IsKnown P (IsFileAt f) number inputs first (kind, h.1, other))))
+          of_inputs (subst Q (sym (ap (λ m. Input m f) h.0)) (inl (first_with HasKnownKind P (IsFileAt f) number inputs first (kind, h.1, other))))
     ]
 file_not_held {choice} P inputs number first OutOfMemory kind h = of_inputs tt
 file_not_held {choice} P inputs number first fault kind h = absurd h
 
-pub not_looked : {choice : Choice} (inputs : List (List ℕ)) (fault : CommandFault) → SomeLookFails inputs fault → JoinToFails choice inputs fault
-not_looked {choice} inputs fault (inr memory) = let P : CommandFault → Type 0 = λ g. JoinToFails choice inputs g in subst P (sym memory) (of_inputs tt)
-not_looked {choice} inputs fault (inl h) = go h.1.here
+pub not_inspected : {choice : Choice} (inputs : List (List ℕ)) (fault : CommandFault) → SomeInspectionFails inputs fault → JoinToFails choice inputs fault
+not_inspected {choice} inputs fault (inr memory) = let P : CommandFault → Type 0 = λ g. JoinToFails choice inputs g in subst P (sym memory) (of_inputs tt)
+not_inspected {choice} inputs fault (inl h) = go h.1.here
   where
-    go : LookFails h.0 h.1.bytes fault → JoinToFails choice inputs fault
+    go : InspectionFails h.0 h.1.bytes fault → JoinToFails choice inputs fault
     go (of_kind is neither) =
         let P : CommandFault → Type 0 = λ g. JoinToFails choice inputs g in
-        subst P (sym is) (of_inputs (first_with IsKnown (λ bytes. LookFails h.0 bytes fault) (λ bytes. Rattle.flute_journal.specs.Kinds.IsNeither bytes) h.0 inputs h.1 neither))
-    go (of_file kind fails) = file_not_held (λ bytes. LookFails h.0 bytes fault) inputs h.0 h.1 fault kind fails
+        subst P (sym is) (of_inputs (first_with HasKnownKind (λ bytes. InspectionFails h.0 bytes fault) (λ bytes. Rattle.flute_journal.specs.Kinds.IsNeither bytes) h.0 inputs h.1 neither))
+    go (of_file kind fails) = file_not_held (λ bytes. InspectionFails h.0 bytes fault) inputs h.0 h.1 fault kind fails
 
 others_too : (F entries : List Fact) (w w' : Option (List ℕ)) → Collects F entries → Appends w w' (spelling entries) → (others : List Fact) → SameMembers F others → (bytes : List ℕ) → Journal bytes others → Appends w w' bytes
 others_too F entries w w' c a others m bytes j =
@@ -348,12 +348,12 @@ others_too F entries w w' c a others m bytes j =
     let one : j.0 ≡ entries = rising_unique j.0 entries j.1.rising c.rising same in
     subst (Appends w w') (sym (j.3 ∙ ap spelling one)) a
 
-pub joins_to : {choice : Choice} (inputs : List (List ℕ)) (fs : List (Option HeldFile)) (joined : Merged) (datagrams refused others : ℕ) (w w' : Option (List ℕ)) → JoinsLooked choice inputs fs joined w w' → joined.within ≡ true → joined.cut ≡ false
+pub joins_to : {choice : Choice} (inputs : List (List ℕ)) (fs : List (Option HeldFile)) (joined : MergedJournal) (datagrams refused others : ℕ) (w w' : Option (List ℕ)) → JoinsInspected choice inputs fs joined w w' → joined.within ≡ true → joined.cut ≡ false
     → datagrams ≡ Rattle.std.specs.Prelude.sum_by Rattle.flutejoin.specs.Joining.datagrams_of fs → refused ≡ Rattle.std.specs.Prelude.sum_by Rattle.flutejoin.specs.Joining.refused_of fs
     → JoinsTo choice inputs (record { datagrams = datagrams; refused = refused; others = others; entries = joined.entries }) w w'
 joins_to {choice} inputs fs joined datagrams refused others w w' h within whole d r =
     let P : Bool → Type 0 = λ c. Written c w w' (spelling h.entries) in
-    let Q : Bool → Type 0 = λ c. IsWithinLimits 64 4096 1048576 (flat_map (told_facts choice) h.told) c in
+    let Q : Bool → Type 0 = λ c. IsWithinLimits 64 4096 1048576 (flat_map (content_facts choice) h.told) c in
     let appended = subst P whole h.written in
     record {
       told = h.told;
@@ -365,24 +365,24 @@ joins_to {choice} inputs fs joined datagrams refused others w w' h within whole 
       datagrams = d ∙ h.datagrams;
       refused = r ∙ h.refused;
       appended = appended;
-      as_others = others_too (flat_map (told_facts choice) h.told) h.entries w w' h.collects appended;
+      as_others = others_too (flat_map (content_facts choice) h.told) h.entries w w' h.collects appended;
     }
 
-all_known_of : {choice : Choice} (inputs : List (List ℕ)) (fs : List (Option HeldFile)) (joined : Merged) (w w' : Option (List ℕ)) → JoinsLooked choice inputs fs joined w w' → joined.within ≡ true → AllTell choice inputs
+all_known_of : {choice : Choice} (inputs : List (List ℕ)) (fs : List (Option HeldFile)) (joined : MergedJournal) (w w' : Option (List ℕ)) → JoinsInspected choice inputs fs joined w w' → joined.within ≡ true → AllTell choice inputs
 all_known_of {choice} inputs fs joined w w' h within =
-    let Q : Bool → Type 0 = λ c. IsWithinLimits 64 4096 1048576 (flat_map (told_facts choice) h.told) c in
+    let Q : Bool → Type 0 = λ c. IsWithinLimits 64 4096 1048576 (flat_map (content_facts choice) h.told) c in
     record { told = h.told; tell = h.tell; alone = h.alone; together = subst Q within h.limits }
 
-pub not_written : {choice : Choice} (inputs : List (List ℕ)) (fs : List (Option HeldFile)) (joined : Merged) (w w' : Option (List ℕ)) → JoinsLooked choice inputs fs joined w w' → joined.within ≡ true → JoinToFails choice inputs CannotWrite
+pub not_written : {choice : Choice} (inputs : List (List ℕ)) (fs : List (Option HeldFile)) (joined : MergedJournal) (w w' : Option (List ℕ)) → JoinsInspected choice inputs fs joined w w' → joined.within ≡ true → JoinToFails choice inputs CannotWrite
 not_written {choice} inputs fs joined w w' h within = of_sink refl (all_known_of inputs fs joined w w' h within)
 
-pub over_together : {choice : Choice} (inputs : List (List ℕ)) (fs : List (Option HeldFile)) (joined : Merged) (w w' : Option (List ℕ)) → AllByRecursion IsKnown inputs → JoinsLooked choice inputs fs joined w w' → joined.within ≡ false → JoinToFails choice inputs Full
+pub over_together : {choice : Choice} (inputs : List (List ℕ)) (fs : List (Option HeldFile)) (joined : MergedJournal) (w w' : Option (List ℕ)) → AllByRecursion HasKnownKind inputs → JoinsInspected choice inputs fs joined w w' → joined.within ≡ false → JoinToFails choice inputs Full
 over_together {choice} inputs fs joined w w' known h over =
-    let Q : Bool → Type 0 = λ c. IsWithinLimits 64 4096 1048576 (flat_map (told_facts choice) h.told) c in
+    let Q : Bool → Type 0 = λ c. IsWithinLimits 64 4096 1048576 (flat_map (content_facts choice) h.told) c in
     of_inputs (known, inr (h.alone, (h.told, h.tell, subst Q over h.limits)))
 
--- inputs that were looked at are known
-pub known_of : {choice : Choice} {R : Type 0} (unread : R → Option (List ℕ)) (failures : R → ℕ) (xs : List (JoinInput R)) (fs : List (Option HeldFile)) (inputs : List (List ℕ)) → length fs ≡ length xs → AreLooked unread choice xs fs inputs → AllByRecursion IsKnown inputs
+-- inputs that were inspected are known
+pub known_of : {choice : Choice} {R : Type 0} (unread : R → Option (List ℕ)) (failures : R → ℕ) (xs : List (JoinInput R)) (fs : List (Option HeldFile)) (inputs : List (List ℕ)) → length fs ≡ length xs → AreInspected unread choice xs fs inputs → AllByRecursion HasKnownKind inputs
 known_of {choice} {R} unread failures xs fs inputs many h =
     all_known choice unread failures (listed_behaviour {S = List Fact} (λ s. None) (λ s. s) (λ _. Unit {0})) xs fs inputs (looks choice unread failures (listed_behaviour {S = List Fact} (λ s. None) (λ s. s) (λ _. Unit {0})) xs fs inputs many h)
 

@@ -23,11 +23,11 @@ use Rattle.flute_journal.specs.declared.or_full.OrFull.TheVariants as orfull
 use Rattle.flute_journal.specs.OrFulls.{or_full_behaviour}
 use Rattle.flutejoin.specs.declared.held_file.HeldFile.{HeldFile}
 use Rattle.flutejoin.specs.JoinInputs.{JoinInput, input_behaviour}
-use Rattle.flutejoin.specs.Joined.{Choice, facts_by, Told, of_journal, of_file, told_facts, told_datagrams, TellAll, TellsWithin, IsKnown, HoldsAll, HoldsDatagrams}
-use Rattle.flutejoin.specs.Joining.{datagrams_of, refused_of, IsLooked, AreLooked, IsReady, IsHeldStream, IsFileStream, IsStreamOf, joined_behaviour}
+use Rattle.flutejoin.specs.Joined.{Choice, facts_by, InputContent, of_journal, of_file, content_facts, content_datagrams, TellAll, TellsWithin, HasKnownKind, HoldsAll, HoldsDatagrams}
+use Rattle.flutejoin.specs.Joining.{datagrams_of, refused_of, IsInspected, AreInspected, IsReady, IsHeldStream, IsFileStream, IsStreamOf, joined_behaviour}
 use Rattle.flutejoin.specs.Refused.{is_refused}
 use Rattle.flutejoin.specs.Shelves.{IsOverShelf}
-use Rattle.flutejoin.proofs.Looks.{is_known}
+use Rattle.flutejoin.proofs.Inspections.{is_known}
 
 pub over_same : (F G : List Fact) → Same F G → IsOverShelf F → IsOverShelf G
 over_same F G same over = Over-below F G 64 4096 1048576 (Below-from_Same F G same) over
@@ -44,7 +44,7 @@ module _ (choice : Choice) {R : Type 0} (unread : R → Option (List ℕ)) (fail
   Stands (x ∷ xs) (f ∷ fs) (o ∷ os) = (IsReady unread failures x f × IsStreamOf b f o) × Stands xs fs os
   Stands _ _ _ = ⊥
 
-  -- each input was looked at, and a stream of its file stands beside it
+  -- each input was inspected, and a stream of its file stands beside it
   pub stands : (xs : List (JoinInput R)) (fs : List (Option HeldFile)) (os : List (Option (OrFull S))) → length fs ≡ length xs → length os ≡ length fs
       → ((k : ℕ) (x : JoinInput R) (f : Option HeldFile) → slice_get xs k ≡ Some x → slice_get fs k ≡ Some f → IsReady unread failures x f)
       → ((k : ℕ) (f : Option HeldFile) (o : Option (OrFull S)) → slice_get fs k ≡ Some f → slice_get os k ≡ Some o → IsStreamOf b f o) → Stands xs fs os
@@ -97,12 +97,12 @@ module _ (choice : Choice) {R : Type 0} (unread : R → Option (List ℕ)) (fail
 
   -- What they tell.
 
-  abbrev pub Looks : List (JoinInput R) → List (Option HeldFile) → List (List ℕ) → Type 0
-  Looks [] [] [] = Unit {0}
-  Looks (x ∷ xs) (f ∷ fs) (bytes ∷ contents) = IsLooked unread choice x f bytes × Looks xs fs contents
-  Looks _ _ _ = ⊥
+  abbrev pub Inspects : List (JoinInput R) → List (Option HeldFile) → List (List ℕ) → Type 0
+  Inspects [] [] [] = Unit {0}
+  Inspects (x ∷ xs) (f ∷ fs) (bytes ∷ contents) = IsInspected unread choice x f bytes × Inspects xs fs contents
+  Inspects _ _ _ = ⊥
 
-  pub looks : (xs : List (JoinInput R)) (fs : List (Option HeldFile)) (contents : List (List ℕ)) → length fs ≡ length xs → AreLooked unread choice xs fs contents → Looks xs fs contents
+  pub looks : (xs : List (JoinInput R)) (fs : List (Option HeldFile)) (contents : List (List ℕ)) → length fs ≡ length xs → AreInspected unread choice xs fs contents → Inspects xs fs contents
   looks [] [] [] e h = tt
   looks [] [] (bytes ∷ contents) e h = absurd (omega (arith, h.as_many))
   looks [] (f ∷ fs) contents e h = absurd (omega (arith, e))
@@ -113,7 +113,7 @@ module _ (choice : Choice) {R : Type 0} (unread : R → Option (List ℕ)) (fail
     looks xs fs contents (omega (arith, e)) (record { as_many = omega (arith, h.as_many); each = λ k. h.each (suc k) }),
   )
 
-  pub all_known : (xs : List (JoinInput R)) (fs : List (Option HeldFile)) (contents : List (List ℕ)) → Looks xs fs contents → AllByRecursion IsKnown contents
+  pub all_known : (xs : List (JoinInput R)) (fs : List (Option HeldFile)) (contents : List (List ℕ)) → Inspects xs fs contents → AllByRecursion HasKnownKind contents
   all_known [] [] [] h = tt
   all_known (x ∷ xs) (f ∷ fs) (bytes ∷ contents) h = (is_known choice unread x f bytes h.0, all_known xs fs contents h.1)
   all_known [] [] (bytes ∷ contents) h = elim h [ ]
@@ -123,66 +123,66 @@ module _ (choice : Choice) {R : Type 0} (unread : R → Option (List ℕ)) (fail
 
   -- what one input tells
   pub record TellsOne (f : Option HeldFile) (bytes : List ℕ) (F : List Fact) : Type 0 where
-    pub told : Told
+    pub told : InputContent
     pub tells : Rattle.flutejoin.specs.Joined.Tells bytes told
-    pub within : ¬ IsOverShelf (told_facts choice told)
-    pub same : Same F (told_facts choice told)
-    pub datagrams : datagrams_of f ≡ length (told_datagrams told)
-    pub refused : refused_of f ≡ count_by is_refused (told_datagrams told)
+    pub within : ¬ IsOverShelf (content_facts choice told)
+    pub same : Same F (content_facts choice told)
+    pub datagrams : datagrams_of f ≡ length (content_datagrams told)
+    pub refused : refused_of f ≡ count_by is_refused (content_datagrams told)
 
-  tells_journal : (x : JoinInput R) (bytes : List ℕ) (F : List Fact) → IsReady unread failures x None → IsLooked unread choice x None bytes → (input_behaviour unread failures).tells x F → TellsOne None bytes F
-  tells_journal x bytes F ready looked h =
+  tells_journal : (x : JoinInput R) (bytes : List ℕ) (F : List Fact) → IsReady unread failures x None → IsInspected unread choice x None bytes → (input_behaviour unread failures).tells x F → TellsOne None bytes F
+  tells_journal x bytes F ready inspected h =
       let all = h.0.0 in
       let P : Option (List ℕ) → Type 0 = λ o. IfSome o (λ bs. IsJournalWithin x.stream.stream.max_entries bs all) in
       let Q : ℕ → Type 0 = λ n. IsJournalWithin n bytes all in
-      let is : F ≡ chosen choice.tsis all = h.0.2 ∙ ap (λ tsis. chosen tsis all) looked.2 in
+      let is : F ≡ chosen choice.tsis all = h.0.2 ∙ ap (λ tsis. chosen tsis all) inspected.2 in
       record {
         told = of_journal all;
-        tells = subst Q (ready refl).2 (subst P looked.1 h.0.1);
+        tells = subst Q (ready refl).2 (subst P inspected.1 h.0.1);
         within = subst (λ l. ¬ IsOverShelf l) is h.1;
         same = subst (Same F) is (Same-itself F);
         datagrams = refl;
         refused = refl;
       }
 
-  tells_file : (file : HeldFile) (s : S) (bytes : List ℕ) (F : List Fact) (x : JoinInput R) → IsHeldStream b file s → IsLooked unread choice x (Some file) bytes → b.tells s F → TellsOne (Some file) bytes F
-  tells_file file s bytes F x held looked h =
-      let P : Bool → Type 0 = λ c. HoldsAll choice c file.told looked.0 in
-      let all = subst P held.fits looked.2.holds in
-      let same : Same file.told.store (flat_map (facts_by choice) looked.0) = all.content in
+  tells_file : (file : HeldFile) (s : S) (bytes : List ℕ) (F : List Fact) (x : JoinInput R) → IsHeldStream b file s → IsInspected unread choice x (Some file) bytes → b.tells s F → TellsOne (Some file) bytes F
+  tells_file file s bytes F x held inspected h =
+      let P : Bool → Type 0 = λ c. HoldsAll choice c file.told inspected.0 in
+      let all = subst P held.fits inspected.2.holds in
+      let same : Same file.told.store (flat_map (facts_by choice) inspected.0) = all.content in
       record {
-        told = of_file looked.0;
-        tells = looked.1;
-        within = λ over. held.within (over_same (flat_map (facts_by choice) looked.0) file.told.store (Same-sym file.told.store (flat_map (facts_by choice) looked.0) same) over);
-        same = subst (λ G. Same G (flat_map (facts_by choice) looked.0)) (sym (held.tells F h)) same;
+        told = of_file inspected.0;
+        tells = inspected.1;
+        within = λ over. held.within (over_same (flat_map (facts_by choice) inspected.0) file.told.store (Same-sym file.told.store (flat_map (facts_by choice) inspected.0) same) over);
+        same = subst (λ G. Same G (flat_map (facts_by choice) inspected.0)) (sym (held.tells F h)) same;
         datagrams = omega (arith, all.count);
         refused = omega (arith, all.refused);
       }
 
-  tells_second : (file : HeldFile) (s : OrFull S) (bytes : List ℕ) (F : List Fact) (x : JoinInput R) → IsFileStream b file s → IsLooked unread choice x (Some file) bytes
+  tells_second : (file : HeldFile) (s : OrFull S) (bytes : List ℕ) (F : List Fact) (x : JoinInput R) → IsFileStream b file s → IsInspected unread choice x (Some file) bytes
       → joins.tells (Second (record { stream = s; beside = x })) F → TellsOne (Some file) bytes F
-  tells_second file (orfull.Stream s) bytes F x held looked h = tells_file file s bytes F x held looked h
-  tells_second file orfull.Full bytes F x held looked h = absurd h
+  tells_second file (orfull.Stream s) bytes F x held inspected h = tells_file file s bytes F x held inspected h
+  tells_second file orfull.Full bytes F x held inspected h = absurd h
 
   pub tells_one : (x : JoinInput R) (f : Option HeldFile) (o : Option (OrFull S)) (bytes : List ℕ) (s : Either (JoinInput R) (Beside (JoinInput R) (OrFull S))) (F : List Fact) → replaced (x ∷ []) (o ∷ []) ≡ s ∷ []
-      → IsReady unread failures x f → IsStreamOf b f o → IsLooked unread choice x f bytes → joins.tells s F → TellsOne f bytes F
-  tells_one x None None bytes s F e ready stream looked h =
+      → IsReady unread failures x f → IsStreamOf b f o → IsInspected unread choice x f bytes → joins.tells s F → TellsOne f bytes F
+  tells_one x None None bytes s F e ready stream inspected h =
       let is : First x ≡ s = cc in
-      tells_journal x bytes F ready looked (subst (λ t. joins.tells t F) (sym is) h)
-  tells_one x None (Some t) bytes s F e ready stream looked h = absurd stream
-  tells_one x (Some f) None bytes s F e ready stream looked h = absurd stream
-  tells_one x (Some f) (Some t) bytes s F e ready stream looked h =
+      tells_journal x bytes F ready inspected (subst (λ t. joins.tells t F) (sym is) h)
+  tells_one x None (Some t) bytes s F e ready stream inspected h = absurd stream
+  tells_one x (Some f) None bytes s F e ready stream inspected h = absurd stream
+  tells_one x (Some f) (Some t) bytes s F e ready stream inspected h =
       let is : Second (record { stream = t; beside = x }) ≡ s = cc in
-      tells_second f t bytes F x stream looked (subst (λ u. joins.tells u F) (sym is) h)
+      tells_second f t bytes F x stream inspected (subst (λ u. joins.tells u F) (sym is) h)
 
   -- what all tell
   pub record TellsEach (fs : List (Option HeldFile)) (contents : List (List ℕ)) (given : List (List Fact)) : Type 0 where
-    pub told : List Told
+    pub told : List InputContent
     pub tell : TellAll contents told
     pub alone : AllByRecursion (TellsWithin choice) contents
-    pub same : Same (all_of given) (flat_map (told_facts choice) told)
-    pub datagrams : sum_by datagrams_of fs ≡ length (flat_map told_datagrams told)
-    pub refused : sum_by refused_of fs ≡ count_by is_refused (flat_map told_datagrams told)
+    pub same : Same (all_of given) (flat_map (content_facts choice) told)
+    pub datagrams : sum_by datagrams_of fs ≡ length (flat_map content_datagrams told)
+    pub refused : sum_by refused_of fs ≡ count_by is_refused (flat_map content_datagrams told)
 
   sum_more : (g : Option HeldFile → ℕ) (f : Option HeldFile) (fs : List (Option HeldFile)) {m n : ℕ} → g f ≡ m → sum_by g fs ≡ n → sum_by g (f ∷ fs) ≡ m + n
   sum_more g f fs e h =
@@ -196,16 +196,16 @@ module _ (choice : Choice) {R : Type 0} (unread : R → Option (List ℕ)) (fail
     told = one.told ∷ all.told;
     tell = (one.tells, all.tell);
     alone = ((one.told, one.tells, one.within), all.alone);
-    same = Same-append F (told_facts choice one.told) (all_of given) (flat_map (told_facts choice) all.told) one.same all.same;
-    datagrams = sum_more datagrams_of f fs one.datagrams all.datagrams ∙ sym (length-append (told_datagrams one.told) (flat_map told_datagrams all.told));
-    refused = sum_more refused_of f fs one.refused all.refused ∙ sym (count_by-append is_refused (told_datagrams one.told) (flat_map told_datagrams all.told));
+    same = Same-append F (content_facts choice one.told) (all_of given) (flat_map (content_facts choice) all.told) one.same all.same;
+    datagrams = sum_more datagrams_of f fs one.datagrams all.datagrams ∙ sym (length-append (content_datagrams one.told) (flat_map content_datagrams all.told));
+    refused = sum_more refused_of f fs one.refused all.refused ∙ sym (count_by-append is_refused (content_datagrams one.told) (flat_map content_datagrams all.told));
   }
 
   none_told : TellsEach [] [] []
   unfolding TellAll
   none_told = record { told = []; tell = tt; alone = tt; same = Same-itself []; datagrams = refl; refused = refl }
 
-  pub tells_each : (xs : List (JoinInput R)) (fs : List (Option HeldFile)) (os : List (Option (OrFull S))) (contents : List (List ℕ)) (given : List (List Fact)) → Stands xs fs os → Looks xs fs contents
+  pub tells_each : (xs : List (JoinInput R)) (fs : List (Option HeldFile)) (os : List (Option (OrFull S))) (contents : List (List ℕ)) (given : List (List Fact)) → Stands xs fs os → Inspects xs fs contents
       → Each joins.tells (replaced xs os) given → TellsEach fs contents given
   tells_each [] [] [] [] [] h l t = none_told
   tells_each (x ∷ xs) (None ∷ fs) (None ∷ os) (bytes ∷ contents) (F ∷ given) h l t =

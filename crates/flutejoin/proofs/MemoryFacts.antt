@@ -11,7 +11,7 @@ use Rattle.flute_journal.specs.declared.fault.ReadFault.TheVariants.{Read}
 use Rattle.flutejoin.specs.declared.command_fault.CommandFault.{CommandFault}
 use Rattle.flutejoin.specs.declared.command_fault.CommandFault.TheVariants.{Input, UnknownKind, Full, OutOfMemory}
 use Rattle.flutejoin.specs.declared.join_counts.JoinCounts.{JoinCounts}
-use Rattle.flutejoin.specs.Joined.{Choice, Joins, JoinFails, told_facts}
+use Rattle.flutejoin.specs.Joined.{Choice, Joins, JoinFails, content_facts}
 use Rattle.flutejoin.specs.Joining.{JoinsTo, JoinToFails, of_inputs, of_device, of_sink}
 use Rattle.flutejoin.specs.Memory.{in_memory}
 
@@ -37,7 +37,7 @@ module _ {choice : Choice} where
   joins_of inputs counts bytes store few one is_one h journal = record {
     told = h.told;
     tell = h.tell;
-    content = one bytes store (flat_map (told_facts choice) h.told) (is_one bytes counts.entries store few journal) (written_journal bytes (flat_map (told_facts choice) h.told) (h.entries, h.collects, omega (arith, few, h.count), h.appended));
+    content = one bytes store (flat_map (content_facts choice) h.told) (is_one bytes counts.entries store few journal) (written_journal bytes (flat_map (content_facts choice) h.told) (h.entries, h.collects, omega (arith, few, h.count), h.appended));
     datagrams = h.datagrams;
     refused = h.refused;
   }

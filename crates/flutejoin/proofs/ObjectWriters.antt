@@ -24,13 +24,13 @@ use Rattle.flute_store.proofs.ObjectLength.{object-length}
 use Rattle.flute_store.specs.declared.gap.Gap.{Gap}
 use Rattle.flute_store.specs.declared.turn.Turn.{Turn}
 use Rattle.flute_store.specs.declared.turn.Turn.TheVariants as turns
-use Rattle.flute_store.specs.Scan.{Scanned, Turned, told, value_of, IsFirstPart, Follows, CanCome, told_next, PassedNext, PartOf, GaveAll, at_begin}
+use Rattle.flute_store.specs.Scan.{Scanned, Turned, next_fact, value_of, IsFirstPart, Follows, CanCome, coming_fact, PassedNext, PartOf, GaveAll, at_begin}
 use Rattle.flute_store.specs.Scans.{Scans}
 use Rattle.flute_journal.specs.JournalWriters.{Written, PutsBytes}
 use Rattle.flute_journal.proofs.Each.{all_more}
 use Rattle.flute_journal.proofs.WrittenSoFar.{written-more}
 use Rattle.flutejoin.specs.Extract.{HoldsFirst}
-use Rattle.flutejoin.specs.ObjectWriters.{Settled, IsOther, WroteFirst, Scanning, Finds, EndsScan, IsUntouched}
+use Rattle.flutejoin.specs.ObjectWriters.{Settled, IsOther, WroteFirst, Scanning, HasFound, EndsScan, WritesNothing}
 use Rattle.flutejoin.specs.declared.object_writer.WholeSoFar.{WholeSoFar}
 use Rattle.flutejoin.specs.declared.object_writer.Found.{Found}
 use Rattle.flutejoin.specs.declared.object_writer.Found.TheVariants as found
@@ -50,13 +50,13 @@ wrote-more P f key start now w = record {
   appended = w.appended;
 }
 
-pub told-at : (key : Key) (id : SymbolId) (value : Option (Bor (List ℕ))) → address (told key (id, value)) ≡ symbol_address key id
+pub told-at : (key : Key) (id : SymbolId) (value : Option (Bor (List ℕ))) → address (next_fact key (id, value)) ≡ symbol_address key id
 told-at key id (Some bytes) = refl
 told-at key id None = refl
 
 -- a fact of another object passes
 pub other-passes : (P : List Fact) (f : Fact) (key : Key) (failed : Bool) (start now : Option (List ℕ)) (what : Found) → IsOther key f
-    → Finds P key failed start now what → Finds (P ++ f ∷ []) key failed start now what
+    → HasFound P key failed start now what → HasFound (P ++ f ∷ []) key failed start now what
 other-passes P f key failed start now found.Nothing o h = (all_more (IsOther key) P f h.0 o, h.1)
 other-passes P f key failed start now found.Symbols o h = (settled-more P f _ h.0, h.1)
 other-passes P f key failed start now found.Conflict o h = (settled-more P f _ h.0, h.1)
@@ -133,44 +133,44 @@ module _ {P : List Fact} {key : Key} {failed : Bool} {start now : Option (List �
           let Q : Option (List ℕ) → Type 0 = λ o. IfSome o (λ bytes. (F before rest : List Fact) → F ≡ before ++ (h.scanned.facts ++ rest) → IsRising F → IsFirstPart F h.scanned.key h.scanned.info bytes) in
           subst Q e q
 
-  module _ (n : SymbolId × Option (Bor (List ℕ))) (rises : IsRising (P ++ told key n ∷ [])) where
-    told_key : (address (told key n)).key ≡ key
+  module _ (n : SymbolId × Option (Bor (List ℕ))) (rises : IsRising (P ++ next_fact key n ∷ [])) where
+    told_key : (address (next_fact key n)).key ≡ key
     told_key = ap (λ (a : Address). a.key) (told-at key n.0 n.1)
 
     none_between : h.after ≡ []
-    none_between = nothing-after (told key n) told_key rises
+    none_between = nothing-after (next_fact key n) told_key rises
 
-    told_same : told h.scanned.key n ≡ told key n
-    told_same = ap (λ k. told k n) h.of_key
+    told_same : next_fact h.scanned.key n ≡ next_fact key n
+    told_same = ap (λ k. next_fact k n) h.of_key
 
-    pub next-rises : IsRising (h.scanned.facts ++ told h.scanned.key n ∷ [])
+    pub next-rises : IsRising (h.scanned.facts ++ next_fact h.scanned.key n ∷ [])
     next-rises =
-        let r : IsRising (h.before ++ (h.scanned.facts ++ told key n ∷ [])) = subst IsRising (sym (append-nil (P ++ told key n ∷ [])) ∙ all_before (told key n) none_between []) rises in
-        subst (λ f. IsRising (h.scanned.facts ++ f ∷ [])) (sym told_same) (rising-back h.before (h.scanned.facts ++ told key n ∷ []) r)
+        let r : IsRising (h.before ++ (h.scanned.facts ++ next_fact key n ∷ [])) = subst IsRising (sym (append-nil (P ++ next_fact key n ∷ [])) ∙ all_before (next_fact key n) none_between []) rises in
+        subst (λ f. IsRising (h.scanned.facts ++ f ∷ [])) (sym told_same) (rising-back h.before (h.scanned.facts ++ next_fact key n ∷ []) r)
 
     -- what is known of all that follows
     pub settled-next : (first : SymbolId) → IfSome h.scanned.bytes (λ bytes. (F : List Fact) → Follows h.scanned (Some n) F → IsNotWhole F h.scanned.key first)
-        → Settled (P ++ told key n ∷ []) (λ F. IsNotWhole F key first)
+        → Settled (P ++ next_fact key n ∷ []) (λ F. IsNotWhole F key first)
     settled-next first k = λ F rest e r.
         let Q : Option (List ℕ) → Type 0 = λ o. IfSome o (λ bytes. (F : List Fact) → Follows h.scanned (Some n) F → IsNotWhole F h.scanned.key first) in
         subst (λ k. IsNotWhole F k first) h.of_key (subst Q h.values k F (record {
           before = h.before;
-          rest = told key n ∷ rest;
-          all = e ∙ all_before (told key n) none_between rest;
+          rest = next_fact key n ∷ rest;
+          all = e ∙ all_before (next_fact key n) none_between rest;
           rising = r;
           come = (rest, ap (λ f. f ∷ rest) (sym told_same));
         }))
 
-    pub wrote-next : WroteFirst (P ++ told key n ∷ []) key start now
-    wrote-next = wrote-more P (told key n) key start now wrote-first
+    pub wrote-next : WroteFirst (P ++ next_fact key n ∷ []) key start now
+    wrote-next = wrote-more P (next_fact key n) key start now wrote-first
 
     pub can-come : CanCome h.scanned (Some n)
-    can-come = subst (λ o. IfSome o (λ coming. coming ≡ told_next h.scanned.key (Some n))) (sym h.free) tt
+    can-come = subst (λ o. IfSome o (λ coming. coming ≡ coming_fact h.scanned.key (Some n))) (sym h.free) tt
 
     -- the symbol was passed
     pub passed-next : (failed' : Bool) (now' : Option (List ℕ)) (new : WholeSoFar) (t : Scanned) (more : List ℕ) → PassedNext h.scanned n (Some (h.bytes ++ more)) t → Scans new.scan t → PartOf t
         → new.size ≡ part.size → new.left ≡ part.left - length more → PutsBytes failed failed' now now' (take part.left more)
-        → Scanning (P ++ told key n ∷ []) key failed' start now' new
+        → Scanning (P ++ next_fact key n ∷ []) key failed' start now' new
     passed-next failed' now' new t more p scans first size left puts = record {
       scanned = t;
       scans = scans;
@@ -178,14 +178,14 @@ module _ {P : List Fact} {key : Key} {failed : Bool} {start now : Option (List �
       part = first;
       of_key = ap (λ (s : Scanned). s.key) p.now ∙ h.of_key;
       valid = subst (λ (s : Scanned). IsValid s.info) (sym p.now) h.valid;
-      symbols = h.symbols ++ told h.scanned.key n ∷ [];
-      begins = ap (λ (s : Scanned). s.facts) p.now ∙ ap (λ l. l ++ told h.scanned.key n ∷ []) h.begins ∙ ap (λ (s : Scanned). Info key s.info ∷ (h.symbols ++ told h.scanned.key n ∷ [])) (sym p.now);
+      symbols = h.symbols ++ next_fact h.scanned.key n ∷ [];
+      begins = ap (λ (s : Scanned). s.facts) p.now ∙ ap (λ l. l ++ next_fact h.scanned.key n ∷ []) h.begins ∙ ap (λ (s : Scanned). Info key s.info ∷ (h.symbols ++ next_fact h.scanned.key n ∷ [])) (sym p.now);
       before = h.before;
       after = [];
       all =
-          sym (append-nil (P ++ told key n ∷ [])) ∙ all_before (told key n) none_between []
+          sym (append-nil (P ++ next_fact key n ∷ [])) ∙ all_before (next_fact key n) none_between []
           ∙ ap (λ l. h.before ++ l)
-          (ap (λ f. h.scanned.facts ++ f ∷ []) (sym told_same) ∙ sym (append-nil (h.scanned.facts ++ told h.scanned.key n ∷ [])) ∙ ap (λ (s : Scanned). s.facts ++ []) (sym p.now));
+          (ap (λ f. h.scanned.facts ++ f ∷ []) (sym told_same) ∙ sym (append-nil (h.scanned.facts ++ next_fact h.scanned.key n ∷ [])) ∙ ap (λ (s : Scanned). s.facts ++ []) (sym p.now));
       others = tt;
       bytes = h.bytes ++ more;
       values = ap (λ (s : Scanned). s.bytes) p.now;
@@ -205,7 +205,7 @@ module _ {P : List Fact} {key : Key} {failed : Bool} {start now : Option (List �
 
     -- or nothing was
     pub idle-next : (new : WholeSoFar) (t : Scanned) → PassedNext h.scanned n h.scanned.bytes t → Scans new.scan t → PartOf t → new.size ≡ part.size → new.left ≡ part.left
-        → Scanning (P ++ told key n ∷ []) key failed start now new
+        → Scanning (P ++ next_fact key n ∷ []) key failed start now new
     idle-next new t p scans first size left =
         passed-next failed now new t [] (subst (λ o. PassedNext h.scanned n o t) (h.values ∙ ap Some (sym (append-nil h.bytes))) p) scans first size (omega (arith, left))
         (subst (PutsBytes failed failed now now) (sym (take-nil part.left)) (puts-nothing failed))
@@ -215,7 +215,7 @@ module _ {P : List Fact} {key : Key} {failed : Bool} {start now : Option (List �
         puts-nothing true = Appends-nil now
 
     pub idle-fits : (new : WholeSoFar) (t : Scanned) → value_of n ≡ [] → PassedNext h.scanned n (option_map (λ bytes. bytes ++ value_of n) h.scanned.bytes) t → Scans new.scan t → PartOf t
-        → new.size ≡ part.size → new.left ≡ part.left → Scanning (P ++ told key n ∷ []) key failed start now new
+        → new.size ≡ part.size → new.left ≡ part.left → Scanning (P ++ next_fact key n ∷ []) key failed start now new
     idle-fits new t e p scans first size left =
         idle-next new t (subst (λ o. PassedNext h.scanned n o t) (ap Some (append-nil h.bytes) ∙ sym h.values) (fits-next t [] p e)) scans first size left
 
@@ -233,7 +233,7 @@ module _ {P : List Fact} {key : Key} {failed : Bool} {start now : Option (List �
       none_left e o = subst (λ k. AllByRecursion (IsOther k) h.after) (sym e) o
 
   pub none-can-come : CanCome h.scanned None
-  none-can-come = subst (λ o. IfSome o (λ coming. coming ≡ told_next h.scanned.key None)) (sym h.free) tt
+  none-can-come = subst (λ o. IfSome o (λ coming. coming ≡ coming_fact h.scanned.key None)) (sym h.free) tt
 
   pub ended-gap : (first : SymbolId) → IsRising P → IfSome h.scanned.bytes (λ bytes. (F : List Fact) → Follows h.scanned None F → IsNotWhole F h.scanned.key first) → IsNotWhole P key first
   ended-gap first r k =
@@ -285,7 +285,7 @@ scan-begins P key info start part scans valid size left = record {
 
 -- information is told of it once
 pub information-passes : (P : List Fact) (f : Fact) (key : Key) (failed : Bool) (start now : Option (List ℕ)) (what : Found) → (what ≡ found.Nothing → ⊥) → address f ≡ info_address key
-    → IsRising (P ++ f ∷ []) → Finds P key failed start now what → Finds (P ++ f ∷ []) key failed start now what
+    → IsRising (P ++ f ∷ []) → HasFound P key failed start now what → HasFound (P ++ f ∷ []) key failed start now what
 information-passes P f key failed start now found.Nothing some at r h = absurd (some refl)
 information-passes P f key failed start now found.Symbols some at r h = (settled-more P f _ h.0, h.1)
 information-passes P f key failed start now found.Conflict some at r h = (settled-more P f _ h.0, h.1)
@@ -294,7 +294,7 @@ information-passes P f key failed start now (found.Whole object) some at r h = a
 
 -- a symbol passes where nothing more is to be known
 pub symbol-passes : (P : List Fact) (f : Fact) (key : Key) (failed : Bool) (start now : Option (List ℕ)) (what : Found) → (what ≡ found.Nothing → ⊥) → ((part : WholeSoFar) → what ≡ found.Whole part → ⊥)
-    → Finds P key failed start now what → Finds (P ++ f ∷ []) key failed start now what
+    → HasFound P key failed start now what → HasFound (P ++ f ∷ []) key failed start now what
 symbol-passes P f key failed start now found.Nothing some part h = absurd (some refl)
 symbol-passes P f key failed start now found.Symbols some part h = (settled-more P f _ h.0, h.1)
 symbol-passes P f key failed start now found.Conflict some part h = (settled-more P f _ h.0, h.1)
@@ -302,7 +302,7 @@ symbol-passes P f key failed start now (found.NotWhole first) some part h = (set
 symbol-passes P f key failed start now (found.Whole object) some part h = absurd (part object refl)
 
 -- what was written, whatever was found
-pub wrote-some : (P : List Fact) (key : Key) (failed : Bool) (start now : Option (List ℕ)) (what : Found) → Finds P key failed start now what → IsUntouched what ⊎ WroteFirst P key start now
+pub wrote-some : (P : List Fact) (key : Key) (failed : Bool) (start now : Option (List ℕ)) (what : Found) → HasFound P key failed start now what → WritesNothing what ⊎ WroteFirst P key start now
 wrote-some P key failed start now found.Nothing h = inl tt
 wrote-some P key failed start now found.Symbols h = inl tt
 wrote-some P key failed start now found.Conflict h = inl tt

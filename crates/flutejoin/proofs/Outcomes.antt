@@ -18,7 +18,7 @@ use Rattle.flutejoin.specs.declared.steps.StepFault.TheVariants.{NoReplica, Full
 use Rattle.flutejoin.specs.declared.limits.TheConstants.{MAX_ENTRIES}
 use Rattle.flutejoin.specs.Faults.{fault_of_join}
 use Rattle.flutejoin.specs.Held.{Held, Capacity, IsOver}
-use Rattle.flutejoin.specs.Steps.{held_by, given_to, held_after, NamesReplicas, target_of, LoadsJournal, FitsStep, EachSame, EachBelow}
+use Rattle.flutejoin.specs.Steps.{held_by, given_to, held_after_step, NamesReplicas, target_of, LoadsJournal, FitsStep, EachSame, EachBelow}
 use Rattle.flutejoin.specs.Refused.{is_refused, is_refused_take, one_more}
 use Rattle.flutejoin.specs.Outcome.{WritesWithin, IsDone, IsRefused, HasCause, IsHarmless}
 use Rattle.flutejoin.proofs.Receptions.{IsOver-below}
@@ -69,7 +69,7 @@ others_at before now i old content h r ne = rw h.contents (get_or-set_other befo
 -- a step that gave its replica what it gives
 pub given_done : (limit : Capacity) (before : Held) (step : Step) (now : Held) (old content : List Fact) → IsChangedAt before now (target_of step) old content
     → (target_of step < length before.contents → NamesReplicas (length before.contents) step) → LoadsJournal MAX_ENTRIES step → WritesWithin before.contents step → ((r : ℕ) → is_refused_take r step ≡ false)
-    → ((origin : List Fact) → FitsStep step origin → (more : List Fact) × (held_after before.contents step origin ≡ given_to before.contents (target_of step) more) × Same content (old ++ more))
+    → ((origin : List Fact) → FitsStep step origin → (more : List Fact) × (held_after_step before.contents step origin ≡ given_to before.contents (target_of step) more) × Same content (old ++ more))
     → (IsOver content limit → ⊥) → IsDone limit before step now
 given_done limit before step now old content h named journal readable accepted gives within =
     record {
@@ -88,7 +88,7 @@ given_done limit before step now old content h named journal readable accepted g
     }
 
 -- no step takes anything away
-pub held_after-above : (held : List (List Fact)) (step : Step) (origin : List Fact) → EachBelow held (held_after held step origin)
+pub held_after-above : (held : List (List Fact)) (step : Step) (origin : List Fact) → EachBelow held (held_after_step held step origin)
 held_after-above held (Take replica sender datagram) origin = given_to-above held replica (facts sender datagram)
 held_after-above held (Load replica journal) origin = given_to-above held replica origin
 held_after-above held (Add replica fact) origin = given_to-above held replica (fact ∷ [])
@@ -125,7 +125,7 @@ memory_refused limit before step now old content h same =
 
 -- a step that was refused for a limit, and left its replica as it was
 pub full_refused : (limit : Capacity) (before : Held) (step : Step) (now : Held) (old content : List Fact) → IsChangedAt before now (target_of step) old content → content ≡ old
-    → ((origin : List Fact) → FitsStep step origin → (more : List Fact) × (held_after before.contents step origin ≡ given_to before.contents (target_of step) more) × IsOver (old ++ more) limit)
+    → ((origin : List Fact) → FitsStep step origin → (more : List Fact) × (held_after_step before.contents step origin ≡ given_to before.contents (target_of step) more) × IsOver (old ++ more) limit)
     → IsRefused limit before step now Full
 full_refused limit before step now old content h same gives =
     unchanged_refused limit before step now Full (unchanged_at before now (target_of step) old content h same)
@@ -148,7 +148,7 @@ pub between_refused : (limit : Capacity) (before : Held) (step : Step) (now : He
     → (IsHarmless step fault → ⊥)
     → ((origin : List Fact) → FitsStep step origin → HasCause limit before.contents step origin fault)
     → Below old content
-    → ((origin : List Fact) → FitsStep step origin → (more : List Fact) × (held_after before.contents step origin ≡ given_to before.contents (target_of step) more) × Below content (old ++ more))
+    → ((origin : List Fact) → FitsStep step origin → (more : List Fact) × (held_after_step before.contents step origin ≡ given_to before.contents (target_of step) more) × Below content (old ++ more))
     → IsRefused limit before step now fault
 between_refused limit before step now old content fault h harmful cause kept gives =
     let held = before.contents in
@@ -256,7 +256,7 @@ merged_refused store refused xs i j x y z w limit fault within_i within_j apart 
 
 -- a step that gives nothing new, and changed nothing
 pub nothing_new : (limit : Capacity) (before : Held) (step : Step) → NamesReplicas (length before.contents) step → LoadsJournal MAX_ENTRIES step → WritesWithin before.contents step → ((r : ℕ) → is_refused_take r step ≡ false)
-    → ((origin : List Fact) → FitsStep step origin → EachSame (held_after before.contents step origin) before.contents) → (IsOver (held_by before.contents (target_of step)) limit → ⊥) → IsDone limit before step before
+    → ((origin : List Fact) → FitsStep step origin → EachSame (held_after_step before.contents step origin) before.contents) → (IsOver (held_by before.contents (target_of step)) limit → ⊥) → IsDone limit before step before
 nothing_new limit before step named journal readable accepted same inside =
     record {
       named = named;

@@ -9,7 +9,7 @@ use Rattle.flute_parts.specs.declared.symbol_id.SymbolId.{SymbolId}
 use Rattle.flute_parts.specs.declared.fact.Fact.{Fact}
 use Rattle.flute_store.specs.declared.gap.Gap.{Gap}
 use Rattle.flute_store.specs.declared.turn.Turn.{Turn}
-use Rattle.flute_store.specs.Scan.{Scanned, told, told_next, CanFollow, CanCome, Turned, GaveGap}
+use Rattle.flute_store.specs.Scan.{Scanned, next_fact, coming_fact, CanFollow, CanCome, Turned, GaveGap}
 use Rattle.flute_store.specs.Scans.{ScanState, Scans}
 use Rattle.flutejoin.specs.Lines.{gap_line}
 use Rattle.flutejoin.specs.Listing.{Passes}
@@ -27,14 +27,14 @@ pub record Gave (s : Scanned) (next : Option (SymbolId × Option (Bor (List ℕ)
   pub lines_are : lines ≡ flat_map gap_line t.given
 
 comes_first : (s : Scanned) (next : Next) → s.coming ≡ None → CanCome s next
-comes_first s next e = subst (λ (x : Option (Option Fact)). IfSome x (λ coming. coming ≡ told_next s.key next)) (sym e) tt
+comes_first s next e = subst (λ (x : Option (Option Fact)). IfSome x (λ coming. coming ≡ coming_fact s.key next)) (sym e) tt
 
 pub gave_none : (s : Scanned) (next : Next) (scan : ScanState) (lines : List ℕ) → Scans scan s → s.coming ≡ None → lines ≡ flat_map gap_line s.given → Gave s next scan lines
 gave_none s next scan lines h e l = record { t = s; scans = h; same_key = refl; same_facts = refl; comes = comes_first s next e; lines_are = l }
 
 passes_same : (s t : Scanned) (next : Next) → t.key ≡ s.key → t.facts ≡ s.facts → CanFollow s next → CanFollow t next
 passes_same s t None k f r = tt
-passes_same s t (Some n) k f r = subst (λ x. IsRising (t.facts ++ told x n ∷ [])) (sym k) (subst (λ x. IsRising (x ++ told s.key n ∷ [])) (sym f) r)
+passes_same s t (Some n) k f r = subst (λ x. IsRising (t.facts ++ next_fact x n ∷ [])) (sym k) (subst (λ x. IsRising (x ++ next_fact s.key n ∷ [])) (sym f) r)
 
 pub can_pass : (s : Scanned) (next : Next) (scan : ScanState) (lines : List ℕ) (h : Gave s next scan lines) → CanFollow s next → CanFollow h.t next
 can_pass s next scan lines h r = passes_same s h.t next h.same_key h.same_facts r
@@ -50,14 +50,14 @@ gave_more s next scan scan' lines lines' gap h n e =
       same_key = ap (λ (x : Scanned). x.key) now ∙ h.same_key;
       same_facts = ap (λ (x : Scanned). x.facts) now ∙ h.same_facts;
       comes =
-          subst (λ (x : Option (Option Fact)). IfSome x (λ coming. coming ≡ told_next u.key next)) (sym (ap (λ (x : Scanned). x.coming) now))
-          (ap (λ k. told_next k next) (sym (ap (λ (x : Scanned). x.key) now)));
+          subst (λ (x : Option (Option Fact)). IfSome x (λ coming. coming ≡ coming_fact u.key next)) (sym (ap (λ (x : Scanned). x.coming) now))
+          (ap (λ k. coming_fact k next) (sym (ap (λ (x : Scanned). x.key) now)));
       lines_are = e ∙ ap (λ l. l ++ gap_line gap) h.lines_are ∙ flat_map_more gap_line [] h.t.given gap ∙ ap (flat_map gap_line) (sym (ap (λ (x : Scanned). x.given) now));
     }
 
 -- the symbol was passed
-passed_next : (s t u : Scanned) (n : SymbolId × Option (Bor (List ℕ))) → t.key ≡ s.key → t.facts ≡ s.facts → u.key ≡ t.key → u.facts ≡ t.facts ++ told t.key n ∷ [] → u.coming ≡ None → Passes s (Some n) u
-passed_next s t u n k f p q c = (p ∙ k, q ∙ ap (λ x. x ++ told t.key n ∷ []) f ∙ ap (λ x. s.facts ++ told x n ∷ []) k, c)
+passed_next : (s t u : Scanned) (n : SymbolId × Option (Bor (List ℕ))) → t.key ≡ s.key → t.facts ≡ s.facts → u.key ≡ t.key → u.facts ≡ t.facts ++ next_fact t.key n ∷ [] → u.coming ≡ None → Passes s (Some n) u
+passed_next s t u n k f p q c = (p ∙ k, q ∙ ap (λ x. x ++ next_fact t.key n ∷ []) f ∙ ap (λ x. s.facts ++ next_fact x n ∷ []) k, c)
 
 -- it was no gap
 passed : (s t u : Scanned) (next : Next) (turn : Turn) → t.key ≡ s.key → t.facts ≡ s.facts → Turned t next turn u → ((gap : Gap) → turn ≡ Turn.Gap gap → ⊥) → Passes s next u × (u.given ≡ t.given)

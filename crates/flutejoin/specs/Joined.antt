@@ -5,7 +5,7 @@ use Rattle.flute_parts.specs.Facts.{Same}
 use Rattle.flute_parts.specs.declared.fact.Fact.{Fact}
 use Rattle.flute_wire.specs.Reading.{facts}
 use Rattle.flute_journal.specs.Journal.{IsJournalWithin}
-use Rattle.flute_journal.specs.Sessions.{listed, chosen}
+use Rattle.flute_journal.specs.Sessions.{listed_tsis, chosen}
 use Rattle.flute_journal.specs.declared.sessions.Sessions.{Sessions}
 use Rattle.flute_journal.specs.Stores.{BeginsWith}
 use Rattle.flute_journal.specs.Records.{IsFileWithin, HasFileFault}
@@ -23,9 +23,9 @@ use Rattle.flutejoin.specs.declared.command_fault.CommandFault.{CommandFault}
 use Rattle.flutejoin.specs.declared.command_fault.CommandFault.TheVariants.{UnknownKind, Input, Full, OutOfMemory}
 
 -- what an input tells: the facts of a journal, or the datagrams of a file
-pub data Told : Type 0 where
-  of_journal : (entries : List Fact) → Told
-  of_file : (datagrams : List (List ℕ)) → Told
+pub data InputContent : Type 0 where
+  of_journal : (entries : List Fact) → InputContent
+  of_file : (datagrams : List (List ℕ)) → InputContent
 
 -- what of the inputs is joined: the sender that datagrams have, and the identifiers of the sessions that are taken, all if none is listed
 pub record Choice : Type 0 where
@@ -34,7 +34,7 @@ pub record Choice : Type 0 where
 
 -- this sender and these sessions
 abbrev pub choice_of : ℕ → Sessions → Choice
-choice_of sender sessions = record { sender = sender; tsis = listed sessions }
+choice_of sender sessions = record { sender = sender; tsis = listed_tsis sessions }
 
 -- all sessions
 abbrev pub everything : ℕ → Choice
@@ -45,32 +45,32 @@ abbrev pub facts_by : Choice → List ℕ → List Fact
 facts_by choice datagram = chosen choice.tsis (facts choice.sender datagram)
 
 -- those of an input
-abbrev pub told_facts : Choice → Told → List Fact
-told_facts choice (of_journal entries) = chosen choice.tsis entries
-told_facts choice (of_file datagrams) = flat_map (facts_by choice) datagrams
+abbrev pub content_facts : Choice → InputContent → List Fact
+content_facts choice (of_journal entries) = chosen choice.tsis entries
+content_facts choice (of_file datagrams) = flat_map (facts_by choice) datagrams
 
-abbrev pub told_datagrams : Told → List (List ℕ)
-told_datagrams (of_journal entries) = []
-told_datagrams (of_file datagrams) = datagrams
+abbrev pub content_datagrams : InputContent → List (List ℕ)
+content_datagrams (of_journal entries) = []
+content_datagrams (of_file datagrams) = datagrams
 
 -- the input is the journal of these facts, or the file of these datagrams
-abbrev pub Tells : List ℕ → Told → Type 0
+abbrev pub Tells : List ℕ → InputContent → Type 0
 Tells bytes (of_journal entries) = IsJournalWithin MAX_ENTRIES bytes entries
 Tells bytes (of_file datagrams) = IsFileWithin MAX_ENTRIES bytes datagrams
 
 -- each input tells what stands at its place
-unfoldable pub TellAll : List (List ℕ) → List Told → Type 0
+unfoldable pub TellAll : List (List ℕ) → List InputContent → Type 0
 TellAll [] [] = Unit {0}
 TellAll (bytes ∷ inputs) (one ∷ told) = Tells bytes one × TellAll inputs told
 TellAll _ _ = ⊥
 
 -- what the inputs come to: the facts of all, and how many datagrams they have, and refused ones
 pub record Joins (choice : Choice) (inputs : List (List ℕ)) (joined : Joined) : Type 0 where
-  pub told : List Told
+  pub told : List InputContent
   pub tell : TellAll inputs told
-  pub content : Same joined.store (flat_map (told_facts choice) told)
-  pub datagrams : joined.datagrams ≡ length (flat_map told_datagrams told)
-  pub refused : joined.refused ≡ count_by is_refused (flat_map told_datagrams told)
+  pub content : Same joined.store (flat_map (content_facts choice) told)
+  pub datagrams : joined.datagrams ≡ length (flat_map content_datagrams told)
+  pub refused : joined.refused ≡ count_by is_refused (flat_map content_datagrams told)
 
 -- the input with this number, from 1, has P, and all before it have Q
 pub record FirstInput (Q P : List ℕ → Type 0) (number : ℕ) (inputs : List (List ℕ)) : Type 0 where
@@ -83,12 +83,12 @@ pub record FirstInput (Q P : List ℕ → Type 0) (number : ℕ) (inputs : List 
   pub here : P bytes
 
 -- a journal by its first bytes, or a datagram file
-abbrev pub IsKnown : List ℕ → Type 0
-IsKnown bytes = HasKind Journal bytes ⊎ ((datagrams : List (List ℕ)) × IsFileWithin MAX_ENTRIES bytes datagrams)
+abbrev pub HasKnownKind : List ℕ → Type 0
+HasKnownKind bytes = HasKind Journal bytes ⊎ ((datagrams : List (List ℕ)) × IsFileWithin MAX_ENTRIES bytes datagrams)
 
 -- an input that tells facts within the limits of a store
 abbrev pub TellsWithin : Choice → List ℕ → Type 0
-TellsWithin choice bytes = (told : Told) × Tells bytes told × ¬ IsOverShelf (told_facts choice told)
+TellsWithin choice bytes = (told : InputContent) × Tells bytes told × ¬ IsOverShelf (content_facts choice told)
 
 -- an input that is over these limits alone
 abbrev pub IsOverAlone : Choice → List ℕ → Type 0
@@ -98,7 +98,7 @@ IsOverAlone choice bytes =
 
 -- inputs that are over them together
 abbrev pub TellOver : Choice → List (List ℕ) → Type 0
-TellOver choice inputs = (told : List Told) × TellAll inputs told × IsOverShelf (flat_map (told_facts choice) told)
+TellOver choice inputs = (told : List InputContent) × TellAll inputs told × IsOverShelf (flat_map (content_facts choice) told)
 
 -- a journal, or a datagram file, with this fault; memory may run out at any entry or record
 abbrev pub IsJournalAt : ReadFault → List ℕ → Type 0
@@ -110,9 +110,9 @@ IsFileAt fault bytes = HasKind Datagrams bytes × HasFileFault MAX_ENTRIES (Some
 -- why inputs were not joined: the first that is of no known kind, or a datagram file at fault; else the first that is a journal at fault, or
 -- over the limits alone; else all are over them together
 abbrev pub JoinFails : Choice → List (List ℕ) → CommandFault → Type 0
-JoinFails choice inputs (UnknownKind number) = FirstInput IsKnown IsNeither number inputs
-JoinFails choice inputs (Input number fault) = FirstInput IsKnown (IsFileAt fault) number inputs ⊎ (AllByRecursion IsKnown inputs × FirstInput (TellsWithin choice) (IsJournalAt fault) number inputs)
-JoinFails choice inputs Full = AllByRecursion IsKnown inputs × (((number : ℕ) × FirstInput (TellsWithin choice) (IsOverAlone choice) number inputs) ⊎ (AllByRecursion (TellsWithin choice) inputs × TellOver choice inputs))
+JoinFails choice inputs (UnknownKind number) = FirstInput HasKnownKind IsNeither number inputs
+JoinFails choice inputs (Input number fault) = FirstInput HasKnownKind (IsFileAt fault) number inputs ⊎ (AllByRecursion HasKnownKind inputs × FirstInput (TellsWithin choice) (IsJournalAt fault) number inputs)
+JoinFails choice inputs Full = AllByRecursion HasKnownKind inputs × (((number : ℕ) × FirstInput (TellsWithin choice) (IsOverAlone choice) number inputs) ⊎ (AllByRecursion (TellsWithin choice) inputs × TellOver choice inputs))
 JoinFails choice inputs OutOfMemory = ⊤
 JoinFails choice inputs _ = ⊥
 

@@ -9,7 +9,7 @@ use Rattle.flute_journal.specs.Journal.{Journal, Collects}
 use Rattle.flute_journal.specs.JournalWriters.{Written}
 use Rattle.flute_journal.specs.Kinds.{HasKind, IsNeither}
 use Rattle.flute_journal.specs.Records.{IsFileWithin}
-use Rattle.flute_journal.specs.Sessions.{listed}
+use Rattle.flute_journal.specs.Sessions.{listed_tsis}
 use Rattle.flute_journal.specs.StreamMerges.{IsWithinLimits}
 use Rattle.flute_journal.specs.Streams.{Behaviour, IsNew}
 use Rattle.flute_journal.specs.Besides.{beside_behaviour}
@@ -21,9 +21,9 @@ use Rattle.flute_journal.specs.declared.or_full.OrFull.{OrFull}
 use Rattle.flute_journal.specs.declared.or_full.OrFull.TheVariants.{Stream, Full}
 use Rattle.flute_journal.specs.declared.fault.ReadFault.TheVariants.{Read}
 use Rattle.flute_journal.specs.declared.kind.Kind.TheVariants as kinds
-use Rattle.flute_journal.specs.declared.merging.Joined.{Joined as Merged}
+use Rattle.flute_journal.specs.declared.all_streams.MergedJournal.{MergedJournal}
 use Rattle.flutejoin.specs.JoinInputs.{JoinInput, peeked, left, input_behaviour}
-use Rattle.flutejoin.specs.Joined.{Choice, Told, told_facts, told_datagrams, TellAll, TellsWithin, FirstInput, IsKnown, JoinFails, HoldsDatagrams, FileFails}
+use Rattle.flutejoin.specs.Joined.{Choice, InputContent, content_facts, content_datagrams, TellAll, TellsWithin, FirstInput, HasKnownKind, JoinFails, HoldsDatagrams, FileFails}
 use Rattle.flutejoin.specs.Refused.{is_refused}
 use Rattle.flutejoin.specs.Shelves.{IsOverShelf}
 use Rattle.flutejoin.specs.declared.command_fault.CommandFault.{CommandFault}
@@ -31,33 +31,33 @@ use Rattle.flutejoin.specs.declared.command_fault.CommandFault.TheVariants.{Inpu
 use Rattle.flutejoin.specs.declared.held_file.HeldFile.{HeldFile}
 use Rattle.flutejoin.specs.declared.join_counts.JoinCounts.{JoinCounts}
 use Rattle.flutejoin.specs.declared.limits.TheConstants.{MAX_ENTRIES}
-use Rattle.flutejoin.specs.declared.looking.Looked.{Looked}
+use Rattle.flutejoin.specs.declared.inspecting.Inspected.{Inspected}
 
 -- Each input tells some facts. The journal of all of them was appended, and the numbers are right. Whatever other facts have the same
 -- members, in any order, however often and however grouped: that is their journal too.
 pub record JoinsTo (choice : Choice) (inputs : List (List ℕ)) (counts : JoinCounts) (old new : Option (List ℕ)) : Type 0 where
-  pub told : List Told
+  pub told : List InputContent
   pub tell : TellAll inputs told
   pub entries : List Fact
-  pub collects : Collects (flat_map (told_facts choice) told) entries
-  pub within : ¬ IsOverShelf (flat_map (told_facts choice) told)
+  pub collects : Collects (flat_map (content_facts choice) told) entries
+  pub within : ¬ IsOverShelf (flat_map (content_facts choice) told)
   pub count : counts.entries ≡ length entries
-  pub datagrams : counts.datagrams ≡ length (flat_map told_datagrams told)
-  pub refused : counts.refused ≡ count_by is_refused (flat_map told_datagrams told)
+  pub datagrams : counts.datagrams ≡ length (flat_map content_datagrams told)
+  pub refused : counts.refused ≡ count_by is_refused (flat_map content_datagrams told)
   pub appended : Appends old new (spelling entries)
-  pub as_others : (others : List Fact) → SameMembers (flat_map (told_facts choice) told) others → (bytes : List ℕ) → Journal bytes others → Appends old new bytes
+  pub as_others : (others : List Fact) → SameMembers (flat_map (content_facts choice) told) others → (bytes : List ℕ) → Journal bytes others → Appends old new bytes
 
 -- each tells facts within the limits of a store, and so do all together
 pub record AllTell (choice : Choice) (inputs : List (List ℕ)) : Type 0 where
-  pub told : List Told
+  pub told : List InputContent
   pub tell : TellAll inputs told
   pub alone : AllByRecursion (TellsWithin choice) inputs
-  pub together : ¬ IsOverShelf (flat_map (told_facts choice) told)
+  pub together : ¬ IsOverShelf (flat_map (content_facts choice) told)
 
 -- why inputs were not joined: as those in memory; or a device failed, the sink only where all the inputs could be joined
 pub data JoinToFails (choice : Choice) (inputs : List (List ℕ)) (fault : CommandFault) : Type 0 where
   of_inputs : JoinFails choice inputs fault → JoinToFails choice inputs fault
-  of_device : (number : ℕ) → fault ≡ Input number Read → FirstInput IsKnown (λ bytes. ⊤) number inputs → JoinToFails choice inputs fault
+  of_device : (number : ℕ) → fault ≡ Input number Read → FirstInput HasKnownKind (λ bytes. ⊤) number inputs → JoinToFails choice inputs fault
   of_sink : fault ≡ CannotWrite → AllTell choice inputs → JoinToFails choice inputs fault
 
 -- What the parts of a join answer.
@@ -76,13 +76,13 @@ NamesOneOf count (UnknownKind told) = (1 ≤ told) × (told ≤ count)
 NamesOneOf count _ = ⊤
 
 -- an input is of no known kind, or a datagram file that was not held
-pub data LookFails (number : ℕ) (bytes : List ℕ) (fault : CommandFault) : Type 0 where
-  of_kind : fault ≡ UnknownKind number → IsNeither bytes → LookFails number bytes fault
-  of_file : HasKind kinds.Datagrams bytes → FileFails number (Some bytes) fault → LookFails number bytes fault
+pub data InspectionFails (number : ℕ) (bytes : List ℕ) (fault : CommandFault) : Type 0 where
+  of_kind : fault ≡ UnknownKind number → IsNeither bytes → InspectionFails number bytes fault
+  of_file : HasKind kinds.Datagrams bytes → FileFails number (Some bytes) fault → InspectionFails number bytes fault
 
 -- so it is with an input, and those before it are known; or there was no memory
-abbrev pub SomeLookFails : List (List ℕ) → CommandFault → Type 0
-SomeLookFails inputs fault = ((number : ℕ) × FirstInput IsKnown (λ bytes. LookFails number bytes fault) number inputs) ⊎ (fault ≡ OutOfMemory)
+abbrev pub SomeInspectionFails : List (List ℕ) → CommandFault → Type 0
+SomeInspectionFails inputs fault = ((number : ℕ) × FirstInput HasKnownKind (λ bytes. InspectionFails number bytes fault) number inputs) ⊎ (fault ≡ OutOfMemory)
 
 -- how many datagrams a file has, and refused ones
 abbrev pub datagrams_of : Option HeldFile → ℕ
@@ -98,20 +98,20 @@ abbrev pub IsFew : Option HeldFile → Type 0
 IsFew file = (datagrams_of file ≤ MAX_ENTRIES) × (refused_of file ≤ datagrams_of file)
 
 -- the numbers are those of all the files
-pub record SumsUp (looked : Looked) : Type 0 where
-  pub datagrams : looked.datagrams ≡ sum_by datagrams_of looked.files.items
-  pub refused : looked.refused ≡ sum_by refused_of looked.files.items
+pub record SumsUp (inspected : Inspected) : Type 0 where
+  pub datagrams : inspected.datagrams ≡ sum_by datagrams_of inspected.files.items
+  pub refused : inspected.refused ≡ sum_by refused_of inspected.files.items
 
 module _ {R : Type 0} (unread : R → Option (List ℕ)) where
-  -- an input was looked at: a datagram file is held, and a journal is still to be read
-  abbrev pub IsLooked : Choice → JoinInput R → Option HeldFile → List ℕ → Type 0
-  IsLooked choice input None bytes = HasKind kinds.Journal bytes × (left unread (peeked input) ≡ Some bytes) × (listed input.stream.sessions ≡ choice.tsis)
-  IsLooked choice input (Some file) bytes = (datagrams : List (List ℕ)) × IsFileWithin MAX_ENTRIES bytes datagrams × HoldsDatagrams choice file datagrams
+  -- an input was inspected: a datagram file is held, and a journal is still to be read
+  abbrev pub IsInspected : Choice → JoinInput R → Option HeldFile → List ℕ → Type 0
+  IsInspected choice input None bytes = HasKind kinds.Journal bytes × (left unread (peeked input) ≡ Some bytes) × (listed_tsis input.stream.sessions ≡ choice.tsis)
+  IsInspected choice input (Some file) bytes = (datagrams : List (List ℕ)) × IsFileWithin MAX_ENTRIES bytes datagrams × HoldsDatagrams choice file datagrams
 
-  pub record AreLooked (choice : Choice) (inputs : List (JoinInput R)) (files : List (Option HeldFile)) (contents : List (List ℕ)) : Type 0 where
+  pub record AreInspected (choice : Choice) (inputs : List (JoinInput R)) (files : List (Option HeldFile)) (contents : List (List ℕ)) : Type 0 where
     pub as_many : length inputs ≡ length contents
     pub each : (k : ℕ) (input : JoinInput R) (file : Option HeldFile) (bytes : List ℕ) → slice_get inputs k ≡ Some input → slice_get files k ≡ Some file → slice_get contents k ≡ Some bytes
-        → IsLooked choice input file bytes
+        → IsInspected choice input file bytes
 
   module _ (failures : R → ℕ) where
     -- of an input that is no datagram file, nothing was read as a journal
@@ -122,20 +122,20 @@ module _ {R : Type 0} (unread : R → Option (List ℕ)) where
       pub as_many : length files ≡ length inputs
       pub each : (k : ℕ) (input : JoinInput R) (file : Option HeldFile) → slice_get inputs k ≡ Some input → slice_get files k ≡ Some file → IsReady input file
 
--- inputs that were looked at were joined
-pub record JoinsLooked (choice : Choice) (contents : List (List ℕ)) (files : List (Option HeldFile)) (joined : Merged) (old new : Option (List ℕ)) : Type 0 where
-  pub told : List Told
+-- inputs that were inspected were joined
+pub record JoinsInspected (choice : Choice) (contents : List (List ℕ)) (files : List (Option HeldFile)) (joined : MergedJournal) (old new : Option (List ℕ)) : Type 0 where
+  pub told : List InputContent
   pub tell : TellAll contents told
   pub alone : AllByRecursion (TellsWithin choice) contents
   pub entries : List Fact
-  pub collects : Collects (flat_map (told_facts choice) told) entries
+  pub collects : Collects (flat_map (content_facts choice) told) entries
   pub count : joined.entries ≡ length entries
-  pub limits : IsWithinLimits 64 4096 1048576 (flat_map (told_facts choice) told) joined.within
+  pub limits : IsWithinLimits 64 4096 1048576 (flat_map (content_facts choice) told) joined.within
   pub written : Written joined.cut old new (spelling entries)
-  pub datagrams : sum_by datagrams_of files ≡ length (flat_map told_datagrams told)
-  pub refused : sum_by refused_of files ≡ count_by is_refused (flat_map told_datagrams told)
+  pub datagrams : sum_by datagrams_of files ≡ length (flat_map content_datagrams told)
+  pub refused : sum_by refused_of files ≡ count_by is_refused (flat_map content_datagrams told)
 
--- Streams of what was looked at.
+-- Streams of what was inspected.
 
 -- the stream of what a datagram file tells, which is within the limits of a store: no device of it fails
 pub record IsHeldStream {S : Type 0} (b : Behaviour S) (file : HeldFile) (s : S) : Type 0 where

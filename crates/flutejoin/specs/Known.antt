@@ -2,7 +2,7 @@
 use Rattle.std.specs.Prelude.{◌≡◌, ℕ, zero, suc, ◌+◌, ◌<◌, List, [], Bool, true, false, Option, Some, None, length, slice_get, replicate}
 use Rattle.flute_parts.specs.declared.fact.Fact.{Fact}
 use Rattle.flutejoin.specs.declared.steps.Step.{Step}
-use Rattle.flutejoin.specs.Steps.{held_by, held_after, FitsStep}
+use Rattle.flutejoin.specs.Steps.{held_by, held_after_step, FitsStep}
 
 -- new replicas, each with nothing
 abbrev pub nothing_held : ℕ → List (List Fact)
@@ -10,7 +10,7 @@ nothing_held count = replicate count []
 
 abbrev pub held_after_next : List (List Fact) → Option Step → List Fact → List (List Fact)
 held_after_next held None origin = held
-held_after_next held (Some step) origin = held_after held step origin
+held_after_next held (Some step) origin = held_after_step held step origin
 
 -- what each replica was given in the first n steps, beginning with what it held; origins has a list for each step
 unfoldable pub known_after : List (List Fact) → (ℕ → Option Step) → (ℕ → List Fact) → ℕ → List (List Fact)

@@ -15,7 +15,7 @@ use Rattle.flute_store.specs.declared.gap.Gap.{Gap}
 use Rattle.flute_store.specs.declared.status.Status.{Status}
 use Rattle.flute_store.specs.declared.status.Status.TheVariants.{NoInformation, ConflictingInformation, Partial, Whole}
 use Rattle.flute_wire.specs.Content.{Content}
-use Rattle.flute_wire.specs.Facts.{object_of}
+use Rattle.flute_wire.specs.Facts.{object_named}
 
 -- a line ends with a line feed
 abbrev pub line : List ℕ → List ℕ
@@ -49,7 +49,7 @@ symbol_or_none (Some symbol) = symbol_words symbol.0 (length symbol.1) ++ encode
 -- the four lines of a packet
 unfoldable pub packet_lines : Content → List ℕ
 packet_lines c =
-    line (codes "session " ++ decimal c.tsi) ++ (line (object_words (object_of c.toi c.instance)) ++ (line (info_or_none c.info) ++ line (symbol_or_none c.symbol)))
+    line (codes "session " ++ decimal c.tsi) ++ (line (object_words (object_named c.toi c.instance)) ++ (line (info_or_none c.info) ++ line (symbol_or_none c.symbol)))
 
 -- a sender's address in 32 digits, where it is not 0
 abbrev pub source_words : ℕ → List ℕ

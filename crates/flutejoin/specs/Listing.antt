@@ -10,7 +10,7 @@ use Rattle.flute_parts.specs.declared.symbol_id.SymbolId.{SymbolId}
 use Rattle.flute_parts.specs.declared.fact.Fact.{Fact}
 use Rattle.flute_parts.specs.declared.fact.Fact.TheVariants.{InfoConflict}
 use Rattle.flute_store.specs.declared.status.Status.{Status}
-use Rattle.flute_store.specs.Scan.{Scanned, told, Follows, GaveAll}
+use Rattle.flute_store.specs.Scan.{Scanned, next_fact, Follows, GaveAll}
 use Rattle.flute_store.specs.Scans.{Scans}
 use Rattle.flute_store.specs.Status.{TellsStatus}
 use Rattle.flutejoin.specs.Lines.{gap_line}
@@ -56,7 +56,7 @@ Lists F l = ListsWith F l.lines.items l.gap_lines.items l.open
 
 -- the symbol was passed, or, where none is left, all gaps were given
 abbrev pub Passes : Scanned → Option (SymbolId × Option (Bor (List ℕ))) → Scanned → Type 0
-Passes s (Some next) t = (t.key ≡ s.key) × (t.facts ≡ s.facts ++ told s.key next ∷ []) × (t.coming ≡ None)
+Passes s (Some next) t = (t.key ≡ s.key) × (t.facts ≡ s.facts ++ next_fact s.key next ∷ []) × (t.coming ≡ None)
 Passes s None t = (t.key ≡ s.key) × (t.facts ≡ s.facts) × ((F : List Fact) → Follows t None F → GaveAll t F)
 
 -- how much is held of the object, and the lines of its gaps

@@ -14,10 +14,10 @@ MergeFails first second CannotWrite = ⊤
 MergeFails first second _ = ⊥
 
 -- how often each source failed in a merge that gave this: only where its input was at fault
-abbrev pub FirstFails : ℕ → ℕ → Result ℕ CommandFault → Type 0
-FirstFails old new (Err (Input (suc zero) fault)) = Fails {T = Option Fact} old new (Err fault)
-FirstFails old new _ = new ≡ old
+abbrev pub FirstInputFails : ℕ → ℕ → Result ℕ CommandFault → Type 0
+FirstInputFails old new (Err (Input (suc zero) fault)) = Fails {T = Option Fact} old new (Err fault)
+FirstInputFails old new _ = new ≡ old
 
-abbrev pub SecondFails : ℕ → ℕ → Result ℕ CommandFault → Type 0
-SecondFails old new (Err (Input (suc (suc zero)) fault)) = Fails {T = Option Fact} old new (Err fault)
-SecondFails old new _ = new ≡ old
+abbrev pub SecondInputFails : ℕ → ℕ → Result ℕ CommandFault → Type 0
+SecondInputFails old new (Err (Input (suc (suc zero)) fault)) = Fails {T = Option Fact} old new (Err fault)
+SecondInputFails old new _ = new ≡ old

@@ -82,27 +82,27 @@ pub record NoneWritten (failed : Bool) (start now : Option (List ℕ)) : Type 0 
   pub same : now ≡ start
 
 -- what is found of an object by these facts, and what was written since the start
-abbrev pub Finds : List Fact → Key → Bool → Option (List ℕ) → Option (List ℕ) → Found → Type 0
-Finds P key failed start now found.Nothing = AllByRecursion (IsOther key) P × NoneWritten failed start now
-Finds P key failed start now found.Symbols = Settled P (λ F. LacksInformation F key) × NoneWritten failed start now
-Finds P key failed start now found.Conflict = Settled P (λ F. HasConflict F key) × NoneWritten failed start now
-Finds P key failed start now (found.NotWhole first) = Settled P (λ F. IsNotWhole F key first) × WroteFirst P key start now
-Finds P key failed start now (found.Whole object) = Scanning P key failed start now object
+abbrev pub HasFound : List Fact → Key → Bool → Option (List ℕ) → Option (List ℕ) → Found → Type 0
+HasFound P key failed start now found.Nothing = AllByRecursion (IsOther key) P × NoneWritten failed start now
+HasFound P key failed start now found.Symbols = Settled P (λ F. LacksInformation F key) × NoneWritten failed start now
+HasFound P key failed start now found.Conflict = Settled P (λ F. HasConflict F key) × NoneWritten failed start now
+HasFound P key failed start now (found.NotWhole first) = Settled P (λ F. IsNotWhole F key first) × WroteFirst P key start now
+HasFound P key failed start now (found.Whole object) = Scanning P key failed start now object
 
 abbrev pub Stands : List Fact → ObjectWriter → Option (List ℕ) → Option (List ℕ) → Type 0
-Stands P writer start now = Finds P writer.key writer.failed start now writer.found
+Stands P writer start now = HasFound P writer.key writer.failed start now writer.found
 
 -- nothing was handed to the sink
-abbrev pub IsUntouched : Found → Type 0
-IsUntouched (found.NotWhole first) = ⊥
-IsUntouched (found.Whole object) = ⊥
-IsUntouched _ = ⊤
+abbrev pub WritesNothing : Found → Type 0
+WritesNothing (found.NotWhole first) = ⊥
+WritesNothing (found.Whole object) = ⊥
+WritesNothing _ = ⊤
 
 -- as after these faults
 abbrev pub TellsUntouched : Found → CommandFault → Type 0
-TellsUntouched what NoObject = IsUntouched what
-TellsUntouched what NoInformation = IsUntouched what
-TellsUntouched what ConflictingInformation = IsUntouched what
+TellsUntouched what NoObject = WritesNothing what
+TellsUntouched what NoInformation = WritesNothing what
+TellsUntouched what ConflictingInformation = WritesNothing what
 TellsUntouched what _ = ⊤
 
 -- whether the sink has failed, as the answer tells

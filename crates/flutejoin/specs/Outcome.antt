@@ -14,7 +14,7 @@ use Rattle.flutejoin.specs.declared.steps.StepFault.{StepFault}
 use Rattle.flutejoin.specs.declared.steps.StepFault.TheVariants.{NoReplica, Journal, Full, OutOfMemory}
 use Rattle.flutejoin.specs.declared.limits.TheConstants.{MAX_ENTRIES}
 use Rattle.flutejoin.specs.Held.{Held, Capacity, IsOver}
-use Rattle.flutejoin.specs.Steps.{held_by, held_after, NamesReplicas, target_of, LoadsJournal, FitsStep, EachSame, EachBelow}
+use Rattle.flutejoin.specs.Steps.{held_by, held_after_step, NamesReplicas, target_of, LoadsJournal, FitsStep, EachSame, EachBelow}
 use Rattle.flutejoin.specs.Refused.{CountsRefused}
 
 -- the facts stand at more than so many addresses: the rising list that is the same has more facts
@@ -42,7 +42,7 @@ pub record IsDone (capacity : Capacity) (before : Held) (step : Step) (now : Hel
   -- a `Reopen` wrote a journal within the bound
   pub readable : WritesWithin before.contents step
   -- each replica has what it had and what the step gives
-  pub content : (origin : List Fact) → FitsStep step origin → EachSame (held_after before.contents step origin) now.contents
+  pub content : (origin : List Fact) → FitsStep step origin → EachSame (held_after_step before.contents step origin) now.contents
   -- the replicas that the step does not change are as they were
   pub others : (r : ℕ) → r ≢ target_of step → held_by now.contents r ≡ held_by before.contents r
   -- refused datagrams are counted
@@ -70,7 +70,7 @@ LoadsOver capacity (Reopen replica) = ⊥
 abbrev pub HasCause : Capacity → List (List Fact) → Step → List Fact → StepFault → Type 0
 HasCause capacity held step origin NoReplica = ¬ NamesReplicas (length held) step
 HasCause capacity held step origin (Journal fault) = IsReadFault capacity held step fault
-HasCause capacity held step origin Full = IsOver (held_by (held_after held step origin) (target_of step)) capacity ⊎ LoadsOver capacity step
+HasCause capacity held step origin Full = IsOver (held_by (held_after_step held step origin) (target_of step)) capacity ⊎ LoadsOver capacity step
 HasCause capacity held step origin OutOfMemory = ⊤
 
 -- a refusal by a fault that leaves everything unchanged, whatever the step
@@ -91,7 +91,7 @@ pub record IsRefused (capacity : Capacity) (before : Held) (step : Step) (now : 
   -- nothing that was held is lost
   pub kept : EachBelow before.contents now.contents
   -- nothing came but what the step gives
-  pub no_more : (origin : List Fact) → FitsStep step origin → EachBelow now.contents (held_after before.contents step origin)
+  pub no_more : (origin : List Fact) → FitsStep step origin → EachBelow now.contents (held_after_step before.contents step origin)
   pub others : (r : ℕ) → r ≢ target_of step → held_by now.contents r ≡ held_by before.contents r
   pub refused : now.refused ≡ before.refused
   pub unchanged : IsHarmless step fault → now ≡ before

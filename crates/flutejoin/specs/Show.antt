@@ -19,14 +19,14 @@ abbrev pub entry_lines : List Fact → List ℕ
 entry_lines entries = flat_map fact_line entries
 
 -- and then their number
-abbrev pub shown : List Fact → List ℕ
-shown entries = entry_lines entries ++ entries_line (length entries)
+abbrev pub shown_lines : List Fact → List ℕ
+shown_lines entries = entry_lines entries ++ entries_line (length entries)
 
 -- a journal of these entries was read, and all its lines were written
 pub record ShowsAll (input old new : Option (List ℕ)) : Type 0 where
   pub entries : List Fact
   pub journal : IfSome input (λ bytes. IsJournalWithin MAX_ENTRIES bytes entries)
-  pub written : Appends old new (shown entries)
+  pub written : Appends old new (shown_lines entries)
 
 -- the lines of the entries that were read before a fault were written, and no more
 pub record ShowsUntil (input left old new : Option (List ℕ)) (fault : ReadFault) : Type 0 where
@@ -39,7 +39,7 @@ pub record ShowsUntil (input left old new : Option (List ℕ)) (fault : ReadFaul
 pub data ShowsPart (input left old new : Option (List ℕ)) : Type 0 where
   of_entries : (entries : List Fact) → (a : AreEntries MAX_ENTRIES entries) → Consumes input left (front_in a.version entries)
       → AppendsPart old new (entry_lines entries) → ShowsPart input left old new
-  of_journal : (entries : List Fact) → IfSome input (λ bytes. IsJournalWithin MAX_ENTRIES bytes entries) → AppendsPart old new (shown entries) → ShowsPart input left old new
+  of_journal : (entries : List Fact) → IfSome input (λ bytes. IsJournalWithin MAX_ENTRIES bytes entries) → AppendsPart old new (shown_lines entries) → ShowsPart input left old new
 
 -- why it failed, and what was written
 abbrev pub ShowFails : Option (List ℕ) → Option (List ℕ) → Option (List ℕ) → Option (List ℕ) → CommandFault → Type 0

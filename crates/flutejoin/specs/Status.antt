@@ -2,8 +2,8 @@
 use Rattle.std.specs.Prelude.{ℕ, ⊤, ◌≤◌, length}
 use Rattle.flutejoin.specs.declared.command_fault.CommandFault.{CommandFault}
 use Rattle.flutejoin.specs.declared.command_fault.CommandFault.TheVariants.{CommandLine, NotText, BadNumber, BadSource, BadKey, TooManyInputs, OutputIsInput, BadInformation, BadHex, Refused, CannotSend, TooLarge, CannotOpen, Input, UnknownKind, Full, NoObject, NoInformation, ConflictingInformation, NotWhole, OutOfMemory, CannotCreate, CannotWrite}
-use Rattle.flutejoin.specs.declared.line.Line.{Line}
-use Rattle.flutejoin.specs.declared.line.Line.TheVariants.{Join}
+use Rattle.flutejoin.specs.declared.command_line.Line.{Line}
+use Rattle.flutejoin.specs.declared.command_line.Line.TheVariants.{Join}
 use Rattle.flute_journal.specs.declared.fault.ReadFault.{ReadFault}
 use Rattle.flute_journal.specs.declared.fault.ReadFault.TheVariants as faults
 use Rattle.flute_journal.specs.declared.fault.LoadFault.{LoadFault}
@@ -18,30 +18,30 @@ read_status faults.OutOfMemory = 3
 read_status fault = 1
 
 -- 1 for what is wrong in the input, 2 for the command line, and 3 for memory and devices
-abbrev pub status_of : CommandFault → ℕ
-status_of (CommandLine text) = 2
-status_of NotText = 2
-status_of (BadNumber option) = 2
-status_of BadSource = 2
-status_of BadKey = 2
-status_of TooManyInputs = 2
-status_of OutputIsInput = 2
-status_of (BadInformation fault) = 1
-status_of (CannotSend fault) = 1
-status_of (TooLarge number) = 1
-status_of BadHex = 1
-status_of (Refused refusal) = 1
-status_of (CannotOpen number) = 3
-status_of (Input number fault) = read_status fault
-status_of (UnknownKind number) = 1
-status_of Full = 1
-status_of NoObject = 1
-status_of NoInformation = 1
-status_of ConflictingInformation = 1
-status_of (NotWhole sbn esi) = 1
-status_of OutOfMemory = 3
-status_of CannotCreate = 3
-status_of CannotWrite = 3
+abbrev pub exit_status : CommandFault → ℕ
+exit_status (CommandLine text) = 2
+exit_status NotText = 2
+exit_status (BadNumber option) = 2
+exit_status BadSource = 2
+exit_status BadKey = 2
+exit_status TooManyInputs = 2
+exit_status OutputIsInput = 2
+exit_status (BadInformation fault) = 1
+exit_status (CannotSend fault) = 1
+exit_status (TooLarge number) = 1
+exit_status BadHex = 1
+exit_status (Refused refusal) = 1
+exit_status (CannotOpen number) = 3
+exit_status (Input number fault) = read_status fault
+exit_status (UnknownKind number) = 1
+exit_status Full = 1
+exit_status NoObject = 1
+exit_status NoInformation = 1
+exit_status ConflictingInformation = 1
+exit_status (NotWhole sbn esi) = 1
+exit_status OutOfMemory = 3
+exit_status CannotCreate = 3
+exit_status CannotWrite = 3
 
 -- the faults of reading a command line
 abbrev pub IsLineFault : CommandFault → Type 0

@@ -16,12 +16,12 @@ abbrev pub given_to : List (List Fact) → ℕ → List Fact → List (List Fact
 given_to held r more = slice_set held r (held_by held r ++ more)
 
 -- the facts held after a step; origin is the list of which a `Load` reads a journal
-abbrev pub held_after : List (List Fact) → Step → List Fact → List (List Fact)
-held_after held (Take replica sender datagram) origin = given_to held replica (facts sender datagram)
-held_after held (Load replica journal) origin = given_to held replica origin
-held_after held (Add replica fact) origin = given_to held replica (fact ∷ [])
-held_after held (Merge into from) origin = given_to held into (held_by held from)
-held_after held (Reopen replica) origin = held
+abbrev pub held_after_step : List (List Fact) → Step → List Fact → List (List Fact)
+held_after_step held (Take replica sender datagram) origin = given_to held replica (facts sender datagram)
+held_after_step held (Load replica journal) origin = given_to held replica origin
+held_after_step held (Add replica fact) origin = given_to held replica (fact ∷ [])
+held_after_step held (Merge into from) origin = given_to held into (held_by held from)
+held_after_step held (Reopen replica) origin = held
 
 -- the step names replicas that are there
 abbrev pub NamesReplicas : ℕ → Step → Type 0

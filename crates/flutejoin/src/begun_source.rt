@@ -10,13 +10,13 @@ use crate::command_fault::CommandFault;
 use crate::first_bytes::FirstBytes;
 use crate::join_counts::JoinCounts;
 use crate::join_input::input_of;
-use crate::joining::join_to;
+use crate::joined_inputs::join_to;
 use flute_journal::Sessions;
 use flute_parts::{Sender, Sink, Source};
 use std::alloc::Global;
 
 /// A source of which the first bytes were read.
-#[derive(Drop)]
+#[derive(Debug, Drop)]
 pub struct BegunSource<R> {
     /// Its first bytes.
     pub first: FirstBytes,

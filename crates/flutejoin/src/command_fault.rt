@@ -88,12 +88,12 @@ pub enum CommandFault {
 }
 
 impl CommandFault {
-    ghost use Rattle.flutejoin.specs.Status.{status_of};
+    ghost use Rattle.flutejoin.specs.Status.{exit_status};
 
     /// The status that the program ends with: 1 for what is wrong in the input, 2 for the command
     /// line, 3 for memory and devices.
     pub fn status(&self) -> u8
-        ensures { result ≡ status_of self.now }
+        ensures { result ≡ exit_status self.now }
     {
         match self {
             CommandFault::BadHex | CommandFault::Refused(_) | CommandFault::Full => 1,

@@ -3,12 +3,12 @@ ghost use Rattle.std.specs.Prelude.{◌≡◌, ◌+◌, ℕ, false, List, [], Op
 ghost use Rattle.flute_parts.specs.Facts.{Same};
 ghost use Rattle.flute_parts.specs.declared.fact.Fact.{Fact as Known};
 ghost use Rattle.flute_journal.specs.JournalWriters.{times_failed};
-ghost use Rattle.flute_journal.specs.Readers.{source_of, limit_of, stage_of};
+ghost use Rattle.flute_journal.specs.Readers.{source_of, limit_of, state_of};
 ghost use Rattle.flute_journal.specs.Stores.{FailsToLoad};
-ghost use Rattle.flute_journal.specs.declared.reader.Stage.TheVariants as Stage;
+ghost use Rattle.flute_journal.specs.declared.journal_reader.ReaderState.TheVariants as ReaderState;
 ghost use Rattle.flutejoin.specs.declared.limits.TheConstants.{MAX_ENTRIES};
 ghost use Rattle.flutejoin.specs.Extract.{AnswersFrom, Extracts, WritesFirst, SinkFails};
-ghost use Rattle.flutejoin.specs.ObjectWriters.{IsUntouched, PassesAll, Stands};
+ghost use Rattle.flutejoin.specs.ObjectWriters.{WritesNothing, PassesAll, Stands};
 ghost use Rattle.flutejoin.specs.Show.{FailsToRead};
 
 use crate::command_fault::{CommandFault, load_fault};
@@ -67,17 +67,17 @@ fn read_into<R: Source, W: Sink>(
     writer: &mut ObjectWriter,
     sink: &mut W,
 ) -> Result<(), LoadFault>
-    requires new { stage_of reader.old ≡ Stage.Header }
+    requires new { state_of reader.old ≡ ReaderState.Header }
     requires limit { limit_of reader.old ≡ MAX_ENTRIES }
     requires none { (start : Option (List ℕ)) → Stands [] writer.old start start }
-    requires untouched { IsUntouched writer.old.found }
+    requires untouched { WritesNothing writer.old.found }
     requires good { writer.old.failed ≡ false }
     ensures same_source { (source_of reader.new).ghost_name ≡ (source_of reader.old).ghost_name }
     ensures same_key { writer.new.key ≡ writer.old.key }
     ensures passed { PassesAll (R.unread (source_of reader.old).now)
         (R.unread (source_of reader.new).now) writer.new
         (W.written sink.old) (W.written sink.new) result }
-    ensures untouched { IsUntouched writer.new.found → sink.new ≡ sink.old }
+    ensures untouched { WritesNothing writer.new.found → sink.new ≡ sink.old }
     ensures read_failures { FailsToLoad (R.failures (source_of reader.old).now)
         (R.failures (source_of reader.new).now) result }
     ensures failures { W.failures sink.new ≡ W.failures sink.old + times_failed writer.new.failed }

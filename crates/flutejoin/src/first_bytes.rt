@@ -8,7 +8,7 @@ use flute_journal::{ReadFault, fill};
 use flute_parts::Source;
 
 /// The first bytes of an input: four, or as many as it has.
-#[derive(Clone, Copy)]
+#[derive(Clone, Copy, Debug)]
 pub struct FirstBytes {
     pub(crate) bytes: [u8; 4],
     /// How many they are.

@@ -10,7 +10,7 @@ ghost use Rattle.flutejoin.specs.Packet.{write_failures};
 
 use crate::command_fault::CommandFault;
 use crate::held_lines::{gap_text, status_text};
-use crate::writing::write_words;
+use crate::report_lines::write_words;
 use flute_parts::{DeviceFault, Key, Sink};
 use flute_store::{Gap, Gaps, Shelf, Status};
 

@@ -3,7 +3,7 @@ ghost use Rattle.std.specs.Prelude.{◌≡◌, true, false, ◌≤◌, ◌<◌, 
 ghost use Rattle.flute_journal.specs.Records.{IsFileWithin};
 ghost use Rattle.flutejoin.specs.declared.limits.TheConstants.{MAX_ENTRIES};
 ghost use Rattle.flutejoin.specs.declared.command_fault.CommandFault.TheVariants as faults;
-ghost use Rattle.flute_journal.specs.Sessions.{listed, chosen};
+ghost use Rattle.flute_journal.specs.Sessions.{listed_tsis, chosen};
 ghost use Rattle.flute_wire.specs.Reading.{facts};
 ghost use Rattle.flutejoin.specs.Joined.{Choice, choice_of, HoldsDatagrams, FileFails};
 ghost use Rattle.flutejoin.specs.Refused.{is_refused};
@@ -80,10 +80,10 @@ impl HeldFile {
 // Whether a datagram is a packet of a session that is not taken.
 fn is_of_others(sessions: &Sessions, datagram: &[u8]) -> bool
     ensures others { result ≡ true → (sender : ℕ)
-        → chosen (listed sessions.now) (facts sender datagram.now) ≡ [] }
+        → chosen (listed_tsis sessions.now) (facts sender datagram.now) ≡ [] }
     ensures packet { result ≡ true → is_refused datagram.now ≡ false }
     ensures taken { result ≡ false → (sender : ℕ)
-        → chosen (listed sessions.now) (facts sender datagram.now) ≡ facts sender datagram.now }
+        → chosen (listed_tsis sessions.now) (facts sender datagram.now) ≡ facts sender datagram.now }
 {
     // By this the proof knows what a datagram tells.
     computed_reading();

@@ -2,7 +2,7 @@
 ghost use Rattle.std.specs.Prelude.{◌≡◌, ◌+◌, ◌≤◌, ◌++◌, length};
 ghost use Rattle.flutejoin.specs.Lines.{line, status_words, status_line, reason_words, gap_line};
 
-use crate::lines::push_key;
+use crate::fact_lines::push_key;
 use crate::text::Text;
 use flute_parts::Key;
 use flute_store::{Gap, Reason, Status};

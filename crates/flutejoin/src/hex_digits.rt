@@ -10,7 +10,7 @@ use flute_parts::{DeviceFault, Sink};
 const PIECE: usize = 512;
 
 /// The two digits of each byte, one byte after the other.
-#[derive(Drop)]
+#[derive(Debug, Drop)]
 pub struct HexDigits {
     pairs: [u8; 512],
     ghost digits: { HasDigits pairs },

@@ -20,7 +20,7 @@ ghost use Rattle.flutejoin.specs.Show.{FailsToRead};
 use crate::command_fault::{CommandFault, load_fault};
 use crate::limits::MAX_ENTRIES;
 use flute_journal::{
-    FactStream, InputFault, Joined as Merged, JournalStream, Pair, Stream, Within, join_streams,
+    FactStream, InputFault, JournalStream, MergedJournal, Pair, Stream, Within, join_streams,
 };
 use flute_parts::{Fact, Info, Key, Sink, Source};
 use std::alloc::Global;
@@ -100,7 +100,7 @@ fn join_two<S: Stream, T: Stream, W: Sink>(
     first: &mut S,
     second: &mut T,
     sink: &mut W,
-) -> Result<Merged, InputFault>
+) -> Result<MergedJournal, InputFault>
     requires new { AreNew (either_behaviour S.behaviour T.behaviour)
         (Left first.old ∷ Right second.old ∷ []) }
     requires few { most_of (either_behaviour S.behaviour T.behaviour)

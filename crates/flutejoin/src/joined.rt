@@ -10,7 +10,7 @@ use flute_wire::one_reading;
 use std::alloc::Global;
 
 /// What inputs come to together.
-#[derive(Drop)]
+#[derive(Debug, Drop)]
 pub struct Joined {
     /// The facts of all of them.
     pub store: Shelf,

@@ -1,31 +1,43 @@
 //! Replicas of a store and the steps that they take, the commands of the program `flutejoin`, each
 //! over any source and sink, and its command line.
+//!
+//! [`Replicas`] take datagrams and facts, are merged, written and read; whatever the order, those
+//! that were given the same write equal journals ([`journal_after`]). [`join_to`] joins journals
+//! and datagram files, [`gaps_from`] tells what is missing, and [`extract_to`] writes an object
+//! exactly if it is whole.
+//!
+//! The journal of one of two replicas (from `reception_sample`):
+//!
+//! ```
+//! let mut sink = MemorySink::new(alloc);
+//! journal_after::<64, 4096, 1_048_576, _>(alloc, 2, steps, replica, &mut sink)?;
+//! ```
 #![tactic(auto)]
 
 mod begun_source;
 mod blob;
 mod command_fault;
+mod command_line;
 mod extract;
+mod fact_lines;
 mod first_bytes;
 mod gaps;
 mod held_file;
 mod held_lines;
 mod hex_digits;
 mod info;
+mod inspecting;
 mod join_counts;
 mod join_input;
 mod joined;
-mod joining;
+mod joined_inputs;
 mod journal_gaps;
 pub mod laws;
 mod limits;
-mod line;
-mod lines;
 mod listing;
-mod loading;
-mod looking;
+mod loaded_shelf;
 mod memory_inputs;
-mod merging;
+mod merged_inputs;
 mod numbers;
 mod object_writer;
 mod outputs;
@@ -33,18 +45,19 @@ mod packet;
 mod parser;
 mod peeked_source;
 mod replicas;
+mod report_lines;
 mod runs;
-mod saving;
+mod saved_shelf;
 mod sender;
-mod sending;
+mod sent_object;
 mod show;
 mod steps;
 mod text;
-mod writing;
 
 pub use begun_source::{BegunSource, join_sources};
 pub use blob::{Blob, BlobFault, is_too_large};
 pub use command_fault::{CommandFault, at_input, blob_fault};
+pub use command_line::{Line, line_of};
 pub use extract::extract_to;
 pub use first_bytes::FirstBytes;
 pub use gaps::gaps_to;
@@ -52,20 +65,19 @@ pub use info::info_to;
 pub use join_counts::JoinCounts;
 pub use join_input::{JoinInput, input_of};
 pub use joined::Joined;
-pub use joining::join_to;
+pub use joined_inputs::join_to;
 pub use journal_gaps::gaps_from;
 pub use limits::{MAX_ENTRIES, MAX_INPUTS};
-pub use line::{Line, line_of};
-pub use loading::load;
+pub use loaded_shelf::load;
 pub use memory_inputs::join_inputs;
-pub use merging::merge_to;
+pub use merged_inputs::merge_to;
 pub use outputs::{OutputFault, journal_after, object_after};
 pub use packet::packet_to;
 pub use replicas::Replicas;
+pub use report_lines::count_to;
 pub use runs::{RunFault, run};
-pub use saving::save_to;
+pub use saved_shelf::save_to;
 pub use sender::sender_of;
-pub use sending::{datagrams_of, send_to};
+pub use sent_object::{datagrams_of, send_to};
 pub use show::show_to;
 pub use steps::{Step, StepFault};
-pub use writing::count_to;

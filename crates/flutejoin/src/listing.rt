@@ -3,21 +3,21 @@ ghost use Rattle.std.specs.Prelude.{◌≡◌, ◌<◌, ◌∷◌, ◌++◌, [],
 ghost use Rattle.flute_parts.specs.declared.fact.Fact.{Fact};
 ghost use Rattle.flute_parts.specs.Addresses.{address};
 ghost use Rattle.flute_parts.specs.Facts.{IsRising};
-ghost use Rattle.flute_store.specs.Scan.{Scanned, told, CanFollow};
+ghost use Rattle.flute_store.specs.Scan.{Scanned, next_fact, CanFollow};
 ghost use Rattle.flute_store.specs.Scans.{Scans};
 ghost use Rattle.flutejoin.specs.Lines.{gap_line};
-ghost use Rattle.flute_store.specs.Found.{IsHeard};
+ghost use Rattle.flute_store.specs.Held.{HoldsObject};
 ghost use Rattle.flutejoin.specs.Listing.{Lists, AreListed, IsFirstOf, StateIs, Passes, TellsAll};
 
 use crate::held_lines::{gap_text, status_text};
-use crate::writing::push_line;
+use crate::report_lines::push_line;
 use flute_parts::{Fact, Key, SymbolId};
 use flute_store::{Gap, ObjectScan, Status, Turn};
 use std::alloc::{AllocError, Global};
 
 /// The lines of objects: how much is held of each, and its gaps. Their facts come one by one in the
 /// order of their addresses, and none of them is kept.
-#[derive(Drop)]
+#[derive(Debug, Drop)]
 pub struct Listing {
     /// The lines of the objects before the open one.
     pub lines: Vec<u8>,
@@ -29,14 +29,14 @@ pub struct Listing {
 }
 
 /// An object of which more facts may come.
-#[derive(Drop)]
+#[derive(Debug, Drop)]
 pub struct OpenObject {
     pub key: Key,
     pub state: ObjectState,
 }
 
 /// What the facts tell of the object's information, which comes before its symbols.
-#[derive(Drop)]
+#[derive(Debug, Drop)]
 pub enum ObjectState {
     NoInformation,
     ConflictingInformation,
@@ -86,9 +86,9 @@ impl Listing {
         id: SymbolId,
         value: Option<&[u8]>,
     ) -> Result<(), AllocError>
-        ensures { (F : List Fact) → IsRising (F ++ told key.now (id, value.entry) ∷ [])
+        ensures { (F : List Fact) → IsRising (F ++ next_fact key.now (id, value.entry) ∷ [])
             → Lists F self.old
-            → OnOk result (Lists (F ++ told key.now (id, value.entry) ∷ []) self.new) }
+            → OnOk result (Lists (F ++ next_fact key.now (id, value.entry) ∷ []) self.new) }
     {
         match &mut self.open {
             Some(object) if object.key == *key => {
@@ -147,9 +147,9 @@ fn pass_symbol(
     id: SymbolId,
     value: Option<&[u8]>,
 ) -> Result<(), AllocError>
-    ensures { (key : Key) (mine : List Fact) → IsRising (mine ++ told key (id, value.entry) ∷ [])
+    ensures { (key : Key) (mine : List Fact) → IsRising (mine ++ next_fact key (id, value.entry) ∷ [])
         → StateIs key mine gap_lines.old.items state.old
-        → OnOk result (StateIs key (mine ++ told key (id, value.entry) ∷ [])
+        → OnOk result (StateIs key (mine ++ next_fact key (id, value.entry) ∷ [])
         gap_lines.new.items state.new) }
 {
     match state {
@@ -161,7 +161,7 @@ fn pass_symbol(
 // How much is held of an object of which all facts came.
 fn end_object(state: ObjectState, gap_lines: &mut Vec<u8>) -> Result<Status, AllocError>
     ensures { (F before mine : List Fact) (key : Key) → F ≡ before ++ mine → IsRising F
-        → IsHeard F key → IsFirstOf before key
+        → HoldsObject F key → IsFirstOf before key
         → StateIs key mine gap_lines.old.items state
         → IfOk result (λ status. TellsAll F key status gap_lines.new.items) }
 {

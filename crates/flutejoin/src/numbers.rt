@@ -9,7 +9,7 @@ use flute_journal::Sessions;
 use flute_parts::{Key, ObjectKey, Sender, SessionKey};
 
 /// The numbers that name an object, each within its range.
-#[derive(Clone, Copy, Drop)]
+#[derive(Clone, Copy, Debug, Drop)]
 pub struct KeyNumbers {
     tsi: u64,
     toi: u128,

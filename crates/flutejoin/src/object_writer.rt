@@ -6,16 +6,16 @@ ghost use Rattle.flute_parts.specs.declared.fact.Fact.{Fact as Known};
 ghost use Rattle.flute_parts.specs.declared.fact.Fact.TheVariants.{Info as InfoFact, InfoConflict};
 ghost use Rattle.flute_parts.specs.declared.key.Key.{Key as Name};
 ghost use Rattle.flute_journal.specs.JournalWriters.{PutsBytes, times_failed};
-ghost use Rattle.flute_store.specs.Scan.{told};
+ghost use Rattle.flute_store.specs.Scan.{next_fact};
 ghost use Rattle.flutejoin.specs.Extract.{Extracts};
-ghost use Rattle.flutejoin.specs.ObjectWriters.{IsUntouched, Stands, Scanning, ScansOn, EndsScan, TellsUntouched, FailedBy};
+ghost use Rattle.flutejoin.specs.ObjectWriters.{WritesNothing, Stands, Scanning, ScansOn, EndsScan, TellsUntouched, FailedBy};
 
 use crate::command_fault::CommandFault;
 use flute_parts::{Fact, Info, Key, Sink, SymbolId};
 use flute_store::{ObjectScan, Turn};
 
 /// Writes the symbols of an object as the facts of a journal pass, for as long as it may be whole.
-#[derive(Drop)]
+#[derive(Debug, Drop)]
 pub struct ObjectWriter {
     key: Key,
     found: Found,
@@ -24,7 +24,7 @@ pub struct ObjectWriter {
 }
 
 /// What the facts that passed tell of the object.
-#[derive(Drop)]
+#[derive(Debug, Drop)]
 enum Found {
     /// Nothing.
     Nothing,
@@ -39,7 +39,7 @@ enum Found {
 }
 
 /// An object, as far as it is whole and was written.
-#[derive(Drop)]
+#[derive(Debug, Drop)]
 struct WholeSoFar {
     scan: ObjectScan,
     /// How many bytes it has.
@@ -53,7 +53,7 @@ impl ObjectWriter {
     pub fn new(key: Key) -> ObjectWriter
         ensures none { (start : Option (List ℕ)) → Stands [] result start start }
         ensures key { result.key ≡ key }
-        ensures untouched { IsUntouched result.found }
+        ensures untouched { WritesNothing result.found }
         ensures good { result.failed ≡ false }
     {
         ObjectWriter {
@@ -70,8 +70,8 @@ impl ObjectWriter {
             → Stands P self.old start (W.written sink.old)
             → Stands (P ++ fact.now ∷ []) self.new start (W.written sink.new) }
         ensures key { self.new.key ≡ self.old.key }
-        ensures untouched { IsUntouched self.new.found
-            → IsUntouched self.old.found × (sink.new ≡ sink.old) }
+        ensures untouched { WritesNothing self.new.found
+            → WritesNothing self.old.found × (sink.new ≡ sink.old) }
         ensures failures { W.failures sink.new + times_failed self.old.failed
             ≡ W.failures sink.old + times_failed self.new.failed }
     {
@@ -88,8 +88,8 @@ impl ObjectWriter {
             → Stands P self.old start (W.written sink.old)
             → Stands (P ++ fact.now ∷ []) self.new start (W.written sink.new) }
         ensures key { self.new.key ≡ self.old.key }
-        ensures untouched { IsUntouched self.new.found
-            → IsUntouched self.old.found × (sink.new ≡ sink.old) }
+        ensures untouched { WritesNothing self.new.found
+            → WritesNothing self.old.found × (sink.new ≡ sink.old) }
         ensures failures { W.failures sink.new + times_failed self.old.failed
             ≡ W.failures sink.old + times_failed self.new.failed }
     {
@@ -108,7 +108,7 @@ impl ObjectWriter {
             → IsRising (P ++ InfoFact self.old.key info.now ∷ []) → Stands P self.old start now
             → Stands (P ++ InfoFact self.old.key info.now ∷ []) self.new start now }
         ensures key { self.new.key ≡ self.old.key }
-        ensures untouched { IsUntouched self.new.found → IsUntouched self.old.found }
+        ensures untouched { WritesNothing self.new.found → WritesNothing self.old.found }
         ensures failed { self.new.failed ≡ self.old.failed }
     {
         if let Found::Nothing = self.found {
@@ -123,7 +123,7 @@ impl ObjectWriter {
             → IsRising (P ++ InfoConflict self.old.key ∷ []) → Stands P self.old start now
             → Stands (P ++ InfoConflict self.old.key ∷ []) self.new start now }
         ensures key { self.new.key ≡ self.old.key }
-        ensures untouched { IsUntouched self.new.found → IsUntouched self.old.found }
+        ensures untouched { WritesNothing self.new.found → WritesNothing self.old.found }
         ensures failed { self.new.failed ≡ self.old.failed }
     {
         if let Found::Nothing = self.found {
@@ -135,13 +135,13 @@ impl ObjectWriter {
     #[inline(always)]
     fn symbol<W: Sink>(&mut self, id: SymbolId, value: Option<&[u8]>, sink: &mut W)
         ensures passed { (P : List Known) (start : Option (List ℕ))
-            → IsRising (P ++ told self.old.key (id, value.entry) ∷ [])
+            → IsRising (P ++ next_fact self.old.key (id, value.entry) ∷ [])
             → Stands P self.old start (W.written sink.old)
-            → Stands (P ++ told self.old.key (id, value.entry) ∷ []) self.new start
+            → Stands (P ++ next_fact self.old.key (id, value.entry) ∷ []) self.new start
             (W.written sink.new) }
         ensures key { self.new.key ≡ self.old.key }
-        ensures untouched { IsUntouched self.new.found
-            → IsUntouched self.old.found × (sink.new ≡ sink.old) }
+        ensures untouched { WritesNothing self.new.found
+            → WritesNothing self.old.found × (sink.new ≡ sink.old) }
         ensures failures { W.failures sink.new + times_failed self.old.failed
             ≡ W.failures sink.old + times_failed self.new.failed }
     {
@@ -211,9 +211,9 @@ impl WholeSoFar {
         sink: &mut W,
     ) -> Option<SymbolId>
         ensures passed { (P : List Known) (key : Name) (start : Option (List ℕ))
-            → IsRising (P ++ told key (id, value.entry) ∷ [])
+            → IsRising (P ++ next_fact key (id, value.entry) ∷ [])
             → Scanning P key failed.old start (W.written sink.old) self.old
-            → ScansOn (P ++ told key (id, value.entry) ∷ []) key failed.new start (W.written sink.new)
+            → ScansOn (P ++ next_fact key (id, value.entry) ∷ []) key failed.new start (W.written sink.new)
             self.new result }
         ensures failures { W.failures sink.new + times_failed failed.old
             ≡ W.failures sink.old + times_failed failed.new }

@@ -3,14 +3,14 @@ ghost use Rattle.std.specs.Prelude.{◌≡◌, ◌+◌, if◌then◌else◌, is_
 ghost use Rattle.std.specs.Io.KnownBytes.{Appends};
 ghost use Rattle.flute_parts.specs.Devices.{Writes};
 ghost use Rattle.flutejoin.specs.Lines.{packet_lines};
-ghost use Rattle.flutejoin.specs.Pieces.{packet_head, symbol_bytes};
+ghost use Rattle.flutejoin.specs.Pieces.{packet_head, payload};
 ghost use Rattle.flutejoin.specs.Packet.{IsHexOf, IsHexFault, HasLines, FailsWith, write_failures};
 
 use crate::command_fault::CommandFault;
+use crate::fact_lines::{push_info, push_object, push_symbol_head};
 use crate::hex_digits::HexDigits;
-use crate::lines::{push_info, push_object, push_symbol_head};
+use crate::report_lines::write_line;
 use crate::text::Text;
-use crate::writing::write_line;
 use flute_parts::{DeviceFault, Sender, Sink};
 use flute_wire::{Packet, read};
 use hex::FromHexError;
@@ -59,7 +59,7 @@ fn write_packet<W: Sink>(sink: &mut W, packet: &Packet<'_>) -> Result<(), Device
     ensures failures { W.failures sink.new ≡ W.failures sink.old + (if is_ok result then 0 else 1) }
 {
     let head = head_of(packet);
-    write_line(sink, &HexDigits::new(), &head, symbol_bytes(packet))
+    write_line(sink, &HexDigits::new(), &head, payload(packet))
 }
 
 // All that is written before the symbol's bytes.
@@ -80,8 +80,8 @@ fn head_of(packet: &Packet<'_>) -> Text
     text
 }
 
-fn symbol_bytes<'a>(packet: &Packet<'a>) -> &'a [u8]
-    ensures { result.now ≡ symbol_bytes packet.now.symbol }
+fn payload<'a>(packet: &Packet<'a>) -> &'a [u8]
+    ensures { result.now ≡ payload packet.now.symbol }
 {
     match packet.symbol() {
         Some((_, bytes)) => bytes,

@@ -8,12 +8,18 @@ const VERSION: &str = "\
 0.1.0
 Journals of versions 1 and 2 are read, and those of version 2 written.";
 
-/// An example that the help texts of datagrams end with.
-const DATAGRAM_EXAMPLE: &str = "\
-A datagram is given as hexadecimal digits, two for each byte. Prints four lines: session, object,
-info and symbol.
-Status 0: done. 1: the datagram is at fault. 2: the command line. 3: memory or a device. Example:
-  flutejoin packet 10A004000000000000000007000000010000000068656C6C";
+// What the help text of a command ends with: what it prints and its limits, the statuses that all
+// commands have, and an example.
+macro_rules! help_of {
+    ($prints:literal, $example:literal) => {
+        concat!(
+            $prints,
+            "\nStatus 0: done. 1: an input is at fault. 2: the command line. ",
+            "3: memory or a device. Example:\n  flutejoin ",
+            $example
+        )
+    };
+}
 
 /// What the help text of the program ends with.
 const PROGRAM_HELP: &str = "\
@@ -33,50 +39,63 @@ A join has up to 64 inputs.
 A fault is one line on standard error.
 Status 0: all was done. 1: an input is at fault. 2: the command line. 3: memory or a device.";
 
-// What the help texts of the commands end with.
-const SHOW_HELP: &str = "\
-Prints a line for each entry, and then: entries N. The journal may have up to 16,777,216 entries.
-Status 0: done. 1: an input is at fault. 2: the command line. 3: memory or a device. Example:
-  flutejoin show station1";
+const PACKET_HELP: &str = help_of!(
+    "\
+A datagram is given as hexadecimal digits, two for each byte. Prints four lines: session, object,
+info and symbol.",
+    "packet 10A004000000000000000007000000010000000068656C6C"
+);
 
-const GAPS_HELP: &str = "\
+const SHOW_HELP: &str = help_of!(
+    "\
+Prints a line for each entry, and then: entries N. The journal may have up to 16,777,216 entries.",
+    "show station1"
+);
+
+const GAPS_HELP: &str = help_of!(
+    "\
 Prints a line for each object: whole, partial, no information or conflicting information.
 Behind partial a line for each gap follows: gap BLOCK/FIRST-LAST, and whether these symbols are
 missing, conflicting or misfit.
-The journal may have as much as a store holds (flutejoin --help).
-Status 0: done. 1: an input is at fault. 2: the command line. 3: memory or a device. Example:
-  flutejoin gaps station1";
+The journal may have as much as a store holds (flutejoin --help).",
+    "gaps station1"
+);
 
-const EXTRACT_HELP: &str = "\
+const EXTRACT_HELP: &str = help_of!(
+    "\
 Prints: bytes N. Of an object that is not whole nothing is written.
-The journal may have as much as a store holds (flutejoin --help).
-Status 0: done. 1: an input is at fault. 2: the command line. 3: memory or a device. Example:
-  flutejoin extract -o out --tsi 7 --toi 1 station1";
+The journal may have as much as a store holds (flutejoin --help).",
+    "extract -o out --tsi 7 --toi 1 station1"
+);
 
-const INFO_HELP: &str = "\
+const INFO_HELP: &str = help_of!(
+    "\
 Prints: entries N. It is for an object whose packets do not tell its information.
-The journal may have as much as a store holds (flutejoin --help).
-Status 0: done. 1: an input is at fault. 2: the command line. 3: memory or a device. Example:
-  flutejoin info -o known --tsi 7 --toi 1 --length 40000 --symbol 1000 --block 16 station1";
+The journal may have as much as a store holds (flutejoin --help).",
+    "info -o known --tsi 7 --toi 1 --length 40000 --symbol 1000 --block 16 station1"
+);
 
-const JOIN_HELP: &str = "\
+const JOIN_HELP: &str = help_of!(
+    "\
 Prints: datagrams N, refused N (those of them that are not taken) and entries N.
 With --tsi only these sessions are taken; others N then counts the entries and datagrams of others.
 --source is the sender of all datagram files of the call; journals keep theirs.
-All inputs, at most 64, may together have as much as a store holds (flutejoin --help).
-Status 0: done. 1: an input is at fault. 2: the command line. 3: memory or a device. Example:
-  flutejoin join -o all station1 station2";
+All inputs, at most 64, may together have as much as a store holds (flutejoin --help).",
+    "join -o all station1 station2"
+);
 
-const MERGE_HELP: &str = "\
+const MERGE_HELP: &str = help_of!(
+    "\
 Prints: entries N. Each journal may have up to 16,777,216 entries; the limits of a store do not
-apply. OUT is no input.
-Status 0: done. 1: an input is at fault. 2: the command line. 3: memory or a device. Example:
-  flutejoin merge -o both station1 station2";
+apply. OUT is no input.",
+    "merge -o both station1 station2"
+);
 
-const CAROUSEL_HELP: &str = "\
-Prints: datagrams N. FILE has up to 4,294,967,295 bytes.
-Status 0: done. 1: an input is at fault. 2: the command line. 3: memory or a device. Example:
-  flutejoin carousel -o sent --tsi 7 --toi 1 --symbol 1000 --block 16 file";
+const CAROUSEL_HELP: &str = help_of!(
+    "\
+Prints: datagrams N. FILE has up to 4,294,967,295 bytes.",
+    "carousel -o sent --tsi 7 --toi 1 --symbol 1000 --block 16 file"
+);
 
 /// The program's command, with a subcommand for each of its commands.
 pub fn command<'a>(alloc: Global) -> Result<Command<'a>, clap::Error> {
@@ -104,7 +123,7 @@ fn packet_command<'a>(alloc: Global) -> Result<Command<'a>, clap::Error> {
     let hex = input(alloc, "HEX").help("The datagram in hexadecimal digits, two for each byte");
     let command = Command::new(alloc, "packet")
         .about("Prints what one datagram says: its session, object, information and symbol")
-        .after_help(DATAGRAM_EXAMPLE)
+        .after_help(PACKET_HELP)
         .arg(hex)?;
     Ok(command)
 }
@@ -254,7 +273,7 @@ fn number<'a>(alloc: Global, name: &'a str) -> Arg<'a> {
     value(alloc, name, "N")
 }
 
-// An option with a value, which is looked at later: also where it begins with a hyphen.
+// An option with a value, which is inspected later: also where it begins with a hyphen.
 fn value<'a>(alloc: Global, name: &'a str, value_name: &'a str) -> Arg<'a> {
     Arg::new(alloc, name)
         .long(name)

@@ -6,7 +6,7 @@ use flute_parts::{DeviceFault, Source};
 
 /// A source that gives the first bytes of an input, which were read ahead, and then those that
 /// another source has left. It takes no memory.
-#[derive(Drop)]
+#[derive(Debug, Drop)]
 pub struct PeekedSource<'a, R> {
     first: FirstBytes,
     /// How many of the first bytes were given.

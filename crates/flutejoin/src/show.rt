@@ -7,11 +7,11 @@ ghost use Rattle.flutejoin.specs.Show.{FailsToRead, ShowsAll, ShowFails};
 ghost use Rattle.flutejoin.specs.Packet.{write_failures};
 
 use crate::command_fault::{CommandFault, at_input};
+use crate::fact_lines::{push_information, push_key, push_symbol, push_symbol_id};
 use crate::hex_digits::HexDigits;
 use crate::limits::MAX_ENTRIES;
-use crate::lines::{push_information, push_key, push_symbol, push_symbol_id};
+use crate::report_lines::{write_count, write_line};
 use crate::text::Text;
-use crate::writing::{write_count, write_line};
 use flute_journal::JournalReader;
 use flute_parts::{DeviceFault, Fact, Sink, Source};
 use std::alloc::Global;

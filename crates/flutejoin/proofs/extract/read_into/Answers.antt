@@ -2,7 +2,7 @@ use Rattle.std.proofs.Common.{[], Err, refl, sym, ap, ◌∙◌, subst, arith}
 use Rattle.std.proofs.lemmas.Result.{err_from_is_err_and}
 use Rattle.flute_journal.specs.Reading.{is_open}
 use Rattle.flute_journal.specs.SoFar.{Sofar}
-use Rattle.flute_journal.specs.declared.reader.Stage.{Stage}
+use Rattle.flute_journal.specs.declared.journal_reader.ReaderState.{ReaderState}
 use Rattle.flute_journal.proofs.Loading.{given-entry, loaded-read}
 use Rattle.flute_journal.proofs.Whole.{sofar-none}
 use Rattle.flutejoin.specs.declared.limits.TheConstants.{MAX_ENTRIES}
@@ -15,7 +15,7 @@ loop-fact-init g c =
     record {
       passing = record {
         entries = [];
-        sofar = subst (λ (stage : Stage). Sofar MAX_ENTRIES u u stage []) (sym c.requires.new) (sofar-none MAX_ENTRIES u);
+        sofar = subst (λ (state : ReaderState). Sofar MAX_ENTRIES u u state []) (sym c.requires.new) (sofar-none MAX_ENTRIES u);
         counts = c.new-tally.ensures;
         stands = c.requires.none (g.W.Sink.written c.args.sink.now);
       };
@@ -49,7 +49,7 @@ loop-fact-preserved g c =
       limit = c.next_with.ensures.limit ∙ i.limit;
       source = c.next_with.ensures.source ∙ i.source;
       key = c.pass.ensures.key ∙ i.key;
-      reads = loaded-read (is_open c.loop-fact.reader.stage) _ _ _ i.reads c.in_ok-fact.ensures.failures;
+      reads = loaded-read (is_open c.loop-fact.reader.state) _ _ _ i.reads c.in_ok-fact.ensures.failures;
       untouched = λ u. let x = c.pass.ensures.untouched u in x.1 ∙ i.untouched x.0;
       writes = let e = c.pass.ensures.failures in let w = i.writes in omega (arith, e, w);
     }

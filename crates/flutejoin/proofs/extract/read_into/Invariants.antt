@@ -2,21 +2,21 @@
 use Rattle.std.proofs.Common.{◌≡◌, ◌+◌, ◌-◌}
 use Rattle.flute_journal.specs.JournalWriters.{times_failed}
 use Rattle.flute_journal.specs.Reading.{count_at}
-use Rattle.flutejoin.specs.ObjectWriters.{IsUntouched}
+use Rattle.flutejoin.specs.ObjectWriters.{WritesNothing}
 use Rattle.flutejoin.specs.declared.limits.TheConstants.{MAX_ENTRIES}
 use Rattle.flutejoin.proofs.Extracted.{Passing}
 use Rattle.flutejoin.proofs.extract.read_into.Given as goal
 
 abbrev pub invariant-loop-fact : goal.invariant-loop-fact
 invariant-loop-fact g l = record {
-  passing : Passing (g.R.Source.unread l.fn.reader.source.now) (g.R.Source.unread l.reader.source.now) l.reader.stage l.tally l.writer (g.W.Sink.written l.fn.sink) (g.W.Sink.written l.sink);
+  passing : Passing (g.R.Source.unread l.fn.reader.source.now) (g.R.Source.unread l.reader.source.now) l.reader.state l.tally l.writer (g.W.Sink.written l.fn.sink) (g.W.Sink.written l.sink);
   limit : l.reader.max_entries ≡ MAX_ENTRIES;
   source : l.reader.source.ghost_name ≡ l.fn.reader.source.ghost_name;
   key : l.writer.key ≡ l.fn.writer.key;
   reads : g.R.Source.failures l.reader.source.now ≡ g.R.Source.failures l.fn.reader.source.now;
-  untouched : IsUntouched l.writer.found → l.sink ≡ l.fn.sink;
+  untouched : WritesNothing l.writer.found → l.sink ≡ l.fn.sink;
   writes : g.W.Sink.failures l.sink ≡ g.W.Sink.failures l.fn.sink + times_failed l.writer.failed;
 }
 
 abbrev pub decreases-loop-fact : goal.decreases-loop-fact
-decreases-loop-fact g l = MAX_ENTRIES - count_at l.reader.stage
+decreases-loop-fact g l = MAX_ENTRIES - count_at l.reader.state

@@ -4,7 +4,7 @@ use Rattle.std.proofs.lemmas.Result.{err_from_is_err_and}
 use Rattle.flute_store.specs.declared.status.Status.{Status}
 use Rattle.flute_store.specs.Found.{IsUnheard}
 use Rattle.flute_store.specs.Status.{TellsStatus}
-use Rattle.flutejoin.proofs.Told.{object_part, object_written, object_alone}
+use Rattle.flutejoin.proofs.StatusLines.{object_part, object_written, object_alone}
 use Rattle.flutejoin.proofs.gaps.write_object.Goals as goal
 
 pub returns-in_err-write_status-clause-lines : goal.returns-in_err-write_status-clause-lines

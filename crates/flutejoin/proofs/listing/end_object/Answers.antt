@@ -1,7 +1,7 @@
 use Rattle.std.proofs.Common.{subst}
 use Rattle.flutejoin.specs.Listing.{StateIs}
 use Rattle.flutejoin.specs.declared.listing.ObjectState.{ObjectState}
-use Rattle.flutejoin.proofs.Opened.{no_information_told, conflict_told, scan_gave, scan_told}
+use Rattle.flutejoin.proofs.OpenObjects.{no_information_told, conflict_told, scan_gave, scan_told}
 use Rattle.flutejoin.proofs.listing.end_object.Goals as goal
 
 pub returns-in-NoInformation : goal.returns-in-NoInformation

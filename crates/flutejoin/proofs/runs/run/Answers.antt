@@ -2,7 +2,7 @@
 use Rattle.std.proofs.Common.{refl, arith}
 use Rattle.std.proofs.lemmas.Bool.{false≢true}
 use Rattle.std.proofs.lemmas.Option.{slice_get_read}
-use Rattle.flutejoin.proofs.Running.{run_start, run_more, run_refused, run_stops_at_need, run_done}
+use Rattle.flutejoin.proofs.RunSteps.{run_start, run_more, run_refused, run_stops_at_need, run_done}
 use Rattle.flutejoin.proofs.runs.run.Goals as goal
 
 pub loop-k-init : goal.loop-k-init

@@ -1,6 +1,6 @@
 -- The steps so far.
 use Rattle.flutejoin.specs.Held.{capacity}
-use Rattle.flutejoin.proofs.Running.{RunSoFar}
+use Rattle.flutejoin.proofs.RunSteps.{RunSoFar}
 use Rattle.flutejoin.proofs.runs.run.Given as goal
 
 abbrev pub invariant-loop-k : goal.invariant-loop-k

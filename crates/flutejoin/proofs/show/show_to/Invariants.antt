@@ -6,7 +6,7 @@ use Rattle.flutejoin.proofs.show.show_to.Given as goal
 
 abbrev pub invariant-loop-fact : goal.invariant-loop-fact
 invariant-loop-fact g l = record {
-  shown : Shown (g.R.Source.unread l.fn.source) (g.R.Source.unread l.reader.source.now) l.reader.stage (g.W.Sink.written l.initial.sink) (g.W.Sink.written l.sink) l.count;
+  shown : Shown (g.R.Source.unread l.fn.source) (g.R.Source.unread l.reader.source.now) l.reader.state (g.W.Sink.written l.initial.sink) (g.W.Sink.written l.sink) l.count;
   limit : l.reader.max_entries ≡ MAX_ENTRIES;
   source : l.reader.source.ghost_name ≡ l.initial.reader.source.ghost_name;
   reads : g.R.Source.failures l.reader.source.now ≡ g.R.Source.failures l.fn.source;

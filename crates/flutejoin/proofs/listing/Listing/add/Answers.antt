@@ -3,7 +3,7 @@ use Rattle.flute_parts.specs.Addresses.{address}
 use Rattle.flute_parts.specs.declared.fact.Fact.{Fact}
 use Rattle.flutejoin.specs.Listing.{StateIs}
 use Rattle.flutejoin.specs.declared.listing.ObjectState.TheVariants.{ConflictingInformation, OneInformation}
-use Rattle.flutejoin.proofs.Opened.{first_information, begins_scan, begins_conflict}
+use Rattle.flutejoin.proofs.OpenObjects.{first_information, begins_scan, begins_conflict}
 use Rattle.flutejoin.proofs.listing.Listing.add.Goals as goal
 
 pub returns-in-Info : goal.returns-in-Info

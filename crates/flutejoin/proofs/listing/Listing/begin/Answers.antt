@@ -1,6 +1,6 @@
 use Rattle.std.proofs.Common.{[], ◌∷◌}
 use Rattle.flute_parts.proofs.OneMore.{rising-front}
-use Rattle.flutejoin.proofs.Opened.{begun}
+use Rattle.flutejoin.proofs.OpenObjects.{begun}
 use Rattle.flutejoin.proofs.listing.Listing.begin.Goals as goal
 
 pub returns : goal.returns

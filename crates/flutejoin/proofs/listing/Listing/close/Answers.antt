@@ -2,7 +2,7 @@ use Rattle.std.proofs.Common.{Option, ◌≡◌, ◌++◌, sym, ap, ◌∙◌, s
 use Rattle.flutejoin.specs.Lines.{status_line}
 use Rattle.flutejoin.specs.Listing.{AreListed, ListsWith}
 use Rattle.flutejoin.specs.declared.listing.OpenObject.{OpenObject}
-use Rattle.flutejoin.proofs.Opened.{none_open, heard_open, closed_listed}
+use Rattle.flutejoin.proofs.OpenObjects.{none_open, heard_open, closed_listed}
 use Rattle.flutejoin.proofs.listing.Listing.close.Goals as goal
 
 pub returns-in_default : goal.returns-in_default

@@ -1,5 +1,5 @@
 use Rattle.std.proofs.Common.{refl, subst}
-use Rattle.flutejoin.specs.ObjectWriters.{Finds}
+use Rattle.flutejoin.specs.ObjectWriters.{HasFound}
 use Rattle.flutejoin.proofs.ObjectFacts.{conflict-told}
 use Rattle.flutejoin.proofs.ObjectWriters.{information-passes}
 use Rattle.flutejoin.proofs.object_writer.ObjectWriter.conflict.Goals as goal
@@ -7,7 +7,7 @@ use Rattle.flutejoin.proofs.object_writer.ObjectWriter.conflict.Goals as goal
 pub returns-in-Nothing-clause-passed : goal.returns-in-Nothing-clause-passed
 returns-in-Nothing-clause-passed c = λ P start now r h. (
   conflict-told c.args.self.now.key P,
-  (subst (Finds P c.args.self.now.key c.args.self.now.failed start now) c.in-Nothing.is h).1,
+  (subst (HasFound P c.args.self.now.key c.args.self.now.failed start now) c.in-Nothing.is h).1,
 )
 
 pub returns-in_default-clause-passed : goal.returns-in_default-clause-passed

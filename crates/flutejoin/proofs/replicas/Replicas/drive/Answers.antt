@@ -1,7 +1,7 @@
 -- Steps in turn, refused or not.
 use Rattle.std.proofs.Common.{◌<◌, length, refl, arith, sym, ◌∙◌}
 use Rattle.std.proofs.lemmas.Option.{slice_get_read}
-use Rattle.flutejoin.proofs.Driving.{drive_start, drive_more, drive_done}
+use Rattle.flutejoin.proofs.DriveSteps.{drive_start, drive_more, drive_done}
 use Rattle.flutejoin.proofs.replicas.Replicas.drive.Goals as goal
 
 pub loop-k-init : goal.loop-k-init

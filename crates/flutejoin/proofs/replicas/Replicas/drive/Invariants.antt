@@ -1,5 +1,5 @@
 -- The steps so far.
-use Rattle.flutejoin.proofs.Driving.{DriveSoFar}
+use Rattle.flutejoin.proofs.DriveSteps.{DriveSoFar}
 use Rattle.flutejoin.proofs.replicas.Replicas.drive.Given as goal
 
 abbrev pub invariant-loop-k : goal.invariant-loop-k

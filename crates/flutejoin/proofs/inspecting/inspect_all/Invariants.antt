@@ -1,0 +1,7 @@
+-- The inputs so far were inspected.
+use Rattle.flutejoin.specs.Joined.{choice_of}
+use Rattle.flutejoin.proofs.Inspections.{InspectedSoFar}
+use Rattle.flutejoin.proofs.inspecting.inspect_all.Given as goal
+
+abbrev pub invariant-loop-k : goal.invariant-loop-k
+invariant-loop-k g l = InspectedSoFar (choice_of l.fn.sender l.fn.sessions) g.R.Source.unread g.R.Source.failures l.fn.inputs l.inputs l.inspected l.k
