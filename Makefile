@@ -1,7 +1,7 @@
 # make               proves what changed, builds the program and leaves it at bin/flutejoin
 # make test          the whole gate: every proof from nothing, the must-fail edits, the tests, the trials, the
 #                    program, the tools, the sessions of README, of docs/OPERATING.md, the man pages and the
-#                    tutorial, the completion, and memory refused in turn
+#                    tutorial, the completion, the longest journal, and memory refused in turn
 # make wrong-bodies  the wrong bodies that the gate leaves out
 # make try           reads a first packet with the program as it stands, in about a minute and with nothing proved
 # make example       runs a small session: a file sent, received at three stations, joined and written
@@ -26,7 +26,9 @@ test:
 	tests/receive.sh crates/flutejoin_cli/out/flutejoin_cli
 	tests/map.sh crates/flutejoin_cli/out/flutejoin_cli
 	tests/readme.sh crates/flutejoin_cli/out/flutejoin_cli
+	tests/library_pages.sh
 	tests/tree.sh crates/flutejoin_cli/out/flutejoin_cli
+	tests/longest_journal.py crates/flutejoin_cli/out/flutejoin_cli
 	tests/man.sh crates/flutejoin_cli/out/flutejoin_cli
 	tests/completion.sh crates/flutejoin_cli/out/flutejoin_cli
 	tests/tutorial.sh crates/flutejoin_cli/out/flutejoin_cli
