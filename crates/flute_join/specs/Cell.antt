@@ -6,7 +6,8 @@ use Rattle.flute_join.specs.declared.cell.Cell.{Cell}
 use Rattle.flute_join.specs.declared.cell.Cell.TheVariants.{Absent, One, Conflict}
 use Rattle.flute_join.specs.Semilattice.{IsJoin}
 
--- absent adds nothing, two equal values are one, and two different values, or a conflict, are a conflict
+-- absent adds nothing, two equal values are one, and two different values, or a conflict,
+-- are a conflict
 abbrev pub cell_join : {T : Type 0} → (T → T → Bool) → Cell T → Cell T → Cell T
 cell_join eq Absent d = d
 cell_join eq (One x) Absent = One x
@@ -28,7 +29,8 @@ IsKnown c = c ≢ Absent
 abbrev pub CellNeedsMemory : {T : Type 0} → Cell T → Cell T → Type 0
 CellNeedsMemory c d = (c ≡ Absent) × IsSome (one_value d)
 
-module _ {T : Type 0} {eq : T → T → Bool} (laws : IsEquivalence eq) (same : (x y : T) → eq x y ≡ true → x ≡ y) where
+module _ {T : Type 0} {eq : T → T → Bool} (laws : IsEquivalence eq)
+    (same : (x y : T) → eq x y ≡ true → x ≡ y) where
   pub right_absent : (c : Cell T) → cell_join eq c Absent ≡ c
   right_absent Absent = refl
   right_absent (One x) = refl
@@ -39,12 +41,16 @@ module _ {T : Type 0} {eq : T → T → Bool} (laws : IsEquivalence eq) (same : 
   right_conflict (One x) = refl
   right_conflict Conflict = refl
 
-  either_value : (x y : T) (b : Bool) → eq x y ≡ b → cond b (One x) Conflict ≡ cond b (One y) Conflict
+  either_value : (x y : T) (b : Bool) → eq x y ≡ b
+      → cond b (One x) Conflict ≡ cond b (One y) Conflict
   either_value x y true e = ap One (same x y e)
   either_value x y false e = refl
 
-  three_values : (x y z : T) (b c : Bool) → eq x y ≡ b → eq y z ≡ c → cell_join eq (cond b (One x) Conflict) (One z) ≡ cell_join eq (One x) (cond c (One y) Conflict)
-  three_values x y z true true e f = ap (λ b. cond b (One x) Conflict) (laws.congr x y z e ∙ f ∙ sym e)
+  three_values : (x y z : T) (b c : Bool) → eq x y ≡ b → eq y z ≡ c
+      → cell_join eq (cond b (One x) Conflict) (One z)
+      ≡ cell_join eq (One x) (cond c (One y) Conflict)
+  three_values x y z true true e f =
+      ap (λ b. cond b (One x) Conflict) (laws.congr x y z e ∙ f ∙ sym e)
   three_values x y z true false e f = ap (λ b. cond b (One x) Conflict) (laws.congr x y z e ∙ f)
   three_values x y z false true e f = sym (ap (λ b. cond b (One x) Conflict) e)
   three_values x y z false false e f = refl
@@ -52,11 +58,13 @@ module _ {T : Type 0} {eq : T → T → Bool} (laws : IsEquivalence eq) (same : 
   commutes : (c d : Cell T) → cell_join eq c d ≡ cell_join eq d c
   commutes Absent d = sym (right_absent d)
   commutes (One x) Absent = refl
-  commutes (One x) (One y) = either_value x y (eq x y) refl ∙ ap (λ b. cond b (One y) Conflict) (laws.symm x y)
+  commutes (One x) (One y) =
+      either_value x y (eq x y) refl ∙ ap (λ b. cond b (One y) Conflict) (laws.symm x y)
   commutes (One x) Conflict = refl
   commutes Conflict d = sym (right_conflict d)
 
-  associates : (c d e : Cell T) → cell_join eq (cell_join eq c d) e ≡ cell_join eq c (cell_join eq d e)
+  associates : (c d e : Cell T)
+      → cell_join eq (cell_join eq c d) e ≡ cell_join eq c (cell_join eq d e)
   associates Absent d e = refl
   associates (One x) Absent e = refl
   associates (One x) (One y) Absent = right_absent (cond (eq x y) (One x) Conflict)

@@ -34,21 +34,30 @@ module _ {K X : Type 0} (cmp : K → K → Ordering) where
     pub some : es ≢ []
     pub each : EachValue P es
 
-  -- joining fs into es may ask for memory: at some key of fs that es lacks, or where joining the values at it may ask
+  -- joining fs into es may ask for memory: at some key of fs that es lacks, or where joining
+  -- the values at it may ask
   abbrev pub MapNeedsMemory : (X → X → Type 0) → List (K × X) → List (K × X) → Type 0
-  MapNeedsMemory needs_memory es fs = (q : K) × (w : X) × (value_at fs q ≡ Some w) × ForSome (value_at es q) (λ v. needs_memory v w)
+  MapNeedsMemory needs_memory es fs =
+      (q : K) × (w : X) × (value_at fs q ≡ Some w) × ForSome (value_at es q) (λ v. needs_memory v w)
 
   module _ (join : X → X → X) where
     -- e before es, joined with the last argument, where `on` joins es with a list
-    unfoldable pub join_entry : K × X → List (K × X) → (List (K × X) → List (K × X)) → List (K × X) → List (K × X)
+    unfoldable pub join_entry : K × X → List (K × X) → (List (K × X) → List (K × X)) → List (K × X)
+        → List (K × X)
     join_entry e es on [] = e ∷ es
-    join_entry e es on (f ∷ fs) = match_ordering (cmp e.0 f.0) (e ∷ on (f ∷ fs)) ((e.0, join e.1 f.1) ∷ on fs) (f ∷ join_entry e es on fs)
+    join_entry e es on (f ∷ fs) =
+        match_ordering (cmp e.0 f.0) (e ∷ on (f ∷ fs)) ((e.0, join e.1 f.1) ∷ on fs)
+        (f ∷ join_entry e es on fs)
 
     -- the entries of both in the order of the keys, with the values at a shared key joined
     unfoldable pub map_join : List (K × X) → List (K × X) → List (K × X)
     map_join [] fs = fs
     map_join (e ∷ es) fs = join_entry e es (map_join es) fs
 
-    -- two maps have more than `limit` keys together, or the limits forbid the join of their values at a shared key
+    -- two maps have more than `limit` keys together, or the limits forbid the join of their
+    -- values at a shared key
     abbrev pub MapOver : ℕ → (X → X → Type 0) → List (K × X) → List (K × X) → Type 0
-    MapOver limit over es fs = (limit < length (map_join es fs)) ⊎ ((q : K) × (v : X) × (w : X) × (value_at es q ≡ Some v) × (value_at fs q ≡ Some w) × over v w)
+    MapOver limit over es fs =
+        (limit < length (map_join es fs))
+        ⊎ ((q : K) × (v : X) × (w : X) × (value_at es q ≡ Some v) × (value_at fs q ≡ Some w)
+        × over v w)

@@ -10,9 +10,10 @@ use crate::value::Value;
 use std::alloc::Global;
 
 /// What is known at one place. A conflict stays one, whatever comes after it.
-#[derive(Debug, Drop, PartialEq, Eq)]
+#[derive(Debug, Default, Drop, PartialEq, Eq)]
 pub enum Cell<T: Value> {
     /// No value came.
+    #[default]
     Absent,
     /// One value came, perhaps several times.
     One(T),

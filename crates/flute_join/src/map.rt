@@ -39,7 +39,8 @@ impl<K: Place, V: Join, const LIMIT: u32> Model for JoinMap<K, V, LIMIT> {
 
     ghost view = { λ m. m.entries.entries };
 
-    ghost invariant = { λ m. IsOrdered K.cmp m.entries.entries × (length m.entries.entries ≤ LIMIT) };
+    ghost invariant = { λ m. IsOrdered K.cmp m.entries.entries
+        × (length m.entries.entries ≤ LIMIT) };
 }
 
 impl<K: Place, V: Join, const LIMIT: u32> JoinMap<K, V, LIMIT> {

@@ -25,6 +25,15 @@ fn a_cell_keeps_its_value_and_its_conflict(rt: HostRuntime) {
     assert!(rt; cell.is_conflict());
 }
 
+fn made<T: Default>() -> T {
+    T::default()
+}
+
+#[test]
+fn a_cell_is_absent_by_default(rt: HostRuntime) {
+    assert_eq!(rt; made::<Cell<u8>>(), Cell::Absent);
+}
+
 fn joined<T: Join>(alloc: Global, first: T, second: &T) -> Result<T, JoinRefusal> {
     let mut value = first;
     value.join_from(alloc, second)?;
