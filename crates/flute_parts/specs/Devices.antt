@@ -11,5 +11,7 @@ pub record AppendsPart (old new : Option (List ℕ)) (bytes : List ℕ) : Type 0
   pub cut : rest ≢ []
 
 -- the bytes were appended, or after a failure a part of them
-abbrev pub Writes : {T E : Type 0} → Option (List ℕ) → Option (List ℕ) → List ℕ → Result T E → Type 0
-Writes old new bytes result = MatchResult result (λ _. Appends old new bytes) (λ _. AppendsPart old new bytes)
+abbrev pub Writes : {T E : Type 0} → Option (List ℕ) → Option (List ℕ) → List ℕ → Result T E
+    → Type 0
+Writes old new bytes result =
+    MatchResult result (λ _. Appends old new bytes) (λ _. AppendsPart old new bytes)

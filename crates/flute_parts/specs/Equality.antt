@@ -32,7 +32,8 @@ pub both_true : (a b : Bool) → a ≡ true → b ≡ true → (a && b) ≡ true
 both_true true b h k = k
 both_true false b h k = h
 
-then_both : (a b : Ordering) → is_eq (ordering_then a b) ≡ true → (is_eq a ≡ true) × (is_eq b ≡ true)
+then_both : (a b : Ordering) → is_eq (ordering_then a b) ≡ true
+    → (is_eq a ≡ true) × (is_eq b ≡ true)
 then_both Less b h = absurd (false≢true h)
 then_both Equal b h = (refl, h)
 then_both Greater b h = absurd (false≢true h)
@@ -61,7 +62,9 @@ session_same a b h =
     λ i. record { sender = s i; tsi = t i }
 
 pub session_itself : (a : Session) → is_eq (session_cmp a a) ≡ true
-session_itself a = then_true (nat_cmp a.sender a.sender) (nat_cmp a.tsi a.tsi) (nat_itself a.sender) (nat_itself a.tsi)
+session_itself a =
+    then_true (nat_cmp a.sender a.sender) (nat_cmp a.tsi a.tsi) (nat_itself a.sender)
+    (nat_itself a.tsi)
 
 pub object_same : (a b : ObjectName) → is_eq (object_cmp a b) ≡ true → a ≡ b
 object_same (Instance m) (Instance n) h = ap Instance (nat_same m n h)
@@ -81,7 +84,9 @@ key_same a b h =
     λ i. record { session = s i; object = o i }
 
 pub key_itself : (a : Key) → same_key a a ≡ true
-key_itself a = then_true (session_cmp a.session a.session) (object_cmp a.object a.object) (session_itself a.session) (object_itself a.object)
+key_itself a =
+    then_true (session_cmp a.session a.session) (object_cmp a.object a.object)
+    (session_itself a.session) (object_itself a.object)
 
 pub symbol_id_same : (a b : SymbolId) → same_symbol_id a b ≡ true → a ≡ b
 symbol_id_same a b h =
@@ -91,7 +96,8 @@ symbol_id_same a b h =
     λ i. record { sbn = s i; esi = e i }
 
 pub symbol_id_itself : (a : SymbolId) → same_symbol_id a a ≡ true
-symbol_id_itself a = then_true (nat_cmp a.sbn a.sbn) (nat_cmp a.esi a.esi) (nat_itself a.sbn) (nat_itself a.esi)
+symbol_id_itself a =
+    then_true (nat_cmp a.sbn a.sbn) (nat_cmp a.esi a.esi) (nat_itself a.sbn) (nat_itself a.esi)
 
 pub part_same : (a b : Part) → is_eq (part_cmp a b) ≡ true → a ≡ b
 part_same InfoPart InfoPart h = refl
@@ -111,7 +117,8 @@ address_same a b h =
     λ i. record { key = k i; part = q i }
 
 pub address_itself : (a : Address) → same_address a a ≡ true
-address_itself a = then_true (key_cmp a.key a.key) (part_cmp a.part a.part) (key_itself a.key) (part_itself a.part)
+address_itself a =
+    then_true (key_cmp a.key a.key) (part_cmp a.part a.part) (key_itself a.key) (part_itself a.part)
 
 pub session_place : (x y : Session) → session_cmp x y ≡ Equal → x ≡ y
 session_place x y h = session_same x y (is_eq-from (session_cmp x y) h)
@@ -126,18 +133,27 @@ symbol_id_place x y h = symbol_id_same x y (is_eq-from (symbol_id_cmp x y) h)
 
 pub information_same : (i j : Information) → same_information i j ≡ true → i ≡ j
 information_same i j h =
-    let p = both (i.transfer_length == j.transfer_length) ((i.symbol_length == j.symbol_length) && (i.max_block_length == j.max_block_length)) h in
-    let q = both (i.symbol_length == j.symbol_length) (i.max_block_length == j.max_block_length) p.1 in
-    let l : i.transfer_length ≡ j.transfer_length = eqb-true i.transfer_length j.transfer_length p.0 in
+    let p = both (i.transfer_length == j.transfer_length)
+    ((i.symbol_length == j.symbol_length) && (i.max_block_length == j.max_block_length)) h in
+    let q =
+    both (i.symbol_length == j.symbol_length) (i.max_block_length == j.max_block_length) p.1 in
+    let l : i.transfer_length ≡ j.transfer_length =
+    eqb-true i.transfer_length j.transfer_length p.0 in
     let e : i.symbol_length ≡ j.symbol_length = eqb-true i.symbol_length j.symbol_length q.0 in
-    let b : i.max_block_length ≡ j.max_block_length = eqb-true i.max_block_length j.max_block_length q.1 in
+    let b : i.max_block_length ≡ j.max_block_length =
+    eqb-true i.max_block_length j.max_block_length q.1 in
     λ k. record { transfer_length = l k; symbol_length = e k; max_block_length = b k }
 
 pub eqb_itself : (n : ℕ) → (n == n) ≡ true
 eqb_itself n = eq-eqb n n refl
 
 pub information_itself : (i : Information) → same_information i i ≡ true
-information_itself i = both_true (i.transfer_length == i.transfer_length) ((i.symbol_length == i.symbol_length) && (i.max_block_length == i.max_block_length)) (eqb_itself i.transfer_length) (both_true (i.symbol_length == i.symbol_length) (i.max_block_length == i.max_block_length) (eqb_itself i.symbol_length) (eqb_itself i.max_block_length))
+information_itself i =
+    both_true (i.transfer_length == i.transfer_length)
+    ((i.symbol_length == i.symbol_length) && (i.max_block_length == i.max_block_length))
+    (eqb_itself i.transfer_length)
+    (both_true (i.symbol_length == i.symbol_length) (i.max_block_length == i.max_block_length)
+    (eqb_itself i.symbol_length) (eqb_itself i.max_block_length))
 
 pub bytes_same : (x y : List ℕ) → bytes_eq x y ≡ true → x ≡ y
 bytes_same x y h = (bytes_eq-Decides x y).0 h
@@ -177,7 +193,12 @@ fact_same (SymbolConflict k i) (InfoConflict l) h = absurd (false≢true h)
 fact_same (SymbolConflict k i) (Symbol l j c) h = absurd (false≢true h)
 
 pub fact_itself : (f : Fact) → same_fact f f ≡ true
-fact_itself (Info k i) = both_true (same_key k k) (same_information i i) (key_itself k) (information_itself i)
+fact_itself (Info k i) =
+    both_true (same_key k k) (same_information i i) (key_itself k) (information_itself i)
 fact_itself (InfoConflict k) = key_itself k
-fact_itself (Symbol k i b) = both_true (same_key k k) (same_symbol_id i i && bytes_eq b b) (key_itself k) (both_true (same_symbol_id i i) (bytes_eq b b) (symbol_id_itself i) ((bytes_eq-Decides b b).1 refl))
-fact_itself (SymbolConflict k i) = both_true (same_key k k) (same_symbol_id i i) (key_itself k) (symbol_id_itself i)
+fact_itself (Symbol k i b) =
+    both_true (same_key k k) (same_symbol_id i i && bytes_eq b b) (key_itself k)
+    (both_true (same_symbol_id i i) (bytes_eq b b) (symbol_id_itself i)
+    ((bytes_eq-Decides b b).1 refl))
+fact_itself (SymbolConflict k i) =
+    both_true (same_key k k) (same_symbol_id i i) (key_itself k) (symbol_id_itself i)

@@ -24,8 +24,9 @@ ten-sizes : sizes ten ≡ 4 ∷ 3 ∷ 3 ∷ []
 unfolding sizes
 ten-sizes = refl
 
-ten-places : (place ten (symbol_id 0 3) ≡ Some 3) × (place ten (symbol_id 1 0) ≡ Some 4) × (place ten (symbol_id 2 2) ≡ Some 9)
-    × (place ten (symbol_id 1 3) ≡ None) × (place ten (symbol_id 3 0) ≡ None)
+ten-places : (place ten (symbol_id 0 3) ≡ Some 3) × (place ten (symbol_id 1 0) ≡ Some 4)
+    × (place ten (symbol_id 2 2) ≡ Some 9) × (place ten (symbol_id 1 3) ≡ None)
+    × (place ten (symbol_id 3 0) ≡ None)
 unfolding sizes ids place
 ten-places = (refl, refl, refl, refl, refl)
 
@@ -41,14 +42,18 @@ short-sizes : sizes short ≡ 1 ∷ 1 ∷ 1 ∷ []
 unfolding sizes
 short-sizes = refl
 
-short-fits : (fits short (symbol_id 2 0) 4 ≡ true) × (fits short (symbol_id 2 0) 2 ≡ true) × (fits short (symbol_id 2 0) 3 ≡ false)
-    × (fits short (symbol_id 0 0) 2 ≡ false) × (fits short (symbol_id 0 0) 4 ≡ true) × (fits short (symbol_id 0 1) 4 ≡ false)
+short-fits : (fits short (symbol_id 2 0) 4 ≡ true) × (fits short (symbol_id 2 0) 2 ≡ true)
+    × (fits short (symbol_id 2 0) 3 ≡ false) × (fits short (symbol_id 0 0) 2 ≡ false)
+    × (fits short (symbol_id 0 0) 4 ≡ true) × (fits short (symbol_id 0 1) 4 ≡ false)
 unfolding sizes ids place fits
 short-fits = (refl, refl, refl, refl, refl, refl)
 
-faults : (info_fault (information 65536 1 4294967295) ≡ None) × (info_fault (information 65537 1 4294967295) ≡ Some BlockTooLong)
-    × (info_fault (information 65536 1 1) ≡ None) × (info_fault (information 65537 1 1) ≡ Some TooManyBlocks)
-    × (info_fault (information (2 ^ 48) 0 0) ≡ Some Length) × (info_fault (information 1 0 0) ≡ Some SymbolLength)
+faults : (info_fault (information 65536 1 4294967295) ≡ None)
+    × (info_fault (information 65537 1 4294967295) ≡ Some BlockTooLong)
+    × (info_fault (information 65536 1 1) ≡ None)
+    × (info_fault (information 65537 1 1) ≡ Some TooManyBlocks)
+    × (info_fault (information (2 ^ 48) 0 0) ≡ Some Length)
+    × (info_fault (information 1 0 0) ≡ Some SymbolLength)
     × (info_fault (information 1 1 0) ≡ Some BlockLength) × (info_fault (information 0 0 0) ≡ None)
 faults = (refl, refl, refl, refl, refl, refl, refl, refl)
 
@@ -83,36 +88,46 @@ padded = Symbol key (symbol_id 0 1) (111 ∷ 0 ∷ 0 ∷ 0 ∷ [])
 abbrev known : List Fact
 known = Info key two ∷ first ∷ Info key two ∷ second ∷ []
 
-known-facts : (fact_at known (info_address key) ≡ Some (Info key two)) × (fact_at known (symbol_address key (symbol_id 0 0)) ≡ Some first)
-    × (fact_at known (symbol_address key (symbol_id 0 1)) ≡ Some second) × (fact_at known (symbol_address key (symbol_id 1 0)) ≡ None)
+known-facts : (fact_at known (info_address key) ≡ Some (Info key two))
+    × (fact_at known (symbol_address key (symbol_id 0 0)) ≡ Some first)
+    × (fact_at known (symbol_address key (symbol_id 0 1)) ≡ Some second)
+    × (fact_at known (symbol_address key (symbol_id 1 0)) ≡ None)
 unfolding fact_at
 known-facts = (refl, refl, refl, refl)
 
 -- the short form of a symbol and the padded one are two values
-two_forms-conflict : fact_at (known ++ padded ∷ []) (symbol_address key (symbol_id 0 1)) ≡ Some (SymbolConflict key (symbol_id 0 1))
+two_forms-conflict : fact_at (known ++ padded ∷ []) (symbol_address key (symbol_id 0 1))
+    ≡ Some (SymbolConflict key (symbol_id 0 1))
 unfolding fact_at
 two_forms-conflict = refl
 
 -- a conflict stays one when the first value comes again
-information-conflict : (fact_at (Info key two ∷ Info key (information 5 4 3) ∷ []) (info_address key) ≡ Some (InfoConflict key))
-    × (fact_at (Info key two ∷ Info key (information 5 4 3) ∷ Info key two ∷ []) (info_address key) ≡ Some (InfoConflict key))
+information-conflict :
+    (fact_at (Info key two ∷ Info key (information 5 4 3) ∷ []) (info_address key)
+    ≡ Some (InfoConflict key))
+    × (fact_at (Info key two ∷ Info key (information 5 4 3) ∷ Info key two ∷ []) (info_address key)
+    ≡ Some (InfoConflict key))
     × (fact_at (InfoConflict key ∷ Info key two ∷ []) (info_address key) ≡ Some (InfoConflict key))
     × (fact_at (Info key two ∷ Info key two ∷ []) (info_address key) ≡ Some (Info key two))
 unfolding fact_at
 information-conflict = (refl, refl, refl, refl)
 
 -- one session, its objects and the symbols of one of them
-limits : (length (sessions known) ≡ 1) × (objects (known ++ InfoConflict (key_of (Instance 3)) ∷ []) (session 0 7) ≡ File 1 ∷ Instance 3 ∷ [])
+limits : (length (sessions known) ≡ 1)
+    × (objects (known ++ InfoConflict (key_of (Instance 3)) ∷ []) (session 0 7)
+    ≡ File 1 ∷ Instance 3 ∷ [])
     × (symbols (known ++ padded ∷ []) key ≡ symbol_id 0 0 ∷ symbol_id 0 1 ∷ [])
 unfolding sessions objects symbols
 limits = (refl, refl, refl)
 
 -- a tally goes on from the object of the last fact
-last_objects : (last_key [] ≡ None) × (last_key (InfoConflict (key_of (Instance 3)) ∷ known) ≡ Some key)
+last_objects :
+    (last_key [] ≡ None) × (last_key (InfoConflict (key_of (Instance 3)) ∷ known) ≡ Some key)
 last_objects = (refl, refl)
 
 -- an FDT Instance stands before every file, and information before symbols
-ordered : (address_cmp (symbol_address (key_of (Instance 9)) (symbol_id 5 5)) (info_address key) ≡ Less)
+ordered :
+    (address_cmp (symbol_address (key_of (Instance 9)) (symbol_id 5 5)) (info_address key) ≡ Less)
     × (address_cmp (info_address key) (symbol_address key (symbol_id 0 0)) ≡ Less)
     × (address_cmp (symbol_address key (symbol_id 0 9)) (symbol_address key (symbol_id 1 0)) ≡ Less)
 ordered = (refl, refl, refl)

@@ -22,7 +22,9 @@ conflict_at a = conflict_in a.key a.part
 
 -- all three numbers are the same (RFC 5445, 3.2.2.2)
 abbrev pub same_information : Information → Information → Bool
-same_information i j = (i.transfer_length == j.transfer_length) && ((i.symbol_length == j.symbol_length) && (i.max_block_length == j.max_block_length))
+same_information i j =
+    (i.transfer_length == j.transfer_length)
+    && ((i.symbol_length == j.symbol_length) && (i.max_block_length == j.max_block_length))
 
 -- the facts tell the same of the same address
 abbrev pub same_fact : Fact → Fact → Bool

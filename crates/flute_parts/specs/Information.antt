@@ -4,14 +4,16 @@ use Rattle.std.specs.Int.{div_ceil}
 use Rattle.flute_parts.specs.declared.info.InfoFault.{InfoFault}
 use Rattle.flute_parts.specs.declared.info.InfoFault.TheVariants.{Length, SymbolLength, BlockLength, TooManyBlocks, BlockTooLong}
 
--- the transfer length, the encoding symbol length and the maximum source block length (RFC 5052, 6.2.4)
+-- the transfer length, the encoding symbol length and the maximum source block length
+-- (RFC 5052, 6.2.4)
 pub record Information : Type 0 where
   pub transfer_length : ℕ
   pub symbol_length : ℕ
   pub max_block_length : ℕ
 
 abbrev pub information : ℕ → ℕ → ℕ → Information
-information length symbol block = record { transfer_length = length; symbol_length = symbol; max_block_length = block }
+information length symbol block =
+    record { transfer_length = length; symbol_length = symbol; max_block_length = block }
 
 -- T = ceil(L / E), the number of source symbols
 abbrev pub symbol_count : Information → ℕ
@@ -36,8 +38,9 @@ large_count i = symbol_count i - small_length i * block_count i
 -- the lengths of the blocks in turn: the larger blocks come first, and of no byte there is no block
 unfoldable pub sizes : Information → List ℕ
 sizes i =
-    if i.transfer_length == 0 then [] else
-    (replicate (large_count i) (large_length i) ++ replicate (block_count i - large_count i) (small_length i))
+    if i.transfer_length == 0 then []
+    else (replicate (large_count i) (large_length i)
+    ++ replicate (block_count i - large_count i) (small_length i))
 
 -- 16 bits number the blocks, and 16 the symbols of a block (RFC 5445, 3.2.1)
 pub record HasBlocks (i : Information) : Type 0 where

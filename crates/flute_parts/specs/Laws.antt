@@ -43,51 +43,74 @@ OverIsMonotone = (F G : List Fact) (s o y : ℕ) → Below F G → Over F s o y 
 
 -- at an address stands nothing, or the one value that is told there, or the conflict of two
 abbrev pub AbsentWhereNoneStands : Type 0
-AbsentWhereNoneStands = (F : List Fact) (a : Address) → (fact_at F a ≡ None) ↔ ((f : Fact) → Contains F f → address f ≡ a → ⊥)
+AbsentWhereNoneStands =
+    (F : List Fact) (a : Address)
+    → (fact_at F a ≡ None) ↔ ((f : Fact) → Contains F f → address f ≡ a → ⊥)
 
 abbrev pub ValueWhereAllAgree : Type 0
-ValueWhereAllAgree = (F : List Fact) (a : Address) (f : Fact) → Contains F f → address f ≡ a → ((g : Fact) → Contains F g → address g ≡ a → g ≡ f) → fact_at F a ≡ Some f
+ValueWhereAllAgree =
+    (F : List Fact) (a : Address) (f : Fact) → Contains F f → address f ≡ a
+    → ((g : Fact) → Contains F g → address g ≡ a → g ≡ f) → fact_at F a ≡ Some f
 
 abbrev pub ConflictWhereTwoDiffer : Type 0
-ConflictWhereTwoDiffer = (F : List Fact) (a : Address) (f g : Fact) → Contains F f → Contains F g → address f ≡ a → address g ≡ a → (f ≡ g → ⊥) → fact_at F a ≡ Some (conflict_at a)
+ConflictWhereTwoDiffer =
+    (F : List Fact) (a : Address) (f g : Fact) → Contains F f → Contains F g → address f ≡ a
+    → address g ≡ a → (f ≡ g → ⊥) → fact_at F a ≡ Some (conflict_at a)
 
 -- a conflict that was told stays one, whatever else is told
 abbrev pub ConflictWhereOneIsTold : Type 0
-ConflictWhereOneIsTold = (F : List Fact) (a : Address) → Contains F (conflict_at a) → fact_at F a ≡ Some (conflict_at a)
+ConflictWhereOneIsTold =
+    (F : List Fact) (a : Address) → Contains F (conflict_at a) → fact_at F a ≡ Some (conflict_at a)
 
 abbrev pub AnswersStandThere : Type 0
 AnswersStandThere = (F : List Fact) (a : Address) (f : Fact) → fact_at F a ≡ Some f → address f ≡ a
 
--- a rising list has one fact at an address, which is what it comes to there, and no two of them come to the same
+-- a rising list has one fact at an address, which is what it comes to there, and no two
+-- of them come to the same
 abbrev pub RisingHasOneFact : Type 0
-RisingHasOneFact = (F : List Fact) (f g : Fact) → IsRising F → Contains F f → Contains F g → address f ≡ address g → f ≡ g
+RisingHasOneFact =
+    (F : List Fact) (f g : Fact) → IsRising F → Contains F f → Contains F g → address f ≡ address g
+    → f ≡ g
 
 abbrev pub RisingTellsItsFacts : Type 0
-RisingTellsItsFacts = (F : List Fact) (f : Fact) → IsRising F → Contains F f → fact_at F (address f) ≡ Some f
+RisingTellsItsFacts =
+    (F : List Fact) (f : Fact) → IsRising F → Contains F f → fact_at F (address f) ≡ Some f
 
 abbrev pub RisingIsUnique : Type 0
 RisingIsUnique = (F G : List Fact) → IsRising F → IsRising G → Same F G → F ≡ G
 
 -- the place of a symbol is where the listing has it
 abbrev pub PlacesAreInverse : Type 0
-PlacesAreInverse = (info : Information) (id : SymbolId) (k : ℕ) → (place info id ≡ Some k) ↔ (slice_get (ids info) k ≡ Some id)
+PlacesAreInverse =
+    (info : Information) (id : SymbolId) (k : ℕ)
+    → (place info id ≡ Some k) ↔ (slice_get (ids info) k ≡ Some id)
 
 -- the symbols of a partition rise
 abbrev pub IdsRise : Type 0
-IdsRise = (info : Information) (j k : ℕ) (a b : SymbolId) → j < k → slice_get (ids info) j ≡ Some a → slice_get (ids info) k ≡ Some b → symbol_id_cmp a b ≡ Less
+IdsRise =
+    (info : Information) (j k : ℕ) (a b : SymbolId) → j < k → slice_get (ids info) j ≡ Some a
+    → slice_get (ids info) k ≡ Some b → symbol_id_cmp a b ≡ Less
 
 -- and those of a block follow one another
 abbrev pub IdsFollow : Type 0
-IdsFollow = (info : Information) (k : ℕ) (id : SymbolId) → slice_get (ids info) k ≡ Some id → id.esi + 1 < slice_index (sizes info) id.sbn → slice_get (ids info) (k + 1) ≡ Some (symbol_id id.sbn (id.esi + 1))
+IdsFollow =
+    (info : Information) (k : ℕ) (id : SymbolId) → slice_get (ids info) k ≡ Some id
+    → id.esi + 1 < slice_index (sizes info) id.sbn
+    → slice_get (ids info) (k + 1) ≡ Some (symbol_id id.sbn (id.esi + 1))
 
 -- valid information gives as many symbols as its transfer length needs
 abbrev pub IdsAreCounted : Type 0
 IdsAreCounted = (info : Information) → IsValid info → length (ids info) ≡ symbol_count info
 
--- a symbol fits if it is of the partition and has the full length, or is the last and has its length without padding
+-- a symbol fits if it is of the partition and has the full length, or is the last and has
+-- its length without padding
 abbrev pub FitsMeans : Type 0
-FitsMeans = (info : Information) (id : SymbolId) (n : ℕ) → IsValid info →
-    (fits info id n ≡ true) ↔ (Contains (ids info) id × ((n ≡ info.symbol_length) ⊎ ((slice_get (ids info) (length (ids info) - 1) ≡ Some id) × (n ≡ last_length info))))
+FitsMeans =
+    (info : Information) (id : SymbolId) (n : ℕ) → IsValid info
+    → (fits info id n ≡ true)
+    ↔ (Contains (ids info) id
+    × ((n ≡ info.symbol_length)
+    ⊎ ((slice_get (ids info) (length (ids info) - 1) ≡ Some id) × (n ≡ last_length info))))
 
 -- information is valid exactly where it has no fault
 abbrev pub ValidHasNoFault : Type 0

@@ -47,7 +47,8 @@ objects facts session = firsts same_object (named (object_of session) facts)
 unfoldable pub symbols : List Fact → Key → List SymbolId
 symbols facts key = firsts same_symbol_id (named (symbol_of key) facts)
 
--- the facts name more than s sessions, more than o objects of one session or more than y symbols of one object
+-- the facts name more than s sessions, more than o objects of one session or more than y
+-- symbols of one object
 pub data Over (F : List Fact) (s o y : ℕ) : Type 0 where
   more_sessions : s < length (sessions F) → Over F s o y
   more_objects : (session : Session) → o < length (objects F session) → Over F s o y

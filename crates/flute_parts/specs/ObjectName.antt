@@ -3,7 +3,8 @@ use Rattle.std.specs.Prelude.{ℕ, ◌<◌, ◌≤◌, ◌^◌, Option, Some, No
 use Rattle.flute_parts.specs.declared.object_key.ObjectName.{ObjectName}
 use Rattle.flute_parts.specs.declared.object_key.ObjectName.TheVariants.{Instance, File}
 
--- an FDT Instance ID has 20 bits (RFC 6726, 3.4.1), and a Transport Object Identifier at most 112 (RFC 5651, 5.1)
+-- an FDT Instance ID has 20 bits (RFC 6726, 3.4.1), and a Transport Object Identifier at most 112
+-- (RFC 5651, 5.1)
 abbrev pub IsObjectName : ObjectName → Type 0
 IsObjectName (Instance n) = n < 2 ^ 20
 IsObjectName (File n) = (1 ≤ n) × (n < 2 ^ 112)

@@ -12,11 +12,13 @@ use Rattle.flute_parts.specs.declared.address.Part.{Part}
 use Rattle.flute_parts.specs.declared.address.Part.TheVariants.{Info as InfoPart, Symbol as SymbolPart}
 use Rattle.flute_parts.specs.declared.address.Address.{Address}
 
--- sessions by their sender first, and those of one sender by their Transport Session Identifier (RFC 5651, 5.1)
+-- sessions by their sender first, and those of one sender by their Transport Session Identifier
+-- (RFC 5651, 5.1)
 abbrev pub session_cmp : Session → Session → Ordering
 session_cmp a b = ordering_then (nat_cmp a.sender b.sender) (nat_cmp a.tsi b.tsi)
 
--- FDT Instances, which all have the Transport Object Identifier 0 (RFC 6726, 3.4), before files, and each kind by its number
+-- FDT Instances, which all have the Transport Object Identifier 0 (RFC 6726, 3.4), before files,
+-- and each kind by its number
 abbrev pub object_cmp : ObjectName → ObjectName → Ordering
 object_cmp (Instance m) (Instance n) = nat_cmp m n
 object_cmp (Instance m) (File n) = Less

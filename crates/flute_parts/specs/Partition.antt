@@ -25,7 +25,8 @@ place i id = position_from (same_symbol_id id) 0 (ids i)
 abbrev pub last_length : Information → ℕ
 last_length i = i.transfer_length - (symbol_count i - 1) * i.symbol_length
 
--- a symbol of n bytes fits at a place with the full length, and at the last place also without its padding (RFC 5445, 3.4)
+-- a symbol of n bytes fits at a place with the full length, and at the last place also without
+-- its padding (RFC 5445, 3.4)
 abbrev pub fits_at : Information → Option ℕ → ℕ → Bool
 fits_at i None n = false
 fits_at i (Some k) n = (n == i.symbol_length) || ((k + 1 == symbol_count i) && (n == last_length i))

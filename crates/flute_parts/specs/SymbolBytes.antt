@@ -10,4 +10,6 @@ pub record HasSymbolSize (bytes : List ℕ) : Type 0 where
 
 -- why bytes are no symbol for their number
 abbrev pub size_fault : List ℕ → Option BytesFault
-size_fault bytes = if length bytes == 0 then Some Empty else (if nat_lt 65535 (length bytes) then Some TooLong else None)
+size_fault bytes =
+    if length bytes == 0 then Some Empty
+    else (if nat_lt 65535 (length bytes) then Some TooLong else None)

@@ -11,12 +11,13 @@ use Rattle.flute_parts.specs.Limits.{sessions, objects, symbols, Over}
 abbrev pub last_key : List Fact → Option Key
 last_key facts = last_or None (map (λ f. (address f).key) facts)
 
--- the tally has counted the facts, which are within the limits: the sessions that they name, the objects of the last
--- session and the symbols of the last object
+-- the tally has counted the facts, which are within the limits: the sessions that they name,
+-- the objects of the last session and the symbols of the last object
 pub record Counts (s o y : ℕ) (F : List Fact) (tally : Tally s o y) : Type 0 where
   pub last : tally.last ≡ last_key F
   pub session_count : tally.sessions ≡ length (sessions F)
-  pub object_count : (key : Key) → tally.last ≡ Some key → tally.objects ≡ length (objects F key.session)
+  pub object_count : (key : Key) → tally.last ≡ Some key
+      → tally.objects ≡ length (objects F key.session)
   pub symbol_count : (key : Key) → tally.last ≡ Some key → tally.symbols ≡ length (symbols F key)
   pub within : Over F s o y → ⊥
 

@@ -16,7 +16,9 @@ use Rattle.flute_parts.specs.Order.{session_cmp, object_cmp, key_cmp, symbol_id_
 use Rattle.flute_parts.specs.Facts.{same_information}
 
 pub session_total : IsTotalOrder session_cmp
-session_total = then_total (on_total (λ (s : Session). s.sender) nat_cmp_total) (on_total (λ (s : Session). s.tsi) nat_cmp_total)
+session_total =
+    then_total (on_total (λ (s : Session). s.sender) nat_cmp_total)
+    (on_total (λ (s : Session). s.tsi) nat_cmp_total)
 
 object_reversed : (x y : ObjectName) → object_cmp x y ≡ ordering_reverse (object_cmp y x)
 object_reversed (Instance m) (Instance n) = nat_cmp_total.antisymm m n
@@ -24,7 +26,8 @@ object_reversed (Instance m) (File n) = refl
 object_reversed (File m) (Instance n) = refl
 object_reversed (File m) (File n) = nat_cmp_total.antisymm m n
 
-object_trans : (x y z : ObjectName) → object_cmp x y ≡ Less → object_cmp y z ≡ Less → object_cmp x z ≡ Less
+object_trans : (x y z : ObjectName) → object_cmp x y ≡ Less → object_cmp y z ≡ Less
+    → object_cmp x z ≡ Less
 object_trans (Instance m) (Instance n) (Instance o) p q = nat_cmp_total.trans m n o p q
 object_trans (Instance m) (Instance n) (File o) p q = refl
 object_trans (Instance m) (File n) (Instance o) p q = cc
@@ -45,10 +48,14 @@ pub object_total : IsTotalOrder object_cmp
 object_total = record { antisymm = object_reversed; trans = object_trans; congr = object_alike }
 
 pub key_total : IsTotalOrder key_cmp
-key_total = then_total (on_total (λ (k : Key). k.session) session_total) (on_total (λ (k : Key). k.object) object_total)
+key_total =
+    then_total (on_total (λ (k : Key). k.session) session_total)
+    (on_total (λ (k : Key). k.object) object_total)
 
 pub symbol_id_total : IsTotalOrder symbol_id_cmp
-symbol_id_total = then_total (on_total (λ (s : SymbolId). s.sbn) nat_cmp_total) (on_total (λ (s : SymbolId). s.esi) nat_cmp_total)
+symbol_id_total =
+    then_total (on_total (λ (s : SymbolId). s.sbn) nat_cmp_total)
+    (on_total (λ (s : SymbolId). s.esi) nat_cmp_total)
 
 part_reversed : (x y : Part) → part_cmp x y ≡ ordering_reverse (part_cmp y x)
 part_reversed InfoPart InfoPart = refl
@@ -75,9 +82,12 @@ pub part_total : IsTotalOrder part_cmp
 part_total = record { antisymm = part_reversed; trans = part_trans; congr = part_alike }
 
 pub address_total : IsTotalOrder address_cmp
-address_total = then_total (on_total (λ (a : Address). a.key) key_total) (on_total (λ (a : Address). a.part) part_total)
+address_total =
+    then_total (on_total (λ (a : Address). a.key) key_total)
+    (on_total (λ (a : Address). a.part) part_total)
 
 pub information_equivalence : IsEquivalence same_information
 information_equivalence =
     and_equiv (on_equiv (λ (i : Information). i.transfer_length) nat_eq_equiv)
-    (and_equiv (on_equiv (λ (i : Information). i.symbol_length) nat_eq_equiv) (on_equiv (λ (i : Information). i.max_block_length) nat_eq_equiv))
+    (and_equiv (on_equiv (λ (i : Information). i.symbol_length) nat_eq_equiv)
+    (on_equiv (λ (i : Information). i.max_block_length) nat_eq_equiv))

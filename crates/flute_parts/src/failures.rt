@@ -29,3 +29,12 @@ impl Failures {
         Failures {}
     }
 }
+
+/// No failure yet.
+impl Default for Failures {
+    ghost is_default = { λ f. f.count ≡ 0 };
+
+    fn default() -> Failures {
+        Failures::none()
+    }
+}

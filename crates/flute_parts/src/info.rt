@@ -27,7 +27,8 @@ impl Model for Info {
 
     ghost view = { λ i. information i.transfer_length i.symbol_length i.max_block_length };
 
-    ghost invariant = { λ i. IsValid (information i.transfer_length i.symbol_length i.max_block_length) };
+    ghost invariant = { λ i. IsValid
+        (information i.transfer_length i.symbol_length i.max_block_length) };
 
     ghost inverse = { λ v. record {
       transfer_length = v.transfer_length;

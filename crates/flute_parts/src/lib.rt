@@ -19,6 +19,7 @@ mod address;
 mod buffered_source;
 mod bytes;
 mod device;
+mod display;
 mod fact;
 mod failures;
 mod info;

@@ -89,7 +89,8 @@ impl ObjectKey {
     }
 }
 
-// What follows is what derives would write. It is written by hand so that contracts see the order by its definition.
+// What follows is what derives would write. It is written by hand so that contracts see the order
+// by its definition.
 
 impl Ord for ObjectKey {
     ghost use Rattle.std.specs.Prelude.{refl};
@@ -123,7 +124,8 @@ impl PartialOrd for ObjectKey {
 
     ghost partial_cmp = { as_partial_cmp object_cmp };
 
-    ghost laws = { partial_order_from_agreeing_total object_cmp object_total (λ x y. refl) (λ x y. refl) };
+    ghost laws = { partial_order_from_agreeing_total object_cmp object_total
+        (λ x y. refl) (λ x y. refl) };
 
     fn partial_cmp(&self, other: &ObjectKey) -> Option<Ordering> {
         Some(self.cmp(other))

@@ -31,7 +31,8 @@ impl Model for Partition {
 
     ghost view = { λ p. p.info };
 
-    ghost invariant = { λ p. IsSplit p.info p.symbols p.large_blocks p.small_blocks p.small_length };
+    ghost invariant = { λ p. IsSplit p.info p.symbols
+        p.large_blocks p.small_blocks p.small_length };
 }
 
 impl Partition {

@@ -103,6 +103,19 @@ impl<const SESSIONS: u32, const OBJECTS: u32, const SYMBOLS: u32> Tally<
     }
 }
 
+/// The tally of no address.
+impl<const SESSIONS: u32, const OBJECTS: u32, const SYMBOLS: u32> Default
+    for Tally<SESSIONS, OBJECTS, SYMBOLS> {
+    ghost use Rattle.std.specs.Prelude.{[]};
+    ghost use Rattle.flute_parts.specs.Tally.{Counts};
+
+    ghost is_default = { Counts SESSIONS OBJECTS SYMBOLS [] };
+
+    fn default() -> Self {
+        Tally::new()
+    }
+}
+
 // Adds one to a count that is below the limit. False if it is not.
 fn add_one(count: &mut u32, limit: u32) -> bool
     ensures added { result ≡ true → (count.old < limit) × (count.new ≡ count.old + 1) }

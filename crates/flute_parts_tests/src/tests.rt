@@ -1,6 +1,7 @@
 //! Worked examples, each public call on its happy path, and printed texts.
 
 mod devices;
+mod display;
 mod joins;
 mod listing;
 mod partitions;

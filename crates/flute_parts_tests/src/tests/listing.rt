@@ -45,7 +45,8 @@ fn two_lengths(
     small_blocks: u64,
     small: u64,
 ) -> Result<Vec<u64>, AllocError>
-    ensures { IfOk result (λ lengths. lengths.items ≡ replicate large_blocks large ++ replicate small_blocks small) }
+    ensures { IfOk result (λ lengths. lengths.items
+        ≡ replicate large_blocks large ++ replicate small_blocks small) }
 {
     let mut lengths = vec![in alloc; large; large_blocks as usize]?;
     let rest = vec![in alloc; small; small_blocks as usize]?;

@@ -1,5 +1,5 @@
 //! Limits of rising addresses: two sessions, two objects of each and three symbols of each object.
-use flute_parts::{Address, Key, ObjectKey, Part, Sender, SessionKey, SymbolId, Tally};
+use flute_parts::{Address, Failures, Key, ObjectKey, Part, Sender, SessionKey, SymbolId, Tally};
 use std::test::Fail;
 
 // Where the information of a file stands, or the symbol of this ID, in a session of the sender 0.
@@ -25,6 +25,19 @@ fn first_beyond(addresses: &[(u64, u128, Option<u16>)]) -> Option<usize> {
         }
     }
     None
+}
+
+// The default of a type, through its bound.
+fn made<T: Default>() -> T {
+    T::default()
+}
+
+#[test]
+fn nothing_is_counted_by_default(rt: HostRuntime) -> Result<(), Fail> {
+    let mut tally = made::<Tally<1, 1, 1>>();
+    assert!(rt; tally.count(&address(1, 1, Some(0)).ok_or("no such address")?));
+    let _ = made::<Failures>();
+    Ok(())
 }
 
 #[test]
