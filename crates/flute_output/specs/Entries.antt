@@ -40,7 +40,12 @@ Does f old new = Leads (λ before after. after ≡ f before) old new
 
 -- an empty file is made beside OUT, also where one stood there
 abbrev pub created : Entries → Entries
-created e = record e { beside = Some (record { bytes = []; on_disk = false }); waiting = []; found = e.out; past = [] }
+created e = record e {
+  beside = Some (record { bytes = []; on_disk = false });
+  waiting = [];
+  found = e.out;
+  past = [];
+}
 
 -- bytes are taken for the file beside OUT
 abbrev pub takes : List ℕ → Entries → Entries
@@ -96,25 +101,29 @@ pub record OutIsAsFound (old new : Entries) : Type 0 where
   pub found : new.found ≡ old.found
   pub past : new.past ≡ []
 
--- OUT went from what it was when the file beside it was made to this file, and has been nothing else since
+-- OUT went from what it was when the file beside it was made to this file, and has been
+-- nothing else since
 pub record OutBecomes (file : Stored) (old new : Entries) : Type 0 where
   pub out : new.out ≡ Some file
   pub found : new.found ≡ old.found
   pub past : new.past ≡ old.found ∷ []
 
--- what OUT was at some moment since the file beside it was made: whoever looked, or stopped the program between two calls,
--- found this
+-- what OUT was at some moment since the file beside it was made: whoever looked, or stopped
+-- the program between two calls, found this
 abbrev pub WasOut : Entries → Option Stored → Type 0
 WasOut e file = (file ≡ e.out) ⊎ Contains e.past file
 
--- what is left of a file once the power was lost: its bytes, if the disk had them all; else nothing is known
+-- what is left of a file once the power was lost: its bytes, if the disk had them all;
+-- else nothing is known
 abbrev pub Survives : Option Stored → Option (List ℕ) → Type 0
 Survives None left = left ≡ None
 Survives (Some s) left = s.on_disk ≡ true → left ≡ Some s.bytes
 
--- At any moment since, OUT was what was found or this file. And if it was found, with all its bytes on the disk, then a lost
--- power at any of these moments left the one or the other, whole: the disk may still have the name as it was found.
+-- At any moment since, OUT was what was found or this file. And if it was found, with all its bytes
+-- on the disk, then a lost power at any of these moments left the one or the other, whole:
+-- the disk may still have the name as it was found.
 pub record IsEitherAlways (file : Stored) (e : Entries) : Type 0 where
   pub stopped : (seen : Option Stored) → WasOut e seen → (seen ≡ e.found) ⊎ (seen ≡ Some file)
-  pub lost_power : (s : Stored) → e.found ≡ Some s → s.on_disk ≡ true → (seen : Option Stored) (left : Option (List ℕ))
-      → (seen ≡ e.found) ⊎ WasOut e seen → Survives seen left → (left ≡ Some s.bytes) ⊎ (left ≡ Some file.bytes)
+  pub lost_power : (s : Stored) → e.found ≡ Some s → s.on_disk ≡ true
+      → (seen : Option Stored) (left : Option (List ℕ)) → (seen ≡ e.found) ⊎ WasOut e seen
+      → Survives seen left → (left ≡ Some s.bytes) ⊎ (left ≡ Some file.bytes)

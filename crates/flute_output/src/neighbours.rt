@@ -176,8 +176,8 @@ impl Neighbours {
     }
 }
 
-// Locks the file, or answers `WouldBlock` where another program has it locked. A file system that knows no locks is used
-// without.
+// Locks the file, or answers `WouldBlock` where another program has it locked. A file system
+// that knows no locks is used without.
 fn lock(file: &File) -> io::Result<()> {
     match file.try_lock() {
         Err(TryLockError::WouldBlock) => Err(ErrorKind::WouldBlock.into()),

@@ -79,7 +79,8 @@ impl<F: Folder + Drop> Output<F> {
         ensures any_moment { Leads (λ old new. IsEitherAlways (whole old (taken old)) new)
             (F.entries self) (F.entries result.1) }
 
-        // The file beside OUT is left only where removing it failed, and a step fails only where the folder did.
+        // The file beside OUT is left only where removing it failed, and a step fails only
+        // where the folder did.
         ensures gone_ok { OnOk result.0 (Leads (λ old new. new.beside ≡ None)
             (F.entries self) (F.entries result.1)) }
         ensures gone { OnErr result.0
@@ -112,8 +113,8 @@ impl<F: Folder + Drop> Sink for Output<F> {
     }
 }
 
-// Puts the file beside OUT in its place. The disk has it first where OUT is there, so that a lost power leaves one of the
-// two.
+// Puts the file beside OUT in its place. The disk has it first where OUT is there, so that a lost
+// power leaves one of the two.
 fn keep<F: Folder>(folder: &mut F) -> Result<(), DeviceFault>
     requires { IfSome (F.entries folder.old) IsWriting }
     ensures kept { OnOk result (Leads (λ old new. OutBecomes (whole old (taken old)) old new)

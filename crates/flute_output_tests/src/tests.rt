@@ -8,7 +8,8 @@ const OLD: &[u8] = b"what was there";
 
 const NEW: &[u8] = b"what is written";
 
-/// A file that takes the place of another is made, written, flushed, brought to the disk and put in place.
+/// A file that takes the place of another is made, written, flushed, brought to the disk
+/// and put in place.
 const CALLS: usize = 5;
 
 /// More calls than any test makes.

@@ -13,7 +13,8 @@ use Rattle.flute_wire.specs.declared.writing.WriteFault.{WriteFault}
 use Rattle.flute_wire.specs.declared.sending.CarouselFault.{CarouselFault}
 use Rattle.flute_wire.specs.declared.sending.CarouselFault.TheVariants.{Length, Write}
 
--- the bytes of an object at a place of its partition: as many as a symbol has, and at the last place what is left (RFC 5445, 3.4)
+-- the bytes of an object at a place of its partition: as many as a symbol has, and at the last
+-- place what is left (RFC 5445, 3.4)
 abbrev pub piece : Information → List ℕ → ℕ → List ℕ
 piece i content place = take i.symbol_length (drop (place * i.symbol_length) content)
 
@@ -27,7 +28,8 @@ symbols_of i content = map (with_piece i content) (enumerate_from 0 (ids i))
 
 -- what is sent with the information: each symbol in turn, or none once, where the object has none
 unfoldable pub payloads_of : Information → List ℕ → List (Option (SymbolId × List ℕ))
-payloads_of i content = if i.transfer_length == 0 then None ∷ [] else map (λ s. Some s) (symbols_of i content)
+payloads_of i content =
+    if i.transfer_length == 0 then None ∷ [] else map (λ s. Some s) (symbols_of i content)
 
 -- the packets that carry an object
 unfoldable pub packets_of : Key → Information → List ℕ → List Content
@@ -40,7 +42,10 @@ first_object_fault (c ∷ cs) = option_or (write_fault c) (first_object_fault cs
 
 -- why an object is not sent, the first that applies
 unfoldable pub carousel_fault : Key → Information → List ℕ → Option CarouselFault
-carousel_fault key i content = if length content == i.transfer_length then option_map (λ fault. Write fault) (first_object_fault (packets_of key i content)) else Some Length
+carousel_fault key i content =
+    if length content == i.transfer_length
+    then option_map (λ fault. Write fault) (first_object_fault (packets_of key i content))
+    else Some Length
 
 -- what the datagrams of an object tell: its information, with each symbol in turn, or once alone
 unfoldable pub facts_sent : Key → Information → List ℕ → List Fact

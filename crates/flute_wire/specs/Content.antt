@@ -3,7 +3,8 @@ use Rattle.std.specs.Prelude.{ℕ, ◌<◌, ◌^◌, List, Option, Some, None}
 use Rattle.flute_parts.specs.Information.{Information}
 use Rattle.flute_parts.specs.declared.symbol_id.SymbolId.{SymbolId}
 
--- TSI, TOI, for TOI 0 the FDT Instance, the transmission information and the symbol with its bytes, where there are any
+-- TSI, TOI, for TOI 0 the FDT Instance, the transmission information and the symbol with its bytes,
+-- where there are any
 pub record Content : Type 0 where
   pub tsi : ℕ
   pub toi : ℕ

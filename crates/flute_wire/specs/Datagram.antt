@@ -25,7 +25,8 @@ pub record HasParts (d : List ℕ) (p : Parts) : Type 0 where
   pub cci : length p.cci ≡ cci_len (fields (big_endian p.word))
   pub tsi : length p.tsi ≡ tsi_len (fields (big_endian p.word))
   pub toi : length p.toi ≡ toi_len (fields (big_endian p.word))
-  pub header : length p.word + length p.cci + length p.tsi + length p.toi + length p.area ≡ header_len (fields (big_endian p.word))
+  pub header : length p.word + length p.cci + length p.tsi + length p.toi + length p.area
+      ≡ header_len (fields (big_endian p.word))
   pub extensions : HasExtensions p.area p.extensions
 
 -- this profile takes it: one EXT_FTI, EXT_FDT and EXT_CENC at most, with what it can read in them
@@ -38,21 +39,33 @@ pub record IsAccepted (d : List ℕ) (p : Parts) : Type 0 where
   pub one_fti : length (bodies ext_fti p.extensions) ≤ 1
   pub one_fdt : length (bodies ext_fdt p.extensions) ≤ 1
   pub one_cenc : length (bodies ext_cenc p.extensions) ≤ 1
-  pub information : IfSome (first (bodies ext_fti p.extensions)) (λ body. (length body ≡ 15) × (info_fault (fti_information body) ≡ None))
-  pub instance : big_endian p.toi ≡ 0 → IsSomeAnd (first (bodies ext_fdt p.extensions)) (λ body. fdt_version body ≡ 2)
+  pub information :
+      IfSome (first (bodies ext_fti p.extensions))
+      (λ body. (length body ≡ 15) × (info_fault (fti_information body) ≡ None))
+  pub instance : big_endian p.toi ≡ 0
+      → IsSomeAnd (first (bodies ext_fdt p.extensions)) (λ body. fdt_version body ≡ 2)
   pub plain : IfSome (first (bodies ext_cenc p.extensions)) (λ body. content_encoding body ≡ 0)
   pub payload : (p.tail ≡ []) ⊎ (4 ≤ length p.tail)
 
--- Source Block Number, Encoding Symbol ID and the bytes after them, unless there are none (RFC 5445, 3.2.1)
+-- Source Block Number, Encoding Symbol ID and the bytes after them, unless there are none
+-- (RFC 5445, 3.2.1)
 abbrev pub tail_symbol : List ℕ → Option (SymbolId × List ℕ)
-tail_symbol tail = if nat_lt 4 (length tail) then Some (record { sbn = big_endian (take 2 tail); esi = big_endian (slice_range tail 2 4) }, drop 4 tail) else None
+tail_symbol tail =
+    if nat_lt 4 (length tail)
+    then Some (
+      record { sbn = big_endian (take 2 tail); esi = big_endian (slice_range tail 2 4) },
+      drop 4 tail,
+    )
+    else None
 
 -- what the parts say
 abbrev pub content_of : Parts → Content
 content_of p = record {
   tsi = big_endian p.tsi;
   toi = big_endian p.toi;
-  instance = if big_endian p.toi == 0 then option_map fdt_instance (first (bodies ext_fdt p.extensions)) else None;
+  instance =
+      if big_endian p.toi == 0 then option_map fdt_instance (first (bodies ext_fdt p.extensions))
+      else None;
   info = option_map fti_information (first (bodies ext_fti p.extensions));
   symbol = tail_symbol p.tail;
 }

@@ -12,7 +12,8 @@ HasFittingId (Some s) = (s.0.sbn < 2 ^ 16) × (s.0.esi < 2 ^ 16)
 -- both numbers fit their fields of EXT_FTI, and the information is valid (RFC 5445, 3.2.2.2)
 abbrev pub HasFittingInformation : Option Information → Type 0
 HasFittingInformation None = Unit {0}
-HasFittingInformation (Some i) = IsValid i × (i.symbol_length < 2 ^ 16) × (i.max_block_length < 2 ^ 32)
+HasFittingInformation (Some i) =
+    IsValid i × (i.symbol_length < 2 ^ 16) × (i.max_block_length < 2 ^ 32)
 
 -- each number fits its field
 pub record IsEncodable (c : Content) : Type 0 where

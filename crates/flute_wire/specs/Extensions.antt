@@ -9,7 +9,8 @@ pub record HeaderExtension : Type 0 where
   pub het : ℕ
   pub body : List ℕ
 
--- how many 32-bit words it has: below HET 128 as HEL, the next byte, says, and else one (RFC 5651, 5.2)
+-- how many 32-bit words it has: below HET 128 as HEL, the next byte, says, and else
+-- one (RFC 5651, 5.2)
 abbrev pub words : HeaderExtension → ℕ
 words e = if nat_lt e.het 128 then slice_index e.body 0 else 1
 
@@ -39,10 +40,13 @@ ext_fdt = 192
 abbrev pub ext_cenc : ℕ
 ext_cenc = 193
 
--- EXT_FTI of FEC Encoding ID 0: behind HEL six bytes of transfer length, two that are reserved, two of
--- encoding symbol length and four of maximum source block length (RFC 5775, 4.2; RFC 5445, 3.2.2.2)
+-- EXT_FTI of FEC Encoding ID 0: behind HEL six bytes of transfer length, two that are
+-- reserved, two of encoding symbol length and four of maximum source block length
+-- (RFC 5775, 4.2; RFC 5445, 3.2.2.2)
 abbrev pub fti_information : List ℕ → Information
-fti_information body = information (big_endian (slice_range body 1 7)) (big_endian (slice_range body 9 11)) (big_endian (slice_range body 11 15))
+fti_information body =
+    information (big_endian (slice_range body 1 7)) (big_endian (slice_range body 9 11))
+    (big_endian (slice_range body 11 15))
 
 -- EXT_FDT: four bits of FLUTE's version and twenty of the FDT Instance ID (RFC 6726, 3.4.1)
 abbrev pub fdt_version : List ℕ → ℕ

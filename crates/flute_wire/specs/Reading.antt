@@ -20,14 +20,21 @@ extensions_in zero (het ∷ bytes) = None
 extensions_in (suc n) (het ∷ bytes) =
     let body = 4 * words_at het bytes - 1 in
     if nat_lt 0 (words_at het bytes) && nat_le body (length bytes) then
-    option_map (λ es. record { het = het; body = take body bytes } ∷ es) (extensions_in n (drop body bytes))
+    option_map (λ es. record { het = het; body = take body bytes } ∷ es)
+    (extensions_in n (drop body bytes))
     else None
 
 -- this profile reads the header, and all of it is there
 abbrev pub has_header : List ℕ → Bool
 has_header d = let w = first_word d in
-    nat_le (length d) 65535 && (nat_le 4 (length d) && ((w.version == 1) && (nat_le (fixed_words w) w.header_words && (nat_le (header_len w) (length d)
-    && (nat_lt 0 (tsi_len w) && (nat_lt 0 (toi_len w) && (w.codepoint == 0)))))))
+    nat_le (length d) 65535
+    && (nat_le 4 (length d)
+    && ((w.version == 1)
+    && (nat_le (fixed_words w) w.header_words
+    && (nat_le (header_len w) (length d)
+    && (nat_lt 0 (tsi_len w)
+    && (nat_lt 0 (toi_len w)
+    && (w.codepoint == 0)))))))
 
 -- an extension that need not be there, or one that must be, has the property
 abbrev pub passes : (List ℕ → Bool) → Option (List ℕ) → Bool
@@ -41,9 +48,13 @@ has p (Some body) = p body
 -- this profile takes what the extensions say, and what follows the header
 abbrev pub is_accepted : List ℕ → List HeaderExtension → Bool
 is_accepted d es =
-    nat_le (length (bodies ext_fti es)) 1 && (nat_le (length (bodies ext_fdt es)) 1 && (nat_le (length (bodies ext_cenc es)) 1
-    && (passes (λ body. (length body == 15) && is_none (info_fault (fti_information body))) (first (bodies ext_fti es))
-    && (((if toi_in d == 0 then has (λ body. fdt_version body == 2) (first (bodies ext_fdt es)) else true))
+    nat_le (length (bodies ext_fti es)) 1
+    && (nat_le (length (bodies ext_fdt es)) 1
+    && (nat_le (length (bodies ext_cenc es)) 1
+    && (passes (λ body. (length body == 15) && is_none (info_fault (fti_information body)))
+    (first (bodies ext_fti es))
+    && (((if toi_in d == 0 then has (λ body. fdt_version body == 2) (first (bodies ext_fdt es))
+    else true))
     && (passes (λ body. content_encoding body == 0) (first (bodies ext_cenc es))
     && ((length (after_header d) == 0) || nat_le 4 (length (after_header d))))))))
 
@@ -62,7 +73,10 @@ accepted d es = if is_accepted d es then Some (content_by d es) else None
 
 -- the packet that the datagram spells, if it spells one
 unfoldable pub packet : List ℕ → Option Content
-packet d = if has_header d then option_and_then (accepted d) (extensions_in (length (extension_area d)) (extension_area d)) else None
+packet d =
+    if has_header d
+    then option_and_then (accepted d) (extensions_in (length (extension_area d)) (extension_area d))
+    else None
 
 abbrev pub packet_facts : ℕ → Option Content → List Fact
 packet_facts sender None = []

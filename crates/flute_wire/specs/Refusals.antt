@@ -40,12 +40,20 @@ Applies NoTsi d = tsi_len (first_word d) ≡ 0
 Applies NoToi d = toi_len (first_word d) ≡ 0
 Applies Codepoint d = (first_word d).codepoint ≢ 0
 Applies ExtensionLength d = (es : List HeaderExtension) → ¬ HasExtensions (extension_area d) es
-Applies Repeated d = Carries d (λ es. (1 < length (bodies ext_fti es)) ⊎ ((1 < length (bodies ext_fdt es)) ⊎ (1 < length (bodies ext_cenc es))))
-Applies FtiLength d = Carries d (λ es. IsSomeAnd (first (bodies ext_fti es)) (λ body. length body ≢ 15))
-Applies (Information f) d = Carries d (λ es. IsSomeAnd (first (bodies ext_fti es)) (λ body. info_fault (fti_information body) ≡ Some f))
+Applies Repeated d =
+    Carries d (λ es. (1 < length (bodies ext_fti es))
+    ⊎ ((1 < length (bodies ext_fdt es)) ⊎ (1 < length (bodies ext_cenc es))))
+Applies FtiLength d =
+    Carries d (λ es. IsSomeAnd (first (bodies ext_fti es)) (λ body. length body ≢ 15))
+Applies (Information f) d =
+    Carries d (λ es. IsSomeAnd (first (bodies ext_fti es))
+    (λ body. info_fault (fti_information body) ≡ Some f))
 Applies NoInstance d = (toi_in d ≡ 0) × Carries d (λ es. bodies ext_fdt es ≡ [])
-Applies FluteVersion d = (toi_in d ≡ 0) × Carries d (λ es. IsSomeAnd (first (bodies ext_fdt es)) (λ body. fdt_version body ≢ 2))
-Applies ContentEncoded d = Carries d (λ es. IsSomeAnd (first (bodies ext_cenc es)) (λ body. content_encoding body ≢ 0))
+Applies FluteVersion d =
+    (toi_in d ≡ 0)
+    × Carries d (λ es. IsSomeAnd (first (bodies ext_fdt es)) (λ body. fdt_version body ≢ 2))
+Applies ContentEncoded d =
+    Carries d (λ es. IsSomeAnd (first (bodies ext_cenc es)) (λ body. content_encoding body ≢ 0))
 Applies PayloadIdCut d = (0 < length (after_header d)) × (length (after_header d) < 4)
 
 -- no refusal before this place applies

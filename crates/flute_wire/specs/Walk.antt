@@ -21,11 +21,16 @@ Occurs Repeated bs = 1 < length bs
 
 -- some type that FLUTE reads stands twice
 abbrev pub IsRepeated : List HeaderExtension → Type 0
-IsRepeated es = (1 < length (bodies ext_fti es)) ⊎ ((1 < length (bodies ext_fdt es)) ⊎ (1 < length (bodies ext_cenc es)))
+IsRepeated es =
+    (1 < length (bodies ext_fti es))
+    ⊎ ((1 < length (bodies ext_fdt es)) ⊎ (1 < length (bodies ext_cenc es)))
 
 -- the bytes of the extensions are refused: they are no extensions, or some type stands twice
 pub record RefusesArea (area : List ℕ) (r : Refusal) : Type 0 where
-  pub cases : ((r ≡ refusals.ExtensionLength) × ((es : List HeaderExtension) → HasExtensions area es → ⊥)) ⊎ ((r ≡ refusals.Repeated) × ((es : List HeaderExtension) × HasExtensions area es × IsRepeated es))
+  pub cases :
+      ((r ≡ refusals.ExtensionLength) × ((es : List HeaderExtension) → HasExtensions area es → ⊥))
+      ⊎ ((r ≡ refusals.Repeated)
+      × ((es : List HeaderExtension) × HasExtensions area es × IsRepeated es))
 
 -- the bytes are extensions, and these are the bodies of the types that FLUTE reads
 pub record Finds (area : List ℕ) (fti fdt cenc : Option (List ℕ)) : Type 0 where
@@ -40,7 +45,8 @@ pub record Finds (area : List ℕ) (fti fdt cenc : Option (List ℕ)) : Type 0 w
 -- EXT_FTI is refused
 abbrev pub RefusesFti : Option (List ℕ) → Refusal → Type 0
 RefusesFti fti refusals.FtiLength = IsSomeAnd fti (λ body. length body ≢ 15)
-RefusesFti fti (refusals.Information f) = IsSomeAnd fti (λ body. (length body ≡ 15) × (info_fault (fti_information body) ≡ Some f))
+RefusesFti fti (refusals.Information f) =
+    IsSomeAnd fti (λ body. (length body ≡ 15) × (info_fault (fti_information body) ≡ Some f))
 RefusesFti fti _ = ⊥
 
 -- EXT_FDT is refused

@@ -14,7 +14,13 @@ use Rattle.flute_wire.specs.declared.writing.WriteFault.TheVariants.{Tsi, Toi, E
 
 -- the packet of this object, information and symbol
 abbrev pub packet_at : Key → Option Information → Option (SymbolId × List ℕ) → Content
-packet_at key info symbol = record { tsi = key.session.tsi; toi = toi_of key.object; instance = instance_of key.object; info = info; symbol = symbol }
+packet_at key info symbol = record {
+  tsi = key.session.tsi;
+  toi = toi_of key.object;
+  instance = instance_of key.object;
+  info = info;
+  symbol = symbol;
+}
 
 -- what such a datagram tells
 abbrev pub outgoing_facts : Key → Option Information → Option (SymbolId × List ℕ) → List Fact
@@ -28,7 +34,9 @@ fdt_bytes (Some instance) = 192 ∷ big_bytes 3 (2 * 2 ^ 20 + instance)
 -- EXT_FTI of four words (RFC 5775, 4.2; RFC 5445, 3.2.2.2)
 abbrev pub fti_bytes : Option Information → List ℕ
 fti_bytes None = []
-fti_bytes (Some i) = 64 ∷ 4 ∷ big_bytes 6 i.transfer_length ++ (big_bytes 2 0 ++ (big_bytes 2 i.symbol_length ++ big_bytes 4 i.max_block_length))
+fti_bytes (Some i) =
+    64 ∷ 4 ∷ big_bytes 6 i.transfer_length
+    ++ (big_bytes 2 0 ++ (big_bytes 2 i.symbol_length ++ big_bytes 4 i.max_block_length))
 
 -- the FEC Payload ID and the bytes of the symbol (RFC 5445, 3.2.1)
 abbrev pub symbol_bytes : Option (SymbolId × List ℕ) → List ℕ
@@ -43,7 +51,8 @@ abbrev pub fti_words : Option Information → ℕ
 fti_words None = 0
 fti_words (Some i) = 4
 
--- HDR_LEN: the first word, congestion control information, TSI and TOI of a word each, and the extensions
+-- HDR_LEN: the first word, congestion control information, TSI and TOI of a word each,
+-- and the extensions
 abbrev pub words_to_write : Content → ℕ
 words_to_write c = 4 + fdt_words c.instance + fti_words c.info
 
@@ -53,7 +62,12 @@ word_bytes words = 16 ∷ 160 ∷ words ∷ 0 ∷ []
 
 -- the datagram: first word, congestion control information 0, TSI, TOI, extensions and symbol
 abbrev pub spelling : Content → List ℕ
-spelling c = word_bytes (words_to_write c) ++ (big_bytes 4 0 ++ (big_bytes 4 c.tsi ++ (big_bytes 4 c.toi ++ ((fdt_bytes c.instance ++ fti_bytes c.info) ++ symbol_bytes c.symbol))))
+spelling c =
+    word_bytes (words_to_write c)
+    ++ (big_bytes 4 0
+    ++ (big_bytes 4 c.tsi
+    ++ (big_bytes 4 c.toi
+    ++ ((fdt_bytes c.instance ++ fti_bytes c.info) ++ symbol_bytes c.symbol))))
 
 -- the datagram spells the packet, in that form
 pub record IsWritten (d : List ℕ) (c : Content) : Type 0 where

@@ -31,7 +31,8 @@ fn split_extension(bytes: &[u8]) -> Option<(Extension<'_>, &[u8])>
     ensures whole { IfSome result (λ s. IsExtension (extension_of s.0)) }
     ensures parts { IfSome result (λ s. bytes.now ≡ extension_bytes (extension_of s.0) ++ s.1.now) }
     ensures none { IfNone result
-        ((e : HeaderExtension) (rest : List ℕ) → IsExtension e → bytes.now ≢ extension_bytes e ++ rest) }
+        ((e : HeaderExtension) (rest : List ℕ) → IsExtension e
+        → bytes.now ≢ extension_bytes e ++ rest) }
 {
     let het = *bytes.first()?;
     let words = if het < 128 { *bytes.get(1)? } else { 1 };

@@ -48,8 +48,8 @@ pub fn an_object_is_cut_into_symbols()
         → Contains (symbols_of i content) t → s.0 ≡ t.0 → s ≡ t }
 {}
 
-/// What an object's datagrams tell, where the key's sender sent them, is its information and each of
-/// its symbols, and nothing else.
+/// What an object's datagrams tell, where the key's sender sent them, is its information
+/// and each of its symbols, and nothing else.
 pub fn an_object_is_told_by_its_datagrams()
     ensures facts { (key : Key) (i : Information) (content : List ℕ) (f : Fact) → IsValid i
         → Contains (facts_sent key i content) f
