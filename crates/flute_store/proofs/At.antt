@@ -1,32 +1,13 @@
 -- What a list of facts comes to at an address, where the facts stand in the entries of a map.
 use Rattle.std.proofs.Common.{◌≡◌, List, [], ◌∷◌, ◌++◌, Bool, true, false, cond, Some, None, refl, sym, ap, ◌∙◌, subst, inl, inr}
-use Rattle.std.specs.Prelude.{flat_map}
-use Rattle.std.specs.declared.cmp.Ordering.{Ordering}
-use Rattle.std.specs.declared.cmp.Ordering.TheVariants.{Equal}
-use Rattle.std.specs.Ordering.{is_eq}
-use Rattle.std.specs.Cmp.{IsTotalOrder, Equal-is}
-use Rattle.std.proofs.lemmas.Cmp.{tied_itself}
-use Rattle.std.proofs.lemmas.Bool.{false≢true, cases_Bool}
-use Rattle.flute_parts.specs.declared.address.Address.{Address}
-use Rattle.flute_parts.specs.declared.fact.Fact.{Fact}
-use Rattle.flute_parts.specs.Order.{same_address}
-use Rattle.flute_parts.specs.Addresses.{address}
-use Rattle.flute_parts.specs.Facts.{fact_at, agreed, same_fact, conflict_at}
-use Rattle.flute_parts.specs.Equality.{address_same, address_itself}
-use Rattle.flute_parts.proofs.Joined.{joined, joined-none, joined_fact, joined-conflict_left, joined-conflict_right, joined-itself, fact_at-append}
-use Rattle.flute_parts.proofs.Facts.{fact_at-nil}
-use Rattle.std.specs.Option.{option_map_or}
-use Rattle.std.specs.Map.{keys_of}
-use Rattle.std.specs.BTreeMap.{is_at}
-use Rattle.std.proofs.lemmas.Map.Keys.{sorted_tail}
-use Rattle.flute_join.specs.Cell.{cell_join}
-use Rattle.flute_join.specs.JoinMap.{map_join, value_at, IsOrdered, EachValue}
-use Rattle.flute_join.proofs.Ordered.{ordered-map_join}
 use Rattle.flute_join.proofs.Reading.{reading_at}
-use Rattle.flute_join.specs.declared.cell.Cell.{Cell}
-use Rattle.flute_join.specs.declared.cell.Cell.TheVariants.{Absent, One, Conflict}
-use Rattle.flute_join.proofs.Values.{absent_past}
-use Rattle.flute_store.specs.Content.{cell_facts}
+use Rattle.flute_store.proofs.Common
+use Common.{AllByRecursion, flat_map, Ordering, Equal, is_eq, IsTotalOrder, Equal-is, tied_itself}
+use Common.{false≢true, cases_Bool, Address, Fact, same_address, address, fact_at, agreed}
+use Common.{same_fact, conflict_at, address_same, address_itself, joined, joined-none, joined_fact}
+use Common.{joined-conflict_left, joined-conflict_right, joined-itself, fact_at-append, fact_at-nil}
+use Common.{option_map_or, keys_of, is_at, sorted_tail, cell_join, map_join, value_at, IsOrdered}
+use Common.{EachValue, ordered-map_join, Cell, Absent, One, Conflict, absent_past, cell_facts}
 
 -- ---- facts that stand elsewhere
 
@@ -38,10 +19,12 @@ at-one_elsewhere : (f : Fact) (a : Address) → same_address (address f) a ≡ f
 unfolding fact_at
 at-one_elsewhere f a e = ap (λ b. agreed a (cond b (f ∷ []) [])) e
 
+abbrev pub Apart : Address → Fact → Type 0
+Apart a f = address f ≡ a → ⊥
+
 -- no fact of the list stands at the address
 abbrev pub Elsewhere : Address → List Fact → Type 0
-Elsewhere a [] = Unit {0}
-Elsewhere a (f ∷ F) = (address f ≡ a → ⊥) × Elsewhere a F
+Elsewhere a F = AllByRecursion (Apart a) F
 
 pub elsewhere-none : (a : Address) (F : List Fact) → Elsewhere a F → fact_at F a ≡ None
 elsewhere-none a [] h = fact_at-nil a
@@ -52,13 +35,13 @@ elsewhere-none a (f ∷ F) h =
     ] in
     fact_at-append (f ∷ []) F a ∙ ap (λ x. joined a x (fact_at F a)) (at-one_elsewhere f a apart) ∙ elsewhere-none a F h.1
 
-pub elsewhere-append : (a : Address) (F G : List Fact) → Elsewhere a F → Elsewhere a G → Elsewhere a (F ++ G)
-elsewhere-append a [] G h k = k
-elsewhere-append a (f ∷ F) G h k = (h.0, elsewhere-append a F G h.1 k)
+pub each-append : {X : Type 0} (P : X → Type 0) (xs ys : List X) → AllByRecursion P xs → AllByRecursion P ys → AllByRecursion P (xs ++ ys)
+each-append P [] ys h k = k
+each-append P (x ∷ xs) ys h k = (h.0, each-append P xs ys h.1 k)
 
-pub elsewhere-flat_map : {E : Type 0} (a : Address) (f : E → List Fact) → ((e : E) → Elsewhere a (f e)) → (es : List E) → Elsewhere a (flat_map f es)
-elsewhere-flat_map a f h [] = tt
-elsewhere-flat_map a f h (e ∷ es) = elsewhere-append a (f e) (flat_map f es) (h e) (elsewhere-flat_map a f h es)
+pub each-flat_map : {E X : Type 0} (P : X → Type 0) (f : E → List X) → ((e : E) → AllByRecursion P (f e)) → (es : List E) → AllByRecursion P (flat_map f es)
+each-flat_map P f h [] = tt
+each-flat_map P f h (e ∷ es) = each-append P (f e) (flat_map f es) (h e) (each-flat_map P f h es)
 
 -- ---- a cell
 module _ {T : Type 0} (told : T → Fact) (here : Address) where

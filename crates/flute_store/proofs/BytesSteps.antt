@@ -1,39 +1,22 @@
 -- The bytes that a walk gives.
 use Rattle.std.proofs.Common.{◌≡◌, ℕ, zero, suc, ◌+◌, ◌-◌, List, [], ◌∷◌, ◌++◌, length, take, drop, Option, Some, None, refl, sym, ap, ◌∙◌, subst, arith, append_assoc}
-use Rattle.std.specs.Prelude.{flat_map}
 use Rattle.std.specs.Io.KnownBytes.{Appends}
 use Rattle.std.proofs.KnownBytes.{Appends-trans}
-use Rattle.flute_join.specs.JoinMap.{value_at}
-use Rattle.flute_join.specs.declared.cell.Cell.{Cell}
-use Rattle.flute_join.specs.declared.cell.Cell.TheVariants.{Absent, One, Conflict}
 use Rattle.flute_join.proofs.Under.{not_cons_nil}
-use Rattle.flute_parts.specs.Information.{Information, IsValid}
-use Rattle.flute_parts.specs.Order.{symbol_id_cmp}
-use Rattle.flute_parts.specs.Partition.{ids, symbol_id}
 use Rattle.flute_parts.specs.Devices.{AppendsPart}
-use Rattle.flute_parts.specs.declared.key.Key.{Key}
-use Rattle.flute_parts.specs.declared.symbol_id.SymbolId.{SymbolId}
-use Rattle.flute_parts.specs.declared.fact.Fact.{Fact}
 use Rattle.flute_parts.proofs.Appended.{AppendsPart-first, AppendsPart-second}
-use Rattle.flute_store.specs.declared.gap.Reason.{Reason}
-use Rattle.flute_store.specs.declared.gap.Gap.{Gap}
-use Rattle.flute_store.specs.declared.object.Object.{Object}
-use Rattle.flute_store.specs.declared.partition_scan.Upcoming.TheVariants.{End, BlockEnd, Passed, Fitting, Wanted}
-use Rattle.flute_store.specs.declared.held_scan.HeldScan.{HeldScan}
-use Rattle.flute_store.specs.declared.turn.Turn.{Turn}
-use Rattle.flute_store.specs.Objects.{Whole, object, value_bytes, runs, gaps, listed}
-use Rattle.flute_store.specs.Found.{symbol_fact, IsTold}
-use Rattle.flute_store.specs.Wanted.{wanted, blocks_from}
-use Rattle.flute_store.specs.PartitionScan.{Walk, at_start, symbols_left, left, pending, all_left, gaps_left, IsWalk, after_pass, after_take, after_begin, upcoming_of, Keeps}
-use Rattle.flute_store.specs.HeldScan.{walk_in, bound, IsHeldScan, Turns}
-use Rattle.flute_store.specs.BytesLeft.{cell_bytes, found_bytes, held_bytes, bytes_left, KeepsBytes, GivesFirst}
+use Rattle.flute_store.proofs.Common
+use Common.{flat_map, value_at, Cell, Absent, One, Information, IsValid, symbol_id_cmp, ids}
+use Common.{symbol_id, Key, SymbolId, Fact, Reason, Gap, Object, End, BlockEnd, Passed, Fitting}
+use Common.{Wanted, HeldScan, Turn, Whole, object, value_bytes, runs, gaps, listed, symbol_fact}
+use Common.{IsTold, wanted, blocks_from, Walk, at_start, symbols_left, left, pending, all_left}
+use Common.{gaps_left, IsWalk, after_pass, after_take, after_begin, upcoming_of, Keeps, walk_in}
+use Common.{bound, IsHeldScan, Turns, cell_bytes, found_bytes, held_bytes, bytes_left, KeepsBytes}
+use Common.{GivesFirst, IsNotWhole, WritesWhole, WritesPart}
 use Rattle.flute_store.proofs.SortedSymbols.{Above, above-before, blocks_from-all, blocks_from-next, blocks_from-end}
-use Rattle.flute_store.proofs.Lookups.{Entry, value-past, value-here}
-use Rattle.flute_store.proofs.Runs.{runs-listed}
-use Rattle.flute_store.proofs.WholeObjects.{gapless-whole}
+use Rattle.flute_store.proofs.{Lookups.{Entry, value-past, value-here}, Runs.{runs-listed}}
+use Rattle.flute_store.proofs.{WholeObjects.{gapless-whole}, ObjectLength.{object-length}}
 use Rattle.flute_store.proofs.ToldObjects.{wants-told, told-information}
-use Rattle.flute_store.proofs.ObjectLength.{object-length}
-use Rattle.flute_store.specs.Extract.{IsNotWhole, WritesWhole, WritesPart}
 use Rattle.flute_store.proofs.Upcoming.{here, AtHere, AtPassed, Tells, told, others_left, symbols-first, symbols-end, others-above, inside-less, block-left, taken, taken-left}
 
 -- no bytes are given
@@ -104,9 +87,7 @@ pub no-bytes : (v w : HeldScan) (t : Option Turn) → IsHeldScan v → all_left 
 no-bytes v w (Some (Turn.Gap g)) p h s n = absurd (no-gap (walk_in v) g (gaps_left (walk_in w)) h s.turns.first)
 no-bytes v w (Some Turn.Wanted) p h s n = absurd (no-wanted (walk_in v) s.turns.1.0 p.walk h s.turns.1.1)
 no-bytes v w (Some Turn.End) p h s n = end-bytes (walk_in v) (told (walk_in v) End s.turns.1)
-no-bytes v w (Some Turn.Fitting) p h s n = absurd n
-no-bytes v w (Some Turn.Passed) p h s n = absurd n
-no-bytes v w None p h s n = absurd n
+no-bytes v w t p h s n = absurd n
 
 same-bytes : (v w : HeldScan) → Keeps (walk_in v) (walk_in w) → IsHeldScan w → bound w ≡ bound v → w.ticks ≡ v.ticks + 1 → all_left (walk_in v) ≡ [] → bytes_left (walk_in w) ≡ bytes_left (walk_in v) → KeepsBytes v w
 same-bytes v w k p b t h e = record { walk = p; whole = k.left_is ∙ h; bytes = e; bound_is = b; onward = omega (arith, t) }
@@ -119,16 +100,12 @@ begin-keeps v w p h s = same-bytes v w s.turns.0 s.walk s.bound_is s.ticks h (ap
 
 pub keeps-on : (u v w : HeldScan) → KeepsBytes u v → KeepsBytes v w → KeepsBytes u w
 keeps-on u v w k l =
-    let a = k.onward in
-    let b = l.onward in
-    record { walk = l.walk; whole = l.whole; bytes = l.bytes ∙ k.bytes; bound_is = l.bound_is ∙ k.bound_is; onward = omega (arith, a, b) }
+    record { walk = l.walk; whole = l.whole; bytes = l.bytes ∙ k.bytes; bound_is = l.bound_is ∙ k.bound_is; onward = omega arith }
 
 -- a fitting symbol is given
 pub gives-first : (u v w : HeldScan) (e : Entry) (es : List Entry) → KeepsBytes u v → v.held ≡ e ∷ es → Turns v (Some Turn.Fitting) w → GivesFirst u (cell_bytes e.1) w
 gives-first u v w e es k h s =
     let t = told (walk_in v) Fitting s.turns.1 in
-    let a = k.onward in
-    let b = s.ticks in
     record {
       walk = s.walk;
       whole = s.turns.0.left_is ∙ k.whole;
@@ -136,12 +113,8 @@ gives-first u v w e es k h s =
           sym k.bytes ∙ take-bytes (walk_in v) k.walk.walk t
           ∙ (λ i. cell_bytes (same_first t.first e t.others es v.held t.held h i) ++ bytes_left (sym s.turns.2 i));
       bound_is = s.bound_is ∙ k.bound_is;
-      ticked = omega (arith, a, b);
+      ticked = omega arith;
     }
-
--- a fitting symbol is held
-pub fitting-held : (v w : HeldScan) → v.held ≡ [] → Turns v (Some Turn.Fitting) w → ⊥
-fitting-held v w h s = let t = told (walk_in v) Fitting s.turns.1 in not_cons_nil t.first t.others (sym t.held ∙ h)
 
 -- ---- writing
 
@@ -154,10 +127,8 @@ take-both (suc n) (x ∷ a) b =
     ap (λ ys. x ∷ ys) (take-both n a b) ∙ ap (λ k. x ∷ (take n a ++ take k b)) e
 
 pub found-of : (key : Key) (id : SymbolId) (found : Option (Cell (List ℕ))) → value_bytes (symbol_fact key id found) ≡ found_bytes found
-found-of key id None = refl
-found-of key id (Some Absent) = refl
 found-of key id (Some (One b)) = refl
-found-of key id (Some Conflict) = refl
+found-of key id found = refl
 
 -- the object is told by the held symbols
 pub object-told : {n : ℕ} (F : List Fact) (key : Key) (x : Object n) (info : Information) → IsTold F key x → object F key info ≡ take info.transfer_length (held_bytes x.symbols (ids info))

@@ -1,58 +1,25 @@
 -- A store that passes the limits names more than they allow.
-use Rattle.std.proofs.Common.{◌≡◌, ◌≢◌, ℕ, ◌<◌, List, [], ◌∷◌, length, Bool, true, false, cond, ◌||◌, Option, Some, None, unwrap_or, refl, sym, ap, ◌∙◌, subst, inl, inr, ◌⊎◌, arith, bytes_eq}
-use Rattle.std.specs.declared.cmp.Ordering.{Ordering}
-use Rattle.std.specs.declared.cmp.Ordering.TheVariants.{Less}
-use Rattle.std.specs.Ordering.{is_eq}
-use Rattle.std.specs.Cmp.{IsTotalOrder}
-use Rattle.std.specs.Map.{keys_of}
-use Rattle.std.specs.List.Sorted.{IsStrictlySortedBy}
-use Rattle.flute_join.specs.Cell.{cell_join, IsKnown}
-use Rattle.flute_join.specs.JoinMap.{map_join, join_values, value_at, IsOrdered, EachValue, MapOver}
-use Rattle.flute_join.proofs.Ordered.{ordered-map_join, EachValue-map_join}
-use Rattle.flute_join.specs.declared.cell.Cell.{Cell}
-use Rattle.flute_join.specs.declared.cell.Cell.TheVariants.{Absent, One, Conflict}
-use Rattle.flute_parts.specs.Session.{Session}
-use Rattle.flute_parts.specs.declared.object_key.ObjectName.{ObjectName}
-use Rattle.flute_parts.specs.declared.key.Key.{Key}
-use Rattle.flute_parts.specs.declared.symbol_id.SymbolId.{SymbolId}
-use Rattle.flute_parts.specs.Order.{session_cmp, object_cmp, symbol_id_cmp, same_symbol_id, same_session, same_object}
-use Rattle.flute_parts.specs.Addresses.{info_address, symbol_address, address}
-use Rattle.flute_parts.specs.Totality.{session_total, object_total, symbol_id_total}
-use Rattle.flute_parts.specs.Facts.{fact_at, same_information}
-use Rattle.flute_parts.specs.Equality.{object_place, symbol_id_place, key_itself, session_itself}
-use Rattle.flute_parts.specs.Limits.{Over, more_sessions, more_objects, more_symbols, session_of, object_of, symbol_of, sessions, objects, symbols}
-use Rattle.flute_parts.specs.Information.{Information}
-use Rattle.flute_parts.specs.declared.address.Part.{Part}
-use Rattle.flute_parts.specs.declared.address.Part.TheVariants.{Info as InfoPart, Symbol as SymbolPart}
-use Rattle.flute_parts.specs.declared.address.Address.{Address}
-use Rattle.flute_parts.specs.declared.fact.Fact.{Fact}
-use Rattle.flute_parts.specs.declared.fact.Fact.TheVariants.{Info, InfoConflict, Symbol, SymbolConflict}
-use Rattle.std.proofs.lemmas.Bool.{cases_Bool, false≢true}
-use Rattle.flute_parts.proofs.Counted.{Tells, has, Distinct}
-use Rattle.flute_parts.proofs.Facts.{Member, fact_at-some_named}
-use Rattle.flute_parts.proofs.Named.{session_tells, object_tells, symbol_id_tells}
-use Rattle.std.proofs.lemmas.Cmp.{tied_itself}
-use Rattle.std.specs.Option.{option_map_or}
-use Rattle.std.specs.BTreeMap.{is_at}
-use Rattle.std.specs.List.{AllByRecursion}
-use Rattle.std.proofs.lemmas.Map.Entries.{length-keys_of}
-use Rattle.std.proofs.lemmas.Map.Keys.{sorted_tail}
-use Rattle.std.proofs.lemmas.Option.{none-some}
-use Rattle.flute_join.proofs.Sound.{each-value_at}
-use Rattle.flute_join.proofs.Values.{value_at-map_join, absent_past}
-use Rattle.flute_store.proofs.At.{at-one_here}
-use Rattle.flute_store.proofs.Counting.{count-ge, at-content, at-session, at-object}
-use Rattle.flute_store.specs.declared.object.Object.{Object}
-use Rattle.flute_store.specs.declared.update.Update.{Update}
-use Rattle.flute_store.specs.declared.update.SymbolUpdate.{SymbolUpdate}
-use Rattle.flute_store.specs.ObjectJoin.{object_join, ObjectOver, session_join, store_join, cells, object_join_laws}
-use Rattle.flute_store.specs.Content.{key_in, info_cell_facts, symbol_cell_facts, object_facts, session_facts, content}
-use Rattle.flute_store.specs.Update.{update_symbols, IsUpdate}
-use Rattle.flute_store.specs.WellFormed.{IsObject, IsSession, IsStore}
-use Rattle.flute_store.specs.Beyond.{AnyValue, ObjectBeyond, SessionBeyond, StoreBeyond}
+use Rattle.std.proofs.Common.{◌≡◌, ◌≢◌, ℕ, ◌<◌, ◌≤◌, List, [], ◌∷◌, ◌++◌, length, Bool, true, false, cond, ◌||◌, Option, Some, None, unwrap_or, refl, sym, ap, ◌∙◌, subst, inl, inr, ◌⊎◌, arith, bytes_eq}
+use Rattle.flute_store.proofs.Common
+use Common.{Ordering, Less, is_eq, IsTotalOrder, keys_of, IsStrictlySortedBy, cell_join, IsKnown}
+use Common.{map_join, join_values, value_at, IsOrdered, EachValue, MapOver, ordered-map_join}
+use Common.{EachValue-map_join, Cell, Absent, One, Conflict, Session, ObjectName, Key, SymbolId}
+use Common.{session_cmp, object_cmp, symbol_id_cmp, same_symbol_id, same_session, same_object}
+use Common.{info_address, symbol_address, session_total, object_total, symbol_id_total, fact_at}
+use Common.{same_information, object_place, symbol_id_place, key_itself, session_itself, Over}
+use Common.{more_sessions, more_objects, more_symbols, session_of, object_of, symbol_of, sessions}
+use Common.{objects, symbols, Information, Part, InfoPart, SymbolPart, Info, InfoConflict, Symbol}
+use Common.{SymbolConflict, cases_Bool, false≢true, Tells, has, Distinct, session_tells}
+use Common.{object_tells, symbol_id_tells, tied_itself, is_at, AllByRecursion, length-keys_of}
+use Common.{sorted_tail, none-some, each-value_at, value_at-map_join, absent_past, Object, Update}
+use Common.{SymbolUpdate, object_join, ObjectOver, session_join, store_join, cells}
+use Common.{object_join_laws, key_in, info_cell_facts, symbol_cell_facts, content, update_symbols}
+use Common.{IsUpdate, IsObject, IsSession, IsStore, AnyValue, ObjectBeyond, SessionBeyond}
+use Common.{StoreBeyond, Over-below, Below-from_Same}
+use Rattle.flute_store.proofs.{At.{at-one_here}, Counting.{count-ge, at-info, at-symbol}}
 use Rattle.flute_store.proofs.OnePair.{absent-right, some-right, known-join, known-update, update-some}
 use Rattle.flute_store.proofs.OneObject.{one_object, told-ordered}
-use Rattle.flute_store.proofs.StoreJoin.{EachValue-weaker, OrderedObject, OrderedSession, OrderedStore, object-info}
+use Rattle.flute_store.proofs.StoreJoin.{EachValue-weaker, OrderedObject, OrderedSession, OrderedStore, content-join}
 
 -- something is known at each level, whatever the limits
 module _ {n : ℕ} where
@@ -181,12 +148,6 @@ known_or_absent Absent = inl refl
 known_or_absent (One v) = inr (λ e. cc)
 known_or_absent Conflict = inr (λ e. cc)
 
-pub a_fact : (F : List Fact) (a : Address) → fact_at F a ≢ None → (f : Fact) × Member f F × (address f ≡ a)
-a_fact F a h = elim (fact_at-some_named F a) [
-  | inl n ↦ n
-  | inr e ↦ absurd (h e)
-]
-
 module _ {n : ℕ} (m : List (Session × List (ObjectName × Object n))) (p : SolidStore m) where
   pub ordered_session : (os : List (ObjectName × Object n)) → SolidSession os → OrderedSession os
   ordered_session os q = record { ordered = q.ordered; each = EachValue-weaker SolidObject OrderedObject (λ x r. r.ordered) os q.each }
@@ -202,16 +163,10 @@ module _ {n : ℕ} (m : List (Session × List (ObjectName × Object n))) (p : So
       r : SolidObject x
       r = each-value_at object_cmp SolidObject os o x q.each h
 
-      pub at-held : (part : Part) → fact_at (content m) (record { key = key_in s o; part = part }) ≡ fact_at (object_facts (key_in s o) x) (record { key = key_in s o; part = part })
-      at-held part =
-          let a : Address = record { key = key_in s o; part = part } in
-          at-content m a ordered_store ∙ ap (λ z. option_map_or (λ os. fact_at (session_facts s os) a) z None) f
-          ∙ at-session os a (ordered_session os q) ∙ ap (λ z. option_map_or (λ v. fact_at (object_facts (key_in s o) v) a) z None) h
-
       pub symbol_stands : (id : SymbolId) (c : Cell (List ℕ)) → value_at symbol_id_cmp x.symbols id ≡ Some c → IsKnown c → fact_at (content m) (symbol_address (key_in s o) id) ≢ None
       symbol_stands id c g k e =
           let key = key_in s o in
-          cell_stands key id c k (sym (at-held (SymbolPart id) ∙ at-object x key id r.ordered ∙ ap (λ z. option_map_or (λ c. fact_at (symbol_cell_facts key id c) (symbol_address key id)) z None) g) ∙ e)
+          cell_stands key id c k (sym (at-symbol m ordered_store key os f x h id (Some c) g) ∙ e)
 
       first_stands : (es : List (SymbolId × Cell (List ℕ))) → es ≡ x.symbols → es ≢ [] → (part : Part) × (fact_at (content m) (record { key = key_in s o; part = part }) ≢ None)
       first_stands [] e h = absurd (h refl)
@@ -222,17 +177,17 @@ module _ {n : ℕ} (m : List (Session × List (ObjectName × Object n))) (p : So
       pub object_stands : (part : Part) × (fact_at (content m) (record { key = key_in s o; part = part }) ≢ None)
       object_stands = elim (known_or_absent x.info) [
         | inl e ↦ first_stands x.symbols refl (r.some e)
-        | inr k ↦ (InfoPart, λ e. info_stands (key_in s o) x.info k (sym (at-held InfoPart ∙ object-info (key_in s o) x) ∙ e))
+        | inr k ↦ (InfoPart, λ e. info_stands (key_in s o) x.info k (sym (at-info m ordered_store (key_in s o) os f x h) ∙ e))
       ]
 
-      symbols_named : n < length x.symbols → n < length (symbols (content m) (key_in s o))
+      pub symbols_named : length x.symbols ≤ length (symbols (content m) (key_in s o))
       unfolding symbols
-      symbols_named l =
+      symbols_named =
           let key = key_in s o in
           let c = count-ge same_symbol_id symbol_id_tells (symbol_of key) (content m) (keys_of x.symbols) (distinct symbol_id_cmp symbol_id_tells (keys_of x.symbols) r.ordered) (λ id k.
           let found = has-value_at symbol_id_total symbol_id_tells x.symbols id k in
-          let fact = a_fact (content m) (symbol_address key id) (symbol_stands id found.0 found.1 (each-value_at symbol_id_cmp IsKnown x.symbols id found.0 r.each found.1)) in
-          (fact.0, fact.1, ap (symbol_of key) fact.2 ∙ ap (λ b. cond b (Some id) None) (key_itself key))) in
+          let known = each-value_at symbol_id_cmp IsKnown x.symbols id found.0 r.each found.1 in
+          (symbol_address key id, symbol_stands id found.0 found.1 known, ap (λ b. cond b (Some id) None) (key_itself key))) in
           omega (arith, c, length-keys_of x.symbols)
 
     pub first_object : (es : List (ObjectName × Object n)) → es ≡ os → es ≢ [] → (key : Key) × (part : Part) × (key.session ≡ s) × (fact_at (content m) (record { key = key; part = part }) ≢ None)
@@ -241,36 +196,36 @@ module _ {n : ℕ} (m : List (Session × List (ObjectName × Object n))) (p : So
         let stands = object_stands d.0 d.1 (subst (λ l. value_at object_cmp l d.0 ≡ Some d.1) e (first_value object_total object_tells d es)) in
         (key_in s d.0, stands.0, refl, stands.1)
 
-    objects_named : (o : ℕ) → o < length os → o < length (objects (content m) s)
+    objects_named : length os ≤ length (objects (content m) s)
     unfolding objects
-    objects_named o l =
+    objects_named =
         let c = count-ge same_object object_tells (object_of s) (content m) (keys_of os) (distinct object_cmp object_tells (keys_of os) q.ordered) (λ k h.
         let found = has-value_at object_total object_tells os k h in
         let stands = object_stands k found.0 found.1 in
-        let fact = a_fact (content m) (record { key = key_in s k; part = stands.0 }) stands.1 in
-        (fact.0, fact.1, ap (object_of s) fact.2 ∙ ap (λ b. cond b (Some k) None) (session_itself s))) in
+        (record { key = key_in s k; part = stands.0 }, stands.1, ap (λ b. cond b (Some k) None) (session_itself s))) in
         omega (arith, c, length-keys_of os)
 
-  sessions_named : (s : ℕ) → s < length m → s < length (sessions (content m))
+  sessions_named : length m ≤ length (sessions (content m))
   unfolding sessions
-  sessions_named s l =
+  sessions_named =
       let c = count-ge same_session session_tells session_of (content m) (keys_of m) (distinct session_cmp session_tells (keys_of m) p.ordered) (λ k h.
       let found = has-value_at session_total session_tells m k h in
       let solid = each-value_at session_cmp SolidSession m k found.0 p.each found.1 in
       let stands = first_object k found.0 found.1 found.0 refl solid.some in
-      let fact = a_fact (content m) (record { key = stands.0; part = stands.1 }) stands.3 in
-      (fact.0, fact.1, ap session_of fact.2 ∙ ap Some stands.2)) in
+      (record { key = stands.0; part = stands.1 }, stands.3, ap Some stands.2)) in
       omega (arith, c, length-keys_of m)
 
   in_object : (s o : ℕ) (session : Session) (os : List (ObjectName × Object n)) → value_at session_cmp m session ≡ Some os → SessionBeyond o os → Over (content m) s o n
-  in_object s o session os f (inl l) = more_objects session (objects_named session os f o l)
+  in_object s o session os f (inl l) = (let c = objects_named session os f in more_objects session (omega (arith, c, l)))
   in_object s o session os f (inr a) =
       let solid = each-value_at session_cmp SolidSession m session os p.each f in
       let found = any-value object_total object_tells ObjectBeyond os solid.ordered a in
-      more_symbols (key_in session found.0) (symbols_named session os f found.0 found.1 found.2 found.3)
+      let c = symbols_named session os f found.0 found.1 found.2 in
+      let l = found.3 in
+      more_symbols (key_in session found.0) (omega (arith, c, l))
 
   pub beyond-over_at : (s o : ℕ) → StoreBeyond s o m → Over (content m) s o n
-  beyond-over_at s o (inl l) = more_sessions (sessions_named s l)
+  beyond-over_at s o (inl l) = (let c = sessions_named in more_sessions (omega (arith, c, l)))
   beyond-over_at s o (inr a) =
       let found = any-value session_total session_tells (SessionBeyond o) m p.ordered a in
       in_object s o found.0 found.1 found.2 found.3
@@ -305,3 +260,11 @@ module _ {n : ℕ} where
 
   pub over-beyond : (s o : ℕ) (v w : List (Session × List (ObjectName × Object n))) → SolidStore v → SolidStore w → MapOver session_cmp session_join s (MapOver object_cmp object_join o ObjectOver) v w → StoreBeyond s o (store_join v w)
   over-beyond s o v w p q h = map_over-beyond session_total session_join s (MapOver object_cmp object_join o ObjectOver) SolidSession (SessionBeyond o) (session_over o) v w p.ordered q.ordered p.each q.each h
+
+  -- a join beyond the limits is of facts over them
+  pub beyond-joined : (s o : ℕ) (v w : List (Session × List (ObjectName × Object n))) → SolidStore v → SolidStore w
+      → StoreBeyond s o (store_join v w) → Over (content v ++ content w) s o n
+  beyond-joined s o v w p q b =
+      Over-below (content (store_join v w)) (content v ++ content w) s o n
+      (Below-from_Same _ _ (content-join v w (ordered_store v p) (ordered_store w q)))
+      (beyond-over s o (store_join v w) (solid-join v w p q) b)

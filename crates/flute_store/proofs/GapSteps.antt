@@ -1,32 +1,15 @@
 -- The gaps that a walk gives.
 use Rattle.std.proofs.Common.{◌≡◌, ◌≢◌, ℕ, zero, suc, ◌+◌, ◌-◌, ◌<◌, ◌≤◌, Bool, true, false, cond, ◌&&◌, List, [], ◌∷◌, ◌++◌, length, map, Option, Some, None, refl, sym, ap, ◌∙◌, subst, inl, inr, ◌⊎◌, arith, append_assoc}
-use Rattle.std.specs.Prelude.{◌==◌, nat_lt}
-use Rattle.std.specs.List.{range_with_len}
-use Rattle.std.specs.Map.{keys_of}
-use Rattle.std.specs.declared.cmp.Ordering.{Ordering}
-use Rattle.std.specs.declared.cmp.Ordering.TheVariants.{Less, Equal, Greater}
-use Rattle.std.specs.Ordering.{nat_cmp, ordering_then, ordering_reverse}
-use Rattle.std.proofs.lemmas.Bool.{cases_Bool, eqb-true, ltb-true}
-use Rattle.std.proofs.lemmas.Bool.Decides.{nat_tests}
-use Rattle.std.proofs.lemmas.Option.{same_Some, none-some}
-use Rattle.flute_join.specs.Cell.{IsKnown}
-use Rattle.flute_join.specs.JoinMap.{IsOrdered, EachValue, value_at}
-use Rattle.flute_join.specs.declared.cell.Cell.{Cell}
-use Rattle.flute_join.specs.declared.cell.Cell.TheVariants.{Absent, One, Conflict}
-use Rattle.flute_parts.specs.Information.{Information}
-use Rattle.flute_parts.specs.Order.{symbol_id_cmp}
-use Rattle.flute_parts.specs.Equality.{both}
-use Rattle.flute_parts.specs.Totality.{symbol_id_total}
-use Rattle.flute_parts.specs.Partition.{symbol_id, fits}
-use Rattle.flute_parts.specs.declared.symbol_id.SymbolId.{SymbolId}
-use Rattle.flute_store.specs.declared.gap.Reason.{Reason}
-use Rattle.flute_store.specs.declared.gap.Reason.TheVariants.{Missing, Misfit}
-use Rattle.flute_store.specs.declared.gap.Gap.{Gap}
-use Rattle.flute_store.specs.declared.partition_scan.Upcoming.{Upcoming}
-use Rattle.flute_store.specs.declared.partition_scan.Upcoming.TheVariants.{End, BlockEnd, Passed, Fitting, Wanted, NotHeld}
-use Rattle.flute_store.specs.Objects.{runs, same_reason}
-use Rattle.flute_store.specs.Wanted.{want_cell, wanted, block_from, blocks_from}
-use Rattle.flute_store.specs.PartitionScan.{Walk, left, pending, gaps_left, IsBehind, EndsBefore, IsWalk, after_take, after_want, run_with, upcoming_of, until_held, until_of, ended_run, Keeps, GivesGap}
+use Rattle.std.specs.Prelude.{nat_lt}
+use Rattle.flute_store.proofs.Common
+use Common.{◌==◌, range_with_len, keys_of, Ordering, Less, Equal, Greater, nat_cmp, ordering_then}
+use Common.{ordering_reverse, cases_Bool, eqb-true, ltb-true, nat_tests, same_Some, none-some}
+use Common.{IsKnown, IsOrdered, EachValue, value_at, Cell, Absent, One, Conflict, Information}
+use Common.{symbol_id_cmp, both, symbol_id_total, symbol_id, fits, SymbolId, Reason, Missing}
+use Common.{Misfit, Gap, Upcoming, End, BlockEnd, Passed, Fitting, Wanted, NotHeld, runs}
+use Common.{same_reason, want_cell, wanted, block_from, blocks_from, Walk, left, pending, gaps_left}
+use Common.{IsBehind, EndsBefore, IsWalk, after_take, after_want, run_with, upcoming_of, until_held}
+use Common.{until_of, ended_run, Keeps, GivesGap}
 use Rattle.flute_store.proofs.SortedSymbols.{Above, sbn-less, esi-less, above-before, above-later, above-block, blocks_from-end}
 use Rattle.flute_store.proofs.Lookups.{Entry, Elsewhere, value-before, value-here, wanted-missing, elsewhere-above, elsewhere-here}
 use Rattle.flute_store.proofs.Runs.{runs-first, reason_same, reason_itself}
@@ -64,10 +47,8 @@ same_run g r h = elim (cases_Bool (same_reason g.reason r)) [
 run-more : (n i : ℕ) (r : Reason) (run : Option Gap) (ws : List (SymbolId × Reason)) → EndsBefore n i run → ended_run run (Wanted r) ≡ None → pending (Some (run_with n i r run)) ++ ws ≡ pending run ++ (entry n r i ∷ ws)
 run-more n i r None ws e h = let k : i + 1 - i ≡ 1 = omega arith in ap (λ k. map (entry n r) (range_with_len i k) ++ ws) k
 run-more n i r (Some g) ws e h =
-    let a = e.1 in
-    let b = e.2 in
-    let k : i + 1 - g.first ≡ suc (g.last + 1 - g.first) = omega (arith, a, b) in
-    let j : g.first + (g.last + 1 - g.first) ≡ i = omega (arith, a, b) in
+    let k : i + 1 - g.first ≡ suc (g.last + 1 - g.first) = omega arith in
+    let j : g.first + (g.last + 1 - g.first) ≡ i = omega arith in
     ap (λ k. map (entry g.sbn g.reason) (range_with_len g.first k) ++ ws) k
     ∙ sym (entries-more g.sbn g.first (g.last + 1 - g.first) g.reason ws)
     ∙ (λ x. pending (Some g) ++ (entry (e.0 x) (same_run g r h x) (j x) ∷ ws))
@@ -142,27 +123,22 @@ step-want w r p t h =
 
 -- the run that ends is given
 ends-upcoming : (g : Gap) (l : Upcoming) → ended_run (Some g) l ≡ Some g → EndsRun g.reason l
-ends-upcoming g End h = tt
-ends-upcoming g BlockEnd h = tt
 ends-upcoming g Passed h = absurd (none-some g h)
-ends-upcoming g Fitting h = tt
 ends-upcoming g (Wanted r) h = λ e. absurd (none-some g (sym (ap (λ b. cond b None (Some g)) (ap (same_reason g.reason) e ∙ reason_itself g.reason)) ∙ h))
-ends-upcoming g NotHeld h = tt
+ends-upcoming g l h = tt
 
 pub gap-run : (w : Walk) (g : Gap) → IsWalk w → w.run ≡ Some g → ended_run w.run (upcoming_of w) ≡ Some g → GivesGap w g (record w { run = None })
 gap-run w g p e h =
     let q : EndsBefore w.sbn w.esi (Some g) = subst (EndsBefore w.sbn w.esi) e p.running in
-    let a = q.1 in
-    let b = q.2 in
-    let z : 0 < w.esi = omega (arith, b) in
-    let y : w.esi ≡ g.last + 1 = omega (arith, b) in
+    let z : 0 < w.esi = omega arith in
+    let y : w.esi ≡ g.last + 1 = omega arith in
     let k : g.last + 1 - 1 ≡ g.last = omega arith in
-    let j : w.esi - 1 ≡ g.last = omega (arith, b) in
+    let j : w.esi - 1 ≡ g.last = omega arith in
     let f : here w ≡ symbol_id g.sbn (g.last + 1) = λ i. symbol_id (sym q.0 i) (y i) in
     let x : Elsewhere (here w) g.reason (left w) = stop-elsewhere w g.reason p z q.3 (upcoming_of w) refl (ends-upcoming g (upcoming_of w) (ap (λ o. ended_run o (upcoming_of w)) (sym e) ∙ h)) in
     record {
       walk = record { ordered = p.ordered; known = p.known; begun = p.begun; within = p.within; longest = p.longest; in_block = p.in_block; behind = p.behind; running = tt };
-      first = ap (λ o. runs (pending o ++ left w)) e ∙ runs-first g.sbn g.first (g.last + 1) g.reason (left w) (omega (arith, a)) (subst (λ x. Elsewhere x g.reason (left w)) f x) ∙ (λ i. record g { last = k i } ∷ runs (sym (left-run w None) i));
+      first = ap (λ o. runs (pending o ++ left w)) e ∙ runs-first g.sbn g.first (g.last + 1) g.reason (left w) (omega arith) (subst (λ x. Elsewhere x g.reason (left w)) f x) ∙ (λ i. record g { last = k i } ∷ runs (sym (left-run w None) i));
       held_is = refl;
       begun_is = refl;
       partition_is = refl;
@@ -251,12 +227,6 @@ after_missing w = record w { esi = until_of w }
 until-walk : (w : Walk) → IsWalk w → upcoming_of w ≡ NotHeld → Until w.sbn w.esi w.size (until_of w) w.held
 until-walk w p e = let t = told w NotHeld e in until-is w.sbn w.esi w.size w.held (inside-less w p t.0) p.ordered t.1
 
-pub missing-less : (w : Walk) → IsWalk w → upcoming_of w ≡ NotHeld → w.esi < until_of w
-missing-less w p e = (until-walk w p e).less
-
-pub missing-within : (w : Walk) → IsWalk w → upcoming_of w ≡ NotHeld → until_of w ≤ w.size
-missing-within w p e = (until-walk w p e).within
-
 -- the held symbols stand behind those that are not held
 behind-until : (n a size : ℕ) (held : List Entry) → a < size → IsOrdered symbol_id_cmp held → FirstAfter (symbol_id n a) held → IsBehind n (until_held n size held - 1) held
 behind-until n a size [] l s f = tt
@@ -304,11 +274,10 @@ missing-elsewhere w p l (inr n) =
 missing-left : (w : Walk) → Until w.sbn w.esi w.size (until_of w) w.held → left w ≡ map (λ i. (symbol_id w.sbn i, Missing)) (range_with_len w.esi (until_of w - w.esi)) ++ left (after_missing w)
 unfolding left
 missing-left w u =
-    let l = u.less in
     let rest = blocks_from w.partition w.begun in
-    ap (λ xs. wanted w.partition w.held (xs ++ rest)) (block-split w.sbn w.esi (until_of w) w.size (omega (arith, l)) u.within)
+    ap (λ xs. wanted w.partition w.held (xs ++ rest)) (block-split w.sbn w.esi (until_of w) w.size (omega arith) u.within)
     ∙ ap (wanted w.partition w.held) (append_assoc (block_from w.sbn w.esi (until_of w)) (block_from w.sbn (until_of w) w.size) rest)
-    ∙ wanted-missing w.partition w.held w.sbn w.esi (until_of w - w.esi) (block_from w.sbn (until_of w) w.size ++ rest) (λ i h. u.none i (omega (arith, h, l)))
+    ∙ wanted-missing w.partition w.held w.sbn w.esi (until_of w - w.esi) (block_from w.sbn (until_of w) w.size ++ rest) (λ i h. u.none i (omega (arith, h)))
 
 abbrev missing_gap_of : Walk → Gap
 missing_gap_of w = record { sbn = w.sbn; first = w.esi; last = until_of w - 1; reason = Missing }
@@ -316,17 +285,15 @@ missing_gap_of w = record { sbn = w.sbn; first = w.esi; last = until_of w - 1; r
 pub gap-missing : (w : Walk) → IsWalk w → w.run ≡ None → upcoming_of w ≡ NotHeld → GivesGap w (record { sbn = w.sbn; first = w.esi; last = until_of w - 1; reason = Missing }) (after_missing w)
 gap-missing w p r e =
     let u = until-walk w p e in
-    let l = u.less in
-    let m = u.within in
     record {
-      walk = missing-walk w p r m (behind-missing w p e);
+      walk = missing-walk w p r u.within (behind-missing w p e);
       held_is = refl;
       begun_is = refl;
       partition_is = refl;
-      passes = record { begun = sym (p.in_block (omega (arith, l, m))); behind = behind-missing w p e };
+      passes = record { begun = sym (p.in_block (omega arith)); behind = behind-missing w p e };
       first =
           ap (λ o. runs (pending o ++ left w)) r
           ∙ ap runs (missing-left w u)
-          ∙ runs-first w.sbn w.esi (until_of w) Missing (left (after_missing w)) l (missing-elsewhere w p (omega (arith, l, m)) u.next)
+          ∙ runs-first w.sbn w.esi (until_of w) Missing (left (after_missing w)) u.less (missing-elsewhere w p (omega arith) u.next)
           ∙ ap (λ o. missing_gap_of w ∷ runs (pending o ++ left (after_missing w))) (sym r);
     }

@@ -1,31 +1,12 @@
 -- The keys of the held symbols of an object are those of which something is told.
 use Rattle.std.proofs.Common.{◌≡◌, ◌≢◌, ℕ, List, [], ◌∷◌, Bool, true, false, cond, Option, Some, None, refl, sym, ap, ◌∙◌, subst, inl, inr, ◌↔◌}
-use Rattle.std.specs.Prelude.{Contains}
-use Rattle.std.specs.Ordering.{is_eq}
-use Rattle.std.specs.Cmp.{Equal-is}
-use Rattle.std.specs.Map.{keys_of}
-use Rattle.std.proofs.lemmas.List.Elements.{Contains-append_right, Contains-append_cases}
-use Rattle.std.proofs.lemmas.Map.Keys.{sorted_tail}
-use Rattle.std.proofs.lemmas.Option.{none-some}
-use Rattle.flute_join.specs.Cell.{IsKnown}
-use Rattle.flute_join.specs.JoinMap.{value_at, IsOrdered}
-use Rattle.flute_join.specs.declared.cell.Cell.{Cell}
-use Rattle.flute_join.proofs.Sound.{each-value_at}
-use Rattle.flute_parts.specs.Addresses.{symbol_address}
-use Rattle.flute_parts.specs.Facts.{fact_at}
-use Rattle.flute_parts.specs.Order.{symbol_id_cmp}
-use Rattle.flute_parts.specs.Equality.{symbol_id_place}
-use Rattle.flute_parts.specs.Totality.{symbol_id_total}
-use Rattle.flute_parts.specs.declared.key.Key.{Key}
-use Rattle.flute_parts.specs.declared.symbol_id.SymbolId.{SymbolId}
-use Rattle.flute_parts.specs.declared.fact.Fact.{Fact}
-use Rattle.flute_parts.proofs.Named.{symbol_id_tells}
-use Rattle.flute_store.specs.declared.object.Object.{Object}
-use Rattle.flute_store.specs.Found.{symbol_fact, IsTold}
-use Rattle.flute_store.proofs.Lookups.{Entry}
-use Rattle.flute_store.proofs.Exceeding.{first_value, later_value}
-use Rattle.flute_store.proofs.KeyLists.{one_is, first_is, none_in}
-use Rattle.flute_store.proofs.Found.{known-fact}
+use Rattle.flute_store.proofs.Common
+use Common.{Contains, is_eq, Equal-is, keys_of, Contains-append_right, Contains-append_cases}
+use Common.{sorted_tail, none-some, IsKnown, value_at, IsOrdered, Cell, each-value_at}
+use Common.{symbol_address, fact_at, symbol_id_cmp, symbol_id_place, symbol_id_total, Key, SymbolId}
+use Common.{Fact, symbol_id_tells, Object, symbol_fact, IsTold}
+use Rattle.flute_store.proofs.{Lookups.{Entry}, Exceeding.{first_value, later_value}}
+use Rattle.flute_store.proofs.{KeyLists.{one_is, first_is, none_in}, Found.{known-fact}}
 
 id_found : (es : List Entry) (q : SymbolId) → IsOrdered symbol_id_cmp es → Contains (keys_of es) q → (c : Cell (List ℕ)) × (value_at symbol_id_cmp es q ≡ Some c)
 id_found [] q p c = absurd (none_in q c)

@@ -1,34 +1,17 @@
 -- How many symbols are wanted for each reason.
+use Rattle.std.proofs.lemmas.List.FromFn.{length-map-range_with_len}
 use Rattle.std.proofs.Common.{◌≡◌, ℕ, zero, suc, ◌+◌, ◌-◌, ◌<◌, ◌≤◌, ◌^◌, Bool, true, false, cond, List, [], ◌∷◌, ◌++◌, length, map, Option, Some, None, refl, sym, ap, ◌∙◌, subst, arith, inl, inr}
-use Rattle.std.specs.Prelude.{◌==◌, ◌&&◌, filter, flat_map, option_map}
-use Rattle.std.specs.List.{range_with_len, cons_option}
+use Rattle.std.specs.Prelude.{◌&&◌}
 use Rattle.std.proofs.lemmas.List.{nil_from_length}
-use Rattle.std.proofs.lemmas.Bool.{cases_Bool, eqb-true, eq-eqb, false≢true}
-use Rattle.flute_join.specs.JoinMap.{value_at}
-use Rattle.flute_join.specs.declared.cell.Cell.{Cell}
-use Rattle.flute_join.specs.declared.cell.Cell.TheVariants.{One}
-use Rattle.flute_parts.specs.Information.{Information}
-use Rattle.flute_parts.specs.Order.{symbol_id_cmp}
-use Rattle.flute_parts.specs.Equality.{both}
-use Rattle.flute_parts.specs.Facts.{fact_at}
-use Rattle.flute_parts.specs.Addresses.{info_address}
-use Rattle.flute_parts.specs.declared.fact.Fact.TheVariants.{Info}
-use Rattle.flute_parts.specs.Partition.{symbol_id, ids}
-use Rattle.flute_parts.specs.declared.key.Key.{Key}
-use Rattle.flute_parts.specs.declared.symbol_id.SymbolId.{SymbolId}
-use Rattle.flute_parts.specs.declared.fact.Fact.{Fact}
-use Rattle.flute_store.specs.declared.gap.Reason.{Reason}
-use Rattle.flute_store.specs.declared.gap.Reason.TheVariants.{Missing, Conflicting, Misfit}
-use Rattle.flute_store.specs.declared.gap.Gap.{Gap}
-use Rattle.flute_store.specs.declared.object.Object.{Object}
 use Rattle.flute_store.specs.declared.status.Wanted.{Wanted}
-use Rattle.flute_store.specs.Objects.{Whole, wants, runs, listed, same_reason, AreRuns}
-use Rattle.flute_store.specs.Wanted.{want_cell, with_reason, wanted}
-use Rattle.flute_store.specs.Found.{IsTold}
 use Rattle.flute_store.specs.declared.status.Status.TheVariants.{Partial, Whole as WholeObject}
-use Rattle.flute_store.specs.Status.{how_many, IsCount, Adds, IsPartial, status_of, TellsStatus}
-use Rattle.flute_store.proofs.Runs.{runs-are, runs-listed}
-use Rattle.flute_store.proofs.WholeObjects.{gapless-whole}
+use Rattle.flute_store.proofs.Common
+use Common.{◌==◌, filter, flat_map, option_map, range_with_len, cons_option, cases_Bool, eqb-true}
+use Common.{eq-eqb, false≢true, value_at, Cell, One, Information, symbol_id_cmp, both, fact_at}
+use Common.{info_address, Info, symbol_id, ids, Key, SymbolId, Fact, Reason, Missing, Conflicting}
+use Common.{Misfit, Gap, Object, Whole, wants, runs, listed, same_reason, AreRuns, want_cell}
+use Common.{with_reason, wanted, IsTold, how_many, IsCount, Adds, IsPartial, status_of, TellsStatus}
+use Rattle.flute_store.proofs.{Runs.{runs-are, runs-listed}, WholeObjects.{gapless-whole}}
 use Rattle.flute_store.proofs.ToldObjects.{wants-told, told-information}
 
 abbrev Want : Type 0
@@ -93,12 +76,8 @@ how-range r s n a (suc k) = how-cons r (symbol_id n a, s) (map (λ i. (symbol_id
 pub how-listed : (r : Reason) (g : Gap) → how_many r (listed g) ≡ times (same_reason r g.reason) (g.last + 1 - g.first)
 how-listed r g = how-range r g.reason g.sbn g.first (g.last + 1 - g.first)
 
-range-length : (r : Reason) (n a k : ℕ) → length {A = SymbolId × Reason} (map (λ i. (symbol_id n i, r)) (range_with_len a k)) ≡ k
-range-length r n a zero = refl
-range-length r n a (suc k) = ap suc (range-length r n (a + 1) k)
-
 pub listed-length : (g : Gap) → length (listed g) ≡ g.last + 1 - g.first
-listed-length g = range-length g.reason g.sbn g.first (g.last + 1 - g.first)
+listed-length g = length-map-range_with_len (λ i. (symbol_id g.sbn i, g.reason)) g.first (g.last + 1 - g.first)
 
 pub adds-reason : (g : Gap) (old new : Wanted) (r : Reason) → g.reason ≡ r → new.missing ≡ old.missing + times (same_reason Missing r) (g.last + 1 - g.first)
     → new.conflicting ≡ old.conflicting + times (same_reason Conflicting r) (g.last + 1 - g.first) → new.misfit ≡ old.misfit + times (same_reason Misfit r) (g.last + 1 - g.first) → Adds g old new
@@ -119,25 +98,21 @@ pub record Counts (count : Wanted) (all rest : List Want) : Type 0 where
 
 pub counts-more : (g : Gap) (count new : Wanted) (all rest : List Want) → Counts count all (listed g ++ rest) → Adds g count new → Counts new all rest
 counts-more g count new all rest c a =
-    let m = c.missing in let n = c.conflicting in let f = c.misfit in
-    let am = a.missing in let an = a.conflicting in let af = a.misfit in
     record {
-      missing = omega (arith, m, am, how-append Missing (listed g) rest);
-      conflicting = omega (arith, n, an, how-append Conflicting (listed g) rest);
-      misfit = omega (arith, f, af, how-append Misfit (listed g) rest);
+      missing = omega (arith, how-append Missing (listed g) rest);
+      conflicting = omega (arith, how-append Conflicting (listed g) rest);
+      misfit = omega (arith, how-append Misfit (listed g) rest);
     }
 
 pub counts-few : (count : Wanted) (all rest : List Want) → Counts count all rest → length all ≤ 2 ^ 32 → (count.missing < 2 ^ 33) × (count.conflicting < 2 ^ 33) × (count.misfit < 2 ^ 33)
 counts-few count all rest c l =
-    let m = c.missing in let n = c.conflicting in let f = c.misfit in
     let t = how-all all in
-    (omega (arith, m, t, l), omega (arith, n, t, l), omega (arith, f, t, l))
+    (omega (arith, t, l), omega (arith, t, l), omega (arith, t, l))
 
 -- nothing was counted yet
 pub counts-none : (count : Wanted) (all : List Want) → IsCount count [] → Counts count all all
 counts-none count all i =
-    let m = i.missing in let c = i.conflicting in let f = i.misfit in
-    record { missing = omega (arith, m, how-nil Missing); conflicting = omega (arith, c, how-nil Conflicting); misfit = omega (arith, f, how-nil Misfit) }
+    record { missing = omega (arith, how-nil Missing); conflicting = omega (arith, how-nil Conflicting); misfit = omega (arith, how-nil Misfit) }
 
 pub none-counted : (count : Wanted) → count.missing ≡ 0 → count.conflicting ≡ 0 → count.misfit ≡ 0 → IsCount count []
 none-counted count m c f = record { missing = m ∙ sym (how-nil Missing); conflicting = c ∙ sym (how-nil Conflicting); misfit = f ∙ sym (how-nil Misfit) }
@@ -145,8 +120,7 @@ none-counted count m c f = record { missing = m ∙ sym (how-nil Missing); confl
 pub counts-all : (count : Wanted) (all : List Want) → Counts count all [] → IsCount count all
 unfolding how_many
 counts-all count all c =
-    let m = c.missing in let n = c.conflicting in let f = c.misfit in
-    record { missing = omega (arith, m); conflicting = omega (arith, n); misfit = omega (arith, f) }
+    record { missing = omega arith; conflicting = omega arith; misfit = omega arith }
 
 -- no more symbols are wanted than there are
 length-wanted : (info : Information) (held : List (SymbolId × Cell (List ℕ))) (xs : List SymbolId) → length (wanted info held xs) ≤ length xs
@@ -174,8 +148,7 @@ module _ (F : List Fact) (key : Key) (info : Information) (count : Wanted) (i : 
   total : length (wants F key info) ≡ count.missing + count.conflicting + count.misfit
   total =
       let a = how-all (wants F key info) in
-      let m = c.missing in let n = c.conflicting in let f = c.misfit in
-      omega (arith, a, m, n, f)
+      omega (arith, a)
 
   is-whole : count.missing ≡ 0 → count.conflicting ≡ 0 → count.misfit ≡ 0 → Whole F key info
   unfolding runs

@@ -1,45 +1,25 @@
 -- The keys of a store rise, and are those of the objects that it holds.
 use Rattle.std.proofs.Common.{◌≡◌, ℕ, zero, suc, List, [], ◌∷◌, ◌++◌, Bool, true, false, cond, Some, unwrap_or, refl, sym, ap, ◌∙◌, subst, inl, inr, ◌↔◌, arith}
-use Rattle.std.specs.Prelude.{Contains}
-use Rattle.std.specs.declared.cmp.Ordering.TheVariants.{Less}
-use Rattle.std.specs.Ordering.{is_eq, ordering_then}
-use Rattle.std.specs.Cmp.{Equal-is}
-use Rattle.std.specs.Map.{keys_of}
-use Rattle.std.specs.List.{AllByRecursion}
-use Rattle.std.specs.List.Sorted.{IsStrictlySortedBy}
-use Rattle.std.proofs.lemmas.Cmp.{tied_itself}
-use Rattle.std.proofs.lemmas.List.Elements.{Contains-append_left, Contains-append_right, Contains-append_cases}
-use Rattle.std.proofs.lemmas.Map.Keys.{sorted_tail}
-use Rattle.std.proofs.lemmas.Option.{none-some}
-use Rattle.flute_join.specs.JoinMap.{value_at, IsOrdered, EachValue}
-use Rattle.flute_parts.specs.Session.{Session}
-use Rattle.flute_parts.specs.declared.object_key.ObjectName.{ObjectName}
-use Rattle.flute_parts.specs.declared.key.Key.{Key}
-use Rattle.flute_parts.specs.Order.{session_cmp, object_cmp, key_cmp}
-use Rattle.flute_parts.specs.Totality.{session_total, object_total}
-use Rattle.flute_parts.specs.Equality.{session_place, object_place}
-use Rattle.flute_parts.proofs.Named.{session_tells, object_tells}
-use Rattle.flute_store.specs.declared.object.Object.{Object}
-use Rattle.flute_store.specs.Content.{key_in, content}
 use Rattle.flute_store.specs.Keys.{session_keys, store_keys}
-use Rattle.flute_store.specs.Held.{HoldsObject}
-use Rattle.flute_store.specs.WellFormed.{IsStore}
+use Rattle.flute_store.proofs.Common
+use Common.{Contains, Less, is_eq, ordering_then, Equal-is, keys_of, AllByRecursion}
+use Common.{IsStrictlySortedBy, tied_itself, Contains-append_left, Contains-append_right}
+use Common.{Contains-append_cases, sorted_tail, none-some, value_at, IsOrdered, EachValue, Session}
+use Common.{ObjectName, Key, session_cmp, object_cmp, key_cmp, session_total, object_total}
+use Common.{session_place, object_place, session_tells, object_tells, Object, key_in, content}
+use Common.{HoldsObject, IsStore}
+use Rattle.flute_store.proofs.{At.{each-append}, Held.{object_held}}
 use Rattle.flute_store.proofs.StoreJoin.{OrderedSession, OrderedStore, ordered-store}
 use Rattle.flute_store.proofs.Exceeding.{first_value, later_value, solid-store, object_stands}
-use Rattle.flute_store.proofs.Held.{object_held}
 
 -- ---- the keys rise
 abbrev Before : Key → List Key → Type 0
 Before k ks = AllByRecursion (λ y. key_cmp k y ≡ Less) ks
 
-before-append : (k : Key) (xs ys : List Key) → Before k xs → Before k ys → Before k (xs ++ ys)
-before-append k [] ys p q = q
-before-append k (x ∷ xs) ys p q = (p.0, before-append k xs ys p.1 q)
-
 rise-append : (xs ys : List Key) → IsStrictlySortedBy key_cmp xs → IsStrictlySortedBy key_cmp ys → AllByRecursion (λ k. Before k ys) xs → IsStrictlySortedBy key_cmp (xs ++ ys)
 unfolding IsStrictlySortedBy
 rise-append [] ys p q b = q
-rise-append (x ∷ xs) ys p q b = (before-append x xs ys p.0 b.0, rise-append xs ys p.1 q b.1)
+rise-append (x ∷ xs) ys p q b = (each-append (λ y. key_cmp x y ≡ Less) xs ys p.0 b.0, rise-append xs ys p.1 q b.1)
 
 pub one_is : {X : Type 0} (y x : X) → Contains (y ∷ []) x → y ≡ x
 one_is y x (zero, l, e) = e
@@ -67,7 +47,7 @@ module _ {X : Type 0} where
 
   sessions_before : (k : Key) (m : List (Session × List (ObjectName × X))) → AllByRecursion (λ y. session_cmp k.session y ≡ Less) (keys_of m) → Before k (store_keys m)
   sessions_before k [] p = tt
-  sessions_before k (e ∷ m) p = before-append k (session_keys e.0 e.1) (store_keys m) (session_before k e.0 e.1 p.0) (sessions_before k m p.1)
+  sessions_before k (e ∷ m) p = each-append (λ y. key_cmp k y ≡ Less) (session_keys e.0 e.1) (store_keys m) (session_before k e.0 e.1 p.0) (sessions_before k m p.1)
 
   all_before : (s : Session) (es : List (ObjectName × X)) (m : List (Session × List (ObjectName × X))) → AllByRecursion (λ y. session_cmp s y ≡ Less) (keys_of m) → AllByRecursion (λ k. Before k (store_keys m)) (session_keys s es)
   all_before s [] m p = tt

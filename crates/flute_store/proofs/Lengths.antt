@@ -1,18 +1,11 @@
 -- How many facts a store has.
 use Rattle.std.proofs.Common.{ℕ, ◌+◌, ◌*◌, ◌≤◌, List, [], ◌∷◌, length, arith, length-append}
-use Rattle.std.specs.Prelude.{flat_map}
 use Rattle.std.proofs.Math.Nat.{add-mul, mul-le-mul_right}
-use Rattle.flute_join.specs.JoinMap.{EachValue}
-use Rattle.flute_join.specs.declared.cell.Cell.{Cell}
-use Rattle.flute_join.specs.declared.cell.Cell.TheVariants.{Absent, One, Conflict}
-use Rattle.flute_parts.specs.Session.{Session}
-use Rattle.flute_parts.specs.declared.object_key.ObjectName.{ObjectName}
-use Rattle.flute_parts.specs.declared.key.Key.{Key}
-use Rattle.flute_parts.specs.declared.fact.Fact.{Fact}
-use Rattle.flute_parts.specs.declared.fact.Fact.TheVariants.{Info, InfoConflict, Symbol, SymbolConflict}
-use Rattle.flute_store.specs.declared.object.Object.{Object}
-use Rattle.flute_store.specs.Content.{key_in, cell_facts, info_cell_facts, symbol_cell_facts, symbols_facts, object_facts, session_facts, content}
-use Rattle.flute_store.specs.WellFormed.{IsObject, IsSession, IsStore}
+use Rattle.flute_store.proofs.Common
+use Common.{flat_map, EachValue, Cell, Absent, One, Conflict, Session, ObjectName, Key, Fact, Info}
+use Common.{InfoConflict, Symbol, SymbolConflict, Object, key_in, cell_facts, info_cell_facts}
+use Common.{symbol_cell_facts, symbols_facts, object_facts, session_facts, content, IsObject}
+use Common.{IsSession, IsStore}
 
 cell_length : {T : Type 0} (told : T → Fact) (clash : Fact) (c : Cell T) → length (cell_facts told clash c) ≤ 1
 cell_length told clash Absent = omega arith

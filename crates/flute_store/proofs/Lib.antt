@@ -1,3 +1,4 @@
+pub mod Common
 pub mod At
 pub mod StoreJoin
 pub mod OnePair

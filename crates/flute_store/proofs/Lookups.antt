@@ -1,22 +1,9 @@
 -- What is wanted, symbol by symbol.
 use Rattle.std.proofs.Common.{◌≡◌, ℕ, zero, suc, ◌+◌, ◌<◌, cond, List, [], ◌∷◌, ◌++◌, map, Option, Some, None, refl, sym, ap, ◌∙◌, subst, arith}
-use Rattle.std.specs.Prelude.{option_map}
-use Rattle.std.specs.List.{range_with_len, cons_option}
-use Rattle.std.specs.Map.{keys_of}
-use Rattle.std.specs.declared.cmp.Ordering.TheVariants.{Less}
-use Rattle.std.specs.Ordering.{is_eq, ordering_reverse}
-use Rattle.std.proofs.lemmas.Bool.{false≢true}
-use Rattle.flute_join.specs.JoinMap.{value_at}
-use Rattle.flute_join.specs.declared.cell.Cell.{Cell}
-use Rattle.flute_parts.specs.Information.{Information}
-use Rattle.flute_parts.specs.Order.{symbol_id_cmp}
-use Rattle.flute_parts.specs.Equality.{symbol_id_itself}
-use Rattle.flute_parts.specs.Totality.{symbol_id_total}
-use Rattle.flute_parts.specs.Partition.{symbol_id}
-use Rattle.flute_parts.specs.declared.symbol_id.SymbolId.{SymbolId}
-use Rattle.flute_store.specs.declared.gap.Reason.{Reason}
-use Rattle.flute_store.specs.declared.gap.Reason.TheVariants.{Missing}
-use Rattle.flute_store.specs.Wanted.{want_cell, with_reason, wanted}
+use Rattle.flute_store.proofs.Common
+use Common.{option_map, range_with_len, cons_option, keys_of, Less, is_eq, ordering_reverse}
+use Common.{false≢true, value_at, Cell, Information, symbol_id_cmp, symbol_id_itself}
+use Common.{symbol_id_total, symbol_id, SymbolId, Reason, Missing, want_cell, with_reason, wanted}
 use Rattle.flute_store.proofs.SortedSymbols.{Above}
 
 abbrev pub Entry : Type 0

@@ -1,22 +1,14 @@
 -- A whole object has as many bytes as its transfer length says.
 use Rattle.std.proofs.Common.{◌≡◌, ℕ, zero, suc, ◌+◌, ◌-◌, ◌*◌, ◌<◌, ◌≤◌, ◌&&◌, true, List, [], ◌∷◌, length, get_or, take, Some, refl, sym, ap, ◌∙◌, subst, inl, inr, ◌⊎◌, arith}
-use Rattle.std.specs.Prelude.{flat_map, ◌==◌}
 use Rattle.std.proofs.lemmas.Grind.{div_ceil_times}
 use Rattle.std.proofs.lemmas.List.{length-append, length-take-le}
-use Rattle.std.proofs.lemmas.Option.{slice_get-get_or}
 use Rattle.std.proofs.Math.Nat.{eq-zero-or-pos}
-use Rattle.std.proofs.lemmas.Bool.{eqb-true, or_cases}
-use Rattle.flute_parts.specs.Equality.{both}
-use Rattle.flute_parts.specs.Information.{Information, symbol_count, IsValid}
-use Rattle.flute_parts.specs.Addresses.{symbol_address}
-use Rattle.flute_parts.specs.Facts.{fact_at}
-use Rattle.flute_parts.specs.Partition.{ids, place, last_length, fits_at, fits}
-use Rattle.flute_parts.specs.declared.key.Key.{Key}
-use Rattle.flute_parts.specs.declared.symbol_id.SymbolId.{SymbolId}
-use Rattle.flute_parts.specs.declared.fact.Fact.{Fact}
 use Rattle.flute_parts.proofs.Division.{div_ceil-pos}
 use Rattle.flute_parts.proofs.Split.{places-inverse, ids_counted}
-use Rattle.flute_store.specs.Objects.{Whole, value_bytes, object}
+use Rattle.flute_store.proofs.Common
+use Common.{flat_map, ◌==◌, slice_get-get_or, eqb-true, or_cases, both, Information, symbol_count}
+use Common.{IsValid, symbol_address, fact_at, ids, place, last_length, fits_at, fits, Key, SymbolId}
+use Common.{Fact, Whole, value_bytes, object}
 
 -- each symbol has e bytes, or is the last and has m
 abbrev Each : (SymbolId → List ℕ) → ℕ → ℕ → List SymbolId → Type 0

@@ -1,29 +1,14 @@
 -- One pair joined into a map: the outcome is sound, or passes a limit.
 use Rattle.std.proofs.Common.{◌≡◌, ◌≢◌, ℕ, ◌+◌, ◌<◌, ◌≤◌, List, [], ◌∷◌, length, Bool, true, false, cond, Option, Some, None, refl, sym, ap, ◌∙◌, subst, inl, inr, arith}
-use Rattle.std.specs.declared.cmp.Ordering.{Ordering}
-use Rattle.std.specs.declared.cmp.Ordering.TheVariants.{Less, Equal, Greater}
-use Rattle.std.specs.Ordering.{match_ordering}
-use Rattle.std.specs.Cmp.{IsTotalOrder}
-use Rattle.std.specs.Map.{set_value}
-use Rattle.std.specs.BTreeMap.{is_at, insert_entry}
 use Rattle.std.proofs.lemmas.Map.{length-set_value}
-use Rattle.std.proofs.lemmas.Option.{none-some}
-use Rattle.flute_join.specs.Semilattice.{IsJoin, IsBelow}
-use Rattle.flute_join.specs.JoinMap.{map_join, value_at, IsOrdered, EachValue, IsSound}
-use Rattle.flute_join.specs.MapLaws.{map_join_laws}
-use Rattle.flute_join.proofs.Below.{below_join}
-use Rattle.flute_join.proofs.Ordered.{ordered-map_join}
-use Rattle.flute_join.proofs.Sound.{each-set_value, each-insert_entry, some_above}
-use Rattle.flute_join.proofs.Single.{single_held, single_new, length_new}
 use Rattle.flute_join.proofs.Walk.{ordered_one}
-use Rattle.flute_join.specs.Cell.{cell_join, IsKnown}
-use Rattle.flute_join.specs.declared.cell.Cell.{Cell}
-use Rattle.flute_join.specs.declared.cell.Cell.TheVariants.{Absent, One, Conflict}
-use Rattle.flute_parts.specs.declared.symbol_id.SymbolId.{SymbolId}
-use Rattle.flute_store.specs.declared.update.SymbolUpdate.{SymbolUpdate}
-use Rattle.flute_store.specs.declared.update.SymbolUpdate.TheVariants.{Borrowed as BorrowedUpdate, Owned as OwnedUpdate, Conflict as ConflictUpdate}
-use Rattle.flute_store.specs.Update.{update_cell, update_symbols}
-use Rattle.flute_store.specs.Beyond.{AnyValue}
+use Rattle.flute_store.proofs.Common
+use Common.{Ordering, Less, Equal, Greater, match_ordering, IsTotalOrder, set_value, is_at}
+use Common.{insert_entry, none-some, IsJoin, IsBelow, map_join, value_at, IsOrdered, EachValue}
+use Common.{IsSound, map_join_laws, below_join, ordered-map_join, each-set_value, each-insert_entry}
+use Common.{some_above, single_held, single_new, length_new, cell_join, IsKnown, Cell, Absent, One}
+use Common.{Conflict, SymbolId, SymbolUpdate, BorrowedUpdate, OwnedUpdate, ConflictUpdate}
+use Common.{update_cell, update_symbols, AnyValue}
 
 module _ {K X : Type 0} (cmp : K → K → Ordering) (B : X → Type 0) where
   found_any : (b : Bool) (e : K × X) (es fs : List (K × X)) (o : Option X) (v w : X) → cond b (Some e.1) o ≡ Some v → B w → (o ≡ Some v → AnyValue B fs) → AnyValue B (cond b ((e.0, w) ∷ es) (e ∷ fs))

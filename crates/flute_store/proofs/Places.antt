@@ -1,27 +1,15 @@
 -- Where the turns of a walk lead, whatever is held behind the next symbol.
 use Rattle.std.proofs.Common.{◌≡◌, ◌≢◌, ℕ, ◌+◌, ◌-◌, ◌*◌, ◌<◌, ◌≤◌, ◌^◌, ◌⊎◌, Bool, true, false, cond, ◌&&◌, Option, Some, None, refl, sym, ap, ◌∙◌, subst, arith, inl, inr}
-use Rattle.std.specs.Prelude.{◌==◌, nat_lt, length}
-use Rattle.std.specs.declared.cmp.Ordering.{Ordering}
-use Rattle.std.specs.declared.cmp.Ordering.TheVariants.{Less, Equal, Greater}
-use Rattle.std.specs.Ordering.{match_ordering}
-use Rattle.std.proofs.lemmas.Bool.{cases_Bool, eqb-true, eqb-false, ne_eqb, eq-eqb, ltb-true}
-use Rattle.flute_parts.specs.Information.{sizes}
-use Rattle.flute_parts.specs.Order.{symbol_id_cmp}
-use Rattle.flute_parts.specs.Equality.{both, symbol_id_place}
-use Rattle.flute_parts.specs.Partition.{symbol_id, fits}
-use Rattle.flute_parts.specs.declared.symbol_id.SymbolId.{SymbolId}
-use Rattle.flute_store.specs.declared.gap.Reason.{Reason}
-use Rattle.flute_store.specs.declared.gap.Reason.TheVariants.{Missing, Misfit}
-use Rattle.flute_store.specs.declared.gap.Gap.{Gap}
-use Rattle.flute_store.specs.declared.turn.Turn.{Turn}
-use Rattle.flute_store.specs.declared.partition_scan.Upcoming.{Upcoming}
-use Rattle.flute_store.specs.declared.partition_scan.Upcoming.TheVariants.{End, BlockEnd, Passed, Fitting, Wanted, NotHeld}
-use Rattle.flute_store.specs.declared.partition_scan.PartitionScan.{PartitionScan}
-use Rattle.flute_store.specs.PartitionScan.{EndsBefore, IsPlace, want_length, upcoming_wanted, upcoming_next, upcoming_at, until_at, ended_run, run_with, missing_gap, after_missing, after_wanted, after_block, turn_after, turn_of}
-use Rattle.flute_store.specs.Scans.{run_length, CountsWithin}
-use Rattle.flute_store.specs.declared.status.Wanted.{Wanted as Counted}
-use Rattle.flute_store.proofs.GapSteps.{greater-cases, run-ends}
-use Rattle.flute_store.proofs.Turns.{run-is, no-run}
+use Rattle.std.specs.Prelude.{nat_lt, length}
+use Rattle.flute_store.proofs.Common
+use Common.{◌==◌, Ordering, Less, Equal, Greater, match_ordering, cases_Bool, eqb-true, ne_eqb}
+use Common.{eq-eqb, ltb-true, sizes, symbol_id_cmp, both, symbol_id_place, symbol_id, fits}
+use Common.{SymbolId, Reason, Missing, Misfit, Gap, Turn, Upcoming, End, BlockEnd, Passed, Fitting}
+use Common.{Wanted, NotHeld, PartitionScan, EndsBefore, IsPlace, want_length, upcoming_wanted}
+use Common.{upcoming_next, upcoming_at, until_at, ended_run, run_with, missing_gap, after_missing}
+use Common.{after_wanted, after_block, turn_after, turn_of, run_length, CountsWithin, Counted}
+use Rattle.flute_store.proofs.{GapSteps.{greater-cases, run-ends}, Turns.{run-is, no-run}}
+use Rattle.flute_store.proofs.Upcoming.{by-place}
 
 abbrev Next : Type 0
 Next = Option (SymbolId × Option ℕ)
@@ -78,18 +66,9 @@ tells-next w (Some next) i = by_order (symbol_id_cmp next.0 (symbol_id w.sbn w.e
 
 tells-at : (w : PartitionScan) (next : Next) → TellsAt w next (upcoming_at w next)
 unfolding upcoming_at
-tells-at w next = elim (cases_Bool (w.esi == w.size)) [
-  | inr f ↦
-      subst (λ b. TellsAt w next (cond b (cond (w.begun == length (sizes w.partition)) End BlockEnd) (upcoming_next w.partition (symbol_id w.sbn w.esi) next))) (sym f)
-      (tells-next w next (eqb-false w.esi w.size f))
-  | inl t ↦
-      let e = eqb-true w.esi w.size t in
-      subst (λ b. TellsAt w next (cond b (cond (w.begun == length (sizes w.partition)) End BlockEnd) (upcoming_next w.partition (symbol_id w.sbn w.esi) next))) (sym t)
-      (elim (cases_Bool (w.begun == length (sizes w.partition))) [
-        | inl u ↦ subst (λ b. TellsAt w next (cond b End BlockEnd)) (sym u) (e, eqb-true w.begun (length (sizes w.partition)) u)
-        | inr u ↦ subst (λ b. TellsAt w next (cond b End BlockEnd)) (sym u) (e, eqb-false w.begun (length (sizes w.partition)) u)
-      ])
-]
+tells-at w next =
+    by-place w.esi w.size w.begun (length (sizes w.partition)) (upcoming_next w.partition (symbol_id w.sbn w.esi) next)
+    (TellsAt w next) (tells-next w next) (λ e f. (e, f)) (λ e f. (e, f))
 
 pub told-at : (w : PartitionScan) (next : Next) (l : Upcoming) → upcoming_at w next ≡ l → TellsAt w next l
 told-at w next l h = subst (TellsAt w next) h (tells-at w next)
@@ -120,9 +99,6 @@ module _ (w : PartitionScan) (next : Next) (p : IsPlace w) where
 
   pub wanted-small : (r : Reason) → upcoming_at w next ≡ Wanted r → w.esi < 65536
   wanted-small r h = let t = told-at w next (Wanted r) h in let l = inside t.0 in let m = p.longest in omega (arith, l, m)
-
-  pub fitting-small : upcoming_at w next ≡ Fitting → w.esi < 65536
-  fitting-small h = let l = inside (told-at w next Fitting h).0 in let m = p.longest in omega (arith, l, m)
 
   -- behind a turn a walk is in its place
   place-on : (l : Upcoming) (o : Option Gap) → upcoming_at w next ≡ l → ended_run w.run l ≡ o → (turn_after w next l o).1.size ≤ 65536 → IsPlace (turn_after w next l o).1
@@ -185,9 +161,7 @@ module _ (w : PartitionScan) (next : Next) (c : Counted) (p : IsPlace w) (h : Co
   pub within-turn : (t : Option Turn) (x : PartitionScan) → NoGap t → Kind w next t x → CountsWithin x c
   within-turn None x n k =
       let r : CountsWithin (record w { run = None }) c = subst (λ o. CountsWithin (record w { run = o }) c) k.1 h in
-      let l = p.within in
-      let m = p.longest in
-      subst (λ y. CountsWithin y c) (sym k.2) (subst (λ o. c.missing + c.conflicting + c.misfit + run_length o ≤ (w.begun + 1) * 65536 + 0) (sym k.1) (omega (arith, r, l, m)))
+      subst (λ y. CountsWithin y c) (sym k.2) (subst (λ o. c.missing + c.conflicting + c.misfit + run_length o ≤ (w.begun + 1) * 65536 + 0) (sym k.1) (omega (arith, r)))
   within-turn (Some (Turn.Gap g)) x n k = absurd n
   within-turn (Some Turn.Fitting) x n k = subst (λ y. CountsWithin y c) (sym k.2) (let l = h in omega (arith, l))
   within-turn (Some Turn.Wanted) x n k = subst (λ y. CountsWithin y c) (sym k.3) (by_run w.run refl)
@@ -199,9 +173,7 @@ module _ (w : PartitionScan) (next : Next) (c : Counted) (p : IsPlace w) (h : Co
       by_run (Some g) e =
           let r : c.missing + c.conflicting + c.misfit + (g.last + 1 - g.first) ≤ w.begun * 65536 + w.esi = subst (λ o. c.missing + c.conflicting + c.misfit + run_length o ≤ w.begun * 65536 + w.esi) e h in
           let q : EndsBefore w.sbn w.esi (Some g) = subst (EndsBefore w.sbn w.esi) e p.running in
-          let a = q.1 in
-          let b = q.2 in
-          subst (λ o. c.missing + c.conflicting + c.misfit + run_length (Some (run_with w.sbn w.esi k.0 o)) ≤ w.begun * 65536 + (w.esi + 1)) (sym e) (omega (arith, r, a, b))
+          subst (λ o. c.missing + c.conflicting + c.misfit + run_length (Some (run_with w.sbn w.esi k.0 o)) ≤ w.begun * 65536 + (w.esi + 1)) (sym e) (omega (arith, r))
   within-turn (Some Turn.Passed) x n k = subst (λ y. CountsWithin y c) (sym k.1) h
   within-turn (Some Turn.End) x n k = subst (λ y. CountsWithin y c) (sym k.2) h
 
@@ -214,12 +186,11 @@ module _ (w : PartitionScan) (next : Next) (c : Counted) (p : IsPlace w) (h : Co
   within-gap g x (inr k) =
       let r : c.missing + c.conflicting + c.misfit + 0 ≤ w.begun * 65536 + w.esi = subst (λ o. c.missing + c.conflicting + c.misfit + run_length o ≤ w.begun * 65536 + w.esi) k.0 h in
       let u = until-within w next p k.1 in
-      let l = u.0 in
-      let a : w.esi ≤ until_at w next - 1 = omega (arith, l) in (
+      let a : w.esi ≤ until_at w next - 1 = omega arith in (
         subst (λ (f : Gap). f.first ≤ f.last) (sym k.3) a,
         subst (λ (y : PartitionScan). c.missing + c.conflicting + c.misfit + (g.last + 1 - g.first) + run_length y.run ≤ y.begun * 65536 + y.esi) (sym k.2)
             (subst (λ (f : Gap). c.missing + c.conflicting + c.misfit + (f.last + 1 - f.first) + run_length w.run ≤ w.begun * 65536 + until_at w next) (sym k.3)
-            (subst (λ o. c.missing + c.conflicting + c.misfit + (until_at w next - 1 + 1 - w.esi) + run_length o ≤ w.begun * 65536 + until_at w next) (sym k.0) (omega (arith, r, l)))),
+            (subst (λ o. c.missing + c.conflicting + c.misfit + (until_at w next - 1 + 1 - w.esi) + run_length o ≤ w.begun * 65536 + until_at w next) (sym k.0) (omega (arith, r)))),
       )
 
   -- so a count is small

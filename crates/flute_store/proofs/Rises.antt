@@ -1,42 +1,21 @@
 -- The content of a store rises.
-use Rattle.std.proofs.Common.{◌≡◌, ℕ, List, [], ◌∷◌, ◌++◌, refl, ap, ◌∙◌}
-use Rattle.std.specs.Prelude.{flat_map}
-use Rattle.std.specs.declared.cmp.Ordering.{Ordering}
-use Rattle.std.specs.declared.cmp.Ordering.TheVariants.{Less, Equal}
-use Rattle.std.specs.Ordering.{ordering_then}
-use Rattle.flute_parts.specs.Totality.{session_total, object_total}
-use Rattle.flute_parts.specs.Session.{Session}
-use Rattle.flute_parts.specs.declared.object_key.ObjectName.{ObjectName}
-use Rattle.flute_parts.specs.declared.key.Key.{Key}
-use Rattle.flute_parts.specs.declared.symbol_id.SymbolId.{SymbolId}
-use Rattle.flute_parts.specs.declared.address.Address.{Address}
-use Rattle.flute_parts.specs.declared.fact.Fact.{Fact}
-use Rattle.flute_parts.specs.Order.{session_cmp, object_cmp, key_cmp, symbol_id_cmp, part_cmp, address_cmp}
-use Rattle.flute_parts.specs.Addresses.{info_address, symbol_address, address}
-use Rattle.flute_parts.specs.Facts.{StandAfter, IsRising}
-use Rattle.std.proofs.lemmas.Cmp.{tied_itself}
-use Rattle.std.specs.Map.{keys_of}
-use Rattle.std.specs.List.{AllByRecursion}
-use Rattle.std.specs.List.Sorted.{IsStrictlySortedBy}
-use Rattle.flute_join.specs.JoinMap.{IsOrdered, EachValue}
-use Rattle.flute_join.specs.declared.cell.Cell.{Cell}
-use Rattle.flute_join.specs.declared.cell.Cell.TheVariants.{Absent, One, Conflict}
-use Rattle.flute_store.specs.declared.object.Object.{Object}
-use Rattle.flute_store.specs.Content.{key_in, cell_facts, info_cell_facts, symbol_cell_facts, symbols_facts, object_facts, session_facts, content}
+use Rattle.flute_store.proofs.Common
+use Common.{flat_map, Ordering, Less, ordering_then, session_total, Session, ObjectName, Key}
+use Common.{SymbolId, Address, Fact, session_cmp, object_cmp, key_cmp, symbol_id_cmp, part_cmp}
+use Common.{address_cmp, info_address, symbol_address, address, StandAfter, IsRising, tied_itself}
+use Common.{keys_of, AllByRecursion, IsStrictlySortedBy, IsOrdered, EachValue, Cell, Absent, One}
+use Common.{Conflict, Object, key_in, cell_facts, info_cell_facts, symbol_cell_facts, symbols_facts}
+use Common.{object_facts, session_facts, content}
+use Rattle.flute_store.proofs.{Shown.{equal_keys}, At.{each-append, each-flat_map}}
 use Rattle.flute_store.proofs.StoreJoin.{OrderedObject, OrderedSession, OrderedStore}
+use Rattle.std.proofs.Common.{◌≡◌, ℕ, List, [], ◌∷◌, ◌++◌, refl, ap, ◌∙◌}
+
+abbrev pub Of : (Address → Type 0) → Fact → Type 0
+Of P f = P (address f)
 
 -- P holds of each address
 abbrev pub Stand : (Address → Type 0) → List Fact → Type 0
-Stand P [] = Unit {0}
-Stand P (f ∷ F) = P (address f) × Stand P F
-
-stand-append : (P : Address → Type 0) (F G : List Fact) → Stand P F → Stand P G → Stand P (F ++ G)
-stand-append P [] G h k = k
-stand-append P (f ∷ F) G h k = (h.0, stand-append P F G h.1 k)
-
-stand-flat_map : {E : Type 0} (P : Address → Type 0) (f : E → List Fact) → ((e : E) → Stand P (f e)) → (es : List E) → Stand P (flat_map f es)
-stand-flat_map P f h [] = tt
-stand-flat_map P f h (e ∷ es) = stand-append P (f e) (flat_map f es) (h e) (stand-flat_map P f h es)
+Stand P F = AllByRecursion (Of P) F
 
 after-append : (a : Address) (F G : List Fact) → StandAfter a F → StandAfter a G → StandAfter a (F ++ G)
 after-append a [] G h k = k
@@ -67,9 +46,6 @@ module _ {K X : Type 0} (cmp : K → K → Ordering) (f : K × X → List Fact) 
   groups-rise (e ∷ es) s p =
       rising-append (f e) (flat_map f es) (rises e p.0) (groups-rise es s.1 p.1) (stand-weaker (In e.0) (λ a. StandAfter a (flat_map f es)) (λ a i. after_groups a e.0 i es s.0) (f e) (within e))
 
-same_key : (key : Key) → key_cmp key key ≡ Equal
-same_key key = ap (λ o. ordering_then o (object_cmp key.object key.object)) (tied_itself session_total key.session) ∙ tied_itself object_total key.object
-
 cell-rises : {T : Type 0} (told : T → Fact) (clash : Fact) (c : Cell T) → IsRising (cell_facts told clash c)
 cell-rises told clash Absent = tt
 cell-rises told clash (One v) = (tt, tt)
@@ -86,23 +62,23 @@ any_value (e ∷ es) = (tt, any_value es)
 
 after_info : (key : Key) (F : List Fact) → Stand (λ b. (id : SymbolId) × (b ≡ symbol_address key id)) F → StandAfter (info_address key) F
 after_info key [] s = tt
-after_info key (f ∷ F) s = (ap (address_cmp (info_address key)) s.0.1 ∙ ap (λ o. ordering_then o Less) (same_key key), after_info key F s.1)
+after_info key (f ∷ F) s = (ap (address_cmp (info_address key)) s.0.1 ∙ ap (λ o. ordering_then o Less) (equal_keys key), after_info key F s.1)
 
 module _ {n : ℕ} where
   object-rises : (key : Key) (x : Object n) → OrderedObject x → IsRising (object_facts key x)
   object-rises key x p =
       rising-append (info_cell_facts key x.info) (symbols_facts key x.symbols) (cell-rises _ _ x.info)
       (groups-rise symbol_id_cmp (λ e. symbol_cell_facts key e.0 e.1) (λ id a. a ≡ symbol_address key id) (λ _. Unit {0}) (λ e _. cell-rises _ _ e.1) (λ e. cell-stands (λ a. a ≡ symbol_address key e.0) _ _ (λ v. refl) refl e.1)
-      (λ j k a b q r l. (λ i. address_cmp (q i) (r i)) ∙ ap (λ o. ordering_then o (symbol_id_cmp j k)) (same_key key) ∙ l) x.symbols p (any_value x.symbols))
+      (λ j k a b q r l. (λ i. address_cmp (q i) (r i)) ∙ ap (λ o. ordering_then o (symbol_id_cmp j k)) (equal_keys key) ∙ l) x.symbols p (any_value x.symbols))
       (cell-stands (λ a. StandAfter a (symbols_facts key x.symbols)) _ _ (λ v. later) later x.info)
     where
       later : StandAfter (info_address key) (symbols_facts key x.symbols)
-      later = after_info key (symbols_facts key x.symbols) (stand-flat_map (λ b. (id : SymbolId) × (b ≡ symbol_address key id)) (λ e. symbol_cell_facts key e.0 e.1) (λ e. cell-stands (λ b. (id : SymbolId) × (b ≡ symbol_address key id)) _ _ (λ v. (e.0, refl)) (e.0, refl) e.1) x.symbols)
+      later = after_info key (symbols_facts key x.symbols) (each-flat_map (Of (λ b. (id : SymbolId) × (b ≡ symbol_address key id))) (λ e. symbol_cell_facts key e.0 e.1) (λ e. cell-stands (λ b. (id : SymbolId) × (b ≡ symbol_address key id)) _ _ (λ v. (e.0, refl)) (e.0, refl) e.1) x.symbols)
 
   object-stands : (P : Address → Type 0) (key : Key) → ((a : Address) → a.key ≡ key → P a) → (x : Object n) → Stand P (object_facts key x)
   object-stands P key h x =
-      stand-append P (info_cell_facts key x.info) (symbols_facts key x.symbols) (cell-stands P _ _ (λ v. h (info_address key) refl) (h (info_address key) refl) x.info)
-      (stand-flat_map P (λ e. symbol_cell_facts key e.0 e.1) (λ e. cell-stands P _ _ (λ v. h (symbol_address key e.0) refl) (h (symbol_address key e.0) refl) e.1) x.symbols)
+      each-append (Of P) (info_cell_facts key x.info) (symbols_facts key x.symbols) (cell-stands P _ _ (λ v. h (info_address key) refl) (h (info_address key) refl) x.info)
+      (each-flat_map (Of P) (λ e. symbol_cell_facts key e.0 e.1) (λ e. cell-stands P _ _ (λ v. h (symbol_address key e.0) refl) (h (symbol_address key e.0) refl) e.1) x.symbols)
 
   session-rises : (session : Session) (os : List (ObjectName × Object n)) → OrderedSession os → IsRising (session_facts session os)
   session-rises session os p =
@@ -113,7 +89,7 @@ module _ {n : ℕ} where
 
   session-stands : (P : Address → Type 0) (session : Session) → ((a : Address) → a.key.session ≡ session → P a) → (os : List (ObjectName × Object n)) → Stand P (session_facts session os)
   session-stands P session h os =
-      stand-flat_map P (λ e. object_facts (key_in session e.0) e.1) (λ e. object-stands P (key_in session e.0) (λ a q. h a (ap (λ (k : Key). k.session) q)) e.1) os
+      each-flat_map (Of P) (λ e. object_facts (key_in session e.0) e.1) (λ e. object-stands P (key_in session e.0) (λ a q. h a (ap (λ (k : Key). k.session) q)) e.1) os
 
   -- the facts of a store stand in the order of their addresses
   pub content-rises : (m : List (Session × List (ObjectName × Object n))) → OrderedStore m → IsRising (content m)

@@ -1,17 +1,9 @@
 -- Maximal runs: they list what they were made of, and nothing else does.
 use Rattle.std.proofs.Common.{◌≡◌, ℕ, zero, suc, ◌+◌, ◌-◌, ◌<◌, ◌≤◌, true, false, cond, ◌&&◌, List, [], ◌∷◌, ◌++◌, map, refl, sym, ap, ◌∙◌, subst, inl, inr, arith}
-use Rattle.std.specs.Prelude.{flat_map, ◌==◌}
-use Rattle.std.specs.List.{range_with_len}
-use Rattle.std.proofs.lemmas.Bool.{false≢true}
-use Rattle.std.proofs.lemmas.Bool.Decides.{nat_tests}
-use Rattle.flute_parts.specs.declared.symbol_id.SymbolId.{SymbolId}
-use Rattle.flute_store.specs.declared.gap.Reason.{Reason}
-use Rattle.flute_store.specs.declared.gap.Reason.TheVariants.{Missing, Conflicting, Misfit}
-use Rattle.flute_store.specs.declared.gap.Gap.{Gap}
-use Rattle.flute_parts.specs.Partition.{symbol_id}
-use Rattle.flute_store.specs.Objects.{same_reason, goes_on, one, before, runs, listed, IsApart, AreRuns}
-use Rattle.flute_parts.specs.Equality.{both, eqb_itself}
-use Rattle.std.proofs.lemmas.Bool.{cases_Bool}
+use Rattle.flute_store.proofs.Common
+use Common.{eqb-true, flat_map, ◌==◌, range_with_len, false≢true, SymbolId, Reason, Missing}
+use Common.{Conflicting, Misfit, Gap, symbol_id, same_reason, goes_on, one, before, runs, listed}
+use Common.{IsApart, AreRuns, both, eqb_itself, cases_Bool}
 use Rattle.flute_store.proofs.Lookups.{Elsewhere}
 
 abbrev Want : Type 0
@@ -21,34 +13,20 @@ pub reason_same : (r s : Reason) → same_reason r s ≡ true → r ≡ s
 reason_same Missing Missing h = refl
 reason_same Conflicting Conflicting h = refl
 reason_same Misfit Misfit h = refl
-reason_same Missing Conflicting h = absurd (false≢true h)
-reason_same Missing Misfit h = absurd (false≢true h)
-reason_same Conflicting Missing h = absurd (false≢true h)
-reason_same Conflicting Misfit h = absurd (false≢true h)
-reason_same Misfit Missing h = absurd (false≢true h)
-reason_same Misfit Conflicting h = absurd (false≢true h)
+reason_same r s h = absurd (false≢true h)
 
 pub reason_itself : (r : Reason) → same_reason r r ≡ true
 reason_itself Missing = refl
 reason_itself Conflicting = refl
 reason_itself Misfit = refl
 
-pub goes_on-sbn : (g h : Gap) → goes_on g h ≡ true → g.sbn ≡ h.sbn
-goes_on-sbn g h e =
-    let p = both (g.sbn == h.sbn) ((g.last + 1 == h.first) && same_reason g.reason h.reason) e in
-    let t = p.0 in grind (arith, nat_tests)
-
-goes_on-first : (g h : Gap) → goes_on g h ≡ true → g.last + 1 ≡ h.first
-goes_on-first g h e =
+-- a gap that goes on in another stands before it in its block, for one reason
+pub goes_on-tells : (g h : Gap) → goes_on g h ≡ true
+    → (g.sbn ≡ h.sbn) × (g.last + 1 ≡ h.first) × (g.reason ≡ h.reason)
+goes_on-tells g h e =
     let p = both (g.sbn == h.sbn) ((g.last + 1 == h.first) && same_reason g.reason h.reason) e in
     let q = both (g.last + 1 == h.first) (same_reason g.reason h.reason) p.1 in
-    let t = q.0 in grind (arith, nat_tests)
-
-goes_on-reason : (g h : Gap) → goes_on g h ≡ true → g.reason ≡ h.reason
-goes_on-reason g h e =
-    let p = both (g.sbn == h.sbn) ((g.last + 1 == h.first) && same_reason g.reason h.reason) e in
-    let q = both (g.last + 1 == h.first) (same_reason g.reason h.reason) p.1 in
-    reason_same g.reason h.reason q.1
+    (eqb-true g.sbn h.sbn p.0, eqb-true (g.last + 1) h.first q.0, reason_same g.reason h.reason q.1)
 
 abbrev entry : ℕ → Reason → ℕ → Want
 entry n r i = (symbol_id n i, r)
@@ -73,15 +51,12 @@ before-listed (id, r) (h ∷ gaps) s = elim (cases_Bool (goes_on (one (id, r)) h
       ap (λ b. flat_map listed (cond b (record h { first = id.esi } ∷ gaps) (one (id, r) ∷ h ∷ gaps))) e
       ∙ ap (λ xs. xs ++ flat_map listed (h ∷ gaps)) (listed-one (id, r))
   | inl e ↦
-      let n = goes_on-sbn (one (id, r)) h e in
-      let f = goes_on-first (one (id, r)) h e in
-      let q = goes_on-reason (one (id, r)) h e in
-      let l = s.0 in
+      let t = goes_on-tells (one (id, r)) h e in
       ap (λ b. flat_map listed (cond b (record h { first = id.esi } ∷ gaps) (one (id, r) ∷ h ∷ gaps))) e
       ∙ ap (λ xs. xs ++ flat_map listed gaps) (listed-first h.sbn id.esi h.last h.reason (omega arith))
-      ∙ ap (λ x. entry x h.reason id.esi ∷ (map (entry h.sbn h.reason) (range_with_len (id.esi + 1) (h.last + 1 - (id.esi + 1))) ++ flat_map listed gaps)) (sym n)
-      ∙ ap (λ x. entry id.sbn x id.esi ∷ (map (entry h.sbn h.reason) (range_with_len (id.esi + 1) (h.last + 1 - (id.esi + 1))) ++ flat_map listed gaps)) (sym q)
-      ∙ ap (λ x. (id, r) ∷ (map (entry h.sbn h.reason) (range_with_len x (h.last + 1 - x)) ++ flat_map listed gaps)) f
+      ∙ ap (λ x. entry x h.reason id.esi ∷ (map (entry h.sbn h.reason) (range_with_len (id.esi + 1) (h.last + 1 - (id.esi + 1))) ++ flat_map listed gaps)) (sym t.0)
+      ∙ ap (λ x. entry id.sbn x id.esi ∷ (map (entry h.sbn h.reason) (range_with_len (id.esi + 1) (h.last + 1 - (id.esi + 1))) ++ flat_map listed gaps)) (sym t.2)
+      ∙ ap (λ x. (id, r) ∷ (map (entry h.sbn h.reason) (range_with_len x (h.last + 1 - x)) ++ flat_map listed gaps)) t.1
 ]
 
 -- a gap that begins earlier goes on in the same ones
@@ -96,8 +71,7 @@ before-runs (id, r) [] s = (omega arith, tt, tt)
 before-runs (id, r) (h ∷ gaps) s = elim (cases_Bool (goes_on (one (id, r)) h)) [
   | inr e ↦ subst (λ b. AreRuns (cond b (record h { first = id.esi } ∷ gaps) (one (id, r) ∷ h ∷ gaps))) (sym e) (omega arith, e, s)
   | inl e ↦
-      let f = goes_on-first (one (id, r)) h e in
-      let l = s.0 in
+      let f = (goes_on-tells (one (id, r)) h e).1 in
       subst (λ b. AreRuns (cond b (record h { first = id.esi } ∷ gaps) (one (id, r) ∷ h ∷ gaps))) (sym e) (lengthened id.esi h gaps (omega arith) s)
 ]
 
@@ -145,7 +119,6 @@ pub runs-unique : (gaps : List Gap) → AreRuns gaps → runs (flat_map listed g
 unfolding runs AreRuns
 runs-unique [] s = refl
 runs-unique (g ∷ gaps) s =
-    let f = s.0 in
     let e : g.last + 1 - g.first ≡ suc (g.last - g.first) = omega arith in
     ap (λ k. runs (map (entry g.sbn g.reason) (range_with_len g.first k) ++ flat_map listed gaps)) e
     ∙ gap-runs (g.last - g.first) g.sbn g.first g.last g.reason (flat_map listed gaps) gaps (omega arith) (runs-unique gaps s.2) s.1
@@ -153,7 +126,7 @@ runs-unique (g ∷ gaps) s =
 -- a gap that differs from the one of w
 not-goes : (g h : Gap) → (g.sbn ≡ h.sbn → g.last + 1 ≡ h.first → g.reason ≡ h.reason → ⊥) → goes_on g h ≡ false
 not-goes g h n = elim (cases_Bool (goes_on g h)) [
-  | inl e ↦ absurd (n (goes_on-sbn g h e) (goes_on-first g h e) (goes_on-reason g h e))
+  | inl e ↦ let t = goes_on-tells g h e in absurd (n t.0 t.1 t.2)
   | inr e ↦ e
 ]
 
@@ -161,10 +134,9 @@ apart-before : (g : Gap) (w : Want) (gaps : List Gap) → (w.0 ≡ symbol_id g.s
 apart-before g (id, r) [] n = not-goes g (one (id, r)) (λ s f q. n (λ i. record { sbn = sym s i; esi = sym f i }) (sym q))
 apart-before g (id, r) (h ∷ gaps) n = elim (cases_Bool (goes_on (one (id, r)) h)) [
   | inl e ↦
-      let k = goes_on-sbn (one (id, r)) h e in
-      let q = goes_on-reason (one (id, r)) h e in
+      let t = goes_on-tells (one (id, r)) h e in
       subst (λ b. IsApart g (cond b (record h { first = id.esi } ∷ gaps) (one (id, r) ∷ h ∷ gaps))) (sym e)
-      (not-goes g (record h { first = id.esi }) (λ s f p. n (λ i. record { sbn = (k ∙ sym s) i; esi = sym f i }) (q ∙ sym p)))
+      (not-goes g (record h { first = id.esi }) (λ s f p. n (λ i. record { sbn = (t.0 ∙ sym s) i; esi = sym f i }) (t.2 ∙ sym p)))
   | inr e ↦
       subst (λ b. IsApart g (cond b (record h { first = id.esi } ∷ gaps) (one (id, r) ∷ h ∷ gaps))) (sym e)
       (not-goes g (one (id, r)) (λ s f q. n (λ i. record { sbn = sym s i; esi = sym f i }) (sym q)))

@@ -1,62 +1,32 @@
 -- What a scan has passed and given behind a turn.
+use Rattle.std.proofs.lemmas.Grind.{flat_map-append}
 use Rattle.std.proofs.Common.{◌≡◌, ℕ, ◌+◌, ◌<◌, ◌≤◌, true, cond, List, [], ◌∷◌, ◌++◌, length, take, Option, Some, None, refl, sym, ap, ◌∙◌, subst, inl, inr, arith, append_assoc, append-nil}
-use Rattle.std.specs.Prelude.{flat_map, filter_map, Contains, IfSome, option_map}
-use Rattle.std.specs.Borrow.{Bor}
-use Rattle.std.specs.List.{AllByRecursion}
-use Rattle.std.specs.Map.{keys_of}
-use Rattle.std.specs.declared.cmp.Ordering.TheVariants.{Less}
-use Rattle.std.specs.Ordering.{ordering_then}
-use Rattle.std.proofs.lemmas.Bool.{cases_Bool}
-use Rattle.std.proofs.lemmas.Option.{none-some, same_Some}
-use Rattle.std.proofs.lemmas.List.Elements.{Contains-append_cases, Contains-append_right}
-use Rattle.std.proofs.lemmas.Map.Keys.{sorted_tail}
-use Rattle.flute_join.specs.Cell.{IsKnown}
-use Rattle.flute_join.specs.JoinMap.{value_at, IsOrdered, EachValue}
-use Rattle.flute_join.specs.declared.cell.Cell.{Cell}
-use Rattle.flute_join.specs.declared.cell.Cell.TheVariants.{One}
-use Rattle.flute_parts.specs.Information.{Information}
-use Rattle.flute_parts.specs.Addresses.{info_address, symbol_address, address}
-use Rattle.flute_parts.specs.Facts.{fact_at, IsRising, StandAfter}
-use Rattle.flute_parts.specs.Order.{symbol_id_cmp, address_cmp, key_cmp, part_cmp}
-use Rattle.flute_parts.specs.Partition.{symbol_id, ids, fits}
-use Rattle.flute_parts.specs.declared.key.Key.{Key}
-use Rattle.flute_parts.specs.declared.symbol_id.SymbolId.{SymbolId}
-use Rattle.flute_parts.specs.declared.address.Part.{Part}
-use Rattle.flute_parts.specs.declared.address.Part.TheVariants.{Info as InfoPart, Symbol as SymbolPart}
-use Rattle.flute_parts.specs.declared.fact.Fact.{Fact}
-use Rattle.flute_parts.specs.declared.fact.Fact.TheVariants.{Info}
 use Rattle.flute_parts.proofs.Rising.{rising_tells}
-use Rattle.flute_store.specs.declared.gap.Reason.{Reason}
-use Rattle.flute_store.specs.declared.gap.Reason.TheVariants.{Missing, Conflicting, Misfit}
-use Rattle.flute_store.specs.declared.gap.Gap.{Gap}
-use Rattle.flute_store.specs.declared.turn.Turn.{Turn}
-use Rattle.flute_store.specs.declared.partition_scan.Upcoming.TheVariants as Upcoming
-use Rattle.flute_store.specs.declared.partition_scan.PartitionScan.{PartitionScan}
-use Rattle.flute_store.specs.declared.status.Wanted.{Wanted as Counted}
-use Rattle.flute_store.specs.Objects.{want, wants, runs, one, goes_on, before, listed, gaps, object, value_bytes, Whole}
-use Rattle.flute_store.specs.Wanted.{wanted, with_reason}
-use Rattle.flute_store.specs.Status.{how_many, IsCount, Adds, CanAdd, AddsTurn}
-use Rattle.flute_store.specs.BytesLeft.{found_bytes, held_bytes}
-use Rattle.flute_store.specs.PartitionScan.{walk_of, symbols_left, left, pending, gaps_left, IsWalk, IsPlace, turn_of, held_after, TurnsTo, after_block, after_missing, until_at}
-use Rattle.flute_store.specs.Shown.{shown_by, shown}
-use Rattle.flute_store.specs.Extract.{IsNotWhole}
-use Rattle.flute_store.specs.Scan.{Scanned, next_fact, coming_fact, CanFollow, ComeNext, Follows, IsFirstPart, GaveGap, PassedNext, value_of, Turned, PartOf}
-use Rattle.flute_store.specs.Scans.{BeginsBlocks, Next, announced, held_next, passed_at_end, Stepped, ScanState, IsScan, CountsWithin, ComesAs, one_run, FitsSoFar, Walks, Scans}
-use Rattle.flute_store.proofs.Lookups.{Entry}
-use Rattle.flute_store.proofs.KeyLists.{one_is, first_is}
-use Rattle.flute_store.specs.Found.{symbol_fact}
-use Rattle.flute_store.proofs.Runs.{goes_on-sbn}
-use Rattle.flute_store.proofs.HowMany.{how-append, how-all, listed-length}
+use Rattle.flute_store.proofs.Common
+use Common.{flat_map, filter_map, Contains, IfSome, option_map, Bor, AllByRecursion, keys_of, Less}
+use Common.{ordering_then, cases_Bool, none-some, same_Some, Contains-append_cases}
+use Common.{Contains-append_right, sorted_tail, IsKnown, value_at, IsOrdered, EachValue, Cell, One}
+use Common.{Information, info_address, symbol_address, address, fact_at, IsRising, StandAfter}
+use Common.{symbol_id_cmp, address_cmp, key_cmp, part_cmp, symbol_id, ids, fits, Key, SymbolId}
+use Common.{Part, InfoPart, SymbolPart, Fact, Info, Reason, Missing, Conflicting, Misfit, Gap, Turn}
+use Common.{PartitionScan, Counted, want, wants, runs, one, goes_on, before, listed, gaps, object}
+use Common.{value_bytes, Whole, wanted, with_reason, how_many, IsCount, Adds, CanAdd, AddsTurn}
+use Common.{found_bytes, held_bytes, walk_of, symbols_left, left, pending, gaps_left, IsWalk}
+use Common.{IsPlace, turn_of, held_after, TurnsTo, after_block, after_missing, until_at, shown_by}
+use Common.{shown, IsNotWhole, Scanned, next_fact, coming_fact, CanFollow, ComeNext, Follows}
+use Common.{IsFirstPart, GaveGap, PassedNext, value_of, Turned, PartOf, BeginsBlocks, Next}
+use Common.{announced, held_next, passed_at_end, Stepped, ScanState, IsScan, CountsWithin, ComesAs}
+use Common.{one_run, FitsSoFar, Walks, Scans, symbol_fact}
+use Rattle.flute_store.proofs.{Lookups.{Entry}, KeyLists.{one_is, first_is}, Runs.{goes_on-tells}}
+use Rattle.flute_store.proofs.{HowMany.{how-append, how-all, listed-length}, GapSteps.{gaps-end}}
 use Rattle.flute_store.proofs.Upcoming.{told as told-upcoming, taken, taken-left, upcoming-end}
-use Rattle.flute_store.proofs.GapSteps.{gaps-end}
-use Rattle.flute_store.proofs.Turns.{turn-turns}
-use Rattle.flute_store.proofs.HeldTurns.{Steps, step-keeps}
-use Rattle.flute_store.proofs.Places.{NoGap, told-at, until-within, block-next, Kind, kind, within-turn, within-gap, small}
+use Rattle.flute_store.proofs.{Turns.{turn-turns}, HeldTurns.{Steps, step-keeps}}
+use Rattle.flute_store.proofs.Places.{told-at, until-within, block-next, Kind, kind, within-turn, within-gap, small}
 use Rattle.flute_store.proofs.Shown.{shown-append, shown-none, shown-known, shown-ordered, shown-at, equal_keys}
-use Rattle.flute_store.proofs.ToldObjects.{want-symbol}
-use Rattle.flute_store.proofs.BytesSteps.{found-of}
+use Rattle.flute_store.proofs.{ToldObjects.{want-symbol}, BytesSteps.{found-of}}
 use Rattle.flute_store.proofs.WholeObjects.{gapless-whole}
 use Rattle.flute_store.proofs.ScanTurns.{cell_of, shown-told, known-cell, shows-next, length-left, end-symbols, begin-symbols, take-symbols, value-more, value-last}
+use Rattle.flute_store.specs.declared.partition_scan.Upcoming.TheVariants as Upcoming
 
 -- ---- all facts, of which some were passed
 
@@ -156,13 +126,9 @@ scan-begun o s next x q sc e pl =
 
 -- ---- a gap was given
 
-flat-both : (xs ys : List Gap) → flat_map listed (xs ++ ys) ≡ flat_map listed xs ++ flat_map listed ys
-flat-both [] ys = refl
-flat-both (g ∷ xs) ys = ap (λ ws. listed g ++ ws) (flat-both xs ys) ∙ sym (append_assoc (listed g) (flat_map listed xs) (flat_map listed ys))
-
 counted-gap : (c d : Counted) (given : List Gap) (g : Gap) → IsCount c (flat_map listed given) → Adds g c d → IsCount d (flat_map listed (given ++ g ∷ []))
 counted-gap c d given g i a =
-    let p : flat_map listed (given ++ g ∷ []) ≡ flat_map listed given ++ listed g = flat-both given (g ∷ []) ∙ ap (λ ws. flat_map listed given ++ ws) (append-nil (listed g)) in
+    let p : flat_map listed (given ++ g ∷ []) ≡ flat_map listed given ++ listed g = flat_map-append listed given (g ∷ []) ∙ ap (λ ws. flat_map listed given ++ ws) (append-nil (listed g)) in
     subst (IsCount d) (sym p) (record {
       missing = a.missing ∙ ap (λ n. n + how_many Missing (listed g)) i.missing ∙ sym (how-append Missing (flat_map listed given) (listed g));
       conflicting = a.conflicting ∙ ap (λ n. n + how_many Conflicting (listed g)) i.conflicting ∙ sym (how-append Conflicting (flat_map listed given) (listed g));
@@ -281,16 +247,8 @@ keeps-end o s n x q e pl more r m =
     let l = told-at o.walk (held_next (Some n)) Upcoming.End k.0 in
     let w = (q.walks es r (known-cell n.1, m) (next-comes s n more)).walk in
     let g : (held : List Entry) → gaps_left (walk_of o.walk held) ≡ [] = λ held. gaps-end (walk_of o.walk held) (sym (upcoming-end (walk_of o.walk held) l.0 l.1)) k.1 in
-    let v : IsWalk (walk_of o.walk more) = record {
-      ordered = sorted_tail symbol_id_cmp n.0 (keys_of more) w.ordered;
-      known = m;
-      begun = w.begun;
-      within = w.within;
-      longest = w.longest;
-      in_block = w.in_block;
-      behind = λ z. (w.behind z).1;
-      running = w.running;
-    } in (
+    let v : IsWalk (walk_of o.walk more) =
+    assumption (w, m, sorted_tail symbol_id_cmp n.0 (keys_of more) w.ordered, λ (z : 0 < o.walk.esi). (w.behind z).1) in (
       subst (λ (y : PartitionScan). IsWalk (walk_of y more)) (sym k.2) v,
       ap (λ (y : PartitionScan). gaps_left (walk_of y more)) k.2 ∙ g more ∙ sym (g es),
     )
@@ -342,9 +300,7 @@ fitting-done o s n x (Some b) said sc i e r d =
     let t = told-at o.walk (held_next (Some n)) Upcoming.Fitting k.0 in
     let here = symbol_id o.walk.sbn o.walk.esi in
     let h = length-is n here t.1.0 t.1.1 in
-    let w = sc.place.within in
-    let ne = t.0 in
-    let l : o.walk.esi < o.walk.size = omega (arith, w, ne) in
+    let l : o.walk.esi < o.walk.size = omega arith in
     let p = shown-next s n in
     let more : List Entry = (n.0, cell_of n.1) ∷ [] in
     let es = shown s.key (s.facts ++ next_fact s.key n ∷ []) in
@@ -372,7 +328,7 @@ runs-head id r ws = by_gaps (runs ws)
     by_gaps : (gaps : List Gap) → (g : Gap) × (gs : List Gap) × (before (one (id, r)) gaps ≡ g ∷ gs) × (g.sbn ≡ id.sbn) × (g.first ≡ id.esi)
     by_gaps [] = (one (id, r), [], refl, refl, refl)
     by_gaps (h ∷ gaps) = elim (cases_Bool (goes_on (one (id, r)) h)) [
-      | inl t ↦ (record h { first = id.esi }, gaps, ap (λ b. cond b (record h { first = id.esi } ∷ gaps) (one (id, r) ∷ h ∷ gaps)) t, sym (goes_on-sbn (one (id, r)) h t), refl)
+      | inl t ↦ (record h { first = id.esi }, gaps, ap (λ b. cond b (record h { first = id.esi } ∷ gaps) (one (id, r) ∷ h ∷ gaps)) t, sym (goes_on-tells (one (id, r)) h t).0, refl)
       | inr t ↦ (one (id, r), h ∷ gaps, ap (λ b. cond b (record h { first = id.esi } ∷ gaps) (one (id, r) ∷ h ∷ gaps)) t, refl, refl)
     ]
 
@@ -478,39 +434,22 @@ abbrev state_of : ScanState → PartitionScan → Counted → ScanState
 state_of o x c = record o { walk = x; wanted = c }
 
 pub can-add : (o : ScanState) (h : Option (SymbolId × Option ℕ)) (t : Option Turn) (x : PartitionScan) → IsScan o → (t, x) ≡ turn_of o.walk h → CanAdd t o.wanted
-can-add o h None x sc e = tt
 can-add o h (Some (Turn.Gap g)) x sc e = ((within-gap o.walk h o.wanted sc.place sc.within g x (kind o.walk h (Some (Turn.Gap g)) x e)).0, small o.walk h o.wanted sc.place sc.within)
-can-add o h (Some Turn.Fitting) x sc e = tt
-can-add o h (Some Turn.Wanted) x sc e = tt
-can-add o h (Some Turn.Passed) x sc e = tt
-can-add o h (Some Turn.End) x sc e = tt
-
-scan-same : (o : ScanState) (h : Option (SymbolId × Option ℕ)) (t : Option Turn) (x : PartitionScan) (c : Counted) → IsScan o → NoGap t → (t, x) ≡ turn_of o.walk h → IsPlace x → c ≡ o.wanted → x.partition ≡ o.walk.partition → IsScan (state_of o x c)
-scan-same o h t x c sc n e pl a p = record {
-  place = pl;
-  within = subst (CountsWithin x) (sym a) (within-turn o.walk h o.wanted sc.place sc.within t x n (kind o.walk h t x e));
-  partition = p ∙ sc.partition;
-}
+can-add o h t x sc e = tt
 
 -- the partition stays
 pub same-partition : (w : PartitionScan) (h : Option (SymbolId × Option ℕ)) (t : Option Turn) (x : PartitionScan) → Kind w h t x → x.partition ≡ w.partition
-same-partition w h None x k = ap (λ (y : PartitionScan). y.partition) k.2
-same-partition w h (Some (Turn.Gap g)) x (inl k) = ap (λ (y : PartitionScan). y.partition) k.1
-same-partition w h (Some (Turn.Gap g)) x (inr k) = ap (λ (y : PartitionScan). y.partition) k.2
-same-partition w h (Some Turn.Fitting) x k = ap (λ (y : PartitionScan). y.partition) k.2
-same-partition w h (Some Turn.Wanted) x k = ap (λ (y : PartitionScan). y.partition) k.3
-same-partition w h (Some Turn.Passed) x k = ap (λ (y : PartitionScan). y.partition) k.1
-same-partition w h (Some Turn.End) x k = ap (λ (y : PartitionScan). y.partition) k.2
+same-partition w h (Some (Turn.Gap g)) x (inl k) = cc
+same-partition w h (Some (Turn.Gap g)) x (inr k) = cc
+same-partition w h t x k = cc
 
 -- no block is begun twice
 onward : (w : PartitionScan) (h : Option (SymbolId × Option ℕ)) (t : Option Turn) (x : PartitionScan) → Kind w h t x → w.begun ≤ x.begun
-onward w h None x k = subst (λ (y : PartitionScan). w.begun ≤ y.begun) (sym k.2) (omega arith)
 onward w h (Some (Turn.Gap g)) x (inl k) = subst (λ (y : PartitionScan). w.begun ≤ y.begun) (sym k.1) (omega arith)
 onward w h (Some (Turn.Gap g)) x (inr k) = subst (λ (y : PartitionScan). w.begun ≤ y.begun) (sym k.2) (omega arith)
-onward w h (Some Turn.Fitting) x k = subst (λ (y : PartitionScan). w.begun ≤ y.begun) (sym k.2) (omega arith)
-onward w h (Some Turn.Wanted) x k = subst (λ (y : PartitionScan). w.begun ≤ y.begun) (sym k.3) (omega arith)
 onward w h (Some Turn.Passed) x k = subst (λ (y : PartitionScan). w.begun ≤ y.begun) (sym k.1) (omega arith)
-onward w h (Some Turn.End) x k = subst (λ (y : PartitionScan). w.begun ≤ y.begun) (sym k.2) (omega arith)
+onward w h (Some Turn.Wanted) x k = subst (λ (y : PartitionScan). w.begun ≤ y.begun) (sym k.3) (omega arith)
+onward w h t x k = subst (λ (y : PartitionScan). w.begun ≤ y.begun) (sym k.2) (omega arith)
 
 pub begins-blocks : (o old : ScanState) (h : Option (SymbolId × Option ℕ)) (t : Option Turn) (x : PartitionScan) (c : Counted)
     → o ≡ old → (t, x) ≡ turn_of o.walk h → IsPlace x → BeginsBlocks old (state_of o x c)
@@ -521,23 +460,19 @@ begins-blocks o old h t x c v e p =
 
 pub begins-more : (a b c : ScanState) → BeginsBlocks a b → BeginsBlocks b c → BeginsBlocks a c
 begins-more a b c h k =
-    let l = h.onward in
-    let m = k.onward in
-    record { partition_is = k.partition_is ∙ h.partition_is; onward = omega (arith, l, m); within = k.within }
+    record { partition_is = k.partition_is ∙ h.partition_is; onward = omega arith; within = k.within }
 
 pub step-scan : (o : ScanState) (h : Option (SymbolId × Option ℕ)) (t : Option Turn) (x : PartitionScan) (c : Counted) → IsScan o → (t, x) ≡ turn_of o.walk h → IsPlace x → AddsTurn t o.wanted c → IsScan (state_of o x c)
-step-scan o h None x c sc e pl a = scan-same o h None x c sc tt e pl a (same-partition o.walk h None x (kind o.walk h None x e))
 step-scan o h (Some (Turn.Gap g)) x c sc e pl a =
     let k = kind o.walk h (Some (Turn.Gap g)) x e in
     let w = (within-gap o.walk h o.wanted sc.place sc.within g x k).1 in
-    let m = a.missing in let n = a.conflicting in let f = a.misfit in
     let l = how-all (listed g) in
     let z = listed-length g in
-    record { place = pl; within = omega (arith, w, m, n, f, l, z); partition = same-partition o.walk h (Some (Turn.Gap g)) x k ∙ sc.partition }
-step-scan o h (Some Turn.Fitting) x c sc e pl a = scan-same o h (Some Turn.Fitting) x c sc tt e pl a (same-partition o.walk h (Some Turn.Fitting) x (kind o.walk h (Some Turn.Fitting) x e))
-step-scan o h (Some Turn.Wanted) x c sc e pl a = scan-same o h (Some Turn.Wanted) x c sc tt e pl a (same-partition o.walk h (Some Turn.Wanted) x (kind o.walk h (Some Turn.Wanted) x e))
-step-scan o h (Some Turn.Passed) x c sc e pl a = scan-same o h (Some Turn.Passed) x c sc tt e pl a (same-partition o.walk h (Some Turn.Passed) x (kind o.walk h (Some Turn.Passed) x e))
-step-scan o h (Some Turn.End) x c sc e pl a = scan-same o h (Some Turn.End) x c sc tt e pl a (same-partition o.walk h (Some Turn.End) x (kind o.walk h (Some Turn.End) x e))
+    record { place = pl; within = omega (arith, w, l, z); partition = same-partition o.walk h (Some (Turn.Gap g)) x k ∙ sc.partition }
+step-scan o h t x c sc e pl a =
+    let k = kind o.walk h t x e in
+    let w = within-turn o.walk h o.wanted sc.place sc.within t x tt k in
+    record { place = pl; within = subst (CountsWithin x) (sym a) w; partition = same-partition o.walk h t x k ∙ sc.partition }
 
 ordered-next : (s : Scanned) (n : SymbolId × Option (Bor (List ℕ))) → CanFollow s (Some n) → IsOrdered symbol_id_cmp (shown s.key s.facts ++ (n.0, cell_of n.1) ∷ [])
 ordered-next s n f = subst (IsOrdered symbol_id_cmp) (shown-next s n) (shown-ordered s.key (s.facts ++ next_fact s.key n ∷ []) f)
@@ -546,12 +481,6 @@ ordered-next s n f = subst (IsOrdered symbol_id_cmp) (shown-next s n) (shown-ord
 same-counts : (o : ScanState) (s : Scanned) (x : PartitionScan) (c : Counted) → c ≡ o.wanted → Scans (record o { walk = x }) s → Scans (state_of o x c) s
 same-counts o s x c a q = subst (λ (c : Counted). Scans (state_of o x c) s) (sym a) q
 
-not_fitting-none : (w x : PartitionScan) → (Some Turn.Fitting, x) ≡ turn_of w None → ⊥
-not_fitting-none w x e = let t = told-at w None Upcoming.Fitting (kind w None (Some Turn.Fitting) x e).0 in none-some _ t.1.1
-
-not_wanted-none : (w x : PartitionScan) → (Some Turn.Wanted, x) ≡ turn_of w None → ⊥
-not_wanted-none w x e = let k = kind w None (Some Turn.Wanted) x e in none-some _ (told-at w None (Upcoming.Wanted k.0) k.1).2.1
-
 passed-end : (o : ScanState) (s : Scanned) (n : SymbolId × Option (Bor (List ℕ))) (x : PartitionScan) (c : Counted) → IsScan o → Scans o (announced s (Some n)) → (Some Turn.End, x) ≡ turn_of o.walk (held_next (Some n)) → IsPlace x → c ≡ o.wanted → Stepped s (Some n) (state_of o x c) (Some Turn.Passed)
 passed-end o s n x c sc q e pl a =
     let k = kind o.walk (held_next (Some n)) (Some Turn.End) x e in
@@ -559,24 +488,22 @@ passed-end o s n x c sc q e pl a =
     (behind-symbol s n s.bytes x, r.0, same-counts o (behind-symbol s n s.bytes x) x c a r.1)
 
 pub stepped : (o : ScanState) (s : Scanned) (next : Next) (t : Option Turn) (x : PartitionScan) (c : Counted) → IsScan o → Scans o (announced s next) → CanFollow s next → (t, x) ≡ turn_of o.walk (held_next next) → IsPlace x → AddsTurn t o.wanted c → Stepped s next (state_of o x c) (passed_at_end t (held_next next))
-stepped o s None None x c sc q f e pl a = same-counts o (announced s None) x c a (scan-begun o s None x q sc e pl)
-stepped o s (Some n) None x c sc q f e pl a = same-counts o (announced s (Some n)) x c a (scan-begun o s (Some n) x q sc e pl)
-stepped o s None (Some (Turn.Gap g)) x c sc q f e pl a = (let r = gap-given o s None g x c q sc e pl a in (behind-gap s None g x, r.0, r.1))
-stepped o s (Some n) (Some (Turn.Gap g)) x c sc q f e pl a = (let r = gap-given o s (Some n) g x c q sc e pl a in (behind-gap s (Some n) g x, r.0, r.1))
-stepped o s None (Some Turn.Fitting) x c sc q f e pl a = absurd (not_fitting-none o.walk x e)
-stepped o s (Some (id, v)) (Some Turn.Fitting) x c sc q f e pl a =
-    let n : SymbolId × Option (Bor (List ℕ)) = (id, v) in
+stepped o s next None x c sc q f e pl a = same-counts o (announced s next) x c a (scan-begun o s next x q sc e pl)
+stepped o s next (Some (Turn.Gap g)) x c sc q f e pl a =
+    let r = gap-given o s next g x c q sc e pl a in (behind-gap s next g x, r.0, r.1)
+stepped o s None (Some Turn.Fitting) x c sc q f e pl a =
+    let t = told-at o.walk None Upcoming.Fitting (kind o.walk None (Some Turn.Fitting) x e).0 in absurd (none-some _ t.1.1)
+stepped o s (Some n) (Some Turn.Fitting) x c sc q f e pl a =
     let bytes = option_map (λ b. b ++ value_of n) s.bytes in
     let r = symbol-passed o s n x bytes q (keeps-at o s n (Some Turn.Fitting) x q tt (λ more. refl) e pl) (fitting-done o s n x s.bytes bytes sc q.info_is e (ordered-next s n f) q.done) in
     (behind-symbol s n bytes x, r.0, same-counts o (behind-symbol s n bytes x) x c a r.1)
-stepped o s None (Some Turn.Wanted) x c sc q f e pl a = absurd (not_wanted-none o.walk x e)
-stepped o s (Some (id, v)) (Some Turn.Wanted) x c sc q f e pl a =
-    let n : SymbolId × Option (Bor (List ℕ)) = (id, v) in
+stepped o s None (Some Turn.Wanted) x c sc q f e pl a =
+    let k = kind o.walk None (Some Turn.Wanted) x e in absurd (none-some _ (told-at o.walk None (Upcoming.Wanted k.0) k.1).2.1)
+stepped o s (Some n) (Some Turn.Wanted) x c sc q f e pl a =
     let r = symbol-passed o s n x None q (keeps-at o s n (Some Turn.Wanted) x q tt (λ more. refl) e pl) tt in
     (behind-symbol s n None x, (r.0, first-wanted o s n x s.bytes q e pl q.done), same-counts o (behind-symbol s n None x) x c a r.1)
 stepped o s None (Some Turn.Passed) x c sc q f e pl a = absurd (let t = told-at o.walk None Upcoming.Passed (kind o.walk None (Some Turn.Passed) x e).0 in none-some t.0 t.1)
-stepped o s (Some (id, v)) (Some Turn.Passed) x c sc q f e pl a =
-    let n : SymbolId × Option (Bor (List ℕ)) = (id, v) in
+stepped o s (Some n) (Some Turn.Passed) x c sc q f e pl a =
     let r = symbol-passed o s n x s.bytes q (keeps-at o s n (Some Turn.Passed) x q tt (λ more. refl) e pl) (passed-done s n o.walk x (Some n) s.bytes s.bytes (kind o.walk (held_next (Some n)) (Some Turn.Passed) x e).1 q.done) in
     (behind-symbol s n s.bytes x, r.0, same-counts o (behind-symbol s n s.bytes x) x c a r.1)
 stepped o s None (Some Turn.End) x c sc q f e pl a =

@@ -1,41 +1,17 @@
 -- What a turn of a scan passes and gives.
-use Rattle.std.proofs.Common.{◌≡◌, ℕ, zero, suc, ◌+◌, ◌-◌, ◌<◌, Bool, true, false, cond, List, [], ◌∷◌, ◌++◌, length, map, Option, Some, None, refl, sym, ap, ◌∙◌, subst, arith}
-use Rattle.std.specs.Prelude.{flat_map, IfSome}
-use Rattle.std.specs.Borrow.{Bor}
-use Rattle.std.specs.List.{range_with_len, AllByRecursion}
-use Rattle.std.specs.List.Sorted.{IsStrictlySortedBy}
-use Rattle.std.specs.Map.{keys_of}
-use Rattle.std.specs.declared.cmp.Ordering.TheVariants.{Less}
-use Rattle.std.specs.Ordering.{is_eq}
-use Rattle.std.proofs.lemmas.Option.{none-some}
-use Rattle.flute_join.specs.Cell.{IsKnown}
-use Rattle.flute_join.specs.JoinMap.{value_at, IsOrdered}
-use Rattle.flute_join.specs.declared.cell.Cell.{Cell}
-use Rattle.flute_join.specs.declared.cell.Cell.TheVariants.{One, Conflict}
-use Rattle.flute_parts.specs.Information.{Information, sizes}
-use Rattle.flute_parts.specs.Order.{symbol_id_cmp}
-use Rattle.flute_parts.specs.Equality.{key_itself}
-use Rattle.flute_parts.specs.Partition.{symbol_id, ids}
-use Rattle.flute_parts.specs.declared.key.Key.{Key}
-use Rattle.flute_parts.specs.declared.symbol_id.SymbolId.{SymbolId}
-use Rattle.flute_parts.specs.declared.fact.Fact.{Fact}
-use Rattle.flute_store.specs.declared.gap.Reason.TheVariants.{Missing, Conflicting, Misfit}
-use Rattle.flute_store.specs.declared.status.Wanted.{Wanted as Counted}
-use Rattle.flute_store.specs.Status.{IsCount}
-use Rattle.flute_store.specs.BytesLeft.{held_bytes}
-use Rattle.flute_store.specs.declared.partition_scan.PartitionScan.{PartitionScan}
-use Rattle.flute_store.specs.Objects.{wants, listed}
-use Rattle.flute_store.specs.Wanted.{block_from, blocks_from}
-use Rattle.flute_store.specs.PartitionScan.{Walk, walk_of, at_start, symbols_left, gaps_left, IsWalk, ShowsNext, after_block}
-use Rattle.flute_store.specs.Shown.{shown_by, shown}
-use Rattle.flute_store.specs.Scan.{Scanned, next_fact, coming_fact, CanCome, at_begin, GaveAll}
-use Rattle.flute_store.specs.Scans.{Next, announced, held_next, run_length, CountsWithin, ScanState, ComesAs, one_run, FitsSoFar, Scans}
-use Rattle.flute_store.proofs.Lookups.{Entry, value-past, value-here}
+use Rattle.std.proofs.lemmas.List.FromFn.{length-map-range_with_len}
+use Rattle.std.proofs.Common.{length-append, ◌≡◌, ℕ, ◌+◌, ◌-◌, ◌<◌, Bool, true, false, cond, List, [], ◌∷◌, ◌++◌, length, Option, Some, None, refl, sym, ap, ◌∙◌, subst, arith}
+use Rattle.flute_store.proofs.Common
+use Common.{flat_map, Bor, AllByRecursion, IsStrictlySortedBy, keys_of, Less, is_eq, none-some}
+use Common.{IsKnown, value_at, IsOrdered, Cell, One, Conflict, Information, sizes, symbol_id_cmp}
+use Common.{key_itself, symbol_id, ids, Key, SymbolId, Fact, Missing, Conflicting, Misfit, Counted}
+use Common.{IsCount, held_bytes, PartitionScan, wants, listed, block_from, blocks_from, Walk}
+use Common.{walk_of, at_start, symbols_left, gaps_left, IsWalk, ShowsNext, after_block, shown_by}
+use Common.{shown, Scanned, next_fact, coming_fact, at_begin, GaveAll, Next, held_next, run_length}
+use Common.{CountsWithin, ScanState, ComesAs, one_run, Scans}
+use Rattle.flute_store.proofs.{Lookups.{Entry, value-past, value-here}, KeyLists.{none_in}}
 use Rattle.flute_store.proofs.SortedSymbols.{block_from-first, block_from-end, blocks_from-next, blocks_from-end, blocks_from-all}
-use Rattle.flute_store.proofs.KeyLists.{none_in}
-use Rattle.flute_store.proofs.Runs.{runs-listed}
-use Rattle.flute_store.proofs.HowMany.{how-nil}
-use Rattle.flute_store.proofs.HeldTurns.{start-walk}
+use Rattle.flute_store.proofs.{Runs.{runs-listed}, HowMany.{how-nil}, HeldTurns.{start-walk}}
 use Rattle.flute_store.proofs.ToldObjects.{start-left}
 
 -- ---- what comes next, as an entry
@@ -57,41 +33,10 @@ shows-next key None more h = h
 shows-next key (Some (id, Some b)) more h = (One b.now, h.0, h.1 ∙ ap (λ es. es ++ h.0) (shown-told key (id, Some b)), refl)
 shows-next key (Some (id, None)) more h = (Conflict, h.0, h.1 ∙ ap (λ es. es ++ h.0) (shown-told key (id, None)), refl)
 
--- ---- what was said to come next
-
-can_come : (key : Key) (f : Option Fact) (more : List Entry) (said : Option (Option Fact)) → IfSome said (λ c. c ≡ f) → ComesAs key f more → IfSome said (λ c. ComesAs key c more)
-can_come key f more None e h = tt
-can_come key f more (Some c) e h = subst (λ c. ComesAs key c more) (sym e) h
-
-same-done : (s t : Scanned) (w : PartitionScan) (said : Option (Option Fact)) (bytes : Option (List ℕ)) → IfSome bytes (λ b. FitsSoFar s w b) → t ≡ record s { coming = said; ahead = t.ahead } → IfSome bytes (λ b. FitsSoFar t w b)
-same-done s t w said None d e = tt
-same-done s t w said (Some b) d e =
-    subst (λ (t : Scanned). FitsSoFar t w b) (sym e)
-    (record { done = d.done; all = d.all; held = d.held; values = d.values; no_run = d.no_run; no_gap = d.no_gap })
-
-pub announce : (o : ScanState) (s : Scanned) (next : Next) → Scans o s → CanCome s next → Scans o (announced s next)
-announce o s next q can = record {
-  key_is = q.key_is;
-  info_is = q.info_is;
-  begins = q.begins;
-  walks = λ more r k h. let w = q.walks more r k (can_come s.key (coming_fact s.key next) more s.coming can h) in record { walk = w.walk; gaps_are = w.gaps_are };
-  done = same-done s (announced s next) o.walk (Some (coming_fact s.key next)) s.bytes q.done refl;
-  counts = q.counts;
-  ahead_is = q.ahead_is;
-}
-
 -- ---- the symbols that are left
 
-length-block : (n a k : ℕ) → length (map (symbol_id n) (range_with_len a k)) ≡ k
-length-block n a zero = refl
-length-block n a (suc k) = let h = length-block n (a + 1) k in omega (arith, h)
-
-length-both : (xs ys : List SymbolId) → length (xs ++ ys) ≡ length xs + length ys
-length-both [] ys = omega arith
-length-both (x ∷ xs) ys = let h = length-both xs ys in omega (arith, h)
-
 pub length-left : (w : Walk) → length (symbols_left w) ≡ (w.size - w.esi) + length (blocks_from w.partition w.begun)
-length-left w = length-both (block_from w.sbn w.esi w.size) (blocks_from w.partition w.begun) ∙ ap (λ k. k + length (blocks_from w.partition w.begun)) (length-block w.sbn w.esi (w.size - w.esi))
+length-left w = length-append (block_from w.sbn w.esi w.size) (blocks_from w.partition w.begun) ∙ ap (λ k. k + length (blocks_from w.partition w.begun)) (length-map-range_with_len (symbol_id w.sbn) w.esi (w.size - w.esi))
 
 -- none at the end
 pub end-symbols : (w : PartitionScan) → w.esi ≡ w.size → w.begun ≡ length (sizes w.partition) → symbols_left (walk_of w []) ≡ []
@@ -152,9 +97,8 @@ new-scan key info w c e i =
 
 pub new-within : (w : PartitionScan) (c : Counted) → IsCount c [] → w.run ≡ None → CountsWithin w c
 new-within w c i r =
-    let m = i.missing in let n = i.conflicting in let f = i.misfit in
     let o = ap run_length r in
-    omega (arith, m, n, f, o, how-nil Missing, how-nil Conflicting, how-nil Misfit)
+    omega (arith, o, how-nil Missing, how-nil Conflicting, how-nil Misfit)
 
 pub counts-wants : (o : ScanState) (s : Scanned) (F : List Fact) → Scans o s → GaveAll s F → IsCount o.wanted (wants F s.key s.info)
 counts-wants o s F q g = subst (IsCount o.wanted) (ap (flat_map listed) (sym g.gaps_are) ∙ runs-listed (wants F s.key s.info)) q.counts

@@ -1,33 +1,20 @@
 -- What is held of an object whose datagrams were all taken.
 use Rattle.std.proofs.Common.{◌≡◌, ℕ, zero, suc, inl, inr, List, [], ◌∷◌, ◌++◌, length, map, take, true, cond, Bool, Some, refl, sym, ap, subst, ◌∙◌, arith}
-use Rattle.std.specs.Prelude.{flat_map, Contains, filter}
-use Rattle.std.specs.List.{AllZip}
-use Rattle.std.proofs.lemmas.Bool.{cases_Bool}
 use Rattle.std.proofs.lemmas.List.{take_all}
 use Rattle.std.proofs.lemmas.List.Concat.{flat_map-cons}
 use Rattle.std.proofs.lemmas.List.Folds.{flat_map-map}
-use Rattle.flute_parts.specs.Information.{Information, IsValid}
-use Rattle.flute_parts.specs.Order.{same_key}
-use Rattle.flute_parts.specs.Equality.{key_itself}
-use Rattle.flute_parts.specs.Addresses.{address, info_address, symbol_address}
-use Rattle.flute_parts.specs.Facts.{fact_at, SameMembers}
-use Rattle.flute_parts.specs.Partition.{ids, fits}
-use Rattle.flute_parts.specs.declared.symbol_id.SymbolId.{SymbolId}
-use Rattle.flute_parts.specs.declared.address.Part.TheVariants.{Info as InfoPart, Symbol as SymbolPart}
-use Rattle.flute_parts.specs.declared.address.Address.{Address}
-use Rattle.flute_parts.specs.declared.key.Key.{Key}
-use Rattle.flute_parts.specs.declared.fact.Fact.{Fact}
-use Rattle.flute_parts.specs.declared.fact.Fact.TheVariants.{Info, Symbol}
-use Rattle.flute_parts.proofs.Facts.{Member, Member-from, Contains-from}
 use Rattle.flute_parts.proofs.Readings.{fact_at-one}
-use Rattle.flute_wire.specs.Reading.{facts}
 use Rattle.flute_wire.specs.Writing.{IsWritten}
 use Rattle.flute_wire.specs.Carousel.{symbols_of, packets_of, facts_sent}
 use Rattle.flute_wire.proofs.Pieces.{facts_are_sent}
 use Rattle.flute_wire.proofs.Cut.{cut-ids, cut-joined, cut-fit, cut-one}
 use Rattle.flute_wire.proofs.DatagramFacts.{IsSent, told-iff}
-use Rattle.flute_store.specs.Objects.{Whole, value_bytes, object}
 use Rattle.flute_store.specs.Sent.{facts_at_key}
+use Rattle.flute_store.proofs.Common
+use Common.{flat_map, Contains, filter, AllZip, cases_Bool, Information, IsValid, same_key}
+use Common.{key_itself, address, info_address, symbol_address, fact_at, SameMembers, ids, fits}
+use Common.{SymbolId, InfoPart, SymbolPart, Address, Key, Fact, Info, Symbol, Member, Member-from}
+use Common.{Contains-from, facts, Whole, value_bytes, object}
 
 -- the facts that pass a test are those of the list that do
 kept : (p : Fact → Bool) (F : List Fact) (f : Fact) → Member f (filter p F) → Member f F

@@ -1,17 +1,10 @@
 -- The symbols of a partition stand in rising order, from any of them on.
 use Rattle.std.proofs.Common.{◌≡◌, ℕ, zero, suc, ◌+◌, ◌-◌, ◌<◌, get_or, List, [], ◌∷◌, ◌++◌, length, map, drop, refl, ap, ◌∙◌, arith, drop-cons}
-use Rattle.std.specs.Prelude.{flat_map}
-use Rattle.std.specs.List.{range_with_len, enumerate_from, AllByRecursion}
-use Rattle.std.specs.declared.cmp.Ordering.TheVariants.{Less, Equal}
-use Rattle.std.specs.Ordering.{nat_cmp, ordering_then}
-use Rattle.std.proofs.lemmas.Bool.Decides.{nat_tests}
 use Rattle.std.proofs.Math.Seq.{drop-length}
-use Rattle.flute_parts.specs.Information.{Information, sizes}
-use Rattle.flute_parts.specs.Order.{symbol_id_cmp}
-use Rattle.flute_parts.specs.Partition.{symbol_id, block_ids, ids}
-use Rattle.flute_parts.specs.Totality.{symbol_id_total}
-use Rattle.flute_parts.specs.declared.symbol_id.SymbolId.{SymbolId}
-use Rattle.flute_store.specs.Wanted.{block_from, blocks_from}
+use Rattle.flute_store.proofs.Common
+use Common.{flat_map, range_with_len, enumerate_from, AllByRecursion, Less, Equal, nat_cmp}
+use Common.{ordering_then, nat_tests, Information, sizes, symbol_id_cmp, symbol_id, block_ids, ids}
+use Common.{symbol_id_total, SymbolId, block_from, blocks_from}
 
 -- each of the symbols stands after p
 abbrev pub Above : SymbolId → List SymbolId → Type 0

@@ -1,11 +1,9 @@
 -- What is known of datagrams that are packets.
 use Rattle.std.proofs.Common.{ℕ, ◌≤◌, ◌<◌, List, ◌++◌, length, nat_lt, sym, ap, subst, inl, inr, arith, length-append, length-drop}
-use Rattle.std.specs.Prelude.{IfSome}
-use Rattle.std.proofs.lemmas.Bool.{cases_Bool}
-use Rattle.std.proofs.lemmas.Bool.Decides.{nat_tests}
 use Rattle.flute_parts.specs.SymbolBytes.{HasSymbolSize}
 use Rattle.flute_wire.specs.Content.{Content}
 use Rattle.flute_wire.specs.Datagram.{Spells, tail_symbol}
+use Rattle.flute_store.proofs.Common.{IfSome, cases_Bool, nat_tests}
 
 behind : (xs ys : List ℕ) → length ys ≤ length (xs ++ ys)
 behind xs ys = omega (arith, length-append xs ys)

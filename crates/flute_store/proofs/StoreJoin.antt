@@ -1,33 +1,17 @@
 -- The content of the join of two stores comes to the contents appended.
 use Rattle.std.proofs.Common.{◌≡◌, ℕ, List, [], ◌∷◌, ◌++◌, None, refl, sym, ap, ◌∙◌, subst}
 use Rattle.std.specs.Prelude.{bytes_eq, ◌&&◌}
-use Rattle.flute_parts.specs.Totality.{session_total, object_total, symbol_id_total}
-use Rattle.flute_parts.specs.Session.{Session}
-use Rattle.flute_parts.specs.declared.object_key.ObjectName.{ObjectName}
-use Rattle.flute_parts.specs.declared.key.Key.{Key}
-use Rattle.flute_parts.specs.declared.symbol_id.SymbolId.{SymbolId}
-use Rattle.flute_parts.specs.declared.address.Part.{Part}
-use Rattle.flute_parts.specs.declared.address.Part.TheVariants.{Info as InfoPart, Symbol as SymbolPart}
-use Rattle.flute_parts.specs.declared.address.Address.{Address}
-use Rattle.flute_parts.specs.declared.fact.Fact.{Fact}
-use Rattle.flute_parts.specs.declared.fact.Fact.TheVariants.{Info, Symbol}
-use Rattle.flute_parts.specs.Information.{Information}
-use Rattle.flute_parts.specs.Order.{session_cmp, object_cmp, symbol_id_cmp, same_symbol_id}
-use Rattle.flute_parts.specs.Addresses.{info_address, symbol_address}
-use Rattle.flute_parts.specs.Facts.{fact_at, Same, Below, same_information}
-use Rattle.flute_parts.specs.Equality.{session_place, object_place, symbol_id_place, key_itself, symbol_id_itself}
-use Rattle.flute_parts.proofs.Joined.{joined, joined-none, fact_at-append}
-use Rattle.flute_parts.proofs.Facts.{Below-trans, Below-from_Same, Same-sym}
-use Rattle.flute_join.specs.Cell.{cell_join}
-use Rattle.flute_join.specs.JoinMap.{IsOrdered, EachValue}
-use Rattle.flute_join.specs.declared.cell.Cell.{Cell}
-use Rattle.flute_join.specs.Semilattice.{IsBelow}
-use Rattle.flute_join.proofs.Ordered.{ordered-map_join, EachValue-map_join}
-use Rattle.flute_store.specs.declared.object.Object.{Object}
-use Rattle.flute_store.specs.ObjectJoin.{object_join, symbols_join, session_join, store_join}
-use Rattle.flute_store.specs.Content.{key_in, info_cell_facts, symbol_cell_facts, symbols_facts, object_facts, session_facts, content}
-use Rattle.flute_store.specs.WellFormed.{IsObject, IsSession, IsStore}
-use Rattle.flute_store.proofs.At.{Elsewhere, elsewhere-none, elsewhere-append, elsewhere-flat_map, elsewhere-cell, at-cell_join, at-map_join}
+use Rattle.flute_store.proofs.Common
+use Common.{session_total, object_total, symbol_id_total, Session, ObjectName, Key, SymbolId, Part}
+use Common.{InfoPart, SymbolPart, Address, Fact, Info, Symbol, Information, session_cmp, object_cmp}
+use Common.{symbol_id_cmp, same_symbol_id, info_address, symbol_address, fact_at, Same, Below}
+use Common.{same_information, session_place, object_place, symbol_id_place, key_itself}
+use Common.{symbol_id_itself, joined, joined-none, fact_at-append, Below-trans, Below-from_Same}
+use Common.{Same-sym, cell_join, IsOrdered, EachValue, Cell, IsBelow, ordered-map_join}
+use Common.{EachValue-map_join, Object, object_join, symbols_join, session_join, store_join, key_in}
+use Common.{info_cell_facts, symbol_cell_facts, symbols_facts, object_facts, session_facts, content}
+use Common.{IsObject, IsSession, IsStore}
+use Rattle.flute_store.proofs.At.{Elsewhere, elsewhere-none, Apart, each-append, each-flat_map, elsewhere-cell, at-cell_join, at-map_join}
 
 -- ---- where the facts of a cell stand
 
@@ -51,10 +35,10 @@ symbol-join key id =
 not_info : (key l : Key) (id : SymbolId) → symbol_address key id ≡ info_address l → ⊥
 not_info key l id p = let q : SymbolPart id ≡ InfoPart = ap (λ (a : Address). a.part) p in cc
 
-not_symbol : (key l : Key) (id : SymbolId) → info_address key ≡ symbol_address l id → ⊥
+pub not_symbol : (key l : Key) (id : SymbolId) → info_address key ≡ symbol_address l id → ⊥
 not_symbol key l id p = let q : InfoPart ≡ SymbolPart id = ap (λ (a : Address). a.part) p in cc
 
-same_id : (key l : Key) (i j : SymbolId) → symbol_address key i ≡ symbol_address l j → i ≡ j
+pub same_id : (key l : Key) (i j : SymbolId) → symbol_address key i ≡ symbol_address l j → i ≡ j
 same_id key l i j p = let q : SymbolPart i ≡ SymbolPart j = ap (λ (a : Address). a.part) p in cc
 
 any_cell : (es : List (SymbolId × Cell (List ℕ))) → EachValue (λ _. Unit {0}) es
@@ -74,7 +58,7 @@ symbols-join key id es fs s t =
     (λ v w x y. symbol-join key id v w) es fs s t (any_cell es) (any_cell fs)
 
 symbols-info : (key : Key) (es : List (SymbolId × Cell (List ℕ))) → fact_at (symbols_facts key es) (info_address key) ≡ None
-symbols-info key es = elsewhere-none (info_address key) (symbols_facts key es) (elsewhere-flat_map (info_address key) (entry_facts key) (λ e. elsewhere-symbol (info_address key) key e.0 (not_info key key e.0) e.1) es)
+symbols-info key es = elsewhere-none (info_address key) (symbols_facts key es) (each-flat_map (Apart (info_address key)) (entry_facts key) (λ e. elsewhere-symbol (info_address key) key e.0 (not_info key key e.0) e.1) es)
 
 info-symbol : (key : Key) (id : SymbolId) (c : Cell Information) → fact_at (info_cell_facts key c) (symbol_address key id) ≡ None
 info-symbol key id c = elsewhere-none (symbol_address key id) (info_cell_facts key c) (elsewhere-info (symbol_address key id) key (not_symbol key key id) c)
@@ -146,8 +130,8 @@ module _ {n : ℕ} where
 
   pub elsewhere-object : (a : Address) (key : Key) → (key ≡ a.key → ⊥) → (x : Object n) → Elsewhere a (object_facts key x)
   elsewhere-object a key h x =
-      elsewhere-append a (info_cell_facts key x.info) (symbols_facts key x.symbols) (elsewhere-info a key (λ p. h (ap (λ (b : Address). b.key) p)) x.info)
-      (elsewhere-flat_map a (entry_facts key) (λ e. elsewhere-symbol a key e.0 (λ p. h (ap (λ (b : Address). b.key) p)) e.1) x.symbols)
+      each-append (Apart a) (info_cell_facts key x.info) (symbols_facts key x.symbols) (elsewhere-info a key (λ p. h (ap (λ (b : Address). b.key) p)) x.info)
+      (each-flat_map (Apart a) (entry_facts key) (λ e. elsewhere-symbol a key e.0 (λ p. h (ap (λ (b : Address). b.key) p)) e.1) x.symbols)
 
   -- ---- a session
   pub objects_apart : (a : Address) (e : ObjectName × Object n) → (a.key.object ≡ e.0 → ⊥) → Elsewhere a (in_session a.key.session e)
@@ -160,7 +144,7 @@ module _ {n : ℕ} where
 
   elsewhere-session : (a : Address) (session : Session) → (session ≡ a.key.session → ⊥) → (objects : List (ObjectName × Object n)) → Elsewhere a (session_facts session objects)
   elsewhere-session a session h objects =
-      elsewhere-flat_map a (in_session session) (λ e. elsewhere-object a (key_in session e.0) (λ p. h (ap (λ (k : Key). k.session) p)) e.1) objects
+      each-flat_map (Apart a) (in_session session) (λ e. elsewhere-object a (key_in session e.0) (λ p. h (ap (λ (k : Key). k.session) p)) e.1) objects
 
   -- ---- a store
   pub sessions_apart : (a : Address) (e : Session × List (ObjectName × Object n)) → (a.key.session ≡ e.0 → ⊥) → Elsewhere a (in_store e)

@@ -1,27 +1,13 @@
 -- What comes next on a walk, and what is left then.
 use Rattle.std.proofs.Common.{◌≡◌, ◌≢◌, ℕ, ◌+◌, ◌<◌, ◌≤◌, cond, List, [], ◌∷◌, ◌++◌, length, drop, Option, Some, None, refl, sym, ap, ◌∙◌, subst, inl, inr, arith, append_assoc, ◌-◌}
-use Rattle.std.specs.Prelude.{◌==◌, option_map}
-use Rattle.std.specs.List.{cons_option}
-use Rattle.std.specs.Map.{keys_of}
-use Rattle.std.specs.declared.cmp.Ordering.{Ordering}
-use Rattle.std.specs.declared.cmp.Ordering.TheVariants.{Less, Equal, Greater}
-use Rattle.std.specs.List.Sorted.{IsStrictlySortedBy}
-use Rattle.std.specs.Ordering.{match_ordering}
-use Rattle.std.proofs.lemmas.Bool.{cases_Bool, eqb-true, eqb-false, ne_eqb, eq-eqb}
-use Rattle.std.proofs.lemmas.Map.Keys.{sorted_tail}
-use Rattle.flute_join.specs.Cell.{IsKnown}
-use Rattle.flute_join.specs.JoinMap.{IsOrdered, EachValue}
-use Rattle.flute_parts.specs.Information.{sizes}
-use Rattle.flute_parts.specs.Order.{symbol_id_cmp}
-use Rattle.flute_parts.specs.Equality.{symbol_id_place}
-use Rattle.flute_parts.specs.Partition.{symbol_id}
-use Rattle.flute_parts.specs.declared.symbol_id.SymbolId.{SymbolId}
-use Rattle.flute_store.specs.declared.gap.Reason.{Reason}
-use Rattle.flute_store.specs.declared.gap.Gap.{Gap}
-use Rattle.flute_store.specs.declared.partition_scan.Upcoming.{Upcoming}
-use Rattle.flute_store.specs.declared.partition_scan.Upcoming.TheVariants.{End, BlockEnd, Passed, Fitting, Wanted, NotHeld}
-use Rattle.flute_store.specs.Wanted.{want_cell, with_reason, wanted, block_from, blocks_from}
-use Rattle.flute_store.specs.PartitionScan.{Walk, symbols_left, left, pending, IsBehind, EndsBefore, IsWalk, IsAhead, Keeps, after_pass, after_take, after_begin, upcoming_wanted, upcoming_held, upcoming_of}
+use Rattle.flute_store.proofs.Common
+use Common.{◌==◌, option_map, cons_option, keys_of, Ordering, Less, Equal, Greater}
+use Common.{IsStrictlySortedBy, match_ordering, cases_Bool, eqb-true, eqb-false, eq-eqb}
+use Common.{sorted_tail, IsKnown, IsOrdered, EachValue, sizes, symbol_id_cmp, symbol_id_place}
+use Common.{symbol_id, SymbolId, Reason, Gap, Upcoming, End, BlockEnd, Passed, Fitting, Wanted}
+use Common.{NotHeld, want_cell, with_reason, wanted, block_from, blocks_from, Walk, symbols_left}
+use Common.{left, pending, IsBehind, EndsBefore, IsWalk, IsAhead, Keeps, after_pass, after_take}
+use Common.{after_begin, upcoming_wanted, upcoming_held, upcoming_of}
 use Rattle.flute_store.proofs.SortedSymbols.{Above, Later, above-before, above-block, later-blocks, block_from-first, block_from-end, blocks_from-next}
 use Rattle.flute_store.proofs.Lookups.{Entry, wanted-past, wanted-here}
 
@@ -72,20 +58,25 @@ tells-held w (e ∷ es) h i = by_order (symbol_id_cmp e.0 (here w)) refl
         tells-wanted w (want_cell w.partition e.0 (Some e.1)) (record { inside = i; first = e; others = es; held = h; at_here = p; why_is = ap (λ x. want_cell w.partition x (Some e.1)) (sym p) })
     by_order Greater l = (i, subst (FirstAfter (here w)) (sym h) l)
 
-pub tells : (w : Walk) → Tells w (upcoming_of w)
-unfolding upcoming_of
-tells w = elim (cases_Bool (w.esi == w.size)) [
-  | inr f ↦
-      subst (λ b. Tells w (cond b (cond (w.begun == length (sizes w.partition)) End BlockEnd) (upcoming_held w.partition (here w) w.held))) (sym f)
-      (tells-held w w.held refl (eqb-false w.esi w.size f))
+-- what comes next where a block ends, where the last one does, and within one
+pub by-place : (esi size begun blocks : ℕ) (l : Upcoming) (P : Upcoming → Type 0)
+    → (esi ≢ size → P l) → (esi ≡ size → begun ≡ blocks → P End) → (esi ≡ size → begun ≢ blocks → P BlockEnd)
+    → P (cond (esi == size) (cond (begun == blocks) End BlockEnd) l)
+by-place esi size begun blocks l P i e b = elim (cases_Bool (esi == size)) [
+  | inr f ↦ subst (λ t. P (cond t (cond (begun == blocks) End BlockEnd) l)) (sym f) (i (eqb-false esi size f))
   | inl t ↦
-      let e = eqb-true w.esi w.size t in
-      subst (λ b. Tells w (cond b (cond (w.begun == length (sizes w.partition)) End BlockEnd) (upcoming_held w.partition (here w) w.held))) (sym t)
-      (elim (cases_Bool (w.begun == length (sizes w.partition))) [
-        | inl u ↦ subst (λ b. Tells w (cond b End BlockEnd)) (sym u) (e, eqb-true w.begun (length (sizes w.partition)) u)
-        | inr u ↦ subst (λ b. Tells w (cond b End BlockEnd)) (sym u) (e, eqb-false w.begun (length (sizes w.partition)) u)
+      subst (λ t. P (cond t (cond (begun == blocks) End BlockEnd) l)) (sym t)
+      (elim (cases_Bool (begun == blocks)) [
+        | inl u ↦ subst (λ t. P (cond t End BlockEnd)) (sym u) (e (eqb-true esi size t) (eqb-true begun blocks u))
+        | inr u ↦ subst (λ t. P (cond t End BlockEnd)) (sym u) (b (eqb-true esi size t) (eqb-false begun blocks u))
       ])
 ]
+
+pub tells : (w : Walk) → Tells w (upcoming_of w)
+unfolding upcoming_of
+tells w =
+    by-place w.esi w.size w.begun (length (sizes w.partition)) (upcoming_held w.partition (here w) w.held) (Tells w)
+    (tells-held w w.held refl) (λ e f. (e, f)) (λ e f. (e, f))
 
 pub told : (w : Walk) (l : Upcoming) → upcoming_of w ≡ l → Tells w l
 told w l h = subst (Tells w) h (tells w)
@@ -112,19 +103,16 @@ inside-less w p i = let l = p.within in omega (arith, l, i)
 held-length : (held : List Entry) (e : Entry) (es : List Entry) → held ≡ e ∷ es → length held ≡ length (drop 1 held) + 1
 held-length held e es h = ap (λ (x : List Entry). length x) h ∙ (let f : length (e ∷ es) ≡ length es + 1 = omega arith in f) ∙ ap (λ (x : List Entry). length (drop 1 x) + 1) (sym h)
 
+-- what the held symbols but the first keep
+of-rest : (P Q : List Entry → Type 0) (held : List Entry) (e : Entry) (es : List Entry) → held ≡ e ∷ es
+    → (P (e ∷ es) → Q es) → P held → Q (drop 1 held)
+of-rest P Q held e es h f s = subst (λ (x : List Entry). Q (drop 1 x)) (sym h) (f (subst P h s))
+
 held-ordered : (held : List Entry) (e : Entry) (es : List Entry) → held ≡ e ∷ es → IsOrdered symbol_id_cmp held → IsOrdered symbol_id_cmp (drop 1 held)
-held-ordered held e es h s =
-    subst (λ (x : List Entry). IsOrdered symbol_id_cmp (drop 1 x)) (sym h) (sorted_tail symbol_id_cmp e.0 (keys_of es) (subst (IsOrdered symbol_id_cmp) h s))
+held-ordered held e es h = of-rest (IsOrdered symbol_id_cmp) (IsOrdered symbol_id_cmp) held e es h (sorted_tail symbol_id_cmp e.0 (keys_of es))
 
 held-known : (held : List Entry) (e : Entry) (es : List Entry) → held ≡ e ∷ es → EachValue IsKnown held → EachValue IsKnown (drop 1 held)
-held-known held e es h s =
-    let k : EachValue IsKnown (e ∷ es) = subst (EachValue IsKnown) h s in
-    subst (λ (x : List Entry). EachValue IsKnown (drop 1 x)) (sym h) k.1
-
-behind-rest : (n i : ℕ) (held : List Entry) (e : Entry) (es : List Entry) → held ≡ e ∷ es → IsBehind n i held → IsBehind n i (drop 1 held)
-behind-rest n i held e es h b =
-    let a : IsBehind n i (e ∷ es) = subst (IsBehind n i) h b in
-    subst (λ (x : List Entry). IsBehind n i (drop 1 x)) (sym h) a.1
+held-known held e es h = of-rest (EachValue IsKnown) (EachValue IsKnown) held e es h (λ k. k.1)
 
 -- the other held symbols stand behind the first
 pub sorted-first : (e : Entry) (es : List Entry) → IsOrdered symbol_id_cmp (e ∷ es) → Above e.0 (keys_of es)
@@ -144,17 +132,12 @@ behind-first w e es h p s =
 passed-first : (w : Walk) (e : Entry) (es : List Entry) → w.held ≡ e ∷ es → w.held ≡ (e ∷ []) ++ drop 1 w.held
 passed-first w e es h = h ∙ ap (λ (x : List Entry). e ∷ drop 1 x) (sym h)
 
-pub ahead-none : (v w : Walk) → w.held ≡ v.held → w.begun ≡ v.begun → w.partition ≡ v.partition → IsAhead v w
-ahead-none v w h b p = record { passed = []; held_is = sym h; onward = omega (arith, b); partition_is = p }
-
 pub ahead-trans : (u v w : Walk) → IsAhead u v → IsAhead v w → IsAhead u w
 ahead-trans u v w a b =
-    let m = a.onward in
-    let n = b.onward in
     record {
       passed = a.passed ++ b.passed;
       held_is = a.held_is ∙ ap (λ x. a.passed ++ x) b.held_is ∙ sym (append_assoc a.passed b.passed w.held);
-      onward = omega (arith, m, n);
+      onward = omega arith;
       partition_is = b.partition_is ∙ a.partition_is;
     }
 
@@ -167,16 +150,12 @@ step-pass w p t =
     let l = inside-less w p t.inside in
     let n = held-length w.held t.first t.others t.held in
     record {
-      walk = record {
-        ordered = held-ordered w.held t.first t.others t.held p.ordered;
-        known = held-known w.held t.first t.others t.held p.known;
-        begun = p.begun;
-        within = p.within;
-        longest = p.longest;
-        in_block = p.in_block;
-        behind = λ z. behind-rest w.sbn (w.esi - 1) w.held t.first t.others t.held (p.behind z);
-        running = p.running;
-      };
+      walk = assumption (
+        p,
+        held-ordered w.held t.first t.others t.held p.ordered,
+        held-known w.held t.first t.others t.held p.known,
+        λ (z : 0 < w.esi). of-rest (IsBehind w.sbn (w.esi - 1)) (IsBehind w.sbn (w.esi - 1)) w.held t.first t.others t.held (λ b. b.1) (p.behind z),
+      );
       ahead = ahead-first w (after_pass w) t.first t.others t.held refl refl refl;
       left_is =
           ap (λ ws. pending w.run ++ ws)
@@ -195,16 +174,13 @@ taken run w = record w { held = drop 1 w.held; esi = w.esi + 1; run = run }
 pub taken-walk : (run : Option Gap) (w : Walk) (why : Option Reason) → IsWalk w → AtHere w why → EndsBefore w.sbn (w.esi + 1) run → IsWalk (taken run w)
 taken-walk run w why p t r =
     let l = inside-less w p t.inside in
-    record {
-      ordered = held-ordered w.held t.first t.others t.held p.ordered;
-      known = held-known w.held t.first t.others t.held p.known;
-      begun = p.begun;
-      within = omega (arith, l);
-      longest = p.longest;
-      in_block = p.in_block;
-      behind = λ z. behind-first w t.first t.others t.held t.at_here p.ordered;
-      running = r;
-    }
+    let inside : w.esi + 1 ≤ w.size = omega (arith, l) in
+    assumption (
+      p,
+      held-ordered w.held t.first t.others t.held p.ordered,
+      held-known w.held t.first t.others t.held p.known,
+      behind-first w t.first t.others t.held t.at_here p.ordered,
+    )
 
 pub taken-left : (run : Option Gap) (w : Walk) (why : Option Reason) → IsWalk w → AtHere w why → left w ≡ cons_option (option_map (with_reason (here w)) why) (left (taken run w))
 unfolding left
@@ -233,9 +209,7 @@ symbols-end w e = ap (λ k. block_from w.sbn k w.size ++ blocks_from w.partition
 pub step-begin : (w : Walk) → IsWalk w → Tells w BlockEnd → w.run ≡ None → (after_begin w).size ≤ 65536 → Keeps w (after_begin w)
 unfolding left
 step-begin w p t r s =
-    let c = p.begun in
-    let d = t.1 in
-    let l : w.begun < length (sizes w.partition) = omega (arith, c, d) in
+    let l : w.begun < length (sizes w.partition) = omega arith in
     record {
       walk = record {
         ordered = p.ordered;
@@ -257,23 +231,6 @@ step-begin w p t r s =
 pub upcoming-end : (w : Walk) → w.esi ≡ w.size → w.begun ≡ length (sizes w.partition) → End ≡ upcoming_of w
 unfolding upcoming_of
 upcoming-end w e f = sym (ap (λ b. cond b (cond (w.begun == length (sizes w.partition)) End BlockEnd) (upcoming_held w.partition (here w) w.held)) (eq-eqb w.esi w.size e) ∙ ap (λ b. cond b End BlockEnd) (eq-eqb w.begun (length (sizes w.partition)) f))
-
-pub upcoming-block_end : (w : Walk) → w.esi ≡ w.size → w.begun ≢ length (sizes w.partition) → BlockEnd ≡ upcoming_of w
-unfolding upcoming_of
-upcoming-block_end w e f = sym (ap (λ b. cond b (cond (w.begun == length (sizes w.partition)) End BlockEnd) (upcoming_held w.partition (here w) w.held)) (eq-eqb w.esi w.size e) ∙ ap (λ b. cond b End BlockEnd) (ne_eqb w.begun (length (sizes w.partition)) f))
-
-upcoming-inside : (w : Walk) (held : List Entry) → w.esi ≢ w.size → w.held ≡ held → upcoming_held w.partition (here w) held ≡ upcoming_of w
-unfolding upcoming_of
-upcoming-inside w held i h = ap (upcoming_held w.partition (here w)) (sym h) ∙ sym (ap (λ b. cond b (cond (w.begun == length (sizes w.partition)) End BlockEnd) (upcoming_held w.partition (here w) w.held)) (ne_eqb w.esi w.size i))
-
-pub upcoming-none : (w : Walk) → w.esi ≢ w.size → w.held ≡ [] → NotHeld ≡ upcoming_of w
-upcoming-none w i h = upcoming-inside w [] i h
-
-pub upcoming-first : (w : Walk) (e : Entry) (es : List Entry) (o : Ordering) → w.esi ≢ w.size → w.held ≡ e ∷ es → symbol_id_cmp e.0 (here w) ≡ o → match_ordering o Passed (upcoming_wanted (want_cell w.partition e.0 (Some e.1))) NotHeld ≡ upcoming_of w
-upcoming-first w e es o i h c = ap (λ o. match_ordering o Passed (upcoming_wanted (want_cell w.partition e.0 (Some e.1))) NotHeld) (sym c) ∙ upcoming-inside w (e ∷ es) i h
-
-pub here-small : (w : Walk) (why : Option Reason) → IsWalk w → AtHere w why → w.esi < 65536
-here-small w why p t = let l = inside-less w p t.inside in let m = p.longest in omega (arith, l, m)
 
 pub block-left : (w : Walk) → IsWalk w → Tells w BlockEnd → w.begun < length (sizes w.partition)
 block-left w p t = let c = p.begun in let d = t.1 in omega (arith, c, d)

@@ -1,21 +1,11 @@
 -- What lists of facts make of an object.
 use Rattle.std.proofs.Common.{◌≡◌, ℕ, zero, suc, get_or, ◌<◌, Bool, true, false, cond, List, [], ◌∷◌, length, take, Option, Some, None, refl, sym, ap, ◌∙◌, arith}
-use Rattle.std.specs.Prelude.{flat_map, filter_map, option_map, Contains}
-use Rattle.std.specs.List.{cons_option}
-use Rattle.flute_parts.specs.declared.key.Key.{Key}
-use Rattle.flute_parts.specs.declared.symbol_id.SymbolId.{SymbolId}
-use Rattle.flute_parts.specs.declared.address.Part.TheVariants.{Symbol as SymbolPart}
-use Rattle.flute_parts.specs.declared.address.Address.{Address}
-use Rattle.flute_store.specs.declared.gap.Reason.{Reason}
-use Rattle.flute_store.specs.declared.gap.Reason.TheVariants.{Misfit}
-use Rattle.flute_parts.specs.declared.fact.Fact.TheVariants.{Info, InfoConflict, Symbol, SymbolConflict}
-use Rattle.flute_parts.specs.declared.fact.Fact.{Fact}
-use Rattle.flute_parts.specs.Information.{Information}
-use Rattle.flute_parts.specs.Addresses.{info_address, symbol_address}
-use Rattle.flute_parts.specs.Facts.{fact_at, Same}
-use Rattle.flute_parts.specs.Partition.{ids, fits}
-use Rattle.flute_store.specs.Objects.{IsHeld, Whole, value_bytes, object, want, wants, runs, gaps, listed}
 use Rattle.flute_parts.proofs.Readings.{fact_at-address}
+use Rattle.flute_store.proofs.Common
+use Common.{flat_map, filter_map, option_map, Contains, cons_option, Key, SymbolId, SymbolPart}
+use Common.{Address, Reason, Misfit, Info, InfoConflict, Symbol, SymbolConflict, Fact, Information}
+use Common.{info_address, symbol_address, fact_at, Same, ids, fits, IsHeld, Whole, value_bytes}
+use Common.{object, want, wants, runs, gaps, listed}
 use Rattle.flute_store.proofs.Runs.{runs-listed}
 
 pub Whole-same : (F G : List Fact) (key : Key) (info : Information) → Same F G → Whole F key info → Whole G key info

@@ -26,7 +26,8 @@ pub record IsNotWhole (F : List Fact) (key : Key) (first : SymbolId) : Type 0 wh
   pub gaps_are : gaps F key info ≡ gap ∷ others
   pub first_is : first ≡ symbol_id gap.sbn gap.first
 
-module _ {W : Type 0} (written : W → Option (List ℕ)) (F : List Fact) (key : Key) (old new : W) where
+module _ {W : Type 0} (written : W → Option (List ℕ)) (F : List Fact) (key : Key)
+    (old new : W) where
   -- the object is whole and was written: n bytes, as many as the transfer length says
   pub record WritesWhole (n : ℕ) : Type 0 where
     pub info : Information

@@ -34,6 +34,7 @@ symbol_fact key id (Some cell) = cell_fact (Symbol key id) (SymbolConflict key i
 pub record IsTold {n : ℕ} (F : List Fact) (key : Key) (x : Object n) : Type 0 where
   pub heard : HoldsObject F key
   pub info : fact_at F (info_address key) ≡ cell_fact (Info key) (InfoConflict key) x.info
-  pub each : (id : SymbolId) → fact_at F (symbol_address key id) ≡ symbol_fact key id (value_at symbol_id_cmp x.symbols id)
+  pub each : (id : SymbolId)
+      → fact_at F (symbol_address key id) ≡ symbol_fact key id (value_at symbol_id_cmp x.symbols id)
   pub count : length (symbols F key) ≡ length x.symbols
   pub object : IsObject x

@@ -17,14 +17,15 @@ use Rattle.flute_store.specs.Found.{IsUnheard}
 use Rattle.flute_store.specs.Held.{HoldsObject}
 use Rattle.flute_store.specs.GapsLeft.{GapsLeft}
 
--- all the gaps; the held symbols in their order, none of them passed, and no block begun; none of the ticks, and at most one for each block, for
--- each held symbol and for the end
+-- all the gaps; the held symbols in their order, none of them passed, and no block begun;
+-- none of the ticks, and at most one for each block, for each held symbol and for the end
 pub record GivesGaps (F : List Fact) (key : Key) (left : GapsLeft) : Type 0 where
   pub info : Information
   pub information : fact_at F (info_address key) ≡ Some (Info key info)
   pub gaps_are : left.gaps ≡ gaps F key info
   pub rising : IsStrictlySortedBy symbol_id_cmp left.held
-  pub held_are : (id : SymbolId) → Contains left.held id ↔ (fact_at F (symbol_address key id) ≢ None)
+  pub held_are : (id : SymbolId)
+      → Contains left.held id ↔ (fact_at F (symbol_address key id) ≢ None)
   pub begun_is : left.begun ≡ 0
   pub blocks_are : left.blocks ≡ length (sizes info)
   pub ended_is : left.ended ≡ false

@@ -11,28 +11,43 @@ use Rattle.flute_store.specs.Objects.{Whole, object, wants, gaps, listed, AreRun
 
 -- lists that come to the same make the same of each object
 abbrev pub SameWhole : Type 0
-SameWhole = (F G : List Fact) (key : Key) (info : Information) → Same F G → Whole F key info → Whole G key info
+SameWhole =
+    (F G : List Fact) (key : Key) (info : Information) → Same F G → Whole F key info
+    → Whole G key info
 
 abbrev pub SameObject : Type 0
-SameObject = (F G : List Fact) (key : Key) (info : Information) → Same F G → object F key info ≡ object G key info
+SameObject =
+    (F G : List Fact) (key : Key) (info : Information) → Same F G
+    → object F key info ≡ object G key info
 
 abbrev pub SameGaps : Type 0
-SameGaps = (F G : List Fact) (key : Key) (info : Information) → Same F G → gaps F key info ≡ gaps G key info
+SameGaps =
+    (F G : List Fact) (key : Key) (info : Information) → Same F G
+    → gaps F key info ≡ gaps G key info
 
 -- gaps are maximal runs that list the wanted symbols, and nothing else is
 abbrev pub GapsListWants : Type 0
-GapsListWants = (F : List Fact) (key : Key) (info : Information) → flat_map listed (gaps F key info) ≡ wants F key info
+GapsListWants =
+    (F : List Fact) (key : Key) (info : Information)
+    → flat_map listed (gaps F key info) ≡ wants F key info
 
 abbrev pub GapsAreRuns : Type 0
 GapsAreRuns = (F : List Fact) (key : Key) (info : Information) → AreRuns (gaps F key info)
 
 abbrev pub GapsAreUnique : Type 0
-GapsAreUnique = (F : List Fact) (key : Key) (info : Information) (others : List Gap) → flat_map listed others ≡ wants F key info → AreRuns others → others ≡ gaps F key info
+GapsAreUnique =
+    (F : List Fact) (key : Key) (info : Information) (others : List Gap)
+    → flat_map listed others ≡ wants F key info → AreRuns others → others ≡ gaps F key info
 
 -- an object with one information is whole exactly where it has no gap
 abbrev pub WholeHasNoGap : Type 0
-WholeHasNoGap = (F : List Fact) (key : Key) (info : Information) → fact_at F (info_address key) ≡ Some (Info key info) → Whole F key info ↔ (gaps F key info ≡ [])
+WholeHasNoGap =
+    (F : List Fact) (key : Key) (info : Information)
+    → fact_at F (info_address key) ≡ Some (Info key info)
+    → Whole F key info ↔ (gaps F key info ≡ [])
 
 -- a whole object has as many bytes as its transfer length says
 abbrev pub WholeHasItsLength : Type 0
-WholeHasItsLength = (F : List Fact) (key : Key) (info : Information) → IsValid info → Whole F key info → length (object F key info) ≡ info.transfer_length
+WholeHasItsLength =
+    (F : List Fact) (key : Key) (info : Information) → IsValid info → Whole F key info
+    → length (object F key info) ≡ info.transfer_length

@@ -14,30 +14,39 @@ use Rattle.flute_store.specs.declared.object.Object.{Object}
 use Rattle.flute_store.specs.Content.{key_in, info_cell_facts, symbol_cell_facts, symbols_facts, object_facts, session_facts}
 use Rattle.flute_store.specs.WellFormed.{IsObject, IsSession}
 
-cell_has : (key : Key) (id : SymbolId) (c : Cell (List ℕ)) (F : List Fact) → IsKnown c → symbol_cell_facts key id c ++ F ≢ []
+cell_has : (key : Key) (id : SymbolId) (c : Cell (List ℕ)) (F : List Fact) → IsKnown c
+    → symbol_cell_facts key id c ++ F ≢ []
 cell_has key id Absent F h = λ e. h refl
 cell_has key id (One b) F h = λ e. cc
 cell_has key id Conflict F h = λ e. cc
 
-symbols_have : (key : Key) (es : List (SymbolId × Cell (List ℕ))) → EachValue IsKnown es → es ≢ [] → symbols_facts key es ≢ []
+symbols_have : (key : Key) (es : List (SymbolId × Cell (List ℕ))) → EachValue IsKnown es → es ≢ []
+    → symbols_facts key es ≢ []
 symbols_have key [] a h = λ e. h refl
 symbols_have key (e ∷ es) a h = cell_has key e.0 e.1 (symbols_facts key es) a.0
 
-by_info : (key : Key) (c : Cell Information) (F : List Fact) → (c ≡ Absent → F ≢ []) → info_cell_facts key c ++ F ≢ []
+by_info : (key : Key) (c : Cell Information) (F : List Fact) → (c ≡ Absent → F ≢ [])
+    → info_cell_facts key c ++ F ≢ []
 by_info key Absent F h = h refl
 by_info key (One i) F h = λ e. cc
 by_info key Conflict F h = λ e. cc
 
 pub object_has_facts : (n : ℕ) (x : Object n) (key : Key) → IsObject x → object_facts key x ≢ []
-object_has_facts n x key p = by_info key x.info (symbols_facts key x.symbols) (λ e. symbols_have key x.symbols p.symbols_are.each (p.some e))
+object_has_facts n x key p =
+    by_info key x.info (symbols_facts key x.symbols)
+    (λ e. symbols_have key x.symbols p.symbols_are.each (p.some e))
 
 append_has : (F G : List Fact) → F ≢ [] → F ++ G ≢ []
 append_has [] G h = absurd (h refl)
 append_has (f ∷ F) G h = λ e. cc
 
-pub session_has_facts : (n o : ℕ) (os : List (ObjectName × Object n)) (session : Session) → IsSession o os → session_facts session os ≢ []
+pub session_has_facts : (n o : ℕ) (os : List (ObjectName × Object n)) (session : Session)
+    → IsSession o os → session_facts session os ≢ []
 session_has_facts n o os session p = objects_have os p.each p.some
   where
-    objects_have : (os : List (ObjectName × Object n)) → EachValue IsObject os → os ≢ [] → session_facts session os ≢ []
+    objects_have : (os : List (ObjectName × Object n)) → EachValue IsObject os → os ≢ []
+        → session_facts session os ≢ []
     objects_have [] a h = λ e. h refl
-    objects_have (e ∷ es) a h = append_has (object_facts (key_in session e.0) e.1) (session_facts session es) (object_has_facts n e.1 (key_in session e.0) a.0)
+    objects_have (e ∷ es) a h =
+        append_has (object_facts (key_in session e.0) e.1) (session_facts session es)
+        (object_has_facts n e.1 (key_in session e.0) a.0)

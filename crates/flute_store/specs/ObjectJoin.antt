@@ -16,18 +16,25 @@ use Rattle.flute_parts.specs.declared.symbol_id.SymbolId.{SymbolId}
 use Rattle.flute_store.specs.declared.object.Object.{Object}
 
 -- the symbols of two objects joined
-abbrev pub symbols_join : List (SymbolId × Cell (List ℕ)) → List (SymbolId × Cell (List ℕ)) → List (SymbolId × Cell (List ℕ))
+abbrev pub symbols_join : List (SymbolId × Cell (List ℕ)) → List (SymbolId × Cell (List ℕ))
+    → List (SymbolId × Cell (List ℕ))
 symbols_join = map_join symbol_id_cmp (cell_join bytes_eq)
 
 module _ {n : ℕ} where
   -- the information and the symbols joined
   abbrev pub object_join : Object n → Object n → Object n
-  object_join x y = record { info = cell_join same_information x.info y.info; symbols = symbols_join x.symbols y.symbols }
+  object_join x y = record {
+    info = cell_join same_information x.info y.info;
+    symbols = symbols_join x.symbols y.symbols;
+  }
 
-  abbrev pub session_join : List (ObjectName × Object n) → List (ObjectName × Object n) → List (ObjectName × Object n)
+  abbrev pub session_join : List (ObjectName × Object n) → List (ObjectName × Object n)
+      → List (ObjectName × Object n)
   session_join = map_join object_cmp object_join
 
-  abbrev pub store_join : List (Session × List (ObjectName × Object n)) → List (Session × List (ObjectName × Object n)) → List (Session × List (ObjectName × Object n))
+  abbrev pub store_join : List (Session × List (ObjectName × Object n))
+      → List (Session × List (ObjectName × Object n))
+      → List (Session × List (ObjectName × Object n))
   store_join = map_join session_cmp session_join
 
   -- the limit forbids the join of the symbols
@@ -36,7 +43,9 @@ module _ {n : ℕ} where
 
   -- joining the information or the symbols may ask for memory
   abbrev pub ObjectNeedsMemory : Object n → Object n → Type 0
-  ObjectNeedsMemory x y = CellNeedsMemory x.info y.info ⊎ MapNeedsMemory symbol_id_cmp CellNeedsMemory x.symbols y.symbols
+  ObjectNeedsMemory x y =
+      CellNeedsMemory x.info y.info
+      ⊎ MapNeedsMemory symbol_id_cmp CellNeedsMemory x.symbols y.symbols
 
 pub infos : IsJoin (cell_join same_information)
 infos = cell_join_laws information_equivalence information_same
@@ -49,9 +58,21 @@ symbol_maps = map_join_laws symbol_id_total symbol_id_place cells
 
 pub object_join_laws : (n : ℕ) → IsJoin (object_join {n = n})
 object_join_laws n = record {
-  commutative = λ x y i. record { info = infos.commutative x.info y.info i; symbols = symbol_maps.commutative x.symbols y.symbols i };
-  associative = λ x y z i. record { info = infos.associative x.info y.info z.info i; symbols = symbol_maps.associative x.symbols y.symbols z.symbols i };
-  idempotent = λ x i. record { info = infos.idempotent x.info i; symbols = symbol_maps.idempotent x.symbols i };
+  commutative =
+      λ x y i. record {
+        info = infos.commutative x.info y.info i;
+        symbols = symbol_maps.commutative x.symbols y.symbols i;
+      };
+  associative =
+      λ x y z i. record {
+        info = infos.associative x.info y.info z.info i;
+        symbols = symbol_maps.associative x.symbols y.symbols z.symbols i;
+      };
+  idempotent =
+      λ x i. record {
+        info = infos.idempotent x.info i;
+        symbols = symbol_maps.idempotent x.symbols i;
+      };
 }
 
 pub session_laws : (n : ℕ) → IsJoin (session_join {n = n})

@@ -19,7 +19,8 @@ pub record IsHeld (F : List Fact) (key : Key) (info : Information) (id : SymbolI
   pub value : fact_at F (symbol_address key id) ≡ Some (Symbol key id bytes)
   pub fitting : fits info id (length bytes) ≡ true
 
--- the object has this one information, and each symbol of its partition is held as one fitting value
+-- the object has this one information, and each symbol of its partition is held
+-- as one fitting value
 pub record Whole (F : List Fact) (key : Key) (info : Information) : Type 0 where
   pub information : fact_at F (info_address key) ≡ Some (Info key info)
   pub each : (id : SymbolId) → Contains (ids info) id → IsHeld F key info id
@@ -31,7 +32,9 @@ value_bytes _ = []
 
 -- the symbols in the order of the partition, cut to the transfer length (RFC 5052, 9.1)
 unfoldable pub object : List Fact → Key → Information → List ℕ
-object F key info = take info.transfer_length (flat_map (λ id. value_bytes (fact_at F (symbol_address key id))) (ids info))
+object F key info =
+    take info.transfer_length
+    (flat_map (λ id. value_bytes (fact_at F (symbol_address key id))) (ids info))
 
 -- why a symbol of the partition is wanted, if it is
 abbrev pub want : Information → SymbolId → Option Fact → Option Reason
@@ -41,7 +44,10 @@ want info id (Some _) = Some Conflicting
 
 -- the wanted symbols in the order of the partition, each with its reason
 unfoldable pub wants : List Fact → Key → Information → List (SymbolId × Reason)
-wants F key info = filter_map (λ id. option_map (λ reason. (id, reason)) (want info id (fact_at F (symbol_address key id)))) (ids info)
+wants F key info =
+    filter_map
+    (λ id. option_map (λ reason. (id, reason)) (want info id (fact_at F (symbol_address key id))))
+    (ids info)
 
 abbrev pub same_reason : Reason → Reason → Bool
 same_reason Missing Missing = true

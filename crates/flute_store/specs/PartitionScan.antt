@@ -24,8 +24,8 @@ use Rattle.flute_store.specs.Wanted.{want_cell, wanted, block_from, blocks_from}
 
 -- ---- a walk with the held symbols that are not passed
 
--- a block was begun last, of so many symbols, of which the next is this one; so many blocks were begun; and the wanted held symbols just before it,
--- of which no gap was given yet
+-- a block was begun last, of so many symbols, of which the next is this one; so many blocks were
+-- begun; and the wanted held symbols just before it, of which no gap was given yet
 pub record Walk : Type 0 where
   pub partition : Information
   pub held : List (SymbolId × Cell (List ℕ))
@@ -36,7 +36,15 @@ pub record Walk : Type 0 where
   pub run : Option Gap
 
 abbrev pub walk_of : PartitionScan → List (SymbolId × Cell (List ℕ)) → Walk
-walk_of w held = record { partition = w.partition; held = held; sbn = w.sbn; esi = w.esi; size = w.size; begun = w.begun; run = w.run }
+walk_of w held = record {
+  partition = w.partition;
+  held = held;
+  sbn = w.sbn;
+  esi = w.esi;
+  size = w.size;
+  begun = w.begun;
+  run = w.run;
+}
 
 -- the symbols of the partition that are left
 abbrev pub symbols_left : Walk → List SymbolId
@@ -63,12 +71,14 @@ remaining w = (length (sizes w.partition) - w.begun) + length w.held
 
 -- these stand behind the symbol
 abbrev pub IsBehind : ℕ → ℕ → List (SymbolId × Cell (List ℕ)) → Type 0
-IsBehind sbn esi held = AllByRecursion (λ id. symbol_id_cmp (symbol_id sbn esi) id ≡ Less) (keys_of held)
+IsBehind sbn esi held =
+    AllByRecursion (λ id. symbol_id_cmp (symbol_id sbn esi) id ≡ Less) (keys_of held)
 
 -- held symbols up to the next one of the block
 abbrev pub EndsBefore : ℕ → ℕ → Option Gap → Type 0
 EndsBefore sbn esi None = Unit {0}
-EndsBefore sbn esi (Some gap) = (gap.sbn ≡ sbn) × (gap.first ≤ gap.last) × (gap.last + 1 ≡ esi) × (gap.reason ≡ Missing → ⊥)
+EndsBefore sbn esi (Some gap) =
+    (gap.sbn ≡ sbn) × (gap.first ≤ gap.last) × (gap.last + 1 ≡ esi) × (gap.reason ≡ Missing → ⊥)
 
 -- where a walk may be
 pub record IsPlace (w : PartitionScan) : Type 0 where
@@ -89,7 +99,8 @@ pub record IsWalk (w : Walk) : Type 0 where
   pub running : EndsBefore w.sbn w.esi w.run
 
 abbrev pub at_start : Information → List (SymbolId × Cell (List ℕ)) → Walk
-at_start info held = record { partition = info; held = held; sbn = 0; esi = 0; size = 0; begun = 0; run = None }
+at_start info held =
+    record { partition = info; held = held; sbn = 0; esi = 0; size = 0; begun = 0; run = None }
 
 abbrev pub after_pass : Walk → Walk
 after_pass w = record w { held = drop 1 w.held }
@@ -103,10 +114,19 @@ run_with sbn esi reason None = record { sbn = sbn; first = esi; last = esi; reas
 run_with sbn esi reason (Some gap) = record gap { last = esi }
 
 abbrev pub after_want : Reason → Walk → Walk
-after_want reason w = record w { held = drop 1 w.held; esi = w.esi + 1; run = Some (run_with w.sbn w.esi reason w.run) }
+after_want reason w = record w {
+  held = drop 1 w.held;
+  esi = w.esi + 1;
+  run = Some (run_with w.sbn w.esi reason w.run);
+}
 
 abbrev pub after_begin : Walk → Walk
-after_begin w = record w { sbn = w.begun; esi = 0; size = slice_index (sizes w.partition) w.begun; begun = w.begun + 1 }
+after_begin w = record w {
+  sbn = w.begun;
+  esi = 0;
+  size = slice_index (sizes w.partition) w.begun;
+  begun = w.begun + 1;
+}
 
 -- what comes next
 abbrev pub upcoming_wanted : Option Reason → Upcoming
@@ -115,10 +135,14 @@ upcoming_wanted (Some reason) = Wanted reason
 
 abbrev pub upcoming_held : Information → SymbolId → List (SymbolId × Cell (List ℕ)) → Upcoming
 upcoming_held info here [] = NotHeld
-upcoming_held info here (e ∷ es) = match_ordering (symbol_id_cmp e.0 here) Passed (upcoming_wanted (want_cell info e.0 (Some e.1))) NotHeld
+upcoming_held info here (e ∷ es) =
+    match_ordering (symbol_id_cmp e.0 here) Passed (upcoming_wanted (want_cell info e.0 (Some e.1)))
+    NotHeld
 
 unfoldable pub upcoming_of : Walk → Upcoming
-upcoming_of w = cond (w.esi == w.size) (cond (w.begun == length (sizes w.partition)) End BlockEnd) (upcoming_held w.partition (symbol_id w.sbn w.esi) w.held)
+upcoming_of w =
+    cond (w.esi == w.size) (cond (w.begun == length (sizes w.partition)) End BlockEnd)
+    (upcoming_held w.partition (symbol_id w.sbn w.esi) w.held)
 
 -- up to where the symbols of the block are not held, if the next one is not
 abbrev pub until_held : ℕ → ℕ → List (SymbolId × Cell (List ℕ)) → ℕ
@@ -138,7 +162,9 @@ length_of _ = None
 -- the first of these
 abbrev pub ShowsNext : List (SymbolId × Cell (List ℕ)) → Option (SymbolId × Option ℕ) → Type 0
 ShowsNext held None = held ≡ []
-ShowsNext held (Some next) = (cell : Cell (List ℕ)) × (rest : List (SymbolId × Cell (List ℕ))) × (held ≡ (next.0, cell) ∷ rest) × (length_of cell ≡ next.1)
+ShowsNext held (Some next) =
+    (cell : Cell (List ℕ)) × (rest : List (SymbolId × Cell (List ℕ)))
+    × (held ≡ (next.0, cell) ∷ rest) × (length_of cell ≡ next.1)
 
 -- why a held symbol is wanted, if it is
 abbrev pub want_length : Information → SymbolId → Option ℕ → Option Reason
@@ -147,14 +173,19 @@ want_length info id None = Some Conflicting
 
 abbrev pub upcoming_next : Information → SymbolId → Option (SymbolId × Option ℕ) → Upcoming
 upcoming_next info here None = NotHeld
-upcoming_next info here (Some next) = match_ordering (symbol_id_cmp next.0 here) Passed (upcoming_wanted (want_length info next.0 next.1)) NotHeld
+upcoming_next info here (Some next) =
+    match_ordering (symbol_id_cmp next.0 here) Passed
+    (upcoming_wanted (want_length info next.0 next.1)) NotHeld
 
 unfoldable pub upcoming_at : PartitionScan → Option (SymbolId × Option ℕ) → Upcoming
-upcoming_at w next = cond (w.esi == w.size) (cond (w.begun == length (sizes w.partition)) End BlockEnd) (upcoming_next w.partition (symbol_id w.sbn w.esi) next)
+upcoming_at w next =
+    cond (w.esi == w.size) (cond (w.begun == length (sizes w.partition)) End BlockEnd)
+    (upcoming_next w.partition (symbol_id w.sbn w.esi) next)
 
 abbrev pub until_next : ℕ → ℕ → Option (SymbolId × Option ℕ) → ℕ
 until_next sbn size None = size
-until_next sbn size (Some next) = cond ((next.0.sbn == sbn) && nat_lt next.0.esi size) next.0.esi size
+until_next sbn size (Some next) =
+    cond ((next.0.sbn == sbn) && nat_lt next.0.esi size) next.0.esi size
 
 -- the run, where what comes next ends it
 abbrev pub ended_run : Option Gap → Upcoming → Option Gap
@@ -167,7 +198,8 @@ abbrev pub until_at : PartitionScan → Option (SymbolId × Option ℕ) → ℕ
 until_at w next = until_next w.sbn w.size next
 
 abbrev pub missing_gap : PartitionScan → Option (SymbolId × Option ℕ) → Gap
-missing_gap w next = record { sbn = w.sbn; first = w.esi; last = until_at w next - 1; reason = Missing }
+missing_gap w next =
+    record { sbn = w.sbn; first = w.esi; last = until_at w next - 1; reason = Missing }
 
 abbrev pub after_missing : PartitionScan → Option (SymbolId × Option ℕ) → PartitionScan
 after_missing w next = record w { esi = until_at w next }
@@ -176,10 +208,16 @@ abbrev pub after_wanted : PartitionScan → Reason → PartitionScan
 after_wanted w reason = record w { esi = w.esi + 1; run = Some (run_with w.sbn w.esi reason w.run) }
 
 abbrev pub after_block : PartitionScan → PartitionScan
-after_block w = record w { sbn = w.begun; esi = 0; size = slice_index (sizes w.partition) w.begun; begun = w.begun + 1 }
+after_block w = record w {
+  sbn = w.begun;
+  esi = 0;
+  size = slice_index (sizes w.partition) w.begun;
+  begun = w.begun + 1;
+}
 
 -- what is answered, or nothing where a block is begun, and the walk behind it
-abbrev pub turn_on : PartitionScan → Option (SymbolId × Option ℕ) → Upcoming → Option Turn × PartitionScan
+abbrev pub turn_on : PartitionScan → Option (SymbolId × Option ℕ) → Upcoming
+    → Option Turn × PartitionScan
 turn_on w next End = (Some Turn.End, w)
 turn_on w next BlockEnd = (None, after_block w)
 turn_on w next Passed = (Some Turn.Passed, w)
@@ -187,7 +225,8 @@ turn_on w next Fitting = (Some Turn.Fitting, record w { esi = w.esi + 1 })
 turn_on w next (Wanted reason) = (Some Turn.Wanted, after_wanted w reason)
 turn_on w next NotHeld = (Some (Turn.Gap (missing_gap w next)), after_missing w next)
 
-abbrev pub turn_after : PartitionScan → Option (SymbolId × Option ℕ) → Upcoming → Option Gap → Option Turn × PartitionScan
+abbrev pub turn_after : PartitionScan → Option (SymbolId × Option ℕ) → Upcoming → Option Gap
+    → Option Turn × PartitionScan
 turn_after w next upcoming (Some gap) = (Some (Turn.Gap gap), record w { run = None })
 turn_after w next upcoming None = turn_on w next upcoming
 
@@ -230,7 +269,8 @@ pub record IsEnd (w : Walk) : Type 0 where
   pub none : gaps_left w ≡ []
 
 -- the held symbols that are not passed behind a turn
-abbrev pub held_after : Option Turn → List (SymbolId × Cell (List ℕ)) → List (SymbolId × Cell (List ℕ))
+abbrev pub held_after : Option Turn → List (SymbolId × Cell (List ℕ))
+    → List (SymbolId × Cell (List ℕ))
 held_after (Some Turn.Fitting) held = drop 1 held
 held_after (Some Turn.Wanted) held = drop 1 held
 held_after (Some Turn.Passed) held = drop 1 held
@@ -241,6 +281,7 @@ abbrev pub TurnsTo : Walk → Option Turn → Walk → Type 0
 TurnsTo v None w = Keeps v w × (upcoming_of v ≡ BlockEnd) × (w ≡ after_begin v)
 TurnsTo v (Some (Turn.Gap gap)) w = GivesGap v gap w
 TurnsTo v (Some Turn.Fitting) w = Keeps v w × (upcoming_of v ≡ Fitting) × (w ≡ after_take v)
-TurnsTo v (Some Turn.Wanted) w = Keeps v w × ((reason : Reason) × (upcoming_of v ≡ Wanted reason) × (w ≡ after_want reason v))
+TurnsTo v (Some Turn.Wanted) w =
+    Keeps v w × ((reason : Reason) × (upcoming_of v ≡ Wanted reason) × (w ≡ after_want reason v))
 TurnsTo v (Some Turn.Passed) w = Keeps v w × (upcoming_of v ≡ Passed) × (w ≡ after_pass v)
 TurnsTo v (Some Turn.End) w = (w ≡ v) × (upcoming_of v ≡ End) × IsEnd v

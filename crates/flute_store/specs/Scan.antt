@@ -1,4 +1,5 @@
--- A scan over what is held of an object, in the order of a journal, beside the symbols of its partition.
+-- A scan over what is held of an object, in the order of a journal, beside the symbols
+-- of its partition.
 use Rattle.std.specs.Prelude.{◌≡◌, ℕ, ◌<◌, List, [], ◌∷◌, ◌++◌, length, take, flat_map, Contains, Option, Some, None, IfSome, option_map}
 use Rattle.std.specs.Borrow.{Bor}
 use Rattle.std.specs.List.{AllByRecursion}
@@ -23,9 +24,11 @@ pub record Scanned : Type 0 where
   pub facts : List Fact
   -- the gaps that were given
   pub given : List Gap
-  -- the values of the symbols of the partition up to the last one passed, where each of them is held as one fitting value
+  -- the values of the symbols of the partition up to the last one passed, where each of them
+  -- is held as one fitting value
   pub bytes : Option (List ℕ)
-  -- what comes next, where it was said with a gap or at the end: the fact of a symbol, or that none is left
+  -- what comes next, where it was said with a gap or at the end: the fact of a symbol,
+  -- or that none is left
   pub coming : Option (Option Fact)
   -- it falls with each gap
   pub ahead : ℕ
@@ -53,8 +56,10 @@ abbrev pub ComeNext : Key → Option (SymbolId × Option (Bor (List ℕ))) → L
 ComeNext key (Some next) rest = (others : List Fact) × (rest ≡ next_fact key next ∷ others)
 ComeNext key None rest = AllByRecursion (λ f. (address f).key ≡ key → ⊥) rest
 
--- all facts: those that were passed stand among them one after another, and this comes next of the object
-pub record Follows (s : Scanned) (next : Option (SymbolId × Option (Bor (List ℕ)))) (F : List Fact) : Type 0 where
+-- all facts: those that were passed stand among them one after another, and this comes
+-- next of the object
+pub record Follows (s : Scanned) (next : Option (SymbolId × Option (Bor (List ℕ))))
+    (F : List Fact) : Type 0 where
   pub before : List Fact
   pub rest : List Fact
   pub all : F ≡ before ++ (s.facts ++ rest)
@@ -62,7 +67,8 @@ pub record Follows (s : Scanned) (next : Option (SymbolId × Option (Bor (List �
   pub come : ComeNext s.key next rest
 
 -- the bytes are the values of the first symbols of the partition, each held as one fitting value
-pub record IsFirstPart (F : List Fact) (key : Key) (info : Information) (bytes : List ℕ) : Type 0 where
+pub record IsFirstPart (F : List Fact) (key : Key) (info : Information)
+    (bytes : List ℕ) : Type 0 where
   pub first : List SymbolId
   pub others : List SymbolId
   pub all : ids info ≡ first ++ others
@@ -70,20 +76,39 @@ pub record IsFirstPart (F : List Fact) (key : Key) (info : Information) (bytes :
   pub values : bytes ≡ flat_map (λ id. value_bytes (fact_at F (symbol_address key id))) first
 
 -- a gap was given, and nothing passed; where it is the first one, it tells what is not whole
-pub record GaveGap (old : Scanned) (next : Option (SymbolId × Option (Bor (List ℕ)))) (gap : Gap) (new : Scanned) : Type 0 where
-  pub now : new ≡ record old { given = old.given ++ gap ∷ []; bytes = None; coming = Some (coming_fact old.key next); ahead = new.ahead }
+pub record GaveGap (old : Scanned) (next : Option (SymbolId × Option (Bor (List ℕ)))) (gap : Gap)
+    (new : Scanned) : Type 0 where
+  pub now : new
+      ≡ record old {
+        given = old.given ++ gap ∷ [];
+        bytes = None;
+        coming = Some (coming_fact old.key next);
+        ahead = new.ahead;
+      }
   pub fewer : new.ahead < old.ahead
-  pub first : IfSome old.bytes (λ bytes. (F : List Fact) → Follows old next F → IsNotWhole F old.key (symbol_id gap.sbn gap.first))
+  pub first :
+      IfSome old.bytes (λ bytes. (F : List Fact) → Follows old next F
+      → IsNotWhole F old.key (symbol_id gap.sbn gap.first))
 
 -- what came next was passed
-pub record PassedNext (old : Scanned) (next : SymbolId × Option (Bor (List ℕ))) (bytes : Option (List ℕ)) (new : Scanned) : Type 0 where
-  pub now : new ≡ record old { facts = old.facts ++ next_fact old.key next ∷ []; bytes = bytes; coming = None; ahead = new.ahead }
+pub record PassedNext (old : Scanned) (next : SymbolId × Option (Bor (List ℕ)))
+    (bytes : Option (List ℕ)) (new : Scanned) : Type 0 where
+  pub now : new
+      ≡ record old {
+        facts = old.facts ++ next_fact old.key next ∷ [];
+        bytes = bytes;
+        coming = None;
+        ahead = new.ahead;
+      }
 
--- all gaps were given: these are the gaps of the object, of which the bytes are known where it has none
+-- all gaps were given: these are the gaps of the object, of which the bytes are known
+-- where it has none
 pub record GaveAll (s : Scanned) (F : List Fact) : Type 0 where
   pub information : fact_at F (info_address s.key) ≡ Some (Info s.key s.info)
   pub gaps_are : gaps F s.key s.info ≡ s.given
-  pub whole : IfSome s.bytes (λ bytes. Whole F s.key s.info × (object F s.key s.info ≡ take s.info.transfer_length bytes))
+  pub whole :
+      IfSome s.bytes
+      (λ bytes. Whole F s.key s.info × (object F s.key s.info ≡ take s.info.transfer_length bytes))
 
 abbrev pub value_of : SymbolId × Option (Bor (List ℕ)) → List ℕ
 value_of (id, Some bytes) = bytes.now
@@ -92,16 +117,33 @@ value_of (id, None) = []
 -- what a turn did
 abbrev pub Turned : Scanned → Option (SymbolId × Option (Bor (List ℕ))) → Turn → Scanned → Type 0
 Turned old next (Turn.Gap gap) new = GaveGap old next gap new
-Turned old (Some next) Turn.Fitting new = PassedNext old next (option_map (λ bytes. bytes ++ value_of next) old.bytes) new
+Turned old (Some next) Turn.Fitting new =
+    PassedNext old next (option_map (λ bytes. bytes ++ value_of next) old.bytes) new
 Turned old (Some next) Turn.Passed new = PassedNext old next old.bytes new
-Turned old (Some next) Turn.Wanted new = PassedNext old next None new × IfSome old.bytes (λ bytes. (F : List Fact) → Follows old (Some next) F → IsNotWhole F old.key next.0)
-Turned old None Turn.End new = (new ≡ record old { coming = Some None; ahead = new.ahead }) × ((F : List Fact) → Follows new None F → GaveAll new F)
+Turned old (Some next) Turn.Wanted new =
+    PassedNext old next None new
+    × IfSome old.bytes
+    (λ bytes. (F : List Fact) → Follows old (Some next) F → IsNotWhole F old.key next.0)
+Turned old None Turn.End new =
+    (new ≡ record old { coming = Some None; ahead = new.ahead })
+    × ((F : List Fact) → Follows new None F → GaveAll new F)
 Turned old next turn new = ⊥
 
 -- a scan of which nothing was passed but the information
 abbrev pub at_begin : Key → Information → Scanned
-at_begin key info = record { key = key; info = info; facts = Info key info ∷ []; given = []; bytes = Some []; coming = None; ahead = length (ids info) }
+at_begin key info = record {
+  key = key;
+  info = info;
+  facts = Info key info ∷ [];
+  given = [];
+  bytes = Some [];
+  coming = None;
+  ahead = length (ids info);
+}
 
--- the bytes are a first part of the object, in all facts among which those that were passed stand one after another
+-- the bytes are a first part of the object, in all facts among which those that were passed
+-- stand one after another
 abbrev pub PartOf : Scanned → Type 0
-PartOf s = IfSome s.bytes (λ bytes. (F before rest : List Fact) → F ≡ before ++ (s.facts ++ rest) → IsRising F → IsFirstPart F s.key s.info bytes)
+PartOf s =
+    IfSome s.bytes (λ bytes. (F before rest : List Fact) → F ≡ before ++ (s.facts ++ rest)
+    → IsRising F → IsFirstPart F s.key s.info bytes)

@@ -57,7 +57,8 @@ pub record IsScan (o : ScanState) : Type 0 where
 -- these come next, where that was said
 abbrev pub ComesAs : Key → Option Fact → List (SymbolId × Cell (List ℕ)) → Type 0
 ComesAs key None more = more ≡ []
-ComesAs key (Some f) more = (others : List (SymbolId × Cell (List ℕ))) × (more ≡ shown_by key f ++ others)
+ComesAs key (Some f) more =
+    (others : List (SymbolId × Cell (List ℕ))) × (more ≡ shown_by key f ++ others)
 
 -- some blocks were begun, and no more than the object has
 pub record BeginsBlocks (old new : ScanState) : Type 0 where
@@ -73,21 +74,28 @@ one_run (Some gap) = 1
 pub record FitsSoFar (s : Scanned) (w : PartitionScan) (bytes : List ℕ) : Type 0 where
   pub done : List SymbolId
   pub all : ids s.info ≡ done ++ symbols_left (walk_of w [])
-  pub held : (id : SymbolId) → Contains done id → (value : List ℕ) × (value_at symbol_id_cmp (shown s.key s.facts) id ≡ Some (One value)) × (fits s.info id (length value) ≡ true)
+  pub held : (id : SymbolId) → Contains done id
+      → (value : List ℕ) × (value_at symbol_id_cmp (shown s.key s.facts) id ≡ Some (One value))
+      × (fits s.info id (length value) ≡ true)
   pub values : bytes ≡ held_bytes (shown s.key s.facts) done
   pub no_run : w.run ≡ None
   pub no_gap : s.given ≡ []
 
--- whatever symbols follow, those that are wanted are in the gaps that were given and in those that are left
-pub record Walks (s : Scanned) (w : PartitionScan) (more : List (SymbolId × Cell (List ℕ))) : Type 0 where
+-- whatever symbols follow, those that are wanted are in the gaps that were given and
+-- in those that are left
+pub record Walks (s : Scanned) (w : PartitionScan)
+    (more : List (SymbolId × Cell (List ℕ))) : Type 0 where
   pub walk : IsWalk (walk_of w more)
-  pub gaps_are : runs (wanted s.info (shown s.key s.facts ++ more) (ids s.info)) ≡ s.given ++ gaps_left (walk_of w more)
+  pub gaps_are : runs (wanted s.info (shown s.key s.facts ++ more) (ids s.info))
+      ≡ s.given ++ gaps_left (walk_of w more)
 
 pub record Scans (o : ScanState) (s : Scanned) : Type 0 where
   pub key_is : s.key ≡ o.key
   pub info_is : s.info ≡ o.info
   pub begins : (symbols : List Fact) × (s.facts ≡ Info s.key s.info ∷ symbols)
-  pub walks : (more : List (SymbolId × Cell (List ℕ))) → IsOrdered symbol_id_cmp (shown s.key s.facts ++ more) → EachValue IsKnown more → IfSome s.coming (λ f. ComesAs s.key f more) → Walks s o.walk more
+  pub walks : (more : List (SymbolId × Cell (List ℕ)))
+      → IsOrdered symbol_id_cmp (shown s.key s.facts ++ more) → EachValue IsKnown more
+      → IfSome s.coming (λ f. ComesAs s.key f more) → Walks s o.walk more
   pub done : IfSome s.bytes (λ bytes. FitsSoFar s o.walk bytes)
   pub counts : IsCount o.wanted (flat_map listed s.given)
   pub ahead_is : s.ahead ≡ length (symbols_left (walk_of o.walk [])) + one_run o.walk.run

@@ -33,7 +33,8 @@ pub record Adds (gap : Gap) (old new : Wanted) : Type 0 where
 
 -- a turn may give a gap, of at least one symbol, to counts that are not too large
 abbrev pub CanAdd : Option Turn → Wanted → Type 0
-CanAdd (Some (Turn.Gap gap)) old = (gap.first ≤ gap.last) × (old.missing + old.conflicting + old.misfit < 2 ^ 33)
+CanAdd (Some (Turn.Gap gap)) old =
+    (gap.first ≤ gap.last) × (old.missing + old.conflicting + old.misfit < 2 ^ 33)
 CanAdd turn old = Unit {0}
 
 abbrev pub AddsTurn : Option Turn → Wanted → Wanted → Type 0
@@ -42,7 +43,9 @@ AddsTurn turn old new = new ≡ old
 
 -- how much is held of an object of so many bytes, of which so many symbols are wanted
 abbrev pub status_of : Wanted → ℕ → Status
-status_of count n = if (count.missing == 0) && ((count.conflicting == 0) && (count.misfit == 0)) then WholeObject n else Partial count.missing count.conflicting count.misfit
+status_of count n =
+    if (count.missing == 0) && ((count.conflicting == 0) && (count.misfit == 0)) then WholeObject n
+    else Partial count.missing count.conflicting count.misfit
 
 -- the object has this one information, and some symbols are wanted, so many for each reason
 pub record IsPartial (F : List Fact) (key : Key) (missing conflicting misfit : ℕ) : Type 0 where
@@ -57,4 +60,5 @@ abbrev pub TellsStatus : List Fact → Key → Status → Type 0
 TellsStatus F key NoInformation = LacksInformation F key
 TellsStatus F key ConflictingInformation = HasConflict F key
 TellsStatus F key (Partial missing conflicting misfit) = IsPartial F key missing conflicting misfit
-TellsStatus F key (WholeObject length) = (info : Information) × Whole F key info × (length ≡ info.transfer_length)
+TellsStatus F key (WholeObject length) =
+    (info : Information) × Whole F key info × (length ≡ info.transfer_length)

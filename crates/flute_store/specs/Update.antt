@@ -47,25 +47,35 @@ pub record IsUpdate (update : Update) : Type 0 where
 
 -- what is told, as facts
 abbrev pub update_facts : Key → Update → List Fact
-update_facts key update = info_cell_facts key update.info ++ symbols_facts key (update_symbols update.symbol)
+update_facts key update =
+    info_cell_facts key update.info ++ symbols_facts key (update_symbols update.symbol)
 
 -- something is known already at each address that is told of
-abbrev pub IsHeldSymbol : List (SymbolId × Cell (List ℕ)) → Option (SymbolId × SymbolUpdate) → Type 0
+abbrev pub IsHeldSymbol : List (SymbolId × Cell (List ℕ)) → Option (SymbolId × SymbolUpdate)
+    → Type 0
 IsHeldSymbol symbols None = Unit {0}
 IsHeldSymbol symbols (Some (id, update)) = IsSome (value_at symbol_id_cmp symbols id)
 
 abbrev pub IsHeldObject : {n : ℕ} → List (ObjectName × Object n) → ObjectName → Update → Type 0
-IsHeldObject {n} os object update = (x : Object n) × (value_at object_cmp os object ≡ Some x) × IsHeldSymbol x.symbols update.symbol
+IsHeldObject {n} os object update =
+    (x : Object n) × (value_at object_cmp os object ≡ Some x) × IsHeldSymbol x.symbols update.symbol
 
-abbrev pub IsHeldSession : {n : ℕ} → List (Session × List (ObjectName × Object n)) → Key → Update → Type 0
-IsHeldSession {n} m key update = (os : List (ObjectName × Object n)) × (value_at session_cmp m key.session ≡ Some os) × IsHeldObject os key.object update
+abbrev pub IsHeldSession : {n : ℕ} → List (Session × List (ObjectName × Object n)) → Key → Update
+    → Type 0
+IsHeldSession {n} m key update =
+    (os : List (ObjectName × Object n)) × (value_at session_cmp m key.session ≡ Some os)
+    × IsHeldObject os key.object update
 
 -- what is told, joined into the symbols of an object, into a session and into a store
-abbrev pub with_symbol : List (SymbolId × Cell (List ℕ)) → SymbolId → SymbolUpdate → List (SymbolId × Cell (List ℕ))
+abbrev pub with_symbol : List (SymbolId × Cell (List ℕ)) → SymbolId → SymbolUpdate
+    → List (SymbolId × Cell (List ℕ))
 with_symbol symbols id update = symbols_join symbols ((id, update_cell update) ∷ [])
 
-abbrev pub with_object : {n : ℕ} → List (ObjectName × Object n) → ObjectName → Update → List (ObjectName × Object n)
+abbrev pub with_object : {n : ℕ} → List (ObjectName × Object n) → ObjectName → Update
+    → List (ObjectName × Object n)
 with_object os object update = session_join os ((object, update_object update) ∷ [])
 
-abbrev pub with_session : {n : ℕ} → List (Session × List (ObjectName × Object n)) → Key → Update → List (Session × List (ObjectName × Object n))
-with_session m key update = store_join m ((key.session, (key.object, update_object update) ∷ []) ∷ [])
+abbrev pub with_session : {n : ℕ} → List (Session × List (ObjectName × Object n)) → Key → Update
+    → List (Session × List (ObjectName × Object n))
+with_session m key update =
+    store_join m ((key.session, (key.object, update_object update) ∷ []) ∷ [])

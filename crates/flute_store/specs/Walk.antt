@@ -22,7 +22,8 @@ option_rest None = []
 option_rest (Some rest) = rest
 
 -- the facts of the objects of a session, by what an object tells
-abbrev pub facts_in : {O : Type 0} → (Key → O → List Fact) → Session → List (ObjectName × O) → List Fact
+abbrev pub facts_in : {O : Type 0} → (Key → O → List Fact) → Session → List (ObjectName × O)
+    → List Fact
 facts_in facts_of session objects = flat_map (λ e. facts_of (key_in session e.0) e.1) objects
 
 -- the bytes of a symbol are as many as one has; the types of all other parts tell their ranges

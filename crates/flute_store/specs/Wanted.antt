@@ -21,8 +21,11 @@ abbrev pub with_reason : SymbolId → Reason → SymbolId × Reason
 with_reason id reason = (id, reason)
 
 -- those of the symbols that are wanted, each with its reason
-unfoldable pub wanted : Information → List (SymbolId × Cell (List ℕ)) → List SymbolId → List (SymbolId × Reason)
-wanted info held symbols = filter_map (λ id. option_map (with_reason id) (want_cell info id (value_at symbol_id_cmp held id))) symbols
+unfoldable pub wanted : Information → List (SymbolId × Cell (List ℕ)) → List SymbolId
+    → List (SymbolId × Reason)
+wanted info held symbols =
+    filter_map
+    (λ id. option_map (with_reason id) (want_cell info id (value_at symbol_id_cmp held id))) symbols
 
 -- the symbols of a block from one place up to another
 abbrev pub block_from : ℕ → ℕ → ℕ → List SymbolId

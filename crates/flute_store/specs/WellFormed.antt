@@ -27,7 +27,8 @@ module _ {symbols : ℕ} where
   IsSession objects = IsSound object_cmp objects IsObject
 
   -- the sessions ascend and are within the limit
-  pub record IsStore (sessions objects : ℕ) (m : List (Session × List (ObjectName × Object symbols))) : Type 0 where
+  pub record IsStore (sessions objects : ℕ)
+      (m : List (Session × List (ObjectName × Object symbols))) : Type 0 where
     pub ordered : IsOrdered session_cmp m
     pub within : length m ≤ sessions
     pub each : EachValue (IsSession objects) m

@@ -90,7 +90,8 @@ impl<'a> HeldScan<'a> {
         }
     }
 
-    // Writes the symbols that are left one behind the other, up to `len` bytes. None of them is wanted.
+    // Writes the symbols that are left one behind the other, up to `len` bytes.
+    // None of them is wanted.
     fn write<W: Sink>(&mut self, sink: &mut W, len: u64) -> Result<(), DeviceFault>
         requires walk { IsHeldScan self.old }
         requires whole { all_left (walk_in self.old) ≡ [] }

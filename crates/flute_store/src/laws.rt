@@ -41,8 +41,8 @@ pub fn whole_objects_have_their_length()
     ensures { WholeHasItsLength }
 {}
 
-/// Where as much is known of an object as the datagrams tell that carry it, from its sender, in any order and with
-/// any repeats, it is whole, and its bytes are those that were sent.
+/// Where as much is known of an object as the datagrams tell that carry it, from its sender,
+/// in any order and with any repeats, it is whole, and its bytes are those that were sent.
 pub fn datagrams_give_the_object()
     ensures { DatagramsGiveTheObject }
 {}

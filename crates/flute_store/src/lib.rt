@@ -23,6 +23,7 @@
 //! What is read in the order of a journal, and need not be held, is scanned by an [`ObjectScan`].
 #![tactic(auto)]
 
+mod display;
 mod extract;
 mod gap;
 mod gaps;

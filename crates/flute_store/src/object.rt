@@ -88,7 +88,8 @@ fn join_symbols<const SYMBOLS: u32>(
 ) -> Result<(), JoinRefusal>
     requires symbols { AreSymbols SYMBOLS symbols.old }
     requires sizes { HasSizes update }
-    ensures ok { OnOk result (symbols.new ≡ symbols_join symbols.old (update_symbols update.entry)) }
+    ensures ok { OnOk result
+        (symbols.new ≡ symbols_join symbols.old (update_symbols update.entry)) }
     ensures err { OnErr result (symbols.new ≡ symbols.old) }
     ensures full { result ≡ Err JoinRefusal.Full
         → SYMBOLS < length (symbols_join symbols.old (update_symbols update.entry)) }

@@ -49,7 +49,8 @@ pub struct PartitionScan {
 impl PartitionScan {
     /// A walk over an object with this information.
     pub fn new(info: &Info) -> PartitionScan
-        ensures start { (held : List (Id × Cell (List ℕ))) → walk_of result held ≡ at_start info.now held }
+        ensures start { (held : List (Id × Cell (List ℕ)))
+            → walk_of result held ≡ at_start info.now held }
         ensures place { IsPlace result }
         ensures few { length (ids info.now) ≤ 2 ^ 32 }
     {
@@ -173,8 +174,8 @@ impl PartitionScan {
         }
     }
 
-    /// What comes next, given the next held symbol that was not passed, if one is left. None where a
-    /// block was begun.
+    /// What comes next, given the next held symbol that was not passed, if one is left.
+    /// None where a block was begun.
     pub fn turn(&mut self, next: &Option<Held>) -> Option<Turn>
         requires { IsPlace self.old }
         ensures turn { (result, self.new) ≡ turn_of self.old next.now }

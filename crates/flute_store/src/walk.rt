@@ -41,7 +41,8 @@ impl<'a> Model for ObjectWalk<'a> {
 
     ghost view = { λ w. option_facts w.info ++ symbols_facts w.key w.symbols };
 
-    ghost invariant = { λ w. EachValue IsKnown w.symbols × IfSome w.info (λ fact. IsSized (fact_of fact)) };
+    ghost invariant = { λ w. EachValue IsKnown w.symbols
+        × IfSome w.info (λ fact. IsSized (fact_of fact)) };
 }
 
 // What is known of the information, as a fact.

@@ -1,5 +1,6 @@
 //! Worked examples of what a store holds, and each public call once.
 
+mod display;
 mod objects;
 mod senders;
 

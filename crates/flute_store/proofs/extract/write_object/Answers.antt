@@ -1,8 +1,6 @@
 use Rattle.std.proofs.Common.{take, ap, ◌∙◌, subst}
 use Rattle.flute_parts.specs.Devices.{Writes}
-use Rattle.flute_store.specs.PartitionScan.{all_left}
-use Rattle.flute_store.specs.HeldScan.{walk_in}
-use Rattle.flute_store.specs.BytesLeft.{bytes_left}
+use Rattle.flute_store.proofs.Common.{all_left, walk_in, bytes_left}
 use Rattle.flute_store.proofs.BytesSteps.{left-start, bytes-start}
 use Rattle.flute_store.proofs.extract.write_object.Goals as goal
 

@@ -1,10 +1,6 @@
 use Rattle.std.proofs.Common.{◌≢◌, List, None}
-use Rattle.flute_parts.specs.declared.address.Part.TheVariants.{Info as InfoPart}
-use Rattle.flute_parts.specs.declared.fact.Fact.{Fact}
-use Rattle.flute_parts.specs.declared.fact.Fact.TheVariants.{Info, InfoConflict, Symbol, SymbolConflict}
-use Rattle.flute_parts.specs.Addresses.{address}
-use Rattle.flute_parts.specs.Facts.{fact_at}
-use Rattle.flute_store.specs.Held.{HasCell}
+use Rattle.flute_store.proofs.Common
+use Common.{InfoPart, Fact, Info, InfoConflict, Symbol, SymbolConflict, address, fact_at, HasCell}
 use Rattle.flute_store.proofs.laws.held_addresses_have_cells.Goals as goal
 
 has_cell : (held : List Fact) (f : Fact) → fact_at held (address f) ≢ None → HasCell held f

@@ -1,14 +1,7 @@
 use Rattle.std.proofs.Common.{◌<◌, length, bytes_eq, sym, ap, ◌∙◌, arith}
-use Rattle.std.specs.BTreeMap.{is_at}
-use Rattle.std.specs.Map.{set_value}
-use Rattle.flute_join.specs.Cell.{IsKnown}
-use Rattle.flute_join.proofs.Single.{single_held, added_joins}
-use Rattle.flute_join.proofs.Sound.{each-value_at}
-use Rattle.flute_parts.specs.Order.{symbol_id_cmp}
-use Rattle.flute_parts.specs.Totality.{symbol_id_total}
-use Rattle.flute_parts.specs.Equality.{symbol_id_place}
-use Rattle.flute_store.specs.ObjectJoin.{cells}
-use Rattle.flute_store.specs.Update.{update_cell}
+use Rattle.flute_store.proofs.Common
+use Common.{is_at, set_value, IsKnown, single_held, added_joins, each-value_at, symbol_id_cmp}
+use Common.{symbol_id_total, symbol_id_place, cells, update_cell}
 use Rattle.flute_store.proofs.OnePair.{held-sound, new-sound, full-beyond, known-join, known-update}
 use Rattle.flute_store.proofs.object.join_symbol.Goals as goal
 

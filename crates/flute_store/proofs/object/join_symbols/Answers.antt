@@ -1,10 +1,6 @@
 use Rattle.std.proofs.Common.{ap, sym, ◌∙◌, subst, bytes_eq}
-use Rattle.flute_join.specs.Cell.{cell_join}
-use Rattle.flute_join.specs.MapLaws.{join_nothing}
-use Rattle.flute_parts.specs.Order.{symbol_id_cmp}
-use Rattle.flute_store.specs.ObjectJoin.{symbols_join}
-use Rattle.flute_store.specs.Update.{update_symbols}
-use Rattle.flute_store.specs.WellFormed.{AreSymbols}
+use Rattle.flute_store.proofs.Common
+use Common.{cell_join, join_nothing, symbol_id_cmp, symbols_join, update_symbols, AreSymbols}
 use Rattle.flute_store.proofs.object.join_symbols.Goals as goal
 
 pub returns-in-None-clause-ok : goal.returns-in-None-clause-ok

@@ -1,22 +1,9 @@
 use Rattle.std.proofs.Common.{◌≡◌, ◌<◌, ℕ, [], length, bytes_eq, sym, ap, ◌∙◌, lit<, subst, arith, inl, inr}
-use Rattle.std.specs.BTreeMap.{is_at}
-use Rattle.std.specs.Map.{set_value}
-use Rattle.std.proofs.lemmas.Result.{on_ok_weaker, on_err_weaker, err_from_is_err_and}
-use Rattle.std.proofs.lemmas.Map.Steps.{set_value_same}
-use Rattle.flute_join.proofs.Single.{single_held, added_joins}
-use Rattle.flute_join.proofs.Sound.{each-value_at}
-use Rattle.flute_parts.specs.Order.{object_cmp, symbol_id_cmp}
-use Rattle.flute_parts.specs.Totality.{object_total}
-use Rattle.flute_parts.specs.Equality.{object_place}
-use Rattle.flute_parts.specs.Facts.{same_information}
-use Rattle.flute_join.specs.Cell.{cell_join}
-use Rattle.flute_join.specs.MapLaws.{nothing_join}
-use Rattle.flute_join.specs.declared.cell.Cell.TheVariants.{Absent}
-use Rattle.flute_store.specs.declared.object.Object.{Object}
-use Rattle.flute_store.specs.ObjectJoin.{object_join, object_join_laws, symbols_join}
-use Rattle.flute_store.specs.Update.{update_object}
-use Rattle.flute_store.specs.WellFormed.{IsObject}
-use Rattle.flute_store.specs.Beyond.{ObjectBeyond}
+use Rattle.flute_store.proofs.Common
+use Common.{is_at, set_value, on_ok_weaker, on_err_weaker, err_from_is_err_and, set_value_same}
+use Common.{single_held, added_joins, each-value_at, object_cmp, symbol_id_cmp, object_total}
+use Common.{object_place, same_information, cell_join, nothing_join, Absent, Object, object_join}
+use Common.{object_join_laws, symbols_join, update_object, IsObject, ObjectBeyond}
 use Rattle.flute_store.proofs.OnePair.{held-sound, new-sound, full-beyond, held-beyond, new-beyond}
 use Rattle.flute_store.proofs.updating.join_object.Goals as goal
 
@@ -53,29 +40,28 @@ made n x w p q = (λ i. record { info = cell_join same_information (p i) w.info;
 
 pub returns-in_err-join_update-clause-full : goal.returns-in_err-join_update-clause-full
 returns-in_err-join_update-clause-full g c =
-    let w = update_object {n = g.row.SYMBOLS} c.args.update in
     let refused = err_from_is_err_and c.from_residual.result c.from_residual.ensures.1 in
-    let is = made g.row.SYMBOLS c.new-object.result w c.new-object.ensures.info c.new-object.ensures.symbols in
-    rw (refused.1, refused.2) (λ e. inr (new-beyond object_total object_place (object_join_laws g.row.SYMBOLS) c.args.objects.now c.args.key w ObjectBeyond (sym c.in_default.ensures.value) (subst ObjectBeyond is (c.in_err-join_update.ensures.full e))))
+    let is = made g.row.SYMBOLS _ (update_object c.args.update) c.new-object.ensures.info c.new-object.ensures.symbols in
+    rw (refused.1, refused.2)
+    (λ e. inr (new-beyond object_total object_place (object_join_laws g.row.SYMBOLS) _ _ _ ObjectBeyond (sym c.in_default.ensures.value)
+    (subst ObjectBeyond is (c.in_err-join_update.ensures.full e))))
 
 pub returns-in_err-join_update-clause-room : goal.returns-in_err-join_update-clause-room
 returns-in_err-join_update-clause-room g c =
-    let w = update_object {n = g.row.SYMBOLS} c.args.update in
     let refused = err_from_is_err_and c.from_residual.result c.from_residual.ensures.1 in
-    let is = made g.row.SYMBOLS c.new-object.result w c.new-object.ensures.info c.new-object.ensures.symbols in
-    let room : length c.args.objects.now < g.row.OBJECTS = omega (arith, c.len.ensures.value, c.len.ensures.within, c.if-len.false) in
-    rw (refused.1, refused.2) (λ n. new-sound object_total object_place (object_join_laws g.row.SYMBOLS) c.args.objects.now c.args.key w c.in_default.ensures.ordered g.row.OBJECTS IsObject (sym c.in_default.ensures.value) room c.requires.each (subst IsObject is (c.in_err-join_update.ensures.room n)))
+    let is = made g.row.SYMBOLS _ (update_object c.args.update) c.new-object.ensures.info c.new-object.ensures.symbols in
+    let room : length c.args.objects.now < g.row.OBJECTS = omega arith in
+    rw (refused.1, refused.2)
+    (λ n. new-sound object_total object_place (object_join_laws g.row.SYMBOLS) _ _ _ c.in_default.ensures.ordered g.row.OBJECTS IsObject (sym c.in_default.ensures.value) room c.requires.each (subst IsObject is (c.in_err-join_update.ensures.room n)))
 
 pub returns-clause-ok : goal.returns-clause-ok
 returns-clause-ok g c =
-    let w = update_object {n = g.row.SYMBOLS} c.args.update in
-    let is = made g.row.SYMBOLS c.new-object.result w c.new-object.ensures.info c.new-object.ensures.symbols in
+    let is = made g.row.SYMBOLS _ (update_object c.args.update) c.new-object.ensures.info c.new-object.ensures.symbols in
     let added = rw (c.in_ok-join_update.ensures.ok ∙ is) at c.add_new.ensures.ok in
-    added_joins object_total (object_join_laws g.row.SYMBOLS) c.args.objects.now c.add_new.new.self c.args.key w (sym c.in_default.ensures.value) c.add_new.result added
+    added_joins object_total (object_join_laws g.row.SYMBOLS) _ _ _ _ (sym c.in_default.ensures.value) c.add_new.result added
 
 pub returns-clause-room : goal.returns-clause-room
 returns-clause-room g c =
-    let w = update_object {n = g.row.SYMBOLS} c.args.update in
-    let is = made g.row.SYMBOLS c.new-object.result w c.new-object.ensures.info c.new-object.ensures.symbols in
-    let room : length c.args.objects.now < g.row.OBJECTS = omega (arith, c.len.ensures.value, c.len.ensures.within, c.if-len.false) in
-    λ n. new-sound object_total object_place (object_join_laws g.row.SYMBOLS) c.args.objects.now c.args.key w c.in_default.ensures.ordered g.row.OBJECTS IsObject (sym c.in_default.ensures.value) room c.requires.each (subst IsObject is (c.in_ok-join_update.ensures.room (λ e. cc)))
+    let is = made g.row.SYMBOLS _ (update_object c.args.update) c.new-object.ensures.info c.new-object.ensures.symbols in
+    let room : length c.args.objects.now < g.row.OBJECTS = omega arith in
+    λ n. new-sound object_total object_place (object_join_laws g.row.SYMBOLS) _ _ _ c.in_default.ensures.ordered g.row.OBJECTS IsObject (sym c.in_default.ensures.value) room c.requires.each (subst IsObject is (c.in_ok-join_update.ensures.room (λ e. cc)))

@@ -1,20 +1,9 @@
 use Rattle.std.proofs.Common.{◌≡◌, ◌<◌, List, ℕ, [], ◌∷◌, length, sym, ap, ◌∙◌, lit<, subst, arith, inl, inr}
-use Rattle.std.specs.BTreeMap.{is_at}
-use Rattle.std.specs.Map.{set_value}
-use Rattle.std.proofs.lemmas.Result.{on_ok_weaker, on_err_weaker, err_from_is_err_and}
-use Rattle.std.proofs.lemmas.Map.Steps.{set_value_same}
-use Rattle.flute_join.proofs.Single.{single_held, added_joins}
-use Rattle.flute_join.proofs.Sound.{each-value_at}
-use Rattle.flute_parts.specs.Order.{object_cmp, session_cmp}
-use Rattle.flute_parts.specs.Equality.{session_place}
-use Rattle.flute_parts.specs.declared.object_key.ObjectName.{ObjectName}
-use Rattle.flute_parts.specs.Totality.{session_total}
-use Rattle.flute_join.specs.MapLaws.{nothing_join}
-use Rattle.flute_store.specs.declared.object.Object.{Object}
-use Rattle.flute_store.specs.ObjectJoin.{object_join, session_join, session_laws}
-use Rattle.flute_store.specs.Update.{update_object}
-use Rattle.flute_store.specs.WellFormed.{IsSession}
-use Rattle.flute_store.specs.Beyond.{SessionBeyond}
+use Rattle.flute_store.proofs.Common
+use Common.{is_at, set_value, on_ok_weaker, on_err_weaker, err_from_is_err_and, set_value_same}
+use Common.{single_held, added_joins, each-value_at, object_cmp, session_cmp, session_place}
+use Common.{ObjectName, session_total, nothing_join, Object, object_join, session_join}
+use Common.{session_laws, update_object, IsSession, SessionBeyond}
 use Rattle.flute_store.proofs.OnePair.{held-sound, new-sound, full-beyond, held-beyond, new-beyond}
 use Rattle.flute_store.proofs.updating.join_session.Goals as goal
 
@@ -51,29 +40,27 @@ made n m w p = ap (λ x. session_join x w) p ∙ nothing_join object_cmp object_
 
 pub returns-in_err-join_object-clause-full : goal.returns-in_err-join_object-clause-full
 returns-in_err-join_object-clause-full g c =
-    let w : List (ObjectName × Object g.row.SYMBOLS) = (c.args.key.now.object, update_object {n = g.row.SYMBOLS} c.args.update) ∷ [] in
     let refused = err_from_is_err_and c.from_residual.result c.from_residual.ensures.1 in
-    let is = made g.row.SYMBOLS c.new-objects.result w c.new-objects.ensures in
-    rw (refused.1, refused.2) (λ e. inr (new-beyond session_total session_place (session_laws g.row.SYMBOLS) c.args.sessions.now c.args.key.now.session w (SessionBeyond g.row.OBJECTS) (sym c.in_default.ensures.value) (subst (SessionBeyond g.row.OBJECTS) is (c.in_err-join_object.ensures.full e))))
+    rw (refused.1, refused.2)
+    (λ e. inr (new-beyond session_total session_place (session_laws g.row.SYMBOLS) _ _ _ (SessionBeyond g.row.OBJECTS) (sym c.in_default.ensures.value)
+    (subst (SessionBeyond g.row.OBJECTS) (made g.row.SYMBOLS _ _ c.new-objects.ensures) (c.in_err-join_object.ensures.full e))))
 
 pub returns-in_err-join_object-clause-room : goal.returns-in_err-join_object-clause-room
 returns-in_err-join_object-clause-room g c =
-    let w : List (ObjectName × Object g.row.SYMBOLS) = (c.args.key.now.object, update_object {n = g.row.SYMBOLS} c.args.update) ∷ [] in
     let refused = err_from_is_err_and c.from_residual.result c.from_residual.ensures.1 in
-    let is = made g.row.SYMBOLS c.new-objects.result w c.new-objects.ensures in
-    let room : length c.args.sessions.now < g.row.SESSIONS = omega (arith, c.len.ensures.value, c.len.ensures.within, c.if-len.false) in
-    rw (refused.1, refused.2) (λ n. new-sound session_total session_place (session_laws g.row.SYMBOLS) c.args.sessions.now c.args.key.now.session w c.in_default.ensures.ordered g.row.SESSIONS (IsSession g.row.OBJECTS) (sym c.in_default.ensures.value) room c.requires.each (subst (IsSession g.row.OBJECTS) is (c.in_err-join_object.ensures.room n)))
+    let room : length c.args.sessions.now < g.row.SESSIONS = omega arith in
+    rw (refused.1, refused.2)
+    (λ n. new-sound session_total session_place (session_laws g.row.SYMBOLS) _ _ _ c.in_default.ensures.ordered g.row.SESSIONS (IsSession g.row.OBJECTS) (sym c.in_default.ensures.value) room c.requires.each
+    (subst (IsSession g.row.OBJECTS) (made g.row.SYMBOLS _ _ c.new-objects.ensures) (c.in_err-join_object.ensures.room n)))
 
 pub returns-clause-ok : goal.returns-clause-ok
 returns-clause-ok g c =
-    let w : List (ObjectName × Object g.row.SYMBOLS) = (c.args.key.now.object, update_object {n = g.row.SYMBOLS} c.args.update) ∷ [] in
-    let is = made g.row.SYMBOLS c.new-objects.result w c.new-objects.ensures in
-    let added = rw (c.in_ok-join_object.ensures.ok ∙ is) at c.add_new.ensures.ok in
-    added_joins session_total (session_laws g.row.SYMBOLS) c.args.sessions.now c.add_new.new.self c.args.key.now.session w (sym c.in_default.ensures.value) c.add_new.result added
+    let same = c.in_ok-join_object.ensures.ok ∙ made g.row.SYMBOLS _ _ c.new-objects.ensures in
+    let added = rw same at c.add_new.ensures.ok in
+    added_joins session_total (session_laws g.row.SYMBOLS) _ _ _ _ (sym c.in_default.ensures.value) c.add_new.result added
 
 pub returns-clause-room : goal.returns-clause-room
 returns-clause-room g c =
-    let w : List (ObjectName × Object g.row.SYMBOLS) = (c.args.key.now.object, update_object {n = g.row.SYMBOLS} c.args.update) ∷ [] in
-    let is = made g.row.SYMBOLS c.new-objects.result w c.new-objects.ensures in
-    let room : length c.args.sessions.now < g.row.SESSIONS = omega (arith, c.len.ensures.value, c.len.ensures.within, c.if-len.false) in
-    λ n. new-sound session_total session_place (session_laws g.row.SYMBOLS) c.args.sessions.now c.args.key.now.session w c.in_default.ensures.ordered g.row.SESSIONS (IsSession g.row.OBJECTS) (sym c.in_default.ensures.value) room c.requires.each (subst (IsSession g.row.OBJECTS) is (c.in_ok-join_object.ensures.room (λ e. cc)))
+    let room : length c.args.sessions.now < g.row.SESSIONS = omega arith in
+    λ n. new-sound session_total session_place (session_laws g.row.SYMBOLS) _ _ _ c.in_default.ensures.ordered g.row.SESSIONS (IsSession g.row.OBJECTS) (sym c.in_default.ensures.value) room c.requires.each
+    (subst (IsSession g.row.OBJECTS) (made g.row.SYMBOLS _ _ c.new-objects.ensures) (c.in_ok-join_object.ensures.room (λ e. cc)))

@@ -1,8 +1,7 @@
 use Rattle.std.proofs.Common.{Some, sym, ◌∙◌, subst}
-use Rattle.flute_store.specs.BytesLeft.{GivesFirst}
-use Rattle.flute_store.specs.HeldScan.{Turns}
-use Rattle.flute_store.specs.declared.turn.Turn.TheVariants as Turn
+use Rattle.flute_store.proofs.Common.{GivesFirst, Turns}
 use Rattle.flute_store.proofs.BytesSteps.{no-bytes, pass-keeps, begin-keeps, keeps-on, gives-first}
+use Rattle.flute_store.specs.declared.turn.Turn.TheVariants as Turn
 use Rattle.flute_store.proofs.held_scan.HeldScan.next_bytes.Goals as goal
 
 pub returns-in-Some-Fitting : goal.returns-in-Some-Fitting

@@ -1,6 +1,5 @@
 use Rattle.std.proofs.Common.{◌-◌}
-use Rattle.flute_store.specs.HeldScan.{bound}
-use Rattle.flute_store.specs.BytesLeft.{KeepsBytes}
+use Rattle.flute_store.proofs.Common.{bound, KeepsBytes}
 use Rattle.flute_store.proofs.held_scan.HeldScan.next_bytes.Given as goal
 
 abbrev pub invariant-loop-held : goal.invariant-loop-held

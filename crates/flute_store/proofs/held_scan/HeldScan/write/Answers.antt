@@ -10,10 +10,9 @@ returns-in_err-write_all-clause-bytes g c =
 
 pub loop-bytes-preserved : goal.loop-bytes-preserved
 loop-bytes-preserved g c =
-    let a = c.loop-bytes.invariant.3 in
     let b = c.in_ok-write_all.ensures.failures in (
       c.in-Some.ensures.walk,
       c.in-Some.ensures.whole,
       writing-more _ _ _ _ _ _ _ _ _ c.loop-bytes.invariant.2 c.in-Some.ensures.first c.up_to-bytes.ensures c.in_ok-write_all.ensures.bytes,
-      omega (arith, a, b),
+      omega (arith, b),
     )

@@ -1,7 +1,5 @@
 use Rattle.std.proofs.Common.{◌≡◌, [], ◌-◌, take}
-use Rattle.flute_store.specs.PartitionScan.{all_left}
-use Rattle.flute_store.specs.HeldScan.{walk_in, bound, IsHeldScan}
-use Rattle.flute_store.specs.BytesLeft.{bytes_left}
+use Rattle.flute_store.proofs.Common.{all_left, walk_in, bound, IsHeldScan, bytes_left}
 use Rattle.flute_store.proofs.BytesSteps.{IsWriting}
 use Rattle.flute_store.proofs.held_scan.HeldScan.write.Given as goal
 

@@ -1,14 +1,8 @@
 use Rattle.std.proofs.Common.{◌≡◌, ◌≢◌, None, ℕ}
-use Rattle.std.proofs.lemmas.Result.{err_from_is_err_and}
-use Rattle.flute_join.specs.declared.cell.Cell.TheVariants.{Absent}
-use Rattle.flute_parts.specs.Facts.{same_information}
-use Rattle.flute_parts.specs.Totality.{symbol_id_total}
-use Rattle.flute_parts.specs.Equality.{symbol_id_place}
-use Rattle.flute_store.specs.declared.object.Object.{Object}
-use Rattle.flute_store.specs.declared.update.Update.{Update}
-use Rattle.flute_store.specs.ObjectJoin.{object_join, symbols_join, cells}
-use Rattle.flute_store.specs.Update.{update_object, update_symbols}
-use Rattle.flute_store.specs.WellFormed.{AreSymbols, IsObject}
+use Rattle.flute_store.proofs.Common
+use Common.{err_from_is_err_and, Absent, same_information, symbol_id_total, symbol_id_place, Object}
+use Common.{Update, object_join, symbols_join, cells, update_object, update_symbols, AreSymbols}
+use Common.{IsObject}
 use Rattle.flute_store.proofs.OnePair.{absent-right, some-right, update-some}
 use Rattle.flute_store.proofs.object.Object.join_update.Goals as goal
 

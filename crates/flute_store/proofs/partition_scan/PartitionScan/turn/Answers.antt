@@ -1,10 +1,9 @@
 use Rattle.std.proofs.Common.{None, Some, sym, ap, ◌∙◌, subst, ◌≤◌}
-use Rattle.flute_store.specs.declared.turn.Turn.TheVariants as Turn
-use Rattle.flute_store.specs.declared.partition_scan.PartitionScan.{PartitionScan}
-use Rattle.flute_store.specs.declared.partition_scan.Upcoming.TheVariants.{End, BlockEnd, Passed, Fitting, Wanted, NotHeld}
-use Rattle.flute_store.specs.PartitionScan.{ended_run}
+use Rattle.flute_store.proofs.Common
+use Common.{PartitionScan, End, BlockEnd, Passed, Fitting, Wanted, NotHeld, ended_run}
 use Rattle.flute_store.proofs.Turns.{turn-ended, turn-at}
 use Rattle.flute_store.proofs.Places.{until-within, block-next, wanted-small, placed}
+use Rattle.flute_store.specs.declared.turn.Turn.TheVariants as Turn
 use Rattle.flute_store.proofs.partition_scan.PartitionScan.turn.Goals as goal
 
 pub returns-in-Some-clause-turn : goal.returns-in-Some-clause-turn

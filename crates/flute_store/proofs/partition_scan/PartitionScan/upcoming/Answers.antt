@@ -1,8 +1,6 @@
 use Rattle.std.proofs.Common.{◌≡◌, None, Some, sym, ap, ◌∙◌, subst}
-use Rattle.std.specs.declared.cmp.Ordering.TheVariants.{Less, Equal, Greater}
-use Rattle.flute_parts.specs.Order.{symbol_id_cmp}
-use Rattle.flute_store.specs.declared.partition_scan.Upcoming.TheVariants.{Passed, NotHeld}
-use Rattle.flute_store.specs.PartitionScan.{upcoming_at, upcoming_wanted}
+use Rattle.flute_store.proofs.Common
+use Common.{Less, Equal, Greater, symbol_id_cmp, Passed, NotHeld, upcoming_at, upcoming_wanted}
 use Rattle.flute_store.proofs.Places.{at-end, at-block_end, at-inside, at-first}
 use Rattle.flute_store.proofs.partition_scan.PartitionScan.upcoming.Goals as goal
 

@@ -17,7 +17,5 @@ loop-turn-preserved c = (
 
 pub loop-turn-smaller : goal.loop-turn-smaller
 loop-turn-smaller c =
-    let b = c.in_default.ensures.begun in
     let l = ap (λ (i : Information). length (sizes i)) c.in_default.ensures.blocks.partition_is in
-    let m = c.in_default.ensures.blocks.within in
-    omega (arith, b, l, m)
+    omega (arith, c.in_default.ensures.begun, l, c.in_default.ensures.blocks.within)

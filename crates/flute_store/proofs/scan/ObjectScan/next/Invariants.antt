@@ -1,7 +1,6 @@
 use Rattle.std.proofs.Common.{◌-◌, length}
-use Rattle.flute_parts.specs.Information.{sizes}
-use Rattle.flute_store.specs.Scan.{Scanned, CanFollow, CanCome}
-use Rattle.flute_store.specs.Scans.{Scans, announced, BeginsBlocks}
+use Rattle.flute_store.proofs.Common
+use Common.{sizes, Scanned, CanFollow, CanCome, Scans, announced, BeginsBlocks}
 use Rattle.flute_store.proofs.scan.ObjectScan.next.Given as goal
 
 abbrev pub invariant-loop-turn : goal.invariant-loop-turn

@@ -1,9 +1,6 @@
 use Rattle.std.proofs.Common.{sym, subst, ap, ◌∙◌}
-use Rattle.flute_parts.specs.Information.{Information}
-use Rattle.flute_store.specs.Scans.{ScanState, Scans}
-use Rattle.flute_store.specs.Status.{TellsStatus}
-use Rattle.flute_store.proofs.HowMany.{tells-status}
-use Rattle.flute_store.proofs.ScanTurns.{counts-wants}
+use Rattle.flute_store.proofs.Common.{Information, ScanState, Scans, TellsStatus}
+use Rattle.flute_store.proofs.{HowMany.{tells-status}, ScanTurns.{counts-wants}}
 use Rattle.flute_store.proofs.scan.ObjectScan.status.Goals as goal
 
 pub returns : goal.returns

@@ -1,6 +1,5 @@
 use Rattle.std.proofs.Common.{sym, subst, ap, ◌∙◌}
-use Rattle.flute_store.specs.PartitionScan.{turn_of}
-use Rattle.flute_store.specs.Scans.{ScanState, Scans, announced, passed_at_end, Stepped}
+use Rattle.flute_store.proofs.Common.{turn_of, ScanState, Scans, announced, passed_at_end, Stepped}
 use Rattle.flute_store.proofs.ScanSteps.{can-add, step-scan, stepped, begins-blocks}
 use Rattle.flute_store.proofs.scan.ObjectScan.step.Goals as goal
 

@@ -1,5 +1,4 @@
-use Rattle.std.specs.Prelude.{flat_map}
-use Rattle.flute_store.specs.Objects.{listed}
+use Rattle.flute_store.proofs.Common.{flat_map, listed}
 use Rattle.flute_store.proofs.HowMany.{first-gap, last-gap, counts-few, counts-more, counts-none}
 use Rattle.flute_store.proofs.status.Wanted.count.Goals as goal
 

@@ -1,6 +1,5 @@
 use Rattle.std.proofs.Common.{length}
-use Rattle.std.specs.Prelude.{flat_map}
-use Rattle.flute_store.specs.Objects.{listed, AreRuns}
+use Rattle.flute_store.proofs.Common.{flat_map, listed, AreRuns}
 use Rattle.flute_store.proofs.HowMany.{Counts}
 use Rattle.flute_store.proofs.status.Wanted.count.Given as goal
 

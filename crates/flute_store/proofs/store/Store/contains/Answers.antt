@@ -1,11 +1,8 @@
 use Rattle.std.proofs.Common.{◌≡◌, sym, ap, ◌∙◌}
-use Rattle.std.specs.Prelude.{is_some, not}
-use Rattle.flute_parts.specs.Addresses.{info_address, symbol_address}
-use Rattle.flute_parts.specs.Facts.{fact_at}
-use Rattle.flute_store.specs.Content.{content}
+use Rattle.flute_store.proofs.Common.{is_some, not, info_address, symbol_address, fact_at, content}
 use Rattle.flute_store.proofs.Held.{no_session, no_object, of_info, of_symbols, is_known, known-is}
-use Rattle.flute_store.proofs.store.Store.contains.Goals as goal
 use Rattle.flute_store.proofs.store.Store.contains.Goals.{in-Absent, in_default-matches}
+use Rattle.flute_store.proofs.store.Store.contains.Goals as goal
 
 pub returns-in_default : goal.returns-in_default
 returns-in_default g c =

@@ -1,5 +1,4 @@
-use Rattle.flute_store.proofs.StoreJoin.{ordered-store}
-use Rattle.flute_store.proofs.Counting.{not_over}
+use Rattle.flute_store.proofs.{StoreJoin.{ordered-store}, Counting.{not_over}}
 use Rattle.flute_store.proofs.Rises.{content-rises}
 use Rattle.flute_store.proofs.store.Store.keeps_order_and_limits.Goals as goal
 

@@ -1,5 +1,4 @@
-use Rattle.flute_store.proofs.StoreJoin.{ordered-store}
-use Rattle.flute_store.proofs.KeyLists.{keys_rise, keys_held}
+use Rattle.flute_store.proofs.{StoreJoin.{ordered-store}, KeyLists.{keys_rise, keys_held}}
 use Rattle.flute_store.proofs.store.Store.objects.Goals as goal
 
 pub returns-clause-rising : goal.returns-clause-rising

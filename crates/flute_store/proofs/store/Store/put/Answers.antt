@@ -1,7 +1,5 @@
 use Rattle.std.proofs.Common.{◌≡◌, ◌++◌, ◌↔◌, Err, ap, ◌∙◌, subst}
-use Rattle.flute_join.specs.declared.refusal.JoinRefusal.TheVariants.{Full}
-use Rattle.flute_parts.specs.Limits.{Over}
-use Rattle.flute_store.specs.Update.{update_facts}
+use Rattle.flute_store.proofs.Common.{Full, Over, update_facts}
 use Rattle.flute_store.proofs.store.Store.put.Goals as goal
 
 pub returns-clause-full : goal.returns-clause-full

@@ -1,11 +1,8 @@
 use Rattle.std.proofs.Common.{◌≡◌, [], lit<}
-use Rattle.std.proofs.lemmas.Result.{err_from_is_err_and}
-use Rattle.flute_join.proofs.Below.{ok_is_not_err}
-use Rattle.flute_wire.specs.Reading.{facts}
 use Rattle.flute_wire.proofs.Computed.{facts-Spells, facts-refused}
-use Rattle.flute_store.proofs.Counting.{not_over_more}
+use Rattle.flute_store.proofs.Common.{err_from_is_err_and, ok_is_not_err, facts}
+use Rattle.flute_store.proofs.{Counting.{not_over_more}, Spelled.{spelled-size}}
 use Rattle.flute_store.proofs.Refused.{full_fault, no_datagram_fault, not_full}
-use Rattle.flute_store.proofs.Spelled.{spelled-size}
 use Rattle.flute_store.proofs.store.Store.take.Goals as goal
 
 pub take_packet-requires : goal.take_packet-requires

@@ -1,10 +1,7 @@
 use Rattle.std.proofs.Common.{ap, ◌∙◌}
-use Rattle.std.proofs.lemmas.Result.{err_from_is_err_and}
-use Rattle.flute_join.proofs.Below.{ok_is_not_err}
 use Rattle.flute_wire.specs.Facts.{facts_of}
-use Rattle.flute_store.specs.Update.{update_facts}
-use Rattle.flute_store.proofs.Counting.{not_over_more}
-use Rattle.flute_store.proofs.Refused.{still_full, not_full}
+use Rattle.flute_store.proofs.Common.{err_from_is_err_and, ok_is_not_err, update_facts}
+use Rattle.flute_store.proofs.{Counting.{not_over_more}, Refused.{still_full, not_full}}
 use Rattle.flute_store.proofs.store.Store.take_packet.Goals as goal
 
 pub returns-in_default-clause-full : goal.returns-in_default-clause-full
