@@ -17,10 +17,13 @@ module _ {S : Type 0} (b : Behaviour S) where
   GoOnAt place (s ∷ old) (t ∷ new) = GoesOnAt place s t × GoOnAt place old new
   GoOnAt place _ _ = ⊥
 
-  -- those before this number went on, that one stopped at the fault, and those behind it are as they were
+  -- those before this number went on, that one stopped at the fault, and those behind
+  -- it are as they were
   abbrev pub StopAt : Option Address → ℕ → LoadFault → List S → List S → Type 0
-  StopAt place zero fault (s ∷ old) (t ∷ new) = (place_of (b.held s) ≡ place) × StopsAt b s t fault × (new ≡ old)
-  StopAt place (suc number) fault (s ∷ old) (t ∷ new) = GoesOnAt place s t × StopAt place number fault old new
+  StopAt place zero fault (s ∷ old) (t ∷ new) =
+      (place_of (b.held s) ≡ place) × StopsAt b s t fault × (new ≡ old)
+  StopAt place (suc number) fault (s ∷ old) (t ∷ new) =
+      GoesOnAt place s t × StopAt place number fault old new
   StopAt place _ fault _ _ = ⊥
 
   abbrev pub StopsIn : Option Address → List S → List S → InputFault → Type 0

@@ -5,7 +5,8 @@ use Rattle.flute_journal.specs.Streams.{Behaviour}
 
 module _ {A S : Type 0} (b : Behaviour S) where
   -- what holds of the stream since it was new, and what stands beside it is as it was
-  abbrev pub kept_beside : {X : Type 0} → (S → S → X → Type 0) → Beside A S → Beside A S → X → Type 0
+  abbrev pub kept_beside : {X : Type 0} → (S → S → X → Type 0) → Beside A S → Beside A S → X
+      → Type 0
   kept_beside P start now x = P start.stream now.stream x × (now.beside ≡ start.beside)
 
   abbrev pub beside_behaviour : Behaviour (Beside A S)

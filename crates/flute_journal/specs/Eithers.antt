@@ -19,7 +19,8 @@ module _ {A B : Type 0} (a : Behaviour A) (b : Behaviour B) where
   most_either (Second y) = b.most y
 
   -- what holds of two states of one kind
-  abbrev pub both : {X : Type 0} → (A → A → X → Type 0) → (B → B → X → Type 0) → Either A B → Either A B → X → Type 0
+  abbrev pub both : {X : Type 0} → (A → A → X → Type 0) → (B → B → X → Type 0) → Either A B
+      → Either A B → X → Type 0
   both P Q (First x) (First y) z = P x y z
   both P Q (Second x) (Second y) z = Q x y z
   both P Q _ _ z = ⊥

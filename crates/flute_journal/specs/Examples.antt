@@ -77,7 +77,8 @@ letter_x_rest = 0 ∷ 0 ∷ 0 ∷ 2 ∷ 0 ∷ 1 ∷ 0x78 ∷ []
 abbrev end_bytes : ℕ → List ℕ
 end_bytes n = 0xFF ∷ replicate 7 0 ++ n ∷ []
 
--- The journals of no fact, of a whole object, of a conflict, of other symbols of the object, and of the two joined.
+-- The journals of no fact, of a whole object, of a conflict, of other symbols of the object,
+-- and of the two joined.
 
 -- First as they were written in version 1.
 
@@ -97,13 +98,15 @@ unfolding sender_size
 conflict-old = refl
 
 others-old : old (hell ∷ padded_o ∷ letter_x ∷ [])
-    ≡ header_in One ++ 3 ∷ k ++ hell_rest ++ 3 ∷ k ++ padded_o_rest ++ 3 ∷ k ++ letter_x_rest ++ end_bytes 3
+    ≡ header_in One ++ 3 ∷ k ++ hell_rest ++ 3 ∷ k ++ padded_o_rest ++ 3 ∷ k ++ letter_x_rest
+    ++ end_bytes 3
 unfolding sender_size
 others-old = refl
 
 -- Then as they are written.
 
-nothing : spelling [] ≡ 0x46 ∷ 0x4C ∷ 0x4A ∷ 0x4E ∷ 0 ∷ 2 ∷ 0xFF ∷ 0 ∷ 0 ∷ 0 ∷ 0 ∷ 0 ∷ 0 ∷ 0 ∷ 0 ∷ []
+nothing :
+    spelling [] ≡ 0x46 ∷ 0x4C ∷ 0x4A ∷ 0x4E ∷ 0 ∷ 2 ∷ 0xFF ∷ 0 ∷ 0 ∷ 0 ∷ 0 ∷ 0 ∷ 0 ∷ 0 ∷ 0 ∷ []
 nothing = refl
 
 whole : spelling (info ∷ hell ∷ letter_o ∷ []) ≡ 0x46 ∷ 0x4C ∷ 0x4A ∷ 0x4E ∷ 0 ∷ 2
@@ -116,16 +119,19 @@ unfolding sender_size
 conflict = refl
 
 joined : spelling (info ∷ hell ∷ SymbolConflict key (id 1) ∷ letter_x ∷ [])
-    ≡ header ++ 1 ∷ k₂ ++ info_rest ++ 3 ∷ k₂ ++ hell_rest ++ 4 ∷ k₂ ++ 0 ∷ 0 ∷ 0 ∷ 1 ∷ 3 ∷ k₂ ++ letter_x_rest ++ end_bytes 4
+    ≡ header ++ 1 ∷ k₂ ++ info_rest ++ 3 ∷ k₂ ++ hell_rest ++ 4 ∷ k₂ ++ 0 ∷ 0 ∷ 0 ∷ 1 ∷ 3 ∷ k₂
+    ++ letter_x_rest ++ end_bytes 4
 unfolding sender_size
 joined = refl
 
 -- the conflict of both senders, the sender 0 first
-both_senders : spelling (InfoConflict key ∷ InfoConflict other_key ∷ []) ≡ header ++ 2 ∷ k₂ ++ 2 ∷ other_k ++ end_bytes 2
+both_senders : spelling (InfoConflict key ∷ InfoConflict other_key ∷ [])
+    ≡ header ++ 2 ∷ k₂ ++ 2 ∷ other_k ++ end_bytes 2
 unfolding sender_size
 both_senders = refl
 
-sizes : (length (old (info ∷ hell ∷ letter_o ∷ [])) ≡ 110) × (length (spelling (info ∷ hell ∷ letter_o ∷ [])) ≡ 158)
+sizes : (length (old (info ∷ hell ∷ letter_o ∷ [])) ≡ 110)
+    × (length (spelling (info ∷ hell ∷ letter_o ∷ [])) ≡ 158)
     × (length (spelling (info ∷ hell ∷ SymbolConflict key (id 1) ∷ letter_x ∷ [])) ≡ 200)
 unfolding sender_size
 sizes = (refl, refl, refl)
@@ -135,16 +141,21 @@ sizes = (refl, refl, refl)
 joined-rising : IsRising (info ∷ hell ∷ SymbolConflict key (id 1) ∷ letter_x ∷ [])
 joined-rising = ((refl, (refl, (refl, tt))), ((refl, (refl, tt)), ((refl, tt), (tt, tt))))
 
-joined-conflict : fact_at ((info ∷ hell ∷ letter_o ∷ []) ++ (hell ∷ padded_o ∷ letter_x ∷ [])) (record { key = key; part = SymbolPart (id 1) }) ≡ Some (SymbolConflict key (id 1))
+joined-conflict :
+    fact_at ((info ∷ hell ∷ letter_o ∷ []) ++ (hell ∷ padded_o ∷ letter_x ∷ []))
+    (record { key = key; part = SymbolPart (id 1) })
+    ≡ Some (SymbolConflict key (id 1))
 unfolding fact_at
 joined-conflict = refl
 
 -- A header that is none.
 
-header-whole : (header_fault (header ++ end_bytes 0) ≡ None) × (header_fault (header_in One ++ end_bytes 0) ≡ None)
+header-whole : (header_fault (header ++ end_bytes 0) ≡ None)
+    × (header_fault (header_in One ++ end_bytes 0) ≡ None)
 header-whole = (refl, refl)
 
-header-told : (version_in (header ++ end_bytes 0) ≡ Two) × (version_in (header_in One ++ end_bytes 0) ≡ One)
+header-told :
+    (version_in (header ++ end_bytes 0) ≡ Two) × (version_in (header_in One ++ end_bytes 0) ≡ One)
 header-told = (refl, refl)
 
 header-magic : header_fault (0x47 ∷ 0x4C ∷ 0x4A ∷ 0x4E ∷ 0 ∷ 1 ∷ []) ≡ Some faults.Magic
@@ -153,7 +164,8 @@ header-magic = refl
 header-version : header_fault (0x46 ∷ 0x4C ∷ 0x4A ∷ 0x4E ∷ 0 ∷ 3 ∷ []) ≡ Some faults.Version
 header-version = refl
 
-header-cut : (header_fault (0x46 ∷ 0x4C ∷ []) ≡ Some faults.Cut) × (header_fault (0x46 ∷ 0x4C ∷ 0x4A ∷ 0x4E ∷ 9 ∷ []) ≡ Some faults.Cut)
+header-cut : (header_fault (0x46 ∷ 0x4C ∷ []) ≡ Some faults.Cut)
+    × (header_fault (0x46 ∷ 0x4C ∷ 0x4A ∷ 0x4E ∷ 9 ∷ []) ≡ Some faults.Cut)
 header-cut = (refl, refl)
 
 -- What may stand behind entries.
@@ -172,30 +184,39 @@ goes-on-two = (refl, refl)
 
 -- a session of a higher sender stands behind, whatever its identifier is
 senders-first :
-    (fault_in_two (InfoConflict other_key ∷ []) (2 ∷ replicate 16 0 ++ 0 ∷ 0 ∷ 0 ∷ 0 ∷ 0 ∷ 8 ∷ 1 ∷ replicate 13 0 ++ 1 ∷ []) ≡ Some faults.Order)
-    × (fault_in_two (InfoConflict other_key ∷ []) (2 ∷ replicate 16 0xFF ++ 0 ∷ 0 ∷ 0 ∷ 0 ∷ 0 ∷ 6 ∷ 1 ∷ replicate 13 0 ++ 1 ∷ []) ≡ None)
+    (fault_in_two (InfoConflict other_key ∷ [])
+    (2 ∷ replicate 16 0 ++ 0 ∷ 0 ∷ 0 ∷ 0 ∷ 0 ∷ 8 ∷ 1 ∷ replicate 13 0 ++ 1 ∷ [])
+    ≡ Some faults.Order)
+    × (fault_in_two (InfoConflict other_key ∷ [])
+    (2 ∷ replicate 16 0xFF ++ 0 ∷ 0 ∷ 0 ∷ 0 ∷ 0 ∷ 6 ∷ 1 ∷ replicate 13 0 ++ 1 ∷ [])
+    ≡ None)
 unfolding sender_size
 senders-first = (refl, refl)
 
 -- an input that ends within the sender, or within the name behind it
-cut-in-sender : (fault_in_two [] (2 ∷ replicate 15 0) ≡ Some faults.Cut) × (fault_in_two [] (2 ∷ k) ≡ Some faults.Cut)
+cut-in-sender : (fault_in_two [] (2 ∷ replicate 15 0) ≡ Some faults.Cut)
+    × (fault_in_two [] (2 ∷ k) ≡ Some faults.Cut)
 unfolding sender_size
 cut-in-sender = (refl, refl)
 
-goes-on : (fault_behind [] (1 ∷ k ++ info_rest ++ 3 ∷ k) ≡ None) × (fault_behind (info ∷ []) (3 ∷ k ++ hell_rest ++ 3 ∷ []) ≡ None)
+goes-on : (fault_behind [] (1 ∷ k ++ info_rest ++ 3 ∷ k) ≡ None)
+    × (fault_behind (info ∷ []) (3 ∷ k ++ hell_rest ++ 3 ∷ []) ≡ None)
     × (fault_behind (info ∷ hell ∷ letter_o ∷ []) (end_bytes 3) ≡ None)
 unfolding sender_size
 goes-on = (refl, refl, refl)
 
 -- two entries that are swapped, or one that stands twice
-out-of-order : (fault_behind (info ∷ letter_o ∷ []) (3 ∷ k ++ hell_rest ++ end_bytes 3) ≡ Some faults.Order)
-    × (fault_behind (info ∷ hell ∷ letter_o ∷ []) (3 ∷ k ++ letter_o_rest ++ end_bytes 4) ≡ Some faults.Order)
+out-of-order :
+    (fault_behind (info ∷ letter_o ∷ []) (3 ∷ k ++ hell_rest ++ end_bytes 3) ≡ Some faults.Order)
+    × (fault_behind (info ∷ hell ∷ letter_o ∷ []) (3 ∷ k ++ letter_o_rest ++ end_bytes 4)
+    ≡ Some faults.Order)
 unfolding sender_size
 out-of-order = (refl, refl)
 
 -- information behind information of one object: told before it is looked at
 second-information : (fault_behind (info ∷ []) (2 ∷ k ++ end_bytes 2) ≡ Some faults.Order)
-    × (fault_behind (info ∷ []) (1 ∷ k ++ 0 ∷ 0 ∷ 0 ∷ 0 ∷ 0 ∷ 5 ∷ 0 ∷ 4 ∷ 0 ∷ 0 ∷ 0 ∷ 0 ∷ []) ≡ Some faults.Order)
+    × (fault_behind (info ∷ []) (1 ∷ k ++ 0 ∷ 0 ∷ 0 ∷ 0 ∷ 0 ∷ 5 ∷ 0 ∷ 4 ∷ 0 ∷ 0 ∷ 0 ∷ 0 ∷ [])
+    ≡ Some faults.Order)
 unfolding sender_size
 second-information = (refl, refl)
 
@@ -203,19 +224,25 @@ end-count : fault_behind (info ∷ hell ∷ letter_o ∷ []) (end_bytes 4) ≡ S
 unfolding sender_size
 end-count = refl
 
-end-trailing : fault_behind (info ∷ hell ∷ letter_o ∷ []) (end_bytes 3 ++ 0 ∷ []) ≡ Some faults.Trailing
+end-trailing : fault_behind (info ∷ hell ∷ letter_o ∷ []) (end_bytes 3 ++ 0 ∷ [])
+    ≡ Some faults.Trailing
 unfolding sender_size
 end-trailing = refl
 
 -- a kind that is none is told before the bound is looked at
-no-kind : (fault_behind [] (5 ∷ k ++ info_rest) ≡ Some faults.Kind) × (next_fault (before One []) 0 (5 ∷ []) ≡ Some faults.Kind)
+no-kind : (fault_behind [] (5 ∷ k ++ info_rest) ≡ Some faults.Kind)
+    × (next_fault (before One []) 0 (5 ∷ []) ≡ Some faults.Kind)
 unfolding sender_size
 no-kind = (refl, refl)
 
 -- a tag that is none, a file 0, and an FDT Instance of more than 20 bits; but a file of 112 bits
-no-key : (fault_behind [] (1 ∷ 0 ∷ 0 ∷ 0 ∷ 0 ∷ 0 ∷ 7 ∷ 2 ∷ replicate 13 0 ++ 1 ∷ info_rest) ≡ Some faults.Key)
-    × (fault_behind [] (1 ∷ 0 ∷ 0 ∷ 0 ∷ 0 ∷ 0 ∷ 7 ∷ 1 ∷ replicate 14 0 ++ info_rest) ≡ Some faults.Key)
-    × (fault_behind [] (2 ∷ 0 ∷ 0 ∷ 0 ∷ 0 ∷ 0 ∷ 7 ∷ 0 ∷ replicate 11 0 ++ 0x10 ∷ 0 ∷ 0 ∷ []) ≡ Some faults.Key)
+no-key :
+    (fault_behind [] (1 ∷ 0 ∷ 0 ∷ 0 ∷ 0 ∷ 0 ∷ 7 ∷ 2 ∷ replicate 13 0 ++ 1 ∷ info_rest)
+    ≡ Some faults.Key)
+    × (fault_behind [] (1 ∷ 0 ∷ 0 ∷ 0 ∷ 0 ∷ 0 ∷ 7 ∷ 1 ∷ replicate 14 0 ++ info_rest)
+    ≡ Some faults.Key)
+    × (fault_behind [] (2 ∷ 0 ∷ 0 ∷ 0 ∷ 0 ∷ 0 ∷ 7 ∷ 0 ∷ replicate 11 0 ++ 0x10 ∷ 0 ∷ 0 ∷ [])
+    ≡ Some faults.Key)
 unfolding sender_size
 no-key = (refl, refl, refl)
 
@@ -223,25 +250,32 @@ greatest-key : fault_behind [] (2 ∷ 0 ∷ 0 ∷ 0 ∷ 0 ∷ 0 ∷ 7 ∷ 1 ∷ 
 unfolding sender_size
 greatest-key = refl
 
-no-information : fault_behind [] (1 ∷ k ++ 0 ∷ 0 ∷ 0 ∷ 0 ∷ 0 ∷ 5 ∷ 0 ∷ 0 ∷ 0 ∷ 0 ∷ 0 ∷ 2 ∷ []) ≡ Some (faults.Information SymbolLength)
+no-information : fault_behind [] (1 ∷ k ++ 0 ∷ 0 ∷ 0 ∷ 0 ∷ 0 ∷ 5 ∷ 0 ∷ 0 ∷ 0 ∷ 0 ∷ 0 ∷ 2 ∷ [])
+    ≡ Some (faults.Information SymbolLength)
 unfolding sender_size
 no-information = refl
 
-no-symbol : fault_behind (info ∷ hell ∷ []) (3 ∷ k ++ 0 ∷ 0 ∷ 0 ∷ 1 ∷ 0 ∷ 0 ∷ 0x6F ∷ end_bytes 3) ≡ Some faults.EmptySymbol
+no-symbol : fault_behind (info ∷ hell ∷ []) (3 ∷ k ++ 0 ∷ 0 ∷ 0 ∷ 1 ∷ 0 ∷ 0 ∷ 0x6F ∷ end_bytes 3)
+    ≡ Some faults.EmptySymbol
 unfolding sender_size
 no-symbol = refl
 
 -- the bound is that of the entries, not of the end
-too-many : (next_fault (before One (info ∷ hell ∷ [])) 2 (3 ∷ k ++ letter_o_rest) ≡ Some faults.TooMany)
+too-many :
+    (next_fault (before One (info ∷ hell ∷ [])) 2 (3 ∷ k ++ letter_o_rest) ≡ Some faults.TooMany)
     × (next_fault (before One []) 0 (1 ∷ k ++ info_rest) ≡ Some faults.TooMany)
     × (next_fault (before One []) 0 (end_bytes 0) ≡ None)
     × (next_fault (before One (info ∷ hell ∷ letter_o ∷ [])) 3 (end_bytes 3) ≡ None)
 unfolding sender_size
 too-many = (refl, refl, refl, refl)
 
--- an input that ends before an entry, behind its kind, within its key, within its rest, or within the end
-cut-short : (fault_behind (info ∷ []) [] ≡ Some faults.Cut) × (fault_behind (info ∷ []) (3 ∷ []) ≡ Some faults.Cut) × (fault_behind (info ∷ []) (3 ∷ 0 ∷ 0 ∷ []) ≡ Some faults.Cut)
-    × (fault_behind [] (1 ∷ k ++ 0 ∷ []) ≡ Some faults.Cut) × (fault_behind [] (3 ∷ k ++ 0 ∷ 0 ∷ 0 ∷ 0 ∷ 0xFF ∷ 0xFF ∷ 0x61 ∷ []) ≡ Some faults.Cut)
+-- an input that ends before an entry, behind its kind, within its key, within its rest,
+-- or within the end
+cut-short : (fault_behind (info ∷ []) [] ≡ Some faults.Cut)
+    × (fault_behind (info ∷ []) (3 ∷ []) ≡ Some faults.Cut)
+    × (fault_behind (info ∷ []) (3 ∷ 0 ∷ 0 ∷ []) ≡ Some faults.Cut)
+    × (fault_behind [] (1 ∷ k ++ 0 ∷ []) ≡ Some faults.Cut)
+    × (fault_behind [] (3 ∷ k ++ 0 ∷ 0 ∷ 0 ∷ 0 ∷ 0xFF ∷ 0xFF ∷ 0x61 ∷ []) ≡ Some faults.Cut)
     × (fault_behind [] (0xFF ∷ 0 ∷ 0 ∷ []) ≡ Some faults.Cut)
 unfolding sender_size
 cut-short = (refl, refl, refl, refl, refl, refl)

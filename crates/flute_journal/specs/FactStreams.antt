@@ -6,4 +6,6 @@ use Rattle.flute_journal.specs.Streams.{Behaviour, option_list}
 use Rattle.flute_journal.specs.Listed.{listed_behaviour}
 
 abbrev pub fact_behaviour : Behaviour FactStream
-fact_behaviour = listed_behaviour (λ s. s.held) (λ s. option_list s.next) (λ s. AllByRecursion IsSized (option_list s.next))
+fact_behaviour =
+    listed_behaviour (λ s. s.held) (λ s. option_list s.next)
+    (λ s. AllByRecursion IsSized (option_list s.next))

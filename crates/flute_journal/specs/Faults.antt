@@ -32,7 +32,8 @@ first_fault (check ∷ checks) = if check.0 then Some check.1 else first_fault c
 abbrev pub cut : ℕ → List ℕ → Check
 cut n bytes = (nat_lt (length bytes) n, faults.Cut)
 
--- of a file that begins with a magic number of four bytes, and a version of two bytes that the test knows
+-- of a file that begins with a magic number of four bytes, and a version of two bytes
+-- that the test knows
 abbrev pub version_fault : List ℕ → (List ℕ → Bool) → List ℕ → Option ReadFault
 version_fault magic is_known bytes = first_fault (
     cut 4 bytes
@@ -43,7 +44,8 @@ version_fault magic is_known bytes = first_fault (
 
 -- of a file that begins with these six bytes
 abbrev pub opening_fault : List ℕ → List ℕ → Option ReadFault
-opening_fault opening bytes = version_fault (take 4 opening) (λ version. bytes_eq version (take 2 (drop 4 opening))) bytes
+opening_fault opening bytes =
+    version_fault (take 4 opening) (λ version. bytes_eq version (take 2 (drop 4 opening))) bytes
 
 -- whether two bytes tell a version of journals
 abbrev pub is_version : List ℕ → Bool
@@ -63,12 +65,17 @@ object_in tag n = if tag == 0 then Instance n else File n
 
 -- an object of this sender
 abbrev pub named_in : ℕ → List ℕ → Key
-named_in sender bytes = record { session = session sender (number_at 0 6 bytes); object = object_in (number_at 6 1 bytes) (number_at 7 14 bytes) }
+named_in sender bytes = record {
+  session = session sender (number_at 0 6 bytes);
+  object = object_in (number_at 6 1 bytes) (number_at 7 14 bytes);
+}
 
 abbrev pub key_in : Version → List ℕ → Key
-key_in version bytes = named_in (number_at 0 (sender_size version) bytes) (drop (sender_size version) bytes)
+key_in version bytes =
+    named_in (number_at 0 (sender_size version) bytes) (drop (sender_size version) bytes)
 
--- an FDT Instance ID has 20 bits (RFC 6726, 3.4.1), and a Transport Object Identifier at most 112, not all zero (RFC 5651, 5.1)
+-- an FDT Instance ID has 20 bits (RFC 6726, 3.4.1), and a Transport Object Identifier at most 112,
+-- not all zero (RFC 5651, 5.1)
 abbrev pub is_object : ℕ → ℕ → Bool
 is_object tag n = (tag == 0) && nat_lt n (2 ^ 20) || ((tag == 1) && nat_lt 0 n)
 
@@ -89,7 +96,8 @@ id_in bytes = record { sbn = number_at 0 2 bytes; esi = number_at 2 2 bytes }
 abbrev pub info_in : List ℕ → Information
 info_in bytes = information (number_at 0 6 bytes) (number_at 6 2 bytes) (number_at 8 4 bytes)
 
--- what stands before an entry: the version of the journal, how many entries, and the address of the last
+-- what stands before an entry: the version of the journal, how many entries,
+-- and the address of the last
 pub record Before : Type 0 where
   pub version : Version
   pub count : ℕ
@@ -139,9 +147,9 @@ rest_checks last kind key rest =
 -- behind the kind of an entry within the bound
 abbrev pub body_checks : Version → Option Address → ℕ → List ℕ → List Check
 body_checks version last kind rest =
-    cut (key_size version) rest
-    ∷ (not (is_key version (take (key_size version) rest)), faults.Key)
-    ∷ rest_checks last kind (key_in version (take (key_size version) rest)) (drop (key_size version) rest)
+    cut (key_size version) rest ∷ (not (is_key version (take (key_size version) rest)), faults.Key)
+    ∷ rest_checks last kind (key_in version (take (key_size version) rest))
+    (drop (key_size version) rest)
 
 -- behind a kind of 1 to 4
 abbrev pub entry_checks : Before → ℕ → ℕ → List ℕ → List Check

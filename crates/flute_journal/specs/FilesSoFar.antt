@@ -17,7 +17,8 @@ file_read_of [] = []
 file_read_of (d ∷ ds) = file_header ++ flat_map record_of (d ∷ ds)
 
 -- these records were read, and nothing else
-pub record FileSofar (limit : ℕ) (first now : Option (List ℕ)) (state : FileState) (datagrams : List (List ℕ)) : Type 0 where
+pub record FileSofar (limit : ℕ) (first now : Option (List ℕ)) (state : FileState)
+    (datagrams : List (List ℕ)) : Type 0 where
   pub are_datagrams : AreDatagrams limit datagrams
   pub state_is : state ≡ file_stage_at datagrams
   pub read : Consumes first now (file_read_of datagrams)

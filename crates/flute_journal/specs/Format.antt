@@ -28,7 +28,8 @@ version_bytes version = 0 ∷ version_number version ∷ []
 abbrev pub header_in : Version → List ℕ
 header_in version = magic ++ version_bytes version
 
--- how many bytes of an entry name its sender: none, where each sender is 0, or those of an IPv6 address
+-- how many bytes of an entry name its sender: none, where each sender is 0, or those
+-- of an IPv6 address
 unfoldable pub sender_size : Version → ℕ
 sender_size One = 0
 sender_size Two = 16
@@ -41,7 +42,8 @@ abbrev pub object_bytes : ObjectName → List ℕ
 object_bytes (Instance n) = 0 ∷ in_bytes 14 n
 object_bytes (File n) = 1 ∷ in_bytes 14 n
 
--- what names an object of a sender: a Transport Session Identifier of at most 48 bits (RFC 5651, 5.1), and the object
+-- what names an object of a sender: a Transport Session Identifier of at most 48 bits
+-- (RFC 5651, 5.1), and the object
 abbrev pub name_bytes : Key → List ℕ
 name_bytes key = in_bytes 6 key.session.tsi ++ object_bytes key.object
 
@@ -54,7 +56,8 @@ id_bytes id = in_bytes 2 id.sbn ++ in_bytes 2 id.esi
 
 -- the transfer length, the encoding symbol length and the maximum source block length
 abbrev pub info_bytes : Information → List ℕ
-info_bytes i = in_bytes 6 i.transfer_length ++ in_bytes 2 i.symbol_length ++ in_bytes 4 i.max_block_length
+info_bytes i =
+    in_bytes 6 i.transfer_length ++ in_bytes 2 i.symbol_length ++ in_bytes 4 i.max_block_length
 
 -- the number of the bytes of a symbol, and then they
 abbrev pub counted_bytes : List ℕ → List ℕ

@@ -20,7 +20,8 @@ failure true = 1
 failure false = 0
 
 -- these bytes were read: n of them, or fewer at the end of the input, or where the source failed
-pub record ReadsUpTo (old new : Option (List ℕ)) (n : ℕ) (failed : Bool) (bytes : List ℕ) : Type 0 where
+pub record ReadsUpTo (old new : Option (List ℕ)) (n : ℕ) (failed : Bool)
+    (bytes : List ℕ) : Type 0 where
   pub read : Consumes old new bytes
   pub most : length bytes ≤ n
   pub fewer : length bytes < n → failed ≡ false → IsAtEnd new
@@ -42,8 +43,9 @@ or_failed false result = result
 or_failed true (Ok x) = Err faults.Read
 or_failed true (Err f) = Err (left_by f)
 
--- How often the source failed in a call that gave this: once at `Read`; never where a value was given, the input ended or
--- memory ran out; and at most once where the bytes before it have another fault.
+-- How often the source failed in a call that gave this: once at `Read`; never where a value
+-- was given, the input ended or memory ran out; and at most once where the bytes before
+-- it have another fault.
 abbrev pub Fails : {T : Type 0} → ℕ → ℕ → Result T ReadFault → Type 0
 Fails old new (Ok x) = new ≡ old
 Fails old new (Err faults.Read) = new ≡ old + 1
@@ -55,27 +57,36 @@ Fails old new (Err f) = (new ≡ old) ⊎ (new ≡ old + 1)
 abbrev pub FailsIf : {T : Type 0} → Bool → ℕ → ℕ → Result T ReadFault → Type 0
 FailsIf reads old new result = MatchBool reads (Fails old new result) (new ≡ old)
 
--- It is the first fault of the bytes that were left. A source may fail, and memory run out, at any field: the bytes
--- that were read until then have no fault but that they end too early.
-abbrev pub IsFaultOf : (List ℕ → Option ReadFault) → Option (List ℕ) → Option (List ℕ) → ReadFault → Type 0
-IsFaultOf fault old new faults.Read = (part : List ℕ) × Consumes old new part × (fault part ≡ Some faults.Cut)
-IsFaultOf fault old new faults.OutOfMemory = (part : List ℕ) × Consumes old new part × IfSome (fault part) (λ f. f ≡ faults.Cut)
+-- It is the first fault of the bytes that were left. A source may fail, and memory run out,
+-- at any field: the bytes that were read until then have no fault but that they end too early.
+abbrev pub IsFaultOf : (List ℕ → Option ReadFault) → Option (List ℕ) → Option (List ℕ) → ReadFault
+    → Type 0
+IsFaultOf fault old new faults.Read =
+    (part : List ℕ) × Consumes old new part × (fault part ≡ Some faults.Cut)
+IsFaultOf fault old new faults.OutOfMemory =
+    (part : List ℕ) × Consumes old new part × IfSome (fault part) (λ f. f ≡ faults.Cut)
 IsFaultOf fault old new f = IfSome old (λ bytes. fault bytes ≡ Some f)
 
 -- the same where the source may also fail behind these bytes, which nothing may follow
-abbrev pub IsFaultUpTo : List ℕ → (List ℕ → Option ReadFault) → Option (List ℕ) → Option (List ℕ) → ReadFault → Type 0
-IsFaultUpTo whole fault old new faults.Read = IsFaultOf fault old new faults.Read ⊎ Consumes old new whole
+abbrev pub IsFaultUpTo : List ℕ → (List ℕ → Option ReadFault) → Option (List ℕ) → Option (List ℕ)
+    → ReadFault → Type 0
+IsFaultUpTo whole fault old new faults.Read =
+    IsFaultOf fault old new faults.Read ⊎ Consumes old new whole
 IsFaultUpTo whole fault old new f = IsFaultOf fault old new f
 
 -- a value was read, as it is spelled and no byte more; or the bytes have a fault
-abbrev pub Reads : {T : Type 0} → (T → List ℕ) → (T → Type 0) → (List ℕ → Option ReadFault) → Option (List ℕ) → Option (List ℕ) → Result T ReadFault → Type 0
+abbrev pub Reads : {T : Type 0} → (T → List ℕ) → (T → Type 0) → (List ℕ → Option ReadFault)
+    → Option (List ℕ) → Option (List ℕ) → Result T ReadFault → Type 0
 Reads spelling IsValid fault old new result =
     MatchResult result (λ x. IsValid x × Consumes old new (spelling x)) (IsFaultOf fault old new)
 
 -- the bytes hold nothing behind a whole value
 abbrev pub IsWithin : {T : Type 0} → (T → List ℕ) → (T → Type 0) → List ℕ → Type 0
-IsWithin {T} spelling IsValid bytes = (x : T) (more : List ℕ) → IsValid x → bytes ≡ spelling x ++ more → more ≡ []
+IsWithin {T} spelling IsValid bytes =
+    (x : T) (more : List ℕ) → IsValid x → bytes ≡ spelling x ++ more → more ≡ []
 
 -- where it failed, no byte behind a whole value was read
-abbrev pub StaysWithin : {T X : Type 0} → (T → List ℕ) → (T → Type 0) → Option (List ℕ) → Option (List ℕ) → Result X ReadFault → Type 0
-StaysWithin spelling IsValid old new result = OnErr result ((part : List ℕ) × Consumes old new part × IsWithin spelling IsValid part)
+abbrev pub StaysWithin : {T X : Type 0} → (T → List ℕ) → (T → Type 0) → Option (List ℕ)
+    → Option (List ℕ) → Result X ReadFault → Type 0
+StaysWithin spelling IsValid old new result =
+    OnErr result ((part : List ℕ) × Consumes old new part × IsWithin spelling IsValid part)

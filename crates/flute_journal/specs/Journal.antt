@@ -56,7 +56,8 @@ IsKeyIn version key = IsKey key × HasRoom version key.session
 abbrev pub IsFactIn : Version → Fact → Type 0
 IsFactIn version f = IsFact f × HasRoom version (fact_key f).session
 
--- the entries of a journal of these facts: one for each address, in rising order, with what the facts come to there
+-- the entries of a journal of these facts: one for each address, in rising order, with what
+-- the facts come to there
 pub record Collects (facts entries : List Fact) : Type 0 where
   pub valid : AllByRecursion IsFact entries
   pub rising : IsRising entries
@@ -64,7 +65,9 @@ pub record Collects (facts entries : List Fact) : Type 0 where
 
 -- the bytes are the journal of these facts, as it is written
 abbrev pub Journal : List ℕ → List Fact → Type 0
-Journal bytes facts = (entries : List Fact) × Collects facts entries × (length entries < 2 ^ 64) × (bytes ≡ spelling entries)
+Journal bytes facts =
+    (entries : List Fact) × Collects facts entries × (length entries < 2 ^ 64)
+    × (bytes ≡ spelling entries)
 
 -- the bytes are the journal of these facts in version 1: each sender is 0
 abbrev pub OldJournal : List ℕ → List Fact → Type 0
@@ -98,10 +101,12 @@ last_of last (f ∷ fs) = last_of (Some (address f)) fs
 
 -- what stands behind these entries has them before it
 abbrev pub before : Version → List Fact → Before
-before version entries = record { version = version; count = length entries; last = last_of None entries }
+before version entries =
+    record { version = version; count = length entries; last = last_of None entries }
 
 -- whole entries stand behind the header, and then bytes at fault
-pub record StopsBehind (bytes : List ℕ) (limit : ℕ) (entries : List Fact) (fault : ReadFault) : Type 0 where
+pub record StopsBehind (bytes : List ℕ) (limit : ℕ) (entries : List Fact)
+    (fault : ReadFault) : Type 0 where
   pub are_entries : AreEntries limit entries
   pub rest : List ℕ
   pub whole : bytes ≡ front_in are_entries.version entries ++ rest

@@ -28,10 +28,12 @@ pub record ReadWhole (limit : ℕ) (first now : Option (List ℕ)) (entries : Li
   pub read : ReadsBehind first now entries
 
 -- by where its reader stands: these entries were given, and one more is held
-abbrev pub ReadAt : ℕ → Option (List ℕ) → Option (List ℕ) → ReaderState → List Fact → Option Fact → Type 0
+abbrev pub ReadAt : ℕ → Option (List ℕ) → Option (List ℕ) → ReaderState → List Fact → Option Fact
+    → Type 0
 ReadAt limit first now Ended entries held = ReadWhole limit first now entries × (held ≡ None)
 ReadAt limit first now (Failed fault) entries held = ⊥
-ReadAt limit first now state entries held = Sofar limit first now state (entries ++ option_list held)
+ReadAt limit first now state entries held =
+    Sofar limit first now state (entries ++ option_list held)
 
 -- as many entries as may still be read
 abbrev pub room : ℕ → ReaderState → ℕ
@@ -66,13 +68,16 @@ module _ {R : Type 0} (unread : R → Option (List ℕ)) (failures : R → ℕ) 
   -- it is read of the same source, which failed since as the fault tells
   pub record FailsSince (start now : JournalStream R) (fault : Option LoadFault) : Type 0 where
     pub same_source : (source_of now.reader).ghost_name ≡ (source_of start.reader).ghost_name
-    pub failed_as : FailsBy (failures (source_of start.reader).now) (failures (source_of now.reader).now) fault
+    pub failed_as :
+        FailsBy (failures (source_of start.reader).now) (failures (source_of now.reader).now) fault
 
   -- since it was new, these entries were given
   pub record PassesSince (start now : JournalStream R) (entries : List Fact) : Type 0 where
     pub fails : FailsSince start now None
     pub same_limit : limit_of now.reader ≡ limit_of start.reader
-    pub read : ReadAt (limit_of start.reader) (unread_of start) (unread_of now) (state_of now.reader) entries now.held
+    pub read :
+        ReadAt (limit_of start.reader) (unread_of start) (unread_of now) (state_of now.reader)
+        entries now.held
 
   abbrev pub journal_behaviour : Behaviour (JournalStream R)
   journal_behaviour = record {

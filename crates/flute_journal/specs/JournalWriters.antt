@@ -21,7 +21,9 @@ times_failed true = 1
 times_failed false = 0
 
 -- a writer wrote these bytes to its sink, as far as that took them
-pub record Puts {W : Type 0} (written : W → Option (List ℕ)) (failures : W → ℕ) (bytes : List ℕ) (old new : JournalWriter W) : Type 0 where
+pub record Puts {W : Type 0} (written : W → Option (List ℕ)) (failures : W → ℕ) (bytes : List ℕ)
+    (old new : JournalWriter W) : Type 0 where
   pub same_sink : new.sink.ghost_name ≡ old.sink.ghost_name
   pub puts : PutsBytes old.failed new.failed (written old.sink.now) (written new.sink.now) bytes
-  pub fails : failures new.sink.now + times_failed old.failed ≡ failures old.sink.now + times_failed new.failed
+  pub fails : failures new.sink.now + times_failed old.failed
+      ≡ failures old.sink.now + times_failed new.failed

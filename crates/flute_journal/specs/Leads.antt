@@ -22,16 +22,19 @@ NoneBefore None (Some f) = ⊥
 NoneBefore (Some a) (Some f) = IsNotBefore a f
 
 module _ {S : Type 0} (b : Behaviour S) where
-  -- the stream with that number holds a fact below `next`, and no other one holds a fact before that
+  -- the stream with that number holds a fact below `next`, and no other one holds
+  -- a fact before that
   pub record Leads (streams : List S) (number : ℕ) (next : Option Address) : Type 0 where
     pub stream : S
     pub is : slice_get streams number ≡ Some stream
     pub below : IsBelowNext (b.held stream) next
-    pub others : (k : ℕ) (s : S) → slice_get streams k ≡ Some s → k ≢ number → NoneBefore next (b.held s)
+    pub others : (k : ℕ) (s : S) → slice_get streams k ≡ Some s → k ≢ number
+        → NoneBefore next (b.held s)
 
   -- the stream that leads stands at that place
   abbrev pub StandsAt : Option Address → List S → ℕ → Type 0
-  StandsAt place streams number = (s : S) → slice_get streams number ≡ Some s → place_of (b.held s) ≡ place
+  StandsAt place streams number =
+      (s : S) → slice_get streams number ≡ Some s → place_of (b.held s) ≡ place
 
 -- the lower of two addresses, of which there may be one only
 abbrev pub lower_of : Option Address → Address → Address

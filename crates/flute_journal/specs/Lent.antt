@@ -12,8 +12,10 @@ use Rattle.flute_journal.specs.Faults.{is_after}
 use Rattle.flute_journal.specs.Journal.{IsFactIn}
 use Rattle.flute_journal.specs.Records.{IsDatagram, record_of}
 
--- the bytes begin with the entry of this fact, which has so many bytes and stands in order behind the last
-pub record BeginsWithEntry (version : Version) (last : Option Address) (bytes : List ℕ) (f : Fact) (size : ℕ) : Type 0 where
+-- the bytes begin with the entry of this fact, which has so many bytes and stands
+-- in order behind the last
+pub record BeginsWithEntry (version : Version) (last : Option Address) (bytes : List ℕ) (f : Fact)
+    (size : ℕ) : Type 0 where
   pub valid : IsFactIn version f
   pub in_order : IsTrue (is_after last (address f))
   pub within : size ≤ length bytes

@@ -11,7 +11,8 @@ use Rattle.flute_journal.specs.Input.{Fails, IsWithin}
 use Rattle.flute_journal.specs.Journal.{IsFactIn, Collects, Journal, IsJournal, IsJournalWithin}
 use Rattle.flute_journal.specs.Whole.{HasFault}
 
--- both inputs are journals of at most so many entries, and the journal of both was appended, which has n entries
+-- both inputs are journals of at most so many entries, and the journal of both was appended,
+-- which has n entries
 pub record Merged (limit n : ℕ) (first second old new : Option (List ℕ)) : Type 0 where
   pub first_entries : List Fact
   pub second_entries : List Fact
@@ -27,7 +28,8 @@ pub record Merged (limit n : ℕ) (first second old new : Option (List ℕ)) : T
 abbrev pub IsProperPrefix : List ℕ → List ℕ → Type 0
 IsProperPrefix bytes whole = (more : List ℕ) × (more ≢ []) × (bytes ++ more ≡ whole)
 
--- what was appended is no journal of any version, and where both inputs are, it is a first part of the journal of both
+-- what was appended is no journal of any version, and where both inputs are, it is a first part
+-- of the journal of both
 pub record StopsShort (first second old new : Option (List ℕ)) : Type 0 where
   pub bytes : List ℕ
   pub appended : Appends old new bytes
@@ -40,12 +42,14 @@ abbrev pub written_up_to : List Fact → List ℕ
 written_up_to [] = []
 written_up_to (f ∷ fs) = front (f ∷ fs)
 
--- The bytes begin with what is written up to these entries, and are no more than that where an input was at fault.
+-- The bytes begin with what is written up to these entries, and are no more than that where
+-- an input was at fault.
 abbrev pub AppendedUpTo : MergeFault → List ℕ → List Fact → Type 0
 AppendedUpTo Write bytes entries = (rest : List ℕ) × (bytes ≡ written_up_to entries ++ rest)
 AppendedUpTo fault bytes entries = bytes ≡ written_up_to entries
 
--- the bytes are no more than a header's, or these whole entries and then no byte behind one entry more
+-- the bytes are no more than a header's, or these whole entries and then no byte
+-- behind one entry more
 pub data EndsBehind (version : Version) (entries : List Fact) (bytes : List ℕ) : Type 0 where
   in_header : entries ≡ [] → length bytes ≤ length header → EndsBehind version entries bytes
   behind : (part : List ℕ) → bytes ≡ front_in version entries ++ part
@@ -59,9 +63,10 @@ pub record ReadsBehind (input left : Option (List ℕ)) (entries : List Fact) : 
   pub read : Consumes input left bytes
   pub ends : EndsBehind version entries bytes
 
--- What was read, and what was appended: whole entries of both inputs and at most one more of each, and all that the
--- whole entries come to.
-pub record KeepsUp (first first_left second second_left old new : Option (List ℕ)) (fault : MergeFault) : Type 0 where
+-- What was read, and what was appended: whole entries of both inputs and at most one more of each,
+-- and all that the whole entries come to.
+pub record KeepsUp (first first_left second second_left old new : Option (List ℕ))
+    (fault : MergeFault) : Type 0 where
   pub first_entries : List Fact
   pub second_entries : List Fact
   pub first_read : ReadsBehind first first_left first_entries
@@ -92,12 +97,16 @@ sink_failed (Err Write) = 1
 sink_failed _ = 0
 
 -- what holds of a merge that has stopped
-pub record Stopped (limit : ℕ) (first first_left second second_left old new : Option (List ℕ)) (fault : MergeFault) : Type 0 where
+pub record Stopped (limit : ℕ) (first first_left second second_left old new : Option (List ℕ))
+    (fault : MergeFault) : Type 0 where
   pub short : StopsShort first second old new
   pub keeps_up : KeepsUp first first_left second second_left old new fault
   pub names : NamesFault limit first second fault
 
 -- and of one that came to an end or has stopped
-abbrev pub MergeGives : ℕ → Option (List ℕ) → Option (List ℕ) → Option (List ℕ) → Option (List ℕ) → Option (List ℕ) → Option (List ℕ) → Result ℕ MergeFault → Type 0
-MergeGives limit first first_left second second_left old new (Ok n) = Merged limit n first second old new
-MergeGives limit first first_left second second_left old new (Err f) = Stopped limit first first_left second second_left old new f
+abbrev pub MergeGives : ℕ → Option (List ℕ) → Option (List ℕ) → Option (List ℕ) → Option (List ℕ)
+    → Option (List ℕ) → Option (List ℕ) → Result ℕ MergeFault → Type 0
+MergeGives limit first first_left second second_left old new (Ok n) =
+    Merged limit n first second old new
+MergeGives limit first first_left second second_left old new (Err f) =
+    Stopped limit first first_left second second_left old new f

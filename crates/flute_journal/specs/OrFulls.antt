@@ -21,7 +21,8 @@ module _ {S : Type 0} (b : Behaviour S) where
   of_either P Q Full x = Q x
 
   -- what holds of two states
-  abbrev pub of_both : {X : Type 0} → (S → S → X → Type 0) → (X → Type 0) → OrFull S → OrFull S → X → Type 0
+  abbrev pub of_both : {X : Type 0} → (S → S → X → Type 0) → (X → Type 0) → OrFull S → OrFull S → X
+      → Type 0
   of_both P Q (Stream s) (Stream t) x = P s t x
   of_both P Q Full Full x = Q x
   of_both P Q _ _ x = ⊥

@@ -1,4 +1,5 @@
--- A journal that is read as a stream, with its source: what is said of one whose source is lent, but for the reference to it.
+-- A journal that is read as a stream, with its source: what is said of one whose source is lent,
+-- but for the reference to it.
 use Rattle.std.specs.Prelude.{◌≡◌, ℕ, ◌+◌, List, length, Option, None, IfSome}
 use Rattle.flute_parts.specs.declared.fact.Fact.{Fact}
 use Rattle.flute_journal.specs.declared.owned_journal_stream.OwnedJournalStream.{OwnedJournalStream}
@@ -27,7 +28,9 @@ module _ {R : Type 0} (unread : R → Option (List ℕ)) (failures : R → ℕ) 
   pub record OwnedPasses (start now : OwnedJournalStream R) (entries : List Fact) : Type 0 where
     pub fails : FailsBy (failures start.source) (failures now.source) None
     pub same_limit : now.max_entries ≡ start.max_entries
-    pub read : ReadAt start.max_entries (unread start.source) (unread now.source) now.state entries now.held
+    pub read :
+        ReadAt start.max_entries (unread start.source) (unread now.source) now.state entries
+        now.held
 
   abbrev pub owned_behaviour : Behaviour (OwnedJournalStream R)
   owned_behaviour = record {

@@ -60,7 +60,8 @@ abbrev pub IsBody : Version → Kind → Fact → Type 0
 IsBody version k f = (kind f ≡ byte_of k) × IsFactIn version f
 
 -- a symbol in order that has bytes
-pub record SymbolIs (last : Option Address) (k : Kind) (key : Key) (id : SymbolId) (n : ℕ) : Type 0 where
+pub record SymbolIs (last : Option Address) (k : Kind) (key : Key) (id : SymbolId)
+    (n : ℕ) : Type 0 where
   pub kind_is : k ≡ kinds.Symbol
   pub in_order : IsTrue (is_after last (symbol_address key id))
   pub key_valid : IsKey key
@@ -106,12 +107,15 @@ IsOfBytes faults.Read = ⊥
 IsOfBytes faults.OutOfMemory = ⊥
 IsOfBytes f = ⊤
 
--- bytes that begin so have the fault, whatever follows; they are cut only where nothing follows and there are fewer than n
-pub record StopsReading (n : ℕ) (fault : List ℕ → Option ReadFault) (front : List ℕ) (f : ReadFault) : Type 0 where
+-- bytes that begin so have the fault, whatever follows; they are cut only where nothing follows
+-- and there are fewer than n
+pub record StopsReading (n : ℕ) (fault : List ℕ → Option ReadFault) (front : List ℕ)
+    (f : ReadFault) : Type 0 where
   pub of_bytes : IsOfBytes f
   pub short : f ≡ faults.Cut → length front < n
   pub whole : (rest : List ℕ) → (f ≡ faults.Cut → rest ≡ []) → fault (front ++ rest) ≡ Some f
 
 -- at most n bytes say what is wanted, or they are at fault
-abbrev pub Parses : {T : Type 0} → ℕ → (T → Type 0) → (List ℕ → Option ReadFault) → List ℕ → Result T ReadFault → Type 0
+abbrev pub Parses : {T : Type 0} → ℕ → (T → Type 0) → (List ℕ → Option ReadFault) → List ℕ
+    → Result T ReadFault → Type 0
 Parses n IsIt fault bytes result = MatchResult result IsIt (StopsReading n fault bytes)

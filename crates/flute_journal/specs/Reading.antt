@@ -16,15 +16,18 @@ use Rattle.flute_journal.specs.Parsing.{end_fault}
 use Rattle.flute_journal.specs.Journal.{IsFactIn}
 
 -- the next entry or the end was read, and no byte more; or the bytes are at fault
-abbrev pub ReadsNext : ℕ → Before → Option (List ℕ) → Option (List ℕ) → Result (Option Fact) ReadFault → Type 0
+abbrev pub ReadsNext : ℕ → Before → Option (List ℕ) → Option (List ℕ)
+    → Result (Option Fact) ReadFault → Type 0
 ReadsNext limit before old new (Ok (Some f)) =
     IsFactIn before.version f × IsTrue (is_after before.last (address f)) × (before.count < limit)
     × Consumes old new (entry_in before.version f)
 ReadsNext limit before old new (Ok None) = Consumes old new (end before.count) × IsAtEnd new
-ReadsNext limit before old new (Err f) = IsFaultUpTo (end before.count) (next_fault before limit) old new f
+ReadsNext limit before old new (Err f) =
+    IsFaultUpTo (end before.count) (next_fault before limit) old new f
 
 -- the number of entries was read and nothing stands behind it; or the bytes are at fault
-abbrev pub ReadsEnd : {T : Type 0} → ℕ → Option (List ℕ) → Option (List ℕ) → Result T ReadFault → Type 0
+abbrev pub ReadsEnd : {T : Type 0} → ℕ → Option (List ℕ) → Option (List ℕ) → Result T ReadFault
+    → Type 0
 ReadsEnd count old new (Ok x) = Consumes old new (in_bytes 8 count) × IsAtEnd new
 ReadsEnd count old new (Err f) = IsFaultUpTo (in_bytes 8 count) (end_fault count) old new f
 
@@ -52,7 +55,8 @@ last_at _ = None
 
 -- what stands before the next entry
 abbrev pub position : Version → ReaderState → Before
-position told state = record { version = version_at told state; count = count_at state; last = last_at state }
+position told state =
+    record { version = version_at told state; count = count_at state; last = last_at state }
 
 -- what stands between this place and the next entry
 abbrev pub opening : Version → ReaderState → List ℕ
@@ -73,11 +77,14 @@ or_else (Some f) second = Some f
 
 -- the fault of the bytes that are left, up to the next entry
 abbrev pub fault_from : ReaderState → ℕ → List ℕ → Option ReadFault
-fault_from Header limit bytes = or_else (header_fault bytes) (next_fault (position (version_in bytes) Header) limit (drop 6 bytes))
+fault_from Header limit bytes =
+    or_else (header_fault bytes)
+    (next_fault (position (version_in bytes) Header) limit (drop 6 bytes))
 fault_from state limit bytes = next_fault (position (version_in bytes) state) limit bytes
 
 -- the next entry was given, and no byte past it was read
-pub record GivesEntry (limit : ℕ) (old new : ReaderState) (left after : Option (List ℕ)) (f : Fact) : Type 0 where
+pub record GivesEntry (limit : ℕ) (old new : ReaderState) (left after : Option (List ℕ))
+    (f : Fact) : Type 0 where
   pub told : Version
   pub open_before : IsTrue (is_open old)
   pub valid : IsFactIn (version_at told old) f
@@ -90,33 +97,41 @@ pub record GivesEntry (limit : ℕ) (old new : ReaderState) (left after : Option
 pub record GivesEnd (old new : ReaderState) (left after : Option (List ℕ)) : Type 0 where
   pub told : Version
   pub ended : new ≡ Ended
-  pub bytes : ((old ≡ Ended) × Keeps left after) ⊎ (IsTrue (is_open old) × Consumes left after (end_bytes told old) × IsAtEnd after)
+  pub bytes : ((old ≡ Ended) × Keeps left after)
+      ⊎ (IsTrue (is_open old) × Consumes left after (end_bytes told old) × IsAtEnd after)
 
--- What a failed call has read: no more bytes than stand before the next entry, or all these and nothing behind a whole entry.
+-- What a failed call has read: no more bytes than stand before the next entry, or all these
+-- and nothing behind a whole entry.
 pub data IsPart (told : Version) (old : ReaderState) (part : List ℕ) : Type 0 where
   in_opening : length part ≤ length (opening told old) → IsPart told old part
   in_entry : (more : List ℕ) → part ≡ opening told old ++ more
-      → IsWithin (entry_in (version_at told old)) (IsFactIn (version_at told old)) more → IsPart told old part
+      → IsWithin (entry_in (version_at told old)) (IsFactIn (version_at told old)) more
+      → IsPart told old part
 
 -- the bytes that were left have this fault, if a header that was still to be read told this version
-pub record IsAtFault (told : Version) (limit : ℕ) (old : ReaderState) (left after : Option (List ℕ)) (f : ReadFault) : Type 0 where
+pub record IsAtFault (told : Version) (limit : ℕ) (old : ReaderState) (left after : Option (List ℕ))
+    (f : ReadFault) : Type 0 where
   pub fault : IsFaultUpTo (end_bytes told old) (fault_from old limit) left after f
   pub part : List ℕ
   pub read : Consumes left after part
   pub is_part : IsPart told old part
 
 -- a fault was found, now or before
-pub record GivesFault (limit : ℕ) (old new : ReaderState) (left after : Option (List ℕ)) (f : ReadFault) : Type 0 where
+pub record GivesFault (limit : ℕ) (old new : ReaderState) (left after : Option (List ℕ))
+    (f : ReadFault) : Type 0 where
   pub told : Version
   pub stays : new ≡ Failed f
-  pub found : ((old ≡ Failed f) × Keeps left after) ⊎ (IsTrue (is_open old) × IsAtFault told limit old left after f)
+  pub found : ((old ≡ Failed f) × Keeps left after)
+      ⊎ (IsTrue (is_open old) × IsAtFault told limit old left after f)
 
 -- reading on from an open state: the next entry, the end, or a fault
-abbrev pub ReadsFrom : Version → ℕ → ReaderState → Option (List ℕ) → Option (List ℕ) → Result (Option Fact) ReadFault → Type 0
+abbrev pub ReadsFrom : Version → ℕ → ReaderState → Option (List ℕ) → Option (List ℕ)
+    → Result (Option Fact) ReadFault → Type 0
 ReadsFrom told limit old left after (Ok (Some f)) =
-    IsFactIn (version_at told old) f × IsTrue (is_after (last_at old) (address f)) × (count_at old < limit)
-    × Consumes left after (next_bytes told old f)
-ReadsFrom told limit old left after (Ok None) = Consumes left after (end_bytes told old) × IsAtEnd after
+    IsFactIn (version_at told old) f × IsTrue (is_after (last_at old) (address f))
+    × (count_at old < limit) × Consumes left after (next_bytes told old f)
+ReadsFrom told limit old left after (Ok None) =
+    Consumes left after (end_bytes told old) × IsAtEnd after
 ReadsFrom told limit old left after (Err f) = IsAtFault told limit old left after f
 
 -- where a reader stands behind what it gave, if so many entries of this version stood before
@@ -125,7 +140,8 @@ state_after version count (Ok (Some f)) = Entries version (count + 1) (Some (add
 state_after version count (Ok None) = Ended
 state_after version count (Err f) = Failed f
 
-abbrev pub Gives : ℕ → ReaderState → ReaderState → Option (List ℕ) → Option (List ℕ) → Result (Option Fact) ReadFault → Type 0
+abbrev pub Gives : ℕ → ReaderState → ReaderState → Option (List ℕ) → Option (List ℕ)
+    → Result (Option Fact) ReadFault → Type 0
 Gives limit old new left after (Ok (Some f)) = GivesEntry limit old new left after f
 Gives limit old new left after (Ok None) = GivesEnd old new left after
 Gives limit old new left after (Err f) = GivesFault limit old new left after f

@@ -5,10 +5,12 @@ use Rattle.flute_journal.specs.Faults.{opening_fault}
 use Rattle.flute_journal.specs.Records.{file_header, record_of, record_fault}
 
 -- no datagram, and one of one byte before one of none
-pub no_datagram : file_header ++ flat_map record_of [] ≡ 0x46 ∷ 0x4C ∷ 0x44 ∷ 0x47 ∷ 0x00 ∷ 0x01 ∷ []
+pub no_datagram :
+    file_header ++ flat_map record_of [] ≡ 0x46 ∷ 0x4C ∷ 0x44 ∷ 0x47 ∷ 0x00 ∷ 0x01 ∷ []
 no_datagram = refl
 
-pub two_datagrams : file_header ++ flat_map record_of ((7 ∷ []) ∷ [] ∷ []) ≡ 0x46 ∷ 0x4C ∷ 0x44 ∷ 0x47 ∷ 0x00 ∷ 0x01 ∷ 0x00 ∷ 0x01 ∷ 0x07 ∷ 0x00 ∷ 0x00 ∷ []
+pub two_datagrams : file_header ++ flat_map record_of ((7 ∷ []) ∷ [] ∷ [])
+    ≡ 0x46 ∷ 0x4C ∷ 0x44 ∷ 0x47 ∷ 0x00 ∷ 0x01 ∷ 0x00 ∷ 0x01 ∷ 0x07 ∷ 0x00 ∷ 0x00 ∷ []
 two_datagrams = refl
 
 -- headers: a whole one, a short one, a journal's, and another version
@@ -21,10 +23,12 @@ short_header = refl
 pub other_magic : opening_fault file_header (0x46 ∷ 0x4C ∷ 0x4A ∷ 0x4E ∷ 0x00 ∷ []) ≡ Some Magic
 other_magic = refl
 
-pub other_file_version : opening_fault file_header (0x46 ∷ 0x4C ∷ 0x44 ∷ 0x47 ∷ 0x00 ∷ 0x02 ∷ []) ≡ Some Version
+pub other_file_version : opening_fault file_header (0x46 ∷ 0x4C ∷ 0x44 ∷ 0x47 ∷ 0x00 ∷ 0x02 ∷ [])
+    ≡ Some Version
 other_file_version = refl
 
--- behind two records: nothing, a record, one that is cut in its length or in its bytes, and one beyond the bound
+-- behind two records: nothing, a record, one that is cut in its length or in its bytes,
+-- and one beyond the bound
 pub the_end : record_fault 2 2 [] ≡ None
 the_end = refl
 

@@ -19,7 +19,8 @@ read_of version [] = []
 read_of version (f ∷ fs) = front_in version (f ∷ fs)
 
 -- these entries were read, and nothing else
-pub record Sofar (limit : ℕ) (first now : Option (List ℕ)) (state : ReaderState) (entries : List Fact) : Type 0 where
+pub record Sofar (limit : ℕ) (first now : Option (List ℕ)) (state : ReaderState)
+    (entries : List Fact) : Type 0 where
   pub are_entries : AreEntries limit entries
   pub state_is : state ≡ state_at are_entries.version entries
   pub read : Consumes first now (read_of are_entries.version entries)

@@ -14,7 +14,8 @@ use Rattle.flute_journal.specs.Whole.{StopsAfter}
 
 -- the bytes are the journal of what these facts come to, with at most so many entries
 abbrev pub IsJournalOf : ℕ → List ℕ → List Fact → Type 0
-IsJournalOf limit bytes facts = (entries : List Fact) × IsJournalWithin limit bytes entries × Same facts entries
+IsJournalOf limit bytes facts =
+    (entries : List Fact) × IsJournalWithin limit bytes entries × Same facts entries
 
 -- the bytes begin as a journal with these entries does, at most so many
 pub record BeginsWith (limit : ℕ) (bytes : List ℕ) (entries : List Fact) : Type 0 where
@@ -24,12 +25,17 @@ pub record BeginsWith (limit : ℕ) (bytes : List ℕ) (entries : List Fact) : T
 
 -- the bytes begin with entries that pass the limits of a store
 abbrev pub BeginsOver : ℕ → ℕ → ℕ → ℕ → List ℕ → Type 0
-BeginsOver sessions objects symbols limit bytes = (entries : List Fact) × BeginsWith limit bytes entries × Over entries sessions objects symbols
+BeginsOver sessions objects symbols limit bytes =
+    (entries : List Fact) × BeginsWith limit bytes entries × Over entries sessions objects symbols
 
--- why the bytes that were left are not read into a store: a fault behind entries within its limits, or entries that pass them; memory may run out at any entry
+-- why the bytes that were left are not read into a store: a fault behind entries within its limits,
+-- or entries that pass them; memory may run out at any entry
 abbrev pub IsLoadFault : ℕ → ℕ → ℕ → ℕ → Option (List ℕ) → Option (List ℕ) → LoadFault → Type 0
-IsLoadFault sessions objects symbols limit old new (Read f) = (entries : List Fact) × (¬ Over entries sessions objects symbols) × StopsAfter limit entries old new f
-IsLoadFault sessions objects symbols limit old new Full = IfSome old (BeginsOver sessions objects symbols limit)
+IsLoadFault sessions objects symbols limit old new (Read f) =
+    (entries : List Fact) × (¬ Over entries sessions objects symbols)
+    × StopsAfter limit entries old new f
+IsLoadFault sessions objects symbols limit old new Full =
+    IfSome old (BeginsOver sessions objects symbols limit)
 IsLoadFault sessions objects symbols limit old new OutOfMemory = ⊤
 
 -- the fault that a store's refusal is

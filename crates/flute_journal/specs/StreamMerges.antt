@@ -26,7 +26,8 @@ abbrev pub streams_sink_failed : {T : Type 0} → Result T StreamsFault → ℕ
 streams_sink_failed (Err Write) = 1
 streams_sink_failed _ = 0
 
--- whether facts are within the limits of a store: so many sessions, objects of each and symbols of each of these
+-- whether facts are within the limits of a store: so many sessions, objects of each and symbols
+-- of each of these
 abbrev pub IsWithinLimits : ℕ → ℕ → ℕ → List Fact → Bool → Type 0
 IsWithinLimits s o y F true = ¬ Over F s o y
 IsWithinLimits s o y F false = Over F s o y
@@ -43,7 +44,8 @@ Each P (s ∷ streams) (F ∷ given) = P s F × Each P streams given
 Each P _ _ = ⊥
 
 -- of each input, as it was and as it is, this holds with the facts at its place
-abbrev pub EachSince : {S : Type 0} → (S → S → List Fact → Type 0) → List S → List S → List (List Fact) → Type 0
+abbrev pub EachSince : {S : Type 0} → (S → S → List Fact → Type 0) → List S → List S
+    → List (List Fact) → Type 0
 EachSince P [] [] [] = Unit {0}
 EachSince P (s ∷ old) (t ∷ new) (F ∷ given) = P s t F × EachSince P old new given
 EachSince P _ _ _ = ⊥
@@ -79,7 +81,8 @@ module _ {S : Type 0} (b : Behaviour S) where
   -- each input before this number has given some facts, and can be read on
   abbrev pub GaveBefore : ℕ → List S → List S → Type 0
   GaveBefore zero old new = Unit {0}
-  GaveBefore (suc number) (s ∷ old) (t ∷ new) = ((F : List Fact) × Gave b s t F) × GaveBefore number old new
+  GaveBefore (suc number) (s ∷ old) (t ∷ new) =
+      ((F : List Fact) × Gave b s t F) × GaveBefore number old new
   GaveBefore (suc number) _ _ = ⊥
 
   -- so it is with those before the input that stopped
@@ -87,10 +90,12 @@ module _ {S : Type 0} (b : Behaviour S) where
   CanGoOn old new (Input fault) = GaveBefore fault.number old new
   CanGoOn old new Write = Unit {0}
 
-  -- Each input tells some facts. The journal of all of them was appended, or a part of it, with so many entries,
-  -- and it was told whether they are within the limits of a store. Whatever other facts have the same members, in any order, however often and however grouped: that is
-  -- their journal too.
-  pub record MergedAll (inputs : List S) (s o y : ℕ) (joined : MergedJournal) (old new : Option (List ℕ)) : Type 0 where
+  -- Each input tells some facts. The journal of all of them was appended, or a part of it,
+  -- with so many entries, and it was told whether they are within the limits of a store.
+  -- Whatever other facts have the same members, in any order, however often and however grouped:
+  -- that is their journal too.
+  pub record MergedAll (inputs : List S) (s o y : ℕ) (joined : MergedJournal)
+      (old new : Option (List ℕ)) : Type 0 where
     pub told : List (List Fact)
     pub tell : Each b.tells inputs told
     pub entries : List Fact
@@ -99,18 +104,21 @@ module _ {S : Type 0} (b : Behaviour S) where
     pub count : joined.entries ≡ length entries
     pub limits : IsWithinLimits s o y (all_of told) joined.within
     pub written : Written joined.cut old new (spelling entries)
-    pub as_others : (others : List Fact) → SameMembers (all_of told) others → (bytes : List ℕ) → Journal bytes others → Written joined.cut old new bytes
+    pub as_others : (others : List Fact) → SameMembers (all_of told) others → (bytes : List ℕ)
+        → Journal bytes others → Written joined.cut old new bytes
 
-  -- What was appended is the journal of nothing, in any version. Where all the facts of each input are known, it is
-  -- a first part of the journal of all of them, and not all of it.
+  -- What was appended is the journal of nothing, in any version. Where all the facts of each input
+  -- are known, it is a first part of the journal of all of them, and not all of it.
   pub record AppendsPartOf (inputs : List S) (old new : Option (List ℕ)) : Type 0 where
     pub bytes : List ℕ
     pub appended : Appends old new bytes
     pub no_journal : (facts : List Fact) → IsJournal bytes facts → ⊥
-    pub prefix : (known : List (List Fact)) → Each b.knows inputs known → (whole : List ℕ) → Journal whole (all_of known) → IsProperPrefix bytes whole
+    pub prefix : (known : List (List Fact)) → Each b.knows inputs known → (whole : List ℕ)
+        → Journal whole (all_of known) → IsProperPrefix bytes whole
 
   -- Of each input these facts were read, and at most one more; what they come to was appended.
-  pub record ReadsAhead (inputs now : List S) (old new : Option (List ℕ)) (fault : StreamsFault) : Type 0 where
+  pub record ReadsAhead (inputs now : List S) (old new : Option (List ℕ))
+      (fault : StreamsFault) : Type 0 where
     pub read : List (List Fact)
     pub reads : EachSince b.reads inputs now read
     pub entries : List Fact
@@ -121,5 +129,6 @@ module _ {S : Type 0} (b : Behaviour S) where
 
   -- the fault that is told of an input is its own
   abbrev pub NamesInput : List S → StreamsFault → Type 0
-  NamesInput inputs (Input fault) = (s : S) × (slice_get inputs fault.number ≡ Some s) × b.stops s fault.fault
+  NamesInput inputs (Input fault) =
+      (s : S) × (slice_get inputs fault.number ≡ Some s) × b.stops s fault.fault
   NamesInput inputs Write = ⊤

@@ -1,4 +1,5 @@
--- Streams of facts in strictly rising order of their addresses: what they give, how they end, and what is read for that.
+-- Streams of facts in strictly rising order of their addresses: what they give, how they end,
+-- and what is read for that.
 use Rattle.std.specs.Prelude.{◌≡◌, ℕ, ◌+◌, ◌≤◌, List, [], ◌∷◌, ◌++◌, length, Option, Some, None, IfSome, Result, OnOk, IfErr, slice_get, slice_set}
 use Rattle.flute_parts.specs.Addresses.{address, fact_of}
 use Rattle.flute_parts.specs.Facts.{IsRising}
@@ -60,11 +61,13 @@ module _ {S : Type 0} (b : Behaviour S) where
     pub sized : IfSome (b.held now) IsSized
     pub ended : b.held now ≡ None → b.tells start F
     pub begins : b.begins start (F ++ option_list (b.held now))
-    pub known : (K : List Fact) → b.knows start K → Continues K (F ++ option_list (b.held now)) (b.held now)
+    pub known : (K : List Fact) → b.knows start K
+        → Continues K (F ++ option_list (b.held now)) (b.held now)
 
   -- it let go of what it held, and holds the next fact or has ended
   pub record GoesOn (old new : S) : Type 0 where
-    pub gave : (start : S) (F : List Fact) → b.passes start old F → Gave start new (F ++ option_list (b.held old))
+    pub gave : (start : S) (F : List Fact) → b.passes start old F
+        → Gave start new (F ++ option_list (b.held old))
     pub fewer : b.most new + length (option_list (b.held old)) ≤ b.most old
 
   -- it gave these facts, and then stopped at a fault
@@ -75,7 +78,9 @@ module _ {S : Type 0} (b : Behaviour S) where
 
   -- it let go of what it held, and stopped
   abbrev pub StopsAt : S → S → LoadFault → Type 0
-  StopsAt old new fault = (start : S) (F : List Fact) → b.passes start old F → Stopped start new (F ++ option_list (b.held old)) fault
+  StopsAt old new fault =
+      (start : S) (F : List Fact) → b.passes start old F
+      → Stopped start new (F ++ option_list (b.held old)) fault
 
   -- nothing was read of it
   pub record IsNew (s : S) : Type 0 where
@@ -85,7 +90,8 @@ module _ {S : Type 0} (b : Behaviour S) where
     pub fails : b.fails s s None
 
   -- the stream with this number was advanced, and the others stay
-  pub record Advances (number : ℕ) (old new : List S) (result : Result (Unit {0}) LoadFault) : Type 0 where
+  pub record Advances (number : ℕ) (old new : List S)
+      (result : Result (Unit {0}) LoadFault) : Type 0 where
     pub before : S
     pub after : S
     pub was : slice_get old number ≡ Some before

@@ -14,15 +14,21 @@ HasFault limit old faults.Read = ⊤
 HasFault limit old faults.OutOfMemory = ⊤
 HasFault limit old f = IfSome old (λ bytes. (entries : List Fact) × Stops bytes limit entries f)
 
--- of a journal these entries were read, at most so many, and of what follows no byte behind one more; or no more bytes than the header has
+-- of a journal these entries were read, at most so many, and of what follows no byte behind
+-- one more; or no more bytes than the header has
 pub data ReadsPart (limit : ℕ) (old new : Option (List ℕ)) (entries : List Fact) : Type 0 where
-  in_header : entries ≡ [] → (part : List ℕ) → Consumes old new part → length part ≤ length header → ReadsPart limit old new entries
-  behind : (a : AreEntries limit entries) → (more : List ℕ) → Consumes old new (front_in a.version entries ++ more)
+  in_header : entries ≡ [] → (part : List ℕ) → Consumes old new part → length part ≤ length header
+      → ReadsPart limit old new entries
+  behind : (a : AreEntries limit entries) → (more : List ℕ)
+      → Consumes old new (front_in a.version entries ++ more)
       → IsWithin (entry_in a.version) (IsFactIn a.version) more → ReadsPart limit old new entries
 
--- Reading stopped behind these entries: they are those before the fault of the bytes. Where the source failed, the bytes that
--- were read are cut behind them, or are the whole journal of them; where memory ran out, they were read.
+-- Reading stopped behind these entries: they are those before the fault of the bytes. Where the
+-- source failed, the bytes that were read are cut behind them, or are the whole journal of them;
+-- where memory ran out, they were read.
 abbrev pub StopsAfter : ℕ → List Fact → Option (List ℕ) → Option (List ℕ) → ReadFault → Type 0
-StopsAfter limit entries old new faults.Read = (part : List ℕ) × Consumes old new part × (Stops part limit entries faults.Cut ⊎ IsJournalWithin limit part entries)
+StopsAfter limit entries old new faults.Read =
+    (part : List ℕ) × Consumes old new part
+    × (Stops part limit entries faults.Cut ⊎ IsJournalWithin limit part entries)
 StopsAfter limit entries old new faults.OutOfMemory = ReadsPart limit old new entries
 StopsAfter limit entries old new f = IfSome old (λ bytes. Stops bytes limit entries f)

@@ -27,5 +27,7 @@ module _ (s o y : ℕ) {S : Type 0} (b : Behaviour S) where
     stops = λ w fault. b.stops w.stream fault ⊎ ((fault ≡ Full) × BeginsOverLimits w.stream);
     passes = PassesCounted;
     reads = λ start now F. b.reads start.stream now.stream F;
-    fails = λ start now fault. b.fails start.stream now.stream fault ⊎ ((fault ≡ Some Full) × b.fails start.stream now.stream None);
+    fails =
+        λ start now fault. b.fails start.stream now.stream fault
+        ⊎ ((fault ≡ Some Full) × b.fails start.stream now.stream None);
   }

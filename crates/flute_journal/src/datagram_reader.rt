@@ -230,10 +230,10 @@ fn read_datagram<R: Source>(
     ensures faults { IfErr result IsFileFault }
     ensures failures { Fails (R.failures source.old) (R.failures source.new) result }
 {
-    match Datagram::from_vec(read_exact(alloc, source, length)?) {
-        Ok(datagram) => Ok(datagram),
-        Err(_) => Err(ReadFault::OutOfMemory),
-    }
+    let Ok(datagram) = Datagram::from_vec(read_exact(alloc, source, length)?) else {
+        unreachable!();
+    };
+    Ok(datagram)
 }
 
 // Where a reader stands behind what it gave, if so many records stood before.

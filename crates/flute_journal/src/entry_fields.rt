@@ -130,8 +130,8 @@ fn read_bytes<R: Source>(alloc: Global, source: &mut R, length: u16) -> Result<B
     ensures advances { Advances (R.unread source.old) (R.unread source.new) length }
     ensures failures { Fails (R.failures source.old) (R.failures source.new) result }
 {
-    match Bytes::from_vec(read_exact(alloc, source, length)?) {
-        Ok(bytes) => Ok(bytes),
-        Err(_) => Err(ReadFault::OutOfMemory),
-    }
+    let Ok(bytes) = Bytes::from_vec(read_exact(alloc, source, length)?) else {
+        unreachable!();
+    };
+    Ok(bytes)
 }

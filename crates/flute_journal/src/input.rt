@@ -92,8 +92,8 @@ pub fn fill<R: Source>(source: &mut R, buffer: &mut [u8]) -> Result<usize, ReadF
 // Reads until the buffer is full, up to the end of the input, or until the source fails. Answers
 // how many bytes were read, and whether the source failed.
 fn fill_up_to<R: Source>(source: &mut R, buffer: &mut [u8]) -> (usize, bool)
-    ensures filled { ReadsUpTo (R.unread source.old) (R.unread source.new) (length buffer.new) result.1
-        (take result.0 buffer.new) }
+    ensures filled { ReadsUpTo (R.unread source.old) (R.unread source.new)
+        (length buffer.new) result.1 (take result.0 buffer.new) }
     ensures within { result.0 ≤ length buffer.new }
     ensures size { length buffer.new ≡ length buffer.old }
     ensures octets { (i : ℕ) → slice_index buffer.new i < 256 }

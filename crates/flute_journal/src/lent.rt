@@ -29,13 +29,11 @@ pub fn take_entry<R: Source>(
     let Some((key, id, symbol, size)) = entry_in(source.buffer(), version, last) else {
         return Ok(None);
     };
-    match Bytes::from_vec(copied_into(spare, symbol)?) {
-        Ok(bytes) => {
-            source.consume(size);
-            Ok(Some(Fact::Symbol { key, id, bytes }))
-        }
-        Err(_) => Err(ReadFault::OutOfMemory),
-    }
+    let Ok(bytes) = Bytes::from_vec(copied_into(spare, symbol)?) else {
+        unreachable!();
+    };
+    source.consume(size);
+    Ok(Some(Fact::Symbol { key, id, bytes }))
 }
 
 // The symbol whose entry stands at the front of the bytes, and how many bytes the entry has. None
@@ -90,10 +88,10 @@ fn record_in(bytes: &[u8], spare: Vec<u8>) -> Result<Option<Datagram>, ReadFault
     let Some(datagram) = rest.get(..usize::from(length_in(field))) else {
         return Ok(None);
     };
-    match Datagram::from_vec(copied_into(spare, datagram)?) {
-        Ok(datagram) => Ok(Some(datagram)),
-        Err(_) => Err(ReadFault::OutOfMemory),
-    }
+    let Ok(datagram) = Datagram::from_vec(copied_into(spare, datagram)?) else {
+        unreachable!();
+    };
+    Ok(Some(datagram))
 }
 
 // The bytes, in the memory of `spare` as far as it suffices.

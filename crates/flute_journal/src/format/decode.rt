@@ -167,8 +167,8 @@ fn named_in(sender: Sender, bytes: &[u8]) -> Option<Key>
     Some(Key { session, object })
 }
 
-// Whether a part of the object stands after the entry before. It is never inlined: where a reader is
-// inlined too, the key that it looks at would be kept in memory twice.
+// Whether a part of the object stands after the entry before. It is never inlined: where a reader
+// is inlined too, the key that it looks at would be kept in memory twice.
 #[inline(never)]
 fn in_order(last: &Option<Address>, key: &Key, part: Part) -> Result<(), ReadFault>
     ensures { MatchResult result

@@ -102,6 +102,8 @@ fn put_key(head: &mut HeadBytes, key: &Key)
 }
 
 // The high and the low half of a number: the bytes of each are put down faster than those of both.
+// It is never inlined: seen as a part of the number, the high half would be put down byte by byte.
+#[inline(never)]
 fn halves(number: u128) -> (u64, u64)
     ensures high { result.0 ≡ number / 2 ^ 64 }
     ensures low { result.1 ≡ number % 2 ^ 64 }

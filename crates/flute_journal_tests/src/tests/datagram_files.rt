@@ -14,7 +14,8 @@ fn datagrams_of<R: Source>(
     source: &mut R,
     max_records: u64,
 ) -> Result<Vec<Datagram>, ReadFault>
-    ensures read { IfOk result (λ v. IfSome (R.unread source.old) (λ bs. IsFileWithin max_records bs v.items)) }
+    ensures read { IfOk result (λ v. IfSome (R.unread source.old)
+        (λ bs. IsFileWithin max_records bs v.items)) }
     ensures fault { IfErr result (HasFileFault max_records (R.unread source.old)) }
 {
     let mut reader = DatagramReader::new(source, max_records);

@@ -67,7 +67,8 @@ fn facts_are_merged(rt: HostRuntime) -> Result<(), Fail> {
     Ok(())
 }
 
-/// The second journal has three symbols, and two are its limit. The first has two, and alone it is within the limits.
+/// The second journal has three symbols, and two are its limit. The first has two, and alone
+/// it is within the limits.
 #[test]
 fn a_journal_over_limits_stops(rt: HostRuntime) -> Result<(), Fail> {
     let whole = bytes(rt.alloc(), WHOLE)?;
@@ -120,7 +121,8 @@ fn a_join_goes_on_behind_a_failure(rt: HostRuntime) -> Result<(), Fail> {
     Ok(())
 }
 
-/// Two journals with their sources, and in the place of the second a fact: that a symbol of the first is in conflict.
+/// Two journals with their sources, and in the place of the second a fact: that a symbol
+/// of the first is in conflict.
 #[test]
 fn a_fact_in_the_place_of_a_journal_is_joined(rt: HostRuntime) -> Result<(), Fail> {
     let key = file().ok_or("a key")?;

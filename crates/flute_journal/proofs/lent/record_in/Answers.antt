@@ -19,8 +19,8 @@ record_begins n number rest datagram spelled two is size short octets =
       spelled = rw (← long) (begins.1 ∙ of_record);
     }
 
-pub returns-in-Ok-clause-begins : goal.returns-in-Ok-clause-begins
-returns-in-Ok-clause-begins c =
+pub returns-clause-begins : goal.returns-clause-begins
+returns-clause-begins c =
     let bytes = c.args.bytes.now in
     let number = c.in-Some.field.now in
     let rest = c.in-Some.rest.now in
