@@ -4,5 +4,7 @@ use Rattle.hex.specs.Hex.{lower_digits}
 
 -- the two digits of a byte stand one behind the other, those of byte 0 first
 abbrev pub HasDigits : List ℕ → Type 0
-HasDigits pairs = (byte : ℕ) → byte < 256
-    → (slice_index pairs (2 * byte) ≡ slice_index lower_digits (byte / 16)) × (slice_index pairs (2 * byte + 1) ≡ slice_index lower_digits (byte % 16))
+HasDigits pairs =
+    (byte : ℕ) → byte < 256
+    → (slice_index pairs (2 * byte) ≡ slice_index lower_digits (byte / 16))
+    × (slice_index pairs (2 * byte + 1) ≡ slice_index lower_digits (byte % 16))

@@ -40,7 +40,9 @@ padded_o = Symbol key (id 1) (0x6F ∷ 0 ∷ 0 ∷ 0 ∷ [])
 
 -- what the facts come to at its information and its two symbols
 abbrev told : List Fact → List (Option Fact)
-told F = fact_at F (info_address key) ∷ fact_at F (symbol_address key (id 0)) ∷ fact_at F (symbol_address key (id 1)) ∷ []
+told F =
+    fact_at F (info_address key) ∷ fact_at F (symbol_address key (id 0))
+    ∷ fact_at F (symbol_address key (id 1)) ∷ []
 
 abbrev whole : List (Option Fact)
 whole = Some info ∷ Some hell ∷ Some letter_o ∷ []
@@ -74,38 +76,54 @@ unfolding known_after fact_at
 loading = refl
 
 -- two values are a conflict, and stay one; steps that name no replica give nothing
-pub conflicting : told (known_by 1 (Add 0 letter_o ∷ Add 0 padded_o ∷ Add 0 letter_o ∷ Add 7 hell ∷ Merge 0 7 ∷ Merge 7 0 ∷ []) none 0) ≡ (None ∷ None ∷ Some (SymbolConflict key (id 1)) ∷ [])
+pub conflicting :
+    told (known_by 1
+    (Add 0 letter_o ∷ Add 0 padded_o ∷ Add 0 letter_o ∷ Add 7 hell ∷ Merge 0 7 ∷ Merge 7 0 ∷ [])
+    none 0)
+    ≡ (None ∷ None ∷ Some (SymbolConflict key (id 1)) ∷ [])
 unfolding known_after fact_at
 conflicting = refl
 
 -- where some steps are refused, what the others gave
-pub stopping : told (held_by (known_of_done (nothing_held 1) (Add 0 hell ∷ Merge 0 1 ∷ Load 0 [] ∷ Add 0 letter_o ∷ []) (true ∷ false ∷ false ∷ true ∷ []) loaded) 0) ≡ (None ∷ Some hell ∷ Some letter_o ∷ [])
+pub stopping :
+    told (held_by
+    (known_of_done (nothing_held 1) (Add 0 hell ∷ Merge 0 1 ∷ Load 0 [] ∷ Add 0 letter_o ∷ [])
+    (true ∷ false ∷ false ∷ true ∷ []) loaded)
+    0)
+    ≡ (None ∷ Some hell ∷ Some letter_o ∷ [])
 unfolding known_after fact_at
 stopping = refl
 
 -- a datagram with the first symbol, and one of three bytes, which is refused and counted
 abbrev taking : List Step
-taking = Take 0 0 (0x10 ∷ 0xA0 ∷ 0x04 ∷ 0x00 ∷ 0x00 ∷ 0x00 ∷ 0x00 ∷ 0x00 ∷ 0x00 ∷ 0x00 ∷ 0x00 ∷ 0x07 ∷ 0x00 ∷ 0x00 ∷ 0x00 ∷ 0x01 ∷ 0x00 ∷ 0x00 ∷ 0x00 ∷ 0x00 ∷ 0x68 ∷ 0x65 ∷ 0x6C ∷ 0x6C ∷ [])
+taking =
+    Take 0 0 (0x10 ∷ 0xA0 ∷ 0x04 ∷ 0x00 ∷ 0x00 ∷ 0x00 ∷ 0x00 ∷ 0x00 ∷ 0x00 ∷ 0x00 ∷ 0x00 ∷ 0x07
+    ∷ 0x00 ∷ 0x00 ∷ 0x00 ∷ 0x01 ∷ 0x00 ∷ 0x00 ∷ 0x00 ∷ 0x00 ∷ 0x68 ∷ 0x65 ∷ 0x6C ∷ 0x6C ∷ [])
     ∷ Take 0 0 (0x10 ∷ 0xA0 ∷ 0x00 ∷ []) ∷ Merge 1 0 ∷ []
 
 pub taken : known_by 2 taking none 1 ≡ (hell ∷ [])
 unfolding known_after facts packet extensions_in
 taken = refl
 
-pub refused : (count_by (is_refused_take 0) taking ∷ count_by (is_refused_take 1) taking ∷ []) ≡ (1 ∷ 0 ∷ [])
+pub refused : (count_by (is_refused_take 0) taking ∷ count_by (is_refused_take 1) taking ∷ [])
+    ≡ (1 ∷ 0 ∷ [])
 unfolding packet extensions_in
 refused = refl
 
--- the sender with the IPv4 address 10.0.0.1, by 8 digits or by 32, in upper or lower case; other texts name none
+-- the sender with the IPv4 address 10.0.0.1, by 8 digits or by 32, in upper or lower case;
+-- other texts name none
 abbrev sender : ℕ
 sender = 65535 * 2 ^ 32 + 0x0A000001
 
-pub named : (sender_named (codes "0A000001") ≡ Some sender) × (sender_named (codes "00000000000000000000ffff0a000001") ≡ Some sender)
-    × (sender_named [] ≡ None) × (sender_named (codes "0A0000") ≡ None) × (sender_named (codes "0G000001") ≡ None)
+pub named : (sender_named (codes "0A000001") ≡ Some sender)
+    × (sender_named (codes "00000000000000000000ffff0a000001") ≡ Some sender)
+    × (sender_named [] ≡ None) × (sender_named (codes "0A0000") ≡ None)
+    × (sender_named (codes "0G000001") ≡ None)
 unfolding decode_pairs
 named = (refl, refl, refl, refl, refl)
 
 -- how it is named in a line, and that the sender 0 is not
-pub told_of_sender : (source_words sender ≡ codes "source 00000000000000000000ffff0a000001 ") × (source_words 0 ≡ [])
+pub told_of_sender : (source_words sender ≡ codes "source 00000000000000000000ffff0a000001 ")
+    × (source_words 0 ≡ [])
 unfolding encode_with
 told_of_sender = (refl, refl)

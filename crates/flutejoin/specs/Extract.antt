@@ -20,7 +20,8 @@ use Rattle.flutejoin.specs.declared.limits.TheConstants.{MAX_ENTRIES}
 use Rattle.flutejoin.specs.declared.command_fault.CommandFault.{CommandFault}
 use Rattle.flutejoin.specs.declared.command_fault.CommandFault.TheVariants.{Input, Full, NoObject, NoInformation, ConflictingInformation, NotWhole, CannotWrite}
 
--- the input is a journal of entries within the limits of a store, and was read to its end; of its entries P holds
+-- the input is a journal of entries within the limits of a store, and was read to its end;
+-- of its entries P holds
 pub record OfJournal (input left : Option (List ℕ)) (P : List Fact → Type 0) : Type 0 where
   pub entries : List Fact
   pub journal : IfSome input (λ bytes. IsJournalWithin MAX_ENTRIES bytes entries)
@@ -29,13 +30,16 @@ pub record OfJournal (input left : Option (List ℕ)) (P : List Fact → Type 0)
   pub holds : P entries
 
 -- the fault is that of the journal, as where it is loaded; else P holds of its entries
-abbrev pub AnswersFrom : Option (List ℕ) → Option (List ℕ) → (List Fact → Type 0) → Result ℕ CommandFault → Type 0
+abbrev pub AnswersFrom : Option (List ℕ) → Option (List ℕ) → (List Fact → Type 0)
+    → Result ℕ CommandFault → Type 0
 AnswersFrom input left P (Err (Input number fault)) = LoadFails 1 input left (Input number fault)
 AnswersFrom input left P (Err Full) = LoadFails 1 input left Full
 AnswersFrom input left P _ = OfJournal input left P
 
--- the object that facts make whole was written; or why it is not whole; or a first part was written, and not all
-abbrev pub Extracts : {W : Type 0} → (W → Option (List ℕ)) → List Fact → Key → W → W → Result ℕ CommandFault → Type 0
+-- the object that facts make whole was written; or why it is not whole; or a first part was
+-- written, and not all
+abbrev pub Extracts : {W : Type 0} → (W → Option (List ℕ)) → List Fact → Key → W → W
+    → Result ℕ CommandFault → Type 0
 Extracts written F key old new (Ok n) = WritesWhole written F key old new n
 Extracts written F key old new (Err NoObject) = IsUnheard F key × (new ≡ old)
 Extracts written F key old new (Err NoInformation) = LacksInformation F key × (new ≡ old)
@@ -44,8 +48,10 @@ Extracts written F key old new (Err (NotWhole sbn esi)) = IsNotWhole F key (symb
 Extracts written F key old new (Err CannotWrite) = WritesPart written F key old new
 Extracts written F key old new (Err _) = ⊥
 
--- the object has this one information, and the bytes are the values of its first symbols, each held as one fitting value
-pub record HoldsFirst (F : List Fact) (key : Key) (info : Information) (bytes : List ℕ) : Type 0 where
+-- the object has this one information, and the bytes are the values of its first symbols,
+-- each held as one fitting value
+pub record HoldsFirst (F : List Fact) (key : Key) (info : Information)
+    (bytes : List ℕ) : Type 0 where
   pub information : fact_at F (info_address key) ≡ Some (Info key info)
   pub first : IsFirstPart F key info bytes
 
@@ -60,10 +66,13 @@ pub record FirstWritten (input old new : Option (List ℕ)) (key : Key) : Type 0
   pub appended : Appends old new (take count bytes)
 
 -- nothing was written, or these
-abbrev pub WritesFirst : {W : Type 0} → (W → Option (List ℕ)) → Option (List ℕ) → Key → W → W → Type 0
-WritesFirst written input key old new = (new ≡ old) ⊎ FirstWritten input (written old) (written new) key
+abbrev pub WritesFirst : {W : Type 0} → (W → Option (List ℕ)) → Option (List ℕ) → Key → W → W
+    → Type 0
+WritesFirst written input key old new =
+    (new ≡ old) ⊎ FirstWritten input (written old) (written new) key
 
--- how often the sink failed: once where the answer says so, never where the object was written, and at most once where another fault is told
+-- how often the sink failed: once where the answer says so, never where the object was written,
+-- and at most once where another fault is told
 abbrev pub SinkFails : ℕ → ℕ → Result ℕ CommandFault → Type 0
 SinkFails old new (Ok n) = new ≡ old
 SinkFails old new (Err CannotWrite) = new ≡ old + 1

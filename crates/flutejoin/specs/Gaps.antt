@@ -17,7 +17,9 @@ pub record ListsJournal (input : Option (List ℕ)) (P : List ℕ → Type 0) : 
   pub within : ¬ IsOverShelf entries
   pub lines : OfObjects entries P
 
--- why it failed: as a journal is not read into a store; or a first part of the lines was written, and not all
-abbrev pub GapsFail : Option (List ℕ) → Option (List ℕ) → Option (List ℕ) → Option (List ℕ) → CommandFault → Type 0
+-- why it failed: as a journal is not read into a store; or a first part of the lines was
+-- written, and not all
+abbrev pub GapsFail : Option (List ℕ) → Option (List ℕ) → Option (List ℕ) → Option (List ℕ)
+    → CommandFault → Type 0
 GapsFail input left old new CannotWrite = ListsJournal input (AppendsPart old new)
 GapsFail input left old new fault = LoadFails 1 input left fault

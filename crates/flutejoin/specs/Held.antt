@@ -15,7 +15,8 @@ pub record Capacity : Type 0 where
   pub symbols : ℕ
 
 abbrev pub capacity : ℕ → ℕ → ℕ → Capacity
-capacity sessions objects symbols = record { sessions = sessions; objects = objects; symbols = symbols }
+capacity sessions objects symbols =
+    record { sessions = sessions; objects = objects; symbols = symbols }
 
 -- the facts name more than that
 abbrev pub IsOver : List Fact → Capacity → Type 0

@@ -9,16 +9,21 @@ use Rattle.flutejoin.specs.declared.limits.TheConstants.{MAX_ENTRIES}
 use Rattle.flutejoin.specs.Outputs.{WritesJournal}
 use Rattle.flutejoin.specs.Shelves.{IsOverShelf, BeginsOverShelf}
 
--- the bytes are a journal of some entries, and the journal of them and of these facts was written, which has so many entries
+-- the bytes are a journal of some entries, and the journal of them and of these facts was written,
+-- which has so many entries
 abbrev pub AddsFacts : Option (List ℕ) → List Fact → Option (List ℕ) → Option (List ℕ) → ℕ → Type 0
 AddsFacts input facts old new count =
-    IfSome input (λ bytes. (entries : List Fact) × IsJournalWithin MAX_ENTRIES bytes entries × WritesJournal old new (entries ++ facts) count)
+    IfSome input (λ bytes. (entries : List Fact) × IsJournalWithin MAX_ENTRIES bytes entries
+    × WritesJournal old new (entries ++ facts) count)
 
 -- it is a journal that is over the limits of a store together with these facts
 abbrev pub IsOverWith : List ℕ → List Fact → Type 0
-IsOverWith bytes facts = (entries : List Fact) × IsJournalWithin MAX_ENTRIES bytes entries × IsOverShelf (entries ++ facts)
+IsOverWith bytes facts =
+    (entries : List Fact) × IsJournalWithin MAX_ENTRIES bytes entries
+    × IsOverShelf (entries ++ facts)
 
--- why facts were not added: the fault of the journal; the limits of a store, over which it is alone or with them; or the sink
+-- why facts were not added: the fault of the journal; the limits of a store, over which it is alone
+-- or with them; or the sink
 abbrev pub InfoFails : Option (List ℕ) → List Fact → CommandFault → Type 0
 InfoFails input facts (Input told fault) = (told ≡ 1) × HasFault MAX_ENTRIES input fault
 InfoFails input facts Full = IfSome input (λ bytes. BeginsOverShelf bytes ⊎ IsOverWith bytes facts)

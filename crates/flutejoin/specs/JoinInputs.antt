@@ -29,7 +29,9 @@ source_in input = (peeked input).source
 module _ {R : Type 0} (unread : R → Option (List ℕ)) where
   -- what a source has left: of the bytes that were read ahead, and behind them
   abbrev pub left : PeekedSource R → Option (List ℕ)
-  left source = prepend_known (drop source.given (take source.first.count source.first.bytes)) (unread source.source.now)
+  left source =
+      prepend_known (drop source.given (take source.first.count source.first.bytes))
+      (unread source.source.now)
 
   -- the input is these bytes, of which the first were read ahead
   pub record IsInput (input : JoinInput R) (bytes : List ℕ) : Type 0 where
@@ -39,12 +41,15 @@ module _ {R : Type 0} (unread : R → Option (List ℕ)) where
   -- each of the inputs is the bytes at its place
   pub record AreInputs (inputs : List (JoinInput R)) (contents : List (List ℕ)) : Type 0 where
     pub as_many : length inputs ≡ length contents
-    pub each : (k : ℕ) (input : JoinInput R) (bytes : List ℕ) → slice_get inputs k ≡ Some input → slice_get contents k ≡ Some bytes → IsInput input bytes
+    pub each : (k : ℕ) (input : JoinInput R) (bytes : List ℕ) → slice_get inputs k ≡ Some input
+        → slice_get contents k ≡ Some bytes → IsInput input bytes
 
   module _ (failures : R → ℕ) where
     -- what is said of an input as a stream
     abbrev pub input_behaviour : Behaviour (JoinInput R)
-    input_behaviour = within_behaviour 64 4096 1048576 (chosen_behaviour (owned_behaviour left (λ source. failures source.source.now)))
+    input_behaviour =
+        within_behaviour 64 4096 1048576
+        (chosen_behaviour (owned_behaviour left (λ source. failures source.source.now)))
 
 module _ {R : Type 0} (failures : R → ℕ) where
   abbrev pub failures_of : JoinInput R → ℕ
@@ -53,7 +58,8 @@ module _ {R : Type 0} (failures : R → ℕ) where
   -- no source failed
   pub record NoneFailed (old new : List (JoinInput R)) : Type 0 where
     pub as_many : length new ≡ length old
-    pub each : (k : ℕ) (before after : JoinInput R) → slice_get old k ≡ Some before → slice_get new k ≡ Some after → failures_of after ≡ failures_of before
+    pub each : (k : ℕ) (before after : JoinInput R) → slice_get old k ≡ Some before
+        → slice_get new k ≡ Some after → failures_of after ≡ failures_of before
 
   -- the source of the input with this number, from 1, failed once
   pub record OneFailed (number : ℕ) (old new : List (JoinInput R)) : Type 0 where

@@ -27,7 +27,8 @@ pub data InputContent : Type 0 where
   of_journal : (entries : List Fact) → InputContent
   of_file : (datagrams : List (List ℕ)) → InputContent
 
--- what of the inputs is joined: the sender that datagrams have, and the identifiers of the sessions that are taken, all if none is listed
+-- what of the inputs is joined: the sender that datagrams have, and the identifiers of the sessions
+-- that are taken, all if none is listed
 pub record Choice : Type 0 where
   pub sender : ℕ
   pub tsis : List ℕ
@@ -84,35 +85,49 @@ pub record FirstInput (Q P : List ℕ → Type 0) (number : ℕ) (inputs : List 
 
 -- a journal by its first bytes, or a datagram file
 abbrev pub HasKnownKind : List ℕ → Type 0
-HasKnownKind bytes = HasKind Journal bytes ⊎ ((datagrams : List (List ℕ)) × IsFileWithin MAX_ENTRIES bytes datagrams)
+HasKnownKind bytes =
+    HasKind Journal bytes ⊎ ((datagrams : List (List ℕ)) × IsFileWithin MAX_ENTRIES bytes datagrams)
 
 -- an input that tells facts within the limits of a store
 abbrev pub TellsWithin : Choice → List ℕ → Type 0
-TellsWithin choice bytes = (told : InputContent) × Tells bytes told × ¬ IsOverShelf (content_facts choice told)
+TellsWithin choice bytes =
+    (told : InputContent) × Tells bytes told × ¬ IsOverShelf (content_facts choice told)
 
 -- an input that is over these limits alone
 abbrev pub IsOverAlone : Choice → List ℕ → Type 0
 IsOverAlone choice bytes =
-    (HasKind Journal bytes × (entries : List Fact) × BeginsWith MAX_ENTRIES bytes entries × IsOverShelf (chosen choice.tsis entries))
-    ⊎ ((datagrams : List (List ℕ)) × IsFileWithin MAX_ENTRIES bytes datagrams × IsOverShelf (flat_map (facts_by choice) datagrams))
+    (HasKind Journal bytes × (entries : List Fact) × BeginsWith MAX_ENTRIES bytes entries
+    × IsOverShelf (chosen choice.tsis entries))
+    ⊎ ((datagrams : List (List ℕ)) × IsFileWithin MAX_ENTRIES bytes datagrams
+    × IsOverShelf (flat_map (facts_by choice) datagrams))
 
 -- inputs that are over them together
 abbrev pub TellOver : Choice → List (List ℕ) → Type 0
-TellOver choice inputs = (told : List InputContent) × TellAll inputs told × IsOverShelf (flat_map (content_facts choice) told)
+TellOver choice inputs =
+    (told : List InputContent) × TellAll inputs told
+    × IsOverShelf (flat_map (content_facts choice) told)
 
 -- a journal, or a datagram file, with this fault; memory may run out at any entry or record
 abbrev pub IsJournalAt : ReadFault → List ℕ → Type 0
-IsJournalAt fault bytes = HasKind Journal bytes × HasFault MAX_ENTRIES (Some bytes) fault × (fault ≢ Read)
+IsJournalAt fault bytes =
+    HasKind Journal bytes × HasFault MAX_ENTRIES (Some bytes) fault × (fault ≢ Read)
 
 abbrev pub IsFileAt : ReadFault → List ℕ → Type 0
-IsFileAt fault bytes = HasKind Datagrams bytes × HasFileFault MAX_ENTRIES (Some bytes) fault × (fault ≢ Read)
+IsFileAt fault bytes =
+    HasKind Datagrams bytes × HasFileFault MAX_ENTRIES (Some bytes) fault × (fault ≢ Read)
 
--- why inputs were not joined: the first that is of no known kind, or a datagram file at fault; else the first that is a journal at fault, or
--- over the limits alone; else all are over them together
+-- why inputs were not joined: the first that is of no known kind, or a datagram file at fault; else
+-- the first that is a journal at fault, or over the limits alone; else all are over them together
 abbrev pub JoinFails : Choice → List (List ℕ) → CommandFault → Type 0
 JoinFails choice inputs (UnknownKind number) = FirstInput HasKnownKind IsNeither number inputs
-JoinFails choice inputs (Input number fault) = FirstInput HasKnownKind (IsFileAt fault) number inputs ⊎ (AllByRecursion HasKnownKind inputs × FirstInput (TellsWithin choice) (IsJournalAt fault) number inputs)
-JoinFails choice inputs Full = AllByRecursion HasKnownKind inputs × (((number : ℕ) × FirstInput (TellsWithin choice) (IsOverAlone choice) number inputs) ⊎ (AllByRecursion (TellsWithin choice) inputs × TellOver choice inputs))
+JoinFails choice inputs (Input number fault) =
+    FirstInput HasKnownKind (IsFileAt fault) number inputs
+    ⊎ (AllByRecursion HasKnownKind inputs
+    × FirstInput (TellsWithin choice) (IsJournalAt fault) number inputs)
+JoinFails choice inputs Full =
+    AllByRecursion HasKnownKind inputs
+    × (((number : ℕ) × FirstInput (TellsWithin choice) (IsOverAlone choice) number inputs)
+    ⊎ (AllByRecursion (TellsWithin choice) inputs × TellOver choice inputs))
 JoinFails choice inputs OutOfMemory = ⊤
 JoinFails choice inputs _ = ⊥
 
@@ -123,24 +138,28 @@ abbrev pub StoreFails : List Fact → CommandFault → Type 0
 StoreFails told fault = ((fault ≡ Full) × IsOverShelf told) ⊎ (fault ≡ OutOfMemory)
 
 -- one more datagram, and whether it is refused, are counted, and these facts of it are held
-pub record TakesDatagram (told : List Fact) (before : Joined) (datagram : List ℕ) (now : Joined) : Type 0 where
+pub record TakesDatagram (told : List Fact) (before : Joined) (datagram : List ℕ)
+    (now : Joined) : Type 0 where
   pub content : Same now.store (before.store ++ told)
   pub datagrams : now.datagrams ≡ before.datagrams + 1
   pub refused : now.refused ≡ (if is_refused datagram then before.refused + 1 else before.refused)
 
 -- datagrams are counted, and their facts held
-pub record TakesDatagrams (choice : Choice) (before : Joined) (datagrams : List (List ℕ)) (now : Joined) : Type 0 where
+pub record TakesDatagrams (choice : Choice) (before : Joined) (datagrams : List (List ℕ))
+    (now : Joined) : Type 0 where
   pub content : Same now.store (before.store ++ flat_map (facts_by choice) datagrams)
   pub count : now.datagrams ≡ before.datagrams + length datagrams
   pub refused : now.refused ≡ before.refused + count_by is_refused datagrams
 
 -- a store of these datagrams; or their facts alone are over its limits
 abbrev pub HoldsAll : Choice → Bool → Joined → List (List ℕ) → Type 0
-HoldsAll choice true told datagrams = TakesDatagrams choice (record { store = []; datagrams = 0; refused = 0 }) datagrams told
+HoldsAll choice true told datagrams =
+    TakesDatagrams choice (record { store = []; datagrams = 0; refused = 0 }) datagrams told
 HoldsAll choice false told datagrams = IsOverShelf (flat_map (facts_by choice) datagrams)
 
 -- the datagrams of a file are held as what they tell
-pub record HoldsDatagrams (choice : Choice) (file : HeldFile) (datagrams : List (List ℕ)) : Type 0 where
+pub record HoldsDatagrams (choice : Choice) (file : HeldFile)
+    (datagrams : List (List ℕ)) : Type 0 where
   pub few : file.told.datagrams ≤ length datagrams
   pub few_refused : file.told.refused ≤ file.told.datagrams
   pub holds : HoldsAll choice file.fits file.told datagrams

@@ -33,9 +33,11 @@ use Rattle.flutejoin.specs.declared.join_counts.JoinCounts.{JoinCounts}
 use Rattle.flutejoin.specs.declared.limits.TheConstants.{MAX_ENTRIES}
 use Rattle.flutejoin.specs.declared.inspecting.Inspected.{Inspected}
 
--- Each input tells some facts. The journal of all of them was appended, and the numbers are right. Whatever other facts have the same
--- members, in any order, however often and however grouped: that is their journal too.
-pub record JoinsTo (choice : Choice) (inputs : List (List ℕ)) (counts : JoinCounts) (old new : Option (List ℕ)) : Type 0 where
+-- Each input tells some facts. The journal of all of them was appended, and the numbers are right.
+-- Whatever other facts have the same members, in any order, however often and however grouped:
+-- that is their journal too.
+pub record JoinsTo (choice : Choice) (inputs : List (List ℕ)) (counts : JoinCounts)
+    (old new : Option (List ℕ)) : Type 0 where
   pub told : List InputContent
   pub tell : TellAll inputs told
   pub entries : List Fact
@@ -45,7 +47,8 @@ pub record JoinsTo (choice : Choice) (inputs : List (List ℕ)) (counts : JoinCo
   pub datagrams : counts.datagrams ≡ length (flat_map content_datagrams told)
   pub refused : counts.refused ≡ count_by is_refused (flat_map content_datagrams told)
   pub appended : Appends old new (spelling entries)
-  pub as_others : (others : List Fact) → SameMembers (flat_map (content_facts choice) told) others → (bytes : List ℕ) → Journal bytes others → Appends old new bytes
+  pub as_others : (others : List Fact) → SameMembers (flat_map (content_facts choice) told) others
+      → (bytes : List ℕ) → Journal bytes others → Appends old new bytes
 
 -- each tells facts within the limits of a store, and so do all together
 pub record AllTell (choice : Choice) (inputs : List (List ℕ)) : Type 0 where
@@ -54,10 +57,13 @@ pub record AllTell (choice : Choice) (inputs : List (List ℕ)) : Type 0 where
   pub alone : AllByRecursion (TellsWithin choice) inputs
   pub together : ¬ IsOverShelf (flat_map (content_facts choice) told)
 
--- why inputs were not joined: as those in memory; or a device failed, the sink only where all the inputs could be joined
-pub data JoinToFails (choice : Choice) (inputs : List (List ℕ)) (fault : CommandFault) : Type 0 where
+-- why inputs were not joined: as those in memory; or a device failed, the sink only where all
+-- the inputs could be joined
+pub data JoinToFails (choice : Choice) (inputs : List (List ℕ))
+    (fault : CommandFault) : Type 0 where
   of_inputs : JoinFails choice inputs fault → JoinToFails choice inputs fault
-  of_device : (number : ℕ) → fault ≡ Input number Read → FirstInput HasKnownKind (λ bytes. ⊤) number inputs → JoinToFails choice inputs fault
+  of_device : (number : ℕ) → fault ≡ Input number Read
+      → FirstInput HasKnownKind (λ bytes. ⊤) number inputs → JoinToFails choice inputs fault
   of_sink : fault ≡ CannotWrite → AllTell choice inputs → JoinToFails choice inputs fault
 
 -- What the parts of a join answer.
@@ -78,11 +84,15 @@ NamesOneOf count _ = ⊤
 -- an input is of no known kind, or a datagram file that was not held
 pub data InspectionFails (number : ℕ) (bytes : List ℕ) (fault : CommandFault) : Type 0 where
   of_kind : fault ≡ UnknownKind number → IsNeither bytes → InspectionFails number bytes fault
-  of_file : HasKind kinds.Datagrams bytes → FileFails number (Some bytes) fault → InspectionFails number bytes fault
+  of_file : HasKind kinds.Datagrams bytes → FileFails number (Some bytes) fault
+      → InspectionFails number bytes fault
 
 -- so it is with an input, and those before it are known; or there was no memory
 abbrev pub SomeInspectionFails : List (List ℕ) → CommandFault → Type 0
-SomeInspectionFails inputs fault = ((number : ℕ) × FirstInput HasKnownKind (λ bytes. InspectionFails number bytes fault) number inputs) ⊎ (fault ≡ OutOfMemory)
+SomeInspectionFails inputs fault =
+    ((number : ℕ)
+    × FirstInput HasKnownKind (λ bytes. InspectionFails number bytes fault) number inputs)
+    ⊎ (fault ≡ OutOfMemory)
 
 -- how many datagrams a file has, and refused ones
 abbrev pub datagrams_of : Option HeldFile → ℕ
@@ -105,25 +115,39 @@ pub record SumsUp (inspected : Inspected) : Type 0 where
 module _ {R : Type 0} (unread : R → Option (List ℕ)) where
   -- an input was inspected: a datagram file is held, and a journal is still to be read
   abbrev pub IsInspected : Choice → JoinInput R → Option HeldFile → List ℕ → Type 0
-  IsInspected choice input None bytes = HasKind kinds.Journal bytes × (left unread (peeked input) ≡ Some bytes) × (listed_tsis input.stream.sessions ≡ choice.tsis)
-  IsInspected choice input (Some file) bytes = (datagrams : List (List ℕ)) × IsFileWithin MAX_ENTRIES bytes datagrams × HoldsDatagrams choice file datagrams
+  IsInspected choice input None bytes =
+      HasKind kinds.Journal bytes × (left unread (peeked input) ≡ Some bytes)
+      × (listed_tsis input.stream.sessions ≡ choice.tsis)
+  IsInspected choice input (Some file) bytes =
+      (datagrams : List (List ℕ)) × IsFileWithin MAX_ENTRIES bytes datagrams
+      × HoldsDatagrams choice file datagrams
 
-  pub record AreInspected (choice : Choice) (inputs : List (JoinInput R)) (files : List (Option HeldFile)) (contents : List (List ℕ)) : Type 0 where
+  pub record AreInspected (choice : Choice) (inputs : List (JoinInput R))
+      (files : List (Option HeldFile)) (contents : List (List ℕ)) : Type 0 where
     pub as_many : length inputs ≡ length contents
-    pub each : (k : ℕ) (input : JoinInput R) (file : Option HeldFile) (bytes : List ℕ) → slice_get inputs k ≡ Some input → slice_get files k ≡ Some file → slice_get contents k ≡ Some bytes
-        → IsInspected choice input file bytes
+    pub each : (k : ℕ) (input : JoinInput R) (file : Option HeldFile) (bytes : List ℕ)
+        → slice_get inputs k ≡ Some input → slice_get files k ≡ Some file
+        → slice_get contents k ≡ Some bytes → IsInspected choice input file bytes
 
   module _ (failures : R → ℕ) where
     -- of an input that is no datagram file, nothing was read as a journal
     abbrev pub IsReady : JoinInput R → Option HeldFile → Type 0
-    IsReady input file = file ≡ None → IsNew (input_behaviour unread failures) input × ((input_behaviour unread failures).most input ≡ MAX_ENTRIES) × (input.stream.stream.max_entries ≡ MAX_ENTRIES)
+    IsReady input file =
+        file ≡ None
+        → IsNew (input_behaviour unread failures) input
+        × ((input_behaviour unread failures).most input ≡ MAX_ENTRIES)
+        × (input.stream.stream.max_entries ≡ MAX_ENTRIES)
 
-    pub record AreReady (inputs : List (JoinInput R)) (files : List (Option HeldFile)) : Type 0 where
+    pub record AreReady (inputs : List (JoinInput R))
+        (files : List (Option HeldFile)) : Type 0 where
       pub as_many : length files ≡ length inputs
-      pub each : (k : ℕ) (input : JoinInput R) (file : Option HeldFile) → slice_get inputs k ≡ Some input → slice_get files k ≡ Some file → IsReady input file
+      pub each : (k : ℕ) (input : JoinInput R) (file : Option HeldFile)
+          → slice_get inputs k ≡ Some input → slice_get files k ≡ Some file → IsReady input file
 
 -- inputs that were inspected were joined
-pub record JoinsInspected (choice : Choice) (contents : List (List ℕ)) (files : List (Option HeldFile)) (joined : MergedJournal) (old new : Option (List ℕ)) : Type 0 where
+pub record JoinsInspected (choice : Choice) (contents : List (List ℕ))
+    (files : List (Option HeldFile)) (joined : MergedJournal)
+    (old new : Option (List ℕ)) : Type 0 where
   pub told : List InputContent
   pub tell : TellAll contents told
   pub alone : AllByRecursion (TellsWithin choice) contents
@@ -137,7 +161,8 @@ pub record JoinsInspected (choice : Choice) (contents : List (List ℕ)) (files 
 
 -- Streams of what was inspected.
 
--- the stream of what a datagram file tells, which is within the limits of a store: no device of it fails
+-- the stream of what a datagram file tells, which is within the limits of a store:
+-- no device of it fails
 pub record IsHeldStream {S : Type 0} (b : Behaviour S) (file : HeldFile) (s : S) : Type 0 where
   pub fits : file.fits ≡ true
   pub within : ¬ IsOverShelf file.told.store
@@ -159,5 +184,7 @@ module _ {S : Type 0} (b : Behaviour S) where
   IsStreamOf _ _ = ⊥
 
 -- what is said of inputs as streams, where others stand in the places of some
-abbrev pub joined_behaviour : {R S : Type 0} → (R → Option (List ℕ)) → (R → ℕ) → Behaviour S → Behaviour (Either (JoinInput R) (Beside (JoinInput R) S))
-joined_behaviour unread failures b = either_behaviour (input_behaviour unread failures) (beside_behaviour b)
+abbrev pub joined_behaviour : {R S : Type 0} → (R → Option (List ℕ)) → (R → ℕ) → Behaviour S
+    → Behaviour (Either (JoinInput R) (Beside (JoinInput R) S))
+joined_behaviour unread failures b =
+    either_behaviour (input_behaviour unread failures) (beside_behaviour b)

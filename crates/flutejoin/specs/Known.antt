@@ -12,10 +12,13 @@ abbrev pub held_after_next : List (List Fact) → Option Step → List Fact → 
 held_after_next held None origin = held
 held_after_next held (Some step) origin = held_after_step held step origin
 
--- what each replica was given in the first n steps, beginning with what it held; origins has a list for each step
-unfoldable pub known_after : List (List Fact) → (ℕ → Option Step) → (ℕ → List Fact) → ℕ → List (List Fact)
+-- what each replica was given in the first n steps, beginning with what it held;
+-- origins has a list for each step
+unfoldable pub known_after : List (List Fact) → (ℕ → Option Step) → (ℕ → List Fact) → ℕ
+    → List (List Fact)
 known_after held steps origins zero = held
-known_after held steps origins (suc n) = held_after_next (known_after held steps origins n) (steps n) (origins n)
+known_after held steps origins (suc n) =
+    held_after_next (known_after held steps origins n) (steps n) (origins n)
 
 -- the same in all the steps of a list
 abbrev pub known : List (List Fact) → List Step → (ℕ → List Fact) → List (List Fact)
@@ -27,7 +30,8 @@ known_by count steps origins r = held_by (known (nothing_held count) steps origi
 
 -- each step has an origin that fits it
 abbrev pub Fits : List Step → (ℕ → List Fact) → Type 0
-Fits steps origins = (k : ℕ) (step : Step) → slice_get steps k ≡ Some step → FitsStep step (origins k)
+Fits steps origins =
+    (k : ℕ) (step : Step) → slice_get steps k ≡ Some step → FitsStep step (origins k)
 
 -- a step that was done
 abbrev pub if_done : Option Bool → Option Step → Option Step
@@ -40,9 +44,13 @@ abbrev pub done_among : List Step → List Bool → ℕ → Option Step
 done_among steps done k = if_done (slice_get done k) (slice_get steps k)
 
 -- what each replica was given in the steps that were done, each with its own origin
-abbrev pub known_of_done : List (List Fact) → List Step → List Bool → (ℕ → List Fact) → List (List Fact)
-known_of_done held steps done origins = known_after held (done_among steps done) origins (length steps)
+abbrev pub known_of_done : List (List Fact) → List Step → List Bool → (ℕ → List Fact)
+    → List (List Fact)
+known_of_done held steps done origins =
+    known_after held (done_among steps done) origins (length steps)
 
 -- each step that was not done is followed directly by the same step, so the last was done
 abbrev pub IsRetried : List Step → List Bool → Type 0
-IsRetried steps done = (k : ℕ) → slice_get done k ≡ Some false → (k + 1 < length steps) × (slice_get steps (k + 1) ≡ slice_get steps k)
+IsRetried steps done =
+    (k : ℕ) → slice_get done k ≡ Some false
+    → (k + 1 < length steps) × (slice_get steps (k + 1) ≡ slice_get steps k)

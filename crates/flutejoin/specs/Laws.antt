@@ -5,12 +5,15 @@ use Rattle.flute_parts.specs.Facts.{Same, SameMembers}
 use Rattle.flutejoin.specs.declared.steps.Step.{Step}
 use Rattle.flutejoin.specs.Known.{Fits, known_by}
 
--- F is what replica r holds, of so many new ones that were given the steps: the same as what it was given
-pub record IsLeft (count : ℕ) (steps : List Step) (origins : ℕ → List Fact) (r : ℕ) (F : List Fact) : Type 0 where
+-- F is what replica r holds, of so many new ones that were given the steps: the same
+-- as what it was given
+pub record IsLeft (count : ℕ) (steps : List Step) (origins : ℕ → List Fact) (r : ℕ)
+    (F : List Fact) : Type 0 where
   pub fits : Fits steps origins
   pub same : Same F (known_by count steps origins r)
 
--- F and G are what two replicas hold, of one run or of two, that were given lists of facts with the same members
+-- F and G are what two replicas hold, of one run or of two, that were given lists of facts
+-- with the same members
 pub record GivenTheSame (F G : List Fact) : Type 0 where
   pub count : ℕ
   pub steps : List Step
@@ -22,4 +25,6 @@ pub record GivenTheSame (F G : List Fact) : Type 0 where
   pub other_origins : ℕ → List Fact
   pub other_replica : ℕ
   pub other_left : IsLeft other_count other_steps other_origins other_replica G
-  pub members : SameMembers (known_by count steps origins replica) (known_by other_count other_steps other_origins other_replica)
+  pub members :
+      SameMembers (known_by count steps origins replica)
+      (known_by other_count other_steps other_origins other_replica)

@@ -28,7 +28,8 @@ object_words (Instance instance) = codes "object fdt " ++ decimal instance
 
 abbrev pub information_words : Information → List ℕ
 information_words i =
-    codes "info length " ++ decimal i.transfer_length ++ codes " symbol " ++ decimal i.symbol_length ++ codes " block " ++ decimal i.max_block_length
+    codes "info length " ++ decimal i.transfer_length ++ codes " symbol " ++ decimal i.symbol_length
+    ++ codes " block " ++ decimal i.max_block_length
 
 -- the block and the symbol in it
 abbrev pub id_words : SymbolId → List ℕ
@@ -49,21 +50,28 @@ symbol_or_none (Some symbol) = symbol_words symbol.0 (length symbol.1) ++ encode
 -- the four lines of a packet
 unfoldable pub packet_lines : Content → List ℕ
 packet_lines c =
-    line (codes "session " ++ decimal c.tsi) ++ (line (object_words (object_named c.toi c.instance)) ++ (line (info_or_none c.info) ++ line (symbol_or_none c.symbol)))
+    line (codes "session " ++ decimal c.tsi)
+    ++ (line (object_words (object_named c.toi c.instance))
+    ++ (line (info_or_none c.info) ++ line (symbol_or_none c.symbol)))
 
 -- a sender's address in 32 digits, where it is not 0
 abbrev pub source_words : ℕ → List ℕ
-source_words sender = if sender == 0 then [] else codes "source " ++ encode_lower (bytes_high_first 16 sender) ++ codes " "
+source_words sender =
+    if sender == 0 then []
+    else codes "source " ++ encode_lower (bytes_high_first 16 sender) ++ codes " "
 
 -- a session by its sender and its TSI, and its object
 abbrev pub key_words : Key → List ℕ
-key_words key = source_words key.session.sender ++ codes "session " ++ decimal key.session.tsi ++ codes " " ++ object_words key.object
+key_words key =
+    source_words key.session.sender ++ codes "session " ++ decimal key.session.tsi ++ codes " "
+    ++ object_words key.object
 
 -- what is told of a part of an object
 abbrev pub fact_words : Fact → List ℕ
 fact_words (Info key info) = key_words key ++ codes " " ++ information_words info
 fact_words (InfoConflict key) = key_words key ++ codes " info conflict"
-fact_words (Symbol key id bytes) = key_words key ++ codes " " ++ symbol_words id (length bytes) ++ encode_lower bytes
+fact_words (Symbol key id bytes) =
+    key_words key ++ codes " " ++ symbol_words id (length bytes) ++ encode_lower bytes
 fact_words (SymbolConflict key id) = key_words key ++ codes " " ++ id_words id ++ codes " conflict"
 
 unfoldable pub fact_line : Fact → List ℕ
@@ -81,7 +89,8 @@ abbrev pub status_words : Status → List ℕ
 status_words NoInformation = codes "no information"
 status_words ConflictingInformation = codes "conflicting information"
 status_words (Partial missing conflicting misfit) =
-    codes "partial missing " ++ decimal missing ++ codes " conflicting " ++ decimal conflicting ++ codes " misfit " ++ decimal misfit
+    codes "partial missing " ++ decimal missing ++ codes " conflicting " ++ decimal conflicting
+    ++ codes " misfit " ++ decimal misfit
 status_words (Whole length) = codes "whole " ++ decimal length
 
 unfoldable pub status_line : Key → Status → List ℕ
@@ -94,4 +103,6 @@ reason_words Misfit = codes " misfit"
 
 -- symbols of one block, from the first to the last
 unfoldable pub gap_line : Gap → List ℕ
-gap_line g = line (codes "gap " ++ decimal g.sbn ++ codes "/" ++ decimal g.first ++ codes "-" ++ decimal g.last ++ reason_words g.reason)
+gap_line g =
+    line (codes "gap " ++ decimal g.sbn ++ codes "/" ++ decimal g.first ++ codes "-"
+    ++ decimal g.last ++ reason_words g.reason)

@@ -30,13 +30,17 @@ IsFirstOf before key = (f : Fact) → Contains before f → (address f).key ≡ 
 
 -- what these facts of an object tell of it, and the lines of the gaps that were found
 abbrev pub StateIs : Key → List Fact → List ℕ → ObjectState → Type 0
-StateIs key mine gap_lines NoInformation = ((f : Fact) → Contains mine f → (address f).part ≡ InfoPart → ⊥) × (gap_lines ≡ [])
-StateIs key mine gap_lines ConflictingInformation = Contains mine (InfoConflict key) × (gap_lines ≡ [])
+StateIs key mine gap_lines NoInformation =
+    ((f : Fact) → Contains mine f → (address f).part ≡ InfoPart → ⊥) × (gap_lines ≡ [])
+StateIs key mine gap_lines ConflictingInformation =
+    Contains mine (InfoConflict key) × (gap_lines ≡ [])
 StateIs key mine gap_lines (OneInformation scan) =
-    (s : Scanned) × Scans scan s × (s.key ≡ key) × (s.facts ≡ mine) × (s.coming ≡ None) × (gap_lines ≡ flat_map gap_line s.given)
+    (s : Scanned) × Scans scan s × (s.key ≡ key) × (s.facts ≡ mine) × (s.coming ≡ None)
+    × (gap_lines ≡ flat_map gap_line s.given)
 
 -- the lines of the objects before the open one, of which the last of the facts are
-pub record HasOpen (F : List Fact) (lines gap_lines : List ℕ) (key : Key) (state : ObjectState) : Type 0 where
+pub record HasOpen (F : List Fact) (lines gap_lines : List ℕ) (key : Key)
+    (state : ObjectState) : Type 0 where
   pub before : List Fact
   pub mine : List Fact
   pub all : F ≡ before ++ mine
@@ -56,9 +60,13 @@ Lists F l = ListsWith F l.lines.items l.gap_lines.items l.open
 
 -- the symbol was passed, or, where none is left, all gaps were given
 abbrev pub Passes : Scanned → Option (SymbolId × Option (Bor (List ℕ))) → Scanned → Type 0
-Passes s (Some next) t = (t.key ≡ s.key) × (t.facts ≡ s.facts ++ next_fact s.key next ∷ []) × (t.coming ≡ None)
-Passes s None t = (t.key ≡ s.key) × (t.facts ≡ s.facts) × ((F : List Fact) → Follows t None F → GaveAll t F)
+Passes s (Some next) t =
+    (t.key ≡ s.key) × (t.facts ≡ s.facts ++ next_fact s.key next ∷ []) × (t.coming ≡ None)
+Passes s None t =
+    (t.key ≡ s.key) × (t.facts ≡ s.facts) × ((F : List Fact) → Follows t None F → GaveAll t F)
 
 -- how much is held of the object, and the lines of its gaps
 abbrev pub TellsAll : List Fact → Key → Status → List ℕ → Type 0
-TellsAll F key status gap_lines = TellsStatus F key status × (gap_lines ≡ flat_map gap_line (gaps_at F key (fact_at F (info_address key))))
+TellsAll F key status gap_lines =
+    TellsStatus F key status
+    × (gap_lines ≡ flat_map gap_line (gaps_at F key (fact_at F (info_address key))))

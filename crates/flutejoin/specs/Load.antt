@@ -7,10 +7,14 @@ use Rattle.flutejoin.specs.declared.limits.TheConstants.{MAX_ENTRIES}
 use Rattle.flutejoin.specs.declared.command_fault.CommandFault.{CommandFault}
 use Rattle.flutejoin.specs.declared.command_fault.CommandFault.TheVariants.{Input, Full, OutOfMemory}
 
--- the input with this number has this fault behind entries within 64 sessions, 4,096 objects of one and 1,048,576 symbols of one, or begins with entries
--- beyond these; memory may run out at any entry
+-- the input with this number has this fault behind entries within 64 sessions,
+-- 4,096 objects of one and 1,048,576 symbols of one, or begins with entries beyond these;
+-- memory may run out at any entry
 abbrev pub LoadFails : ℕ → Option (List ℕ) → Option (List ℕ) → CommandFault → Type 0
-LoadFails number input left (Input told fault) = (told ≡ number) × ((entries : List Fact) × (¬ IsOverShelf entries) × StopsAfter MAX_ENTRIES entries input left fault)
+LoadFails number input left (Input told fault) =
+    (told ≡ number)
+    × ((entries : List Fact) × (¬ IsOverShelf entries)
+    × StopsAfter MAX_ENTRIES entries input left fault)
 LoadFails number input left Full = IfSome input BeginsOverShelf
 LoadFails number input left OutOfMemory = ⊤
 LoadFails number input left _ = ⊥

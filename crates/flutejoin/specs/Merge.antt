@@ -9,7 +9,9 @@ use Rattle.flutejoin.specs.declared.command_fault.CommandFault.TheVariants.{Inpu
 
 -- the input with this number has this fault
 abbrev pub MergeFails : Option (List ℕ) → Option (List ℕ) → CommandFault → Type 0
-MergeFails first second (Input number fault) = ((number ≡ 1) × HasFault MAX_ENTRIES first fault) ⊎ ((number ≡ 2) × HasFault MAX_ENTRIES second fault)
+MergeFails first second (Input number fault) =
+    ((number ≡ 1) × HasFault MAX_ENTRIES first fault)
+    ⊎ ((number ≡ 2) × HasFault MAX_ENTRIES second fault)
 MergeFails first second CannotWrite = ⊤
 MergeFails first second _ = ⊥
 
@@ -19,5 +21,6 @@ FirstInputFails old new (Err (Input (suc zero) fault)) = Fails {T = Option Fact}
 FirstInputFails old new _ = new ≡ old
 
 abbrev pub SecondInputFails : ℕ → ℕ → Result ℕ CommandFault → Type 0
-SecondInputFails old new (Err (Input (suc (suc zero)) fault)) = Fails {T = Option Fact} old new (Err fault)
+SecondInputFails old new (Err (Input (suc (suc zero)) fault)) =
+    Fails {T = Option Fact} old new (Err fault)
 SecondInputFails old new _ = new ≡ old

@@ -45,8 +45,10 @@ pub record WroteFirst (P : List Fact) (key : Key) (start now : Option (List ℕ)
   pub held : Settled P (λ F. HoldsFirst F key info bytes)
   pub appended : Appends start now (take count bytes)
 
--- the facts before those that the scan passed, those, and others; all the values so far were written, cut to the size of the object
-pub record Scanning (P : List Fact) (key : Key) (failed : Bool) (start now : Option (List ℕ)) (object : WholeSoFar) : Type 0 where
+-- the facts before those that the scan passed, those, and others; all the values so far were
+-- written, cut to the size of the object
+pub record Scanning (P : List Fact) (key : Key) (failed : Bool) (start now : Option (List ℕ))
+    (object : WholeSoFar) : Type 0 where
   pub scanned : Scanned
   pub scans : Scans object.scan scanned
   pub free : scanned.coming ≡ None
@@ -65,15 +67,21 @@ pub record Scanning (P : List Fact) (key : Key) (failed : Bool) (start now : Opt
   pub left : object.left ≡ object.size - length bytes
   pub written : Written failed start now (take object.size bytes)
 
--- a scan went on, or it is settled that this symbol is the first that is not held as one fitting value
-abbrev pub ScansOn : List Fact → Key → Bool → Option (List ℕ) → Option (List ℕ) → WholeSoFar → Option SymbolId → Type 0
+-- a scan went on, or it is settled that this symbol is the first that is not held
+-- as one fitting value
+abbrev pub ScansOn : List Fact → Key → Bool → Option (List ℕ) → Option (List ℕ) → WholeSoFar
+    → Option SymbolId → Type 0
 ScansOn P key failed start now object None = Scanning P key failed start now object
-ScansOn P key failed start now object (Some first) = Settled P (λ F. IsNotWhole F key first) × WroteFirst P key start now
+ScansOn P key failed start now object (Some first) =
+    Settled P (λ F. IsNotWhole F key first) × WroteFirst P key start now
 
--- the object is whole, and was written as far as the sink took it; or this symbol is the first that is not held so
-abbrev pub EndsScan : List Fact → Key → Bool → Option (List ℕ) → Option (List ℕ) → WholeSoFar → Option SymbolId → Type 0
+-- the object is whole, and was written as far as the sink took it; or this symbol is the first
+-- that is not held so
+abbrev pub EndsScan : List Fact → Key → Bool → Option (List ℕ) → Option (List ℕ) → WholeSoFar
+    → Option SymbolId → Type 0
 EndsScan P key failed start now object None =
-    (info : Information) × Whole P key info × (object.size ≡ info.transfer_length) × IsValid info × Written failed start now (object_of P key info)
+    (info : Information) × Whole P key info × (object.size ≡ info.transfer_length) × IsValid info
+    × Written failed start now (object_of P key info)
 EndsScan P key failed start now object (Some first) = IsNotWhole P key first
 
 -- nothing was written
@@ -83,10 +91,14 @@ pub record NoneWritten (failed : Bool) (start now : Option (List ℕ)) : Type 0 
 
 -- what is found of an object by these facts, and what was written since the start
 abbrev pub HasFound : List Fact → Key → Bool → Option (List ℕ) → Option (List ℕ) → Found → Type 0
-HasFound P key failed start now found.Nothing = AllByRecursion (IsOther key) P × NoneWritten failed start now
-HasFound P key failed start now found.Symbols = Settled P (λ F. LacksInformation F key) × NoneWritten failed start now
-HasFound P key failed start now found.Conflict = Settled P (λ F. HasConflict F key) × NoneWritten failed start now
-HasFound P key failed start now (found.NotWhole first) = Settled P (λ F. IsNotWhole F key first) × WroteFirst P key start now
+HasFound P key failed start now found.Nothing =
+    AllByRecursion (IsOther key) P × NoneWritten failed start now
+HasFound P key failed start now found.Symbols =
+    Settled P (λ F. LacksInformation F key) × NoneWritten failed start now
+HasFound P key failed start now found.Conflict =
+    Settled P (λ F. HasConflict F key) × NoneWritten failed start now
+HasFound P key failed start now (found.NotWhole first) =
+    Settled P (λ F. IsNotWhole F key first) × WroteFirst P key start now
 HasFound P key failed start now (found.Whole object) = Scanning P key failed start now object
 
 abbrev pub Stands : List Fact → ObjectWriter → Option (List ℕ) → Option (List ℕ) → Type 0
@@ -112,13 +124,18 @@ FailedBy failed (Err CannotWrite) = failed ≡ true
 FailedBy failed (Err _) = ⊤
 
 -- all of a journal was read, or it has this fault
-abbrev pub EndsReading : Option (List ℕ) → Option (List ℕ) → List Fact → Result (Unit {0}) LoadFault → Type 0
-EndsReading input left entries (Ok _) = IfSome input (λ bytes. IsJournalWithin MAX_ENTRIES bytes entries) × IsAtEnd left × (¬ IsOverShelf entries)
+abbrev pub EndsReading : Option (List ℕ) → Option (List ℕ) → List Fact → Result (Unit {0}) LoadFault
+    → Type 0
+EndsReading input left entries (Ok _) =
+    IfSome input (λ bytes. IsJournalWithin MAX_ENTRIES bytes entries) × IsAtEnd left
+    × (¬ IsOverShelf entries)
 EndsReading input left entries (Err OutOfMemory) = ⊥
-EndsReading input left entries (Err fault) = IsLoadFault 64 4096 1048576 MAX_ENTRIES input left fault
+EndsReading input left entries (Err fault) =
+    IsLoadFault 64 4096 1048576 MAX_ENTRIES input left fault
 
 -- the entries that the input begins with passed, up to its end or its fault
-pub record PassesAll (input left : Option (List ℕ)) (writer : ObjectWriter) (start now : Option (List ℕ)) (result : Result (Unit {0}) LoadFault) : Type 0 where
+pub record PassesAll (input left : Option (List ℕ)) (writer : ObjectWriter)
+    (start now : Option (List ℕ)) (result : Result (Unit {0}) LoadFault) : Type 0 where
   pub entries : List Fact
   pub rising : IsRising entries
   pub begins : (entries ≡ []) ⊎ IfSome input (λ bytes. BeginsWith MAX_ENTRIES bytes entries)

@@ -25,9 +25,11 @@ use Rattle.flutejoin.specs.declared.command_fault.CommandFault.TheVariants.{Cann
 -- how much is held of an object of which these symbols are wanted
 abbrev pub status_wanting : Information → List (SymbolId × Reason) → Status
 status_wanting info [] = Whole info.transfer_length
-status_wanting info (w ∷ ws) = Partial (how_many Missing (w ∷ ws)) (how_many Conflicting (w ∷ ws)) (how_many Misfit (w ∷ ws))
+status_wanting info (w ∷ ws) =
+    Partial (how_many Missing (w ∷ ws)) (how_many Conflicting (w ∷ ws)) (how_many Misfit (w ∷ ws))
 
--- how much is held of an object of which something is, by what stands at the address of its information
+-- how much is held of an object of which something is, by what stands at the address
+-- of its information
 abbrev pub status_at : List Fact → Key → Option Fact → Status
 status_at F key None = NoInformation
 status_at F key (Some (Info k info)) = status_wanting info (wants F key info)
@@ -40,7 +42,9 @@ gaps_at F key o = []
 
 -- a line for the object, and one for each of its gaps
 unfoldable pub object_lines : List Fact → Key → List ℕ
-object_lines F key = status_line key (status_at F key (fact_at F (info_address key))) ++ flat_map gap_line (gaps_at F key (fact_at F (info_address key)))
+object_lines F key =
+    status_line key (status_at F key (fact_at F (info_address key)))
+    ++ flat_map gap_line (gaps_at F key (fact_at F (info_address key)))
 
 -- P holds of the lines of all objects of which something is held, in the order of their keys
 pub record OfObjects (F : List Fact) (P : List ℕ → Type 0) : Type 0 where

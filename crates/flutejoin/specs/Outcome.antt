@@ -42,7 +42,8 @@ pub record IsDone (capacity : Capacity) (before : Held) (step : Step) (now : Hel
   -- a `Reopen` wrote a journal within the bound
   pub readable : WritesWithin before.contents step
   -- each replica has what it had and what the step gives
-  pub content : (origin : List Fact) → FitsStep step origin → EachSame (held_after_step before.contents step origin) now.contents
+  pub content : (origin : List Fact) → FitsStep step origin
+      → EachSame (held_after_step before.contents step origin) now.contents
   -- the replicas that the step does not change are as they were
   pub others : (r : ℕ) → r ≢ target_of step → held_by now.contents r ≡ held_by before.contents r
   -- refused datagrams are counted
@@ -50,17 +51,21 @@ pub record IsDone (capacity : Capacity) (before : Held) (step : Step) (now : Hel
   -- the replica changed is within its capacity
   pub within : ¬ IsOver (held_by now.contents (target_of step)) capacity
 
--- a journal's reader gives this fault at a `Load`, behind entries within the capacity, or at a `Reopen`
+-- a journal's reader gives this fault at a `Load`, behind entries within the capacity,
+-- or at a `Reopen`
 abbrev pub IsReadFault : Capacity → List (List Fact) → Step → ReadFault → Type 0
-IsReadFault capacity held (Load replica journal) fault = (entries : List Fact) × Stops journal MAX_ENTRIES entries fault × ¬ IsOver entries capacity
-IsReadFault capacity held (Reopen replica) fault = (fault ≡ ReadFault.TooMany) × IsLonger (held_by held replica) MAX_ENTRIES
+IsReadFault capacity held (Load replica journal) fault =
+    (entries : List Fact) × Stops journal MAX_ENTRIES entries fault × ¬ IsOver entries capacity
+IsReadFault capacity held (Reopen replica) fault =
+    (fault ≡ ReadFault.TooMany) × IsLonger (held_by held replica) MAX_ENTRIES
 IsReadFault capacity held (Take replica sender datagram) fault = ⊥
 IsReadFault capacity held (Add replica fact) fault = ⊥
 IsReadFault capacity held (Merge into from) fault = ⊥
 
 -- a `Load` begins with entries that are over the capacity
 abbrev pub LoadsOver : Capacity → Step → Type 0
-LoadsOver capacity (Load replica journal) = BeginsOver capacity.sessions capacity.objects capacity.symbols MAX_ENTRIES journal
+LoadsOver capacity (Load replica journal) =
+    BeginsOver capacity.sessions capacity.objects capacity.symbols MAX_ENTRIES journal
 LoadsOver capacity (Take replica sender datagram) = ⊥
 LoadsOver capacity (Add replica fact) = ⊥
 LoadsOver capacity (Merge into from) = ⊥
@@ -70,7 +75,9 @@ LoadsOver capacity (Reopen replica) = ⊥
 abbrev pub HasCause : Capacity → List (List Fact) → Step → List Fact → StepFault → Type 0
 HasCause capacity held step origin NoReplica = ¬ NamesReplicas (length held) step
 HasCause capacity held step origin (Journal fault) = IsReadFault capacity held step fault
-HasCause capacity held step origin Full = IsOver (held_by (held_after_step held step origin) (target_of step)) capacity ⊎ LoadsOver capacity step
+HasCause capacity held step origin Full =
+    IsOver (held_by (held_after_step held step origin) (target_of step)) capacity
+    ⊎ LoadsOver capacity step
 HasCause capacity held step origin OutOfMemory = ⊤
 
 -- a refusal by a fault that leaves everything unchanged, whatever the step
@@ -86,20 +93,25 @@ IsHarmless (Merge into from) Full = ⊥
 IsHarmless (Merge into from) OutOfMemory = ⊥
 
 -- a step that was refused
-pub record IsRefused (capacity : Capacity) (before : Held) (step : Step) (now : Held) (fault : StepFault) : Type 0 where
-  pub cause : (origin : List Fact) → FitsStep step origin → HasCause capacity before.contents step origin fault
+pub record IsRefused (capacity : Capacity) (before : Held) (step : Step) (now : Held)
+    (fault : StepFault) : Type 0 where
+  pub cause : (origin : List Fact) → FitsStep step origin
+      → HasCause capacity before.contents step origin fault
   -- nothing that was held is lost
   pub kept : EachBelow before.contents now.contents
   -- nothing came but what the step gives
-  pub no_more : (origin : List Fact) → FitsStep step origin → EachBelow now.contents (held_after_step before.contents step origin)
+  pub no_more : (origin : List Fact) → FitsStep step origin
+      → EachBelow now.contents (held_after_step before.contents step origin)
   pub others : (r : ℕ) → r ≢ target_of step → held_by now.contents r ≡ held_by before.contents r
   pub refused : now.refused ≡ before.refused
   pub unchanged : IsHarmless step fault → now ≡ before
 
--- A step that takes no memory, and so succeeds: all that a `Take` or an `Add` gives stands in cells that are held (a
--- refused datagram gives nothing), or a `Merge` is of a replica into itself.
+-- A step that takes no memory, and so succeeds: all that a `Take` or an `Add` gives stands in cells
+-- that are held (a refused datagram gives nothing), or a `Merge` is of a replica into itself.
 abbrev pub NeedsNothing : List (List Fact) → Step → Type 0
-NeedsNothing held (Take replica sender datagram) = (replica < length held) × AllByRecursion (HasCell (held_by held replica)) (facts sender datagram)
+NeedsNothing held (Take replica sender datagram) =
+    (replica < length held)
+    × AllByRecursion (HasCell (held_by held replica)) (facts sender datagram)
 NeedsNothing held (Add replica fact) = (replica < length held) × HasCell (held_by held replica) fact
 NeedsNothing held (Merge into from) = (into < length held) × (into ≡ from)
 NeedsNothing held (Load replica journal) = ⊥

@@ -26,7 +26,8 @@ module _ {W : Type 0} (written : W → Option (List ℕ)) (F : List Fact) (old n
   -- the journal of these facts was written, or after a failed write a first part of it, or nothing
   abbrev pub TellsJournal : Result ℕ OutputFault → Type 0
   TellsJournal (Ok count) = WritesJournal (written old) (written new) F count
-  TellsJournal (Err (Save f)) = (bytes : List ℕ) → Journal bytes F → AppendsPart (written old) (written new) bytes
+  TellsJournal (Err (Save f)) =
+      (bytes : List ℕ) → Journal bytes F → AppendsPart (written old) (written new) bytes
   TellsJournal (Err (Extract f)) = ⊥
   TellsJournal (Err _) = new ≡ old
 
@@ -37,8 +38,8 @@ module _ {W : Type 0} (written : W → Option (List ℕ)) (F : List Fact) (old n
   TellsObject key (Err (Save f)) = ⊥
   TellsObject key (Err _) = new ≡ old
 
--- The run stopped, with a fault that it has. Else there is no such replica; or there is one, and its journal or the object was
--- not written, or not all of it.
+-- The run stopped, with a fault that it has. Else there is no such replica; or there is one,
+-- and its journal or the object was not written, or not all of it.
 abbrev pub IsOutputFault : Capacity → ℕ → List Step → ℕ → OutputFault → Type 0
 IsOutputFault capacity count steps replica (Run f) = IsRunRefused capacity count steps f
 IsOutputFault capacity count steps replica NoReplica = count ≤ replica
@@ -50,13 +51,14 @@ abbrev pub IsOutputNeed : ℕ → List Step → OutputFault → Type 0
 IsOutputNeed count steps (Run f) = StopsAtNeed count steps f
 IsOutputNeed count steps _ = ⊤
 
--- Whatever other steps give a replica q the same facts, in whatever order, however often, by whatever merges and
--- journals: its journal is what was written of replica r.
+-- Whatever other steps give a replica q the same facts, in whatever order, however often,
+-- by whatever merges and journals: its journal is what was written of replica r.
 abbrev pub WritesAsOthers : ℕ → List Step → ℕ → Option (List ℕ) → Option (List ℕ) → Type 0
 WritesAsOthers count steps r old new =
-    (m : ℕ) (others : List Step) (q : ℕ) (origins further : ℕ → List Fact) → Fits steps origins → Fits others further
-    → SameMembers (known_by count steps origins r) (known_by m others further q)
-    → (bytes : List ℕ) → Journal bytes (known_by m others further q) → Appends old new bytes
+    (m : ℕ) (others : List Step) (q : ℕ) (origins further : ℕ → List Fact) → Fits steps origins
+    → Fits others further
+    → SameMembers (known_by count steps origins r) (known_by m others further q) → (bytes : List ℕ)
+    → Journal bytes (known_by m others further q) → Appends old new bytes
 
 -- how often the sink failed in a call that gave this: once, where it says so
 abbrev pub output_failed : {T : Type 0} → Result T OutputFault → ℕ

@@ -17,7 +17,9 @@ payload (Some symbol) = symbol.1
 
 -- all before the symbol's bytes
 unfoldable pub packet_head : Content → List ℕ
-packet_head c = codes "session " ++ decimal c.tsi ++ codes "\n" ++ object_words (object_named c.toi c.instance) ++ codes "\n" ++ info_or_none c.info ++ codes "\n" ++ symbol_head c.symbol
+packet_head c =
+    codes "session " ++ decimal c.tsi ++ codes "\n" ++ object_words (object_named c.toi c.instance)
+    ++ codes "\n" ++ info_or_none c.info ++ codes "\n" ++ symbol_head c.symbol
 
 -- the words of a fact's line, and the bytes behind them
 unfoldable pub fact_head : Fact → List ℕ

@@ -22,4 +22,6 @@ one_more n = if nat_lt n (2 ^ 64 - 1) then n + 1 else n
 
 -- the counts after a step: a refused datagram counts one more for the replica that it was given to
 abbrev pub CountsRefused : Step → List ℕ → List ℕ → Type 0
-CountsRefused step before now = (r : ℕ) → slice_index now r ≡ (if is_refused_take r step then one_more (slice_index before r) else slice_index before r)
+CountsRefused step before now =
+    (r : ℕ) → slice_index now r
+    ≡ (if is_refused_take r step then one_more (slice_index before r) else slice_index before r)

@@ -4,7 +4,8 @@ use Rattle.hex.specs.Hex.{decode_of}
 use Rattle.hex.specs.declared.error.FromHexError.{FromHexError}
 use Rattle.flute_parts.specs.BigEndian.{big_endian}
 
--- 16 bytes are an address, and 4 are an IPv4 address, which stands for the IPv4-mapped one (RFC 4291, 2.5.5.2)
+-- 16 bytes are an address, and 4 are an IPv4 address, which stands for the IPv4-mapped one
+-- (RFC 4291, 2.5.5.2)
 abbrev pub address_in : List ℕ → Option ℕ
 address_in bytes =
     if length bytes == 16 then Some (big_endian bytes)

@@ -35,15 +35,21 @@ pub record ShowsUntil (input left old new : Option (List ℕ)) (fault : ReadFaul
   pub stops : StopsAfter MAX_ENTRIES entries input left fault
   pub written : Appends old new (entry_lines entries)
 
--- a first part of the lines was written, and not all: of the entries that were read, or of a whole journal
+-- a first part of the lines was written, and not all: of the entries that were read,
+-- or of a whole journal
 pub data ShowsPart (input left old new : Option (List ℕ)) : Type 0 where
-  of_entries : (entries : List Fact) → (a : AreEntries MAX_ENTRIES entries) → Consumes input left (front_in a.version entries)
-      → AppendsPart old new (entry_lines entries) → ShowsPart input left old new
-  of_journal : (entries : List Fact) → IfSome input (λ bytes. IsJournalWithin MAX_ENTRIES bytes entries) → AppendsPart old new (shown_lines entries) → ShowsPart input left old new
+  of_entries : (entries : List Fact) → (a : AreEntries MAX_ENTRIES entries)
+      → Consumes input left (front_in a.version entries) → AppendsPart old new (entry_lines entries)
+      → ShowsPart input left old new
+  of_journal : (entries : List Fact)
+      → IfSome input (λ bytes. IsJournalWithin MAX_ENTRIES bytes entries)
+      → AppendsPart old new (shown_lines entries) → ShowsPart input left old new
 
 -- why it failed, and what was written
-abbrev pub ShowFails : Option (List ℕ) → Option (List ℕ) → Option (List ℕ) → Option (List ℕ) → CommandFault → Type 0
-ShowFails input left old new (Input number fault) = (number ≡ 1) × ShowsUntil input left old new fault
+abbrev pub ShowFails : Option (List ℕ) → Option (List ℕ) → Option (List ℕ) → Option (List ℕ)
+    → CommandFault → Type 0
+ShowFails input left old new (Input number fault) =
+    (number ≡ 1) × ShowsUntil input left old new fault
 ShowFails input left old new CannotWrite = ShowsPart input left old new
 ShowFails input left old new _ = ⊥
 

@@ -17,7 +17,8 @@ given_to held r more = slice_set held r (held_by held r ++ more)
 
 -- the facts held after a step; origin is the list of which a `Load` reads a journal
 abbrev pub held_after_step : List (List Fact) → Step → List Fact → List (List Fact)
-held_after_step held (Take replica sender datagram) origin = given_to held replica (facts sender datagram)
+held_after_step held (Take replica sender datagram) origin =
+    given_to held replica (facts sender datagram)
 held_after_step held (Load replica journal) origin = given_to held replica origin
 held_after_step held (Add replica fact) origin = given_to held replica (fact ∷ [])
 held_after_step held (Merge into from) origin = given_to held into (held_by held from)
@@ -41,15 +42,18 @@ target_of (Reopen replica) = replica
 
 -- a `Load` reads a journal of at most so many entries
 abbrev pub LoadsJournal : ℕ → Step → Type 0
-LoadsJournal limit (Load replica journal) = (entries : List Fact) × IsJournalWithin limit journal entries
+LoadsJournal limit (Load replica journal) =
+    (entries : List Fact) × IsJournalWithin limit journal entries
 LoadsJournal limit (Take replica sender datagram) = ⊤
 LoadsJournal limit (Add replica fact) = ⊤
 LoadsJournal limit (Merge into from) = ⊤
 LoadsJournal limit (Reopen replica) = ⊤
 
--- the origin fits the step: it is a list of which a `Load` reads a journal, and it is empty where that reads no journal
+-- the origin fits the step: it is a list of which a `Load` reads a journal, and it is empty where
+-- that reads no journal
 abbrev pub FitsStep : Step → List Fact → Type 0
-FitsStep (Load replica journal) origin = IsJournal journal origin ⊎ (((F : List Fact) → ¬ IsJournal journal F) × (origin ≡ []))
+FitsStep (Load replica journal) origin =
+    IsJournal journal origin ⊎ (((F : List Fact) → ¬ IsJournal journal F) × (origin ≡ []))
 FitsStep (Take replica sender datagram) origin = ⊤
 FitsStep (Add replica fact) origin = ⊤
 FitsStep (Merge into from) origin = ⊤

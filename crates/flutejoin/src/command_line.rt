@@ -76,11 +76,10 @@ pub enum Line<'a> {
 ///
 /// `CommandLine` with the parser's text where that refuses the words, or where they ask for help or
 /// the version; `BadNumber` with the first option, in the order `--tsi`, `--toi`, `--fdt`,
-/// `--length`, `--symbol`, `--block`, that is not a number of its range, or with `--tsi` where `join`
-/// has it more than 64 times; `BadSource` where
-/// `--source` is not 32 or 8 hexadecimal digits; `BadKey` where `--fdt` does not go with `--toi`;
-/// `TooManyInputs` where `join` has more than 64 inputs; `OutputIsInput` where `merge` is to write
-/// one of its inputs; and `OutOfMemory`.
+/// `--length`, `--symbol`, `--block`, that is not a number of its range, or with `--tsi` where
+/// `join` has it more than 64 times; `BadSource` where `--source` is not 32 or 8 hexadecimal
+/// digits; `BadKey` where `--fdt` does not go with `--toi`; `TooManyInputs` where `join` has more
+/// than 64 inputs; `OutputIsInput` where `merge` is to write one of its inputs; and `OutOfMemory`.
 pub fn line_of(alloc: Global, words: &[String]) -> Result<Line<'_>, CommandFault>
     ensures few { IfOk result HasFewInputs }
     ensures fault { IfErr result IsLineFault }

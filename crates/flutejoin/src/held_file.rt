@@ -83,7 +83,8 @@ fn is_of_others(sessions: &Sessions, datagram: &[u8]) -> bool
         → chosen (listed_tsis sessions.now) (facts sender datagram.now) ≡ [] }
     ensures packet { result ≡ true → is_refused datagram.now ≡ false }
     ensures taken { result ≡ false → (sender : ℕ)
-        → chosen (listed_tsis sessions.now) (facts sender datagram.now) ≡ facts sender datagram.now }
+        → chosen (listed_tsis sessions.now) (facts sender datagram.now)
+        ≡ facts sender datagram.now }
 {
     // By this the proof knows what a datagram tells.
     computed_reading();

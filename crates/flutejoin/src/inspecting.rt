@@ -54,8 +54,8 @@ impl Inspected {
     }
 }
 
-/// Inspects at the kind of each input, and reads each datagram file, in their order. A journal is then
-/// to be read from its first byte.
+/// Inspects at the kind of each input, and reads each datagram file, in their order.
+/// A journal is then to be read from its first byte.
 ///
 /// # Errors
 ///
@@ -72,8 +72,8 @@ pub(crate) fn inspect_all<R: Source>(
     ensures ready { IfOk result
         (λ inspected. AreReady R.unread R.failures inputs.new inspected.files.items) }
     ensures inspected { (contents : List (List ℕ)) → AreInputs R.unread inputs.old contents
-        → IfOk result
-        (λ inspected. AreInspected R.unread (choice_of sender sessions.now) inputs.new inspected.files.items contents) }
+        → IfOk result (λ inspected. AreInspected R.unread (choice_of sender sessions.now)
+        inputs.new inspected.files.items contents) }
     ensures sums { IfOk result SumsUp }
     ensures failed { (contents : List (List ℕ)) → AreInputs R.unread inputs.old contents
         → IfErr result (SomeInspectionFails contents) }
@@ -107,7 +107,8 @@ fn inspect<R: Source>(
 ) -> Result<Option<HeldFile>, CommandFault>
     ensures ready { IfOk result (IsReady R.unread R.failures input.new) }
     ensures inspected { (bytes : List ℕ) → IsInput R.unread input.old bytes
-        → IfOk result (λ file. IsInspected R.unread (choice_of sender sessions.now) input.new file bytes) }
+        → IfOk result (λ file. IsInspected R.unread (choice_of sender sessions.now)
+        input.new file bytes) }
     ensures few { IfOk result IsFew }
     ensures failed { (bytes : List ℕ) → IsInput R.unread input.old bytes
         → IfErr result (InspectionFails number bytes) }

@@ -15,9 +15,9 @@ use flute_parts::{Sink, Source, Tally};
 use std::alloc::Global;
 
 /// Writes how much is held of each object of the journal that the source gives, of at most
-/// 16,777,216 entries, in the order of their keys: a line for the object, and where some symbols are
-/// missing, in conflict or of a length that does not fit, a line for each longest run of those. One
-/// entry is held, and the lines, which are written once the whole journal was read.
+/// 16,777,216 entries, in the order of their keys: a line for the object, and where some symbols
+/// are missing, in conflict or of a length that does not fit, a line for each longest run of those.
+/// One entry is held, and the lines, which are written once the whole journal was read.
 ///
 /// # Errors
 ///

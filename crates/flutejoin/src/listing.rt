@@ -147,7 +147,8 @@ fn pass_symbol(
     id: SymbolId,
     value: Option<&[u8]>,
 ) -> Result<(), AllocError>
-    ensures { (key : Key) (mine : List Fact) → IsRising (mine ++ next_fact key (id, value.entry) ∷ [])
+    ensures { (key : Key) (mine : List Fact)
+        → IsRising (mine ++ next_fact key (id, value.entry) ∷ [])
         → StateIs key mine gap_lines.old.items state.old
         → OnOk result (StateIs key (mine ++ next_fact key (id, value.entry) ∷ [])
         gap_lines.new.items state.new) }

@@ -30,7 +30,8 @@ pub fn merge_to<A: Source, B: Source, W: Sink>(
         (W.written sink.old) (W.written sink.new)) }
     ensures failed { IfErr result (MergeFails (A.unread first.old) (B.unread second.old)) }
     ensures first_failures { FirstInputFails (A.failures first.old) (A.failures first.new) result }
-    ensures second_failures { SecondInputFails (B.failures second.old) (B.failures second.new) result }
+    ensures second_failures { SecondInputFails
+        (B.failures second.old) (B.failures second.new) result }
     ensures failures { W.failures sink.new ≡ W.failures sink.old + write_failures result }
 {
     match merge_streams(alloc, first, second, sink, MAX_ENTRIES) {

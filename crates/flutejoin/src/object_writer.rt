@@ -200,8 +200,8 @@ impl WholeSoFar {
         }
     }
 
-    // Takes the next symbol, and writes it where it is the next of the partition. The first symbol that is not held as one
-    // fitting value, if that is known now.
+    // Takes the next symbol, and writes it where it is the next of the partition. The first symbol
+    // that is not held as one fitting value, if that is known now.
     #[inline(always)]
     fn symbol<W: Sink>(
         &mut self,
@@ -213,8 +213,8 @@ impl WholeSoFar {
         ensures passed { (P : List Known) (key : Name) (start : Option (List ℕ))
             → IsRising (P ++ next_fact key (id, value.entry) ∷ [])
             → Scanning P key failed.old start (W.written sink.old) self.old
-            → ScansOn (P ++ next_fact key (id, value.entry) ∷ []) key failed.new start (W.written sink.new)
-            self.new result }
+            → ScansOn (P ++ next_fact key (id, value.entry) ∷ []) key failed.new start
+            (W.written sink.new) self.new result }
         ensures failures { W.failures sink.new + times_failed failed.old
             ≡ W.failures sink.old + times_failed failed.new }
     {

@@ -60,7 +60,8 @@ impl<'a, R: Source> Source for PeekedSource<'a, R> {
 
     ghost failures = { λ s. R.failures s.source.now };
 
-    ghost unread = { λ s. prepend_known (drop s.given (take s.first.count s.first.bytes)) (R.unread s.source.now) };
+    ghost unread = { λ s. prepend_known (drop s.given (take s.first.count s.first.bytes))
+        (R.unread s.source.now) };
 
     ghost buffered = { λ s. if nat_le s.first.count s.given then R.buffered s.source.now else [] };
 

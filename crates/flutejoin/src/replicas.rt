@@ -87,7 +87,10 @@ impl<const SESSIONS: u32, const OBJECTS: u32, const SYMBOLS: u32> Model
 
     ghost Value = { Held };
 
-    ghost view = { λ r. record { contents = map (λ x. x.store) r.replicas.items; refused = map (λ x. x.refused) r.replicas.items } };
+    ghost view = { λ r. record {
+      contents = map (λ x. x.store) r.replicas.items;
+      refused = map (λ x. x.refused) r.replicas.items;
+    } };
 
     ghost invariant = { λ r. length r.replicas.items < 2 ^ 32 };
 }

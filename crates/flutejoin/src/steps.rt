@@ -10,8 +10,8 @@ use thiserror::Error;
 /// One thing that is done to replicas. Replicas are numbered from 0.
 #[derive(Debug, Drop)]
 pub enum Step {
-    /// The replica takes a datagram that this sender sent. One that is refused gives nothing, and is
-    /// counted.
+    /// The replica takes a datagram that this sender sent. One that is refused gives nothing,
+    /// and is counted.
     Take {
         replica: u32,
         sender: Sender,

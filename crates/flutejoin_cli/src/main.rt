@@ -115,8 +115,8 @@ fn gaps(rt: &HostRuntime, j: &str) -> Result<(), CommandFault> {
     output.flush().map_err(|_| CommandFault::CannotWrite)
 }
 
-/// Writes the object to an output that is created once the input is open, and before it is read, where
-/// it becomes OUT whole or not at all.
+/// Writes the object to an output that is created once the input is open, and before it is read,
+/// where it becomes OUT whole or not at all.
 fn extract(rt: &HostRuntime, out: &str, key: &Key, j: &str) -> Result<(), CommandFault> {
     let mut input = open_input(rt, 1, j)?;
     let file = files_of(rt, &input)?;
@@ -154,8 +154,8 @@ fn extract_nowhere(
     Err(fault)
 }
 
-/// Holds the object in memory before it opens an output that takes its bytes itself: nothing goes to a
-/// pipe or a device of an object that is not whole.
+/// Holds the object in memory before it opens an output that takes its bytes itself:
+/// nothing goes to a pipe or a device of an object that is not whole.
 fn extract_held(
     rt: &HostRuntime,
     folder: Folder<'_>,
@@ -176,8 +176,8 @@ fn extract_held(
     tell_count(rt, report, "bytes", bytes)
 }
 
-/// Creates the output once the input is open, and before it is read. Where that cannot be, the input's
-/// fault is told first.
+/// Creates the output once the input is open, and before it is read. Where that cannot be,
+/// the input's fault is told first.
 fn add_information(
     rt: &HostRuntime,
     out: &str,

@@ -21,8 +21,8 @@ pub enum Report {
     StandardError,
 }
 
-/// What the path of an output leads to; the output may be one of the inputs. All memory that it needs
-/// is asked for, and nothing is made.
+/// What the path of an output leads to; the output may be one of the inputs. All memory
+/// that it needs is asked for, and nothing is made.
 pub fn folder_at<'a>(
     rt: &'a HostRuntime,
     path: &str,

@@ -14,7 +14,10 @@ use Rattle.join_sample.specs.declared.Object.{Object}
 module _ {n : ℕ} where
   -- the information and the symbols joined
   abbrev pub object_join : Object n → Object n → Object n
-  object_join x y = record { info = cell_join nat_eq x.info y.info; symbols = map_join nat_cmp (cell_join nat_eq) x.symbols y.symbols }
+  object_join x y = record {
+    info = cell_join nat_eq x.info y.info;
+    symbols = map_join nat_cmp (cell_join nat_eq) x.symbols y.symbols;
+  }
 
   -- the limit forbids the join of the symbols
   abbrev pub ObjectOver : Object n → Object n → Type 0
@@ -22,7 +25,8 @@ module _ {n : ℕ} where
 
   -- joining the information or the symbols may ask for memory
   abbrev pub ObjectNeedsMemory : Object n → Object n → Type 0
-  ObjectNeedsMemory x y = CellNeedsMemory x.info y.info ⊎ MapNeedsMemory nat_cmp CellNeedsMemory x.symbols y.symbols
+  ObjectNeedsMemory x y =
+      CellNeedsMemory x.info y.info ⊎ MapNeedsMemory nat_cmp CellNeedsMemory x.symbols y.symbols
 
   -- the object has information or a symbol, and something is known of each symbol that it has
   pub record IsSoundObject (x : Object n) : Type 0 where
@@ -39,7 +43,16 @@ maps = map_join_laws nat_cmp_total exact_unsigned cells
 
 pub object_join_laws : (n : ℕ) → IsJoin (object_join {n = n})
 object_join_laws n = record {
-  commutative = λ x y i. record { info = cells.commutative x.info y.info i; symbols = maps.commutative x.symbols y.symbols i };
-  associative = λ x y z i. record { info = cells.associative x.info y.info z.info i; symbols = maps.associative x.symbols y.symbols z.symbols i };
-  idempotent = λ x i. record { info = cells.idempotent x.info i; symbols = maps.idempotent x.symbols i };
+  commutative =
+      λ x y i. record {
+        info = cells.commutative x.info y.info i;
+        symbols = maps.commutative x.symbols y.symbols i;
+      };
+  associative =
+      λ x y z i. record {
+        info = cells.associative x.info y.info z.info i;
+        symbols = maps.associative x.symbols y.symbols z.symbols i;
+      };
+  idempotent =
+      λ x i. record { info = cells.idempotent x.info i; symbols = maps.idempotent x.symbols i };
 }

@@ -1,5 +1,5 @@
-//! A sample over `flute_join`: a struct of a cell and a map that is joined, and maps of maps of it. It stands on what
-//! `flute_join` promises in public, and shows that a layer above needs no more.
+//! A sample over `flute_join`: a struct of a cell and a map that is joined, and maps of maps of it.
+//! It stands on what `flute_join` promises in public, and shows that a layer above needs no more.
 #![tactic(auto)]
 
 ghost use Rattle.std.specs.Prelude.{◌≡◌, ◌≤◌, length, OnOk, IfErr};
@@ -58,8 +58,9 @@ pub type Sessions<const SESSIONS: u32, const OBJECTS: u32, const SYMBOLS: u32> =
     SESSIONS,
 >;
 
-/// Joins other sessions into these. `Full` comes only where they have more sessions, objects or symbols together than
-/// the limits. Whatever the result, no session is left without an object, and no object with nothing in it.
+/// Joins other sessions into these. `Full` comes only where they have more sessions, objects
+/// or symbols together than the limits. Whatever the result, no session is left without an object,
+/// and no object with nothing in it.
 pub fn absorb<const SESSIONS: u32, const OBJECTS: u32, const SYMBOLS: u32>(
     sessions: &mut Sessions<SESSIONS, OBJECTS, SYMBOLS>,
     alloc: Global,
@@ -68,9 +69,11 @@ pub fn absorb<const SESSIONS: u32, const OBJECTS: u32, const SYMBOLS: u32>(
     ensures ok { OnOk result (sessions.new ≡ sessions_join sessions.old other.now) }
     ensures above_old { IsBelow sessions_join sessions.old sessions.new }
     ensures below_join { IsBelow sessions_join sessions.new (sessions_join sessions.old other.now) }
-    ensures full { IfErr result (λ why. why ≡ JoinRefusal.Full → SessionsOver SESSIONS OBJECTS sessions.old other.now) }
+    ensures full { IfErr result (λ why. why ≡ JoinRefusal.Full
+        → SessionsOver SESSIONS OBJECTS sessions.old other.now) }
     ensures within_limit { length sessions.new ≤ SESSIONS }
-    ensures each { EachValue (IsSoundObjects OBJECTS) sessions.old → EachValue (IsSoundObjects OBJECTS) other.now
+    ensures each { EachValue (IsSoundObjects OBJECTS) sessions.old
+        → EachValue (IsSoundObjects OBJECTS) other.now
         → EachValue (IsSoundObjects OBJECTS) sessions.new }
 {
     sessions.join_from(alloc, other)

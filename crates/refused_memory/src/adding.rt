@@ -12,7 +12,8 @@ use flute_store::{Shelf, Status};
 use std::alloc::Global;
 use std::io::Print;
 
-/// What is added behind datagrams, how much of the object is held before and then, and the journal of the store then.
+/// What is added behind datagrams, how much of the object is held before and then, and the journal
+/// of the store then.
 #[derive(Clone, Copy)]
 pub struct Add<'a> {
     key: &'a Key,

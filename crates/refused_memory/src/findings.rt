@@ -1,6 +1,7 @@
 //! What is found wrong.
 
-/// The first thing that is not as it must be, and how often a refusal left a part of what was to come.
+/// The first thing that is not as it must be, and how often a refusal left a part
+/// of what was to come.
 #[derive(Drop)]
 pub struct Findings {
     first: Option<&'static str>,
@@ -28,7 +29,8 @@ impl Findings {
         self.first
     }
 
-    /// Counts a state that a refusal left, if that is neither the old one nor the one that was to come.
+    /// Counts a state that a refusal left, if that is neither the old one nor the one
+    /// that was to come.
     pub fn count_part(&mut self, is_part: bool) {
         if is_part {
             self.parts = self.parts.saturating_add(1);

@@ -1,7 +1,9 @@
-//! Refuses each request for memory in turn, in the calls that ask for some, and looks at what comes of it.
+//! Refuses each request for memory in turn, in the calls that ask for some, and looks
+//! at what comes of it.
 //!
-//! It is no part of the product. `tests/refused_memory.sh` runs it with the library `tests/refuse.c` loaded before it, which
-//! does the refusing. Without that no request is refused, and it prints zeros.
+//! It is no part of the product. `tests/refused_memory.sh` runs it with the library
+//! `tests/refuse.c` loaded before it, which does the refusing. Without that no request is refused,
+//! and it prints zeros.
 #![tactic(auto)]
 
 mod absorbing;

@@ -54,8 +54,8 @@ fn holds<const SESSIONS: u32, const OBJECTS: u32, const SYMBOLS: u32>(
     false
 }
 
-/// Whether the store lies between another and what that was to become: no address was lost, and each fact is of one of
-/// the two.
+/// Whether the store lies between another and what that was to become: no address was lost,
+/// and each fact is of one of the two.
 pub fn is_between<const SESSIONS: u32, const OBJECTS: u32, const SYMBOLS: u32>(
     old: &Store<SESSIONS, OBJECTS, SYMBOLS>,
     store: &Store<SESSIONS, OBJECTS, SYMBOLS>,

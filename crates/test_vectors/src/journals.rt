@@ -1,6 +1,7 @@
 //! Journals and a datagram file in hexadecimal, by name, and the parts of journals.
 //!
-//! They are of session 7 and file 1, `hello` of 5 bytes, in symbols of 4 bytes and blocks of at most 2 symbols.
+//! They are of session 7 and file 1, `hello` of 5 bytes, in symbols of 4 bytes and blocks
+//! of at most 2 symbols.
 
 /// No fact: 15 bytes.
 pub const NOTHING: &str = "464C4A4E0001 FF 0000000000000000";

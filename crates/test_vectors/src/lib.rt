@@ -1,7 +1,9 @@
-//! What the tests of several crates read: datagrams and journals in hexadecimal, by name, and numbers that look random.
+//! What the tests of several crates read: datagrams and journals in hexadecimal, by name,
+//! and numbers that look random.
 //!
-//! The datagrams of session 7 and file 1 belong to a file `hello` of 5 bytes, in symbols of 4 bytes and blocks of at most
-//! 2 symbols, so one block of two symbols. Spaces and line feeds are no part of the bytes.
+//! The datagrams of session 7 and file 1 belong to a file `hello` of 5 bytes, in symbols of 4
+//! bytes and blocks of at most 2 symbols, so one block of two symbols. Spaces and line feeds are
+//! no part of the bytes.
 #![tactic(auto)]
 
 mod draw;
