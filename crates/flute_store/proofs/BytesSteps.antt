@@ -1,5 +1,5 @@
 -- The bytes that a walk gives.
-use Rattle.std.proofs.Common.{◌≡◌, ℕ, zero, suc, ◌+◌, ◌-◌, List, [], ◌∷◌, ◌++◌, length, take, drop, Option, Some, None, refl, sym, ap, ◌∙◌, subst, arith, append_assoc}
+use Rattle.std.proofs.Common.{◌≡◌, ℕ, zero, suc, ◌+◌, ◌-◌, List, [], ◌∷◌, ◌++◌, length, take, Option, Some, None, refl, sym, ap, ◌∙◌, subst, arith, append_assoc}
 use Rattle.std.specs.Io.KnownBytes.{Appends}
 use Rattle.std.proofs.KnownBytes.{Appends-trans}
 use Rattle.flute_join.proofs.Under.{not_cons_nil}
@@ -9,7 +9,7 @@ use Rattle.flute_store.proofs.Common
 use Common.{flat_map, value_at, Cell, Absent, One, Information, IsValid, symbol_id_cmp, ids}
 use Common.{symbol_id, Key, SymbolId, Fact, Reason, Gap, Object, End, BlockEnd, Passed, Fitting}
 use Common.{Wanted, HeldScan, Turn, Whole, object, value_bytes, runs, gaps, listed, symbol_fact}
-use Common.{IsTold, wanted, blocks_from, Walk, at_start, symbols_left, left, pending, all_left}
+use Common.{IsTold, wanted, blocks_from, Walk, at_start, left, pending, all_left}
 use Common.{gaps_left, IsWalk, after_pass, after_take, after_begin, upcoming_of, Keeps, walk_in}
 use Common.{bound, IsHeldScan, Turns, cell_bytes, found_bytes, held_bytes, bytes_left, KeepsBytes}
 use Common.{GivesFirst, IsNotWhole, WritesWhole, WritesPart}
@@ -39,11 +39,8 @@ pass-bytes : (w : Walk) → IsWalk w → AtPassed w → bytes_left (after_pass w
 unfolding bytes_left
 pass-bytes w p t =
     let l = inside-less w p t.inside in
-    ap (λ (x : List Entry). held_bytes (drop 1 x) (symbols_left w)) t.held
-    ∙ ap (held_bytes t.others) (symbols-first w l)
-    ∙ sym (bytes-past t.first t.others (here w ∷ others_left w) (t.before, above-before t.first.0 (here w) (others_left w) t.before (others-above w p l)))
-    ∙ ap (held_bytes (t.first ∷ t.others)) (sym (symbols-first w l))
-    ∙ ap (λ (x : List Entry). held_bytes x (symbols_left w)) (sym t.held)
+    let a = above-before t.first.0 (here w) (others_left w) t.before (others-above w p l) in
+    rw (t.held, symbols-first w l, bytes-past t.first t.others (here w ∷ others_left w) (t.before, a))
 
 begin-bytes : (w : Walk) → IsWalk w → Tells w BlockEnd → bytes_left (after_begin w) ≡ bytes_left w
 unfolding bytes_left
@@ -53,10 +50,8 @@ take-bytes : (w : Walk) → IsWalk w → (t : AtHere w None) → bytes_left w �
 unfolding bytes_left
 take-bytes w p t =
     let l = inside-less w p t.inside in
-    ap (λ (x : List Entry). held_bytes x (symbols_left w)) t.held
-    ∙ ap (held_bytes (t.first ∷ t.others)) (symbols-first w l)
-    ∙ bytes-here t.first t.others (here w) (others_left w) t.at_here (others-above w p l)
-    ∙ ap (λ (x : List Entry). cell_bytes t.first.1 ++ held_bytes (drop 1 x) (others_left w)) (sym t.held)
+    let h = bytes-here t.first t.others (here w) (others_left w) t.at_here (others-above w p l) in
+    rw (t.held, symbols-first w l, h)
 
 end-bytes : (w : Walk) → Tells w End → bytes_left w ≡ []
 unfolding bytes_left held_bytes

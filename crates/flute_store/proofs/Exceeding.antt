@@ -99,20 +99,11 @@ module _ {K X : Type 0} {cmp : K → K → Ordering} (order : IsTotalOrder cmp) 
   pub first_value : (e : K × X) (es : List (K × X)) → value_at cmp (e ∷ es) e.0 ≡ Some e.1
   first_value e es = ap (λ o. cond (is_eq o) (Some e.1) (value_at cmp es e.0)) (tied_itself order e.0)
 
-  key_or_not : (es : List (K × X)) (k : K) → ((v : X) × (value_at cmp es k ≡ Some v)) ⊎ (has (λ a b. is_eq (cmp a b)) t k (keys_of es) ≡ false)
-  key_or_not [] k = inr refl
-  key_or_not (e ∷ es) k = elim (cases_Bool (is_eq (cmp k e.0))) [
-    | inl b ↦ inl (e.1, ap (λ c. cond c (Some e.1) (value_at cmp es k)) b)
-    | inr b ↦ elim (key_or_not es k) [
-      | inl f ↦ inl (f.0, ap (λ c. cond c (Some e.1) (value_at cmp es k)) b ∙ f.1)
-      | inr f ↦ inr (ap (λ c. c || has (λ a b. is_eq (cmp a b)) t k (keys_of es)) b ∙ f)
-    ]
-  ]
-
   pub has-value_at : (es : List (K × X)) (k : K) → has (λ a b. is_eq (cmp a b)) t k (keys_of es) ≡ true → (v : X) × (value_at cmp es k ≡ Some v)
-  has-value_at es k h = elim (key_or_not es k) [
-    | inl f ↦ f
-    | inr f ↦ absurd (false≢true (sym f ∙ h))
+  has-value_at [] k h = absurd (false≢true h)
+  has-value_at (e ∷ es) k h = elim (cases_Bool (is_eq (cmp k e.0))) [
+    | inl b ↦ (e.1, rw b)
+    | inr b ↦ let f = has-value_at es k (rw b at h) in (f.0, rw b f.1)
   ]
 
   -- what is looked up past the first entry
@@ -127,10 +118,7 @@ module _ {K X : Type 0} {cmp : K → K → Ordering} (order : IsTotalOrder cmp) 
   any-value B (e ∷ es) s (inl b) = (e.0, e.1, first_value e es, b)
   any-value B (e ∷ es) s (inr a) =
       let r = any-value B es (sorted_tail cmp e.0 (keys_of es) s) a in
-      elim (cases_Bool (is_at (cmp r.0) e.0)) [
-        | inl b ↦ absurd (none-some r.1 (sym (absent_past order e es r.0 s b) ∙ r.2))
-        | inr b ↦ (r.0, r.1, ap (λ c. cond c (Some e.1) (value_at cmp es r.0)) b ∙ r.2, r.3)
-      ]
+      (r.0, r.1, later_value e es r.0 r.1 s r.2, r.3)
 
 -- ---- what stands
 pub info_stands : (key : Key) (c : Cell Information) → IsKnown c → fact_at (info_cell_facts key c) (info_address key) ≢ None

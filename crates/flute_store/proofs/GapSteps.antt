@@ -1,4 +1,6 @@
 -- The gaps that a walk gives.
+use Rattle.std.proofs.Math.Nat.{zero-add, add-zero, suc-add}
+use Rattle.std.proofs.lemmas.List.FromFn.{map-range_with_len_more}
 use Rattle.std.proofs.Common.{◌≡◌, ◌≢◌, ℕ, zero, suc, ◌+◌, ◌-◌, ◌<◌, ◌≤◌, Bool, true, false, cond, ◌&&◌, List, [], ◌∷◌, ◌++◌, length, map, Option, Some, None, refl, sym, ap, ◌∙◌, subst, inl, inr, ◌⊎◌, arith, append_assoc}
 use Rattle.std.specs.Prelude.{nat_lt}
 use Rattle.flute_store.proofs.Common
@@ -30,13 +32,6 @@ gaps-end w e r = ap (λ o. runs (pending o ++ left w)) r ∙ ap runs (end-left w
 abbrev entry : ℕ → Reason → ℕ → SymbolId × Reason
 entry n r i = (symbol_id n i, r)
 
-entries-more : (n a k : ℕ) (r : Reason) (ws : List (SymbolId × Reason)) → map (entry n r) (range_with_len a k) ++ (entry n r (a + k) ∷ ws) ≡ map (entry n r) (range_with_len a (suc k)) ++ ws
-entries-more n a zero r ws = let e : a + 0 ≡ a = omega arith in ap (λ i. entry n r i ∷ ws) e
-entries-more n a (suc k) r ws =
-    let e : a + suc k ≡ a + 1 + k = omega arith in
-    ap (λ i. entry n r a ∷ (map (entry n r) (range_with_len (a + 1) k) ++ (entry n r i ∷ ws))) e
-    ∙ ap (λ xs. entry n r a ∷ xs) (entries-more n (a + 1) k r ws)
-
 same_run : (g : Gap) (r : Reason) → ended_run (Some g) (Wanted r) ≡ None → g.reason ≡ r
 same_run g r h = elim (cases_Bool (same_reason g.reason r)) [
   | inl t ↦ reason_same g.reason r t
@@ -47,11 +42,10 @@ same_run g r h = elim (cases_Bool (same_reason g.reason r)) [
 run-more : (n i : ℕ) (r : Reason) (run : Option Gap) (ws : List (SymbolId × Reason)) → EndsBefore n i run → ended_run run (Wanted r) ≡ None → pending (Some (run_with n i r run)) ++ ws ≡ pending run ++ (entry n r i ∷ ws)
 run-more n i r None ws e h = let k : i + 1 - i ≡ 1 = omega arith in ap (λ k. map (entry n r) (range_with_len i k) ++ ws) k
 run-more n i r (Some g) ws e h =
-    let k : i + 1 - g.first ≡ suc (g.last + 1 - g.first) = omega arith in
-    let j : g.first + (g.last + 1 - g.first) ≡ i = omega arith in
-    ap (λ k. map (entry g.sbn g.reason) (range_with_len g.first k) ++ ws) k
-    ∙ sym (entries-more g.sbn g.first (g.last + 1 - g.first) g.reason ws)
-    ∙ (λ x. pending (Some g) ++ (entry (e.0 x) (same_run g r h x) (j x) ∷ ws))
+    let k : i + 1 - g.first ≡ g.last + 1 - g.first + 1 = omega arith in
+    let n = g.last + 1 - g.first in
+    rw (k, map-range_with_len_more (entry g.sbn g.reason) g.first n i (omega arith), append_assoc)
+    (λ x. pending (Some g) ++ (entry (e.0 x) (same_run g r h x) i ∷ ws))
 
 pub run-ends : (n i : ℕ) (r : Reason) (run : Option Gap) → EndsBefore n i run → ended_run run (Wanted r) ≡ None → r ≢ Missing → EndsBefore n (i + 1) (Some (run_with n i r run))
 run-ends n i r None e h d = (refl, omega arith, refl, d)
@@ -168,11 +162,11 @@ greater-cases p q h = by_block (nat_cmp p.sbn q.sbn) refl h
 record Until (n a size u : ℕ) (held : List Entry) : Type 0 where
   less : a < u
   within : u ≤ size
-  none : (i : ℕ) → i < u → value_at symbol_id_cmp held (symbol_id n i) ≡ None
+  before : (i : ℕ) → i < u → IsBehind n i held
   next : (u ≡ size) ⊎ ((u < size) × (e : Entry) × (es : List Entry) × (held ≡ e ∷ es) × (e.0 ≡ symbol_id n u))
 
-first-less : (n i : ℕ) (e : Entry) (es : List Entry) → IsOrdered symbol_id_cmp (e ∷ es) → symbol_id_cmp (symbol_id n i) e.0 ≡ Less → value_at symbol_id_cmp (e ∷ es) (symbol_id n i) ≡ None
-first-less n i e es s l = value-before (e ∷ es) (symbol_id n i) (l, above-before (symbol_id n i) e.0 (keys_of es) l (sorted-first e es s))
+first-less : (n i : ℕ) (e : Entry) (es : List Entry) → IsOrdered symbol_id_cmp (e ∷ es) → symbol_id_cmp (symbol_id n i) e.0 ≡ Less → IsBehind n i (e ∷ es)
+first-less n i e es s l = (l, above-before (symbol_id n i) e.0 (keys_of es) l (sorted-first e es s))
 
 less_in : (n i : ℕ) (p : SymbolId) → p.sbn ≡ n → i < p.esi → symbol_id_cmp (symbol_id n i) p ≡ Less
 less_in n i p e l = ap (λ m. symbol_id_cmp (symbol_id m i) p) (sym e) ∙ esi-less p.sbn i p.esi l
@@ -181,7 +175,7 @@ beyond : (m n j size : ℕ) → ((m == n) && nat_lt j size) ≡ false → m ≡ 
 beyond m n j size t e = grind (arith, nat_tests)
 
 until-is : (n a size : ℕ) (held : List Entry) → a < size → IsOrdered symbol_id_cmp held → FirstAfter (symbol_id n a) held → Until n a size (until_held n size held) held
-until-is n a size [] l s f = record { less = l; within = omega arith; none = λ i h. refl; next = inl refl }
+until-is n a size [] l s f = record { less = l; within = omega arith; before = λ i h. tt; next = inl refl }
 until-is n a size (e ∷ es) l s f = elim (cases_Bool ((e.0.sbn == n) && nat_lt e.0.esi size)) [
   | inl t ↦
       let b = both (e.0.sbn == n) (nat_lt e.0.esi size) t in
@@ -190,14 +184,14 @@ until-is n a size (e ∷ es) l s f = elim (cases_Bool ((e.0.sbn == n) && nat_lt 
       subst (λ b. Until n a size (cond b e.0.esi size) (e ∷ es)) (sym t) (record {
         less = elim (greater-cases e.0 (symbol_id n a) f) [ inl g ↦ absurd (omega (arith, g, m)) | inr g ↦ g.1 ];
         within = omega (arith, j);
-        none = λ i h. first-less n i e es s (less_in n i e.0 m h);
+        before = λ i h. first-less n i e es s (less_in n i e.0 m h);
         next = inr (j, e, es, refl, λ i. record { sbn = m i; esi = e.0.esi });
       })
   | inr t ↦
       subst (λ b. Until n a size (cond b e.0.esi size) (e ∷ es)) (sym t) (record {
         less = l;
         within = omega arith;
-        none = λ i h. first-less n i e es s (elim (greater-cases e.0 (symbol_id n a) f) [
+        before = λ i h. first-less n i e es s (elim (greater-cases e.0 (symbol_id n a) f) [
           | inl g ↦ sbn-less (symbol_id n i) e.0 g
           | inr g ↦ less_in n i e.0 g.0 (let k = beyond e.0.sbn n e.0.esi size t g.0 in omega (arith, k, h))
         ]);
@@ -206,19 +200,16 @@ until-is n a size (e ∷ es) l s f = elim (cases_Bool ((e.0.sbn == n) && nat_lt 
 ]
 
 block-append : (n a k j : ℕ) → map (symbol_id n) (range_with_len a (k + j)) ≡ map (symbol_id n) (range_with_len a k) ++ map (symbol_id n) (range_with_len (a + k) j)
-block-append n a zero j = (let e : zero + j ≡ j = omega arith in ap (λ x. map (symbol_id n) (range_with_len a x)) e) ∙ (let e : a ≡ a + 0 = omega arith in ap (λ x. map (symbol_id n) (range_with_len x j)) e)
+block-append n a zero j = simp (zero-add, add-zero)
 block-append n a (suc k) j =
-    let e : suc k + j ≡ suc (k + j) = omega arith in
     let f : a + 1 + k ≡ a + suc k = omega arith in
-    ap (λ x. map (symbol_id n) (range_with_len a x)) e
-    ∙ ap (λ xs. symbol_id n a ∷ xs) (block-append n (a + 1) k j)
-    ∙ ap (λ x. symbol_id n a ∷ (map (symbol_id n) (range_with_len (a + 1) k) ++ map (symbol_id n) (range_with_len x j))) f
+    rw (suc-add k j, block-append n (a + 1) k j, f)
 
 block-split : (n a u size : ℕ) → a ≤ u → u ≤ size → block_from n a size ≡ block_from n a u ++ block_from n u size
 block-split n a u size l m =
     let e : size - a ≡ u - a + (size - u) = omega arith in
     let f : a + (u - a) ≡ u = omega arith in
-    ap (λ x. map (symbol_id n) (range_with_len a x)) e ∙ block-append n a (u - a) (size - u) ∙ ap (λ x. block_from n a u ++ map (symbol_id n) (range_with_len x (size - u))) f
+    rw (e, block-append n a (u - a) (size - u), f)
 
 -- the next symbols are not held
 abbrev pub after_missing : Walk → Walk
@@ -226,32 +217,6 @@ after_missing w = record w { esi = until_of w }
 
 until-walk : (w : Walk) → IsWalk w → upcoming_of w ≡ NotHeld → Until w.sbn w.esi w.size (until_of w) w.held
 until-walk w p e = let t = told w NotHeld e in until-is w.sbn w.esi w.size w.held (inside-less w p t.0) p.ordered t.1
-
--- the held symbols stand behind those that are not held
-behind-until : (n a size : ℕ) (held : List Entry) → a < size → IsOrdered symbol_id_cmp held → FirstAfter (symbol_id n a) held → IsBehind n (until_held n size held - 1) held
-behind-until n a size [] l s f = tt
-behind-until n a size (e ∷ es) l s f = elim (cases_Bool ((e.0.sbn == n) && nat_lt e.0.esi size)) [
-  | inl t ↦
-      let b = both (e.0.sbn == n) (nat_lt e.0.esi size) t in
-      let m = eqb-true e.0.sbn n b.0 in
-      subst (λ b. IsBehind n (cond b e.0.esi size - 1) (e ∷ es)) (sym t)
-      (all (e.0.esi - 1) (elim (greater-cases e.0 (symbol_id n a) f) [
-        | inl g ↦ absurd (omega (arith, g, m))
-        | inr g ↦ let k = g.1 in less_in n (e.0.esi - 1) e.0 m (omega (arith, k))
-      ]))
-  | inr t ↦
-      subst (λ b. IsBehind n (cond b e.0.esi size - 1) (e ∷ es)) (sym t)
-      (all (size - 1) (elim (greater-cases e.0 (symbol_id n a) f) [
-        | inl g ↦ sbn-less (symbol_id n (size - 1)) e.0 g
-        | inr g ↦ let k = beyond e.0.sbn n e.0.esi size t g.0 in less_in n (size - 1) e.0 g.0 (omega (arith, k, l))
-      ]))
-]
-  where
-    all : (i : ℕ) → symbol_id_cmp (symbol_id n i) e.0 ≡ Less → IsBehind n i (e ∷ es)
-    all i h = (h, above-before (symbol_id n i) e.0 (keys_of es) h (sorted-first e es s))
-
-behind-missing : (w : Walk) → IsWalk w → upcoming_of w ≡ NotHeld → IsBehind w.sbn (until_of w - 1) w.held
-behind-missing w p e = let t = told w NotHeld e in behind-until w.sbn w.esi w.size w.held (inside-less w p t.0) p.ordered t.1
 
 missing-walk : (w : Walk) → IsWalk w → w.run ≡ None → until_of w ≤ w.size → IsBehind w.sbn (until_of w - 1) w.held → IsWalk (after_missing w)
 missing-walk w p r l b = record { ordered = p.ordered; known = p.known; begun = p.begun; within = l; longest = p.longest; in_block = p.in_block; behind = λ z. b; running = subst (EndsBefore w.sbn (until_of w)) (sym r) tt }
@@ -277,7 +242,8 @@ missing-left w u =
     let rest = blocks_from w.partition w.begun in
     ap (λ xs. wanted w.partition w.held (xs ++ rest)) (block-split w.sbn w.esi (until_of w) w.size (omega arith) u.within)
     ∙ ap (wanted w.partition w.held) (append_assoc (block_from w.sbn w.esi (until_of w)) (block_from w.sbn (until_of w) w.size) rest)
-    ∙ wanted-missing w.partition w.held w.sbn w.esi (until_of w - w.esi) (block_from w.sbn (until_of w) w.size ++ rest) (λ i h. u.none i (omega (arith, h)))
+    ∙ wanted-missing w.partition w.held w.sbn w.esi (until_of w - w.esi) (block_from w.sbn (until_of w) w.size ++ rest)
+    (λ i h. value-before w.held (symbol_id w.sbn i) (u.before i (omega (arith, h))))
 
 abbrev missing_gap_of : Walk → Gap
 missing_gap_of w = record { sbn = w.sbn; first = w.esi; last = until_of w - 1; reason = Missing }
@@ -285,12 +251,13 @@ missing_gap_of w = record { sbn = w.sbn; first = w.esi; last = until_of w - 1; r
 pub gap-missing : (w : Walk) → IsWalk w → w.run ≡ None → upcoming_of w ≡ NotHeld → GivesGap w (record { sbn = w.sbn; first = w.esi; last = until_of w - 1; reason = Missing }) (after_missing w)
 gap-missing w p r e =
     let u = until-walk w p e in
+    let behind = u.before (until_of w - 1) (omega arith) in
     record {
-      walk = missing-walk w p r u.within (behind-missing w p e);
+      walk = missing-walk w p r u.within behind;
       held_is = refl;
       begun_is = refl;
       partition_is = refl;
-      passes = record { begun = sym (p.in_block (omega arith)); behind = behind-missing w p e };
+      passes = record { begun = sym (p.in_block (omega arith)); behind = behind };
       first =
           ap (λ o. runs (pending o ++ left w)) r
           ∙ ap runs (missing-left w u)

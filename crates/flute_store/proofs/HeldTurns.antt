@@ -1,4 +1,5 @@
 -- The turns of a walk over all that is held.
+use Rattle.std.proofs.Common.{rules}
 use Rattle.std.proofs.Common.{◌≡◌, ℕ, ◌+◌, ◌<◌, ◌^◌, false, List, length, Option, Some, refl, sym, ap, ◌∙◌, subst, arith, Bool}
 use Rattle.flute_store.proofs.Common
 use Common.{IsKnown, IsOrdered, EachValue, Information, symbol_id_cmp, Turn, PartitionScan}
@@ -54,16 +55,7 @@ ticked v w t s h = h.ticks
 -- ---- the start
 
 pub start-walk : (info : Information) (held : List Entry) → IsOrdered symbol_id_cmp held → EachValue IsKnown held → IsWalk (at_start info held)
-start-walk info held o k = record {
-  ordered = o;
-  known = k;
-  begun = omega arith;
-  within = omega arith;
-  longest = omega arith;
-  in_block = λ z. absurd (omega (arith, z));
-  behind = λ z. absurd (omega (arith, z));
-  running = tt;
-}
+start-walk info held o k = search rules
 
 pub start-held : (info : Information) (held : List Entry) (w : PartitionScan) (left : List Entry) → walk_of w left ≡ at_start info held → IsPlace w → IsOrdered symbol_id_cmp held → EachValue IsKnown held → length held < 2 ^ 32 → IsHeldScan (record { walk = w; held = left; ticks = 0; ended = false })
 start-held info held w left e q o k f =

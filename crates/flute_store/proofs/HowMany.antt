@@ -1,8 +1,9 @@
 -- How many symbols are wanted for each reason.
+use Rattle.std.proofs.lemmas.List.Elements.{filter-append}
 use Rattle.std.proofs.lemmas.List.FromFn.{length-map-range_with_len}
 use Rattle.std.proofs.Common.{◌≡◌, ℕ, zero, suc, ◌+◌, ◌-◌, ◌<◌, ◌≤◌, ◌^◌, Bool, true, false, cond, List, [], ◌∷◌, ◌++◌, length, map, Option, Some, None, refl, sym, ap, ◌∙◌, subst, arith, inl, inr}
 use Rattle.std.specs.Prelude.{◌&&◌}
-use Rattle.std.proofs.lemmas.List.{nil_from_length}
+use Rattle.std.proofs.lemmas.List.{nil_from_length, length-append}
 use Rattle.flute_store.specs.declared.status.Wanted.{Wanted}
 use Rattle.flute_store.specs.declared.status.Status.TheVariants.{Partial, Whole as WholeObject}
 use Rattle.flute_store.proofs.Common
@@ -37,24 +38,16 @@ how-cons r w ws = by_reason (same_reason r w.1)
     by_reason false = refl
 
 pub how-append : (r : Reason) (ws vs : List Want) → how_many r (ws ++ vs) ≡ how_many r ws + how_many r vs
-how-append r [] vs = omega (arith, how-nil r)
-how-append r (w ∷ ws) vs = how-cons r w (ws ++ vs) ∙ ap (step (same_reason r w.1)) (how-append r ws vs) ∙ more (same_reason r w.1) (how_many r ws) (how_many r vs) ∙ ap (λ n. n + how_many r vs) (sym (how-cons r w ws))
-  where
-    more : (b : Bool) (m n : ℕ) → step b (m + n) ≡ step b m + n
-    more true m n = omega arith
-    more false m n = refl
+unfolding how_many
+how-append r ws vs = simp (filter-append, length-append)
 
 -- each is wanted for one of the three reasons
 pub how-all : (ws : List Want) → how_many Missing ws + how_many Conflicting ws + how_many Misfit ws ≡ length ws
-how-all [] = omega (arith, how-nil Missing, how-nil Conflicting, how-nil Misfit)
-how-all (w ∷ ws) =
-    (λ i. how-cons Missing w ws i + how-cons Conflicting w ws i + how-cons Misfit w ws i)
-    ∙ one_more w.1 (how_many Missing ws) (how_many Conflicting ws) (how_many Misfit ws) (length ws) (how-all ws)
-  where
-    one_more : (r : Reason) (a b c n : ℕ) → a + b + c ≡ n → step (same_reason Missing r) a + step (same_reason Conflicting r) b + step (same_reason Misfit r) c ≡ suc n
-    one_more Missing a b c n e = omega (arith, e)
-    one_more Conflicting a b c n e = omega (arith, e)
-    one_more Misfit a b c n e = omega (arith, e)
+unfolding how_many
+how-all [] = omega arith
+how-all ((id, Missing) ∷ ws) = omega (arith, how-all ws)
+how-all ((id, Conflicting) ∷ ws) = omega (arith, how-all ws)
+how-all ((id, Misfit) ∷ ws) = omega (arith, how-all ws)
 
 -- the symbols of a gap are wanted for its reason
 abbrev times : Bool → ℕ → ℕ
@@ -97,30 +90,21 @@ pub record Counts (count : Wanted) (all rest : List Want) : Type 0 where
   pub misfit : count.misfit + how_many Misfit rest ≡ how_many Misfit all
 
 pub counts-more : (g : Gap) (count new : Wanted) (all rest : List Want) → Counts count all (listed g ++ rest) → Adds g count new → Counts new all rest
-counts-more g count new all rest c a =
-    record {
-      missing = omega (arith, how-append Missing (listed g) rest);
-      conflicting = omega (arith, how-append Conflicting (listed g) rest);
-      misfit = omega (arith, how-append Misfit (listed g) rest);
-    }
+counts-more g count new all rest c a = omega (arith, how-append)
 
 pub counts-few : (count : Wanted) (all rest : List Want) → Counts count all rest → length all ≤ 2 ^ 32 → (count.missing < 2 ^ 33) × (count.conflicting < 2 ^ 33) × (count.misfit < 2 ^ 33)
-counts-few count all rest c l =
-    let t = how-all all in
-    (omega (arith, t, l), omega (arith, t, l), omega (arith, t, l))
+counts-few count all rest c l = omega (arith, how-all all)
 
 -- nothing was counted yet
 pub counts-none : (count : Wanted) (all : List Want) → IsCount count [] → Counts count all all
-counts-none count all i =
-    record { missing = omega (arith, how-nil Missing); conflicting = omega (arith, how-nil Conflicting); misfit = omega (arith, how-nil Misfit) }
+counts-none count all i = omega (arith, how-nil)
 
 pub none-counted : (count : Wanted) → count.missing ≡ 0 → count.conflicting ≡ 0 → count.misfit ≡ 0 → IsCount count []
 none-counted count m c f = record { missing = m ∙ sym (how-nil Missing); conflicting = c ∙ sym (how-nil Conflicting); misfit = f ∙ sym (how-nil Misfit) }
 
 pub counts-all : (count : Wanted) (all : List Want) → Counts count all [] → IsCount count all
 unfolding how_many
-counts-all count all c =
-    record { missing = omega arith; conflicting = omega arith; misfit = omega arith }
+counts-all count all c = omega arith
 
 -- no more symbols are wanted than there are
 length-wanted : (info : Information) (held : List (SymbolId × Cell (List ℕ))) (xs : List SymbolId) → length (wanted info held xs) ≤ length xs
@@ -134,10 +118,7 @@ length-wanted info held (x ∷ xs) = one_more (option_map (with_reason x) (want_
 
 pub few-wanted : (info : Information) (held : List (SymbolId × Cell (List ℕ))) (gs : List Gap) → gs ≡ runs (wanted info held (ids info)) → length (ids info) ≤ 2 ^ 32 → length (flat_map listed gs) ≤ 2 ^ 32
 few-wanted info held gs e l =
-    let s : flat_map listed gs ≡ wanted info held (ids info) = ap (flat_map listed) e ∙ runs-listed (wanted info held (ids info)) in
-    let t : length (flat_map listed gs) ≡ length (wanted info held (ids info)) = ap (λ (x : List Want). length x) s in
-    let m = length-wanted info held (ids info) in
-    omega (arith, t, m, l)
+    rw (e, runs-listed) (omega (arith, length-wanted info held (ids info)))
 
 pub are-runs : (ws : List Want) (gs : List Gap) → gs ≡ runs ws → AreRuns gs
 are-runs ws gs e = subst AreRuns (sym e) (runs-are ws)
@@ -146,9 +127,7 @@ are-runs ws gs e = subst AreRuns (sym e) (runs-are ws)
 
 module _ (F : List Fact) (key : Key) (info : Information) (count : Wanted) (i : fact_at F (info_address key) ≡ Some (Info key info)) (c : IsCount count (wants F key info)) where
   total : length (wants F key info) ≡ count.missing + count.conflicting + count.misfit
-  total =
-      let a = how-all (wants F key info) in
-      omega (arith, a)
+  total = omega (arith, how-all (wants F key info))
 
   is-whole : count.missing ≡ 0 → count.conflicting ≡ 0 → count.misfit ≡ 0 → Whole F key info
   unfolding runs

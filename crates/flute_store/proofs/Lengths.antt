@@ -1,10 +1,10 @@
 -- How many facts a store has.
 use Rattle.std.proofs.Common.{ℕ, ◌+◌, ◌*◌, ◌≤◌, List, [], ◌∷◌, length, arith, length-append}
-use Rattle.std.proofs.Math.Nat.{add-mul, mul-le-mul_right}
+use Rattle.std.proofs.Math.Nat.{mul-le-mul_right}
 use Rattle.flute_store.proofs.Common
 use Common.{flat_map, EachValue, Cell, Absent, One, Conflict, Session, ObjectName, Key, Fact, Info}
-use Common.{InfoConflict, Symbol, SymbolConflict, Object, key_in, cell_facts, info_cell_facts}
-use Common.{symbol_cell_facts, symbols_facts, object_facts, session_facts, content, IsObject}
+use Common.{InfoConflict, Symbol, SymbolConflict, Object, key_in, cell_facts}
+use Common.{symbol_cell_facts, object_facts, session_facts, content, IsObject}
 use Common.{IsSession, IsStore}
 
 cell_length : {T : Type 0} (told : T → Fact) (clash : Fact) (c : Cell T) → length (cell_facts told clash c) ≤ 1
@@ -17,17 +17,10 @@ module _ {K X : Type 0} (f : K × X → List Fact) (P : X → Type 0) (most : �
   entries_length : (es : List (K × X)) → EachValue P es → length (flat_map f es) ≤ length es * most
   entries_length [] p = omega arith
   entries_length (e ∷ es) p =
-      let a = length-append (f e) (flat_map f es) in
-      let b = each e p.0 in
-      let c = entries_length es p.1 in
-      let d = add-mul 1 (length es) most in
-      omega (arith, a, b, c, d)
+      omega (arith, length-append (f e) (flat_map f es), each e p.0, entries_length es p.1)
 
   within_limit : (limit : ℕ) (es : List (K × X)) → EachValue P es → length es ≤ limit → length (flat_map f es) ≤ limit * most
-  within_limit limit es p l =
-      let a = entries_length es p in
-      let b = mul-le-mul_right most l in
-      omega (arith, a, b)
+  within_limit limit es p l = omega (arith, entries_length es p, mul-le-mul_right most l)
 
 any_value : {K X : Type 0} (es : List (K × X)) → EachValue (λ _. Unit {0}) es
 any_value [] = tt
@@ -36,10 +29,8 @@ any_value (e ∷ es) = (tt, any_value es)
 module _ {n : ℕ} where
   object_length : (key : Key) (x : Object n) → IsObject x → length (object_facts key x) ≤ n + 1
   object_length key x p =
-      let a = length-append (info_cell_facts key x.info) (symbols_facts key x.symbols) in
-      let b = cell_length (Info key) (InfoConflict key) x.info in
       let c = within_limit (λ e. symbol_cell_facts key e.0 e.1) (λ _. Unit {0}) 1 (λ e _. cell_length (Symbol key e.0) (SymbolConflict key e.0) e.1) n x.symbols (any_value x.symbols) p.symbols_are.within in
-      omega (arith, a, b, c)
+      omega (arith, length-append {A = Fact}, cell_length (Info key) (InfoConflict key) x.info, c)
 
   session_length : (o : ℕ) (session : Session) (os : List (ObjectName × Object n)) → IsSession o os → length (session_facts session os) ≤ o * (n + 1)
   session_length o session os p = within_limit (λ e. object_facts (key_in session e.0) e.1) IsObject (n + 1) (λ e q. object_length (key_in session e.0) e.1 q) o os p.each p.within

@@ -1,5 +1,5 @@
 -- A whole object has as many bytes as its transfer length says.
-use Rattle.std.proofs.Common.{◌≡◌, ℕ, zero, suc, ◌+◌, ◌-◌, ◌*◌, ◌<◌, ◌≤◌, ◌&&◌, true, List, [], ◌∷◌, length, get_or, take, Some, refl, sym, ap, ◌∙◌, subst, inl, inr, ◌⊎◌, arith}
+use Rattle.std.proofs.Common.{◌≡◌, ℕ, zero, suc, ◌+◌, ◌-◌, ◌*◌, ◌<◌, ◌≤◌, ◌&&◌, true, List, [], ◌∷◌, length, get_or, Some, refl, sym, ap, ◌∙◌, inl, inr, ◌⊎◌, arith}
 use Rattle.std.proofs.lemmas.Grind.{div_ceil_times}
 use Rattle.std.proofs.lemmas.List.{length-append, length-take-le}
 use Rattle.std.proofs.Math.Nat.{eq-zero-or-pos}
@@ -19,23 +19,14 @@ times-suc n e = omega arith
 
 -- so all of them have no fewer than the first ones with e, and the last with m
 length-each : (f : SymbolId → List ℕ) (e m : ℕ) (x : SymbolId) (xs : List SymbolId) → m ≤ e → Each f e m (x ∷ xs) → length xs * e + m ≤ length (flat_map f (x ∷ xs))
-length-each f e m x [] l h =
-    let a = length-append (f x) [] in
-    elim (h 0 x (omega arith) refl) [
-      | inl p ↦ omega (arith, a, p)
-      | inr p ↦ omega (arith, a, p.1)
-    ]
+length-each f e m x [] l h = grind (arith, length-append (f x) [], h 0 x (omega arith) refl)
 length-each f e m x (y ∷ ys) l h =
     let a = length-append (f x) (flat_map f (y ∷ ys)) in
-    let t = times-suc (length ys) e in
     let more = length-each f e m y ys l (λ k z b g. elim (h (suc k) z (omega (arith, b)) g) [
       | inl p ↦ inl p
       | inr p ↦ inr (omega (arith, p.0), p.1)
     ]) in
-    elim (h 0 x (omega arith) refl) [
-      | inl p ↦ omega (arith, a, t, more, p)
-      | inr p ↦ absurd (omega (arith, p.0))
-    ]
+    grind (arith, a, times-suc (length ys) e, more, h 0 x (omega arith) refl)
 
 -- how long a symbol is that fits
 fits-length : (info : Information) (id : SymbolId) (n k : ℕ) → IsValid info → k < length (ids info) → get_or (ids info) k id ≡ id → fits info id n ≡ true → (n ≡ info.symbol_length) ⊎ ((k + 1 ≡ length (ids info)) × (n ≡ last_length info))
@@ -81,23 +72,14 @@ enough : (info : Information) (f : SymbolId → List ℕ) (xs : List SymbolId) �
 enough info f [] c p l h = absurd (omega (arith, p))
 enough info f (x ∷ xs) c p l h =
     let t : length xs ≡ symbol_count info - 1 = omega (arith, c) in
-    let all = length-each f info.symbol_length (last_length info) x xs l h in
-    covers info.transfer_length (length (flat_map f (x ∷ xs))) ((symbol_count info - 1) * info.symbol_length) (subst (λ k. k * info.symbol_length + last_length info ≤ length (flat_map f (x ∷ xs))) t all)
-  where
-    covers : (l n a : ℕ) → a + (l - a) ≤ n → l ≤ n
-    covers l n a h = omega (arith, h)
+    omega (arith, rw t at (length-each f info.symbol_length (last_length info) x xs l h))
 
 pub object-length : (F : List Fact) (key : Key) (info : Information) → IsValid info → Whole F key info → length (object F key info) ≡ info.transfer_length
 unfolding object symbol_bytes
-object-length F key info v w = elim (eq-zero-or-pos info.transfer_length) [
-  | inl z ↦ none info.transfer_length (flat_map (λ id. value_bytes (fact_at F (symbol_address key id))) (ids info)) z
+object-length F key info v w = length-take-le _ _ (elim (eq-zero-or-pos info.transfer_length) [
+  | inl z ↦ omega (arith, z)
   | inr l ↦
-      let h = v.parts l in
       let count = ids_counted info v in
       let pos = div_ceil-pos info.transfer_length info.symbol_length l in
-      length-take-le info.transfer_length (flat_map (λ id. value_bytes (fact_at F (symbol_address key id))) (ids info))
-      (enough info (symbol_bytes F key) (ids info) count (omega (arith, count, pos)) (last-short info h.symbol) (each-symbol F key info v w))
-]
-  where
-    none : (n : ℕ) (xs : List ℕ) → n ≡ 0 → length (take n xs) ≡ n
-    none n xs z = ap (λ k. length (take k xs)) z ∙ sym z
+      enough info (symbol_bytes F key) (ids info) count (omega (arith, count, pos)) (last-short info (v.parts l).symbol) (each-symbol F key info v w)
+])

@@ -79,17 +79,6 @@ module _ {K X : Type 0} {cmp : K → K → Ordering} (order : IsTotalOrder cmp) 
       omega arith
 
 -- ---- cells
-pub absent-right : {T : Type 0} (eq : T → T → Bool) (c d : Cell T) → cell_join eq c d ≡ Absent → d ≡ Absent
-absent-right eq Absent d e = e
-absent-right eq (One x) Absent e = refl
-absent-right eq (One x) (One y) e = absurd (no_choice (eq x y) x e)
-  where
-    no_choice : {T : Type 0} (b : Bool) (x : T) → cond b (One x) Conflict ≡ Absent → ⊥
-    no_choice true x e = cc
-    no_choice false x e = cc
-absent-right eq (One x) Conflict e = cc
-absent-right eq Conflict d e = cc
-
 pub update-some : (o : Option (SymbolId × SymbolUpdate)) → o ≢ None → update_symbols o ≢ []
 update-some None h = λ e. h refl
 update-some (Some t) h = λ e. cc
@@ -104,6 +93,11 @@ known-join eq (One x) (One y) h = known_choice (eq x y) x
     known_choice false x e = cc
 known-join eq (One x) Conflict h = λ e. cc
 known-join eq Conflict d h = h
+
+pub absent-right : {T : Type 0} (eq : T → T → Bool) (c d : Cell T) → cell_join eq c d ≡ Absent → d ≡ Absent
+absent-right eq Absent d e = e
+absent-right eq (One x) d e = absurd (known-join eq (One x) d (λ e. cc) e)
+absent-right eq Conflict d e = cc
 
 pub known-update : (t : SymbolUpdate) → IsKnown (update_cell t)
 known-update (BorrowedUpdate bytes) = λ e. cc

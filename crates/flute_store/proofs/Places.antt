@@ -82,9 +82,8 @@ until-beyond w (Some next) l a = elim (cases_Bool ((next.0.sbn == w.sbn) && nat_
       let b = both (next.0.sbn == w.sbn) (nat_lt next.0.esi w.size) t in
       let m = eqb-true next.0.sbn w.sbn b.0 in
       let j = ltb-true next.0.esi w.size b.1 in
-      subst (λ b. (w.esi < cond b next.0.esi w.size) × (cond b next.0.esi w.size ≤ w.size)) (sym t)
-      (elim (greater-cases next.0 (symbol_id w.sbn w.esi) a) [ inl g ↦ absurd (omega (arith, g, m)) | inr g ↦ g.1 ], omega (arith, j))
-  | inr t ↦ subst (λ b. (w.esi < cond b next.0.esi w.size) × (cond b next.0.esi w.size ≤ w.size)) (sym t) (l, omega arith)
+      rw t (elim (greater-cases next.0 (symbol_id w.sbn w.esi) a) [ inl g ↦ absurd (omega (arith, g, m)) | inr g ↦ g.1 ], omega (arith, j))
+  | inr t ↦ rw t (l, omega arith)
 ]
 
 module _ (w : PartitionScan) (next : Next) (p : IsPlace w) where
@@ -167,31 +166,17 @@ module _ (w : PartitionScan) (next : Next) (c : Counted) (p : IsPlace w) (h : Co
   within-turn (Some Turn.Wanted) x n k = subst (λ y. CountsWithin y c) (sym k.3) (by_run w.run refl)
     where
       by_run : (o : Option Gap) → w.run ≡ o → c.missing + c.conflicting + c.misfit + run_length (Some (run_with w.sbn w.esi k.0 w.run)) ≤ w.begun * 65536 + (w.esi + 1)
-      by_run None e =
-          let r : c.missing + c.conflicting + c.misfit + 0 ≤ w.begun * 65536 + w.esi = subst (λ o. c.missing + c.conflicting + c.misfit + run_length o ≤ w.begun * 65536 + w.esi) e h in
-          subst (λ o. c.missing + c.conflicting + c.misfit + run_length (Some (run_with w.sbn w.esi k.0 o)) ≤ w.begun * 65536 + (w.esi + 1)) (sym e) (omega (arith, r))
-      by_run (Some g) e =
-          let r : c.missing + c.conflicting + c.misfit + (g.last + 1 - g.first) ≤ w.begun * 65536 + w.esi = subst (λ o. c.missing + c.conflicting + c.misfit + run_length o ≤ w.begun * 65536 + w.esi) e h in
-          let q : EndsBefore w.sbn w.esi (Some g) = subst (EndsBefore w.sbn w.esi) e p.running in
-          subst (λ o. c.missing + c.conflicting + c.misfit + run_length (Some (run_with w.sbn w.esi k.0 o)) ≤ w.begun * 65536 + (w.esi + 1)) (sym e) (omega (arith, r))
+      by_run None e = rw e (omega (arith, rw e at h))
+      by_run (Some g) e = rw e (omega (arith, rw e at h, rw e at p.running))
   within-turn (Some Turn.Passed) x n k = subst (λ y. CountsWithin y c) (sym k.1) h
   within-turn (Some Turn.End) x n k = subst (λ y. CountsWithin y c) (sym k.2) h
 
   -- a gap has a symbol, and with its symbols counted this holds too
   pub within-gap : (g : Gap) (x : PartitionScan) → Kind w next (Some (Turn.Gap g)) x → (g.first ≤ g.last) × (c.missing + c.conflicting + c.misfit + (g.last + 1 - g.first) + run_length x.run ≤ x.begun * 65536 + x.esi)
   within-gap g x (inl k) =
-      let r : c.missing + c.conflicting + c.misfit + (g.last + 1 - g.first) ≤ w.begun * 65536 + w.esi = subst (λ o. c.missing + c.conflicting + c.misfit + run_length o ≤ w.begun * 65536 + w.esi) k.0 h in
-      let q : EndsBefore w.sbn w.esi (Some g) = subst (EndsBefore w.sbn w.esi) k.0 p.running in
-      (q.1, subst (λ (y : PartitionScan). c.missing + c.conflicting + c.misfit + (g.last + 1 - g.first) + run_length y.run ≤ y.begun * 65536 + y.esi) (sym k.1) (omega (arith, r)))
+      rw k.1 (omega (arith, rw k.0 at h, rw k.0 at p.running))
   within-gap g x (inr k) =
-      let r : c.missing + c.conflicting + c.misfit + 0 ≤ w.begun * 65536 + w.esi = subst (λ o. c.missing + c.conflicting + c.misfit + run_length o ≤ w.begun * 65536 + w.esi) k.0 h in
-      let u = until-within w next p k.1 in
-      let a : w.esi ≤ until_at w next - 1 = omega arith in (
-        subst (λ (f : Gap). f.first ≤ f.last) (sym k.3) a,
-        subst (λ (y : PartitionScan). c.missing + c.conflicting + c.misfit + (g.last + 1 - g.first) + run_length y.run ≤ y.begun * 65536 + y.esi) (sym k.2)
-            (subst (λ (f : Gap). c.missing + c.conflicting + c.misfit + (f.last + 1 - f.first) + run_length w.run ≤ w.begun * 65536 + until_at w next) (sym k.3)
-            (subst (λ o. c.missing + c.conflicting + c.misfit + (until_at w next - 1 + 1 - w.esi) + run_length o ≤ w.begun * 65536 + until_at w next) (sym k.0) (omega (arith, r)))),
-      )
+      rw (k.2, k.3, k.0) (omega (arith, rw k.0 at h, until-within w next p k.1))
 
   -- so a count is small
   pub small : c.missing + c.conflicting + c.misfit < 2 ^ 33

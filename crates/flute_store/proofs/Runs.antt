@@ -47,16 +47,11 @@ before-listed : (w : Want) (gaps : List Gap) → AreRuns gaps → flat_map liste
 unfolding AreRuns
 before-listed (id, r) [] s = ap (λ xs. xs ++ []) (listed-one (id, r))
 before-listed (id, r) (h ∷ gaps) s = elim (cases_Bool (goes_on (one (id, r)) h)) [
-  | inr e ↦
-      ap (λ b. flat_map listed (cond b (record h { first = id.esi } ∷ gaps) (one (id, r) ∷ h ∷ gaps))) e
-      ∙ ap (λ xs. xs ++ flat_map listed (h ∷ gaps)) (listed-one (id, r))
+  | inr e ↦ rw (e, listed-one (id, r))
   | inl e ↦
       let t = goes_on-tells (one (id, r)) h e in
-      ap (λ b. flat_map listed (cond b (record h { first = id.esi } ∷ gaps) (one (id, r) ∷ h ∷ gaps))) e
-      ∙ ap (λ xs. xs ++ flat_map listed gaps) (listed-first h.sbn id.esi h.last h.reason (omega arith))
-      ∙ ap (λ x. entry x h.reason id.esi ∷ (map (entry h.sbn h.reason) (range_with_len (id.esi + 1) (h.last + 1 - (id.esi + 1))) ++ flat_map listed gaps)) (sym t.0)
-      ∙ ap (λ x. entry id.sbn x id.esi ∷ (map (entry h.sbn h.reason) (range_with_len (id.esi + 1) (h.last + 1 - (id.esi + 1))) ++ flat_map listed gaps)) (sym t.2)
-      ∙ ap (λ x. (id, r) ∷ (map (entry h.sbn h.reason) (range_with_len x (h.last + 1 - x)) ++ flat_map listed gaps)) t.1
+      rw (e, listed-first h.sbn id.esi h.last h.reason (omega arith))
+      (λ i. entry (sym t.0 i) (sym t.2 i) id.esi ∷ (map (entry h.sbn h.reason) (range_with_len (t.1 i) (h.last + 1 - t.1 i)) ++ flat_map listed gaps))
 ]
 
 -- a gap that begins earlier goes on in the same ones
@@ -72,7 +67,7 @@ before-runs (id, r) (h ∷ gaps) s = elim (cases_Bool (goes_on (one (id, r)) h))
   | inr e ↦ subst (λ b. AreRuns (cond b (record h { first = id.esi } ∷ gaps) (one (id, r) ∷ h ∷ gaps))) (sym e) (omega arith, e, s)
   | inl e ↦
       let f = (goes_on-tells (one (id, r)) h e).1 in
-      subst (λ b. AreRuns (cond b (record h { first = id.esi } ∷ gaps) (one (id, r) ∷ h ∷ gaps))) (sym e) (lengthened id.esi h gaps (omega arith) s)
+      rw e (lengthened id.esi h gaps (omega arith) s)
 ]
 
 pub runs-are : (ws : List Want) → AreRuns (runs ws)
@@ -135,11 +130,9 @@ apart-before g (id, r) [] n = not-goes g (one (id, r)) (λ s f q. n (λ i. recor
 apart-before g (id, r) (h ∷ gaps) n = elim (cases_Bool (goes_on (one (id, r)) h)) [
   | inl e ↦
       let t = goes_on-tells (one (id, r)) h e in
-      subst (λ b. IsApart g (cond b (record h { first = id.esi } ∷ gaps) (one (id, r) ∷ h ∷ gaps))) (sym e)
-      (not-goes g (record h { first = id.esi }) (λ s f p. n (λ i. record { sbn = (t.0 ∙ sym s) i; esi = sym f i }) (t.2 ∙ sym p)))
+      rw e (not-goes g (record h { first = id.esi }) (λ s f p. n (λ i. record { sbn = (t.0 ∙ sym s) i; esi = sym f i }) (t.2 ∙ sym p)))
   | inr e ↦
-      subst (λ b. IsApart g (cond b (record h { first = id.esi } ∷ gaps) (one (id, r) ∷ h ∷ gaps))) (sym e)
-      (not-goes g (one (id, r)) (λ s f q. n (λ i. record { sbn = sym s i; esi = sym f i }) (sym q)))
+      rw e (not-goes g (one (id, r)) (λ s f q. n (λ i. record { sbn = sym s i; esi = sym f i }) (sym q)))
 ]
 
 pub apart-runs : (g : Gap) (ws : List Want) → Elsewhere (symbol_id g.sbn (g.last + 1)) g.reason ws → IsApart g (runs ws)

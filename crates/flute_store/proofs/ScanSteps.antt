@@ -8,9 +8,9 @@ use Common.{ordering_then, cases_Bool, none-some, same_Some, Contains-append_cas
 use Common.{Contains-append_right, sorted_tail, IsKnown, value_at, IsOrdered, EachValue, Cell, One}
 use Common.{Information, info_address, symbol_address, address, fact_at, IsRising, StandAfter}
 use Common.{symbol_id_cmp, address_cmp, key_cmp, part_cmp, symbol_id, ids, fits, Key, SymbolId}
-use Common.{Part, InfoPart, SymbolPart, Fact, Info, Reason, Missing, Conflicting, Misfit, Gap, Turn}
+use Common.{Part, InfoPart, SymbolPart, Fact, Info, Reason, Gap, Turn}
 use Common.{PartitionScan, Counted, want, wants, runs, one, goes_on, before, listed, gaps, object}
-use Common.{value_bytes, Whole, wanted, with_reason, how_many, IsCount, Adds, CanAdd, AddsTurn}
+use Common.{value_bytes, Whole, wanted, with_reason, IsCount, Adds, CanAdd, AddsTurn}
 use Common.{found_bytes, held_bytes, walk_of, symbols_left, left, pending, gaps_left, IsWalk}
 use Common.{IsPlace, turn_of, held_after, TurnsTo, after_block, after_missing, until_at, shown_by}
 use Common.{shown, IsNotWhole, Scanned, next_fact, coming_fact, CanFollow, ComeNext, Follows}
@@ -128,12 +128,7 @@ scan-begun o s next x q sc e pl =
 
 counted-gap : (c d : Counted) (given : List Gap) (g : Gap) → IsCount c (flat_map listed given) → Adds g c d → IsCount d (flat_map listed (given ++ g ∷ []))
 counted-gap c d given g i a =
-    let p : flat_map listed (given ++ g ∷ []) ≡ flat_map listed given ++ listed g = flat_map-append listed given (g ∷ []) ∙ ap (λ ws. flat_map listed given ++ ws) (append-nil (listed g)) in
-    subst (IsCount d) (sym p) (record {
-      missing = a.missing ∙ ap (λ n. n + how_many Missing (listed g)) i.missing ∙ sym (how-append Missing (flat_map listed given) (listed g));
-      conflicting = a.conflicting ∙ ap (λ n. n + how_many Conflicting (listed g)) i.conflicting ∙ sym (how-append Conflicting (flat_map listed given) (listed g));
-      misfit = a.misfit ∙ ap (λ n. n + how_many Misfit (listed g)) i.misfit ∙ sym (how-append Misfit (flat_map listed given) (listed g));
-    })
+    rw (flat_map-append listed given (g ∷ []), append-nil (listed g)) (omega (arith, how-append))
 
 abbrev pub behind-gap : Scanned → Next → Gap → PartitionScan → Scanned
 behind-gap s next g x = record s { given = s.given ++ g ∷ []; bytes = None; coming = Some (coming_fact s.key next); ahead = length (symbols_left (walk_of x [])) + one_run x.run }

@@ -1,15 +1,17 @@
 -- What a turn of a scan passes and gives.
+use Rattle.flute_parts.specs.Totality.{symbol_id_total}
+use Rattle.flute_join.proofs.Copied.{value_there}
 use Rattle.std.proofs.lemmas.List.FromFn.{length-map-range_with_len}
 use Rattle.std.proofs.Common.{length-append, ◌≡◌, ℕ, ◌+◌, ◌-◌, ◌<◌, Bool, true, false, cond, List, [], ◌∷◌, ◌++◌, length, Option, Some, None, refl, sym, ap, ◌∙◌, subst, arith}
 use Rattle.flute_store.proofs.Common
-use Common.{flat_map, Bor, AllByRecursion, IsStrictlySortedBy, keys_of, Less, is_eq, none-some}
+use Common.{flat_map, Bor, is_eq, none-some}
 use Common.{IsKnown, value_at, IsOrdered, Cell, One, Conflict, Information, sizes, symbol_id_cmp}
 use Common.{key_itself, symbol_id, ids, Key, SymbolId, Fact, Missing, Conflicting, Misfit, Counted}
 use Common.{IsCount, held_bytes, PartitionScan, wants, listed, block_from, blocks_from, Walk}
 use Common.{walk_of, at_start, symbols_left, gaps_left, IsWalk, ShowsNext, after_block, shown_by}
 use Common.{shown, Scanned, next_fact, coming_fact, at_begin, GaveAll, Next, held_next, run_length}
 use Common.{CountsWithin, ScanState, ComesAs, one_run, Scans}
-use Rattle.flute_store.proofs.{Lookups.{Entry, value-past, value-here}, KeyLists.{none_in}}
+use Rattle.flute_store.proofs.{Lookups.{Entry}, KeyLists.{none_in}}
 use Rattle.flute_store.proofs.SortedSymbols.{block_from-first, block_from-end, blocks_from-next, blocks_from-end, blocks_from-all}
 use Rattle.flute_store.proofs.{Runs.{runs-listed}, HowMany.{how-nil}, HeldTurns.{start-walk}}
 use Rattle.flute_store.proofs.ToldObjects.{start-left}
@@ -40,17 +42,11 @@ length-left w = length-append (block_from w.sbn w.esi w.size) (blocks_from w.par
 
 -- none at the end
 pub end-symbols : (w : PartitionScan) → w.esi ≡ w.size → w.begun ≡ length (sizes w.partition) → symbols_left (walk_of w []) ≡ []
-end-symbols w e f =
-    ap (λ k. block_from w.sbn k w.size ++ blocks_from w.partition w.begun) e
-    ∙ ap (λ xs. xs ++ blocks_from w.partition w.begun) (block_from-end w.sbn w.size)
-    ∙ ap (blocks_from w.partition) f ∙ blocks_from-end w.partition
+end-symbols w e f = rw (e, block_from-end w.sbn w.size, f, blocks_from-end w.partition)
 
 -- a block that is begun changes none of them
 pub begin-symbols : (w : PartitionScan) → w.esi ≡ w.size → w.begun < length (sizes w.partition) → symbols_left (walk_of (after_block w) []) ≡ symbols_left (walk_of w [])
-begin-symbols w e l =
-    sym (ap (λ k. block_from w.sbn k w.size ++ blocks_from w.partition w.begun) e
-    ∙ ap (λ xs. xs ++ blocks_from w.partition w.begun) (block_from-end w.sbn w.size)
-    ∙ blocks_from-next w.partition w.begun l)
+begin-symbols w e l = rw (e, block_from-end w.sbn w.size, blocks_from-next w.partition w.begun l)
 
 -- the next one is passed
 pub take-symbols : (w : PartitionScan) → w.esi < w.size → symbols_left (walk_of w []) ≡ symbol_id w.sbn w.esi ∷ symbols_left (walk_of (record w { esi = w.esi + 1 }) [])
@@ -66,14 +62,8 @@ value-more (e ∷ es) more id c h = by_test (is_eq (symbol_id_cmp id e.0)) h (λ
     by_test true g k = g
     by_test false g k = k g
 
-above-last : (p : SymbolId) (es : List Entry) (e : Entry) → AllByRecursion (λ x. symbol_id_cmp p x ≡ Less) (keys_of (es ++ e ∷ [])) → symbol_id_cmp p e.0 ≡ Less
-above-last p [] e a = a.0
-above-last p (x ∷ es) e a = above-last p es e a.1
-
 pub value-last : (es : List Entry) (e : Entry) → IsOrdered symbol_id_cmp (es ++ e ∷ []) → value_at symbol_id_cmp (es ++ e ∷ []) e.0 ≡ Some e.1
-unfolding IsStrictlySortedBy
-value-last [] e r = value-here e [] e.0 refl
-value-last (x ∷ es) e r = value-past x (es ++ e ∷ []) e.0 (above-last x.0 es e r.0) ∙ value-last es e r.1
+value-last es e r = value_there symbol_id_total es e [] r
 
 -- ---- the start
 

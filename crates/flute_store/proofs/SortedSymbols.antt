@@ -1,5 +1,7 @@
 -- The symbols of a partition stand in rising order, from any of them on.
-use Rattle.std.proofs.Common.{◌≡◌, ℕ, zero, suc, ◌+◌, ◌-◌, ◌<◌, get_or, List, [], ◌∷◌, ◌++◌, length, map, drop, refl, ap, ◌∙◌, arith, drop-cons}
+use Rattle.std.proofs.Math.Nat.{sub-zero}
+use Rattle.std.proofs.lemmas.List.{drop_more}
+use Rattle.std.proofs.Common.{◌≡◌, ℕ, zero, suc, ◌+◌, ◌-◌, ◌<◌, get_or, List, [], ◌∷◌, ◌++◌, length, map, drop, refl, ap, ◌∙◌, arith}
 use Rattle.std.proofs.Math.Seq.{drop-length}
 use Rattle.flute_store.proofs.Common
 use Common.{flat_map, range_with_len, enumerate_from, AllByRecursion, Less, Equal, nat_cmp}
@@ -64,11 +66,7 @@ above-block n a s xs l = above-range n a (a + 1) (s - (a + 1)) xs (omega arith) 
 pub blocks_from-next : (info : Information) (n : ℕ) → n < length (sizes info) → blocks_from info n ≡ block_from n 0 (get_or (sizes info) n 0) ++ blocks_from info (n + 1)
 unfolding blocks_from
 blocks_from-next info n l =
-    let e : get_or (sizes info) n 0 ≡ get_or (sizes info) n 0 - 0 = omega arith in
-    let f : suc n ≡ n + 1 = omega arith in
-    ap (λ xs. flat_map block_ids (enumerate_from n xs)) (drop-cons (sizes info) n 0 l)
-    ∙ ap (λ k. map (symbol_id n) (range_with_len 0 k) ++ flat_map block_ids (enumerate_from (n + 1) (drop (suc n) (sizes info)))) e
-    ∙ ap (λ k. map (symbol_id n) (range_with_len 0 (get_or (sizes info) n 0 - 0)) ++ flat_map block_ids (enumerate_from (n + 1) (drop k (sizes info)))) f
+    rw (drop_more (sizes info) n 0 l, sub-zero)
 
 pub blocks_from-end : (info : Information) → blocks_from info (length (sizes info)) ≡ []
 unfolding blocks_from

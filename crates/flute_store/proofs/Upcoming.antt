@@ -63,13 +63,11 @@ pub by-place : (esi size begun blocks : ℕ) (l : Upcoming) (P : Upcoming → Ty
     → (esi ≢ size → P l) → (esi ≡ size → begun ≡ blocks → P End) → (esi ≡ size → begun ≢ blocks → P BlockEnd)
     → P (cond (esi == size) (cond (begun == blocks) End BlockEnd) l)
 by-place esi size begun blocks l P i e b = elim (cases_Bool (esi == size)) [
-  | inr f ↦ subst (λ t. P (cond t (cond (begun == blocks) End BlockEnd) l)) (sym f) (i (eqb-false esi size f))
-  | inl t ↦
-      subst (λ t. P (cond t (cond (begun == blocks) End BlockEnd) l)) (sym t)
-      (elim (cases_Bool (begun == blocks)) [
-        | inl u ↦ subst (λ t. P (cond t End BlockEnd)) (sym u) (e (eqb-true esi size t) (eqb-true begun blocks u))
-        | inr u ↦ subst (λ t. P (cond t End BlockEnd)) (sym u) (b (eqb-true esi size t) (eqb-false begun blocks u))
-      ])
+  | inr f ↦ rw f (i (eqb-false esi size f))
+  | inl t ↦ rw t (elim (cases_Bool (begun == blocks)) [
+    | inl u ↦ rw u (e (eqb-true esi size t) (eqb-true begun blocks u))
+    | inr u ↦ rw u (b (eqb-true esi size t) (eqb-false begun blocks u))
+  ])
 ]
 
 pub tells : (w : Walk) → Tells w (upcoming_of w)
@@ -103,16 +101,11 @@ inside-less w p i = let l = p.within in omega (arith, l, i)
 held-length : (held : List Entry) (e : Entry) (es : List Entry) → held ≡ e ∷ es → length held ≡ length (drop 1 held) + 1
 held-length held e es h = ap (λ (x : List Entry). length x) h ∙ (let f : length (e ∷ es) ≡ length es + 1 = omega arith in f) ∙ ap (λ (x : List Entry). length (drop 1 x) + 1) (sym h)
 
--- what the held symbols but the first keep
-of-rest : (P Q : List Entry → Type 0) (held : List Entry) (e : Entry) (es : List Entry) → held ≡ e ∷ es
-    → (P (e ∷ es) → Q es) → P held → Q (drop 1 held)
-of-rest P Q held e es h f s = subst (λ (x : List Entry). Q (drop 1 x)) (sym h) (f (subst P h s))
-
 held-ordered : (held : List Entry) (e : Entry) (es : List Entry) → held ≡ e ∷ es → IsOrdered symbol_id_cmp held → IsOrdered symbol_id_cmp (drop 1 held)
-held-ordered held e es h = of-rest (IsOrdered symbol_id_cmp) (IsOrdered symbol_id_cmp) held e es h (sorted_tail symbol_id_cmp e.0 (keys_of es))
+held-ordered held e es h s = rw h (sorted_tail symbol_id_cmp e.0 (keys_of es) (rw h at s))
 
 held-known : (held : List Entry) (e : Entry) (es : List Entry) → held ≡ e ∷ es → EachValue IsKnown held → EachValue IsKnown (drop 1 held)
-held-known held e es h = of-rest (EachValue IsKnown) (EachValue IsKnown) held e es h (λ k. k.1)
+held-known held e es h k = rw h ((rw h at k).1)
 
 -- the other held symbols stand behind the first
 pub sorted-first : (e : Entry) (es : List Entry) → IsOrdered symbol_id_cmp (e ∷ es) → Above e.0 (keys_of es)
@@ -144,6 +137,9 @@ ahead-trans u v w a b =
 pub ahead-first : (w x : Walk) (e : Entry) (es : List Entry) → w.held ≡ e ∷ es → x.held ≡ drop 1 w.held → x.begun ≡ w.begun → x.partition ≡ w.partition → IsAhead w x
 ahead-first w x e es h d b p = record { passed = e ∷ []; held_is = passed-first w e es h ∙ ap (λ (y : List Entry). e ∷ y) (sym d); onward = omega (arith, b); partition_is = p }
 
+step-behind : (w : Walk) (t : AtPassed w) → IsBehind w.sbn (w.esi - 1) w.held → IsBehind w.sbn (w.esi - 1) (drop 1 w.held)
+step-behind w t b = rw t.held ((rw t.held at b).1)
+
 pub step-pass : (w : Walk) → IsWalk w → AtPassed w → Keeps w (after_pass w)
 unfolding left
 step-pass w p t =
@@ -154,16 +150,12 @@ step-pass w p t =
         p,
         held-ordered w.held t.first t.others t.held p.ordered,
         held-known w.held t.first t.others t.held p.known,
-        λ (z : 0 < w.esi). of-rest (IsBehind w.sbn (w.esi - 1)) (IsBehind w.sbn (w.esi - 1)) w.held t.first t.others t.held (λ b. b.1) (p.behind z),
+        λ (z : 0 < w.esi). step-behind w t (p.behind z),
       );
       ahead = ahead-first w (after_pass w) t.first t.others t.held refl refl refl;
       left_is =
-          ap (λ ws. pending w.run ++ ws)
-          (ap (λ (x : List Entry). wanted w.partition (drop 1 x) (symbols_left w)) t.held
-          ∙ ap (wanted w.partition t.others) (symbols-first w l)
-          ∙ sym (wanted-past w.partition t.first t.others (here w ∷ others_left w) (t.before, above-before t.first.0 (here w) (others_left w) t.before (others-above w p l)))
-          ∙ ap (wanted w.partition (t.first ∷ t.others)) (sym (symbols-first w l))
-          ∙ ap (λ (x : List Entry). wanted w.partition x (symbols_left w)) (sym t.held));
+          let a = above-before t.first.0 (here w) (others_left w) t.before (others-above w p l) in
+          rw (t.held, symbols-first w l, wanted-past w.partition t.first t.others (here w ∷ others_left w) (t.before, a));
       fewer = omega (arith, n);
     }
 
@@ -186,11 +178,8 @@ pub taken-left : (run : Option Gap) (w : Walk) (why : Option Reason) → IsWalk 
 unfolding left
 taken-left run w why p t =
     let l = inside-less w p t.inside in
-    ap (λ (x : List Entry). wanted w.partition x (symbols_left w)) t.held
-    ∙ ap (wanted w.partition (t.first ∷ t.others)) (symbols-first w l)
-    ∙ wanted-here w.partition t.first t.others (here w) (others_left w) t.at_here (others-above w p l)
-    ∙ ap (λ o. cons_option (option_map (with_reason (here w)) o) (wanted w.partition t.others (others_left w))) t.why_is
-    ∙ ap (λ (x : List Entry). cons_option (option_map (with_reason (here w)) why) (wanted w.partition (drop 1 x) (others_left w))) (sym t.held)
+    let h = wanted-here w.partition t.first t.others (here w) (others_left w) t.at_here (others-above w p l) in
+    rw (t.held, symbols-first w l, h, t.why_is)
 
 pub taken-keeps : (run : Option Gap) (w : Walk) (why : Option Reason) → IsWalk w → AtHere w why → EndsBefore w.sbn (w.esi + 1) run → pending run ++ left (taken run w) ≡ pending w.run ++ left w → Keeps w (taken run w)
 taken-keeps run w why p t r e =
