@@ -7,7 +7,7 @@ use Common.{ObjectName, Key, SymbolId, Address, Fact, session_cmp, object_cmp, s
 use Common.{same_symbol_id, same_session, same_object, symbol_address, address, session_total}
 use Common.{object_total, symbol_id_total, fact_at, session_place, object_place, symbol_id_place}
 use Common.{firsts, named, session_of, object_of, symbol_of, sessions, objects, symbols, Over}
-use Common.{more_sessions, more_objects, more_symbols, Tells, has, has-firsts, Distinct}
+use Common.{more_sessions, more_objects, more_symbols, Tells, has, has-firsts, Distinct, cases_Bool}
 use Common.{Distinct-firsts, length-Distinct, Member, fact_at-member_some, named-member}
 use Common.{named-names, session_tells, object_tells, symbol_id_tells, value_at, each-value_at}
 use Common.{Object, key_in, symbol_cell_facts, object_facts, session_facts, content, IsObject}
@@ -29,13 +29,12 @@ module _ {K X : Type 0} (cmp : K → K → Ordering) (t : Tells (λ a b. is_eq (
   abbrev is_key : K → List (K × X) → Bool
   is_key k es = has (λ a b. is_eq (cmp a b)) t k (keys_of es)
 
-  key_here : (b : Bool) (k : K) (e : K × X) (es : List (K × X)) (v : X) → is_eq (cmp k e.0) ≡ b → cond b (Some e.1) (value_at cmp es k) ≡ Some v → (value_at cmp es k ≡ Some v → is_key k es ≡ true) → is_key k (e ∷ es) ≡ true
-  key_here true k e es v b f h = ap (λ c. c || is_key k es) b
-  key_here false k e es v b f h = ap (λ c. c || is_key k es) b ∙ h f
-
   pub value_at-has : (es : List (K × X)) (k : K) (v : X) → value_at cmp es k ≡ Some v → is_key k es ≡ true
   value_at-has [] k v f = absurd (none-some v f)
-  value_at-has (e ∷ es) k v f = key_here (is_eq (cmp k e.0)) k e es v refl f (value_at-has es k v)
+  value_at-has (e ∷ es) k v f = elim (cases_Bool (is_eq (cmp k e.0))) [
+    | inl b ↦ rw b
+    | inr b ↦ rw b (value_at-has es k v (rw b at f))
+  ]
 
 -- ---- counting
 

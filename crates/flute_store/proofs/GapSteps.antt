@@ -84,8 +84,7 @@ module _ (w : Walk) (r : Reason) (p : IsWalk w) (h : 0 < w.esi) (d : r ≢ Missi
   at_end : w.esi ≡ w.size → Elsewhere (here w) r (left w)
   unfolding left
   at_end e =
-      subst (λ xs. Elsewhere (here w) r (wanted w.partition w.held xs)) (sym (symbols-end w e))
-      (elsewhere-above w.partition w.held (here w) r (blocks_from w.partition w.begun) (above-later (here w) (blocks_from w.partition w.begun) (blocks-later w p (omega (arith, e)))))
+      rw (symbols-end w e) (elsewhere-above w.partition w.held (here w) r _ (above-later (here w) _ (blocks-later w p (omega (arith, e)))))
 
   at_fitting : AtHere w None → Elsewhere (here w) r (left (after_take w))
   unfolding left
@@ -224,10 +223,9 @@ missing-walk w p r l b = record { ordered = p.ordered; known = p.known; begun = 
 missing-elsewhere : (w : Walk) → IsWalk w → 0 < w.size → ((until_of w ≡ w.size) ⊎ ((until_of w < w.size) × (e : Entry) × (es : List Entry) × (w.held ≡ e ∷ es) × (e.0 ≡ symbol_id w.sbn (until_of w)))) → Elsewhere (symbol_id w.sbn (until_of w)) Missing (left (after_missing w))
 unfolding left
 missing-elsewhere w p l (inl e) =
-    let rest = blocks_from w.partition w.begun in
     let q = symbol_id w.sbn (until_of w) in
-    subst (λ xs. Elsewhere q Missing (wanted w.partition w.held xs)) (sym (symbols-end (after_missing w) e))
-    (elsewhere-above w.partition w.held q Missing rest (above-later q rest (blocks-later w p l)))
+    let a = above-later q (blocks_from w.partition w.begun) (blocks-later w p l) in
+    rw (symbols-end (after_missing w) e) (elsewhere-above w.partition w.held q Missing _ a)
 missing-elsewhere w p l (inr n) =
     let q = symbol_id w.sbn (until_of w) in
     let e = n.1 in

@@ -21,21 +21,9 @@ Want = SymbolId × Reason
 abbrev all_zero : Wanted → Bool
 all_zero count = (count.missing == 0) && ((count.conflicting == 0) && (count.misfit == 0))
 
-abbrev step : Bool → ℕ → ℕ
-step true n = suc n
-step false n = n
-
 pub how-nil : (r : Reason) → how_many r [] ≡ 0
 unfolding how_many
 how-nil r = refl
-
-how-cons : (r : Reason) (w : Want) (ws : List Want) → how_many r (w ∷ ws) ≡ step (same_reason r w.1) (how_many r ws)
-unfolding how_many
-how-cons r w ws = by_reason (same_reason r w.1)
-  where
-    by_reason : (b : Bool) → length (cond b (w ∷ filter (λ (w : Want). same_reason r w.1) ws) (filter (λ (w : Want). same_reason r w.1) ws)) ≡ step b (length (filter (λ (w : Want). same_reason r w.1) ws))
-    by_reason true = refl
-    by_reason false = refl
 
 pub how-append : (r : Reason) (ws vs : List Want) → how_many r (ws ++ vs) ≡ how_many r ws + how_many r vs
 unfolding how_many
@@ -54,20 +42,16 @@ abbrev times : Bool → ℕ → ℕ
 times true n = n
 times false n = 0
 
-how-range : (r s : Reason) (n a k : ℕ) → how_many r (map (λ i. (symbol_id n i, s)) (range_with_len a k)) ≡ times (same_reason r s) k
-how-range r s n a zero = how-nil r ∙ none (same_reason r s)
-  where
-    none : (b : Bool) → 0 ≡ times b 0
-    none true = refl
-    none false = refl
-how-range r s n a (suc k) = how-cons r (symbol_id n a, s) (map (λ i. (symbol_id n i, s)) (range_with_len (a + 1) k)) ∙ ap (step (same_reason r s)) (how-range r s n (a + 1) k) ∙ more (same_reason r s)
-  where
-    more : (b : Bool) → step b (times b k) ≡ times b (suc k)
-    more true = refl
-    more false = refl
+how-range : (r s : Reason) (b : Bool) → same_reason r s ≡ b → (n a k : ℕ)
+    → how_many r (map (λ i. (symbol_id n i, s)) (range_with_len a k)) ≡ times b k
+unfolding how_many
+how-range r s true e n a zero = refl
+how-range r s true e n a (suc k) = rw e (ap (λ n. suc n) (how-range r s true e n (a + 1) k))
+how-range r s false e n a zero = refl
+how-range r s false e n a (suc k) = rw e (how-range r s false e n (a + 1) k)
 
 pub how-listed : (r : Reason) (g : Gap) → how_many r (listed g) ≡ times (same_reason r g.reason) (g.last + 1 - g.first)
-how-listed r g = how-range r g.reason g.sbn g.first (g.last + 1 - g.first)
+how-listed r g = how-range r g.reason _ refl g.sbn g.first (g.last + 1 - g.first)
 
 pub listed-length : (g : Gap) → length (listed g) ≡ g.last + 1 - g.first
 listed-length g = length-map-range_with_len (λ i. (symbol_id g.sbn i, g.reason)) g.first (g.last + 1 - g.first)
@@ -75,13 +59,7 @@ listed-length g = length-map-range_with_len (λ i. (symbol_id g.sbn i, g.reason)
 pub adds-reason : (g : Gap) (old new : Wanted) (r : Reason) → g.reason ≡ r → new.missing ≡ old.missing + times (same_reason Missing r) (g.last + 1 - g.first)
     → new.conflicting ≡ old.conflicting + times (same_reason Conflicting r) (g.last + 1 - g.first) → new.misfit ≡ old.misfit + times (same_reason Misfit r) (g.last + 1 - g.first) → Adds g old new
 adds-reason g old new r e m n f =
-    let k = g.last + 1 - g.first in
-    let is : (q : Reason) → times (same_reason q r) k ≡ how_many q (listed g) = λ q. ap (λ s. times (same_reason q s) k) (sym e) ∙ sym (how-listed q g) in
-    record {
-      missing = m ∙ ap (λ n. old.missing + n) (is Missing);
-      conflicting = n ∙ ap (λ n. old.conflicting + n) (is Conflicting);
-      misfit = f ∙ ap (λ n. old.misfit + n) (is Misfit);
-    }
+    omega (arith, how-listed, rw (← e) at m, rw (← e) at n, rw (← e) at f)
 
 -- so many are counted, and the others are left
 pub record Counts (count : Wanted) (all rest : List Want) : Type 0 where
@@ -110,11 +88,7 @@ counts-all count all c = omega arith
 length-wanted : (info : Information) (held : List (SymbolId × Cell (List ℕ))) (xs : List SymbolId) → length (wanted info held xs) ≤ length xs
 unfolding wanted
 length-wanted info held [] = omega arith
-length-wanted info held (x ∷ xs) = one_more (option_map (with_reason x) (want_cell info x (value_at symbol_id_cmp held x))) (length-wanted info held xs)
-  where
-    one_more : (o : Option Want) → length (wanted info held xs) ≤ length xs → length (cons_option o (wanted info held xs)) ≤ suc (length xs)
-    one_more None l = omega (arith, l)
-    one_more (Some w) l = omega (arith, l)
+length-wanted info held (x ∷ xs) = grind (arith, length-wanted info held xs)
 
 pub few-wanted : (info : Information) (held : List (SymbolId × Cell (List ℕ))) (gs : List Gap) → gs ≡ runs (wanted info held (ids info)) → length (ids info) ≤ 2 ^ 32 → length (flat_map listed gs) ≤ 2 ^ 32
 few-wanted info held gs e l =
@@ -148,11 +122,8 @@ module _ (F : List Fact) (key : Key) (info : Information) (count : Wanted) (i : 
     | inl t ↦
         let p = both (count.missing == 0) ((count.conflicting == 0) && (count.misfit == 0)) t in
         let q = both (count.conflicting == 0) (count.misfit == 0) p.1 in
-        subst (λ b. TellsStatus F key (cond b (WholeObject n) (Partial count.missing count.conflicting count.misfit))) (sym t)
-        (info, is-whole (eqb-true count.missing 0 p.0) (eqb-true count.conflicting 0 q.0) (eqb-true count.misfit 0 q.1), l)
-    | inr t ↦
-        subst (λ b. TellsStatus F key (cond b (WholeObject n) (Partial count.missing count.conflicting count.misfit))) (sym t)
-        (is-partial (λ a b d. false≢true (sym t ∙ (λ i. eq-eqb count.missing 0 a i && (eq-eqb count.conflicting 0 b i && eq-eqb count.misfit 0 d i)))))
+        rw t (info, is-whole (eqb-true _ 0 p.0) (eqb-true _ 0 q.0) (eqb-true _ 0 q.1), l)
+    | inr t ↦ rw t (is-partial (λ a b d. false≢true (sym t ∙ rw (a, b, d))))
   ]
 
 module _ {n : ℕ} (F : List Fact) (key : Key) (x : Object n) (info : Information) (held : List (SymbolId × Cell (List ℕ))) (gs : List Gap) (count : Wanted)

@@ -82,7 +82,7 @@ until-beyond w (Some next) l a = elim (cases_Bool ((next.0.sbn == w.sbn) && nat_
       let b = both (next.0.sbn == w.sbn) (nat_lt next.0.esi w.size) t in
       let m = eqb-true next.0.sbn w.sbn b.0 in
       let j = ltb-true next.0.esi w.size b.1 in
-      rw t (elim (greater-cases next.0 (symbol_id w.sbn w.esi) a) [ inl g ↦ absurd (omega (arith, g, m)) | inr g ↦ g.1 ], omega (arith, j))
+      rw t (elim (greater-cases next.0 _ a) [ inl g ↦ absurd (omega (arith, g, m)) | inr g ↦ g.1 ], omega (arith, j))
   | inr t ↦ rw t (l, omega arith)
 ]
 

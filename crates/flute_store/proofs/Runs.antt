@@ -33,14 +33,10 @@ entry n r i = (symbol_id n i, r)
 
 -- a gap lists its first symbol and then the others
 listed-first : (n a last : ℕ) (r : Reason) → a ≤ last → map (entry n r) (range_with_len a (last + 1 - a)) ≡ entry n r a ∷ map (entry n r) (range_with_len (a + 1) (last + 1 - (a + 1)))
-listed-first n a last r h =
-    let e : last + 1 - a ≡ suc (last + 1 - (a + 1)) = omega arith in
-    ap (λ k. map (entry n r) (range_with_len a k)) e
+listed-first n a last r h = let e : last + 1 - a ≡ suc (last + 1 - (a + 1)) = omega arith in rw e
 
 listed-one : (w : Want) → listed (one w) ≡ w ∷ []
-listed-one (id, r) =
-    let e : id.esi + 1 - id.esi ≡ 1 = omega arith in
-    ap (λ k. map (entry id.sbn r) (range_with_len id.esi k)) e
+listed-one (id, r) = let e : id.esi + 1 - id.esi ≡ 1 = omega arith in rw e
 
 -- a gap of one symbol before others, where it is made one with the first of them
 before-listed : (w : Want) (gaps : List Gap) → AreRuns gaps → flat_map listed (before (one w) gaps) ≡ w ∷ flat_map listed gaps
@@ -93,19 +89,14 @@ apart-from n a b l r [] s = tt
 apart-from n a b l r (h ∷ gaps) s = s
 
 goes_on-next : (n a l : ℕ) (r : Reason) → goes_on (gap n a a r) (gap n (a + 1) l r) ≡ true
-goes_on-next n a l r =
-    ap (λ b. b && ((a + 1 == a + 1) && same_reason r r)) (eqb_itself n)
-    ∙ ap (λ b. b && same_reason r r) (eqb_itself (a + 1))
-    ∙ reason_itself r
+goes_on-next n a l r = rw (eqb_itself n, eqb_itself (a + 1), reason_itself r)
 
 -- the symbols of a gap before others are that gap before the others' runs, where it does not go on in those
 gap-runs : (k n a l : ℕ) (r : Reason) (ws : List Want) (gaps : List Gap) → a + k ≡ l → runs ws ≡ gaps → IsApart (gap n a l r) gaps → runs (map (entry n r) (range_with_len a (suc k)) ++ ws) ≡ gap n a l r ∷ gaps
 unfolding runs
 gap-runs zero n a l r ws gaps h e s =
     let same : l ≡ a = omega arith in
-    ap (before (gap n a a r)) e
-    ∙ before-apart (gap n a a r) gaps (subst (λ x. IsApart (gap n a x r) gaps) same s)
-    ∙ ap (λ x. gap n a x r ∷ gaps) (sym same)
+    rw (e, same) (before-apart (gap n a a r) gaps (subst (λ x. IsApart (gap n a x r) gaps) same s))
 gap-runs (suc k) n a l r ws gaps h e s =
     ap (before (gap n a a r)) (gap-runs k n (a + 1) l r ws gaps (omega arith) e (apart-from n a (a + 1) l r gaps s))
     ∙ ap (λ b. cond b (gap n a l r ∷ gaps) (gap n a a r ∷ gap n (a + 1) l r ∷ gaps)) (goes_on-next n a l r)
@@ -115,8 +106,7 @@ unfolding runs AreRuns
 runs-unique [] s = refl
 runs-unique (g ∷ gaps) s =
     let e : g.last + 1 - g.first ≡ suc (g.last - g.first) = omega arith in
-    ap (λ k. runs (map (entry g.sbn g.reason) (range_with_len g.first k) ++ flat_map listed gaps)) e
-    ∙ gap-runs (g.last - g.first) g.sbn g.first g.last g.reason (flat_map listed gaps) gaps (omega arith) (runs-unique gaps s.2) s.1
+    rw e (gap-runs (g.last - g.first) g.sbn g.first g.last g.reason _ gaps (omega arith) (runs-unique gaps s.2) s.1)
 
 -- a gap that differs from the one of w
 not-goes : (g h : Gap) → (g.sbn ≡ h.sbn → g.last + 1 ≡ h.first → g.reason ≡ h.reason → ⊥) → goes_on g h ≡ false
@@ -130,9 +120,9 @@ apart-before g (id, r) [] n = not-goes g (one (id, r)) (λ s f q. n (λ i. recor
 apart-before g (id, r) (h ∷ gaps) n = elim (cases_Bool (goes_on (one (id, r)) h)) [
   | inl e ↦
       let t = goes_on-tells (one (id, r)) h e in
-      rw e (not-goes g (record h { first = id.esi }) (λ s f p. n (λ i. record { sbn = (t.0 ∙ sym s) i; esi = sym f i }) (t.2 ∙ sym p)))
+      rw e (not-goes g (record h { first = id.esi }) (λ s f p. n (λ i. symbol_id ((t.0 ∙ sym s) i) (sym f i)) (t.2 ∙ sym p)))
   | inr e ↦
-      rw e (not-goes g (one (id, r)) (λ s f q. n (λ i. record { sbn = sym s i; esi = sym f i }) (sym q)))
+      rw e (not-goes g (one (id, r)) (λ s f q. n (λ i. symbol_id (sym s i) (sym f i)) (sym q)))
 ]
 
 pub apart-runs : (g : Gap) (ws : List Want) → Elsewhere (symbol_id g.sbn (g.last + 1)) g.reason ws → IsApart g (runs ws)
@@ -145,5 +135,5 @@ pub runs-first : (n a b : ℕ) (r : Reason) (ws : List Want) → a < b → Elsew
 runs-first n a b r ws l e =
     let k : b - a ≡ suc (b - 1 - a) = omega arith in
     let z : b - 1 + 1 ≡ b = omega arith in
-    ap (λ k. runs (map (entry n r) (range_with_len a k) ++ ws)) k
-    ∙ gap-runs (b - 1 - a) n a (b - 1) r ws (runs ws) (omega arith) refl (apart-runs (gap n a (b - 1) r) ws (subst (λ x. Elsewhere (symbol_id n x) r ws) (sym z) e))
+    let f = subst (λ x. Elsewhere (symbol_id n x) r ws) (sym z) e in
+    rw k (gap-runs (b - 1 - a) n a (b - 1) r ws _ (omega arith) refl (apart-runs (gap n a (b - 1) r) ws f))

@@ -31,11 +31,8 @@ use Rattle.flute_store.specs.declared.partition_scan.Upcoming.TheVariants as Upc
 -- ---- all facts, of which some were passed
 
 not-less : (a : Key) (p : Part) (key : Key) → a ≡ key → ordering_then (key_cmp a key) (part_cmp p InfoPart) ≡ Less → ⊥
-not-less a p key e h = by_part p (sym (ap (λ k. ordering_then (key_cmp k key) (part_cmp p InfoPart)) e ∙ ap (λ o. ordering_then o (part_cmp p InfoPart)) (equal_keys key)) ∙ h)
-  where
-    by_part : (p : Part) → part_cmp p InfoPart ≡ Less → ⊥
-    by_part InfoPart h = cc
-    by_part (SymbolPart id) h = cc
+not-less a InfoPart key e h = let g = rw (e, equal_keys key) at h in cc
+not-less a (SymbolPart id) key e h = let g = rw (e, equal_keys key) at h in cc
 
 stands-before : (F G : List Fact) (g : Fact) (f : Fact) → StandAfter (address f) (F ++ (g ∷ G)) → address_cmp (address f) (address g) ≡ Less
 stands-before [] G g f s = s.0
@@ -101,9 +98,12 @@ module _ (o : ScanState) (s : Scanned) (next : Next) (q : Scans o (announced s n
 symbols-same : (x y : PartitionScan) → x ≡ y → symbols_left (walk_of x []) ≡ symbols_left (walk_of y [])
 symbols-same x y e = ap (λ (z : PartitionScan). symbols_left (walk_of z [])) e
 
-moved-done : (s : Scanned) (w x : PartitionScan) (bytes : Option (List ℕ)) → symbols_left (walk_of x []) ≡ symbols_left (walk_of w []) → x.run ≡ w.run → IfSome bytes (λ b. FitsSoFar s w b) → IfSome bytes (λ b. FitsSoFar s x b)
-moved-done s w x None a r d = tt
-moved-done s w x (Some b) a r d = record { done = d.done; all = d.all ∙ ap (λ xs. d.done ++ xs) (sym a); held = d.held; values = d.values; no_run = r ∙ d.no_run; no_gap = d.no_gap }
+moved-done : (s : Scanned) (coming : Option (Option Fact)) (n : ℕ) (w x : PartitionScan)
+    (bytes : Option (List ℕ)) → symbols_left (walk_of x []) ≡ symbols_left (walk_of w [])
+    → x.run ≡ w.run → IfSome bytes (λ b. FitsSoFar s w b)
+    → IfSome bytes (λ b. FitsSoFar (record s { coming = coming; ahead = n }) x b)
+moved-done s coming n w x None a r d = tt
+moved-done s coming n w x (Some b) a r d = record { done = d.done; all = rw a d.all; held = d.held; values = d.values; no_run = rw r d.no_run; no_gap = d.no_gap }
 
 -- a block was begun
 pub scan-begun : (o : ScanState) (s : Scanned) (next : Next) (x : PartitionScan) → Scans o (announced s next) → IsScan o → (None, x) ≡ turn_of o.walk (held_next next) → IsPlace x → Scans (record o { walk = x }) (announced s next)
@@ -119,7 +119,7 @@ scan-begun o s next x q sc e pl =
       walks = λ more d n h.
           let w = turns-at o s next q None x e pl more d n h in
           record { walk = w.0.walk; gaps_are = (q.walks more d n h).gaps_are ∙ ap (λ ws. s.given ++ runs ws) (sym w.0.left_is) };
-      done = moved-done (announced s next) o.walk x s.bytes a r q.done;
+      done = moved-done (announced s next) _ _ o.walk x s.bytes a r q.done;
       counts = q.counts;
       ahead_is = q.ahead_is ∙ (λ i. length (sym a i) + one_run (sym r i));
     }
@@ -139,13 +139,6 @@ first-gap o s next g x q e pl None d = tt
 first-gap o s next g x q e pl (Some b) d = λ F f.
     not-whole-all o s next q F f g (gaps_left (walk_of x (shown s.key f.rest))) d.no_gap
     (turns-at o s next q (Some (Turn.Gap g)) x e pl (shown s.key f.rest) (ordered-all o s next q F f) (shown-known s.key f.rest) (coming-all o s next q F f)).first
-
-fewer-symbols : (w x : PartitionScan) (next : Option (SymbolId × Option ℕ)) → w.esi < until_at w next → until_at w next ≤ w.size → x ≡ after_missing w next → length (symbols_left (walk_of x [])) < length (symbols_left (walk_of w []))
-fewer-symbols w x next l m e =
-    let a = length-left (walk_of w []) in
-    let b = length-left (walk_of (after_missing w next) []) in
-    let c : length (symbols_left (walk_of x [])) ≡ length (symbols_left (walk_of (after_missing w next) [])) = ap (λ (y : PartitionScan). length (symbols_left (walk_of y []))) e in
-    omega (arith, a, b, c, l, m)
 
 pub gap-given : (o : ScanState) (s : Scanned) (next : Next) (g : Gap) (x : PartitionScan) (c : Counted) → Scans o (announced s next) → IsScan o → (Some (Turn.Gap g), x) ≡ turn_of o.walk (held_next next) → IsPlace x → Adds g o.wanted c
     → GaveGap s next g (behind-gap s next g x) × Scans (record o { walk = x; wanted = c }) (behind-gap s next g x)
@@ -171,16 +164,12 @@ gap-given o s next g x c q sc e pl a = (
     fewer = by_kind (kind o.walk (held_next next) (Some (Turn.Gap g)) x e)
       where
         by_kind : Kind o.walk (held_next next) (Some (Turn.Gap g)) x → length (symbols_left (walk_of x [])) + one_run x.run < s.ahead
-        by_kind (inl k) =
-            let h : s.ahead ≡ length (symbols_left (walk_of o.walk [])) + 1 = q.ahead_is ∙ ap (λ r. length (symbols_left (walk_of o.walk [])) + one_run r) k.0 in
-            let i : length (symbols_left (walk_of x [])) + one_run x.run ≡ length (symbols_left (walk_of o.walk [])) + 0 = ap (λ (y : PartitionScan). length (symbols_left (walk_of y [])) + one_run y.run) k.1 in
-            omega (arith, h, i)
+        by_kind (inl k) = rw (q.ahead_is, k.1, k.0) (omega arith)
         by_kind (inr k) =
             let u = until-within o.walk (held_next next) sc.place k.1 in
-            let l = fewer-symbols o.walk x (held_next next) u.0 u.1 k.2 in
-            let h : s.ahead ≡ length (symbols_left (walk_of o.walk [])) + 0 = q.ahead_is ∙ ap (λ r. length (symbols_left (walk_of o.walk [])) + one_run r) k.0 in
-            let i : length (symbols_left (walk_of x [])) + one_run x.run ≡ length (symbols_left (walk_of x [])) + 0 = ap (λ r. length (symbols_left (walk_of x [])) + one_run r) (ap (λ (y : PartitionScan). y.run) k.2 ∙ k.0) in
-            omega (arith, l, h, i)
+            let a = length-left (walk_of o.walk []) in
+            let b = length-left (walk_of (after_missing o.walk (held_next next)) []) in
+            rw (q.ahead_is, k.2, k.0) (omega (arith, a, b, u))
 
 -- ---- a symbol was passed
 
@@ -258,8 +247,7 @@ held-same es more (x ∷ xs) h =
 
 bytes-both : (es : List Entry) (xs ys : List SymbolId) → held_bytes es (xs ++ ys) ≡ held_bytes es xs ++ held_bytes es ys
 unfolding held_bytes
-bytes-both es [] ys = refl
-bytes-both es (x ∷ xs) ys = ap (λ bs. found_bytes (value_at symbol_id_cmp es x) ++ bs) (bytes-both es xs ys) ∙ sym (append_assoc (found_bytes (value_at symbol_id_cmp es x)) (held_bytes es xs) (held_bytes es ys))
+bytes-both es xs ys = flat_map-append (λ id. found_bytes (value_at symbol_id_cmp es id)) xs ys
 
 one-value : (es : List Entry) (id : SymbolId) (b : List ℕ) → value_at symbol_id_cmp es id ≡ Some (One b) → held_bytes es (id ∷ []) ≡ b
 unfolding held_bytes
@@ -378,10 +366,6 @@ first-part s w symbols F before rest bytes d b e r =
 abbrev pub behind-end : Scanned → PartitionScan → Scanned
 behind-end s x = record s { coming = Some None; ahead = length (symbols_left (walk_of x [])) + one_run x.run }
 
-ended-done : (s : Scanned) (x : PartitionScan) (bytes : Option (List ℕ)) → IfSome bytes (λ b. FitsSoFar (announced s None) x b) → IfSome bytes (λ b. FitsSoFar (behind-end s x) x b)
-ended-done s x None d = tt
-ended-done s x (Some b) d = record { done = d.done; all = d.all; held = d.held; values = d.values; no_run = d.no_run; no_gap = d.no_gap }
-
 whole-bytes : (s : Scanned) (w : PartitionScan) (symbols F before rest : List Fact) (bytes : Option (List ℕ)) → IfSome bytes (λ b. FitsSoFar s w b) → s.facts ≡ Info s.key s.info ∷ symbols → F ≡ before ++ (s.facts ++ rest) → IsRising F
     → symbols_left (walk_of w []) ≡ [] → gaps F s.key s.info ≡ s.given → IfSome bytes (λ b. Whole F s.key s.info × (object F s.key s.info ≡ take s.info.transfer_length b))
 unfolding object first-part
@@ -417,7 +401,7 @@ end-given o s x q sc e =
         walks = λ more d n h.
             let w = q.walks more d n h in
             record { walk = subst (λ (y : PartitionScan). IsWalk (walk_of y more)) (sym k.2) w.walk; gaps_are = w.gaps_are ∙ ap (λ gs. s.given ++ gs) (sym (same more)) };
-        done = ended-done s x s.bytes (moved-done (announced s None) o.walk x s.bytes (symbols-same x o.walk k.2) (ap (λ (y : PartitionScan). y.run) k.2) q.done);
+        done = moved-done (announced s None) _ _ o.walk x s.bytes (symbols-same x o.walk k.2) (ap (λ (y : PartitionScan). y.run) k.2) q.done;
         counts = q.counts;
         ahead_is = refl;
       },
@@ -432,26 +416,20 @@ pub can-add : (o : ScanState) (h : Option (SymbolId × Option ℕ)) (t : Option 
 can-add o h (Some (Turn.Gap g)) x sc e = ((within-gap o.walk h o.wanted sc.place sc.within g x (kind o.walk h (Some (Turn.Gap g)) x e)).0, small o.walk h o.wanted sc.place sc.within)
 can-add o h t x sc e = tt
 
--- the partition stays
-pub same-partition : (w : PartitionScan) (h : Option (SymbolId × Option ℕ)) (t : Option Turn) (x : PartitionScan) → Kind w h t x → x.partition ≡ w.partition
-same-partition w h (Some (Turn.Gap g)) x (inl k) = cc
-same-partition w h (Some (Turn.Gap g)) x (inr k) = cc
-same-partition w h t x k = cc
-
--- no block is begun twice
-onward : (w : PartitionScan) (h : Option (SymbolId × Option ℕ)) (t : Option Turn) (x : PartitionScan) → Kind w h t x → w.begun ≤ x.begun
-onward w h (Some (Turn.Gap g)) x (inl k) = subst (λ (y : PartitionScan). w.begun ≤ y.begun) (sym k.1) (omega arith)
-onward w h (Some (Turn.Gap g)) x (inr k) = subst (λ (y : PartitionScan). w.begun ≤ y.begun) (sym k.2) (omega arith)
-onward w h (Some Turn.Passed) x k = subst (λ (y : PartitionScan). w.begun ≤ y.begun) (sym k.1) (omega arith)
-onward w h (Some Turn.Wanted) x k = subst (λ (y : PartitionScan). w.begun ≤ y.begun) (sym k.3) (omega arith)
-onward w h t x k = subst (λ (y : PartitionScan). w.begun ≤ y.begun) (sym k.2) (omega arith)
+-- the partition stays, and no block is begun twice
+moved-on : (w : PartitionScan) (h : Option (SymbolId × Option ℕ)) (t : Option Turn)
+    (x : PartitionScan) → Kind w h t x → (x.partition ≡ w.partition) × (w.begun ≤ x.begun)
+moved-on w h (Some (Turn.Gap g)) x (inl k) = rw k.1 (refl, omega arith)
+moved-on w h (Some (Turn.Gap g)) x (inr k) = rw k.2 (refl, omega arith)
+moved-on w h (Some Turn.Passed) x k = rw k.1 (refl, omega arith)
+moved-on w h (Some Turn.Wanted) x k = rw k.3 (refl, omega arith)
+moved-on w h t x k = rw k.2 (refl, omega arith)
 
 pub begins-blocks : (o old : ScanState) (h : Option (SymbolId × Option ℕ)) (t : Option Turn) (x : PartitionScan) (c : Counted)
     → o ≡ old → (t, x) ≡ turn_of o.walk h → IsPlace x → BeginsBlocks old (state_of o x c)
 begins-blocks o old h t x c v e p =
-    let k = kind o.walk h t x e in
-    subst (λ (s : ScanState). BeginsBlocks s (state_of o x c)) v
-    (record { partition_is = same-partition o.walk h t x k; onward = onward o.walk h t x k; within = p.begun })
+    let m = moved-on o.walk h t x (kind o.walk h t x e) in
+    rw (← v) (record { partition_is = m.0; onward = m.1; within = p.begun })
 
 pub begins-more : (a b c : ScanState) → BeginsBlocks a b → BeginsBlocks b c → BeginsBlocks a c
 begins-more a b c h k =
@@ -461,13 +439,12 @@ pub step-scan : (o : ScanState) (h : Option (SymbolId × Option ℕ)) (t : Optio
 step-scan o h (Some (Turn.Gap g)) x c sc e pl a =
     let k = kind o.walk h (Some (Turn.Gap g)) x e in
     let w = (within-gap o.walk h o.wanted sc.place sc.within g x k).1 in
-    let l = how-all (listed g) in
-    let z = listed-length g in
-    record { place = pl; within = omega (arith, w, l, z); partition = same-partition o.walk h (Some (Turn.Gap g)) x k ∙ sc.partition }
+    let within : CountsWithin x c = omega (arith, w, how-all (listed g), listed-length g) in
+    record { place = pl; within = within; partition = (moved-on o.walk h (Some (Turn.Gap g)) x k).0 ∙ sc.partition }
 step-scan o h t x c sc e pl a =
     let k = kind o.walk h t x e in
     let w = within-turn o.walk h o.wanted sc.place sc.within t x tt k in
-    record { place = pl; within = subst (CountsWithin x) (sym a) w; partition = same-partition o.walk h t x k ∙ sc.partition }
+    record { place = pl; within = rw a w; partition = (moved-on o.walk h t x k).0 ∙ sc.partition }
 
 ordered-next : (s : Scanned) (n : SymbolId × Option (Bor (List ℕ))) → CanFollow s (Some n) → IsOrdered symbol_id_cmp (shown s.key s.facts ++ (n.0, cell_of n.1) ∷ [])
 ordered-next s n f = subst (IsOrdered symbol_id_cmp) (shown-next s n) (shown-ordered s.key (s.facts ++ next_fact s.key n ∷ []) f)

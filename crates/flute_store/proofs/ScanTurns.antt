@@ -1,10 +1,11 @@
 -- What a turn of a scan passes and gives.
+use Rattle.std.proofs.Common.{inl, inr}
 use Rattle.flute_parts.specs.Totality.{symbol_id_total}
 use Rattle.flute_join.proofs.Copied.{value_there}
 use Rattle.std.proofs.lemmas.List.FromFn.{length-map-range_with_len}
 use Rattle.std.proofs.Common.{length-append, ◌≡◌, ℕ, ◌+◌, ◌-◌, ◌<◌, Bool, true, false, cond, List, [], ◌∷◌, ◌++◌, length, Option, Some, None, refl, sym, ap, ◌∙◌, subst, arith}
 use Rattle.flute_store.proofs.Common
-use Common.{flat_map, Bor, is_eq, none-some}
+use Common.{flat_map, Bor, is_eq, none-some, cases_Bool}
 use Common.{IsKnown, value_at, IsOrdered, Cell, One, Conflict, Information, sizes, symbol_id_cmp}
 use Common.{key_itself, symbol_id, ids, Key, SymbolId, Fact, Missing, Conflicting, Misfit, Counted}
 use Common.{IsCount, held_bytes, PartitionScan, wants, listed, block_from, blocks_from, Walk}
@@ -56,11 +57,10 @@ take-symbols w l = ap (λ xs. xs ++ blocks_from w.partition w.begun) (block_from
 
 pub value-more : (es more : List Entry) (id : SymbolId) (c : Cell (List ℕ)) → value_at symbol_id_cmp es id ≡ Some c → value_at symbol_id_cmp (es ++ more) id ≡ Some c
 value-more [] more id c h = absurd (none-some c h)
-value-more (e ∷ es) more id c h = by_test (is_eq (symbol_id_cmp id e.0)) h (λ g. value-more es more id c g)
-  where
-    by_test : (b : Bool) → cond b (Some e.1) (value_at symbol_id_cmp es id) ≡ Some c → (value_at symbol_id_cmp es id ≡ Some c → value_at symbol_id_cmp (es ++ more) id ≡ Some c) → cond b (Some e.1) (value_at symbol_id_cmp (es ++ more) id) ≡ Some c
-    by_test true g k = g
-    by_test false g k = k g
+value-more (e ∷ es) more id c h = elim (cases_Bool (is_eq (symbol_id_cmp id e.0))) [
+  | inl t ↦ rw t (rw t at h)
+  | inr t ↦ rw t (value-more es more id c (rw t at h))
+]
 
 pub value-last : (es : List Entry) (e : Entry) → IsOrdered symbol_id_cmp (es ++ e ∷ []) → value_at symbol_id_cmp (es ++ e ∷ []) e.0 ≡ Some e.1
 value-last es e r = value_there symbol_id_total es e [] r
@@ -86,9 +86,7 @@ new-scan key info w c e i =
     }
 
 pub new-within : (w : PartitionScan) (c : Counted) → IsCount c [] → w.run ≡ None → CountsWithin w c
-new-within w c i r =
-    let o = ap run_length r in
-    omega (arith, o, how-nil Missing, how-nil Conflicting, how-nil Misfit)
+new-within w c i r = omega (arith, ap run_length r, how-nil)
 
 pub counts-wants : (o : ScanState) (s : Scanned) (F : List Fact) → Scans o s → GaveAll s F → IsCount o.wanted (wants F s.key s.info)
 counts-wants o s F q g = subst (IsCount o.wanted) (ap (flat_map listed) (sym g.gaps_are) ∙ runs-listed (wants F s.key s.info)) q.counts

@@ -23,10 +23,8 @@ shown-append key (f ∷ F) G = ap (λ es. shown_by key f ++ es) (shown-append ke
 shown-if : (key k : Key) (id : SymbolId) (c : Cell (List ℕ)) (P : List Entry → Type 0)
     → ((k ≡ key → ⊥) → P []) → (k ≡ key → P ((id, c) ∷ [])) → P (cond (same_key k key) ((id, c) ∷ []) [])
 shown-if key k id c P n s = elim (cases_Bool (same_key k key)) [
-  | inl t ↦ subst (λ t. P (cond t ((id, c) ∷ []) [])) (sym t) (s (key_same k key t))
-  | inr t ↦
-      subst (λ t. P (cond t ((id, c) ∷ []) [])) (sym t)
-      (n (λ e. false≢true (sym t ∙ ap (λ k. same_key k key) e ∙ key_itself key)))
+  | inl t ↦ rw t (s (key_same k key t))
+  | inr t ↦ rw t (n (λ e. false≢true (sym t ∙ ap (λ k. same_key k key) e ∙ key_itself key)))
 ]
 
 shown-cases : (key : Key) (f : Fact) (P : List Entry → Type 0)

@@ -5,9 +5,6 @@ use Rattle.flute_wire.specs.Content.{Content}
 use Rattle.flute_wire.specs.Datagram.{Spells, tail_symbol}
 use Rattle.flute_store.proofs.Common.{IfSome, cases_Bool, nat_tests}
 
-behind : (xs ys : List ℕ) → length ys ≤ length (xs ++ ys)
-behind xs ys = omega (arith, length-append xs ys)
-
 tail_size : (tail : List ℕ) → length tail ≤ 65535 → IfSome (tail_symbol tail) (λ symbol. HasSymbolSize symbol.1)
 tail_size tail l = elim (cases_Bool (nat_lt 4 (length tail))) [
   | inl e ↦
@@ -19,11 +16,6 @@ tail_size tail l = elim (cases_Bool (nat_lt 4 (length tail))) [
 -- the bytes that a packet has for its symbol are a symbol's
 pub spelled-size : (d : List ℕ) (c : Content) → Spells d c → IfSome c.symbol (λ symbol. HasSymbolSize symbol.1)
 spelled-size d c (p, parts, accepted, is) =
-    let w = behind p.word (p.cci ++ (p.tsi ++ (p.toi ++ (p.area ++ p.tail)))) in
-    let x = behind p.cci (p.tsi ++ (p.toi ++ (p.area ++ p.tail))) in
-    let s = behind p.tsi (p.toi ++ (p.area ++ p.tail)) in
-    let o = behind p.toi (p.area ++ p.tail) in
-    let a = behind p.area p.tail in
     let whole = ap length parts.joined in
-    let l : length p.tail ≤ 65535 = omega (arith, w, x, s, o, a, whole, accepted.limit) in
+    let l : length p.tail ≤ 65535 = omega (arith, length-append {A = ℕ}, whole, accepted.limit) in
     subst (λ z. IfSome z (λ symbol. HasSymbolSize symbol.1)) (sym (ap (λ (k : Content). k.symbol) is)) (tail_size p.tail l)

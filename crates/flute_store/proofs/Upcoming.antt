@@ -1,4 +1,5 @@
 -- What comes next on a walk, and what is left then.
+use Rattle.std.proofs.Common.{rules}
 use Rattle.std.proofs.Common.{◌≡◌, ◌≢◌, ℕ, ◌+◌, ◌<◌, ◌≤◌, cond, List, [], ◌∷◌, ◌++◌, length, drop, Option, Some, None, refl, sym, ap, ◌∙◌, subst, inl, inr, arith, append_assoc, ◌-◌}
 use Rattle.flute_store.proofs.Common
 use Common.{◌==◌, option_map, cons_option, keys_of, Ordering, Less, Equal, Greater}
@@ -98,9 +99,6 @@ inside-less w p i = let l = p.within in omega (arith, l, i)
 
 -- ---- steps
 
-held-length : (held : List Entry) (e : Entry) (es : List Entry) → held ≡ e ∷ es → length held ≡ length (drop 1 held) + 1
-held-length held e es h = ap (λ (x : List Entry). length x) h ∙ (let f : length (e ∷ es) ≡ length es + 1 = omega arith in f) ∙ ap (λ (x : List Entry). length (drop 1 x) + 1) (sym h)
-
 held-ordered : (held : List Entry) (e : Entry) (es : List Entry) → held ≡ e ∷ es → IsOrdered symbol_id_cmp held → IsOrdered symbol_id_cmp (drop 1 held)
 held-ordered held e es h s = rw h (sorted_tail symbol_id_cmp e.0 (keys_of es) (rw h at s))
 
@@ -114,16 +112,10 @@ sorted-first e es s = s.0
 
 behind-first : (w : Walk) (e : Entry) (es : List Entry) → w.held ≡ e ∷ es → e.0 ≡ here w → IsOrdered symbol_id_cmp w.held → IsBehind w.sbn (w.esi + 1 - 1) (drop 1 w.held)
 behind-first w e es h p s =
-    let a : Above e.0 (keys_of es) = sorted-first e es (subst (IsOrdered symbol_id_cmp) h s) in
-    let k : w.esi ≡ w.esi + 1 - 1 = omega arith in
-    subst (λ i. IsBehind w.sbn i (drop 1 w.held)) k
-    (subst (λ (x : List Entry). IsBehind w.sbn w.esi (drop 1 x)) (sym h) (subst (λ id. Above id (keys_of es)) p a))
+    let k : w.esi + 1 - 1 ≡ w.esi = omega arith in
+    rw (k, h) (subst (λ id. Above id (keys_of es)) p (sorted-first e es (rw h at s)))
 
 -- ---- how far a walk is
-
--- a walk on which the first held symbol was passed
-passed-first : (w : Walk) (e : Entry) (es : List Entry) → w.held ≡ e ∷ es → w.held ≡ (e ∷ []) ++ drop 1 w.held
-passed-first w e es h = h ∙ ap (λ (x : List Entry). e ∷ drop 1 x) (sym h)
 
 pub ahead-trans : (u v w : Walk) → IsAhead u v → IsAhead v w → IsAhead u w
 ahead-trans u v w a b =
@@ -135,7 +127,7 @@ ahead-trans u v w a b =
     }
 
 pub ahead-first : (w x : Walk) (e : Entry) (es : List Entry) → w.held ≡ e ∷ es → x.held ≡ drop 1 w.held → x.begun ≡ w.begun → x.partition ≡ w.partition → IsAhead w x
-ahead-first w x e es h d b p = record { passed = e ∷ []; held_is = passed-first w e es h ∙ ap (λ (y : List Entry). e ∷ y) (sym d); onward = omega (arith, b); partition_is = p }
+ahead-first w x e es h d b p = record { passed = e ∷ []; held_is = rw (d, h); onward = omega (arith, b); partition_is = p }
 
 step-behind : (w : Walk) (t : AtPassed w) → IsBehind w.sbn (w.esi - 1) w.held → IsBehind w.sbn (w.esi - 1) (drop 1 w.held)
 step-behind w t b = rw t.held ((rw t.held at b).1)
@@ -144,7 +136,6 @@ pub step-pass : (w : Walk) → IsWalk w → AtPassed w → Keeps w (after_pass w
 unfolding left
 step-pass w p t =
     let l = inside-less w p t.inside in
-    let n = held-length w.held t.first t.others t.held in
     record {
       walk = assumption (
         p,
@@ -156,7 +147,7 @@ step-pass w p t =
       left_is =
           let a = above-before t.first.0 (here w) (others_left w) t.before (others-above w p l) in
           rw (t.held, symbols-first w l, wanted-past w.partition t.first t.others (here w ∷ others_left w) (t.before, a));
-      fewer = omega (arith, n);
+      fewer = rw t.held (omega arith);
     }
 
 -- a held symbol of the partition is passed, with this run behind it
@@ -183,8 +174,9 @@ taken-left run w why p t =
 
 pub taken-keeps : (run : Option Gap) (w : Walk) (why : Option Reason) → IsWalk w → AtHere w why → EndsBefore w.sbn (w.esi + 1) run → pending run ++ left (taken run w) ≡ pending w.run ++ left w → Keeps w (taken run w)
 taken-keeps run w why p t r e =
-    let n = held-length w.held t.first t.others t.held in
-    record { walk = taken-walk run w why p t r; left_is = e; fewer = omega (arith, n); ahead = ahead-first w (taken run w) t.first t.others t.held refl refl refl }
+    let l = inside-less w p t.inside in
+    let a = ahead-first w (taken run w) t.first t.others t.held refl refl refl in
+    record { walk = taken-walk run w why p t r; left_is = e; fewer = rw t.held (omega arith); ahead = a }
 
 pub step-take : (w : Walk) → IsWalk w → AtHere w None → w.run ≡ None → Keeps w (after_take w)
 step-take w p t r =
@@ -199,17 +191,9 @@ pub step-begin : (w : Walk) → IsWalk w → Tells w BlockEnd → w.run ≡ None
 unfolding left
 step-begin w p t r s =
     let l : w.begun < length (sizes w.partition) = omega arith in
+    let running : EndsBefore w.begun 0 w.run = rw r tt in
     record {
-      walk = record {
-        ordered = p.ordered;
-        known = p.known;
-        begun = omega (arith, l);
-        within = omega arith;
-        longest = s;
-        in_block = λ z. refl;
-        behind = λ z. absurd (omega (arith, z));
-        running = subst (EndsBefore w.begun 0) (sym r) tt;
-      };
+      walk = search (rules, p.ordered, p.known, s, running, l);
       ahead = record { passed = []; held_is = refl; onward = omega arith; partition_is = refl };
       left_is = ap (λ xs. pending w.run ++ wanted w.partition w.held xs) (sym (blocks_from-next w.partition w.begun l) ∙ sym (symbols-end w t.0));
       fewer = omega (arith, l);
