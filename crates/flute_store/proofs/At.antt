@@ -43,13 +43,20 @@ pub each-flat_map : {E X : Type 0} (P : X → Type 0) (f : E → List X) → ((e
 each-flat_map P f h [] = tt
 each-flat_map P f h (e ∷ es) = each-append P (f e) (flat_map f es) (h e) (each-flat_map P f h es)
 
+-- each fact of a cell stands where this holds
+pub cell-stands : {T : Type 0} (P : Address → Type 0) (told : T → Fact) (clash : Fact)
+    → ((v : T) → P (address (told v))) → P (address clash) → (c : Cell T)
+    → AllByRecursion (λ f. P (address f)) (cell_facts told clash c)
+cell-stands P told clash h k Absent = tt
+cell-stands P told clash h k (One v) = (h v, tt)
+cell-stands P told clash h k Conflict = (k, tt)
+
+pub any_value : {K X : Type 0} (es : List (K × X)) → EachValue (λ _. Unit {0}) es
+any_value [] = tt
+any_value (e ∷ es) = (tt, any_value es)
+
 -- ---- a cell
 module _ {T : Type 0} (told : T → Fact) (here : Address) where
-  pub elsewhere-cell : (a : Address) → ((v : T) → address (told v) ≡ a → ⊥) → (address (conflict_at here) ≡ a → ⊥) → (c : Cell T) → Elsewhere a (cell_facts told (conflict_at here) c)
-  elsewhere-cell a h k Absent = tt
-  elsewhere-cell a h k (One v) = (h v, tt)
-  elsewhere-cell a h k Conflict = (k, tt)
-
   module _ (eq : T → T → Bool) (stands : (v : T) → address (told v) ≡ here) (clash : address (conflict_at here) ≡ here) (decides : (v w : T) → same_fact (told v) (told w) ≡ eq v w) where
     abbrev facts : Cell T → List Fact
     facts c = cell_facts told (conflict_at here) c

@@ -57,14 +57,6 @@ end-bytes : (w : Walk) → Tells w End → bytes_left w ≡ []
 unfolding bytes_left held_bytes
 end-bytes w t = ap (held_bytes w.held) (symbols-end w t.0 ∙ ap (blocks_from w.partition) t.1 ∙ blocks_from-end w.partition)
 
-first_cell : Cell (List ℕ) → List Entry → Cell (List ℕ)
-first_cell c [] = c
-first_cell c (e ∷ es) = e.1
-
-same_first : (a b : Entry) (xs ys held : List Entry) → held ≡ a ∷ xs → held ≡ b ∷ ys → a.1 ≡ b.1
-unfolding first_cell
-same_first a b xs ys held e f = ap (first_cell Absent) (sym e ∙ f)
-
 -- where nothing is wanted, no gap is given, and no wanted symbol passed
 no-gap : (v : Walk) (g : Gap) (gs : List Gap) → all_left v ≡ [] → gaps_left v ≡ g ∷ gs → ⊥
 unfolding runs
@@ -101,12 +93,13 @@ keeps-on u v w k l =
 pub gives-first : (u v w : HeldScan) (e : Entry) (es : List Entry) → KeepsBytes u v → v.held ≡ e ∷ es → Turns v (Some Turn.Fitting) w → GivesFirst u (cell_bytes e.1) w
 gives-first u v w e es k h s =
     let t = told (walk_in v) Fitting s.turns.1 in
+    let f : t.first ≡ e = let held = sym t.held ∙ h in cc in
     record {
       walk = s.walk;
       whole = s.turns.0.left_is ∙ k.whole;
       first =
           sym k.bytes ∙ take-bytes (walk_in v) k.walk.walk t
-          ∙ (λ i. cell_bytes (same_first t.first e t.others es v.held t.held h i) ++ bytes_left (sym s.turns.2 i));
+          ∙ (λ i. cell_bytes (f i).1 ++ bytes_left (sym s.turns.2 i));
       bound_is = s.bound_is ∙ k.bound_is;
       ticked = omega arith;
     }

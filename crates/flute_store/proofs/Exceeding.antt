@@ -1,4 +1,5 @@
 -- A store that passes the limits names more than they allow.
+use Rattle.flute_store.proofs.OnePair.{any-value_at}
 use Rattle.std.proofs.Common.{◌≡◌, ◌≢◌, ℕ, ◌<◌, ◌≤◌, List, [], ◌∷◌, ◌++◌, length, Bool, true, false, cond, ◌||◌, Option, Some, None, unwrap_or, refl, sym, ap, ◌∙◌, subst, inl, inr, ◌⊎◌, arith, bytes_eq}
 use Rattle.flute_store.proofs.Common
 use Common.{Ordering, Less, is_eq, IsTotalOrder, keys_of, IsStrictlySortedBy, cell_join, IsKnown}
@@ -222,15 +223,6 @@ pub beyond-over : {n : ℕ} (s o : ℕ) (m : List (Session × List (ObjectName �
 beyond-over s o m p b = beyond-over_at m p s o b
 
 -- ---- a join that the limits forbid passes them
-module _ {K X : Type 0} (cmp : K → K → Ordering) (B : X → Type 0) where
-  any_first : (b : Bool) (e : K × X) (es : List (K × X)) (o : Option X) (v : X) → cond b (Some e.1) o ≡ Some v → B v → (o ≡ Some v → AnyValue B es) → AnyValue B (e ∷ es)
-  any_first true e es o v f p h = inl (subst B (ap (λ z. unwrap_or z v) (sym f)) p)
-  any_first false e es o v f p h = inr (h f)
-
-  pub any-value_at : (es : List (K × X)) (k : K) (v : X) → value_at cmp es k ≡ Some v → B v → AnyValue B es
-  any-value_at [] k v f p = absurd (none-some v f)
-  any-value_at (e ∷ es) k v f p = any_first (is_eq (cmp k e.0)) e es (value_at cmp es k) v f p (λ g. any-value_at es k v g p)
-
 module _ {K X : Type 0} {cmp : K → K → Ordering} (order : IsTotalOrder cmp) (join : X → X → X) (limit : ℕ) (over : X → X → Type 0) (P B : X → Type 0) (beyond : (v w : X) → P v → P w → over v w → B (join v w)) where
   pub map_over-beyond : (es fs : List (K × X)) → IsOrdered cmp es → IsOrdered cmp fs → EachValue P es → EachValue P fs → MapOver cmp join limit over es fs → (limit < length (map_join cmp join es fs)) ⊎ AnyValue B (map_join cmp join es fs)
   map_over-beyond es fs s t a b (inl l) = inl l

@@ -2,8 +2,8 @@
 use Rattle.std.proofs.Common.{◌≡◌, ℕ, zero, suc, List, [], ◌∷◌, ◌++◌, Bool, true, false, cond, Some, unwrap_or, refl, sym, ap, ◌∙◌, subst, inl, inr, ◌↔◌, arith}
 use Rattle.flute_store.specs.Keys.{session_keys, store_keys}
 use Rattle.flute_store.proofs.Common
-use Common.{Contains, Less, is_eq, ordering_then, Equal-is, keys_of, AllByRecursion}
-use Common.{IsStrictlySortedBy, tied_itself, Contains-append_left, Contains-append_right}
+use Common.{Contains, Less, is_eq, ordering_then, Equal-is, keys_of, AllByRecursion, cases_Bool}
+use Common.{IsStrictlySortedBy, tied_itself, Contains-append_left, Contains-append_right, same_Some}
 use Common.{Contains-append_cases, sorted_tail, none-some, value_at, IsOrdered, EachValue, Session}
 use Common.{ObjectName, Key, session_cmp, object_cmp, key_cmp, session_total, object_total}
 use Common.{session_place, object_place, session_tells, object_tells, Object, key_in, content}
@@ -67,11 +67,12 @@ module _ {X : Type 0} where
 
   session_has : (s : Session) (es : List (ObjectName × X)) (o : ObjectName) (v : X) → value_at object_cmp es o ≡ Some v → Contains (session_keys s es) (key_in s o)
   session_has s [] o v f = absurd (none-some v f)
-  session_has s (e ∷ es) o v f = by_test (λ g. session_has s es o v g) (is_eq (object_cmp o e.0)) refl f
-    where
-      by_test : (value_at object_cmp es o ≡ Some v → Contains (session_keys s es) (key_in s o)) → (b : Bool) → is_eq (object_cmp o e.0) ≡ b → cond b (Some e.1) (value_at object_cmp es o) ≡ Some v → Contains (session_keys s (e ∷ es)) (key_in s o)
-      by_test later true t f = subst (λ z. Contains (session_keys s (e ∷ es)) (key_in s z)) (sym (object_place o e.0 ((Equal-is (object_cmp o e.0)).0 t))) (first_is (key_in s e.0) (session_keys s es))
-      by_test later false t f = Contains-append_right (key_in s e.0 ∷ []) (session_keys s es) (key_in s o) (later f)
+  session_has s (e ∷ es) o v f = elim (cases_Bool (is_eq (object_cmp o e.0))) [
+    | inl t ↦
+        let same = object_place o e.0 ((Equal-is (object_cmp o e.0)).0 t) in
+        rw same (first_is (key_in s e.0) (session_keys s es))
+    | inr t ↦ Contains-append_right (key_in s e.0 ∷ []) _ _ (session_has s es o v (rw t at f))
+  ]
 
 module _ {n : ℕ} where
   -- the keys of a store rise
@@ -98,15 +99,14 @@ module _ {n : ℕ} where
   store_has : (m : List (Session × List (ObjectName × Object n))) (s : Session) (o : ObjectName) (os : List (ObjectName × Object n)) (x : Object n)
       → value_at session_cmp m s ≡ Some os → value_at object_cmp os o ≡ Some x → Contains (store_keys m) (key_in s o)
   store_has [] s o os x f h = absurd (none-some os f)
-  store_has (e ∷ m) s o os x f h = by_test (λ g. store_has m s o os x g h) (is_eq (session_cmp s e.0)) refl f
-    where
-      by_test : (value_at session_cmp m s ≡ Some os → Contains (store_keys m) (key_in s o)) → (b : Bool) → is_eq (session_cmp s e.0) ≡ b → cond b (Some e.1) (value_at session_cmp m s) ≡ Some os → Contains (store_keys (e ∷ m)) (key_in s o)
-      by_test later true t f =
-          let same = session_place s e.0 ((Equal-is (session_cmp s e.0)).0 t) in
-          let there : os ≡ e.1 = sym (ap (λ z. unwrap_or z os) f) in
-          Contains-append_left (session_keys e.0 e.1) (store_keys m) (key_in s o)
-          (subst (λ z. Contains (session_keys z e.1) (key_in s o)) same (subst (λ z. Contains (session_keys s z) (key_in s o)) there (session_has s os o x h)))
-      by_test later false t f = Contains-append_right (session_keys e.0 e.1) (store_keys m) (key_in s o) (later f)
+  store_has (e ∷ m) s o os x f h = elim (cases_Bool (is_eq (session_cmp s e.0))) [
+    | inl t ↦
+        let same = session_place s e.0 ((Equal-is (session_cmp s e.0)).0 t) in
+        let there = same_Some e.1 os (rw t at f) in
+        Contains-append_left (session_keys e.0 e.1) (store_keys m) (key_in s o)
+        (rw (there, ← same) (session_has s os o x h))
+    | inr t ↦ Contains-append_right (session_keys e.0 e.1) _ _ (store_has m s o os x (rw t at f) h)
+  ]
 
   -- they are those of the objects of which something is held
   pub keys_held : (s o : ℕ) (m : List (Session × List (ObjectName × Object n))) → IsStore s o m → (key : Key) → Contains (store_keys m) key ↔ HoldsObject (content m) key

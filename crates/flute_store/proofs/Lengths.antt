@@ -1,4 +1,5 @@
 -- How many facts a store has.
+use Rattle.flute_store.proofs.At.{any_value}
 use Rattle.std.proofs.Common.{ℕ, ◌+◌, ◌*◌, ◌≤◌, List, [], ◌∷◌, length, arith, length-append}
 use Rattle.std.proofs.Math.Nat.{mul-le-mul_right}
 use Rattle.flute_store.proofs.Common
@@ -21,10 +22,6 @@ module _ {K X : Type 0} (f : K × X → List Fact) (P : X → Type 0) (most : �
 
   within_limit : (limit : ℕ) (es : List (K × X)) → EachValue P es → length es ≤ limit → length (flat_map f es) ≤ limit * most
   within_limit limit es p l = omega (arith, entries_length es p, mul-le-mul_right most l)
-
-any_value : {K X : Type 0} (es : List (K × X)) → EachValue (λ _. Unit {0}) es
-any_value [] = tt
-any_value (e ∷ es) = (tt, any_value es)
 
 module _ {n : ℕ} where
   object_length : (key : Key) (x : Object n) → IsObject x → length (object_facts key x) ≤ n + 1

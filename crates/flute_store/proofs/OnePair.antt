@@ -1,4 +1,5 @@
 -- One pair joined into a map: the outcome is sound, or passes a limit.
+use Common.{cases_Bool, same_Some}
 use Rattle.std.proofs.Common.{◌≡◌, ◌≢◌, ℕ, ◌+◌, ◌<◌, ◌≤◌, List, [], ◌∷◌, length, Bool, true, false, cond, Option, Some, None, refl, sym, ap, ◌∙◌, subst, inl, inr, arith}
 use Rattle.std.proofs.lemmas.Map.{length-set_value}
 use Rattle.flute_join.proofs.Walk.{ordered_one}
@@ -8,25 +9,15 @@ use Common.{insert_entry, none-some, IsJoin, IsBelow, map_join, value_at, IsOrde
 use Common.{IsSound, map_join_laws, below_join, ordered-map_join, each-set_value, each-insert_entry}
 use Common.{some_above, single_held, single_new, length_new, cell_join, IsKnown, Cell, Absent, One}
 use Common.{Conflict, SymbolId, SymbolUpdate, BorrowedUpdate, OwnedUpdate, ConflictUpdate}
-use Common.{update_cell, update_symbols, AnyValue}
+use Common.{update_cell, update_symbols, AnyValue, value_at-map_join, join_values, tied_itself}
 
 module _ {K X : Type 0} (cmp : K → K → Ordering) (B : X → Type 0) where
-  found_any : (b : Bool) (e : K × X) (es fs : List (K × X)) (o : Option X) (v w : X) → cond b (Some e.1) o ≡ Some v → B w → (o ≡ Some v → AnyValue B fs) → AnyValue B (cond b ((e.0, w) ∷ es) (e ∷ fs))
-  found_any true e es fs o v w f p h = inl p
-  found_any false e es fs o v w f p h = inr (h f)
-
-  pub any-set_value : (es : List (K × X)) (k : K) (v w : X) → value_at cmp es k ≡ Some v → B w → AnyValue B (set_value (is_at (cmp k)) es w)
-  any-set_value [] k v w f p = absurd (none-some v f)
-  any-set_value (e ∷ es) k v w f p = found_any (is_at (cmp k) e.0) e es (set_value (is_at (cmp k)) es w) (value_at cmp es k) v w f p (λ g. any-set_value es k v w g p)
-
-  put_any : (r : Ordering) (k : K) (e : K × X) (es fs : List (K × X)) (w : X) → B w → AnyValue B fs → AnyValue B (match_ordering r ((k, w) ∷ e ∷ es) ((e.0, w) ∷ es) (e ∷ fs))
-  put_any Less k e es fs w p a = inl p
-  put_any Equal k e es fs w p a = inl p
-  put_any Greater k e es fs w p a = inr a
-
-  pub any-insert_entry : (es : List (K × X)) (k : K) (w : X) → B w → AnyValue B (insert_entry cmp es k w)
-  any-insert_entry [] k w p = inl p
-  any-insert_entry (e ∷ es) k w p = put_any (cmp k e.0) k e es (insert_entry cmp es k w) w p (any-insert_entry es k w p)
+  pub any-value_at : (es : List (K × X)) (k : K) (v : X) → value_at cmp es k ≡ Some v → B v → AnyValue B es
+  any-value_at [] k v f p = absurd (none-some v f)
+  any-value_at (e ∷ es) k v f p = elim (cases_Bool (is_at (cmp k) e.0)) [
+    | inl b ↦ inl (subst B (sym (same_Some e.1 v (rw b at f))) p)
+    | inr b ↦ inr (any-value_at es k v (rw b at f) p)
+  ]
 
 module _ {K X : Type 0} {cmp : K → K → Ordering} (order : IsTotalOrder cmp) (same : (x y : K) → cmp x y ≡ Equal → x ≡ y) {join : X → X → X} (laws : IsJoin join) where
   pub some-right : (es fs : List (K × X)) → fs ≢ [] → map_join cmp join es fs ≢ []
@@ -67,11 +58,17 @@ module _ {K X : Type 0} {cmp : K → K → Ordering} (order : IsTotalOrder cmp) 
           each = subst (EachValue P) (sym is) (each-insert_entry cmp P es k w a p);
         }
 
-    pub held-beyond : (B : X → Type 0) (v : X) → value_at cmp es k ≡ Some v → B (join v w) → AnyValue B J
-    held-beyond B v f p = subst (AnyValue B) (sym (single_held order laws es k v w s f)) (any-set_value cmp B es k v (join v w) f p)
+    joined_there : (found : Option X) → value_at cmp es k ≡ found
+        → value_at cmp J k ≡ join_values join found (Some w)
+    joined_there found f =
+        value_at-map_join order join es ((k, w) ∷ []) k s (ordered_one order same laws (k, w))
+        ∙ rw (f, tied_itself order k)
 
-  pub new-beyond : (B : X → Type 0) → value_at cmp es k ≡ None → B w → AnyValue B J
-  new-beyond B f p = subst (AnyValue B) (sym (single_new order laws es k w f)) (any-insert_entry cmp B es k w p)
+    pub held-beyond : (B : X → Type 0) (v : X) → value_at cmp es k ≡ Some v → B (join v w) → AnyValue B J
+    held-beyond B v f p = any-value_at cmp B J k (join v w) (joined_there (Some v) f) p
+
+    pub new-beyond : (B : X → Type 0) → value_at cmp es k ≡ None → B w → AnyValue B J
+    new-beyond B f p = any-value_at cmp B J k w (joined_there None f) p
 
   pub full-beyond : (limit : ℕ) → value_at cmp es k ≡ None → length es ≡ limit → limit < length J
   full-beyond limit f full =

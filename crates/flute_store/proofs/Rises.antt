@@ -1,4 +1,5 @@
 -- The content of a store rises.
+use Rattle.flute_store.proofs.At.{any_value, cell-stands}
 use Rattle.flute_store.proofs.Common
 use Common.{flat_map, Ordering, Less, ordering_then, session_total, Session, ObjectName, Key}
 use Common.{SymbolId, Address, Fact, session_cmp, object_cmp, key_cmp, symbol_id_cmp, part_cmp}
@@ -50,15 +51,6 @@ cell-rises : {T : Type 0} (told : T → Fact) (clash : Fact) (c : Cell T) → Is
 cell-rises told clash Absent = tt
 cell-rises told clash (One v) = (tt, tt)
 cell-rises told clash Conflict = (tt, tt)
-
-cell-stands : {T : Type 0} (P : Address → Type 0) (told : T → Fact) (clash : Fact) → ((v : T) → P (address (told v))) → P (address clash) → (c : Cell T) → Stand P (cell_facts told clash c)
-cell-stands P told clash h k Absent = tt
-cell-stands P told clash h k (One v) = (h v, tt)
-cell-stands P told clash h k Conflict = (k, tt)
-
-any_value : {K X : Type 0} (es : List (K × X)) → EachValue (λ _. Unit {0}) es
-any_value [] = tt
-any_value (e ∷ es) = (tt, any_value es)
 
 after_info : (key : Key) (F : List Fact) → Stand (λ b. (id : SymbolId) × (b ≡ symbol_address key id)) F → StandAfter (info_address key) F
 after_info key [] s = tt

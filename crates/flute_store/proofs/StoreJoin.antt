@@ -1,4 +1,5 @@
 -- The content of the join of two stores comes to the contents appended.
+use Rattle.flute_store.proofs.At.{cell-stands}
 use Rattle.std.proofs.Common.{◌≡◌, ℕ, List, [], ◌∷◌, ◌++◌, None, refl, sym, ap, ◌∙◌, subst}
 use Rattle.std.specs.Prelude.{bytes_eq, ◌&&◌}
 use Rattle.flute_store.proofs.Common
@@ -11,15 +12,15 @@ use Common.{Same-sym, cell_join, IsOrdered, EachValue, Cell, IsBelow, ordered-ma
 use Common.{EachValue-map_join, Object, object_join, symbols_join, session_join, store_join, key_in}
 use Common.{info_cell_facts, symbol_cell_facts, symbols_facts, object_facts, session_facts, content}
 use Common.{IsObject, IsSession, IsStore}
-use Rattle.flute_store.proofs.At.{Elsewhere, elsewhere-none, Apart, each-append, each-flat_map, elsewhere-cell, at-cell_join, at-map_join}
+use Rattle.flute_store.proofs.At.{Elsewhere, elsewhere-none, Apart, each-append, each-flat_map, at-cell_join, at-map_join}
 
 -- ---- where the facts of a cell stand
 
 elsewhere-info : (a : Address) (key : Key) → (info_address key ≡ a → ⊥) → (c : Cell Information) → Elsewhere a (info_cell_facts key c)
-elsewhere-info a key h c = elsewhere-cell (Info key) (info_address key) a (λ v. h) h c
+elsewhere-info a key h c = cell-stands (λ b. b ≡ a → ⊥) (Info key) _ (λ v. h) h c
 
 elsewhere-symbol : (a : Address) (key : Key) (id : SymbolId) → (symbol_address key id ≡ a → ⊥) → (c : Cell (List ℕ)) → Elsewhere a (symbol_cell_facts key id c)
-elsewhere-symbol a key id h c = elsewhere-cell (Symbol key id) (symbol_address key id) a (λ v. h) h c
+elsewhere-symbol a key id h c = cell-stands (λ b. b ≡ a → ⊥) (Symbol key id) _ (λ v. h) h c
 
 info-join : (key : Key) (c d : Cell Information) → fact_at (info_cell_facts key (cell_join same_information c d)) (info_address key) ≡ joined (info_address key) (fact_at (info_cell_facts key c) (info_address key)) (fact_at (info_cell_facts key d) (info_address key))
 info-join key = at-cell_join (Info key) (info_address key) same_information (λ v. refl) refl (λ v w. ap (λ b. b && same_information v w) (key_itself key))

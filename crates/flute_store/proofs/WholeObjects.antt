@@ -49,26 +49,20 @@ map_none f None e = refl
 map_none f (Some r) e = cc
 
 held-from : (F : List Fact) (key : Key) (info : Information) (id : SymbolId) (o : Option Fact) → fact_at F (symbol_address key id) ≡ o → want info id o ≡ None → IsHeld F key info id
-held-from F key info id None e w = cc
-held-from F key info id (Some (Info k i)) e w = cc
-held-from F key info id (Some (InfoConflict k)) e w = cc
-held-from F key info id (Some (SymbolConflict k i)) e w = cc
 held-from F key info id (Some (Symbol k i b)) e w =
     let p : symbol_address k i ≡ symbol_address key id = fact_at-address F (symbol_address key id) (Symbol k i b) e in
     let q : k ≡ key = ap (λ (a : Address). a.key) p in
-    let r : i ≡ id = part_id i id (ap (λ (a : Address). a.part) p) in
+    let r : i ≡ id = let s = ap (λ (a : Address). a.part) p in cc in
     record {
       bytes = b;
       value = e ∙ (λ t. Some (Symbol (q t) (r t) b));
       fitting = fits_or_misfit (fits info id (length b)) w;
     }
   where
-    part_id : (i j : SymbolId) → SymbolPart i ≡ SymbolPart j → i ≡ j
-    part_id i j h = cc
-
     fits_or_misfit : (b : Bool) → cond b None (Some Misfit) ≡ None → b ≡ true
     fits_or_misfit true h = refl
     fits_or_misfit false h = cc
+held-from F key info id o e w = cc
 
 want-held : (F : List Fact) (key : Key) (info : Information) (id : SymbolId) → IsHeld F key info id → want info id (fact_at F (symbol_address key id)) ≡ None
 want-held F key info id h =

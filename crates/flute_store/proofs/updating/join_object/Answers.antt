@@ -43,7 +43,8 @@ returns-in_err-join_update-clause-full g c =
     let refused = err_from_is_err_and c.from_residual.result c.from_residual.ensures.1 in
     let is = made g.row.SYMBOLS _ (update_object c.args.update) c.new-object.ensures.info c.new-object.ensures.symbols in
     rw (refused.1, refused.2)
-    (λ e. inr (new-beyond object_total object_place (object_join_laws g.row.SYMBOLS) _ _ _ ObjectBeyond (sym c.in_default.ensures.value)
+    (λ e. inr (new-beyond object_total object_place (object_join_laws g.row.SYMBOLS) _ _ _
+    c.in_default.ensures.ordered ObjectBeyond (sym c.in_default.ensures.value)
     (subst ObjectBeyond is (c.in_err-join_update.ensures.full e))))
 
 pub returns-in_err-join_update-clause-room : goal.returns-in_err-join_update-clause-room

@@ -42,7 +42,8 @@ pub returns-in_err-join_object-clause-full : goal.returns-in_err-join_object-cla
 returns-in_err-join_object-clause-full g c =
     let refused = err_from_is_err_and c.from_residual.result c.from_residual.ensures.1 in
     rw (refused.1, refused.2)
-    (λ e. inr (new-beyond session_total session_place (session_laws g.row.SYMBOLS) _ _ _ (SessionBeyond g.row.OBJECTS) (sym c.in_default.ensures.value)
+    (λ e. inr (new-beyond session_total session_place (session_laws g.row.SYMBOLS) _ _ _
+    c.in_default.ensures.ordered (SessionBeyond g.row.OBJECTS) (sym c.in_default.ensures.value)
     (subst (SessionBeyond g.row.OBJECTS) (made g.row.SYMBOLS _ _ c.new-objects.ensures) (c.in_err-join_object.ensures.full e))))
 
 pub returns-in_err-join_object-clause-room : goal.returns-in_err-join_object-clause-room
