@@ -1,23 +1,20 @@
 -- The bytes that a walk gives.
 use Rattle.std.proofs.Common.{◌≡◌, ℕ, zero, suc, ◌+◌, ◌-◌, List, [], ◌∷◌, ◌++◌, length, take, Option, Some, None, refl, sym, ap, ◌∙◌, subst, arith, append_assoc}
-use Rattle.std.specs.Io.KnownBytes.{Appends}
-use Rattle.std.proofs.KnownBytes.{Appends-trans}
-use Rattle.flute_join.proofs.Under.{not_cons_nil}
-use Rattle.flute_parts.specs.Devices.{AppendsPart}
+use Rattle.std.{specs.Io.KnownBytes.{Appends}, proofs.KnownBytes.{Appends-trans}}
+use Rattle.{flute_join.proofs.Under.{not_cons_nil}, flute_parts.specs.Devices.{AppendsPart}}
 use Rattle.flute_parts.proofs.Appended.{AppendsPart-first, AppendsPart-second}
-use Rattle.flute_store.proofs.Common
-use Common.{flat_map, value_at, Cell, Absent, One, Information, IsValid, symbol_id_cmp, ids}
-use Common.{symbol_id, Key, SymbolId, Fact, Reason, Gap, Object, End, BlockEnd, Passed, Fitting}
-use Common.{Wanted, HeldScan, Turn, Whole, object, value_bytes, runs, gaps, listed, symbol_fact}
-use Common.{IsTold, wanted, blocks_from, Walk, at_start, left, pending, all_left}
-use Common.{gaps_left, IsWalk, after_pass, after_take, after_begin, upcoming_of, Keeps, walk_in}
-use Common.{bound, IsHeldScan, Turns, cell_bytes, found_bytes, held_bytes, bytes_left, KeepsBytes}
-use Common.{GivesFirst, IsNotWhole, WritesWhole, WritesPart}
-use Rattle.flute_store.proofs.SortedSymbols.{Above, above-before, blocks_from-all, blocks_from-next, blocks_from-end}
-use Rattle.flute_store.proofs.{Lookups.{Entry, value-past, value-here}, Runs.{runs-listed}}
+use Rattle.flute_store.proofs.Lookups.{Above, above-before, blocks_from-all, blocks_from-next, blocks_from-end, Entry, value-past, value-here}
+use Rattle.flute_store.proofs.{Runs.{runs-listed}, ToldObjects.{wants-told, told-information}}
 use Rattle.flute_store.proofs.{WholeObjects.{gapless-whole}, ObjectLength.{object-length}}
-use Rattle.flute_store.proofs.ToldObjects.{wants-told, told-information}
 use Rattle.flute_store.proofs.Upcoming.{here, AtHere, AtPassed, Tells, told, others_left, symbols-first, symbols-end, others-above, inside-less, block-left, taken, taken-left}
+use Rattle.flute_store.proofs.Common
+use Common.{flat_map, value_at, Cell, One, Information, IsValid, symbol_id_cmp, ids, symbol_id, Key}
+use Common.{SymbolId, Fact, Reason, Gap, Object, End, BlockEnd, Passed, Fitting, Wanted, HeldScan}
+use Common.{Turn, Whole, object, value_bytes, runs, gaps, listed, symbol_fact, IsTold, wanted}
+use Common.{blocks_from, Walk, at_start, left, pending, all_left, gaps_left, IsWalk, after_pass}
+use Common.{after_take, after_begin, upcoming_of, Keeps, walk_in, bound, IsHeldScan, Turns}
+use Common.{cell_bytes, found_bytes, held_bytes, bytes_left, KeepsBytes, GivesFirst, IsNotWhole}
+use Common.{WritesWhole, WritesPart}
 
 -- no bytes are given
 abbrev pub GivesNone : Option Turn → Type 0

@@ -1,6 +1,7 @@
 -- How many sessions, objects and symbols the content of a store names.
-use Rattle.std.proofs.Common.{append-nil, ◌≡◌, ◌≢◌, ℕ, ◌≤◌, List, [], ◌∷◌, ◌++◌, length, Bool, true, false, cond, ◌||◌, Option, Some, None, refl, sym, ap, ◌∙◌, subst, inl, inr, arith}
+use Rattle.std.proofs.Common.{append-nil, ◌≡◌, ◌≢◌, ℕ, ◌≤◌, List, [], ◌∷◌, ◌++◌, length, Bool, true, ◌||◌, Option, Some, None, refl, sym, ap, ◌∙◌, subst, inl, inr, arith}
 use Rattle.flute_parts.proofs.OneMore.{object_of-some, symbol_of-some}
+use Rattle.flute_store.proofs.StoreJoin.{at-entries, OrderedObject, OrderedSession, OrderedStore, ordered-store, in_session, in_store, entry_facts, symbols_apart, objects_apart, sessions_apart, object-symbol, object-info}
 use Rattle.flute_store.proofs.Common
 use Common.{Ordering, is_eq, option_map_or, keys_of, length-keys_of, none-some, same_Some, Session}
 use Common.{ObjectName, Key, SymbolId, Address, Fact, session_cmp, object_cmp, symbol_id_cmp}
@@ -13,8 +14,6 @@ use Common.{named-names, session_tells, object_tells, symbol_id_tells, value_at,
 use Common.{Object, key_in, symbol_cell_facts, object_facts, session_facts, content, IsObject}
 use Common.{IsSession, IsStore, fact_at-some_named, Part, InfoPart, SymbolPart, info_address, Cell}
 use Common.{info_cell_facts}
-use Rattle.flute_store.proofs.At.{at-entries}
-use Rattle.flute_store.proofs.StoreJoin.{OrderedObject, OrderedSession, OrderedStore, ordered-store, in_session, in_store, entry_facts, symbols_apart, objects_apart, sessions_apart, object-symbol, object-info}
 
 -- ---- what is looked up
 

@@ -1,6 +1,9 @@
 -- A store that passes the limits names more than they allow.
-use Rattle.flute_store.proofs.OnePair.{any-value_at}
-use Rattle.std.proofs.Common.{◌≡◌, ◌≢◌, ℕ, ◌<◌, ◌≤◌, List, [], ◌∷◌, ◌++◌, length, Bool, true, false, cond, ◌||◌, Option, Some, None, unwrap_or, refl, sym, ap, ◌∙◌, subst, inl, inr, ◌⊎◌, arith, bytes_eq}
+use Rattle.std.proofs.Common.{◌≡◌, ◌≢◌, ℕ, ◌<◌, ◌≤◌, List, [], ◌∷◌, ◌++◌, length, true, false, cond, ◌||◌, Option, Some, None, refl, sym, ap, ◌∙◌, subst, inl, inr, ◌⊎◌, arith, bytes_eq}
+use Rattle.flute_store.proofs.OnePair.{any-value_at, absent-right, some-right, known-join, known-update, update-some}
+use Rattle.flute_store.proofs.StoreJoin.{at-one_here, one_object, told-ordered, EachValue-weaker, OrderedObject, OrderedSession, OrderedStore, content-join}
+use Rattle.flute_store.proofs.Counting.{count-ge, at-info, at-symbol, a_fact, at-unheard, at-found}
+use Rattle.flute_store.specs.Memory.{HasNew}
 use Rattle.flute_store.proofs.Common
 use Common.{Ordering, Less, is_eq, IsTotalOrder, keys_of, IsStrictlySortedBy, cell_join, IsKnown}
 use Common.{map_join, join_values, value_at, IsOrdered, EachValue, MapOver, ordered-map_join}
@@ -16,11 +19,9 @@ use Common.{sorted_tail, none-some, each-value_at, value_at-map_join, absent_pas
 use Common.{SymbolUpdate, object_join, ObjectOver, session_join, store_join, cells}
 use Common.{object_join_laws, key_in, info_cell_facts, symbol_cell_facts, content, update_symbols}
 use Common.{IsUpdate, IsObject, IsSession, IsStore, AnyValue, ObjectBeyond, SessionBeyond}
-use Common.{StoreBeyond, Over-below, Below-from_Same}
-use Rattle.flute_store.proofs.{At.{at-one_here}, Counting.{count-ge, at-info, at-symbol}}
-use Rattle.flute_store.proofs.OnePair.{absent-right, some-right, known-join, known-update, update-some}
-use Rattle.flute_store.proofs.OneObject.{one_object, told-ordered}
-use Rattle.flute_store.proofs.StoreJoin.{EachValue-weaker, OrderedObject, OrderedSession, OrderedStore, content-join}
+use Common.{StoreBeyond, Over-below, Below-from_Same, IsSome, option_map_or, ForSome}
+use Common.{CellNeedsMemory, one_value, MapNeedsMemory, Address, Fact, Contains-from, fact_at-nil}
+use Common.{ObjectNeedsMemory}
 
 -- something is known at each level, whatever the limits
 module _ {n : ℕ} where
@@ -248,3 +249,62 @@ module _ {n : ℕ} where
       Over-below (content (store_join v w)) (content v ++ content w) s o n
       (Below-from_Same _ _ (content-join v w (ordered_store v p) (ordered_store w q)))
       (beyond-over s o (store_join v w) (solid-join v w p q) b)
+
+-- ---- where a join may ask for memory, the other store has a fact at an address that is not held
+
+-- a fact of the second list stands where none of the first does
+from_address : (F G : List Fact) (a : Address) → fact_at G a ≢ None → fact_at F a ≡ None → HasNew F G
+from_address F G a h e = let f = a_fact G a h in (f.0, Contains-from G f.0 f.1, ap (fact_at F) f.2 ∙ e)
+
+has_value : {T : Type 0} (c : Cell T) → IsSome (one_value c) → IsKnown c
+has_value Absent h = λ e. cc
+has_value (One v) h = λ e. cc
+has_value Conflict h = λ e. cc
+
+module _ {n : ℕ} (m w : List (Session × List (ObjectName × Object n))) (p : SolidStore m) (q : SolidStore w) where
+  module _ (s : Session) (os ws : List (ObjectName × Object n)) (f : value_at session_cmp m s ≡ Some os) (g : value_at session_cmp w s ≡ Some ws) where
+    module _ (o : ObjectName) (x y : Object n) (h : value_at object_cmp os o ≡ Some x) (k : value_at object_cmp ws o ≡ Some y) where
+      new_info : CellNeedsMemory x.info y.info → HasNew (content m) (content w)
+      new_info (e, v) =
+          let key = key_in s o in
+          from_address (content m) (content w) (info_address key)
+          (λ z. info_stands key y.info (has_value y.info v) (sym (at-info w (ordered_store w q) key ws g y k) ∙ z))
+          (at-info m (ordered_store m p) key os f x h ∙ ap (λ c. fact_at (info_cell_facts key c) (info_address key)) e ∙ fact_at-nil (info_address key))
+
+      new_symbol : (id : SymbolId) (d : Cell (List ℕ)) → value_at symbol_id_cmp y.symbols id ≡ Some d → (found : Option (Cell (List ℕ))) → value_at symbol_id_cmp x.symbols id ≡ found
+          → ForSome found (λ c. CellNeedsMemory c d) → HasNew (content m) (content w)
+      new_symbol id d b found a needs =
+          let key = key_in s o in
+          let known = each-value_at object_cmp SolidObject ws o y (each-value_at session_cmp SolidSession w s ws q.each g).each k in
+          from_address (content m) (content w) (symbol_address key id)
+          (symbol_stands w q s ws g o y k id d b (each-value_at symbol_id_cmp IsKnown y.symbols id d known.each b))
+          (at-symbol m (ordered_store m p) key os f x h id found a ∙ nothing found needs)
+        where
+          nothing : (found : Option (Cell (List ℕ))) → ForSome found (λ c. CellNeedsMemory c d) → option_map_or (λ c. fact_at (symbol_cell_facts (key_in s o) id c) (symbol_address (key_in s o) id)) found None ≡ None
+          nothing None needs = refl
+          nothing (Some c) needs = ap (λ c. fact_at (symbol_cell_facts (key_in s o) id c) (symbol_address (key_in s o) id)) (needs c refl).0 ∙ fact_at-nil (symbol_address (key_in s o) id)
+
+      new_in_object : ObjectNeedsMemory x y → HasNew (content m) (content w)
+      new_in_object (inl needs) = new_info needs
+      new_in_object (inr (id, d, b, needs)) = new_symbol id d b (value_at symbol_id_cmp x.symbols id) refl needs
+
+    new_object : (o : ObjectName) (y : Object n) → value_at object_cmp ws o ≡ Some y → (found : Option (Object n)) → value_at object_cmp os o ≡ found → ForSome found (λ x. ObjectNeedsMemory x y)
+        → HasNew (content m) (content w)
+    new_object o y k None h needs =
+        let stands = object_stands w q s ws g o y k in
+        from_address (content m) (content w) (record { key = key_in s o; part = stands.0 }) stands.1 (at-found m (ordered_store m p) (key_in s o) os f stands.0 None h)
+    new_object o y k (Some x) h needs = new_in_object o x y h k (needs x refl)
+
+  new_session : (s : Session) (ws : List (ObjectName × Object n)) → value_at session_cmp w s ≡ Some ws → (found : Option (List (ObjectName × Object n))) → value_at session_cmp m s ≡ found
+      → ForSome found (λ os. MapNeedsMemory object_cmp ObjectNeedsMemory os ws) → HasNew (content m) (content w)
+  new_session s ws g None f needs =
+      let stands = first_object w q s ws g ws refl (each-value_at session_cmp SolidSession w s ws q.each g).some in
+      let a : Address = record { key = stands.0; part = stands.1 } in
+      from_address (content m) (content w) a stands.3 (at-unheard m (ordered_store m p) a (ap (value_at session_cmp m) stands.2 ∙ f))
+  new_session s ws g (Some os) f needs =
+      let inner = needs os refl in
+      new_object s os ws f g inner.0 inner.1 inner.2 (value_at object_cmp os inner.0) refl inner.3
+
+  -- joining the second store asks for memory only where it tells something new
+  pub needs-new : MapNeedsMemory session_cmp (MapNeedsMemory object_cmp ObjectNeedsMemory) m w → HasNew (content m) (content w)
+  needs-new (s, ws, g, needs) = new_session s ws g (value_at session_cmp m s) refl needs

@@ -1,8 +1,10 @@
 -- The gaps that a walk gives.
-use Rattle.std.proofs.Math.Nat.{zero-add, add-zero, suc-add}
-use Rattle.std.proofs.lemmas.List.FromFn.{map-range_with_len_more}
 use Rattle.std.proofs.Common.{◌≡◌, ◌≢◌, ℕ, zero, suc, ◌+◌, ◌-◌, ◌<◌, ◌≤◌, Bool, true, false, cond, ◌&&◌, List, [], ◌∷◌, ◌++◌, length, map, Option, Some, None, refl, sym, ap, ◌∙◌, subst, inl, inr, ◌⊎◌, arith, append_assoc}
-use Rattle.std.specs.Prelude.{nat_lt}
+use Rattle.std.proofs.Math.Nat.{zero-add, add-zero, suc-add}
+use Rattle.std.{proofs.lemmas.List.FromFn.{map-range_with_len_more}, specs.Prelude.{nat_lt}}
+use Rattle.flute_store.proofs.Lookups.{Above, sbn-less, esi-less, above-before, above-later, above-block, blocks_from-end, Entry, Elsewhere, value-before, value-here, wanted-missing, elsewhere-above, elsewhere-here}
+use Rattle.flute_store.proofs.Runs.{runs-first, reason_same, reason_itself}
+use Rattle.flute_store.proofs.Upcoming.{here, AtHere, FirstAfter, Tells, told, others_left, symbols-first, symbols-end, blocks-later, others-above, inside-less, sorted-first, taken, taken-left, taken-keeps, left-run}
 use Rattle.flute_store.proofs.Common
 use Common.{◌==◌, range_with_len, keys_of, Ordering, Less, Equal, Greater, nat_cmp, ordering_then}
 use Common.{ordering_reverse, cases_Bool, eqb-true, ltb-true, nat_tests, same_Some, none-some}
@@ -12,10 +14,6 @@ use Common.{Misfit, Gap, Upcoming, End, BlockEnd, Passed, Fitting, Wanted, NotHe
 use Common.{same_reason, want_cell, wanted, block_from, blocks_from, Walk, left, pending, gaps_left}
 use Common.{IsBehind, EndsBefore, IsWalk, after_take, after_want, run_with, upcoming_of, until_held}
 use Common.{until_of, ended_run, Keeps, GivesGap}
-use Rattle.flute_store.proofs.SortedSymbols.{Above, sbn-less, esi-less, above-before, above-later, above-block, blocks_from-end}
-use Rattle.flute_store.proofs.Lookups.{Entry, Elsewhere, value-before, value-here, wanted-missing, elsewhere-above, elsewhere-here}
-use Rattle.flute_store.proofs.Runs.{runs-first, reason_same, reason_itself}
-use Rattle.flute_store.proofs.Upcoming.{here, AtHere, FirstAfter, Tells, told, others_left, symbols-first, symbols-end, blocks-later, others-above, inside-less, sorted-first, taken, taken-left, taken-keeps, left-run}
 
 -- ---- the end
 

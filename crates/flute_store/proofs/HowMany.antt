@@ -1,19 +1,16 @@
 -- How many symbols are wanted for each reason.
-use Rattle.std.proofs.lemmas.List.Elements.{filter-append}
-use Rattle.std.proofs.lemmas.List.FromFn.{length-map-range_with_len}
-use Rattle.std.proofs.Common.{◌≡◌, ℕ, zero, suc, ◌+◌, ◌-◌, ◌<◌, ◌≤◌, ◌^◌, Bool, true, false, cond, List, [], ◌∷◌, ◌++◌, length, map, Option, Some, None, refl, sym, ap, ◌∙◌, subst, arith, inl, inr}
-use Rattle.std.specs.Prelude.{◌&&◌}
-use Rattle.std.proofs.lemmas.List.{nil_from_length, length-append}
-use Rattle.flute_store.specs.declared.status.Wanted.{Wanted}
-use Rattle.flute_store.specs.declared.status.Status.TheVariants.{Partial, Whole as WholeObject}
-use Rattle.flute_store.proofs.Common
-use Common.{◌==◌, filter, flat_map, option_map, range_with_len, cons_option, cases_Bool, eqb-true}
-use Common.{eq-eqb, false≢true, value_at, Cell, One, Information, symbol_id_cmp, both, fact_at}
-use Common.{info_address, Info, symbol_id, ids, Key, SymbolId, Fact, Reason, Missing, Conflicting}
-use Common.{Misfit, Gap, Object, Whole, wants, runs, listed, same_reason, AreRuns, want_cell}
-use Common.{with_reason, wanted, IsTold, how_many, IsCount, Adds, IsPartial, status_of, TellsStatus}
-use Rattle.flute_store.proofs.{Runs.{runs-are, runs-listed}, WholeObjects.{gapless-whole}}
+use Rattle.std.proofs.Common.{◌≡◌, ℕ, zero, suc, ◌+◌, ◌-◌, ◌<◌, ◌≤◌, ◌^◌, Bool, true, false, List, [], ◌∷◌, ◌++◌, length, map, Some, refl, sym, ap, ◌∙◌, subst, arith, inl, inr}
+use Rattle.std.proofs.lemmas.List.{Elements.{filter-append}, nil_from_length, length-append}
+use Rattle.std.{proofs.lemmas.List.FromFn.{length-map-range_with_len}, specs.Prelude.{◌&&◌}}
+use Rattle.flute_store.{specs.declared.status.Wanted.{Wanted}, proofs.Runs.{runs-are, runs-listed}}
+use Rattle.flute_store.proofs.WholeObjects.{gapless-whole}
 use Rattle.flute_store.proofs.ToldObjects.{wants-told, told-information}
+use Rattle.flute_store.proofs.Common
+use Common.{◌==◌, flat_map, range_with_len, cases_Bool, eqb-true, false≢true, Cell, One}
+use Common.{Information, both, fact_at, info_address, Info, symbol_id, ids, Key, SymbolId, Fact}
+use Common.{Reason, Missing, Conflicting, Misfit, Gap, Object, Whole, wants, runs, listed}
+use Common.{same_reason, AreRuns, wanted, IsTold, how_many, IsCount, Adds, IsPartial, status_of}
+use Common.{TellsStatus}
 
 abbrev Want : Type 0
 Want = SymbolId × Reason

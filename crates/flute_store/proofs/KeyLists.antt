@@ -1,6 +1,8 @@
 -- The keys of a store rise, and are those of the objects that it holds.
-use Rattle.std.proofs.Common.{◌≡◌, ℕ, zero, suc, List, [], ◌∷◌, ◌++◌, Bool, true, false, cond, Some, unwrap_or, refl, sym, ap, ◌∙◌, subst, inl, inr, ◌↔◌, arith}
-use Rattle.flute_store.specs.Keys.{session_keys, store_keys}
+use Rattle.std.proofs.Common.{◌≡◌, ℕ, zero, suc, List, [], ◌∷◌, ◌++◌, Some, refl, sym, ap, ◌∙◌, subst, inl, inr, ◌↔◌, arith}
+use Rattle.flute_store.{specs.Keys.{session_keys, store_keys}, proofs.Found.{object_held}}
+use Rattle.flute_store.proofs.StoreJoin.{each-append, OrderedSession, OrderedStore, ordered-store}
+use Rattle.flute_store.proofs.Exceeding.{first_value, later_value, solid-store, object_stands}
 use Rattle.flute_store.proofs.Common
 use Common.{Contains, Less, is_eq, ordering_then, Equal-is, keys_of, AllByRecursion, cases_Bool}
 use Common.{IsStrictlySortedBy, tied_itself, Contains-append_left, Contains-append_right, same_Some}
@@ -8,9 +10,6 @@ use Common.{Contains-append_cases, sorted_tail, none-some, value_at, IsOrdered, 
 use Common.{ObjectName, Key, session_cmp, object_cmp, key_cmp, session_total, object_total}
 use Common.{session_place, object_place, session_tells, object_tells, Object, key_in, content}
 use Common.{HoldsObject, IsStore}
-use Rattle.flute_store.proofs.{At.{each-append}, Held.{object_held}}
-use Rattle.flute_store.proofs.StoreJoin.{OrderedSession, OrderedStore, ordered-store}
-use Rattle.flute_store.proofs.Exceeding.{first_value, later_value, solid-store, object_stands}
 
 -- ---- the keys rise
 abbrev Before : Key → List Key → Type 0

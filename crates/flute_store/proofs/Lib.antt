@@ -1,21 +1,14 @@
 pub mod Common
-pub mod At
 pub mod StoreJoin
 pub mod OnePair
-pub mod OneObject
 pub mod Counting
 pub mod Exceeding
-pub mod Held
-mod HeldIds
 pub mod Rises
 pub mod Spelled
 pub mod Refused
 pub mod KeyLists
-pub mod Lengths
-pub mod Memory
 pub mod Runs
 pub mod WholeObjects
-pub mod SortedSymbols
 pub mod Lookups
 pub mod Upcoming
 pub mod GapSteps
@@ -23,7 +16,6 @@ pub mod Found
 pub mod ToldObjects
 pub mod Turns
 pub mod Shown
-pub mod HeldTurns
 pub mod Places
 pub mod ScanTurns
 pub mod ScanSteps

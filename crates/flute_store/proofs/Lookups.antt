@@ -1,10 +1,83 @@
--- What is wanted, symbol by symbol.
-use Rattle.std.proofs.Common.{◌≡◌, ℕ, zero, suc, ◌+◌, ◌<◌, cond, List, [], ◌∷◌, ◌++◌, map, Option, Some, None, refl, sym, ap, ◌∙◌, subst, arith}
+-- The symbols of a partition stand in rising order, and what is wanted of them.
+use Rattle.std.proofs.Common.{◌≡◌, ℕ, zero, suc, ◌+◌, ◌-◌, ◌<◌, get_or, List, [], ◌∷◌, ◌++◌, length, map, drop, refl, ap, ◌∙◌, arith}
+use Rattle.std.proofs.Common.{cond, Option, Some, None, sym, subst}
+use Rattle.std.proofs.{Math.Nat.{sub-zero}, lemmas.List.{drop_more}, Math.Seq.{drop-length}}
 use Rattle.flute_store.proofs.Common
-use Common.{option_map, range_with_len, cons_option, keys_of, Less, is_eq, ordering_reverse}
-use Common.{false≢true, value_at, Cell, Information, symbol_id_cmp, symbol_id_itself}
-use Common.{symbol_id_total, symbol_id, SymbolId, Reason, Missing, want_cell, with_reason, wanted}
-use Rattle.flute_store.proofs.SortedSymbols.{Above}
+use Common.{flat_map, range_with_len, enumerate_from, AllByRecursion, Less, Equal, nat_cmp}
+use Common.{ordering_then, nat_tests, Information, sizes, symbol_id_cmp, symbol_id, block_ids, ids}
+use Common.{symbol_id_total, SymbolId, block_from, blocks_from, option_map, cons_option, keys_of}
+use Common.{is_eq, ordering_reverse, false≢true, value_at, Cell, symbol_id_itself, Reason, Missing}
+use Common.{want_cell, with_reason, wanted}
+
+-- each of the symbols stands after p
+abbrev pub Above : SymbolId → List SymbolId → Type 0
+Above p xs = AllByRecursion (λ x. symbol_id_cmp p x ≡ Less) xs
+
+-- each of the symbols is of a block after n
+abbrev pub Later : ℕ → List SymbolId → Type 0
+Later n xs = AllByRecursion (λ (x : SymbolId). n < x.sbn) xs
+
+below_is : (m n : ℕ) → m < n → nat_cmp m n ≡ Less
+below_is m n l = grind (arith, nat_tests)
+
+equal_is : (n : ℕ) → nat_cmp n n ≡ Equal
+equal_is n = grind (arith, nat_tests)
+
+pub sbn-less : (a b : SymbolId) → a.sbn < b.sbn → symbol_id_cmp a b ≡ Less
+sbn-less a b l = ap (λ o. ordering_then o (nat_cmp a.esi b.esi)) (below_is a.sbn b.sbn l)
+
+pub esi-less : (n a b : ℕ) → a < b → symbol_id_cmp (symbol_id n a) (symbol_id n b) ≡ Less
+esi-less n a b l = ap (λ o. ordering_then o (nat_cmp a b)) (equal_is n) ∙ below_is a b l
+
+pub above-before : (p q : SymbolId) (xs : List SymbolId) → symbol_id_cmp p q ≡ Less → Above q xs → Above p xs
+above-before p q [] l a = tt
+above-before p q (x ∷ xs) l a = (symbol_id_total.trans p q x l a.0, above-before p q xs l a.1)
+
+pub above-later : (p : SymbolId) (xs : List SymbolId) → Later p.sbn xs → Above p xs
+above-later p [] l = tt
+above-later p (x ∷ xs) l = (sbn-less p x l.0, above-later p xs l.1)
+
+pub above-range : (n a b k : ℕ) (xs : List SymbolId) → a < b → Above (symbol_id n a) xs → Above (symbol_id n a) (map (symbol_id n) (range_with_len b k) ++ xs)
+above-range n a b zero xs l s = s
+above-range n a b (suc k) xs l s = (esi-less n a b l, above-range n a (b + 1) k xs (omega arith) s)
+
+later-block : (n m a k : ℕ) (xs : List SymbolId) → n < m → Later n xs → Later n (map (symbol_id m) (range_with_len a k) ++ xs)
+later-block n m a zero xs l s = s
+later-block n m a (suc k) xs l s = (l, later-block n m (a + 1) k xs l s)
+
+later-listing : (n m : ℕ) (sizes : List ℕ) → n < m → Later n (flat_map block_ids (enumerate_from m sizes))
+later-listing n m [] l = tt
+later-listing n m (s ∷ sizes) l = later-block n m 0 s (flat_map block_ids (enumerate_from (m + 1) sizes)) l (later-listing n (m + 1) sizes (omega arith))
+
+pub later-blocks : (info : Information) (n m : ℕ) → n < m → Later n (blocks_from info m)
+unfolding blocks_from
+later-blocks info n m l = later-listing n m (drop m (sizes info)) l
+
+-- a block begins with its first symbol
+pub block_from-first : (n a s : ℕ) → a < s → block_from n a s ≡ symbol_id n a ∷ block_from n (a + 1) s
+block_from-first n a s l = let e : s - a ≡ suc (s - (a + 1)) = omega arith in ap (λ k. map (symbol_id n) (range_with_len a k)) e
+
+pub block_from-end : (n s : ℕ) → block_from n s s ≡ []
+block_from-end n s = let e : s - s ≡ zero = omega arith in ap (λ k. map (symbol_id n) (range_with_len s k)) e
+
+pub above-block : (n a s : ℕ) (xs : List SymbolId) → Later n xs → Above (symbol_id n a) (block_from n (a + 1) s ++ xs)
+above-block n a s xs l = above-range n a (a + 1) (s - (a + 1)) xs (omega arith) (above-later (symbol_id n a) xs l)
+
+-- the blocks from one on are that one and those after it
+pub blocks_from-next : (info : Information) (n : ℕ) → n < length (sizes info) → blocks_from info n ≡ block_from n 0 (get_or (sizes info) n 0) ++ blocks_from info (n + 1)
+unfolding blocks_from
+blocks_from-next info n l =
+    rw (drop_more (sizes info) n 0 l, sub-zero)
+
+pub blocks_from-end : (info : Information) → blocks_from info (length (sizes info)) ≡ []
+unfolding blocks_from
+blocks_from-end info = ap (λ xs. flat_map block_ids (enumerate_from (length (sizes info)) xs)) (drop-length (sizes info))
+
+pub blocks_from-all : (info : Information) → blocks_from info 0 ≡ ids info
+unfolding blocks_from ids
+blocks_from-all info = refl
+
+-- ---- what is wanted, symbol by symbol
 
 abbrev pub Entry : Type 0
 Entry = SymbolId × Cell (List ℕ)

@@ -1,10 +1,8 @@
 -- A whole object has as many bytes as its transfer length says.
 use Rattle.std.proofs.Common.{◌≡◌, ℕ, zero, suc, ◌+◌, ◌-◌, ◌*◌, ◌<◌, ◌≤◌, ◌&&◌, true, List, [], ◌∷◌, length, get_or, Some, refl, sym, ap, ◌∙◌, inl, inr, ◌⊎◌, arith}
-use Rattle.std.proofs.lemmas.Grind.{div_ceil_times}
-use Rattle.std.proofs.lemmas.List.{length-append, length-take-le}
+use Rattle.std.proofs.lemmas.{Grind.{div_ceil_times}, List.{length-append, length-take-le}}
 use Rattle.std.proofs.Math.Nat.{eq-zero-or-pos}
-use Rattle.flute_parts.proofs.Division.{div_ceil-pos}
-use Rattle.flute_parts.proofs.Split.{places-inverse, ids_counted}
+use Rattle.flute_parts.proofs.{Division.{div_ceil-pos}, Split.{places-inverse, ids_counted}}
 use Rattle.flute_store.proofs.Common
 use Common.{flat_map, ◌==◌, slice_get-get_or, eqb-true, or_cases, both, Information, symbol_count}
 use Common.{IsValid, symbol_address, fact_at, ids, place, last_length, fits_at, fits, Key, SymbolId}

@@ -1,15 +1,13 @@
 -- One pair joined into a map: the outcome is sound, or passes a limit.
-use Common.{cases_Bool, same_Some}
 use Rattle.std.proofs.Common.{◌≡◌, ◌≢◌, ℕ, ◌+◌, ◌<◌, ◌≤◌, List, [], ◌∷◌, length, Bool, true, false, cond, Option, Some, None, refl, sym, ap, ◌∙◌, subst, inl, inr, arith}
-use Rattle.std.proofs.lemmas.Map.{length-set_value}
-use Rattle.flute_join.proofs.Walk.{ordered_one}
+use Rattle.{std.proofs.lemmas.Map.{length-set_value}, flute_join.proofs.Walk.{ordered_one}}
 use Rattle.flute_store.proofs.Common
-use Common.{Ordering, Less, Equal, Greater, match_ordering, IsTotalOrder, set_value, is_at}
-use Common.{insert_entry, none-some, IsJoin, IsBelow, map_join, value_at, IsOrdered, EachValue}
-use Common.{IsSound, map_join_laws, below_join, ordered-map_join, each-set_value, each-insert_entry}
-use Common.{some_above, single_held, single_new, length_new, cell_join, IsKnown, Cell, Absent, One}
-use Common.{Conflict, SymbolId, SymbolUpdate, BorrowedUpdate, OwnedUpdate, ConflictUpdate}
-use Common.{update_cell, update_symbols, AnyValue, value_at-map_join, join_values, tied_itself}
+use Common.{cases_Bool, same_Some, Ordering, Equal, IsTotalOrder, is_at, none-some, IsJoin, IsBelow}
+use Common.{map_join, value_at, IsOrdered, EachValue, IsSound, map_join_laws, below_join}
+use Common.{ordered-map_join, each-set_value, each-insert_entry, some_above, single_held}
+use Common.{single_new, length_new, cell_join, IsKnown, Cell, Absent, One, Conflict, SymbolId}
+use Common.{SymbolUpdate, BorrowedUpdate, OwnedUpdate, ConflictUpdate, update_cell, update_symbols}
+use Common.{AnyValue, value_at-map_join, join_values, tied_itself}
 
 module _ {K X : Type 0} (cmp : K → K → Ordering) (B : X → Type 0) where
   pub any-value_at : (es : List (K × X)) (k : K) (v : X) → value_at cmp es k ≡ Some v → B v → AnyValue B es

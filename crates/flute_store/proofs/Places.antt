@@ -1,6 +1,7 @@
 -- Where the turns of a walk lead, whatever is held behind the next symbol.
 use Rattle.std.proofs.Common.{◌≡◌, ◌≢◌, ℕ, ◌+◌, ◌-◌, ◌*◌, ◌<◌, ◌≤◌, ◌^◌, ◌⊎◌, Bool, true, false, cond, ◌&&◌, Option, Some, None, refl, sym, ap, ◌∙◌, subst, arith, inl, inr}
-use Rattle.std.specs.Prelude.{nat_lt, length}
+use Rattle.{std.specs.Prelude.{nat_lt, length}, flute_store.proofs.Upcoming.{by-place}}
+use Rattle.flute_store.proofs.{GapSteps.{greater-cases, run-ends}, Turns.{run-is, no-run}}
 use Rattle.flute_store.proofs.Common
 use Common.{◌==◌, Ordering, Less, Equal, Greater, match_ordering, cases_Bool, eqb-true, ne_eqb}
 use Common.{eq-eqb, ltb-true, sizes, symbol_id_cmp, both, symbol_id_place, symbol_id, fits}
@@ -8,8 +9,6 @@ use Common.{SymbolId, Reason, Missing, Misfit, Gap, Turn, Upcoming, End, BlockEn
 use Common.{Wanted, NotHeld, PartitionScan, EndsBefore, IsPlace, want_length, upcoming_wanted}
 use Common.{upcoming_next, upcoming_at, until_at, ended_run, run_with, missing_gap, after_missing}
 use Common.{after_wanted, after_block, turn_after, turn_of, run_length, CountsWithin, Counted}
-use Rattle.flute_store.proofs.{GapSteps.{greater-cases, run-ends}, Turns.{run-is, no-run}}
-use Rattle.flute_store.proofs.Upcoming.{by-place}
 
 abbrev Next : Type 0
 Next = Option (SymbolId × Option ℕ)

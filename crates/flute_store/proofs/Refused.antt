@@ -1,8 +1,7 @@
 -- Refusals that are told again, as another kind of result or of error.
 use Rattle.std.proofs.Common.{◌≡◌, ◌↔◌, Result, Ok, Err, refl}
 use Rattle.flute_wire.specs.declared.refusal.Refusal.{Refusal}
-use Rattle.flute_store.specs.declared.taken.TakeFault.{TakeFault}
-use Rattle.flute_store.specs.Taken.{fault_of}
+use Rattle.flute_store.specs.{declared.taken.TakeFault.{TakeFault}, Taken.{fault_of}}
 use Rattle.flute_store.proofs.Common.{ok_is_not_err, JoinRefusal, Full, OutOfMemory}
 use Rattle.flute_store.specs.declared.taken.TakeFault.TheVariants as fault
 

@@ -1,15 +1,46 @@
--- The content of a store rises.
-use Rattle.flute_store.proofs.At.{any_value, cell-stands}
+-- How many facts a store has, and that they rise.
+use Rattle.std.proofs.Common.{ℕ, ◌+◌, ◌*◌, ◌≤◌, List, [], ◌∷◌, length, arith, length-append}
+use Rattle.std.proofs.Common.{◌≡◌, ◌++◌, refl, ap, ◌∙◌}
+use Rattle.flute_store.proofs.StoreJoin.{any_value, cell-stands, each-append, each-flat_map, OrderedObject, OrderedSession, OrderedStore}
+use Rattle.{std.proofs.Math.Nat.{mul-le-mul_right}, flute_store.proofs.Shown.{equal_keys}}
 use Rattle.flute_store.proofs.Common
-use Common.{flat_map, Ordering, Less, ordering_then, session_total, Session, ObjectName, Key}
-use Common.{SymbolId, Address, Fact, session_cmp, object_cmp, key_cmp, symbol_id_cmp, part_cmp}
-use Common.{address_cmp, info_address, symbol_address, address, StandAfter, IsRising, tied_itself}
-use Common.{keys_of, AllByRecursion, IsStrictlySortedBy, IsOrdered, EachValue, Cell, Absent, One}
-use Common.{Conflict, Object, key_in, cell_facts, info_cell_facts, symbol_cell_facts, symbols_facts}
-use Common.{object_facts, session_facts, content}
-use Rattle.flute_store.proofs.{Shown.{equal_keys}, At.{each-append, each-flat_map}}
-use Rattle.flute_store.proofs.StoreJoin.{OrderedObject, OrderedSession, OrderedStore}
-use Rattle.std.proofs.Common.{◌≡◌, ℕ, List, [], ◌∷◌, ◌++◌, refl, ap, ◌∙◌}
+use Common.{flat_map, EachValue, Cell, Absent, One, Conflict, Session, ObjectName, Key, Fact, Info}
+use Common.{InfoConflict, Symbol, SymbolConflict, Object, key_in, cell_facts, symbol_cell_facts}
+use Common.{object_facts, session_facts, content, IsObject, IsSession, IsStore, Ordering, Less}
+use Common.{ordering_then, session_total, SymbolId, Address, session_cmp, object_cmp, key_cmp}
+use Common.{symbol_id_cmp, part_cmp, address_cmp, info_address, symbol_address, address, StandAfter}
+use Common.{IsRising, tied_itself, keys_of, AllByRecursion, IsStrictlySortedBy, IsOrdered}
+use Common.{info_cell_facts, symbols_facts}
+
+cell_length : {T : Type 0} (told : T → Fact) (clash : Fact) (c : Cell T) → length (cell_facts told clash c) ≤ 1
+cell_length told clash Absent = omega arith
+cell_length told clash (One v) = omega arith
+cell_length told clash Conflict = omega arith
+
+-- as many as the entries, times the most that one of them has
+module _ {K X : Type 0} (f : K × X → List Fact) (P : X → Type 0) (most : ℕ) (each : (e : K × X) → P e.1 → length (f e) ≤ most) where
+  entries_length : (es : List (K × X)) → EachValue P es → length (flat_map f es) ≤ length es * most
+  entries_length [] p = omega arith
+  entries_length (e ∷ es) p =
+      omega (arith, length-append (f e) (flat_map f es), each e p.0, entries_length es p.1)
+
+  within_limit : (limit : ℕ) (es : List (K × X)) → EachValue P es → length es ≤ limit → length (flat_map f es) ≤ limit * most
+  within_limit limit es p l = omega (arith, entries_length es p, mul-le-mul_right most l)
+
+module _ {n : ℕ} where
+  object_length : (key : Key) (x : Object n) → IsObject x → length (object_facts key x) ≤ n + 1
+  object_length key x p =
+      let c = within_limit (λ e. symbol_cell_facts key e.0 e.1) (λ _. Unit {0}) 1 (λ e _. cell_length (Symbol key e.0) (SymbolConflict key e.0) e.1) n x.symbols (any_value x.symbols) p.symbols_are.within in
+      omega (arith, length-append {A = Fact}, cell_length (Info key) (InfoConflict key) x.info, c)
+
+  session_length : (o : ℕ) (session : Session) (os : List (ObjectName × Object n)) → IsSession o os → length (session_facts session os) ≤ o * (n + 1)
+  session_length o session os p = within_limit (λ e. object_facts (key_in session e.0) e.1) IsObject (n + 1) (λ e q. object_length (key_in session e.0) e.1 q) o os p.each p.within
+
+  -- each object has its information and no more symbols than the limit
+  pub content_length : (s o : ℕ) (m : List (Session × List (ObjectName × Object n))) → IsStore s o m → length (content m) ≤ s * (o * (n + 1))
+  content_length s o m p = within_limit (λ e. session_facts e.0 e.1) (IsSession o) (o * (n + 1)) (λ e q. session_length o e.0 e.1 q) s m p.each p.within
+
+-- ---- the content of a store rises
 
 abbrev pub Of : (Address → Type 0) → Fact → Type 0
 Of P f = P (address f)

@@ -1,31 +1,28 @@
 -- What a scan has passed and given behind a turn.
-use Rattle.std.proofs.lemmas.Grind.{flat_map-append}
 use Rattle.std.proofs.Common.{◌≡◌, ℕ, ◌+◌, ◌<◌, ◌≤◌, true, cond, List, [], ◌∷◌, ◌++◌, length, take, Option, Some, None, refl, sym, ap, ◌∙◌, subst, inl, inr, arith, append_assoc, append-nil}
-use Rattle.flute_parts.proofs.Rising.{rising_tells}
+use Rattle.{std.proofs.lemmas.Grind.{flat_map-append}, flute_parts.proofs.Rising.{rising_tells}}
+use Rattle.flute_store.proofs.{Lookups.{Entry}, Runs.{goes_on-tells}, GapSteps.{gaps-end}}
+use Rattle.flute_store.proofs.{KeyLists.{one_is, first_is}, ToldObjects.{want-symbol}}
+use Rattle.flute_store.proofs.{HowMany.{how-append, how-all, listed-length}, BytesSteps.{found-of}}
+use Rattle.flute_store.proofs.Upcoming.{told as told-upcoming, taken, taken-left, upcoming-end}
+use Rattle.flute_store.proofs.{Turns.{turn-turns, Steps, step-keeps}, WholeObjects.{gapless-whole}}
+use Rattle.flute_store.proofs.Places.{told-at, until-within, block-next, Kind, kind, within-turn, within-gap, small}
+use Rattle.flute_store.proofs.Shown.{shown-append, shown-none, shown-known, shown-ordered, shown-at, equal_keys}
+use Rattle.flute_store.proofs.ScanTurns.{cell_of, shown-told, known-cell, shows-next, length-left, end-symbols, begin-symbols, take-symbols, value-more, value-last}
 use Rattle.flute_store.proofs.Common
 use Common.{flat_map, filter_map, Contains, IfSome, option_map, Bor, AllByRecursion, keys_of, Less}
 use Common.{ordering_then, cases_Bool, none-some, same_Some, Contains-append_cases}
 use Common.{Contains-append_right, sorted_tail, IsKnown, value_at, IsOrdered, EachValue, Cell, One}
 use Common.{Information, info_address, symbol_address, address, fact_at, IsRising, StandAfter}
 use Common.{symbol_id_cmp, address_cmp, key_cmp, part_cmp, symbol_id, ids, fits, Key, SymbolId}
-use Common.{Part, InfoPart, SymbolPart, Fact, Info, Reason, Gap, Turn}
-use Common.{PartitionScan, Counted, want, wants, runs, one, goes_on, before, listed, gaps, object}
-use Common.{value_bytes, Whole, wanted, with_reason, IsCount, Adds, CanAdd, AddsTurn}
-use Common.{found_bytes, held_bytes, walk_of, symbols_left, left, pending, gaps_left, IsWalk}
-use Common.{IsPlace, turn_of, held_after, TurnsTo, after_block, after_missing, until_at, shown_by}
-use Common.{shown, IsNotWhole, Scanned, next_fact, coming_fact, CanFollow, ComeNext, Follows}
-use Common.{IsFirstPart, GaveGap, PassedNext, value_of, Turned, PartOf, BeginsBlocks, Next}
-use Common.{announced, held_next, passed_at_end, Stepped, ScanState, IsScan, CountsWithin, ComesAs}
-use Common.{one_run, FitsSoFar, Walks, Scans, symbol_fact}
-use Rattle.flute_store.proofs.{Lookups.{Entry}, KeyLists.{one_is, first_is}, Runs.{goes_on-tells}}
-use Rattle.flute_store.proofs.{HowMany.{how-append, how-all, listed-length}, GapSteps.{gaps-end}}
-use Rattle.flute_store.proofs.Upcoming.{told as told-upcoming, taken, taken-left, upcoming-end}
-use Rattle.flute_store.proofs.{Turns.{turn-turns}, HeldTurns.{Steps, step-keeps}}
-use Rattle.flute_store.proofs.Places.{told-at, until-within, block-next, Kind, kind, within-turn, within-gap, small}
-use Rattle.flute_store.proofs.Shown.{shown-append, shown-none, shown-known, shown-ordered, shown-at, equal_keys}
-use Rattle.flute_store.proofs.{ToldObjects.{want-symbol}, BytesSteps.{found-of}}
-use Rattle.flute_store.proofs.WholeObjects.{gapless-whole}
-use Rattle.flute_store.proofs.ScanTurns.{cell_of, shown-told, known-cell, shows-next, length-left, end-symbols, begin-symbols, take-symbols, value-more, value-last}
+use Common.{Part, InfoPart, SymbolPart, Fact, Info, Reason, Gap, Turn, PartitionScan, Counted, want}
+use Common.{wants, runs, one, goes_on, before, listed, gaps, object, value_bytes, Whole, wanted}
+use Common.{with_reason, IsCount, Adds, CanAdd, AddsTurn, found_bytes, held_bytes, walk_of}
+use Common.{symbols_left, left, pending, gaps_left, IsWalk, IsPlace, turn_of, held_after, TurnsTo}
+use Common.{after_block, after_missing, shown_by, shown, IsNotWhole, Scanned, next_fact}
+use Common.{coming_fact, CanFollow, ComeNext, Follows, IsFirstPart, GaveGap, PassedNext, value_of}
+use Common.{Turned, PartOf, BeginsBlocks, Next, announced, held_next, passed_at_end, Stepped}
+use Common.{ScanState, IsScan, CountsWithin, ComesAs, one_run, FitsSoFar, Walks, Scans, symbol_fact}
 use Rattle.flute_store.specs.declared.partition_scan.Upcoming.TheVariants as Upcoming
 
 -- ---- all facts, of which some were passed

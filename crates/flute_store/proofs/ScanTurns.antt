@@ -1,21 +1,18 @@
 -- What a turn of a scan passes and gives.
 use Rattle.std.proofs.Common.{inl, inr}
-use Rattle.flute_parts.specs.Totality.{symbol_id_total}
-use Rattle.flute_join.proofs.Copied.{value_there}
+use Rattle.std.proofs.Common.{length-append, ◌≡◌, ℕ, ◌+◌, ◌-◌, ◌<◌, cond, List, [], ◌∷◌, ◌++◌, length, Option, Some, None, refl, sym, ap, ◌∙◌, subst, arith}
+use Rattle.{flute_parts.specs.Totality.{symbol_id_total}, flute_join.proofs.Copied.{value_there}}
 use Rattle.std.proofs.lemmas.List.FromFn.{length-map-range_with_len}
-use Rattle.std.proofs.Common.{length-append, ◌≡◌, ℕ, ◌+◌, ◌-◌, ◌<◌, Bool, true, false, cond, List, [], ◌∷◌, ◌++◌, length, Option, Some, None, refl, sym, ap, ◌∙◌, subst, arith}
+use Rattle.flute_store.proofs.Lookups.{Entry, block_from-first, block_from-end, blocks_from-next, blocks_from-end, blocks_from-all}
+use Rattle.flute_store.proofs.{HowMany.{how-nil}, Runs.{runs-listed}}
+use Rattle.flute_store.proofs.{Turns.{start-walk}, KeyLists.{none_in}, ToldObjects.{start-left}}
 use Rattle.flute_store.proofs.Common
-use Common.{flat_map, Bor, is_eq, none-some, cases_Bool}
-use Common.{IsKnown, value_at, IsOrdered, Cell, One, Conflict, Information, sizes, symbol_id_cmp}
-use Common.{key_itself, symbol_id, ids, Key, SymbolId, Fact, Missing, Conflicting, Misfit, Counted}
-use Common.{IsCount, held_bytes, PartitionScan, wants, listed, block_from, blocks_from, Walk}
-use Common.{walk_of, at_start, symbols_left, gaps_left, IsWalk, ShowsNext, after_block, shown_by}
-use Common.{shown, Scanned, next_fact, coming_fact, at_begin, GaveAll, Next, held_next, run_length}
-use Common.{CountsWithin, ScanState, ComesAs, one_run, Scans}
-use Rattle.flute_store.proofs.{Lookups.{Entry}, KeyLists.{none_in}}
-use Rattle.flute_store.proofs.SortedSymbols.{block_from-first, block_from-end, blocks_from-next, blocks_from-end, blocks_from-all}
-use Rattle.flute_store.proofs.{Runs.{runs-listed}, HowMany.{how-nil}, HeldTurns.{start-walk}}
-use Rattle.flute_store.proofs.ToldObjects.{start-left}
+use Common.{flat_map, Bor, is_eq, none-some, cases_Bool, IsKnown, value_at, IsOrdered, Cell, One}
+use Common.{Conflict, Information, sizes, symbol_id_cmp, key_itself, symbol_id, ids, Key, SymbolId}
+use Common.{Fact, Counted, IsCount, held_bytes, PartitionScan, wants, listed, block_from}
+use Common.{blocks_from, Walk, walk_of, at_start, symbols_left, gaps_left, IsWalk, ShowsNext}
+use Common.{after_block, shown_by, shown, Scanned, next_fact, coming_fact, at_begin, GaveAll, Next}
+use Common.{held_next, run_length, CountsWithin, ScanState, ComesAs, one_run, Scans}
 
 -- ---- what comes next, as an entry
 

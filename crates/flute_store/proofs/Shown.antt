@@ -1,6 +1,7 @@
 -- What rising facts show of the symbols of an object.
 use Rattle.std.proofs.Common.{◌≡◌, ℕ, Bool, false, cond, List, [], ◌∷◌, ◌++◌, Some, refl, sym, ap, ◌∙◌, subst, inl, inr, append_assoc}
 use Rattle.flute_parts.proofs.Rising.{fact_at-after}
+use Rattle.flute_store.proofs.{StoreJoin.{not_symbol, same_id}, Lookups.{Entry, Above}}
 use Rattle.flute_store.proofs.Common
 use Common.{AllByRecursion, IsStrictlySortedBy, keys_of, Equal, is_eq, ordering_then, Equal-is}
 use Common.{cases_Bool, false≢true, IsKnown, value_at, IsOrdered, EachValue, Cell, One, Conflict}
@@ -9,8 +10,6 @@ use Common.{address_cmp, same_key, same_address, key_same, key_itself, symbol_id
 use Common.{address_same, Key, SymbolId, Address, Fact, Info, InfoConflict, Symbol, SymbolConflict}
 use Common.{fact_at-nil, fact_at-here, fact_at-elsewhere, symbol_id_itself, symbol_fact, shown_by}
 use Common.{shown}
-use Rattle.flute_store.proofs.{StoreJoin.{not_symbol, same_id}, Lookups.{Entry}}
-use Rattle.flute_store.proofs.SortedSymbols.{Above}
 
 pub shown-append : (key : Key) (F G : List Fact) → shown key (F ++ G) ≡ shown key F ++ shown key G
 unfolding shown

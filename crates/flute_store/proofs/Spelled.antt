@@ -1,8 +1,7 @@
 -- What is known of datagrams that are packets.
 use Rattle.std.proofs.Common.{ℕ, ◌≤◌, ◌<◌, List, ◌++◌, length, nat_lt, sym, ap, subst, inl, inr, arith, length-append, length-drop}
 use Rattle.flute_parts.specs.SymbolBytes.{HasSymbolSize}
-use Rattle.flute_wire.specs.Content.{Content}
-use Rattle.flute_wire.specs.Datagram.{Spells, tail_symbol}
+use Rattle.flute_wire.specs.{Content.{Content}, Datagram.{Spells, tail_symbol}}
 use Rattle.flute_store.proofs.Common.{IfSome, cases_Bool, nat_tests}
 
 tail_size : (tail : List ℕ) → length tail ≤ 65535 → IfSome (tail_symbol tail) (λ symbol. HasSymbolSize symbol.1)

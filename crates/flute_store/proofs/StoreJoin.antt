@@ -1,18 +1,119 @@
--- The content of the join of two stores comes to the contents appended.
-use Rattle.flute_store.proofs.At.{cell-stands}
-use Rattle.std.proofs.Common.{◌≡◌, ℕ, List, [], ◌∷◌, ◌++◌, None, refl, sym, ap, ◌∙◌, subst}
-use Rattle.std.specs.Prelude.{bytes_eq, ◌&&◌}
+-- What facts come to at an address, and the content of the join of two stores.
+use Rattle.std.proofs.Common.{◌≡◌, List, [], ◌∷◌, ◌++◌, Bool, true, false, cond, Some, None, refl, sym, ap, ◌∙◌, subst, inl, inr}
+use Rattle.std.proofs.Common.{ℕ, append-nil, Option}
+use Rattle.{flute_join.proofs.Reading.{reading_at}, std.specs.Prelude.{bytes_eq, ◌&&◌}}
 use Rattle.flute_store.proofs.Common
+use Common.{AllByRecursion, flat_map, Ordering, Equal, is_eq, IsTotalOrder, Equal-is, tied_itself}
+use Common.{false≢true, cases_Bool, Address, Fact, same_address, address, fact_at, agreed}
+use Common.{same_fact, conflict_at, address_same, address_itself, joined, joined-none, joined_fact}
+use Common.{joined-conflict_left, joined-conflict_right, joined-itself, fact_at-append, fact_at-nil}
+use Common.{option_map_or, keys_of, is_at, sorted_tail, cell_join, map_join, value_at, IsOrdered}
+use Common.{EachValue, ordered-map_join, Cell, Absent, One, Conflict, absent_past, cell_facts}
 use Common.{session_total, object_total, symbol_id_total, Session, ObjectName, Key, SymbolId, Part}
-use Common.{InfoPart, SymbolPart, Address, Fact, Info, Symbol, Information, session_cmp, object_cmp}
-use Common.{symbol_id_cmp, same_symbol_id, info_address, symbol_address, fact_at, Same, Below}
-use Common.{same_information, session_place, object_place, symbol_id_place, key_itself}
-use Common.{symbol_id_itself, joined, joined-none, fact_at-append, Below-trans, Below-from_Same}
-use Common.{Same-sym, cell_join, IsOrdered, EachValue, Cell, IsBelow, ordered-map_join}
-use Common.{EachValue-map_join, Object, object_join, symbols_join, session_join, store_join, key_in}
-use Common.{info_cell_facts, symbol_cell_facts, symbols_facts, object_facts, session_facts, content}
-use Common.{IsObject, IsSession, IsStore}
-use Rattle.flute_store.proofs.At.{Elsewhere, elsewhere-none, Apart, each-append, each-flat_map, at-cell_join, at-map_join}
+use Common.{InfoPart, SymbolPart, Info, Symbol, Information, session_cmp, object_cmp, symbol_id_cmp}
+use Common.{same_symbol_id, info_address, symbol_address, Same, Below, same_information}
+use Common.{session_place, object_place, symbol_id_place, key_itself, symbol_id_itself, Below-trans}
+use Common.{Below-from_Same, Same-sym, IsBelow, EachValue-map_join, Object, object_join}
+use Common.{symbols_join, session_join, store_join, key_in, info_cell_facts, symbol_cell_facts}
+use Common.{symbols_facts, object_facts, session_facts, content, IsObject, IsSession, IsStore}
+use Common.{IsStrictlySortedBy, SymbolUpdate, Update, update_symbols, update_object, update_facts}
+
+-- ---- facts that stand elsewhere
+
+pub at-one_here : (f : Fact) → fact_at (f ∷ []) (address f) ≡ Some f
+unfolding fact_at
+at-one_here f = ap (λ b. agreed (address f) (cond b (f ∷ []) [])) (address_itself (address f))
+
+at-one_elsewhere : (f : Fact) (a : Address) → same_address (address f) a ≡ false → fact_at (f ∷ []) a ≡ None
+unfolding fact_at
+at-one_elsewhere f a e = ap (λ b. agreed a (cond b (f ∷ []) [])) e
+
+abbrev pub Apart : Address → Fact → Type 0
+Apart a f = address f ≡ a → ⊥
+
+-- no fact of the list stands at the address
+abbrev pub Elsewhere : Address → List Fact → Type 0
+Elsewhere a F = AllByRecursion (Apart a) F
+
+pub elsewhere-none : (a : Address) (F : List Fact) → Elsewhere a F → fact_at F a ≡ None
+elsewhere-none a [] h = fact_at-nil a
+elsewhere-none a (f ∷ F) h =
+    let apart : same_address (address f) a ≡ false = elim (cases_Bool (same_address (address f) a)) [
+      | inl e ↦ absurd (h.0 (address_same (address f) a e))
+      | inr e ↦ e
+    ] in
+    fact_at-append (f ∷ []) F a ∙ ap (λ x. joined a x (fact_at F a)) (at-one_elsewhere f a apart) ∙ elsewhere-none a F h.1
+
+pub each-append : {X : Type 0} (P : X → Type 0) (xs ys : List X) → AllByRecursion P xs → AllByRecursion P ys → AllByRecursion P (xs ++ ys)
+each-append P [] ys h k = k
+each-append P (x ∷ xs) ys h k = (h.0, each-append P xs ys h.1 k)
+
+pub each-flat_map : {E X : Type 0} (P : X → Type 0) (f : E → List X) → ((e : E) → AllByRecursion P (f e)) → (es : List E) → AllByRecursion P (flat_map f es)
+each-flat_map P f h [] = tt
+each-flat_map P f h (e ∷ es) = each-append P (f e) (flat_map f es) (h e) (each-flat_map P f h es)
+
+-- each fact of a cell stands where this holds
+pub cell-stands : {T : Type 0} (P : Address → Type 0) (told : T → Fact) (clash : Fact)
+    → ((v : T) → P (address (told v))) → P (address clash) → (c : Cell T)
+    → AllByRecursion (λ f. P (address f)) (cell_facts told clash c)
+cell-stands P told clash h k Absent = tt
+cell-stands P told clash h k (One v) = (h v, tt)
+cell-stands P told clash h k Conflict = (k, tt)
+
+pub any_value : {K X : Type 0} (es : List (K × X)) → EachValue (λ _. Unit {0}) es
+any_value [] = tt
+any_value (e ∷ es) = (tt, any_value es)
+
+-- ---- a cell
+module _ {T : Type 0} (told : T → Fact) (here : Address) where
+  module _ (eq : T → T → Bool) (stands : (v : T) → address (told v) ≡ here) (clash : address (conflict_at here) ≡ here) (decides : (v w : T) → same_fact (told v) (told w) ≡ eq v w) where
+    abbrev facts : Cell T → List Fact
+    facts c = cell_facts told (conflict_at here) c
+
+    value : (v : T) → fact_at (told v ∷ []) here ≡ Some (told v)
+    value v = subst (λ a. fact_at (told v ∷ []) a ≡ Some (told v)) (stands v) (at-one_here (told v))
+
+    conflict : fact_at (conflict_at here ∷ []) here ≡ Some (conflict_at here)
+    conflict = subst (λ a. fact_at (conflict_at here ∷ []) a ≡ Some (conflict_at here)) clash (at-one_here (conflict_at here))
+
+    two_values : (v w : T) (b : Bool) → eq v w ≡ b → fact_at (facts (cond b (One v) Conflict)) here ≡ Some (cond b (told v) (conflict_at here))
+    two_values v w true e = value v
+    two_values v w false e = conflict
+
+    pub at-cell_join : (c d : Cell T) → fact_at (facts (cell_join eq c d)) here ≡ joined here (fact_at (facts c) here) (fact_at (facts d) here)
+    unfolding joined_fact
+    at-cell_join Absent d = sym (ap (λ x. joined here x (fact_at (facts d) here)) (fact_at-nil here))
+    at-cell_join (One v) Absent = sym (ap (joined here (fact_at (facts (One v)) here)) (fact_at-nil here) ∙ joined-none here (fact_at (facts (One v)) here))
+    at-cell_join (One v) (One w) =
+        two_values v w (eq v w) refl ∙ ap (λ b. Some (cond b (told v) (conflict_at here))) (sym (decides v w)) ∙ sym (λ i. joined here (value v i) (value w i))
+    at-cell_join (One v) Conflict = conflict ∙ sym ((λ i. joined here (value v i) (conflict i)) ∙ ap Some (joined-conflict_right here (told v)))
+    at-cell_join Conflict Absent = sym (ap (joined here (fact_at (facts Conflict) here)) (fact_at-nil here) ∙ joined-none here (fact_at (facts Conflict) here))
+    at-cell_join Conflict (One w) = conflict ∙ sym ((λ i. joined here (conflict i) (value w i)) ∙ ap Some (joined-conflict_left here (told w)))
+    at-cell_join Conflict Conflict = sym (joined-itself here (fact_at (facts Conflict) here))
+
+-- ---- the entries of a map
+module _ {K X : Type 0} {cmp : K → K → Ordering} (order : IsTotalOrder cmp) (same : (x y : K) → cmp x y ≡ Equal → x ≡ y) (f : K × X → List Fact) (a : Address) (q : K) (apart : (e : K × X) → (q ≡ e.0 → ⊥) → Elsewhere a (f e)) where
+  not_at : (e : K × X) → is_at (cmp q) e.0 ≡ false → q ≡ e.0 → ⊥
+  not_at e t p = false≢true (sym t ∙ ap (λ k. is_eq (cmp q k)) (sym p) ∙ ap is_eq (tied_itself order q))
+
+  at_head : (e : K × X) (es : List (K × X)) (b : Bool) → is_at (cmp q) e.0 ≡ b → IsOrdered cmp (e ∷ es) → fact_at (flat_map f es) a ≡ option_map_or (λ v. fact_at (f (q, v)) a) (value_at cmp es q) None
+      → fact_at (flat_map f (e ∷ es)) a ≡ option_map_or (λ v. fact_at (f (q, v)) a) (cond b (Some e.1) (value_at cmp es q)) None
+  at_head e es true t s ih =
+      let here : q ≡ e.0 = same q e.0 ((Equal-is (cmp q e.0)).0 t) in
+      let none : fact_at (flat_map f es) a ≡ None = ih ∙ ap (λ o. option_map_or (λ v. fact_at (f (q, v)) a) o None) (absent_past order e es q s t) in
+      fact_at-append (f e) (flat_map f es) a ∙ ap (joined a (fact_at (f e) a)) none ∙ joined-none a (fact_at (f e) a) ∙ ap (λ k. fact_at (f (k, e.1)) a) (sym here)
+  at_head e es false t s ih = fact_at-append (f e) (flat_map f es) a ∙ ap (λ x. joined a x (fact_at (flat_map f es) a)) (elsewhere-none a (f e) (apart e (not_at e t))) ∙ ih
+
+  pub at-entries : (es : List (K × X)) → IsOrdered cmp es → fact_at (flat_map f es) a ≡ option_map_or (λ v. fact_at (f (q, v)) a) (value_at cmp es q) None
+  at-entries [] s = fact_at-nil a
+  at-entries (e ∷ es) s = at_head e es (is_at (cmp q) e.0) refl s (at-entries es (sorted_tail cmp e.0 (keys_of es) s))
+
+  module _ (join : X → X → X) (P : X → Type 0) (keeps : (v w : X) → P v → P w → fact_at (f (q, join v w)) a ≡ joined a (fact_at (f (q, v)) a) (fact_at (f (q, w)) a)) where
+    pub at-map_join : (es fs : List (K × X)) → IsOrdered cmp es → IsOrdered cmp fs → EachValue P es → EachValue P fs → fact_at (flat_map f (map_join cmp join es fs)) a ≡ joined a (fact_at (flat_map f es) a) (fact_at (flat_map f fs) a)
+    at-map_join es fs s t x y =
+        at-entries (map_join cmp join es fs) (ordered-map_join order join es fs s t)
+        ∙ reading_at order join P (λ v. fact_at (f (q, v)) a) None (joined a) (λ c. refl) (joined-none a) keeps es fs q s t x y
+        ∙ sym (λ i. joined a (at-entries es s i) (at-entries fs t i))
 
 -- ---- where the facts of a cell stand
 
@@ -167,3 +268,20 @@ module _ {n : ℕ} where
   content-below_join u v w o p q b =
       Below-trans (content u) (content (store_join v w)) (content v ++ content w) (content-below u (store_join v w) o (store_ordered v w p q) b)
       (Below-from_Same (content (store_join v w)) (content v ++ content w) (content-join v w p q))
+
+-- ---- the store of one object
+
+pub told-ordered : (o : Option (SymbolId × SymbolUpdate)) → IsOrdered symbol_id_cmp (update_symbols o)
+unfolding IsStrictlySortedBy
+told-ordered None = tt
+told-ordered (Some t) = (tt, tt)
+
+abbrev pub one_object : (n : ℕ) → Key → Update → List (Session × List (ObjectName × Object n))
+one_object n key update = (key.session, (key.object, update_object update) ∷ []) ∷ []
+
+pub one-ordered : (n : ℕ) (key : Key) (update : Update) → OrderedStore (one_object n key update)
+unfolding IsStrictlySortedBy
+one-ordered n key update = record { ordered = (tt, tt); each = (record { ordered = (tt, tt); each = (told-ordered update.symbol, tt) }, tt) }
+
+pub one-content : (n : ℕ) (key : Key) (update : Update) → content (one_object n key update) ≡ update_facts key update
+one-content n key update = append-nil (update_facts key update ++ []) ∙ append-nil (update_facts key update)

@@ -1,13 +1,33 @@
--- What is wanted of an object, and its bytes, from the symbols that are held.
-use Rattle.std.proofs.Common.{◌≡◌, ◌≢◌, ℕ, ◌+◌, ◌↔◌, false, List, length, Option, Some, None, refl, sym, ap, ◌∙◌, subst, arith}
-use Rattle.flute_store.specs.GapsLeft.{GapsLeft}
-use Rattle.flute_store.specs.GapAnswers.{GivesGaps}
+-- What is told of an object: its symbols, and what is wanted of it.
+use Rattle.std.proofs.Common.{◌≡◌, ◌≢◌, ℕ, List, ◌∷◌, false, Option, Some, None, refl, sym, ap, ◌∙◌, subst, ◌↔◌}
+use Rattle.std.proofs.Common.{◌+◌, length, arith}
+use Rattle.{std.specs.Ordering.{eq_by_cmp}, flute_store.specs.GapsLeft.{GapsLeft}}
+use Rattle.{std.proofs.lemmas.Cmp.{eq_by_cmp_equiv}, flute_store.proofs.Found.{known-fact}}
+use Rattle.std.proofs.lemmas.Map.Views.{IsSome-lookup_from_Contains, Contains-keys_from_lookup}
+use Rattle.flute_store.{specs.GapAnswers.{GivesGaps}, proofs.Lookups.{blocks_from-all}}
 use Rattle.flute_store.proofs.Common
-use Common.{Contains, filter_map, option_map, IsStrictlySortedBy, keys_of, symbol_address}
-use Common.{info_address, fact_at, value_at, Cell, One, Information, sizes, symbol_id_cmp, ids, Key}
-use Common.{SymbolId, Fact, Info, InfoConflict, Object, want, wants, runs, want_cell, with_reason}
-use Common.{wanted, cell_fact, symbol_fact, IsTold, at_start, left, gaps_left}
-use Rattle.flute_store.proofs.{SortedSymbols.{blocks_from-all}, HeldIds.{ids_told}}
+use Common.{Contains, Equal-is, keys_of, IsKnown, value_at, Cell, each-value_at, false≢true}
+use Common.{symbol_address, fact_at, symbol_id_cmp, symbol_id_place, symbol_id_total, Key, SymbolId}
+use Common.{Fact, Object, symbol_fact, IsTold, filter_map, option_map, IsStrictlySortedBy}
+use Common.{info_address, One, Information, sizes, ids, Info, InfoConflict, want, wants, runs}
+use Common.{want_cell, with_reason, wanted, cell_fact, at_start, left, gaps_left}
+
+pub ids_told : {n : ℕ} (F : List Fact) (key : Key) (x : Object n) → IsTold F key x → (id : SymbolId) → Contains (keys_of x.symbols) id ↔ (fact_at F (symbol_address key id) ≢ None)
+ids_told F key x t id = by_found (value_at symbol_id_cmp x.symbols id) refl
+  where
+    by_found : (found : Option (Cell (List ℕ))) → value_at symbol_id_cmp x.symbols id ≡ found → Contains (keys_of x.symbols) id ↔ (fact_at F (symbol_address key id) ≢ None)
+    by_found None e = (
+      λ c. absurd (false≢true (rw e at (IsSome-lookup_from_Contains (eq_by_cmp_equiv symbol_id_total) id x.symbols c))),
+      λ h. absurd (h (t.each id ∙ ap (symbol_fact key id) e)),
+    )
+    by_found (Some c) e =
+        let known = each-value_at symbol_id_cmp IsKnown _ id c t.object.symbols_are.each e in (
+          λ _ z. known-fact key id c known (sym (t.each id ∙ ap (symbol_fact key id) e) ∙ z),
+          λ _. Contains-keys_from_lookup {eq = eq_by_cmp symbol_id_cmp}
+              (λ p q t. symbol_id_place p q ((Equal-is _).0 t)) id x.symbols (rw e),
+        )
+
+-- ---- what is wanted of an object, and its bytes, from the symbols that are held
 
 pub want-symbol : (info : Information) (key : Key) (id : SymbolId) (found : Option (Cell (List ℕ))) → want info id (symbol_fact key id found) ≡ want_cell info id found
 want-symbol info key id (Some (One b)) = refl

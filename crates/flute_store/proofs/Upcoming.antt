@@ -1,6 +1,7 @@
 -- What comes next on a walk, and what is left then.
 use Rattle.std.proofs.Common.{rules}
 use Rattle.std.proofs.Common.{◌≡◌, ◌≢◌, ℕ, ◌+◌, ◌<◌, ◌≤◌, cond, List, [], ◌∷◌, ◌++◌, length, drop, Option, Some, None, refl, sym, ap, ◌∙◌, subst, inl, inr, arith, append_assoc, ◌-◌}
+use Rattle.flute_store.proofs.Lookups.{Above, Later, above-before, above-block, later-blocks, block_from-first, block_from-end, blocks_from-next, Entry, wanted-past, wanted-here}
 use Rattle.flute_store.proofs.Common
 use Common.{◌==◌, option_map, cons_option, keys_of, Ordering, Less, Equal, Greater}
 use Common.{IsStrictlySortedBy, match_ordering, cases_Bool, eqb-true, eqb-false, eq-eqb}
@@ -9,8 +10,6 @@ use Common.{symbol_id, SymbolId, Reason, Gap, Upcoming, End, BlockEnd, Passed, F
 use Common.{NotHeld, want_cell, with_reason, wanted, block_from, blocks_from, Walk, symbols_left}
 use Common.{left, pending, IsBehind, EndsBefore, IsWalk, IsAhead, Keeps, after_pass, after_take}
 use Common.{after_begin, upcoming_wanted, upcoming_held, upcoming_of}
-use Rattle.flute_store.proofs.SortedSymbols.{Above, Later, above-before, above-block, later-blocks, block_from-first, block_from-end, blocks_from-next}
-use Rattle.flute_store.proofs.Lookups.{Entry, wanted-past, wanted-here}
 
 abbrev pub here : Walk → SymbolId
 here w = symbol_id w.sbn w.esi

@@ -1,12 +1,10 @@
 -- What lists of facts make of an object.
 use Rattle.std.proofs.Common.{◌≡◌, ℕ, zero, suc, get_or, ◌<◌, Bool, true, false, cond, List, [], ◌∷◌, length, take, Option, Some, None, refl, sym, ap, ◌∙◌, arith}
-use Rattle.flute_parts.proofs.Readings.{fact_at-address}
+use Rattle.{flute_parts.proofs.Readings.{fact_at-address}, flute_store.proofs.Runs.{runs-listed}}
 use Rattle.flute_store.proofs.Common
-use Common.{flat_map, filter_map, option_map, Contains, cons_option, Key, SymbolId, SymbolPart}
-use Common.{Address, Reason, Misfit, Info, InfoConflict, Symbol, SymbolConflict, Fact, Information}
-use Common.{info_address, symbol_address, fact_at, Same, ids, fits, IsHeld, Whole, value_bytes}
-use Common.{object, want, wants, runs, gaps, listed}
-use Rattle.flute_store.proofs.Runs.{runs-listed}
+use Common.{flat_map, filter_map, option_map, Contains, cons_option, Key, SymbolId, Address, Reason}
+use Common.{Misfit, Info, Symbol, Fact, Information, info_address, symbol_address, fact_at, Same}
+use Common.{ids, fits, IsHeld, Whole, value_bytes, object, want, wants, runs, gaps, listed}
 
 pub Whole-same : (F G : List Fact) (key : Key) (info : Information) → Same F G → Whole F key info → Whole G key info
 Whole-same F G key info h w = record {

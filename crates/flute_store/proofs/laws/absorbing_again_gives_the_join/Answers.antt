@@ -1,6 +1,5 @@
 use Rattle.std.proofs.Common.{[], ◌++◌, List, ◌∙◌, refl}
-use Rattle.flute_parts.specs.declared.fact.Fact.{Fact}
-use Rattle.flute_parts.specs.Facts.{Same, Below}
+use Rattle.flute_parts.specs.{declared.fact.Fact.{Fact}, Facts.{Same, Below}}
 use Rattle.flute_parts.proofs.Facts.{Same-twice, Same-from_Below, Below-itself, Below-append, Below-trans, Below-from_Same}
 use Rattle.flute_store.proofs.laws.absorbing_again_gives_the_join.Goals as goal
 

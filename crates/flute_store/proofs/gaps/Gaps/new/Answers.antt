@@ -1,6 +1,5 @@
 use Rattle.std.proofs.Common.{ap, ◌∙◌}
-use Rattle.flute_store.specs.PartitionScan.{gaps_left}
-use Rattle.flute_store.proofs.ToldObjects.{start-left}
+use Rattle.flute_store.{specs.PartitionScan.{gaps_left}, proofs.ToldObjects.{start-left}}
 use Rattle.flute_store.proofs.gaps.Gaps.new.Goals as goal
 
 pub returns-clause-gaps : goal.returns-clause-gaps

@@ -1,6 +1,5 @@
 use Rattle.std.proofs.Common.{ap, ◌∙◌}
-use Rattle.flute_store.specs.PartitionScan.{at_start}
-use Rattle.flute_store.proofs.HeldTurns.{start-held}
+use Rattle.flute_store.{specs.PartitionScan.{at_start}, proofs.Turns.{start-held}}
 use Rattle.flute_store.proofs.held_scan.HeldScan.new.Goals as goal
 
 pub returns-clause-start : goal.returns-clause-start

@@ -1,7 +1,6 @@
 use Rattle.std.proofs.Common.{Some, subst}
-use Rattle.flute_store.specs.HeldScan.{Turns}
+use Rattle.flute_store.{specs.HeldScan.{Turns}, proofs.Turns.{keeps-step}}
 use Rattle.flute_store.specs.declared.turn.Turn.TheVariants as Turn
-use Rattle.flute_store.proofs.HeldTurns.{keeps-step}
 use Rattle.flute_store.proofs.held_scan.HeldScan.next.Goals as goal
 
 pub loop-gap-preserved-in-Some-Fitting : goal.loop-gap-preserved-in-Some-Fitting

@@ -1,4 +1,4 @@
-use Rattle.flute_store.proofs.HeldTurns.{held-turn}
+use Rattle.flute_store.proofs.Turns.{held-turn}
 use Rattle.flute_store.proofs.held_scan.HeldScan.turn.Goals as goal
 
 pub returns : goal.returns

@@ -1,6 +1,5 @@
 use Rattle.std.proofs.Common.{[], ap}
-use Rattle.flute_store.specs.PartitionScan.{Walk}
-use Rattle.flute_store.proofs.ScanTurns.{new-scan, new-within}
+use Rattle.flute_store.{specs.PartitionScan.{Walk}, proofs.ScanTurns.{new-scan, new-within}}
 use Rattle.flute_store.proofs.scan.ObjectScan.new.Goals as goal
 
 pub invariant_of-result : goal.invariant_of-result

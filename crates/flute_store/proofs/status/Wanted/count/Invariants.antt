@@ -1,6 +1,5 @@
 use Rattle.std.proofs.Common.{length}
-use Rattle.flute_store.proofs.Common.{flat_map, listed, AreRuns}
-use Rattle.flute_store.proofs.HowMany.{Counts}
+use Rattle.flute_store.proofs.{HowMany.{Counts}, Common.{flat_map, listed, AreRuns}}
 use Rattle.flute_store.proofs.status.Wanted.count.Given as goal
 
 abbrev pub invariant-loop-gap : goal.invariant-loop-gap

@@ -1,8 +1,7 @@
 use Rattle.std.proofs.Common.{◌++◌, sym, subst, refl}
-use Rattle.flute_store.proofs.Common.{on_ok_weaker, IfErr-at_err, Same, content}
-use Rattle.flute_store.proofs.Memory.{needs-new}
-use Rattle.flute_store.proofs.Exceeding.{solid-store, beyond-joined, over-beyond}
+use Rattle.flute_store.proofs.Exceeding.{needs-new, solid-store, beyond-joined, over-beyond}
 use Rattle.flute_store.proofs.StoreJoin.{ordered-store, content-join, content-below, content-below_join}
+use Rattle.flute_store.proofs.Common.{on_ok_weaker, IfErr-at_err, Same, content}
 use Rattle.flute_store.proofs.store.Store.absorb.Goals as goal
 
 pub returns-clause-ok : goal.returns-clause-ok

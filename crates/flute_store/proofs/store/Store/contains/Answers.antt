@@ -1,7 +1,7 @@
 use Rattle.std.proofs.Common.{◌≡◌, sym, ap, ◌∙◌}
-use Rattle.flute_store.proofs.Common.{is_some, not, info_address, symbol_address, fact_at, content}
-use Rattle.flute_store.proofs.Held.{no_session, no_object, of_info, of_symbols, is_known, known-is}
+use Rattle.flute_store.proofs.Found.{no_session, no_object, of_info, of_symbols, is_known, known-is}
 use Rattle.flute_store.proofs.store.Store.contains.Goals.{in-Absent, in_default-matches}
+use Rattle.flute_store.proofs.Common.{is_some, not, info_address, symbol_address, fact_at, content}
 use Rattle.flute_store.proofs.store.Store.contains.Goals as goal
 
 pub returns-in_default : goal.returns-in_default
