@@ -1,9 +1,10 @@
 -- The bytes that a walk gives.
 use Rattle.std.proofs.Common.{◌≡◌, ℕ, zero, suc, ◌+◌, ◌-◌, List, [], ◌∷◌, ◌++◌, length, take, Option, Some, None, refl, sym, ap, ◌∙◌, subst, arith, append_assoc}
+use Rattle.flute_store.proofs.Lookups.{Above, above-before, blocks_from-all, blocks_from-next}
 use Rattle.std.{specs.Io.KnownBytes.{Appends}, proofs.KnownBytes.{Appends-trans}}
 use Rattle.{flute_join.proofs.Under.{not_cons_nil}, flute_parts.specs.Devices.{AppendsPart}}
 use Rattle.flute_parts.proofs.Appended.{AppendsPart-first, AppendsPart-second}
-use Rattle.flute_store.proofs.Lookups.{Above, above-before, blocks_from-all, blocks_from-next, blocks_from-end, Entry, value-past, value-here}
+use Rattle.flute_store.proofs.Lookups.{blocks_from-end, Entry, value-past, value-here}
 use Rattle.flute_store.proofs.{Runs.{runs-listed}, ToldObjects.{wants-told, told-information}}
 use Rattle.flute_store.proofs.{WholeObjects.{gapless-whole}, ObjectLength.{object-length}}
 use Rattle.flute_store.proofs.Upcoming.{here, AtHere, AtPassed, Tells, told, others_left, symbols-first, symbols-end, others-above, inside-less, block-left, taken, taken-left}

@@ -1,7 +1,10 @@
 -- How many sessions, objects and symbols the content of a store names.
 use Rattle.std.proofs.Common.{append-nil, ◌≡◌, ◌≢◌, ℕ, ◌≤◌, List, [], ◌∷◌, ◌++◌, length, Bool, true, ◌||◌, Option, Some, None, refl, sym, ap, ◌∙◌, subst, inl, inr, arith}
+use Rattle.flute_store.proofs.StoreJoin.{at-entries, OrderedObject, OrderedSession, OrderedStore}
+use Rattle.flute_store.proofs.StoreJoin.{ordered-store, in_session, in_store, entry_facts}
+use Rattle.flute_store.proofs.StoreJoin.{symbols_apart, objects_apart, sessions_apart}
 use Rattle.flute_parts.proofs.OneMore.{object_of-some, symbol_of-some}
-use Rattle.flute_store.proofs.StoreJoin.{at-entries, OrderedObject, OrderedSession, OrderedStore, ordered-store, in_session, in_store, entry_facts, symbols_apart, objects_apart, sessions_apart, object-symbol, object-info}
+use Rattle.flute_store.proofs.StoreJoin.{object-symbol, object-info}
 use Rattle.flute_store.proofs.Common
 use Common.{Ordering, is_eq, option_map_or, keys_of, length-keys_of, none-some, same_Some, Session}
 use Common.{ObjectName, Key, SymbolId, Address, Fact, session_cmp, object_cmp, symbol_id_cmp}

@@ -1,9 +1,10 @@
 -- A store that passes the limits names more than they allow.
 use Rattle.std.proofs.Common.{◌≡◌, ◌≢◌, ℕ, ◌<◌, ◌≤◌, List, [], ◌∷◌, ◌++◌, length, true, false, cond, ◌||◌, Option, Some, None, refl, sym, ap, ◌∙◌, subst, inl, inr, ◌⊎◌, arith, bytes_eq}
-use Rattle.flute_store.proofs.OnePair.{any-value_at, absent-right, some-right, known-join, known-update, update-some}
-use Rattle.flute_store.proofs.StoreJoin.{at-one_here, one_object, told-ordered, EachValue-weaker, OrderedObject, OrderedSession, OrderedStore, content-join}
+use Rattle.flute_store.proofs.OnePair.{any-value_at, absent-right, some-right, known-join}
+use Rattle.flute_store.proofs.StoreJoin.{at-one_here, one_object, told-ordered, EachValue-weaker}
+use Rattle.flute_store.{proofs.OnePair.{known-update, update-some}, specs.Memory.{HasNew}}
+use Rattle.flute_store.proofs.StoreJoin.{OrderedObject, OrderedSession, OrderedStore, content-join}
 use Rattle.flute_store.proofs.Counting.{count-ge, at-info, at-symbol, a_fact, at-unheard, at-found}
-use Rattle.flute_store.specs.Memory.{HasNew}
 use Rattle.flute_store.proofs.Common
 use Common.{Ordering, Less, is_eq, IsTotalOrder, keys_of, IsStrictlySortedBy, cell_join, IsKnown}
 use Common.{map_join, join_values, value_at, IsOrdered, EachValue, MapOver, ordered-map_join}

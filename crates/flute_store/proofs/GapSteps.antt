@@ -1,8 +1,10 @@
 -- The gaps that a walk gives.
 use Rattle.std.proofs.Common.{◌≡◌, ◌≢◌, ℕ, zero, suc, ◌+◌, ◌-◌, ◌<◌, ◌≤◌, Bool, true, false, cond, ◌&&◌, List, [], ◌∷◌, ◌++◌, length, map, Option, Some, None, refl, sym, ap, ◌∙◌, subst, inl, inr, ◌⊎◌, arith, append_assoc}
+use Rattle.flute_store.proofs.Lookups.{Above, sbn-less, esi-less, above-before, above-later}
+use Rattle.flute_store.proofs.Lookups.{above-block, blocks_from-end, Entry, Elsewhere, value-before}
 use Rattle.std.proofs.Math.Nat.{zero-add, add-zero, suc-add}
 use Rattle.std.{proofs.lemmas.List.FromFn.{map-range_with_len_more}, specs.Prelude.{nat_lt}}
-use Rattle.flute_store.proofs.Lookups.{Above, sbn-less, esi-less, above-before, above-later, above-block, blocks_from-end, Entry, Elsewhere, value-before, value-here, wanted-missing, elsewhere-above, elsewhere-here}
+use Rattle.flute_store.proofs.Lookups.{value-here, wanted-missing, elsewhere-above, elsewhere-here}
 use Rattle.flute_store.proofs.Runs.{runs-first, reason_same, reason_itself}
 use Rattle.flute_store.proofs.Upcoming.{here, AtHere, FirstAfter, Tells, told, others_left, symbols-first, symbols-end, blocks-later, others-above, inside-less, sorted-first, taken, taken-left, taken-keeps, left-run}
 use Rattle.flute_store.proofs.Common

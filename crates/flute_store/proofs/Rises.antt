@@ -1,7 +1,8 @@
 -- How many facts a store has, and that they rise.
 use Rattle.std.proofs.Common.{ℕ, ◌+◌, ◌*◌, ◌≤◌, List, [], ◌∷◌, length, arith, length-append}
 use Rattle.std.proofs.Common.{◌≡◌, ◌++◌, refl, ap, ◌∙◌}
-use Rattle.flute_store.proofs.StoreJoin.{any_value, cell-stands, each-append, each-flat_map, OrderedObject, OrderedSession, OrderedStore}
+use Rattle.flute_store.proofs.StoreJoin.{any_value, cell-stands, each-append, each-flat_map}
+use Rattle.flute_store.proofs.StoreJoin.{OrderedObject, OrderedSession, OrderedStore}
 use Rattle.{std.proofs.Math.Nat.{mul-le-mul_right}, flute_store.proofs.Shown.{equal_keys}}
 use Rattle.flute_store.proofs.Common
 use Common.{flat_map, EachValue, Cell, Absent, One, Conflict, Session, ObjectName, Key, Fact, Info}

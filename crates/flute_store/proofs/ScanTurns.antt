@@ -1,11 +1,12 @@
 -- What a turn of a scan passes and gives.
 use Rattle.std.proofs.Common.{inl, inr}
 use Rattle.std.proofs.Common.{length-append, ◌≡◌, ℕ, ◌+◌, ◌-◌, ◌<◌, cond, List, [], ◌∷◌, ◌++◌, length, Option, Some, None, refl, sym, ap, ◌∙◌, subst, arith}
+use Rattle.flute_store.proofs.Lookups.{Entry, block_from-first, block_from-end, blocks_from-next}
 use Rattle.{flute_parts.specs.Totality.{symbol_id_total}, flute_join.proofs.Copied.{value_there}}
 use Rattle.std.proofs.lemmas.List.FromFn.{length-map-range_with_len}
-use Rattle.flute_store.proofs.Lookups.{Entry, block_from-first, block_from-end, blocks_from-next, blocks_from-end, blocks_from-all}
-use Rattle.flute_store.proofs.{HowMany.{how-nil}, Runs.{runs-listed}}
-use Rattle.flute_store.proofs.{Turns.{start-walk}, KeyLists.{none_in}, ToldObjects.{start-left}}
+use Rattle.flute_store.proofs.{Lookups.{blocks_from-end, blocks_from-all}, ToldObjects.{start-left}}
+use Rattle.flute_store.proofs.HowMany.{how-nil}
+use Rattle.flute_store.proofs.{Runs.{runs-listed}, Turns.{start-walk}, KeyLists.{none_in}}
 use Rattle.flute_store.proofs.Common
 use Common.{flat_map, Bor, is_eq, none-some, cases_Bool, IsKnown, value_at, IsOrdered, Cell, One}
 use Common.{Conflict, Information, sizes, symbol_id_cmp, key_itself, symbol_id, ids, Key, SymbolId}

@@ -1,7 +1,9 @@
 -- What comes next on a walk, and what is left then.
 use Rattle.std.proofs.Common.{rules}
 use Rattle.std.proofs.Common.{◌≡◌, ◌≢◌, ℕ, ◌+◌, ◌<◌, ◌≤◌, cond, List, [], ◌∷◌, ◌++◌, length, drop, Option, Some, None, refl, sym, ap, ◌∙◌, subst, inl, inr, arith, append_assoc, ◌-◌}
-use Rattle.flute_store.proofs.Lookups.{Above, Later, above-before, above-block, later-blocks, block_from-first, block_from-end, blocks_from-next, Entry, wanted-past, wanted-here}
+use Rattle.flute_store.proofs.Lookups.{Above, Later, above-before, above-block, later-blocks}
+use Rattle.flute_store.proofs.Lookups.{block_from-first, block_from-end, blocks_from-next, Entry}
+use Rattle.flute_store.proofs.Lookups.{wanted-past, wanted-here}
 use Rattle.flute_store.proofs.Common
 use Common.{◌==◌, option_map, cons_option, keys_of, Ordering, Less, Equal, Greater}
 use Common.{IsStrictlySortedBy, match_ordering, cases_Bool, eqb-true, eqb-false, eq-eqb}

@@ -1,7 +1,7 @@
 use Rattle.std.proofs.Common.{◌≡◌, ◌++◌, Err, sym, subst, Result, Ok, refl}
-use Rattle.flute_store.proofs.StoreJoin.{ordered-store, content-join, one_object, one-ordered, one-content}
-use Rattle.flute_store.proofs.Counting.{not_over}
-use Rattle.flute_store.proofs.{Found.{news_held}, Exceeding.{beyond-joined, solid-store, solid-one}}
+use Rattle.flute_store.proofs.StoreJoin.{ordered-store, content-join, one_object, one-ordered}
+use Rattle.flute_store.proofs.{StoreJoin.{one-content}, Counting.{not_over}, Found.{news_held}}
+use Rattle.flute_store.proofs.Exceeding.{beyond-joined, solid-store, solid-one}
 use Rattle.flute_store.proofs.Common
 use Common.{on_ok_weaker, Full, Same, Over-below, Below-from_Same, Same-sym, content, store_join}
 use Common.{JoinRefusal, OutOfMemory}
