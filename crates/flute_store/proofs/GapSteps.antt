@@ -6,7 +6,7 @@ use Rattle.std.proofs.Math.Nat.{zero-add, add-zero, suc-add}
 use Rattle.std.{proofs.lemmas.List.FromFn.{map-range_with_len_more}, specs.Prelude.{nat_lt}}
 use Rattle.flute_store.proofs.Lookups.{value-here, wanted-missing, elsewhere-above, elsewhere-here}
 use Rattle.flute_store.proofs.Runs.{runs-first, reason_same, reason_itself}
-use Rattle.flute_store.proofs.Upcoming.{here, AtHere, FirstAfter, Tells, told, others_left, symbols-first, symbols-end, blocks-later, others-above, inside-less, sorted-first, taken, taken-left, taken-keeps, left-run}
+use Rattle.flute_store.proofs.Upcoming.{here, AtHere, FirstAfter, Tells, told, others_left, symbols-first, symbols-end, blocks-later, others-above, inside-less, sorted-first, taken, taken-left, taken-keeps}
 use Rattle.flute_store.proofs.Common
 use Common.{◌==◌, range_with_len, keys_of, Ordering, Less, Equal, Greater, nat_cmp, ordering_then}
 use Common.{ordering_reverse, cases_Bool, eqb-true, ltb-true, nat_tests, same_Some, none-some}
@@ -121,6 +121,7 @@ ends-upcoming g (Wanted r) h = λ e. absurd (none-some g (sym (ap (λ b. cond b 
 ends-upcoming g l h = tt
 
 pub gap-run : (w : Walk) (g : Gap) → IsWalk w → w.run ≡ Some g → ended_run w.run (upcoming_of w) ≡ Some g → GivesGap w g (record w { run = None })
+unfolding left
 gap-run w g p e h =
     let q : EndsBefore w.sbn w.esi (Some g) = subst (EndsBefore w.sbn w.esi) e p.running in
     let z : 0 < w.esi = omega arith in
@@ -131,7 +132,7 @@ gap-run w g p e h =
     let x : Elsewhere (here w) g.reason (left w) = stop-elsewhere w g.reason p z q.3 (upcoming_of w) refl (ends-upcoming g (upcoming_of w) (ap (λ o. ended_run o (upcoming_of w)) (sym e) ∙ h)) in
     record {
       walk = record { ordered = p.ordered; known = p.known; begun = p.begun; within = p.within; longest = p.longest; in_block = p.in_block; behind = p.behind; running = tt };
-      first = ap (λ o. runs (pending o ++ left w)) e ∙ runs-first g.sbn g.first (g.last + 1) g.reason (left w) (omega arith) (subst (λ x. Elsewhere x g.reason (left w)) f x) ∙ (λ i. record g { last = k i } ∷ runs (sym (left-run w None) i));
+      first = ap (λ o. runs (pending o ++ left w)) e ∙ runs-first g.sbn g.first (g.last + 1) g.reason (left w) (omega arith) (subst (λ x. Elsewhere x g.reason (left w)) f x) ∙ (λ i. record g { last = k i } ∷ runs (left w));
       held_is = refl;
       begun_is = refl;
       partition_is = refl;

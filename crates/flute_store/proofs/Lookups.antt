@@ -97,16 +97,13 @@ value-before (e ∷ es) q a = ap (λ o. cond (is_eq o) (Some e.1) (value_at symb
 pub wanted-past : (info : Information) (e : Entry) (es : List Entry) (xs : List SymbolId) → Above e.0 xs → wanted info (e ∷ es) xs ≡ wanted info es xs
 unfolding wanted
 wanted-past info e es [] a = refl
-wanted-past info e es (x ∷ xs) a =
-    ap (λ o. cons_option (option_map (with_reason x) (want_cell info x o)) (wanted info (e ∷ es) xs)) (value-past e es x a.0)
-    ∙ ap (cons_option (option_map (with_reason x) (want_cell info x (value_at symbol_id_cmp es x)))) (wanted-past info e es xs a.1)
+wanted-past info e es (x ∷ xs) a = rw (value-past e es x a.0, wanted-past info e es xs a.1)
 
 -- a held symbol decides on itself
 pub wanted-here : (info : Information) (e : Entry) (es : List Entry) (q : SymbolId) (xs : List SymbolId) → e.0 ≡ q → Above q xs → wanted info (e ∷ es) (q ∷ xs) ≡ cons_option (option_map (with_reason q) (want_cell info q (Some e.1))) (wanted info es xs)
 unfolding wanted
 wanted-here info e es q xs h a =
-    ap (λ o. cons_option (option_map (with_reason q) (want_cell info q o)) (wanted info (e ∷ es) xs)) (value-here e es q h)
-    ∙ ap (cons_option (option_map (with_reason q) (want_cell info q (Some e.1)))) (wanted-past info e es xs (subst (λ z. Above z xs) (sym h) a))
+    rw (value-here e es q h, wanted-past info e es xs (subst (λ z. Above z xs) (sym h) a))
 
 -- symbols of which nothing is held are missing
 pub wanted-missing : (info : Information) (held : List Entry) (n a k : ℕ) (xs : List SymbolId) → ((i : ℕ) → i < a + k → value_at symbol_id_cmp held (symbol_id n i) ≡ None)
@@ -114,8 +111,7 @@ pub wanted-missing : (info : Information) (held : List Entry) (n a k : ℕ) (xs 
 unfolding wanted
 wanted-missing info held n a zero xs h = refl
 wanted-missing info held n a (suc k) xs h =
-    ap (λ o. cons_option (option_map (with_reason (symbol_id n a)) (want_cell info (symbol_id n a) o)) (wanted info held (map (symbol_id n) (range_with_len (a + 1) k) ++ xs))) (h a (omega arith))
-    ∙ ap (λ ws. (symbol_id n a, Missing) ∷ ws) (wanted-missing info held n (a + 1) k xs (λ i l. h i (omega (arith, l))))
+    rw (h a (omega arith), wanted-missing info held n (a + 1) k xs (λ i l. h i (omega (arith, l))))
 
 -- the first of the wanted symbols is another than p, or wanted for another reason
 abbrev pub Elsewhere : SymbolId → Reason → List (SymbolId × Reason) → Type 0

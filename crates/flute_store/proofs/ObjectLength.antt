@@ -12,9 +12,6 @@ use Common.{Fact, Whole, value_bytes, object}
 abbrev Each : (SymbolId → List ℕ) → ℕ → ℕ → List SymbolId → Type 0
 Each f e m xs = (k : ℕ) (x : SymbolId) → k < length xs → get_or xs k x ≡ x → (length (f x) ≡ e) ⊎ ((k + 1 ≡ length xs) × (length (f x) ≡ m))
 
-times-suc : (n e : ℕ) → suc n * e ≡ e + n * e
-times-suc n e = omega arith
-
 -- so all of them have no fewer than the first ones with e, and the last with m
 length-each : (f : SymbolId → List ℕ) (e m : ℕ) (x : SymbolId) (xs : List SymbolId) → m ≤ e → Each f e m (x ∷ xs) → length xs * e + m ≤ length (flat_map f (x ∷ xs))
 length-each f e m x [] l h = grind (arith, length-append (f x) [], h 0 x (omega arith) refl)
@@ -24,7 +21,7 @@ length-each f e m x (y ∷ ys) l h =
       | inl p ↦ inl p
       | inr p ↦ inr (omega (arith, p.0), p.1)
     ]) in
-    grind (arith, a, times-suc (length ys) e, more, h 0 x (omega arith) refl)
+    grind (arith, a, more, h 0 x (omega arith) refl)
 
 -- how long a symbol is that fits
 fits-length : (info : Information) (id : SymbolId) (n k : ℕ) → IsValid info → k < length (ids info) → get_or (ids info) k id ≡ id → fits info id n ≡ true → (n ≡ info.symbol_length) ⊎ ((k + 1 ≡ length (ids info)) × (n ≡ last_length info))
@@ -61,10 +58,7 @@ last-short info h =
   where
     shorter : (l t e : ℕ) → l ≤ t * e → l - (t - 1) * e ≤ e
     shorter l zero e h = omega (arith, h)
-    shorter l (suc t) e h =
-        let less : suc t - 1 ≡ t = omega arith in
-        let times : (suc t - 1) * e ≡ t * e = ap (λ k. k * e) less in
-        omega (arith, h, times-suc t e, times)
+    shorter l (suc t) e h = let less : suc t - 1 ≡ t = omega arith in rw less (omega arith)
 
 enough : (info : Information) (f : SymbolId → List ℕ) (xs : List SymbolId) → length xs ≡ symbol_count info → 0 < length xs → last_length info ≤ info.symbol_length → Each f info.symbol_length (last_length info) xs → info.transfer_length ≤ length (flat_map f xs)
 enough info f [] c p l h = absurd (omega (arith, p))

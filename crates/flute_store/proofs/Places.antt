@@ -157,9 +157,7 @@ NoGap t = Unit {0}
 
 module _ (w : PartitionScan) (next : Next) (c : Counted) (p : IsPlace w) (h : CountsWithin w c) where
   pub within-turn : (t : Option Turn) (x : PartitionScan) → NoGap t → Kind w next t x → CountsWithin x c
-  within-turn None x n k =
-      let r : CountsWithin (record w { run = None }) c = subst (λ o. CountsWithin (record w { run = o }) c) k.1 h in
-      subst (λ y. CountsWithin y c) (sym k.2) (subst (λ o. c.missing + c.conflicting + c.misfit + run_length o ≤ (w.begun + 1) * 65536 + 0) (sym k.1) (omega (arith, r)))
+  within-turn None x n k = rw (k.2, k.1) (omega (arith, rw k.1 at h))
   within-turn (Some (Turn.Gap g)) x n k = absurd n
   within-turn (Some Turn.Fitting) x n k = subst (λ y. CountsWithin y c) (sym k.2) (let l = h in omega (arith, l))
   within-turn (Some Turn.Wanted) x n k = subst (λ y. CountsWithin y c) (sym k.3) (by_run w.run refl)

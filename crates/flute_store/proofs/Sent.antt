@@ -51,16 +51,14 @@ module _ (F : List Fact) (key : Key) (info : Information) (content : List ℕ) (
       only_info : (g : Fact) → IsSent key info (symbols_of info content) g → address g ≡ info_address key → g ≡ Info key info
       only_info g (inl e) at' = e
       only_info g (inr (s, c, e)) at' =
-          let apart : SymbolPart s.0 ≡ InfoPart = ap (λ (a : Address). a.part) (ap address (sym e) ∙ at') in
-          absurd (cc)
+          let a = ap (λ f. (address f).part) (sym e) ∙ ap (λ (a : Address). a.part) at' in cc
 
   symbol_there : (s : SymbolId × List ℕ) → Contains (symbols_of info content) s → fact_at F (symbol_address key s.0) ≡ Some (Symbol key s.0 s.1)
   symbol_there s there = fact_at-one F (symbol_address key s.0) (Symbol key s.0 s.1) (h.told (Symbol key s.0 s.1) (inr (s, there, refl))) refl (λ g c at'. only_symbol g (h.only g c (ap (λ (a : Address). a.key) at')) at')
     where
       only_symbol : (g : Fact) → IsSent key info (symbols_of info content) g → address g ≡ symbol_address key s.0 → g ≡ Symbol key s.0 s.1
       only_symbol g (inl e) at' =
-          let apart : InfoPart ≡ SymbolPart s.0 = ap (λ (a : Address). a.part) (ap address (sym e) ∙ at') in
-          absurd (cc)
+          let a = ap (λ f. (address f).part) (sym e) ∙ ap (λ (a : Address). a.part) at' in cc
       only_symbol g (inr (t, c, e)) at' =
           let same : SymbolPart t.0 ≡ SymbolPart s.0 = ap (λ (a : Address). a.part) (ap address (sym e) ∙ at') in
           let id : t.0 ≡ s.0 = cc in
@@ -92,10 +90,7 @@ module _ (F : List Fact) (key : Key) (info : Information) (content : List ℕ) (
   agree (s ∷ ss) each =
       let one = ap value_bytes (each s (0, omega arith, refl)) in
       let rest = agree ss (λ t c. each t (suc c.0, omega (arith, c.1), c.2)) in
-      flat_map-cons (λ s. value_bytes (fact_at F (symbol_address key s.0))) s ss
-      ∙ ap (λ bs. bs ++ flat_map (λ s. value_bytes (fact_at F (symbol_address key s.0))) ss) one
-      ∙ ap (λ bs. s.1 ++ bs) rest
-      ∙ sym (flat_map-cons (λ s. s.1) s ss)
+      λ i. one i ++ rest i
 
   is_object : IsValid info → length content ≡ info.transfer_length → object F key info ≡ content
   unfolding object

@@ -139,7 +139,6 @@ step-pass w p t =
     let l = inside-less w p t.inside in
     record {
       walk = assumption (
-        p,
         held-ordered w.held t.first t.others t.held p.ordered,
         held-known w.held t.first t.others t.held p.known,
         λ (z : 0 < w.esi). step-behind w t (p.behind z),
@@ -160,7 +159,6 @@ taken-walk run w why p t r =
     let l = inside-less w p t.inside in
     let inside : w.esi + 1 ≤ w.size = omega (arith, l) in
     assumption (
-      p,
       held-ordered w.held t.first t.others t.held p.ordered,
       held-known w.held t.first t.others t.held p.known,
       behind-first w t.first t.others t.held t.at_here p.ordered,
@@ -208,8 +206,3 @@ upcoming-end w e f = sym (ap (λ b. cond b (cond (w.begun == length (sizes w.par
 
 pub block-left : (w : Walk) → IsWalk w → Tells w BlockEnd → w.begun < length (sizes w.partition)
 block-left w p t = let c = p.begun in let d = t.1 in omega (arith, c, d)
-
--- what is left does not depend on the run
-pub left-run : (w : Walk) (run : Option Gap) → left (record w { run = run }) ≡ left w
-unfolding left
-left-run w run = refl
