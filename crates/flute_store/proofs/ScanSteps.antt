@@ -336,11 +336,9 @@ first-wanted o s n x (Some b) q e pl d = λ F f.
 values-shown : (F : List Fact) (key : Key) (es more : List Entry) (xs : List SymbolId) → IsRising F → shown key F ≡ es ++ more → ((id : SymbolId) → Contains xs id → (c : Cell (List ℕ)) × (value_at symbol_id_cmp es id ≡ Some c))
     → held_bytes es xs ≡ flat_map (λ id. value_bytes (fact_at F (symbol_address key id))) xs
 unfolding held_bytes
-values-shown F key es more [] r e h = refl
-values-shown F key es more (x ∷ xs) r e h =
-    let f = h x (first_is x xs) in
-    let v : value_at symbol_id_cmp (shown key F) x ≡ value_at symbol_id_cmp es x = ap (λ es. value_at symbol_id_cmp es x) e ∙ value-more es more x f.0 f.1 ∙ sym f.1 in
-    (λ i. (ap found_bytes (sym v) ∙ sym (found-of key x (value_at symbol_id_cmp (shown key F) x)) ∙ ap value_bytes (sym (shown-at key x F r))) i ++ values-shown F key es more xs r e (λ id c. h id (Contains-append_right (x ∷ []) xs id c)) i)
+values-shown F key es more xs r e h =
+    let told = λ (id : SymbolId). sym (found-of key id (value_at symbol_id_cmp (shown key F) id)) ∙ ap value_bytes (sym (shown-at key id F r)) in
+    sym (held-same es more xs h) ∙ rw (← e) (λ i. flat_map (λ id. told id i) xs)
 
 -- the bytes are a first part of the object
 pub first-part : (s : Scanned) (w : PartitionScan) (symbols F before rest : List Fact) (bytes : List ℕ) → FitsSoFar s w bytes → s.facts ≡ Info s.key s.info ∷ symbols → F ≡ before ++ (s.facts ++ rest) → IsRising F → IsFirstPart F s.key s.info bytes

@@ -96,17 +96,18 @@ module _ {K X : Type 0} {cmp : K → K → Ordering} (order : IsTotalOrder cmp) 
   not_at : (e : K × X) → is_at (cmp q) e.0 ≡ false → q ≡ e.0 → ⊥
   not_at e t p = false≢true (sym t ∙ ap (λ k. is_eq (cmp q k)) (sym p) ∙ ap is_eq (tied_itself order q))
 
-  at_head : (e : K × X) (es : List (K × X)) (b : Bool) → is_at (cmp q) e.0 ≡ b → IsOrdered cmp (e ∷ es) → fact_at (flat_map f es) a ≡ option_map_or (λ v. fact_at (f (q, v)) a) (value_at cmp es q) None
-      → fact_at (flat_map f (e ∷ es)) a ≡ option_map_or (λ v. fact_at (f (q, v)) a) (cond b (Some e.1) (value_at cmp es q)) None
-  at_head e es true t s ih =
-      let here : q ≡ e.0 = same q e.0 ((Equal-is (cmp q e.0)).0 t) in
-      let none : fact_at (flat_map f es) a ≡ None = ih ∙ ap (λ o. option_map_or (λ v. fact_at (f (q, v)) a) o None) (absent_past order e es q s t) in
-      fact_at-append (f e) (flat_map f es) a ∙ ap (joined a (fact_at (f e) a)) none ∙ joined-none a (fact_at (f e) a) ∙ ap (λ k. fact_at (f (k, e.1)) a) (sym here)
-  at_head e es false t s ih = fact_at-append (f e) (flat_map f es) a ∙ ap (λ x. joined a x (fact_at (flat_map f es) a)) (elsewhere-none a (f e) (apart e (not_at e t))) ∙ ih
-
   pub at-entries : (es : List (K × X)) → IsOrdered cmp es → fact_at (flat_map f es) a ≡ option_map_or (λ v. fact_at (f (q, v)) a) (value_at cmp es q) None
   at-entries [] s = fact_at-nil a
-  at-entries (e ∷ es) s = at_head e es (is_at (cmp q) e.0) refl s (at-entries es (sorted_tail cmp e.0 (keys_of es) s))
+  at-entries (e ∷ es) s =
+      let more = at-entries es (sorted_tail cmp e.0 (keys_of es) s) in
+      let both = fact_at-append (f e) (flat_map f es) a in
+      elim (cases_Bool (is_at (cmp q) e.0)) [
+        | inl t ↦
+            let here = same q e.0 ((Equal-is (cmp q e.0)).0 t) in
+            let none = rw (absent_past order e es q s t) at more in
+            rw (t, both, none, joined-none a (fact_at (f e) a)) (ap (λ k. fact_at (f (k, e.1)) a) (sym here))
+        | inr t ↦ rw (t, both, elsewhere-none a (f e) (apart e (not_at e t))) more
+      ]
 
   module _ (join : X → X → X) (P : X → Type 0) (keeps : (v w : X) → P v → P w → fact_at (f (q, join v w)) a ≡ joined a (fact_at (f (q, v)) a) (fact_at (f (q, w)) a)) where
     pub at-map_join : (es fs : List (K × X)) → IsOrdered cmp es → IsOrdered cmp fs → EachValue P es → EachValue P fs → fact_at (flat_map f (map_join cmp join es fs)) a ≡ joined a (fact_at (flat_map f es) a) (fact_at (flat_map f fs) a)
