@@ -221,9 +221,6 @@ module _ {n : ℕ} (m : List (Session × List (ObjectName × Object n))) (p : So
       let found = any-value session_total session_tells (SessionBeyond o) m p.ordered a in
       in_object s o found.0 found.1 found.2 found.3
 
-pub beyond-over : {n : ℕ} (s o : ℕ) (m : List (Session × List (ObjectName × Object n))) → SolidStore m → StoreBeyond s o m → Over (content m) s o n
-beyond-over s o m p b = beyond-over_at m p s o b
-
 -- ---- a join that the limits forbid passes them
 module _ {K X : Type 0} {cmp : K → K → Ordering} (order : IsTotalOrder cmp) (join : X → X → X) (limit : ℕ) (over : X → X → Type 0) (P B : X → Type 0) (beyond : (v w : X) → P v → P w → over v w → B (join v w)) where
   pub map_over-beyond : (es fs : List (K × X)) → IsOrdered cmp es → IsOrdered cmp fs → EachValue P es → EachValue P fs → MapOver cmp join limit over es fs → (limit < length (map_join cmp join es fs)) ⊎ AnyValue B (map_join cmp join es fs)
@@ -249,7 +246,7 @@ module _ {n : ℕ} where
   beyond-joined s o v w p q b =
       Over-below (content (store_join v w)) (content v ++ content w) s o n
       (Below-from_Same _ _ (content-join v w (ordered_store v p) (ordered_store w q)))
-      (beyond-over s o (store_join v w) (solid-join v w p q) b)
+      (beyond-over_at (store_join v w) (solid-join v w p q) s o b)
 
 -- ---- where a join may ask for memory, the other store has a fact at an address that is not held
 

@@ -91,9 +91,6 @@ pub few-wanted : (info : Information) (held : List (SymbolId × Cell (List ℕ))
 few-wanted info held gs e l =
     rw (e, runs-listed) (omega (arith, length-wanted info held (ids info)))
 
-pub are-runs : (ws : List Want) (gs : List Gap) → gs ≡ runs ws → AreRuns gs
-are-runs ws gs e = subst AreRuns (sym e) (runs-are ws)
-
 -- ---- the status of an object
 
 module _ (F : List Fact) (key : Key) (info : Information) (count : Wanted) (i : fact_at F (info_address key) ≡ Some (Info key info)) (c : IsCount count (wants F key info)) where
@@ -142,6 +139,3 @@ unfolding AreRuns
 first-gap g gs rest count all e r c =
     let s : AreRuns (g ∷ rest) = subst AreRuns e r in
     record { order = s.0; runs_are = s.2; counted = subst (λ (x : List Gap). Counts count all (flat_map listed x)) e c }
-
-pub last-gap : (gs : List Gap) (count : Wanted) (all : List Want) → gs ≡ [] → Counts count all (flat_map listed gs) → IsCount count all
-last-gap gs count all e c = counts-all count all (subst (λ (x : List Gap). Counts count all (flat_map listed x)) e c)

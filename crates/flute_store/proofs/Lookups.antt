@@ -17,17 +17,11 @@ Above p xs = AllByRecursion (λ x. symbol_id_cmp p x ≡ Less) xs
 abbrev pub Later : ℕ → List SymbolId → Type 0
 Later n xs = AllByRecursion (λ (x : SymbolId). n < x.sbn) xs
 
-below_is : (m n : ℕ) → m < n → nat_cmp m n ≡ Less
-below_is m n l = grind (arith, nat_tests)
-
-equal_is : (n : ℕ) → nat_cmp n n ≡ Equal
-equal_is n = grind (arith, nat_tests)
-
 pub sbn-less : (a b : SymbolId) → a.sbn < b.sbn → symbol_id_cmp a b ≡ Less
-sbn-less a b l = ap (λ o. ordering_then o (nat_cmp a.esi b.esi)) (below_is a.sbn b.sbn l)
+sbn-less a b l = grind (arith, nat_tests)
 
 pub esi-less : (n a b : ℕ) → a < b → symbol_id_cmp (symbol_id n a) (symbol_id n b) ≡ Less
-esi-less n a b l = ap (λ o. ordering_then o (nat_cmp a b)) (equal_is n) ∙ below_is a b l
+esi-less n a b l = grind (arith, nat_tests)
 
 pub above-before : (p q : SymbolId) (xs : List SymbolId) → symbol_id_cmp p q ≡ Less → Above q xs → Above p xs
 above-before p q [] l a = tt

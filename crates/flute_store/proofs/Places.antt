@@ -63,14 +63,11 @@ tells-next w (Some next) i = by_order (symbol_id_cmp next.0 (symbol_id w.sbn w.e
         subst (λ id. TellsAt w (Some next) (upcoming_wanted (want_length w.partition id next.1))) (sym h) (tells-wanted w (Some next) next.1 i (ap (λ id. Some (id, next.1)) h))
     by_order Greater e = (i, e)
 
-tells-at : (w : PartitionScan) (next : Next) → TellsAt w next (upcoming_at w next)
-unfolding upcoming_at
-tells-at w next =
-    by-place w.esi w.size w.begun (length (sizes w.partition)) (upcoming_next w.partition (symbol_id w.sbn w.esi) next)
-    (TellsAt w next) (tells-next w next) (λ e f. (e, f)) (λ e f. (e, f))
-
 pub told-at : (w : PartitionScan) (next : Next) (l : Upcoming) → upcoming_at w next ≡ l → TellsAt w next l
-told-at w next l h = subst (TellsAt w next) h (tells-at w next)
+unfolding upcoming_at
+told-at w next l h =
+    subst (TellsAt w next) h (by-place w.esi w.size w.begun (length (sizes w.partition)) _
+    (TellsAt w next) (tells-next w next) (λ e f. (e, f)) (λ e f. (e, f)))
 
 -- ---- where the next held symbol is
 
@@ -116,13 +113,12 @@ module _ (w : PartitionScan) (next : Next) (p : IsPlace w) where
   place-on NotHeld None e h s =
       record { blocks = p.blocks; begun = p.begun; within = (until-within e).1; longest = s; running = subst (EndsBefore w.sbn (until_at w next)) (sym (no-run w.run NotHeld tt h)) tt }
 
-  pub place-turn : (turn_of w next).1.size ≤ 65536 → IsPlace (turn_of w next).1
-  unfolding turn_of
-  place-turn s = place-on (upcoming_at w next) (ended_run w.run (upcoming_at w next)) refl refl s
-
   -- and a walk that a turn led to is
   pub placed : (answer : Option Turn) (x : PartitionScan) → (answer, x) ≡ turn_of w next → x.size ≤ 65536 → IsPlace x
-  placed answer x e s = subst IsPlace (sym (ap (λ (t : Option Turn × PartitionScan). t.1) e)) (place-turn (subst (λ (y : PartitionScan). y.size ≤ 65536) (ap (λ (t : Option Turn × PartitionScan). t.1) e) s))
+  unfolding turn_of
+  placed answer x e s =
+      let p = ap (λ (t : Option Turn × PartitionScan). t.1) e in
+      rw p (place-on (upcoming_at w next) (ended_run w.run (upcoming_at w next)) refl refl (rw p at s))
 
 -- ---- what a turn was
 

@@ -72,14 +72,11 @@ by-place esi size begun blocks l P i e b = elim (cases_Bool (esi == size)) [
   ])
 ]
 
-pub tells : (w : Walk) → Tells w (upcoming_of w)
-unfolding upcoming_of
-tells w =
-    by-place w.esi w.size w.begun (length (sizes w.partition)) (upcoming_held w.partition (here w) w.held) (Tells w)
-    (tells-held w w.held refl) (λ e f. (e, f)) (λ e f. (e, f))
-
 pub told : (w : Walk) (l : Upcoming) → upcoming_of w ≡ l → Tells w l
-told w l h = subst (Tells w) h (tells w)
+unfolding upcoming_of
+told w l h =
+    subst (Tells w) h (by-place w.esi w.size w.begun (length (sizes w.partition)) _ (Tells w)
+    (tells-held w w.held refl) (λ e f. (e, f)) (λ e f. (e, f)))
 
 -- ---- the symbols that are left
 

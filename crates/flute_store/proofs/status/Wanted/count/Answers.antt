@@ -1,5 +1,5 @@
 use Rattle.flute_store.proofs.Common.{flat_map, listed}
-use Rattle.flute_store.proofs.HowMany.{first-gap, last-gap, counts-few, counts-more, counts-none}
+use Rattle.flute_store.proofs.HowMany.{first-gap, counts-all, counts-few, counts-more, counts-none}
 use Rattle.flute_store.proofs.status.Wanted.count.Goals as goal
 
 pub add-requires-clause-order : goal.add-requires-clause-order
@@ -20,7 +20,7 @@ loop-gap-preserved c =
     (f.runs_are, counts-more c.in-Some.gap c.loop-gap.wanted c.add.new.self (flat_map listed c.args.gaps.gaps) (flat_map listed c.next.new.self.gaps) f.counted c.add.ensures)
 
 pub returns : goal.returns
-returns c = last-gap _ _ _ c.in_default.ensures.steps.0 c.loop-gap.invariant.1
+returns c = counts-all _ _ (rw c.in_default.ensures.steps.0 at c.loop-gap.invariant.1)
 
 pub loop-gap-init : goal.loop-gap-init
 loop-gap-init c = (c.requires.runs, counts-none _ _ c.none-wanted.ensures)

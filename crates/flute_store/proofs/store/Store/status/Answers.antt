@@ -1,10 +1,10 @@
 use Rattle.std.proofs.Common.{sym, subst}
 use Rattle.flute_store.specs.Status.{TellsStatus}
-use Rattle.flute_store.proofs.HowMany.{are-runs, few-wanted, store-status}
+use Rattle.flute_store.proofs.{Runs.{runs-are}, HowMany.{few-wanted, store-status}}
 use Rattle.flute_store.proofs.store.Store.status.Goals as goal
 
 pub count-wanted-requires-clause-runs : goal.count-wanted-requires-clause-runs
-count-wanted-requires-clause-runs g c = are-runs _ _ c.new.ensures.gaps
+count-wanted-requires-clause-runs g c = rw c.new.ensures.gaps (runs-are _)
 
 pub count-wanted-requires-clause-few : goal.count-wanted-requires-clause-few
 count-wanted-requires-clause-few g c = few-wanted _ _ _ c.new.ensures.gaps c.new.ensures.few
