@@ -58,13 +58,9 @@ first-above p (e ∷ es) s f =
     (l, above-before p e.0 (keys_of es) l (sorted-first e es s))
 
 -- what is known is not missing
-misfit : (b : Bool) → cond b None (Some Misfit) ≡ Some Missing → ⊥
-misfit true e = cc
-misfit false e = cc
-
 known-not_missing : (info : Information) (id : SymbolId) (c : Cell (List ℕ)) → IsKnown c → want_cell info id (Some c) ≡ Some Missing → ⊥
 known-not_missing info id Absent k e = k refl
-known-not_missing info id (One b) k e = misfit (fits info id (length b)) e
+known-not_missing info id (One b) k e = grind arith
 known-not_missing info id Conflict k e = cc
 
 first-known : (held : List Entry) (e : Entry) (es : List Entry) → held ≡ e ∷ es → EachValue IsKnown held → IsKnown e.1
@@ -145,18 +141,7 @@ gap-run w g p e h =
 -- ---- symbols that are not held
 
 pub greater-cases : (p q : SymbolId) → symbol_id_cmp p q ≡ Greater → (q.sbn < p.sbn) ⊎ ((p.sbn ≡ q.sbn) × (q.esi < p.esi))
-greater-cases p q h = by_block (nat_cmp p.sbn q.sbn) refl h
-  where
-    above : (m n : ℕ) → nat_cmp m n ≡ Greater → n < m
-    above m n e = grind (arith, nat_tests)
-
-    same : (m n : ℕ) → nat_cmp m n ≡ Equal → m ≡ n
-    same m n e = grind (arith, nat_tests)
-
-    by_block : (o : Ordering) → nat_cmp p.sbn q.sbn ≡ o → ordering_then o (nat_cmp p.esi q.esi) ≡ Greater → (q.sbn < p.sbn) ⊎ ((p.sbn ≡ q.sbn) × (q.esi < p.esi))
-    by_block Less e g = cc
-    by_block Equal e g = inr (same p.sbn q.sbn e, above p.esi q.esi g)
-    by_block Greater e g = inl (above p.sbn q.sbn e)
+greater-cases p q h = grind (arith, nat_tests)
 
 -- up to u nothing of the block is held, and u is its end or the first held symbol
 record Until (n a size u : ℕ) (held : List Entry) : Type 0 where

@@ -81,11 +81,7 @@ update-some (Some t) h = λ e. cc
 pub known-join : {T : Type 0} (eq : T → T → Bool) (c d : Cell T) → IsKnown c → IsKnown (cell_join eq c d)
 known-join eq Absent d h = absurd (h refl)
 known-join eq (One x) Absent h = h
-known-join eq (One x) (One y) h = known_choice (eq x y) x
-  where
-    known_choice : {T : Type 0} (b : Bool) (x : T) → IsKnown (cond b (One x) Conflict)
-    known_choice true x e = cc
-    known_choice false x e = cc
+known-join eq (One x) (One y) h = grind arith
 known-join eq (One x) Conflict h = λ e. cc
 known-join eq Conflict d h = h
 

@@ -118,7 +118,7 @@ module _ (w : PartitionScan) (next : Next) (p : IsPlace w) where
   unfolding turn_of
   placed answer x e s =
       let p = ap (λ (t : Option Turn × PartitionScan). t.1) e in
-      rw p (place-on (upcoming_at w next) (ended_run w.run (upcoming_at w next)) refl refl (rw p at s))
+      rw p (place-on _ _ refl refl (rw p at s))
 
 -- ---- what a turn was
 

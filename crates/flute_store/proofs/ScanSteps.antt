@@ -337,7 +337,7 @@ values-shown : (F : List Fact) (key : Key) (es more : List Entry) (xs : List Sym
     → held_bytes es xs ≡ flat_map (λ id. value_bytes (fact_at F (symbol_address key id))) xs
 unfolding held_bytes
 values-shown F key es more xs r e h =
-    let told = λ (id : SymbolId). sym (found-of key id (value_at symbol_id_cmp (shown key F) id)) ∙ ap value_bytes (sym (shown-at key id F r)) in
+    let told = λ (id : SymbolId). sym (ap value_bytes (shown-at key id F r) ∙ found-of key id (value_at symbol_id_cmp (shown key F) id)) in
     sym (held-same es more xs h) ∙ rw (← e) (λ i. flat_map (λ id. told id i) xs)
 
 -- the bytes are a first part of the object

@@ -43,8 +43,7 @@ none-filter_map f (y ∷ ys) e zero x l g = ap f (sym g) ∙ (none-filter_map_he
 none-filter_map f (y ∷ ys) e (suc k) x l g = none-filter_map f ys (none-filter_map_head (f y) (filter_map f ys) e).1 k x (omega arith) g
 
 map_none : (f : Reason → SymbolId × Reason) (o : Option Reason) → option_map f o ≡ None → o ≡ None
-map_none f None e = refl
-map_none f (Some r) e = cc
+map_none f o e = grind arith
 
 held-from : (F : List Fact) (key : Key) (info : Information) (id : SymbolId) (o : Option Fact) → fact_at F (symbol_address key id) ≡ o → want info id o ≡ None → IsHeld F key info id
 held-from F key info id (Some (Symbol k i b)) e w =
