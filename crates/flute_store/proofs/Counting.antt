@@ -33,10 +33,7 @@ module _ {K X : Type 0} (cmp : K → K → Ordering) (t : Tells (λ a b. is_eq (
 
   pub value_at-has : (es : List (K × X)) (k : K) (v : X) → value_at cmp es k ≡ Some v → is_key k es ≡ true
   value_at-has [] k v f = absurd (none-some v f)
-  value_at-has (e ∷ es) k v f = elim (cases_Bool (is_eq (cmp k e.0))) [
-    | inl b ↦ rw b
-    | inr b ↦ rw b (value_at-has es k v (rw b at f))
-  ]
+  value_at-has (e ∷ es) k v f = grind (arith, value_at-has es k v)
 
 -- ---- counting
 

@@ -111,10 +111,7 @@ module _ {K X : Type 0} {cmp : K → K → Ordering} (order : IsTotalOrder cmp) 
 
   -- what is looked up past the first entry
   pub later_value : (e : K × X) (es : List (K × X)) (k : K) (v : X) → IsOrdered cmp (e ∷ es) → value_at cmp es k ≡ Some v → value_at cmp (e ∷ es) k ≡ Some v
-  later_value e es k v s f = elim (cases_Bool (is_at (cmp k) e.0)) [
-    | inl b ↦ absurd (none-some v (sym (absent_past order e es k s b) ∙ f))
-    | inr b ↦ ap (λ c. cond c (Some e.1) (value_at cmp es k)) b ∙ f
-  ]
+  later_value e es k v s f = grind (arith, absent_past order e es k s)
 
   pub any-value : (B : X → Type 0) (es : List (K × X)) → IsOrdered cmp es → AnyValue B es → (k : K) × (v : X) × (value_at cmp es k ≡ Some v) × B v
   any-value B [] s a = absurd a
@@ -135,9 +132,7 @@ cell_stands key id (One b) h e = none-some (Symbol key id b) (sym e ∙ at-one_h
 cell_stands key id Conflict h e = none-some (SymbolConflict key id) (sym e ∙ at-one_here (SymbolConflict key id))
 
 known_or_absent : {T : Type 0} (c : Cell T) → (c ≡ Absent) ⊎ IsKnown c
-known_or_absent Absent = inl refl
-known_or_absent (One v) = inr (λ e. cc)
-known_or_absent Conflict = inr (λ e. cc)
+known_or_absent c = grind arith
 
 module _ {n : ℕ} (m : List (Session × List (ObjectName × Object n))) (p : SolidStore m) where
   pub ordered_session : (os : List (ObjectName × Object n)) → SolidSession os → OrderedSession os
@@ -255,9 +250,7 @@ from_address : (F G : List Fact) (a : Address) → fact_at G a ≢ None → fact
 from_address F G a h e = let f = a_fact G a h in (f.0, Contains-from G f.0 f.1, ap (fact_at F) f.2 ∙ e)
 
 has_value : {T : Type 0} (c : Cell T) → IsSome (one_value c) → IsKnown c
-has_value Absent h = λ e. cc
-has_value (One v) h = λ e. cc
-has_value Conflict h = λ e. cc
+has_value c h = grind arith
 
 module _ {n : ℕ} (m w : List (Session × List (ObjectName × Object n))) (p : SolidStore m) (q : SolidStore w) where
   module _ (s : Session) (os ws : List (ObjectName × Object n)) (f : value_at session_cmp m s ≡ Some os) (g : value_at session_cmp w s ≡ Some ws) where

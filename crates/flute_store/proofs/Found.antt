@@ -30,9 +30,7 @@ symbol-held key id (One b) = ap is_some (at-one_here (Symbol key id b))
 symbol-held key id Conflict = ap is_some (at-one_here (SymbolConflict key id))
 
 pub known-is : {T : Type 0} (c : Cell T) → IsKnown c → is_known c ≡ true
-known-is Absent h = absurd (h refl)
-known-is (One v) h = refl
-known-is Conflict h = refl
+known-is c h = grind arith
 
 module _ {n : ℕ} (s o : ℕ) (m : List (Session × List (ObjectName × Object n))) (p : IsStore s o m) where
   pub no_session : (a : Address) → value_at session_cmp m a.key.session ≡ None → is_some (fact_at (content m) a) ≡ false
@@ -101,9 +99,7 @@ symbol-cell key id (Some (One b)) = at-one_here (Symbol key id b)
 symbol-cell key id (Some Conflict) = at-one_here (SymbolConflict key id)
 
 pub known-fact : (key : Key) (id : SymbolId) (c : Cell (List ℕ)) → IsKnown c → symbol_fact key id (Some c) ≢ None
-known-fact key id Absent k e = k refl
-known-fact key id (One b) k e = cc
-known-fact key id Conflict k e = cc
+known-fact key id c k e = grind arith
 
 module _ {n : ℕ} (s o : ℕ) (m : List (Session × List (ObjectName × Object n))) (p : IsStore s o m) (key : Key) where
   pub unheard-session : value_at session_cmp m key.session ≡ None → IsUnheard (content m) key

@@ -33,10 +33,7 @@ abbrev entry : ℕ → Reason → ℕ → SymbolId × Reason
 entry n r i = (symbol_id n i, r)
 
 same_run : (g : Gap) (r : Reason) → ended_run (Some g) (Wanted r) ≡ None → g.reason ≡ r
-same_run g r h = elim (cases_Bool (same_reason g.reason r)) [
-  | inl t ↦ reason_same g.reason r t
-  | inr t ↦ absurd (none-some g (sym h ∙ ap (λ b. cond b None (Some g)) t))
-]
+same_run g r h = grind (arith, reason_same g.reason r)
 
 -- a run and the symbol behind it are the run with that
 run-more : (n i : ℕ) (r : Reason) (run : Option Gap) (ws : List (SymbolId × Reason)) → EndsBefore n i run → ended_run run (Wanted r) ≡ None → pending (Some (run_with n i r run)) ++ ws ≡ pending run ++ (entry n r i ∷ ws)
@@ -59,9 +56,7 @@ first-above p (e ∷ es) s f =
 
 -- what is known is not missing
 known-not_missing : (info : Information) (id : SymbolId) (c : Cell (List ℕ)) → IsKnown c → want_cell info id (Some c) ≡ Some Missing → ⊥
-known-not_missing info id Absent k e = k refl
-known-not_missing info id (One b) k e = grind arith
-known-not_missing info id Conflict k e = cc
+known-not_missing info id c k e = grind arith
 
 first-known : (held : List Entry) (e : Entry) (es : List Entry) → held ≡ e ∷ es → EachValue IsKnown held → IsKnown e.1
 first-known held e es h k = let a : EachValue IsKnown (e ∷ es) = subst (EachValue IsKnown) h k in a.0

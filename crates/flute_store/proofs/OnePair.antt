@@ -79,18 +79,10 @@ update-some None h = λ e. h refl
 update-some (Some t) h = λ e. cc
 
 pub known-join : {T : Type 0} (eq : T → T → Bool) (c d : Cell T) → IsKnown c → IsKnown (cell_join eq c d)
-known-join eq Absent d h = absurd (h refl)
-known-join eq (One x) Absent h = h
-known-join eq (One x) (One y) h = grind arith
-known-join eq (One x) Conflict h = λ e. cc
-known-join eq Conflict d h = h
+known-join eq c d h = grind arith
 
 pub absent-right : {T : Type 0} (eq : T → T → Bool) (c d : Cell T) → cell_join eq c d ≡ Absent → d ≡ Absent
-absent-right eq Absent d e = e
-absent-right eq (One x) d e = absurd (known-join eq (One x) d (λ e. cc) e)
-absent-right eq Conflict d e = cc
+absent-right eq c d e = grind arith
 
 pub known-update : (t : SymbolUpdate) → IsKnown (update_cell t)
-known-update (BorrowedUpdate bytes) = λ e. cc
-known-update (OwnedUpdate bytes) = λ e. cc
-known-update ConflictUpdate = λ e. cc
+known-update t = grind arith

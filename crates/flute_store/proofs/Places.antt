@@ -1,4 +1,5 @@
 -- Where the turns of a walk lead, whatever is held behind the next symbol.
+use Common.{nat_tests}
 use Rattle.std.proofs.Common.{◌≡◌, ◌≢◌, ℕ, ◌+◌, ◌-◌, ◌*◌, ◌<◌, ◌≤◌, ◌^◌, ◌⊎◌, Bool, true, false, cond, ◌&&◌, Option, Some, None, refl, sym, ap, ◌∙◌, subst, arith, inl, inr}
 use Rattle.{std.specs.Prelude.{nat_lt, length}, flute_store.proofs.Upcoming.{by-place}}
 use Rattle.flute_store.proofs.{GapSteps.{greater-cases, run-ends}, Turns.{run-is, no-run}}
@@ -73,14 +74,7 @@ told-at w next l h =
 
 until-beyond : (w : PartitionScan) (next : Next) → w.esi < w.size → IsAfter (symbol_id w.sbn w.esi) next → (w.esi < until_at w next) × (until_at w next ≤ w.size)
 until-beyond w None l a = (l, omega arith)
-until-beyond w (Some next) l a = elim (cases_Bool ((next.0.sbn == w.sbn) && nat_lt next.0.esi w.size)) [
-  | inl t ↦
-      let b = both (next.0.sbn == w.sbn) (nat_lt next.0.esi w.size) t in
-      let m = eqb-true next.0.sbn w.sbn b.0 in
-      let j = ltb-true next.0.esi w.size b.1 in
-      rw t (elim (greater-cases next.0 _ a) [ inl g ↦ absurd (omega (arith, g, m)) | inr g ↦ g.1 ], omega (arith, j))
-  | inr t ↦ rw t (l, omega arith)
-]
+until-beyond w (Some next) l a = grind (arith, nat_tests, greater-cases)
 
 module _ (w : PartitionScan) (next : Next) (p : IsPlace w) where
   inside : w.esi ≢ w.size → w.esi < w.size

@@ -14,9 +14,7 @@ use Common.{IsRising, tied_itself, keys_of, AllByRecursion, IsStrictlySortedBy, 
 use Common.{info_cell_facts, symbols_facts}
 
 cell_length : {T : Type 0} (told : T → Fact) (clash : Fact) (c : Cell T) → length (cell_facts told clash c) ≤ 1
-cell_length told clash Absent = omega arith
-cell_length told clash (One v) = omega arith
-cell_length told clash Conflict = omega arith
+cell_length told clash c = grind arith
 
 -- as many as the entries, times the most that one of them has
 module _ {K X : Type 0} (f : K × X → List Fact) (P : X → Type 0) (most : ℕ) (each : (e : K × X) → P e.1 → length (f e) ≤ most) where

@@ -10,15 +10,10 @@ abbrev Want : Type 0
 Want = SymbolId × Reason
 
 pub reason_same : (r s : Reason) → same_reason r s ≡ true → r ≡ s
-reason_same Missing Missing h = refl
-reason_same Conflicting Conflicting h = refl
-reason_same Misfit Misfit h = refl
-reason_same r s h = absurd (false≢true h)
+reason_same r s h = grind arith
 
 pub reason_itself : (r : Reason) → same_reason r r ≡ true
-reason_itself Missing = refl
-reason_itself Conflicting = refl
-reason_itself Misfit = refl
+reason_itself r = grind arith
 
 -- a gap that goes on in another stands before it in its block, for one reason
 pub goes_on-tells : (g h : Gap) → goes_on g h ≡ true
@@ -110,10 +105,7 @@ runs-unique (g ∷ gaps) s =
 
 -- a gap that differs from the one of w
 not-goes : (g h : Gap) → (g.sbn ≡ h.sbn → g.last + 1 ≡ h.first → g.reason ≡ h.reason → ⊥) → goes_on g h ≡ false
-not-goes g h n = elim (cases_Bool (goes_on g h)) [
-  | inl e ↦ let t = goes_on-tells g h e in absurd (n t.0 t.1 t.2)
-  | inr e ↦ e
-]
+not-goes g h n = grind (arith, goes_on-tells g h)
 
 apart-before : (g : Gap) (w : Want) (gaps : List Gap) → (w.0 ≡ symbol_id g.sbn (g.last + 1) → w.1 ≡ g.reason → ⊥) → IsApart g (before (one w) gaps)
 apart-before g (id, r) [] n = not-goes g (one (id, r)) (λ s f q. n (λ i. record { sbn = sym s i; esi = sym f i }) (sym q))

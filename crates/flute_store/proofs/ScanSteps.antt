@@ -28,8 +28,7 @@ use Rattle.flute_store.specs.declared.partition_scan.Upcoming.TheVariants as Upc
 -- ---- all facts, of which some were passed
 
 not-less : (a : Key) (p : Part) (key : Key) → a ≡ key → ordering_then (key_cmp a key) (part_cmp p InfoPart) ≡ Less → ⊥
-not-less a InfoPart key e h = let g = rw (e, equal_keys key) at h in cc
-not-less a (SymbolPart id) key e h = let g = rw (e, equal_keys key) at h in cc
+not-less a p key e h = grind (arith, equal_keys key)
 
 stands-before : (F G : List Fact) (g : Fact) (f : Fact) → StandAfter (address f) (F ++ (g ∷ G)) → address_cmp (address f) (address g) ≡ Less
 stands-before [] G g f s = s.0
@@ -313,8 +312,7 @@ runs-head id r ws = by_gaps (runs ws)
     ]
 
 here-is : (n : SymbolId × Option (Bor (List ℕ))) (here : SymbolId) (k : Option ℕ) → held_next (Some n) ≡ Some (here, k) → n.0 ≡ here
-here-is (id, None) here k e = ap (λ (p : SymbolId × Option ℕ). p.0) (same_Some (id, None) (here, k) e)
-here-is (id, Some b) here k e = ap (λ (p : SymbolId × Option ℕ). p.0) (same_Some (id, Some (length b.now)) (here, k) e)
+here-is n here k e = grind arith
 
 pub first-wanted : (o : ScanState) (s : Scanned) (n : SymbolId × Option (Bor (List ℕ))) (x : PartitionScan) (bytes : Option (List ℕ)) → Scans o (announced s (Some n)) → (Some Turn.Wanted, x) ≡ turn_of o.walk (held_next (Some n)) → IsPlace x
     → IfSome bytes (λ b. FitsSoFar (announced s (Some n)) o.walk b) → IfSome bytes (λ b. (F : List Fact) → Follows s (Some n) F → IsNotWhole F s.key n.0)

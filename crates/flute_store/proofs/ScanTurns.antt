@@ -55,10 +55,7 @@ take-symbols w l = ap (λ xs. xs ++ blocks_from w.partition w.begun) (block_from
 
 pub value-more : (es more : List Entry) (id : SymbolId) (c : Cell (List ℕ)) → value_at symbol_id_cmp es id ≡ Some c → value_at symbol_id_cmp (es ++ more) id ≡ Some c
 value-more [] more id c h = absurd (none-some c h)
-value-more (e ∷ es) more id c h = elim (cases_Bool (is_eq (symbol_id_cmp id e.0))) [
-  | inl t ↦ rw t (rw t at h)
-  | inr t ↦ rw t (value-more es more id c (rw t at h))
-]
+value-more (e ∷ es) more id c h = grind (arith, value-more es more id c)
 
 pub value-last : (es : List Entry) (e : Entry) → IsOrdered symbol_id_cmp (es ++ e ∷ []) → value_at symbol_id_cmp (es ++ e ∷ []) e.0 ≡ Some e.1
 value-last es e r = value_there symbol_id_total es e [] r

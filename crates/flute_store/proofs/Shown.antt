@@ -1,7 +1,7 @@
 -- What rising facts show of the symbols of an object.
 use Rattle.std.proofs.Common.{◌≡◌, ℕ, Bool, false, cond, List, [], ◌∷◌, ◌++◌, Some, refl, sym, ap, ◌∙◌, subst, inl, inr, append_assoc}
 use Rattle.flute_parts.proofs.Rising.{fact_at-after}
-use Rattle.flute_store.proofs.{StoreJoin.{not_symbol, same_id}, Lookups.{Entry, Above}}
+use Rattle.flute_store.proofs.{StoreJoin.{not_same, not_symbol, same_id}, Lookups.{Entry, Above}}
 use Rattle.flute_store.proofs.Common
 use Common.{AllByRecursion, IsStrictlySortedBy, keys_of, Equal, is_eq, ordering_then, Equal-is}
 use Common.{cases_Bool, false≢true, IsKnown, value_at, IsOrdered, EachValue, Cell, One, Conflict}
@@ -80,9 +80,6 @@ shown-ordered key (f ∷ F) r =
     (λ id c k e g. (above-shown key id F (subst (λ a. StandAfter a F) e r.0), rest))
 
 -- ---- and is what stands at the addresses
-
-not_same : (a b : Address) → (a ≡ b → ⊥) → same_address a b ≡ false
-not_same a b n = elim (cases_Bool (same_address a b)) [ inl t ↦ absurd (n (address_same a b t)) | inr t ↦ t ]
 
 pub shown-at : (key : Key) (id : SymbolId) (F : List Fact) → IsRising F → fact_at F (symbol_address key id) ≡ symbol_fact key id (value_at symbol_id_cmp (shown key F) id)
 unfolding shown

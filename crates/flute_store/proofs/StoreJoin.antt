@@ -1,6 +1,6 @@
 -- What facts come to at an address, and the content of the join of two stores.
 use Rattle.std.proofs.Common.{◌≡◌, List, [], ◌∷◌, ◌++◌, Bool, true, false, cond, Some, None, refl, sym, ap, ◌∙◌, subst, inl, inr}
-use Rattle.std.proofs.Common.{ℕ, append-nil, Option}
+use Rattle.std.proofs.Common.{ℕ, append-nil, Option, arith}
 use Rattle.{flute_join.proofs.Reading.{reading_at}, std.specs.Prelude.{bytes_eq, ◌&&◌}}
 use Rattle.flute_store.proofs.Common
 use Common.{AllByRecursion, flat_map, Ordering, Equal, is_eq, IsTotalOrder, Equal-is, tied_itself}
@@ -35,14 +35,14 @@ Apart a f = address f ≡ a → ⊥
 abbrev pub Elsewhere : Address → List Fact → Type 0
 Elsewhere a F = AllByRecursion (Apart a) F
 
+pub not_same : (a b : Address) → (a ≡ b → ⊥) → same_address a b ≡ false
+not_same a b n = elim (cases_Bool (same_address a b)) [ inl t ↦ absurd (n (address_same a b t)) | inr t ↦ t ]
+
 pub elsewhere-none : (a : Address) (F : List Fact) → Elsewhere a F → fact_at F a ≡ None
 elsewhere-none a [] h = fact_at-nil a
 elsewhere-none a (f ∷ F) h =
-    let apart : same_address (address f) a ≡ false = elim (cases_Bool (same_address (address f) a)) [
-      | inl e ↦ absurd (h.0 (address_same (address f) a e))
-      | inr e ↦ e
-    ] in
-    fact_at-append (f ∷ []) F a ∙ ap (λ x. joined a x (fact_at F a)) (at-one_elsewhere f a apart) ∙ elsewhere-none a F h.1
+    let apart = at-one_elsewhere f a (not_same (address f) a h.0) in
+    rw (fact_at-append (f ∷ []) F a, apart) (elsewhere-none a F h.1)
 
 pub each-append : {X : Type 0} (P : X → Type 0) (xs ys : List X) → AllByRecursion P xs → AllByRecursion P ys → AllByRecursion P (xs ++ ys)
 each-append P [] ys h k = k

@@ -16,13 +16,7 @@ use Common.{Turns, KeepsGaps, with_end, counted}
 
 -- the run that ends, if one does, is the run
 pub run-is : (run : Option Gap) (l : Upcoming) (g : Gap) → ended_run run l ≡ Some g → run ≡ Some g
-run-is None l g h = absurd (none-some g h)
-run-is (Some f) Passed g h = absurd (none-some g h)
-run-is (Some f) (Wanted r) g h = elim (cases_Bool (same_reason f.reason r)) [
-  | inl t ↦ absurd (none-some g (sym (ap (λ b. cond b None (Some f)) t) ∙ h))
-  | inr t ↦ sym (ap (λ b. cond b None (Some f)) t) ∙ h
-]
-run-is (Some f) l g h = h
+run-is run l g h = grind arith
 
 -- the end of a block, a fitting symbol and one that is not held end each run
 abbrev pub Ends : Upcoming → Type 0
@@ -37,9 +31,7 @@ no-run (Some f) (Wanted r) e h = absurd e
 no-run (Some f) l e h = absurd (none-some f (sym h))
 
 want-same : (info : Information) (id : SymbolId) (cell : Cell (List ℕ)) → IsKnown cell → want_length info id (length_of cell) ≡ want_cell info id (Some cell)
-want-same info id Absent k = absurd (k refl)
-want-same info id (One bytes) k = refl
-want-same info id Conflict k = refl
+want-same info id cell k = grind arith
 
 upcoming_next-same : (info : Information) (here : SymbolId) (held : List Entry) (next : Option (SymbolId × Option ℕ)) → EachValue IsKnown held → ShowsNext held next → upcoming_next info here next ≡ upcoming_held info here held
 upcoming_next-same info here held None k n = ap (upcoming_held info here) (sym n)

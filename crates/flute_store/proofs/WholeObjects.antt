@@ -34,8 +34,7 @@ filter_map-none f (x ∷ xs) h =
     ∙ filter_map-none f xs (λ y c. h y (suc c.0, omega (arith, c.1), c.2))
 
 none-filter_map_head : (o : Option (SymbolId × Reason)) (ys : List (SymbolId × Reason)) → cons_option o ys ≡ [] → (o ≡ None) × (ys ≡ [])
-none-filter_map_head None ys e = (refl, e)
-none-filter_map_head (Some y) ys e = cc
+none-filter_map_head o ys e = grind arith
 
 none-filter_map : (f : SymbolId → Option (SymbolId × Reason)) (xs : List SymbolId) → filter_map f xs ≡ [] → (k : ℕ) (x : SymbolId) → k < length xs → get_or xs k x ≡ x → f x ≡ None
 none-filter_map f [] e k x l g = absurd (omega arith)
@@ -53,12 +52,8 @@ held-from F key info id (Some (Symbol k i b)) e w =
     record {
       bytes = b;
       value = e ∙ (λ t. Some (Symbol (q t) (r t) b));
-      fitting = fits_or_misfit (fits info id (length b)) w;
+      fitting = grind arith;
     }
-  where
-    fits_or_misfit : (b : Bool) → cond b None (Some Misfit) ≡ None → b ≡ true
-    fits_or_misfit true h = refl
-    fits_or_misfit false h = cc
 held-from F key info id o e w = cc
 
 want-held : (F : List Fact) (key : Key) (info : Information) (id : SymbolId) → IsHeld F key info id → want info id (fact_at F (symbol_address key id)) ≡ None
