@@ -1,5 +1,5 @@
 -- What is read behind the first byte of an entry.
-use Rattle.flute_journal.proofs.Common.{Address, BodyIn, Bool, Consumes, Consumes-trans, Err, Fact, EntryHead, HeadIn, ReadsUpTo, HasRoom, IsBody, IsFact, IsFactIn, IsFaultOf, IsFaultUpTo, IsSized, IsWithin, Key, Kind, List, Ok, Option, Parses, ReadFault, Reads, ReadsEnd, Result, StaysWithin, SymbolId, SymbolIs, Version, [], ap, arith, at_place, body, body_fault, byte_of, cut_fault, end, end_fault, entry_in, err_from_is_err_and, false, head_bytes, head_size, front, header_fault, header_in, in_bytes, inr, length, length-append, length-bytes_high_first, next_fault, opening_fault, refl, subst, sym, or_failed, true, ℕ, ◌++◌, ◌<◌, ◌∙◌, ◌∷◌, ◌≡◌, ◌≤◌}
+use Rattle.flute_journal.proofs.Common.{Address, BodyIn, Bool, Consumes, Consumes-trans, Err, Fact, EntryHead, HeadIn, ReadsUpTo, HasRoom, IsBody, IsFact, IsFactIn, IsFaultOf, IsFaultUpTo, IsSized, IsWithin, Key, Kind, List, Ok, Option, Parses, ReadFault, Reads, ReadsEnd, Result, StaysWithin, SymbolId, SymbolIs, Version, [], ap, arith, at_place, body, body_fault, byte_of, cut_fault, end, end_fault, entry_in, err_from_is_err_and, false, head_bytes, head_size, header_fault, header_in, in_bytes, inr, length, length-append, length-bytes_high_first, next_fault, opening_fault, refl, subst, sym, or_failed, true, ℕ, ◌++◌, ◌<◌, ◌∙◌, ◌∷◌, ◌≡◌, ◌≤◌}
 use Rattle.flute_journal.specs.{declared.format.EntryHead.TheVariants.{Symbol}, Input.{Advances}}
 use Rattle.flute_journal.proofs.{ReadsUpTo.{fault-behind, fault_up_to, fault_up_to-behind, fault_found, parsed_reads}, Parts.{symbol_cut, symbol_within, body_comes, body_least, entry_within, entry_within-short, length-key_bytes}}
 

@@ -3,11 +3,12 @@ pub use Rattle.std.proofs.Common.{Bool, Err, IfErr, IfSome, IsTrue, List, MatchB
 pub use Rattle.flute_journal.specs.Advances.{AreNew, GoOnAt, GoesOnAt, StopAt, StopsIn}
 pub use Rattle.flute_journal.specs.Eithers.{either_behaviour}
 pub use Rattle.flute_journal.specs.Faults.{Before, Check, bytes_checks, cut, end_checks, entry_checks, first_fault, header_fault, id_checks, id_in, in_order, info_checks, info_in, is_after, is_key, is_kind, is_name, is_object, is_version, key_in, key_size, named_in, next_fault, object_in, opening_fault, rest_checks, version_fault, version_in}
-pub use Rattle.flute_journal.specs.Format.{body, end, entry, entry_in, front, front_in, header, header_in, id_bytes, info_bytes, key_bytes, fact_key, kind, magic, name_bytes, object_bytes, rest_bytes, sender_bytes, sender_size, spelling, spelling_in, counted_bytes, version_bytes, version_number}
-pub use Rattle.flute_journal.specs.Input.{Fails, FailsIf, ReadsUpTo, IsFaultOf, IsFaultUpTo, IsWithin, Reads, StaysWithin, failure, left_by, or_failed}
-pub use Rattle.flute_journal.specs.Journal.{AreEntries, Collects, HasRoom, IsByte, IsFact, IsFactIn, IsId, IsInfo, IsJournal, IsJournalWithin, IsKey, IsKeyIn, IsSymbol, Journal, JournalIn, OldJournal, Stops, before, behind, in_header, last_of}
+pub use Rattle.flute_journal.specs.Format.{body, end, entry, entry_in, without_end, without_end_in, header, header_in, id_bytes, info_bytes, key_bytes, fact_key, kind, magic, name_bytes, object_bytes, rest_bytes, sender_bytes, sender_size, spelling, spelling_in, counted_bytes, version_bytes, version_number}
+pub use Rattle.flute_journal.specs.Input.{Fails, FailsIf, ReadsUpTo, IsFaultOf, IsFaultUpTo, IsWithin, Reads, StaysWithin, left_by, or_failed}
+pub use Rattle.flute_journal.specs.Journal.{AreEntries, Collects, HasRoom, IsFactIn, IsJournal, IsJournalWithin, IsKeyIn, Journal, JournalIn, OldJournal, Stops, before, behind, in_header, last_of}
+pub use Rattle.flute_parts.specs.Ranges.{IsByte, IsFact, IsId, IsInfo, IsKey, IsSymbol}
 pub use Rattle.flute_journal.specs.JournalStreams.{FailsBy, FailsSince, IsJournalOfAll, ReadAt, ReadWhole, SameLoans, journal_behaviour, lent, lent_behaviour, room, unread_of}
-pub use Rattle.flute_journal.specs.JournalWriters.{PutsBytes, Written, times_failed}
+pub use Rattle.flute_journal.specs.JournalWriters.{PutsBytes, Written}
 pub use Rattle.flute_journal.specs.Leads.{IsBelowNext, Leads, NoneBefore, StandsAt, lower_next, lower_of}
 pub use Rattle.flute_journal.specs.Lowest.{IsLowest, IsNotBefore, Lowest}
 pub use Rattle.flute_journal.specs.Merges.{EndsBehind, FirstFails, KeepsUp, MergeGives, Merged, NamesFault, ReadsBehind, SecondFails, StopsShort, written_up_to}
@@ -31,7 +32,7 @@ pub use Rattle.flute_parts.proofs.Named.{Over-below}
 pub use Rattle.flute_parts.proofs.Rising.{StandAfter-before, fact_at-after, rising_unique}
 pub use Rattle.flute_parts.specs.Addresses.{address, fact_of, info_address, symbol_address}
 pub use Rattle.flute_parts.specs.BigEndian.{big_endian}
-pub use Rattle.flute_parts.specs.Devices.{AppendsPart}
+pub use Rattle.flute_parts.specs.Devices.{AppendsPart, times_failed}
 pub use Rattle.flute_parts.specs.Equality.{address_itself, address_same, fact_same}
 pub use Rattle.flute_parts.specs.Facts.{Below, IsRising, Same, SameMembers, StandAfter, conflict_at, conflict_in, fact_at, same_fact}
 pub use Rattle.flute_parts.specs.Information.{Information, info_fault}

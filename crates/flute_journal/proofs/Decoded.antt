@@ -1,5 +1,5 @@
 -- What the functions that decode come to, of plain bytes.
-use Rattle.flute_journal.proofs.Common.{Address, AllByRecursion, Bool, Err, EntryHead, HeadIn, HasRoom, Information, IsByte, IsId, IsKey, IsKeyIn, IsSplitAt, Key, Kind, List, None, Ok, One, Option, Parses, ReadFault, RestIs, Result, Some, StopsReading, SymbolId, Two, Version, [], ap, append-nil, append_assoc, arith, big_endian, body_fault, byte_of, bytes_checks, bytes_eq, bytes_eq-Decides, bytes_fault, cut, drop, err_from_is_err_and, false, head_bytes, head_size, front, header_fault, header_in, id_bytes, if◌then◌else◌, in_bytes, in_order, info_bytes, info_in, is_after, is_key, is_name, is_version, key_bytes, key_in, key_size, kind, length, length-append, length-drop, length-take-le, magic, named_in, nil_from_length, not, number_at, rest_checks, rest_fault, rest_size, subst, sym, symbol_address, take, take-append-drop, take_all, take_at, or_failed, true, version_bytes, version_fault, ℕ, ◌++◌, ◌-◌, ◌<◌, ◌^◌, ◌∙◌, ◌∷◌, ◌≡◌, ◌≤◌}
+use Rattle.flute_journal.proofs.Common.{Address, AllByRecursion, Bool, Err, EntryHead, HeadIn, HasRoom, Information, IsByte, IsId, IsKey, IsKeyIn, IsSplitAt, Key, Kind, List, None, Ok, One, Option, Parses, ReadFault, RestIs, Result, Some, StopsReading, SymbolId, Two, Version, [], ap, append-nil, append_assoc, arith, big_endian, body_fault, byte_of, bytes_checks, bytes_eq, bytes_eq-Decides, bytes_fault, cut, drop, err_from_is_err_and, false, head_bytes, head_size, header_fault, header_in, id_bytes, if◌then◌else◌, in_bytes, in_order, info_bytes, info_in, is_after, is_key, is_name, is_version, key_bytes, key_in, key_size, kind, length, length-append, length-drop, length-take-le, magic, named_in, nil_from_length, not, number_at, rest_checks, rest_fault, rest_size, subst, sym, symbol_address, take, take-append-drop, take_all, take_at, or_failed, true, version_bytes, version_fault, ℕ, ◌++◌, ◌-◌, ◌<◌, ◌^◌, ◌∙◌, ◌∷◌, ◌≡◌, ◌≤◌}
 use Rattle.std.proofs.Math.Seq.{take-append_seam}
 use Rattle.std.proofs.Common.{◌&&◌, ◌==◌, is_eq, is_lt, refl}
 use Rattle.std.specs.Ordering.{ordering_then}

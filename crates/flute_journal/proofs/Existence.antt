@@ -1,5 +1,5 @@
 -- What stands where bytes have no fault: they are a journal, or stop at one.
-use Rattle.flute_journal.proofs.Common.{Address, AllByRecursion, Bool, Fact, HasRoom, Info, InfoConflict, InfoFault, IsByte, IsFact, IsFactIn, IsId, IsJournalWithin, IsKey, IsKeyIn, IsRising, IsSymbol, IsTrue, Key, Kind, List, None, One, Option, ReadFault, Some, Stops, Symbol, SymbolConflict, Two, Version, [], address, ap, append_assoc, arith, at_place, before, behind, big_endian, body, body_fault, byte_of, bytes_eq, bytes_eq-Decides, cases_Bool, drop, drop-drop, end, end_checks, entry_checks, entry_in, eqb, eqb-false, eqb-true, false, first_fault, flat_map_more, front_in, header_fault, header_in, id_bytes, id_in, if◌then◌else◌, in_bytes, in_header, info_bytes, info_checks, info_fault, info_in, inl, inr, is_after, is_key, is_kind, is_name, is_version, key_bytes, key_in, fact_key, key_size, kind, last_of, leb, leb-false, leb-true, length, length-append, length-drop, length-take, length-take-le, ltb, ltb-false, ltb-true, magic, named_in, next_fault, none-some, not, number_at, opening_fault, pow-le-pow_right, refl, rest_bytes, rest_fault, subst, suc, sym, counted_bytes, take, take-append-drop, take_all, true, version_bytes, version_fault, version_in, zero, ℕ, ◌&&◌, ◌++◌, ◌<◌, ◌^◌, ◌∙◌, ◌∷◌, ◌≡◌, ◌≤◌, ◌⊎◌}
+use Rattle.flute_journal.proofs.Common.{Address, AllByRecursion, Bool, Fact, HasRoom, Info, InfoConflict, InfoFault, IsByte, IsFact, IsFactIn, IsId, IsJournalWithin, IsKey, IsKeyIn, IsRising, IsSymbol, IsTrue, Key, Kind, List, None, One, Option, ReadFault, Some, Stops, Symbol, SymbolConflict, Two, Version, [], address, ap, append_assoc, arith, at_place, before, behind, big_endian, body, body_fault, byte_of, bytes_eq, bytes_eq-Decides, cases_Bool, drop, drop-drop, end, end_checks, entry_checks, entry_in, eqb, eqb-false, eqb-true, false, first_fault, flat_map_more, without_end_in, header_fault, header_in, id_bytes, id_in, if◌then◌else◌, in_bytes, in_header, info_bytes, info_checks, info_fault, info_in, inl, inr, is_after, is_key, is_kind, is_name, is_version, key_bytes, key_in, fact_key, key_size, kind, last_of, leb, leb-false, leb-true, length, length-append, length-drop, length-take, length-take-le, ltb, ltb-false, ltb-true, magic, named_in, next_fault, none-some, not, number_at, opening_fault, pow-le-pow_right, refl, rest_bytes, rest_fault, subst, suc, sym, counted_bytes, take, take-append-drop, take_all, true, version_bytes, version_fault, version_in, zero, ℕ, ◌&&◌, ◌++◌, ◌<◌, ◌^◌, ◌∙◌, ◌∷◌, ◌≡◌, ◌≤◌, ◌⊎◌}
 use Rattle.flute_journal.proofs.{Each.{all_more, all_split}, Numbers.{octets-drop, number-below, octets-take, spelled, spelled_pair}, MergeRising.{Rises, rising-rises, rises-rising}, Parts.{entry_least, body_comes, key_spelled, info_spelled}}
 use Rattle.std.proofs.Common.{◌||◌}
 use Rattle.flute_journal.specs.Format.{sender_size}
@@ -103,7 +103,7 @@ rest_found last kinds.Info key r kv oct e =
       kind_is = refl;
       key_is = refl;
       bytes_are = split_at 12 r (info_bytes (info_in front)) (info_spelled front (front_length 12 r b.0) oct');
-      valid = (kv, (omega (arith, below_at 6 2 front oct'), omega (arith, below_at 8 4 front oct'), none_info (info_fault (info_in front)) b.1));
+      valid = (kv, ((omega (arith, below_at 6 2 front oct'), omega (arith, below_at 8 4 front oct')), none_info (info_fault (info_in front)) b.1));
       in_order = is_true _ a.0;
     }
 rest_found last kinds.InfoConflict key r kv oct e =
@@ -265,7 +265,7 @@ record Begins (v : Version) (limit : ℕ) (bytes : List ℕ) (es : List Fact) (r
   valid : AllByRecursion (IsFactIn v) es
   rising : IsRising es
   few : length es ≤ limit
-  whole : bytes ≡ front_in v es ++ rest
+  whole : bytes ≡ without_end_in v es ++ rest
 
 -- what is decided of the bytes behind one entry more
 abbrev Again : Version → ℕ → List ℕ → List Fact → List ℕ → Type 0
@@ -274,15 +274,15 @@ Again v limit bytes es rest = (f : Fact) (more : List ℕ) → length more < len
 goes_on : (v : Version) (limit : ℕ) (bytes : List ℕ) (es : List Fact) (rest : List ℕ) → Again v limit bytes es rest → Begins v limit bytes es rest
     → Next limit (length es) v (last_of None es) rest → Decided limit bytes
 goes_on v limit bytes es rest again b (at_end is) =
-    inl (es, record { are_entries = record { version = v; valid = b.valid; rising = b.rising; few = b.few }; bytes_are = b.whole ∙ ap (λ (x : List ℕ). front_in v es ++ x) is })
+    inl (es, record { are_entries = record { version = v; valid = b.valid; rising = b.rising; few = b.few }; bytes_are = b.whole ∙ ap (λ (x : List ℕ). without_end_in v es ++ x) is })
 goes_on v limit bytes es rest again b (at_entry f more is p o few) =
     again f more (omega (arith, entry_least v f p, length-append (entry_in v f) more, ap length is)) (record {
       octets = (all_split IsByte (entry_in v f) more (subst (AllByRecursion IsByte) is b.octets)).1;
       valid = all_more (IsFactIn v) es f b.valid p;
       rising = rising_more es f b.rising o;
       few = omega (arith, few, length-append es (f ∷ []));
-      whole = b.whole ∙ ap (λ (x : List ℕ). front_in v es ++ x) is
-          ∙ sym (append_assoc (front_in v es) (entry_in v f) more)
+      whole = b.whole ∙ ap (λ (x : List ℕ). without_end_in v es ++ x) is
+          ∙ sym (append_assoc (without_end_in v es) (entry_in v f) more)
           ∙ ap (λ (x : List ℕ). x ++ more) (flat_map_more (entry_in v) (header_in v) es f);
     })
 

@@ -1,5 +1,5 @@
 -- What the calls of a reader of datagrams come to.
-use Rattle.flute_journal.proofs.Common.{Bool, Consumes, Consumes-trans, Err, FileState, GivesOfFile, IfErr, IsDatagram, IsFaultOf, IsFileFault, List, None, Ok, Option, Parses, ReadFault, ReadsFileFrom, ReadsRecord, Records, Result, Some, StaysWithin, StopsReading, [], ap, arith, bytes_eq, cut, drop, false, file_fault_from, file_header, file_state_after, first_fault, front, given, in_record, inr, left_by, not, opening_fault, or_else, record_fault, record_of, refl, rules, subst, take, or_failed, true, ℕ, ◌++◌, ◌∷◌, ◌≡◌}
+use Rattle.flute_journal.proofs.Common.{Bool, Consumes, Consumes-trans, Err, FileState, GivesOfFile, IfErr, IsDatagram, IsFaultOf, IsFileFault, List, None, Ok, Option, Parses, ReadFault, ReadsFileFrom, ReadsRecord, Records, Result, Some, StaysWithin, StopsReading, [], ap, arith, bytes_eq, cut, drop, false, file_fault_from, file_header, file_state_after, first_fault, given, in_record, inr, left_by, not, opening_fault, or_else, record_fault, record_of, refl, rules, subst, take, or_failed, true, ℕ, ◌++◌, ◌∷◌, ◌≡◌}
 use Rattle.flute_journal.specs.declared.fault.ReadFault.TheVariants as faults
 use Rattle.flute_journal.specs.{declared.datagram_reader.FileState.TheVariants.{Header}, Input.{Advances}, Records.{is_file_open, in_opening}}
 use Rattle.flute_journal.proofs.{Calls.{fault-first}, ReadsUpTo.{fault_up_to, fault_up_to-behind}, Files.{file_header_passes}}

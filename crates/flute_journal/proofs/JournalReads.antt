@@ -1,5 +1,5 @@
 -- A journal that is read on is a stream that goes on.
-use Rattle.flute_journal.proofs.Common.{AreEntries, BeginsWith, Behaviour, Bool, Consumes, Consumes-kept, Consumes-whole, Continues, Ended, Entries, Err, Fact, Failed, FailsIf, FailsSince, Gives, GivesEnd, GivesFault, GoesOn, HasFault, Header, IfSome, IsFactIn, IsJournalOfAll, IsJournalWithin, IsRising, IsSized, IsTrue, Keeps, LentStream, List, LoadFault, None, Ok, Option, ReadAt, ReadFault, ReadWhole, ReadsBehind, SameLoans, Sofar, Some, ReaderState, StopsAt, [], ap, append-nil, arith, count_at, end, false, front_in, inl, inr, is_open, journal_behaviour, length, lent, lent_behaviour, limit_of, option_list, refl, room, source_of, spelling_in, state_of, subst, sym, true, unread_of, ℕ, ◌++◌, ◌+◌, ◌-◌, ◌∙◌, ◌∷◌, ◌≡◌, ◌≤◌}
+use Rattle.flute_journal.proofs.Common.{AreEntries, BeginsWith, Behaviour, Bool, Consumes, Consumes-kept, Consumes-whole, Continues, Ended, Entries, Err, Fact, Failed, FailsIf, FailsSince, Gives, GivesEnd, GivesFault, GoesOn, HasFault, Header, IfSome, IsFactIn, IsJournalOfAll, IsJournalWithin, IsRising, IsSized, IsTrue, Keeps, LentStream, List, LoadFault, None, Ok, Option, ReadAt, ReadFault, ReadWhole, ReadsBehind, SameLoans, Sofar, Some, ReaderState, StopsAt, [], ap, append-nil, arith, count_at, end, false, without_end_in, inl, inr, is_open, journal_behaviour, length, lent, lent_behaviour, limit_of, option_list, refl, room, source_of, spelling_in, state_of, subst, sym, true, unread_of, ℕ, ◌++◌, ◌+◌, ◌-◌, ◌∙◌, ◌∷◌, ◌≡◌, ◌≤◌}
 use Rattle.flute_journal.proofs.{Whole.{ahead-sofar, AtEnd, side-from, open_behind, reads-side, reads-sofar, reads-fault, sofar-fault, read_some}, Each.{all_split}, Bodies.{fact_sized}, MergeBytes.{spelling-injective}}
 use Rattle.flute_journal.specs.declared.fault.LoadFault.TheVariants as load
 use Rattle.flute_journal.specs.declared.journal_stream.JournalStream.{JournalStream}
@@ -84,7 +84,7 @@ known_of limit u w state F (Some f) r K k =
 known_of limit u w state F None r K k =
     record { rest = []; is = only_entries limit u F K r.0.whole k ∙ sym (append-nil F) ∙ sym (append-nil (F ++ [])); rising = k.rising; ended = λ e. refl }
 
-begins_read : (limit : ℕ) (u w : Option (List ℕ)) (es : List Fact) → (a : AreEntries limit es) → Consumes u w (front_in a.version es) → IfSome u (λ bytes. BeginsWith limit bytes es)
+begins_read : (limit : ℕ) (u w : Option (List ℕ)) (es : List Fact) → (a : AreEntries limit es) → Consumes u w (without_end_in a.version es) → IfSome u (λ bytes. BeginsWith limit bytes es)
 begins_read limit None w es a h = tt
 begins_read limit (Some x) None es a h = absurd h
 begins_read limit (Some x) (Some z) es a h = record { are_entries = a; rest = z; whole = h }

@@ -1,5 +1,5 @@
 -- A store that is read entry by entry.
-use Rattle.flute_journal.proofs.Common.{AreEntries, BeginsOver, Below-from_Same, Bool, Consumes, Consumes-whole, Err, Fact, FailsIf, FailsToLoad, Gives, GivesEntry, GivesFault, Header, IfSome, IsAtEnd, IsJournalOf, IsLoadFault, List, MatchBool, None, Ok, Option, Over, Over-below, Read, ReadFault, ReadsPart, Same, Same-append, Same-itself, Same-sym, Same-trans, Sofar, Some, ReaderState, [], append-nil, arith, behind, count_at, end, err_from_is_err_and, front_in, given, is_open, more_objects, more_sessions, more_symbols, refl, refused, session, spelling_in, subst, sym, ℕ, ◌++◌, ◌∙◌, ◌∷◌, ◌≡◌}
+use Rattle.flute_journal.proofs.Common.{AreEntries, BeginsOver, Below-from_Same, Bool, Consumes, Consumes-whole, Err, Fact, FailsIf, FailsToLoad, Gives, GivesEntry, GivesFault, Header, IfSome, IsAtEnd, IsJournalOf, IsLoadFault, List, MatchBool, None, Ok, Option, Over, Over-below, Read, ReadFault, ReadsPart, Same, Same-append, Same-itself, Same-sym, Same-trans, Sofar, Some, ReaderState, [], append-nil, arith, behind, count_at, end, err_from_is_err_and, without_end_in, given, is_open, more_objects, more_sessions, more_symbols, refl, refused, session, spelling_in, subst, sym, ℕ, ◌++◌, ◌∙◌, ◌∷◌, ◌≡◌}
 use Rattle.flute_join.specs.declared.refusal.JoinRefusal.{JoinRefusal}
 use Rattle.flute_join.specs.declared.refusal.JoinRefusal.TheVariants as join
 use Rattle.flute_journal.specs.Whole.{behind}
@@ -47,7 +47,7 @@ loaded-next s o y limit u v w old new F G f l h same fits =
 pub loaded-fits : (s o y limit : ℕ) (u v : Option (List ℕ)) (state : ReaderState) (F : List Fact) → Loaded s o y limit u v state F → Over F s o y → ⊥
 loaded-fits s o y limit u v state F l over = l.fits (over-same F l.entries s o y l.same over)
 
-begins-over : (s o y limit : ℕ) (u w : Option (List ℕ)) (es : List Fact) (f : Fact) → (a : AreEntries limit (es ++ f ∷ [])) → Consumes u w (front_in a.version (es ++ f ∷ []))
+begins-over : (s o y limit : ℕ) (u w : Option (List ℕ)) (es : List Fact) (f : Fact) → (a : AreEntries limit (es ++ f ∷ [])) → Consumes u w (without_end_in a.version (es ++ f ∷ []))
     → Over (es ++ f ∷ []) s o y → IfSome u (BeginsOver s o y limit)
 begins-over s o y limit None w es f a h over = tt
 begins-over s o y limit (Some x) None es f a h over = absurd h
@@ -129,7 +129,7 @@ refused-part s o y limit bound u v w old new F given f l b e h =
     let next = sofar-next limit u v w old new l.entries f l.sofar (given-entry limit bound v w old new given f b e h) in (
       es,
       behind next.are_entries []
-          (subst (Consumes u w) (read_some next.are_entries.version l.entries f ∙ sym (append-nil (front_in next.are_entries.version es))) next.read)
+          (subst (Consumes u w) (read_some next.are_entries.version l.entries f ∙ sym (append-nil (without_end_in next.are_entries.version es))) next.read)
           (within_nil next.are_entries.version),
     )
 

@@ -1,29 +1,29 @@
 -- Whole entries at the head of a journal.
-use Rattle.flute_journal.proofs.{Common.{AllByRecursion, Collects, Fact, IsFact, IsFactIn, IsWithin, IsJournal, Journal, JournalIn, List, One, Same, Two, Version, [], ap, append-nil, append_assoc, end, entry, entry_in, fact_at, flat_map, flat_map_more, front, front_in, header, header_in, in_bytes, length, refl, spelling, spelling_in, subst, sym, written_up_to, ℕ, ◌++◌, ◌<◌, ◌^◌, ◌∙◌, ◌∷◌, ◌≡◌}, Sequences.{GoesOn, begins}}
+use Rattle.flute_journal.proofs.{Common.{AllByRecursion, Collects, Fact, IsFact, IsFactIn, IsWithin, IsJournal, Journal, JournalIn, List, One, Same, Two, Version, [], ap, append-nil, append_assoc, end, entry, entry_in, fact_at, flat_map, flat_map_more, without_end, without_end_in, header, header_in, in_bytes, length, refl, spelling, spelling_in, subst, sym, written_up_to, ℕ, ◌++◌, ◌<◌, ◌^◌, ◌∙◌, ◌∷◌, ◌≡◌}, Sequences.{GoesOn, begins}}
 use Rattle.std.proofs.{lemmas.List.{append_cancel_left}, lemmas.List.Concat.{flat_map-append}}
 use Rattle.flute_journal.proofs.Entries.{entry_injective, not_end, header-injective, facts_two}
 
-pub front-append : (es fs : List Fact) → front (es ++ fs) ≡ front es ++ flat_map entry fs
-front-append es fs = ap (λ (x : List ℕ). header ++ x) (flat_map-append entry es fs) ∙ sym (append_assoc header (flat_map entry es) (flat_map entry fs))
+pub without_end-append : (es fs : List Fact) → without_end (es ++ fs) ≡ without_end es ++ flat_map entry fs
+without_end-append es fs = ap (λ (x : List ℕ). header ++ x) (flat_map-append entry es fs) ∙ sym (append_assoc header (flat_map entry es) (flat_map entry fs))
 
-pub front_in-snoc : (v : Version) (es : List Fact) (f : Fact) → front_in v es ++ entry_in v f ≡ front_in v (es ++ f ∷ [])
-front_in-snoc v es f = flat_map_more (entry_in v) (header_in v) es f
+pub without_end_in-snoc : (v : Version) (es : List Fact) (f : Fact) → without_end_in v es ++ entry_in v f ≡ without_end_in v (es ++ f ∷ [])
+without_end_in-snoc v es f = flat_map_more (entry_in v) (header_in v) es f
 
-pub front-snoc : (es : List Fact) (f : Fact) → front es ++ entry f ≡ front (es ++ f ∷ [])
-front-snoc es f = front_in-snoc Two es f
+pub without_end-snoc : (es : List Fact) (f : Fact) → without_end es ++ entry f ≡ without_end (es ++ f ∷ [])
+without_end-snoc es f = without_end_in-snoc Two es f
 
-pub written-begins : (es : List Fact) (part : List ℕ) → (rest : List ℕ) × (front es ++ part ≡ written_up_to es ++ rest)
+pub written-begins : (es : List Fact) (part : List ℕ) → (rest : List ℕ) × (without_end es ++ part ≡ written_up_to es ++ rest)
 written-begins [] part = (header ++ part, refl)
 written-begins (e ∷ es) part = (part, refl)
 
-pub written-snoc : (es : List Fact) (f : Fact) → front (es ++ f ∷ []) ≡ written_up_to (es ++ f ∷ [])
+pub written-snoc : (es : List Fact) (f : Fact) → without_end (es ++ f ∷ []) ≡ written_up_to (es ++ f ∷ [])
 written-snoc [] f = refl
 written-snoc (e ∷ es) f = refl
 
 -- Two journals that begin alike are of one version, and the entries of one are the first of the other, where that ends behind its own.
-pub fronts : (v w : Version) (fs es : List Fact) (x t : List ℕ) → AllByRecursion (IsFactIn v) fs → AllByRecursion (IsFactIn w) es → ((f : Fact) (y : List ℕ) → t ≡ entry_in v f ++ y → ⊥)
-    → front_in v fs ++ x ≡ front_in w es ++ t → (v ≡ w) × GoesOn (entry_in v) fs es x t
-fronts v w fs es x t p q none e =
+pub without_end-both : (v w : Version) (fs es : List Fact) (x t : List ℕ) → AllByRecursion (IsFactIn v) fs → AllByRecursion (IsFactIn w) es → ((f : Fact) (y : List ℕ) → t ≡ entry_in v f ++ y → ⊥)
+    → without_end_in v fs ++ x ≡ without_end_in w es ++ t → (v ≡ w) × GoesOn (entry_in v) fs es x t
+without_end-both v w fs es x t p q none e =
     let h = header-injective v w (flat_map (entry_in v) fs ++ x) (flat_map (entry_in w) es ++ t)
     (sym (append_assoc (header_in v) (flat_map (entry_in v) fs) x) ∙ e ∙ append_assoc (header_in w) (flat_map (entry_in w) es) t) in (
       h.0,
@@ -31,10 +31,10 @@ fronts v w fs es x t p q none e =
           (subst (λ (z : Version). flat_map (entry_in v) fs ++ x ≡ flat_map (entry_in z) es ++ t) (sym h.0) h.1),
     )
 
-pub front-of_spelling : (v w : Version) (fs es : List Fact) (x y : List ℕ) → AllByRecursion (IsFactIn v) fs → AllByRecursion (IsFactIn w) es
-    → front_in v fs ++ x ≡ spelling_in w es ++ y → (v ≡ w) × GoesOn (entry_in v) fs es x (end (length es) ++ y)
-front-of_spelling v w fs es x y p q e =
-    fronts v w fs es x (end (length es) ++ y) p q (λ f z. not_end v f (in_bytes 8 (length es) ++ y) z) (e ∙ append_assoc (front_in w es) (end (length es)) y)
+pub without_end-of_spelling : (v w : Version) (fs es : List Fact) (x y : List ℕ) → AllByRecursion (IsFactIn v) fs → AllByRecursion (IsFactIn w) es
+    → without_end_in v fs ++ x ≡ spelling_in w es ++ y → (v ≡ w) × GoesOn (entry_in v) fs es x (end (length es) ++ y)
+without_end-of_spelling v w fs es x y p q e =
+    without_end-both v w fs es x (end (length es) ++ y) p q (λ f z. not_end v f (in_bytes 8 (length es) ++ y) z) (e ∙ append_assoc (without_end_in w es) (end (length es)) y)
 
 by_rest : (v : Version) (fs es rest : List Fact) (x y : List ℕ) → es ≡ fs ++ rest → end (length fs) ++ x ≡ flat_map (entry_in v) rest ++ (end (length es) ++ y) → es ≡ fs
 by_rest v fs es [] x y s t = s ∙ append-nil fs
@@ -45,7 +45,7 @@ by_rest v fs es (f ∷ rest) x y s t =
 pub spelling-injective : (v w : Version) (fs es : List Fact) (x y : List ℕ) → AllByRecursion (IsFactIn v) fs → AllByRecursion (IsFactIn w) es → spelling_in v fs ++ x ≡ spelling_in w es ++ y
     → (v ≡ w) × (es ≡ fs) × (x ≡ y)
 spelling-injective v w fs es x y p q e =
-    let r = front-of_spelling v w fs es (end (length fs) ++ x) y p q (sym (append_assoc (front_in v fs) (end (length fs)) x) ∙ e) in
+    let r = without_end-of_spelling v w fs es (end (length fs) ++ x) y p q (sym (append_assoc (without_end_in v fs) (end (length fs)) x) ∙ e) in
     let one = by_rest v fs es r.1.more x y r.1.items r.1.bytes in
     (r.0, one, append_cancel_left (spelling_in v fs) x y (e ∙ (λ i. spelling_in (sym r.0 i) (one i) ++ y)))
 
@@ -87,10 +87,10 @@ end_some : (n : ℕ) (y : List ℕ) → [] ≡ end n ++ y → ⊥
 end_some n y e = cc
 
 -- whole entries and a part of the next are no journal
-pub no_end : (M : List Fact) (bs more : List ℕ) → AllByRecursion IsFact M → bs ++ more ≡ front M → (facts : List Fact) → IsJournal bs facts → ⊥
+pub no_end : (M : List Fact) (bs more : List ℕ) → AllByRecursion IsFact M → bs ++ more ≡ without_end M → (facts : List Fact) → IsJournal bs facts → ⊥
 no_end M bs more all e facts (v, journal) =
     let j = journal_parts v bs facts journal in
-    let f = front-of_spelling Two v M j.entries [] more (facts_two M all) j.valid (append-nil (front M) ∙ sym e ∙ ap (λ (x : List ℕ). x ++ more) j.bytes_are) in
+    let f = without_end-of_spelling Two v M j.entries [] more (facts_two M all) j.valid (append-nil (without_end M) ∙ sym e ∙ ap (λ (x : List ℕ). x ++ more) j.bytes_are) in
     end_some (length j.entries) more (right_nil (flat_map entry f.1.more) (end (length j.entries) ++ more) f.1.bytes)
 
 -- nor are they and a part of the end

@@ -1,6 +1,6 @@
 -- What was spelled has no fault, and where bytes that begin like a journal stop.
-use Rattle.flute_journal.proofs.Common.{Address, AllByRecursion, Before, Below, Fact, Info, InfoConflict, Information, IsFact, IsFactIn, IsInfo, IsRising, IsSymbol, JournalIn, Kind, List, None, Option, ReadFault, Same, Same-append, Same-itself, Same-twice, Some, Stops, Symbol, SymbolConflict, Version, [], address, ap, append_assoc, arith, at_place, before, behind, byte_of, bytes_fault, end, entry_in, flat_map, front, front_in, header_fault, header_in, id_bytes, in_bytes, in_header, info_address, info_bytes, info_in, is_after, key_bytes, fact_key, last_of, length, length-append, next_fault, none-some, refl, rest_bytes, rest_fault, same_Some, spelling_in, subst, sym, symbol_address, counted_bytes, true, ℕ, ◌++◌, ◌<◌, ◌^◌, ◌∙◌, ◌∷◌, ◌≡◌, ◌≤◌}
-use Rattle.flute_journal.proofs.{Sequences.{one_stop, stop_at_bound}, MergeBytes.{fronts, journal_parts}, Each.{all_split}, Numbers.{number-in_bytes}, MergeRising.{Rises, rising-rises}, Entries.{length_fits, entry_injective, not_end, header-injective}}
+use Rattle.flute_journal.proofs.Common.{Address, AllByRecursion, Before, Below, Fact, Info, InfoConflict, Information, IsFact, IsFactIn, IsInfo, IsRising, IsSymbol, JournalIn, Kind, List, None, Option, ReadFault, Same, Same-append, Same-itself, Same-twice, Some, Stops, Symbol, SymbolConflict, Version, [], address, ap, append_assoc, arith, at_place, before, behind, byte_of, bytes_fault, end, entry_in, flat_map, without_end_in, header_fault, header_in, id_bytes, in_bytes, in_header, info_address, info_bytes, info_in, is_after, key_bytes, fact_key, last_of, length, length-append, next_fault, none-some, refl, rest_bytes, rest_fault, same_Some, spelling_in, subst, sym, symbol_address, counted_bytes, true, ℕ, ◌++◌, ◌<◌, ◌^◌, ◌∙◌, ◌∷◌, ◌≡◌, ◌≤◌}
+use Rattle.flute_journal.proofs.{Sequences.{one_stop, stop_at_bound}, MergeBytes.{without_end-both, journal_parts}, Each.{all_split}, Numbers.{number-in_bytes}, MergeRising.{Rises, rising-rises}, Entries.{length_fits, entry_injective, not_end, header-injective}}
 use Rattle.flute_journal.specs.declared.format.Kind.TheVariants as kinds
 use Rattle.flute_journal.specs.declared.fault.ReadFault.TheVariants as faults
 use Rattle.flute_journal.proofs.Parts.{id_comes, order_passes, symbol_comes, entry_comes, too_many, end_counts, header_passes, key_valid, first-pass, cut-passes, info_passes, length_passes}
@@ -54,7 +54,7 @@ pass_all : (v : Version) (limit : ℕ) (es : List Fact) → AllByRecursion (IsFa
 pass_all v limit es p q few front x xs r e = pass v limit es p q front x xs r e (omega (arith, few, ap length e, length-append front (x ∷ xs)))
 
 -- bytes that begin with a header are not at fault there
-pub not_in_header : (v : Version) (bytes : List ℕ) (es : List Fact) (rest : List ℕ) (f : ReadFault) → bytes ≡ front_in v es ++ rest → header_fault bytes ≡ Some f → ⊥
+pub not_in_header : (v : Version) (bytes : List ℕ) (es : List Fact) (rest : List ℕ) (f : ReadFault) → bytes ≡ without_end_in v es ++ rest → header_fault bytes ≡ Some f → ⊥
 not_in_header v bytes es rest f e h =
     let all = flat_map (entry_in v) es ++ rest in
     none-some f (sym (header_passes v all) ∙ ap header_fault (sym (e ∙ append_assoc (header_in v) (flat_map (entry_in v) es) rest)) ∙ h)
@@ -66,7 +66,7 @@ beyond v limit es fs bytes f p q small e (in_header none h) = absurd (not_in_hea
 beyond v limit es fs bytes f p q small e (behind s) =
     let w = s.are_entries.version in
     let n = length es in
-    let b = fronts w v fs es s.rest (end n) s.are_entries.valid p (λ x y. not_end w x (in_bytes 8 n) y) (sym s.whole ∙ e) in
+    let b = without_end-both w v fs es s.rest (end n) s.are_entries.valid p (λ x y. not_end w x (in_bytes 8 n) y) (sym s.whole ∙ e) in
     stop_at_bound (entry_in w) (IsFactIn w) (entry_injective w) (λ l r. next_fault (before w l) limit r) limit fs es s.rest (end n) f
     (pass w limit es (subst (λ (z : Version). AllByRecursion (IsFactIn z) es) (sym b.0) p) q) (λ x y many. entry-too_many limit (before w fs) w x y many) b.1
     (end-passes limit n w (last_of None es) small) s.first
@@ -75,11 +75,11 @@ pub Below-more : (F G : List Fact) → Below F (F ++ G)
 Below-more F G = subst (λ (l : List Fact). Same l (F ++ G)) (append_assoc F F G) (Same-append (F ++ F) F G G (Same-twice F) (Same-itself G))
 
 -- the entries that a journal begins with tell nothing more than its facts
-pub front-below : (v w : Version) (bytes : List ℕ) (F es : List Fact) (rest : List ℕ) → JournalIn v bytes F → AllByRecursion (IsFactIn w) es → bytes ≡ front_in w es ++ rest → Below es F
-front-below v w bytes F es rest journal p e =
+pub without_end-below : (v w : Version) (bytes : List ℕ) (F es : List Fact) (rest : List ℕ) → JournalIn v bytes F → AllByRecursion (IsFactIn w) es → bytes ≡ without_end_in w es ++ rest → Below es F
+without_end-below v w bytes F es rest journal p e =
     let j = journal_parts v bytes F journal in
     let all = j.entries in
-    let b = fronts w v es all rest (end (length all)) p j.valid (λ x y. not_end w x (in_bytes 8 (length all)) y) (sym e ∙ j.bytes_are) in
+    let b = without_end-both w v es all rest (end (length all)) p j.valid (λ x y. not_end w x (in_bytes 8 (length all)) y) (sym e ∙ j.bytes_are) in
     let low : Below es all = subst (Below es) (sym b.1.items) (Below-more es b.1.more) in
     let moved = Same-append es es F all (record { each = λ a. refl }) j.collects.same in
     record { each = λ a. moved.each a ∙ low.each a ∙ sym (j.collects.same.each a) }

@@ -1,5 +1,5 @@
 -- Faults of bytes of which a front was read.
-use Rattle.flute_journal.proofs.Common.{◌≡◌, ℕ, ◌+◌, ◌≤◌, Bool, true, false, List, [], ◌++◌, length, Option, Some, None, Result, Ok, Err, inl, inr, refl, sym, ap, ◌∙◌, subst, append_assoc, arith, length-append, append-nil, IfSome, IfErr, Consumes, Consumes-trans, ReadFault, Fails, ReadsUpTo, IsFaultOf, IsFaultUpTo, Reads, failure, left_by, or_failed, IsOfBytes, StopsReading, Parses}
+use Rattle.flute_journal.proofs.Common.{◌≡◌, ℕ, ◌+◌, ◌≤◌, Bool, true, false, List, [], ◌++◌, length, Option, Some, None, Result, Ok, Err, inl, inr, refl, sym, ap, ◌∙◌, subst, append_assoc, arith, length-append, append-nil, IfSome, IfErr, Consumes, Consumes-trans, ReadFault, Fails, ReadsUpTo, IsFaultOf, IsFaultUpTo, Reads, times_failed, left_by, or_failed, IsOfBytes, StopsReading, Parses}
 use Rattle.flute_journal.specs.declared.fault.ReadFault.TheVariants as faults
 
 -- what stands behind what was read has the fault of the whole
@@ -80,7 +80,7 @@ fails_never T f old new b e = inl e
 
 -- how often the source failed where bytes of it were parsed
 pub parsed_fails : {T : Type 0} (IsIt : T → Type 0) (fault : List ℕ → Option ReadFault) (n : ℕ) (failed : Bool) (front : List ℕ) (r : Result T ReadFault) (old new : ℕ)
-    → new ≡ old + failure failed → Parses n IsIt fault front r → Fails old new (or_failed failed r)
+    → new ≡ old + times_failed failed → Parses n IsIt fault front r → Fails old new (or_failed failed r)
 parsed_fails IsIt fault n true front (Ok x) old new e p = e
 parsed_fails IsIt fault n false front (Ok x) old new e p = omega (arith, e)
 parsed_fails {T} IsIt fault n true front (Err f) old new e p = fails_once T f old new p.of_bytes e

@@ -1,6 +1,6 @@
 -- Where a merge of streams stands between two turns, and how it ends.
-use Rattle.flute_journal.proofs.Common.{Address, AllByRecursion, Appends, Appends-nil, Appends-trans, AppendsPart, AppendsPartOf, AreNew, Behaviour, Below-from_Same, Bool, CanGoOn, Collects, Counts, EachSince, Fact, GoOnAt, Input, InputFault, IsCounted, IsFact, IsRising, IsSized, IsTrue, IsWithinLimits, Journal, List, Lowest, MergedAll, NamesInput, None, NoneFails, OneFails, Option, Over, Over-below, PutsBytes, ReadsAhead, Same, Same-append, Same-itself, Same-members, Same-sym, Same-trans, SameMembers, Some, StopsIn, StreamsFault, Tally, Write, Written, [], address, address_same, all_of, ap, append_assoc, arith, cases_Bool, end, entry, fact_at, fact_at-elsewhere, fact_at-nil, false, front, header, heads, inl, inr, is_after, last_of, length, length-append, most_of, none-some, refl, rising_unique, rules, same_address, spelling, subst, sym, true, written_up_to, ℕ, ◌++◌, ◌+◌, ◌<◌, ◌^◌, ◌∙◌, ◌∷◌, ◌≡◌, ◌≤◌}
-use Rattle.flute_journal.proofs.{Passes.{Below-more}, Existence.{rises_more}, Each.{all_append, all_more}, MergeBytes.{front-snoc, written-begins, written-snoc}, MergeRising.{last_of-snoc, rising-rises, rises-rising}, WrittenSoFar.{put_first, written-more, written-whole, written-part}}
+use Rattle.flute_journal.proofs.Common.{Address, AllByRecursion, Appends, Appends-nil, Appends-trans, AppendsPart, AppendsPartOf, AreNew, Behaviour, Below-from_Same, Bool, CanGoOn, Collects, Counts, EachSince, Fact, GoOnAt, Input, InputFault, IsCounted, IsFact, IsRising, IsSized, IsTrue, IsWithinLimits, Journal, List, Lowest, MergedAll, NamesInput, None, NoneFails, OneFails, Option, Over, Over-below, PutsBytes, ReadsAhead, Same, Same-append, Same-itself, Same-members, Same-sym, Same-trans, SameMembers, Some, StopsIn, StreamsFault, Tally, Write, Written, [], address, address_same, all_of, ap, append_assoc, arith, cases_Bool, end, entry, fact_at, fact_at-elsewhere, fact_at-nil, false, without_end, header, heads, inl, inr, is_after, last_of, length, length-append, most_of, none-some, refl, rising_unique, rules, same_address, spelling, subst, sym, true, written_up_to, ℕ, ◌++◌, ◌+◌, ◌<◌, ◌^◌, ◌∙◌, ◌∷◌, ◌≡◌, ◌≤◌}
+use Rattle.flute_journal.proofs.{Passes.{Below-more}, Existence.{rises_more}, Each.{all_append, all_more}, MergeBytes.{without_end-snoc, written-begins, written-snoc}, MergeRising.{last_of-snoc, rising-rises, rises-rising}, WrittenSoFar.{put_first, written-more, written-whole, written-part}}
 use Rattle.flute_journal.proofs.StreamTurns.{Run, starts, nows, givens, givens_at, Went, Stays, Turned, turn, new_runs, new_starts, new_nows, new_givens, new_stays, went_stays, given_same, given_length, fewer_all, taken_at, taken_same, taken_some, lowest-sized}
 use Rattle.flute_journal.proofs.StreamStops.{reads_now, none_fails, StoppedAll, stopped_all, short_header, short_entry, short_end, told_whole}
 
@@ -67,7 +67,7 @@ module _ {S : Type 0} (b : Behaviour S) where
     pub went : AllByRecursion (Went b (last_of None joined)) runs
     pub collects : Collects (all_of (givens runs)) joined
     pub few : length joined ≤ length (all_of (givens runs))
-    pub written : Written failed w w' (front joined)
+    pub written : Written failed w w' (without_end joined)
     pub count_is : count ≡ length joined
     pub also : Also joined
 
@@ -128,8 +128,8 @@ module _ {S : Type 0} (b : Behaviour S) where
     last = last_of None state.joined
 
     -- all was written where the sink has not failed
-    whole_yet : failed ≡ false → Appends w w' (front state.joined)
-    whole_yet good = written-whole failed w w' (front state.joined) good state.written
+    whole_yet : failed ≡ false → Appends w w' (without_end state.joined)
+    whole_yet good = written-whole failed w w' (without_end state.joined) good state.written
 
     pub few-joined : count ≤ most_of b old
     few-joined = let e = ap (most_of b) state.starts_are in omega (arith, e, state.count_is, state.few, most-given last state.runs state.went)
@@ -171,8 +171,8 @@ module _ {S : Type 0} (b : Behaviour S) where
               (taken_same (heads b (nows state.runs)) g low.comes));
         }
 
-        next_bytes : (next : Bool) (w'' : Option (List ℕ)) → PutsBytes failed next w' w'' (entry g) → Written next w w'' (front (state.joined ++ g ∷ []))
-        next_bytes next w'' a = subst (Written next w w'') (front-snoc state.joined g) (written-more failed next w w' w'' (front state.joined) (entry g) state.written a)
+        next_bytes : (next : Bool) (w'' : Option (List ℕ)) → PutsBytes failed next w' w'' (entry g) → Written next w w'' (without_end (state.joined ++ g ∷ []))
+        next_bytes next w'' a = subst (Written next w w'') (without_end-snoc state.joined g) (written-more failed next w w' w'' (without_end state.joined) (entry g) state.written a)
 
         pub state_turn : (next : Bool) (Next : List Fact → Type 0) (new : List S) (w'' : Option (List ℕ)) → ((F : List Fact) → IsRising (F ++ g ∷ []) → Also F → Next (F ++ g ∷ []))
             → PutsBytes failed next w' w'' (entry g) → GoOnAt b (Some (address g)) now new → State next Next old new w w'' (count + 1)
@@ -194,17 +194,17 @@ module _ {S : Type 0} (b : Behaviour S) where
 
         pub stop_entry : (patient : Bool) (w'' : Option (List ℕ)) → failed ≡ false → AppendsPart w' w'' (entry g) → Stopping patient old now w w'' Write
         stop_entry patient w'' good a =
-            let bs : List ℕ = front state.joined ++ a.part in
-            let appended : Appends w w'' bs = Appends-trans w w' w'' (front state.joined) a.part (whole_yet good) a.appended in
+            let bs : List ℕ = without_end state.joined ++ a.part in
+            let appended : Appends w w'' bs = Appends-trans w w' w'' (without_end state.joined) a.part (whole_yet good) a.appended in
             stopped_here patient w'' bs appended (written-begins state.joined a.part)
             (short_entry b last state.runs state.joined g w w'' bs a.rest state.went low.first collects_next appended
-            (append_assoc (front state.joined) a.part a.rest ∙ ap (λ (l : List ℕ). front state.joined ++ l) (sym a.whole) ∙ front-snoc state.joined g))
+            (append_assoc (without_end state.joined) a.part a.rest ∙ ap (λ (l : List ℕ). without_end state.joined ++ l) (sym a.whole) ∙ without_end-snoc state.joined g))
 
         pub stop_input : (patient next : Bool) (new : List S) (w'' : Option (List ℕ)) (fault : InputFault) → PutsBytes failed next w' w'' (entry g) → (patient ≡ false → next ≡ false)
             → StopsIn b (Some (address g)) now new fault → Stopping patient old new w w'' (Input fault) × OneFails b fault.number fault.fault old new
         stop_input patient next new w'' fault a eager h =
             let s : StoppedAll b (Some (address g)) fault.number fault.fault state.runs new = grind (arith, stopped_all, next_stays) in
-            let bs : List ℕ = front (state.joined ++ g ∷ []) in
+            let bs : List ℕ = without_end (state.joined ++ g ∷ []) in
             let part = written-part next w w'' bs (next_bytes next w'' a) in
             subst (λ (l : List S). Stopping patient l new w w'' (Input fault) × OneFails b fault.number fault.fault l new) state.starts_are
             (at_input patient (Some (address g)) state.runs new w w'' fault (state.joined ++ g ∷ []) s
@@ -222,14 +222,14 @@ module _ {S : Type 0} (b : Behaviour S) where
 
       pub stop_end : (patient : Bool) (w'' : Option (List ℕ)) → failed ≡ false → AppendsPart w' w'' (end count) → Stopping patient old now w w'' Write
       stop_end patient w'' good a =
-          let bs : List ℕ = front state.joined ++ a.part in
-          let appended : Appends w w'' bs = Appends-trans w w' w'' (front state.joined) a.part (whole_yet good) a.appended in
+          let bs : List ℕ = without_end state.joined ++ a.part in
+          let appended : Appends w w'' bs = Appends-trans w w' w'' (without_end state.joined) a.part (whole_yet good) a.appended in
           stopped_here patient w'' bs appended (written-begins state.joined a.part)
           (short_end b last state.runs state.joined w w'' bs a.rest state.went none_left state.collects appended a.cut
-          (append_assoc (front state.joined) a.part a.rest ∙ ap (λ (l : List ℕ). front state.joined ++ l) (sym a.whole) ∙ ap (λ n. front state.joined ++ end n) state.count_is))
+          (append_assoc (without_end state.joined) a.part a.rest ∙ ap (λ (l : List ℕ). without_end state.joined ++ l) (sym a.whole) ∙ ap (λ n. without_end state.joined ++ end n) state.count_is))
 
       whole : (next : Bool) (w'' : Option (List ℕ)) → PutsBytes failed next w' w'' (end count) → Written next w w'' (spelling state.joined)
-      whole next w'' a = subst (λ n. Written next w w'' (front state.joined ++ end n)) state.count_is (written-more failed next w w' w'' (front state.joined) (end count) state.written a)
+      whole next w'' a = subst (λ n. Written next w w'' (without_end state.joined ++ end n)) state.count_is (written-more failed next w w' w'' (without_end state.joined) (end count) state.written a)
 
       -- the journal of other facts with the same members is the one that was written
       others_too : (next : Bool) (w'' : Option (List ℕ)) → PutsBytes failed next w' w'' (end count) → (others : List Fact) → SameMembers (all_of (givens state.runs)) others → (bytes : List ℕ) → Journal bytes others

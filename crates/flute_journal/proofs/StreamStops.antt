@@ -1,6 +1,6 @@
 -- A merge that stops: what was read of each stream, and what was appended.
-use Rattle.flute_journal.proofs.Common.{Address, AllByRecursion, Appends, AppendsPartOf, Behaviour, Collects, Continues, Each, EachSince, Fact, GaveBefore, GoesOnAt, IsFact, IsNotBefore, List, LoadFault, None, NoneFails, OneFails, Option, Same, Same-sym, Same-trans, Some, StopAt, [], address, address_itself, address_same, all_of, ap, append-nil, append_assoc, arith, cases_Bool, end, entry, fact_at, fact_at-append, false, flat_map, front, header, heads, inl, inr, is_after, joined, length, length-append, option_list, place_of, refl, rising_unique, same_Some, same_address, slice_get, spelling, subst, suc, sym, zero, ℕ, ◌++◌, ◌∙◌, ◌∷◌, ◌≡◌, ◌≢◌}
-use Rattle.flute_journal.proofs.{Each.{all_split}, MergeBytes.{front-append, no_end, no_whole_end}, MergeRising.{rising-none, rising-prefix, last_of-snoc, Rises-second, fact_at-second_none, Rises, rising-rises}}
+use Rattle.flute_journal.proofs.Common.{Address, AllByRecursion, Appends, AppendsPartOf, Behaviour, Collects, Continues, Each, EachSince, Fact, GaveBefore, GoesOnAt, IsFact, IsNotBefore, List, LoadFault, None, NoneFails, OneFails, Option, Same, Same-sym, Same-trans, Some, StopAt, [], address, address_itself, address_same, all_of, ap, append-nil, append_assoc, arith, cases_Bool, end, entry, fact_at, fact_at-append, false, flat_map, without_end, header, heads, inl, inr, is_after, joined, length, length-append, option_list, place_of, refl, rising_unique, same_Some, same_address, slice_get, spelling, subst, suc, sym, zero, ℕ, ◌++◌, ◌∙◌, ◌∷◌, ◌≡◌, ◌≢◌}
+use Rattle.flute_journal.proofs.{Each.{all_split}, MergeBytes.{without_end-append, no_end, no_whole_end}, MergeRising.{rising-none, rising-prefix, last_of-snoc, Rises-second, fact_at-second_none, Rises, rising-rises}}
 use Rattle.flute_journal.proofs.StreamTurns.{Run, starts, nows, givens, given_at, taken_by, given_here, givens_at, IsAbove, above_other, Ready, Went, Stays, went_on}
 
 module _ {S : Type 0} (b : Behaviour S) where
@@ -140,11 +140,11 @@ module _ {S : Type 0} (b : Behaviour S) where
       let l = ap length e in
       absurd (omega (arith, l, length-append x (y ++ end n), length-append y (end n)))
 
-  goes_on : (M rest : List Fact) (bs more : List ℕ) (n : ℕ) → bs ++ more ≡ front M → bs ++ (more ++ (flat_map entry rest ++ end n)) ≡ front (M ++ rest) ++ end n
-  goes_on M rest bs more n e = cc (append_assoc bs more (flat_map entry rest ++ end n), e, append_assoc (front M) (flat_map entry rest) (end n), front-append M rest)
+  goes_on : (M rest : List Fact) (bs more : List ℕ) (n : ℕ) → bs ++ more ≡ without_end M → bs ++ (more ++ (flat_map entry rest ++ end n)) ≡ without_end (M ++ rest) ++ end n
+  goes_on M rest bs more n e = cc (append_assoc bs more (flat_map entry rest ++ end n), e, append_assoc (without_end M) (flat_map entry rest) (end n), without_end-append M rest)
 
   -- a part of the header and of entries that begin those of all facts
-  short : (inputs : List S) (w w' : Option (List ℕ)) (bs more : List ℕ) (M : List Fact) → AllByRecursion IsFact M → Appends w w' bs → bs ++ more ≡ front M
+  short : (inputs : List S) (w w' : Option (List ℕ)) (bs more : List ℕ) (M : List Fact) → AllByRecursion IsFact M → Appends w w' bs → bs ++ more ≡ without_end M
       → ((known : List (List Fact)) → Each b.knows inputs known → (E : List Fact) → Collects (all_of known) E → (rest : List Fact) × (E ≡ M ++ rest)) → AppendsPartOf b inputs w w'
   short inputs w w' bs more M v a e h = record {
     bytes = bs;
@@ -154,7 +154,7 @@ module _ {S : Type 0} (b : Behaviour S) where
         let p = h known k j.0 j.1 in (
           more ++ (flat_map entry p.0 ++ end (length j.0)),
           rest_some more (flat_map entry p.0) (length j.0),
-          goes_on M p.0 bs more (length j.0) e ∙ ap (λ (z : List Fact). front z ++ end (length j.0)) (sym p.1) ∙ sym j.3,
+          goes_on M p.0 bs more (length j.0) e ∙ ap (λ (z : List Fact). without_end z ++ end (length j.0)) (sym p.1) ∙ sym j.3,
         );
   }
 
@@ -163,7 +163,7 @@ module _ {S : Type 0} (b : Behaviour S) where
 
   pub short_entry : (place : Option Address) (runs : List (Run S)) (M : List Fact) (g : Fact) (w w' : Option (List ℕ)) (bs more : List ℕ) → AllByRecursion (Went b place) runs
       → AllByRecursion (IsNotBefore (address g)) (heads b (nows runs)) → Collects (all_of (givens_at b (Some (address g)) runs)) (M ++ g ∷ [])
-      → Appends w w' bs → bs ++ more ≡ front (M ++ g ∷ []) → AppendsPartOf b (starts runs) w w'
+      → Appends w w' bs → bs ++ more ≡ without_end (M ++ g ∷ []) → AppendsPartOf b (starts runs) w w'
   short_entry place runs M g w w' bs more went n c a e =
       short (starts runs) w w' bs more (M ++ g ∷ []) c.valid a e (λ known k E d.
       rising-prefix None (M ++ g ∷ []) E (rising-rises (M ++ g ∷ []) c.rising) (rising-rises E d.rising) (λ z h.

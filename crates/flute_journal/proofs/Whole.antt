@@ -1,7 +1,7 @@
 -- A journal that is read entry by entry.
-use Rattle.flute_journal.proofs.Common.{Address, AllByRecursion, AreEntries, Before, Consumes, Consumes-nil, Consumes-trans, Ended, EndsBehind, Entries, Fact, Failed, Gives, GivesEntry, GivesFault, HasFault, Header, IfSome, IsAtEnd, IsAtFault, IsFactIn, IsFaultUpTo, IsPart, IsRising, IsTrue, List, None, Ok, Option, ReadFault, ReadsBehind, ReadsPart, Sofar, Some, ReaderState, Stops, StopsAfter, Two, Version, [], address, ap, append-nil, append_assoc, arith, before, behind, drop, end, entry_in, fault_from, flat_map_more, front_in, header_fault, header_in, in_entry, in_header, in_opening, inl, inr, is_after, is_open, last_of, length, length-append, next_fault, nil_from_length, none-some, opening, or_else, position, read_of, refl, same_Some, spelling_in, state_at, subst, sym, or_failed, true, version_in, ℕ, ◌++◌, ◌+◌, ◌<◌, ◌∙◌, ◌∷◌, ◌≡◌, ◌≤◌}
+use Rattle.flute_journal.proofs.Common.{Address, AllByRecursion, AreEntries, Before, Consumes, Consumes-nil, Consumes-trans, Ended, EndsBehind, Entries, Fact, Failed, Gives, GivesEntry, GivesFault, HasFault, Header, IfSome, IsAtEnd, IsAtFault, IsFactIn, IsFaultUpTo, IsPart, IsRising, IsTrue, List, None, Ok, Option, ReadFault, ReadsBehind, ReadsPart, Sofar, Some, ReaderState, Stops, StopsAfter, Two, Version, [], address, ap, append-nil, append_assoc, arith, before, behind, drop, end, entry_in, fault_from, flat_map_more, without_end_in, header_fault, header_in, in_entry, in_header, in_opening, inl, inr, is_after, is_open, last_of, length, length-append, next_fault, nil_from_length, none-some, opening, or_else, position, read_of, refl, same_Some, spelling_in, state_at, subst, sym, or_failed, true, version_in, ℕ, ◌++◌, ◌+◌, ◌<◌, ◌∙◌, ◌∷◌, ◌≡◌, ◌≤◌}
 use Rattle.flute_journal.specs.{Whole.{in_header as part_in_header, behind as part_behind}, Merges.{in_header, behind}}
-use Rattle.flute_journal.proofs.{Parts.{entry_within-short}, Existence.{rising_more, header_is}, Each.{all_more, all_split}, MergeBytes.{front_in-snoc, within_entry, within_end, within_nil, front-of_spelling}, MergeRising.{Rises-second, Rises, rising-rises}}
+use Rattle.flute_journal.proofs.{Parts.{entry_within-short}, Existence.{rising_more, header_is}, Each.{all_more, all_split}, MergeBytes.{without_end_in-snoc, within_entry, within_end, within_nil, without_end-of_spelling}, MergeRising.{Rises-second, Rises, rising-rises}}
 use Rattle.flute_journal.specs.declared.fault.ReadFault.TheVariants as faults
 
 pub sofar-none : (limit : ℕ) (u : Option (List ℕ)) → Sofar limit u u Header []
@@ -124,11 +124,11 @@ part-at v limit u x w [] part p q few took more (in_opening short) = part_in_hea
 part-at v limit u x w [] part p q few took more (in_entry rest e within) =
     part_behind (record { version = v; valid = p; rising = q; few = few }) rest (subst (Consumes u w) e (Consumes-trans u x w [] part took more)) within
 part-at v limit u x w (e ∷ es) part p q few took more (in_opening short) =
-    let read = Consumes-trans u x w (front_in v (e ∷ es)) part took more in
-    part_behind (record { version = v; valid = p; rising = q; few = few }) [] (subst (λ (l : List ℕ). Consumes u w (front_in v (e ∷ es) ++ l)) (nil_from_length part (omega (arith, short))) read) (within_nil v)
+    let read = Consumes-trans u x w (without_end_in v (e ∷ es)) part took more in
+    part_behind (record { version = v; valid = p; rising = q; few = few }) [] (subst (λ (l : List ℕ). Consumes u w (without_end_in v (e ∷ es) ++ l)) (nil_from_length part (omega (arith, short))) read) (within_nil v)
 part-at v limit u x w (e ∷ es) part p q few took more (in_entry rest is within) =
-    let read = Consumes-trans u x w (front_in v (e ∷ es)) part took more in
-    part_behind (record { version = v; valid = p; rising = q; few = few }) rest (subst (λ (l : List ℕ). Consumes u w (front_in v (e ∷ es) ++ l)) is read) within
+    let read = Consumes-trans u x w (without_end_in v (e ∷ es)) part took more in
+    part_behind (record { version = v; valid = p; rising = q; few = few }) rest (subst (λ (l : List ℕ). Consumes u w (without_end_in v (e ∷ es) ++ l)) is read) within
 
 -- the source failed behind these entries
 broken_at : (v : Version) (limit : ℕ) (u x w : Option (List ℕ)) (es : List Fact) → AllByRecursion (IsFactIn v) es → IsRising es → length es ≤ limit → Consumes u x (read_of v es)
@@ -153,7 +153,7 @@ stopped_at v limit u x w es faults.Read i = broken_at v limit u x w es i.valid i
 stopped_at v limit u x w es faults.OutOfMemory i = part-at v limit u x w es i.part i.valid i.rising i.few i.before_it i.read i.is_part
 stopped_at v limit u x w es f i = stops_by v limit u x es f i.valid i.rising i.few i.before_it i.fault
 
-pub read_some : (v : Version) (es : List Fact) (f : Fact) → read_of v (es ++ f ∷ []) ≡ front_in v (es ++ f ∷ [])
+pub read_some : (v : Version) (es : List Fact) (f : Fact) → read_of v (es ++ f ∷ []) ≡ without_end_in v (es ++ f ∷ [])
 read_some v [] f = refl
 read_some v (e ∷ es) f = refl
 
@@ -225,7 +225,7 @@ pub reads-sofar : (limit : ℕ) (u v : Option (List ℕ)) (state : ReaderState) 
 reads-sofar limit u x state [] s = record { version = s.are_entries.version; valid = tt; bytes = []; read = s.read; ends = in_header refl (omega arith) }
 reads-sofar limit u x state (e ∷ es) s =
     let v = s.are_entries.version in
-    record { version = v; valid = s.are_entries.valid; bytes = front_in v (e ∷ es); read = s.read; ends = behind [] (sym (append-nil (front_in v (e ∷ es)))) (within_nil v) }
+    record { version = v; valid = s.are_entries.valid; bytes = without_end_in v (e ∷ es); read = s.read; ends = behind [] (sym (append-nil (without_end_in v (e ∷ es)))) (within_nil v) }
 
 pub reads-side : (limit : ℕ) (u v : Option (List ℕ)) (state : ReaderState) (settled : List Fact) (held : Option Fact) → Side limit u v state settled held → ReadsBehind u v settled
 reads-side limit u x state settled None s =
@@ -245,14 +245,14 @@ reads-side limit u x state settled (Some f) s =
       valid = valid.0;
       bytes = read_of v (settled ++ f ∷ []);
       read = s.read;
-      ends = behind (entry_in v f) (read_some v settled f ∙ sym (front_in-snoc v settled f)) (within_entry v f valid.1.0);
+      ends = behind (entry_in v f) (read_some v settled f ∙ sym (without_end_in-snoc v settled f)) (within_entry v f valid.1.0);
     }
 
 ends_part : (v : Version) (es : List Fact) (part : List ℕ) → IsPart v (state_at v es) part → EndsBehind v es (read_of v es ++ part)
 ends_part v [] part (in_opening few) = in_header refl few
 ends_part v [] part (in_entry more e w) = behind more e w
 ends_part v (x ∷ es) part (in_opening few) = behind part refl (entry_within-short v part (omega (arith, few)))
-ends_part v (x ∷ es) part (in_entry more e w) = behind more (ap (λ (l : List ℕ). front_in v (x ∷ es) ++ l) e) w
+ends_part v (x ∷ es) part (in_entry more e w) = behind more (ap (λ (l : List ℕ). without_end_in v (x ∷ es) ++ l) e) w
 
 pub reads-fault : (limit : ℕ) (u v w : Option (List ℕ)) (old new : ReaderState) (es : List Fact) (f : ReadFault) → Sofar limit u v old es → GivesFault limit old new v w f → ReadsBehind u w es
 reads-fault limit u x w old new es f s g =
@@ -276,11 +276,11 @@ abbrev pub IsAhead : Option Address → Option (List ℕ) → List Fact → Type
 IsAhead last input settled = (w : Version) (es : List Fact) → AllByRecursion (IsFactIn w) es → IsRising es → input ≡ Some (spelling_in w es) → Follows last settled es
 
 -- a journal that begins with these entries has others behind them
-ahead-read : (v : Version) (input left : Option (List ℕ)) (settled : List Fact) → AllByRecursion (IsFactIn v) settled → Consumes input left (front_in v settled) → IsAhead (last_of None settled) input settled
+ahead-read : (v : Version) (input left : Option (List ℕ)) (settled : List Fact) → AllByRecursion (IsFactIn v) settled → Consumes input left (without_end_in v settled) → IsAhead (last_of None settled) input settled
 ahead-read v None left settled p c w es q r e = absurd (none-some (spelling_in w es) e)
 ahead-read v (Some xs) None settled p c w es q r e = absurd c
 ahead-read v (Some xs) (Some ys) settled p c w es q r e =
-    let f = (front-of_spelling v w settled es ys [] p q (sym c ∙ same_Some xs (spelling_in w es) e ∙ sym (append-nil (spelling_in w es)))).1 in
+    let f = (without_end-of_spelling v w settled es ys [] p q (sym c ∙ same_Some xs (spelling_in w es) e ∙ sym (append-nil (spelling_in w es)))).1 in
     (f.more, f.items, Rises-second None settled f.more (subst (Rises None) f.items (rising-rises es r)))
 
 pub ahead-sofar : (limit : ℕ) (input left : Option (List ℕ)) (state : ReaderState) (settled : List Fact) → Sofar limit input left state settled → IsAhead (last_of None settled) input settled

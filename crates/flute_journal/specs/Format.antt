@@ -90,12 +90,12 @@ entry_in version f = kind f ∷ body version f
 abbrev pub end : ℕ → List ℕ
 end n = 255 ∷ in_bytes 8 n
 
--- the header and whole entries
-abbrev pub front_in : Version → List Fact → List ℕ
-front_in version entries = header_in version ++ flat_map (entry_in version) entries
+-- the header and whole entries, without the end
+abbrev pub without_end_in : Version → List Fact → List ℕ
+without_end_in version entries = header_in version ++ flat_map (entry_in version) entries
 
 abbrev pub spelling_in : Version → List Fact → List ℕ
-spelling_in version entries = front_in version entries ++ end (length entries)
+spelling_in version entries = without_end_in version entries ++ end (length entries)
 
 -- What is written is of version 2.
 
@@ -105,8 +105,8 @@ header = header_in Two
 abbrev pub entry : Fact → List ℕ
 entry f = entry_in Two f
 
-abbrev pub front : List Fact → List ℕ
-front entries = front_in Two entries
+abbrev pub without_end : List Fact → List ℕ
+without_end entries = without_end_in Two entries
 
 abbrev pub spelling : List Fact → List ℕ
 spelling entries = spelling_in Two entries

@@ -14,11 +14,6 @@ pub record Fills (old new : Option (List ℕ)) (n : ℕ) (bytes : List ℕ) : Ty
   pub most : length bytes ≤ n
   pub fewer : length bytes < n → IsAtEnd new
 
--- how often a source failed that has failed, or has not
-abbrev pub failure : Bool → ℕ
-failure true = 1
-failure false = 0
-
 -- these bytes were read: n of them, or fewer at the end of the input, or where the source failed
 pub record ReadsUpTo (old new : Option (List ℕ)) (n : ℕ) (failed : Bool)
     (bytes : List ℕ) : Type 0 where

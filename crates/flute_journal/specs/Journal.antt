@@ -2,48 +2,17 @@
 use Rattle.std.specs.Prelude.{◌≡◌, ℕ, ◌<◌, ◌≤◌, ◌^◌, List, [], ◌∷◌, ◌++◌, length, Option, Some, None}
 use Rattle.std.specs.List.{AllByRecursion}
 use Rattle.flute_parts.specs.Session.{Session}
-use Rattle.flute_parts.specs.Information.{Information, info_fault}
-use Rattle.flute_parts.specs.ObjectName.{IsObjectName}
 use Rattle.flute_parts.specs.declared.key.Key.{Key}
-use Rattle.flute_parts.specs.declared.symbol_id.SymbolId.{SymbolId}
 use Rattle.flute_parts.specs.declared.address.Address.{Address}
 use Rattle.flute_parts.specs.declared.fact.Fact.{Fact}
-use Rattle.flute_parts.specs.declared.fact.Fact.TheVariants.{Info, InfoConflict, Symbol, SymbolConflict}
 use Rattle.flute_parts.specs.Addresses.{address}
 use Rattle.flute_parts.specs.Facts.{Same, IsRising}
+use Rattle.flute_parts.specs.Ranges.{IsFact, IsKey}
 use Rattle.flute_journal.specs.declared.fault.ReadFault.{ReadFault}
 use Rattle.flute_journal.specs.declared.format.version.Version.{Version}
 use Rattle.flute_journal.specs.declared.format.version.Version.TheVariants.{One, Two}
-use Rattle.flute_journal.specs.Format.{sender_size, fact_key, front_in, spelling_in, spelling}
+use Rattle.flute_journal.specs.Format.{sender_size, fact_key, without_end_in, spelling_in, spelling}
 use Rattle.flute_journal.specs.Faults.{Before, header_fault, next_fault}
-
-abbrev pub IsByte : ℕ → Type 0
-IsByte b = b < 256
-
--- an IPv6 address, and a Transport Session Identifier (RFC 5651, 5.1)
-abbrev pub IsSession : Session → Type 0
-IsSession session = (session.sender < 2 ^ 128) × (session.tsi < 2 ^ 48)
-
-abbrev pub IsKey : Key → Type 0
-IsKey key = IsSession key.session × IsObjectName key.object
-
-abbrev pub IsId : SymbolId → Type 0
-IsId id = (id.sbn < 2 ^ 16) × (id.esi < 2 ^ 16)
-
-pub record IsSymbol (bytes : List ℕ) : Type 0 where
-  pub some : 0 < length bytes
-  pub short : length bytes < 2 ^ 16
-  pub octets : AllByRecursion IsByte bytes
-
-abbrev pub IsInfo : Information → Type 0
-IsInfo i = (i.symbol_length < 2 ^ 16) × (i.max_block_length < 2 ^ 32) × (info_fault i ≡ None)
-
--- a fact of a reception: its numbers are within their ranges
-abbrev pub IsFact : Fact → Type 0
-IsFact (Info key info) = IsKey key × IsInfo info
-IsFact (InfoConflict key) = IsKey key
-IsFact (Symbol key id bytes) = IsKey key × IsId id × IsSymbol bytes
-IsFact (SymbolConflict key id) = IsKey key × IsId id
 
 -- entries of this version have room for the sender: in version 1 it is 0
 abbrev pub HasRoom : Version → Session → Type 0
@@ -109,7 +78,7 @@ pub record StopsBehind (bytes : List ℕ) (limit : ℕ) (entries : List Fact)
     (fault : ReadFault) : Type 0 where
   pub are_entries : AreEntries limit entries
   pub rest : List ℕ
-  pub whole : bytes ≡ front_in are_entries.version entries ++ rest
+  pub whole : bytes ≡ without_end_in are_entries.version entries ++ rest
   pub first : next_fault (before are_entries.version entries) limit rest ≡ Some fault
 
 -- the first field at fault has this fault, and these are the entries that end before it

@@ -1,7 +1,7 @@
 -- What is written of a journal, by a writer that goes on behind a failure.
 use Rattle.std.specs.Prelude.{◌≡◌, ℕ, ◌+◌, Bool, true, false, List, [], Option}
 use Rattle.std.specs.Io.KnownBytes.{Appends}
-use Rattle.flute_parts.specs.Devices.{AppendsPart}
+use Rattle.flute_parts.specs.Devices.{AppendsPart, times_failed}
 use Rattle.flute_journal.specs.declared.journal_writer.JournalWriter.{JournalWriter}
 
 -- all the bytes were appended; or, where the sink has failed, a part of them
@@ -14,11 +14,6 @@ abbrev pub PutsBytes : Bool → Bool → Option (List ℕ) → Option (List ℕ)
 PutsBytes false failed old new bytes = Written failed old new bytes
 PutsBytes true true old new bytes = Appends old new []
 PutsBytes true false old new bytes = ⊥
-
--- how often a sink failed that is known to have failed
-abbrev pub times_failed : Bool → ℕ
-times_failed true = 1
-times_failed false = 0
 
 -- a writer wrote these bytes to its sink, as far as that took them
 pub record Puts {W : Type 0} (written : W → Option (List ℕ)) (failures : W → ℕ) (bytes : List ℕ)

@@ -6,7 +6,7 @@ use Rattle.flute_parts.specs.declared.fact.Fact.{Fact}
 use Rattle.flute_journal.specs.declared.two_streams.MergeFault.{MergeFault}
 use Rattle.flute_journal.specs.declared.two_streams.MergeFault.TheVariants.{First, Second, Write}
 use Rattle.flute_journal.specs.declared.format.version.Version.{Version}
-use Rattle.flute_journal.specs.Format.{header, entry_in, front_in, front, spelling}
+use Rattle.flute_journal.specs.Format.{header, entry_in, without_end_in, without_end, spelling}
 use Rattle.flute_journal.specs.Input.{Fails, IsWithin}
 use Rattle.flute_journal.specs.Journal.{IsFactIn, Collects, Journal, IsJournal, IsJournalWithin}
 use Rattle.flute_journal.specs.Whole.{HasFault}
@@ -40,7 +40,7 @@ pub record StopsShort (first second old new : Option (List ℕ)) : Type 0 where
 -- what is written up to these entries: the header comes with the first
 abbrev pub written_up_to : List Fact → List ℕ
 written_up_to [] = []
-written_up_to (f ∷ fs) = front (f ∷ fs)
+written_up_to (f ∷ fs) = without_end (f ∷ fs)
 
 -- The bytes begin with what is written up to these entries, and are no more than that where
 -- an input was at fault.
@@ -52,7 +52,7 @@ AppendedUpTo fault bytes entries = bytes ≡ written_up_to entries
 -- behind one entry more
 pub data EndsBehind (version : Version) (entries : List Fact) (bytes : List ℕ) : Type 0 where
   in_header : entries ≡ [] → length bytes ≤ length header → EndsBehind version entries bytes
-  behind : (part : List ℕ) → bytes ≡ front_in version entries ++ part
+  behind : (part : List ℕ) → bytes ≡ without_end_in version entries ++ part
       → IsWithin (entry_in version) (IsFactIn version) part → EndsBehind version entries bytes
 
 -- of an input these whole entries were read, and at most one more

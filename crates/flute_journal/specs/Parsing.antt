@@ -15,7 +15,8 @@ use Rattle.flute_journal.specs.declared.fault.ReadFault.TheVariants as faults
 use Rattle.flute_journal.specs.Numbers.{in_bytes}
 use Rattle.flute_journal.specs.Format.{key_bytes, id_bytes, rest_bytes, fact_key, kind}
 use Rattle.flute_journal.specs.Faults.{Before, is_after, key_size, first_fault, cut, bytes_checks, rest_checks, body_checks, end_checks}
-use Rattle.flute_journal.specs.Journal.{IsKey, IsId, IsFact, IsFactIn, HasRoom}
+use Rattle.flute_journal.specs.Journal.{IsFactIn, HasRoom}
+use Rattle.flute_parts.specs.Ranges.{IsKey, IsId, IsFact}
 
 abbrev pub byte_of : Kind → ℕ
 byte_of kinds.Info = 1

@@ -10,7 +10,7 @@ use Rattle.flute_journal.specs.declared.datagram_reader.FileState.TheVariants.{H
 use Rattle.flute_journal.specs.Numbers.{in_bytes}
 use Rattle.flute_journal.specs.Faults.{Check, first_fault, cut, opening_fault}
 use Rattle.flute_journal.specs.Input.{IsFaultUpTo, IsWithin}
-use Rattle.flute_journal.specs.Journal.{IsByte}
+use Rattle.flute_parts.specs.Ranges.{IsByte}
 use Rattle.flute_journal.specs.Reading.{or_else}
 
 -- `FLDG`, and the version

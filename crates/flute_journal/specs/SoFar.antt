@@ -5,7 +5,7 @@ use Rattle.flute_parts.specs.declared.fact.Fact.{Fact}
 use Rattle.flute_journal.specs.declared.journal_reader.ReaderState.{ReaderState}
 use Rattle.flute_journal.specs.declared.journal_reader.ReaderState.TheVariants.{Header, Entries}
 use Rattle.flute_journal.specs.declared.format.version.Version.{Version}
-use Rattle.flute_journal.specs.Format.{front_in}
+use Rattle.flute_journal.specs.Format.{without_end_in}
 use Rattle.flute_journal.specs.Journal.{last_of, AreEntries}
 
 -- where a reader stands behind these entries
@@ -16,7 +16,7 @@ state_at version (f ∷ fs) = Entries version (length (f ∷ fs)) (last_of None 
 -- what was read up to the next entry, without what stands before it
 abbrev pub read_of : Version → List Fact → List ℕ
 read_of version [] = []
-read_of version (f ∷ fs) = front_in version (f ∷ fs)
+read_of version (f ∷ fs) = without_end_in version (f ∷ fs)
 
 -- these entries were read, and nothing else
 pub record Sofar (limit : ℕ) (first now : Option (List ℕ)) (state : ReaderState)

@@ -7,7 +7,7 @@ use Rattle.flute_parts.specs.Limits.{Over}
 use Rattle.flute_parts.specs.declared.fact.Fact.{Fact}
 use Rattle.flute_journal.specs.declared.fault.LoadFault.{LoadFault}
 use Rattle.flute_journal.specs.declared.fault.LoadFault.TheVariants.{Read, Full, OutOfMemory}
-use Rattle.flute_journal.specs.Format.{front_in}
+use Rattle.flute_journal.specs.Format.{without_end_in}
 use Rattle.flute_journal.specs.Input.{Fails}
 use Rattle.flute_journal.specs.Journal.{AreEntries, IsJournalWithin}
 use Rattle.flute_journal.specs.Whole.{StopsAfter}
@@ -21,7 +21,7 @@ IsJournalOf limit bytes facts =
 pub record BeginsWith (limit : ℕ) (bytes : List ℕ) (entries : List Fact) : Type 0 where
   pub are_entries : AreEntries limit entries
   pub rest : List ℕ
-  pub whole : bytes ≡ front_in are_entries.version entries ++ rest
+  pub whole : bytes ≡ without_end_in are_entries.version entries ++ rest
 
 -- the bytes begin with entries that pass the limits of a store
 abbrev pub BeginsOver : ℕ → ℕ → ℕ → ℕ → List ℕ → Type 0

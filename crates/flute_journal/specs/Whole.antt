@@ -4,7 +4,7 @@ use Rattle.std.specs.Io.KnownBytes.{Consumes}
 use Rattle.flute_parts.specs.declared.fact.Fact.{Fact}
 use Rattle.flute_journal.specs.declared.fault.ReadFault.{ReadFault}
 use Rattle.flute_journal.specs.declared.fault.ReadFault.TheVariants as faults
-use Rattle.flute_journal.specs.Format.{header, entry_in, front_in}
+use Rattle.flute_journal.specs.Format.{header, entry_in, without_end_in}
 use Rattle.flute_journal.specs.Input.{IsWithin}
 use Rattle.flute_journal.specs.Journal.{IsFactIn, AreEntries, IsJournalWithin, Stops}
 
@@ -20,7 +20,7 @@ pub data ReadsPart (limit : ℕ) (old new : Option (List ℕ)) (entries : List F
   in_header : entries ≡ [] → (part : List ℕ) → Consumes old new part → length part ≤ length header
       → ReadsPart limit old new entries
   behind : (a : AreEntries limit entries) → (more : List ℕ)
-      → Consumes old new (front_in a.version entries ++ more)
+      → Consumes old new (without_end_in a.version entries ++ more)
       → IsWithin (entry_in a.version) (IsFactIn a.version) more → ReadsPart limit old new entries
 
 -- Reading stopped behind these entries: they are those before the fault of the bytes. Where the

@@ -4,7 +4,7 @@ ghost use Rattle.flute_parts.specs.declared.fact.Fact.{Fact};
 ghost use Rattle.flute_parts.specs.Addresses.{address};
 ghost use Rattle.flute_parts.specs.Facts.{IsRising};
 ghost use Rattle.flute_journal.specs.declared.streams_fault.StreamsFault.TheVariants.{Write};
-ghost use Rattle.flute_journal.specs.JournalWriters.{times_failed};
+ghost use Rattle.flute_parts.specs.Devices.{times_failed};
 ghost use Rattle.flute_journal.specs.Streams.{most_of};
 ghost use Rattle.flute_journal.specs.Advances.{AreNew};
 ghost use Rattle.flute_journal.specs.FirstFaults.{FirstFault};

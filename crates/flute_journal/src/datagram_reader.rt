@@ -4,7 +4,7 @@ ghost use Rattle.std.specs.List.{AllByRecursion};
 ghost use Rattle.flute_parts.specs.BigEndian.{big_endian};
 ghost use Rattle.flute_journal.specs.Numbers.{in_bytes};
 ghost use Rattle.flute_journal.specs.Input.{Advances, Fails, FailsIf, Reads, StaysWithin};
-ghost use Rattle.flute_journal.specs.Journal.{IsByte};
+ghost use Rattle.flute_parts.specs.Ranges.{IsByte};
 ghost use Rattle.flute_journal.specs.Faults.{opening_fault};
 ghost use Rattle.flute_journal.specs.Parsing.{cut_fault};
 ghost use Rattle.flute_journal.specs.Records.{file_header, record_of, is_file_open, GivesOfFile, IsDatagram, IsFileFault, ReadsFileFrom, ReadsRecord, file_state_after};

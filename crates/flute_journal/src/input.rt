@@ -1,8 +1,9 @@
 //! Bytes out of a source that hands them out in any pieces.
 ghost use Rattle.std.specs.Prelude.{◌≡◌, ℕ, ◌+◌, ◌<◌, ◌≤◌, IfOk, IfErr, length, length as length_of, take, slice_index};
 ghost use Rattle.std.specs.List.{AllByRecursion};
-ghost use Rattle.flute_journal.specs.Input.{Advances, Fails, Fills, ReadsUpTo, Reads, failure, shortage, or_failed};
-ghost use Rattle.flute_journal.specs.Journal.{IsByte};
+ghost use Rattle.flute_journal.specs.Input.{Advances, Fails, Fills, ReadsUpTo, Reads, shortage, or_failed};
+ghost use Rattle.flute_parts.specs.Devices.{times_failed};
+ghost use Rattle.flute_parts.specs.Ranges.{IsByte};
 ghost use Rattle.flute_journal.specs.Records.{IsFileFault};
 ghost use Rattle.flute_journal.specs.Parsing.{cut_fault};
 ghost use Rattle.flute_journal.specs.declared.fault.ReadFault.TheVariants.{Read};
@@ -60,7 +61,7 @@ pub fn read_up_to<'b, R: Source>(source: &mut R, buffer: &'b mut [u8]) -> ReadUp
     ensures filled { ReadsUpTo (R.unread source.old) (R.unread source.new)
         (length buffer.old) result.failed result.bytes.now }
     ensures advances { Advances (R.unread source.old) (R.unread source.new) (length buffer.old) }
-    ensures failures { R.failures source.new ≡ R.failures source.old + failure result.failed }
+    ensures failures { R.failures source.new ≡ R.failures source.old + times_failed result.failed }
 {
     let (count, failed) = fill_up_to(source, buffer);
     ReadUpTo {
@@ -97,7 +98,7 @@ fn fill_up_to<R: Source>(source: &mut R, buffer: &mut [u8]) -> (usize, bool)
     ensures within { result.0 ≤ length buffer.new }
     ensures size { length buffer.new ≡ length buffer.old }
     ensures octets { (i : ℕ) → slice_index buffer.new i < 256 }
-    ensures failures { R.failures source.new ≡ R.failures source.old + failure result.1 }
+    ensures failures { R.failures source.new ≡ R.failures source.old + times_failed result.1 }
 {
     let mut filled = 0;
     while filled < buffer.len() {

@@ -3,7 +3,7 @@ ghost use Rattle.std.specs.Prelude.{◌≡◌, ◌+◌, false};
 ghost use Rattle.flute_parts.specs.Addresses.{fact_of};
 ghost use Rattle.flute_store.specs.Walk.{IsSized};
 ghost use Rattle.flute_journal.specs.Format.{header, entry, end};
-ghost use Rattle.flute_journal.specs.Journal.{IsFact};
+ghost use Rattle.flute_parts.specs.Ranges.{IsFact};
 ghost use Rattle.flute_journal.specs.JournalWriters.{Puts};
 
 use crate::format::{HEADER, HeadBytes, end_of, put_head, symbol_value};

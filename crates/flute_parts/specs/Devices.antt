@@ -1,5 +1,5 @@
--- What is written to a sink that tells its bytes.
-use Rattle.std.specs.Prelude.{◌≡◌, ◌≢◌, ℕ, List, [], ◌++◌, Option, Result, MatchResult}
+-- What is written to a sink that tells its bytes, and how often a device failed.
+use Rattle.std.specs.Prelude.{◌≡◌, ◌≢◌, ℕ, Bool, true, false, List, [], ◌++◌, Option, Result, MatchResult}
 use Rattle.std.specs.Io.KnownBytes.{Appends}
 
 -- a part of the bytes was appended, and not all of them
@@ -15,3 +15,8 @@ abbrev pub Writes : {T E : Type 0} → Option (List ℕ) → Option (List ℕ) �
     → Type 0
 Writes old new bytes result =
     MatchResult result (λ _. Appends old new bytes) (λ _. AppendsPart old new bytes)
+
+-- how often a device failed that is known to have failed, or not
+abbrev pub times_failed : Bool → ℕ
+times_failed true = 1
+times_failed false = 0

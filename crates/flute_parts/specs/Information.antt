@@ -15,6 +15,10 @@ abbrev pub information : ℕ → ℕ → ℕ → Information
 information length symbol block =
     record { transfer_length = length; symbol_length = symbol; max_block_length = block }
 
+-- the encoding symbol length has 16 bits, the maximum source block length 32 (RFC 5445, 3.2.2.2)
+abbrev pub HasInfoFields : Information → Type 0
+HasInfoFields i = (i.symbol_length < 2 ^ 16) × (i.max_block_length < 2 ^ 32)
+
 -- T = ceil(L / E), the number of source symbols
 abbrev pub symbol_count : Information → ℕ
 symbol_count i = div_ceil i.transfer_length i.symbol_length

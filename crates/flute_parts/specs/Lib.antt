@@ -9,6 +9,7 @@ pub mod Facts
 pub mod Equality
 pub mod Partition
 pub mod Split
+pub mod Ranges
 pub mod Limits
 pub mod Tally
 pub mod Totality

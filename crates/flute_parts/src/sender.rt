@@ -11,19 +11,21 @@ pub struct Sender {
 }
 
 impl Model for Sender {
-    ghost use Rattle.std.specs.Prelude.{ℕ, ◌<◌, ◌^◌};
+    ghost use Rattle.std.specs.Prelude.{ℕ};
+    ghost use Rattle.flute_parts.specs.Session.{IsSender};
 
     ghost Value = { ℕ };
 
     ghost view = { λ s. s.address };
 
-    ghost invariant = { λ s. s.address < 2 ^ 128 };
+    ghost invariant = { λ s. IsSender s.address };
 
     ghost inverse = { λ n. record { address = n } };
 }
 
 impl Sender {
-    ghost use Rattle.std.specs.Prelude.{◌≡◌, ◌+◌, ◌*◌, ◌<◌, ◌^◌};
+    ghost use Rattle.std.specs.Prelude.{◌≡◌, ◌+◌, ◌*◌, ◌^◌};
+    ghost use Rattle.flute_parts.specs.Session.{IsSender};
 
     /// The sender with this address, as an IPv6 address read as a number. It takes no memory.
     pub fn new(address: u128) -> Sender
@@ -45,7 +47,7 @@ impl Sender {
     /// The address as a number, below 2^128.
     pub fn number(&self) -> u128
         ensures value { result ≡ self.now }
-        ensures bits { result < 2 ^ 128 }
+        ensures bits { IsSender result }
     {
         self.address
     }

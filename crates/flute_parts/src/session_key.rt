@@ -15,26 +15,25 @@ pub struct SessionKey {
 }
 
 impl Model for SessionKey {
-    ghost use Rattle.std.specs.Prelude.{◌<◌, ◌^◌};
-    ghost use Rattle.flute_parts.specs.Session.{Session, session};
+    ghost use Rattle.flute_parts.specs.Session.{Session, IsTsi, session};
 
     ghost Value = { Session };
 
     ghost view = { λ s. session s.sender s.tsi };
 
-    ghost invariant = { λ s. s.tsi < 2 ^ 48 };
+    ghost invariant = { λ s. IsTsi s.tsi };
 
     ghost inverse = { λ s. record { sender = s.sender; tsi = s.tsi } };
 }
 
 impl SessionKey {
-    ghost use Rattle.std.specs.Prelude.{◌≡◌, ◌<◌, ◌^◌, SomeIff};
-    ghost use Rattle.flute_parts.specs.Session.{session};
+    ghost use Rattle.std.specs.Prelude.{◌≡◌, SomeIff};
+    ghost use Rattle.flute_parts.specs.Session.{IsTsi, session};
 
     /// The session of this sender with this identifier. None if the identifier is 2^48 or more. It
     /// takes no memory.
     pub fn new(sender: Sender, tsi: u64) -> Option<SessionKey>
-        ensures { SomeIff result (tsi < 2 ^ 48) (session sender tsi) }
+        ensures { SomeIff result (IsTsi tsi) (session sender tsi) }
     {
         if tsi < 1 << 48 {
             Some(SessionKey { sender, tsi })
@@ -53,7 +52,7 @@ impl SessionKey {
     /// The Transport Session Identifier, below 2^48.
     pub fn tsi(&self) -> u64
         ensures value { result ≡ self.now.tsi }
-        ensures bits { result < 2 ^ 48 }
+        ensures bits { IsTsi result }
     {
         self.tsi
     }

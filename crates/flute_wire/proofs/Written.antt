@@ -133,7 +133,7 @@ fti_taken : (i : Option Information) → HasFittingInformation i
     → IfSome (option_map fti_body i) (λ body. (length body ≡ 15) × (info_fault (fti_information body) ≡ None)) × (option_map fti_information (option_map fti_body i) ≡ i)
 fti_taken None h = (tt, refl)
 fti_taken (Some i) h =
-    let again = information_again i h.0.length h.1 h.2 in
+    let again = information_again i h.0.length h.1.0 h.1.1 in
     ((refl, ap info_fault again ∙ fault-none i h.0), ap (λ (n : Information). Some n) again)
 
 -- EXT_FDT says the instance again
@@ -143,7 +143,7 @@ fdt_number n h =
     (ap (λ (x : ℕ). x / 2 ^ 20) is ∙ omega arith, ap (λ (x : ℕ). x % 2 ^ 20) is ∙ omega arith)
 
 fdt_taken : (tsi toi : ℕ) (n : Option ℕ) → HasKey tsi toi n → toi ≡ 0 → IsSomeAnd (option_map fdt_body n) (λ body. fdt_version body ≡ 2)
-fdt_taken tsi toi None h at = absurd (omega (arith, h.1))
+fdt_taken tsi toi None h at = absurd (omega (arith, h.1.0))
 fdt_taken tsi toi (Some n) h at = (fdt_number n h.1).0
 
 none_either_way : (b : Bool) → (let o : Option ℕ = cond b None None in o) ≡ None

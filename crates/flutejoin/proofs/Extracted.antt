@@ -16,7 +16,7 @@ use Rattle.flute_parts.specs.Limits.{Over}
 use Rattle.flute_store.proofs.WholeObjects.{Whole-same, object-same, gaps-same}
 use Rattle.flute_journal.specs.Format.{spelling_in}
 use Rattle.flute_journal.specs.Journal.{IsJournalWithin}
-use Rattle.flute_journal.specs.JournalWriters.{times_failed}
+use Rattle.flute_parts.specs.Devices.{times_failed}
 use Rattle.flute_journal.specs.Reading.{Gives, GivesEntry, GivesEnd, GivesFault}
 use Rattle.flute_journal.specs.SoFar.{Sofar}
 use Rattle.flute_journal.specs.Stores.{BeginsWith, FailsToLoad}

@@ -16,7 +16,7 @@ use Rattle.flute_journal.specs.Format.{spelling}
 use Rattle.flute_journal.specs.Journal.{Journal, IsJournal, IsJournalWithin, Stops}
 use Rattle.flute_journal.proofs.Entries.{facts_of}
 use Rattle.flute_journal.proofs.MergeBytes.{journal_parts, parts_journal, same_journal}
-use Rattle.flute_journal.proofs.Passes.{beyond, front-below}
+use Rattle.flute_journal.proofs.Passes.{beyond, without_end-below}
 use Rattle.flutejoin.specs.Held.{Capacity, IsOver}
 use Rattle.flute_journal.specs.Stores.{BeginsWith, IsJournalOf}
 use Rattle.flutejoin.specs.Outcome.{IsLonger}
@@ -108,4 +108,4 @@ not_longer F entries bs j same h =
 
 -- the entries that a journal begins with tell nothing more than it
 pub begins_below : (bs : List ℕ) (F es : List Fact) → IsJournal bs F → BeginsWith MAX_ENTRIES bs es → Below es F
-begins_below bs F es (v, j) begins = front-below v begins.are_entries.version bs F es begins.rest j begins.are_entries.valid begins.whole
+begins_below bs F es (v, j) begins = without_end-below v begins.are_entries.version bs F es begins.rest j begins.are_entries.valid begins.whole

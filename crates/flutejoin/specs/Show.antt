@@ -5,7 +5,7 @@ use Rattle.std.specs.Io.KnownBytes.{Appends, Consumes}
 use Rattle.flute_parts.specs.Devices.{AppendsPart}
 use Rattle.flute_parts.specs.declared.fact.Fact.{Fact}
 use Rattle.flute_journal.specs.declared.fault.ReadFault.{ReadFault}
-use Rattle.flute_journal.specs.Format.{front_in}
+use Rattle.flute_journal.specs.Format.{without_end_in}
 use Rattle.flute_journal.specs.Input.{Fails}
 use Rattle.flute_journal.specs.Journal.{AreEntries, IsJournalWithin}
 use Rattle.flute_journal.specs.Whole.{StopsAfter}
@@ -39,7 +39,7 @@ pub record ShowsUntil (input left old new : Option (List ℕ)) (fault : ReadFaul
 -- or of a whole journal
 pub data ShowsPart (input left old new : Option (List ℕ)) : Type 0 where
   of_entries : (entries : List Fact) → (a : AreEntries MAX_ENTRIES entries)
-      → Consumes input left (front_in a.version entries) → AppendsPart old new (entry_lines entries)
+      → Consumes input left (without_end_in a.version entries) → AppendsPart old new (entry_lines entries)
       → ShowsPart input left old new
   of_journal : (entries : List Fact)
       → IfSome input (λ bytes. IsJournalWithin MAX_ENTRIES bytes entries)

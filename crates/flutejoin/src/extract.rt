@@ -2,7 +2,7 @@
 ghost use Rattle.std.specs.Prelude.{◌≡◌, ◌+◌, ℕ, false, List, [], Option, IfErr};
 ghost use Rattle.flute_parts.specs.Facts.{Same};
 ghost use Rattle.flute_parts.specs.declared.fact.Fact.{Fact as Known};
-ghost use Rattle.flute_journal.specs.JournalWriters.{times_failed};
+ghost use Rattle.flute_parts.specs.Devices.{times_failed};
 ghost use Rattle.flute_journal.specs.Readers.{source_of, limit_of, state_of};
 ghost use Rattle.flute_journal.specs.Stores.{FailsToLoad};
 ghost use Rattle.flute_journal.specs.declared.journal_reader.ReaderState.TheVariants as ReaderState;

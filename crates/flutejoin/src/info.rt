@@ -8,7 +8,7 @@ ghost use Rattle.flute_journal.specs.Eithers.{either_behaviour};
 ghost use Rattle.flute_journal.specs.FactStreams.{fact_behaviour};
 ghost use Rattle.flute_journal.specs.FirstFaults.{FirstFault};
 ghost use Rattle.flute_journal.specs.JournalStreams.{journal_behaviour};
-ghost use Rattle.flute_journal.specs.JournalWriters.{times_failed};
+ghost use Rattle.flute_parts.specs.Devices.{times_failed};
 ghost use Rattle.flute_journal.specs.StreamMerges.{MergedAll, AppendsNoJournal, NoneFails};
 ghost use Rattle.flute_journal.specs.Withins.{within_behaviour};
 ghost use Rattle.flute_journal.specs.declared.either.Either.TheVariants.{First as Left, Second as Right};

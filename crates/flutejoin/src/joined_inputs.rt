@@ -4,7 +4,7 @@ ghost use Rattle.flute_journal.specs.declared.fault.ReadFault.TheVariants.{Read}
 ghost use Rattle.flute_journal.specs.Streams.{fact_in, most_of};
 ghost use Rattle.flute_journal.specs.Advances.{AreNew};
 ghost use Rattle.flute_journal.specs.FirstFaults.{FirstFault};
-ghost use Rattle.flute_journal.specs.JournalWriters.{times_failed};
+ghost use Rattle.flute_parts.specs.Devices.{times_failed};
 ghost use Rattle.flute_journal.specs.Listed.{listed_behaviour};
 ghost use Rattle.flute_journal.specs.Replacing.{replaced};
 ghost use Rattle.flute_journal.specs.StreamMerges.{MergedAll, AppendsNoJournal, NoneFails};

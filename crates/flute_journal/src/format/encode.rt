@@ -7,7 +7,7 @@ ghost use Rattle.flute_store.specs.Walk.{IsSized};
 ghost use Rattle.flute_journal.specs.Numbers.{in_bytes};
 ghost use Rattle.flute_journal.specs.Format.{key_bytes, id_bytes, info_bytes, entry, end};
 ghost use Rattle.flute_journal.specs.declared.format.version.Version.TheVariants.{Two};
-ghost use Rattle.flute_journal.specs.Journal.{IsByte, IsKey, IsId, IsInfo, IsFact};
+ghost use Rattle.flute_parts.specs.Ranges.{IsByte, IsKey, IsId, IsInfo, IsFact};
 ghost use Rattle.flute_journal.specs.Writing.{symbol_value};
 
 use super::END;

@@ -3,7 +3,7 @@ ghost use Rattle.std.specs.Prelude.{◌≡◌, ◌<◌, ◌≤◌, ◌^◌, leng
 ghost use Rattle.std.specs.List.{AllByRecursion};
 ghost use Rattle.flute_parts.specs.BigEndian.{big_endian};
 ghost use Rattle.flute_journal.specs.Numbers.{in_bytes};
-ghost use Rattle.flute_journal.specs.Journal.{IsByte};
+ghost use Rattle.flute_parts.specs.Ranges.{IsByte};
 
 use byteorder::{BigEndian, ByteOrder};
 

@@ -1,5 +1,5 @@
-use Rattle.flute_journal.proofs.Passes.{front-below}
+use Rattle.flute_journal.proofs.Passes.{without_end-below}
 use Rattle.flute_journal.proofs.laws.first_entries_are_below.Goals as goal
 
 pub returns : goal.returns
-returns c bs F es limit (v, journal) b = front-below v b.are_entries.version bs F es b.rest journal b.are_entries.valid b.whole
+returns c bs F es limit (v, journal) b = without_end-below v b.are_entries.version bs F es b.rest journal b.are_entries.valid b.whole

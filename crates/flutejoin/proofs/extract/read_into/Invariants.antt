@@ -1,6 +1,6 @@
 -- The entries so far passed.
 use Rattle.std.proofs.Common.{◌≡◌, ◌+◌, ◌-◌}
-use Rattle.flute_journal.specs.JournalWriters.{times_failed}
+use Rattle.flute_parts.specs.Devices.{times_failed}
 use Rattle.flute_journal.specs.Reading.{count_at}
 use Rattle.flutejoin.specs.ObjectWriters.{WritesNothing}
 use Rattle.flutejoin.specs.declared.limits.TheConstants.{MAX_ENTRIES}

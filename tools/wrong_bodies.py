@@ -1,0 +1,210 @@
+#!/usr/bin/env python3
+"""Tries wrong bodies: edits of the code that a contract has to refuse.
+
+usage: tools/wrong_bodies.py [CRATE ..]
+
+Those of crates/CRATE/wrong-bodies/, of the crates that are named or of all. An edit is a file as `rt must-fail` reads it:
+lines 'file: PATH', 'old: TEXT', 'new: TEXT'. A function is proved from the contracts of those that it calls, and from
+nothing else of them. So the edits of a crate are tried together, one of a function at a time, in a copy of the
+repository: each function that was edited has to be told as 'not proved', and no other. One that is told to wait for
+an edited function that it calls is tried again without that one. What is in doubt is tried alone.
+
+The last line is 'wrong bodies: N refused, M failed', and the status 0 if all were refused.
+"""
+import os
+import re
+import shutil
+import subprocess
+import sys
+import tempfile
+
+ROOT = os.path.dirname(os.path.dirname(os.path.abspath(__file__)))
+TOLD = re.compile(r"^fn (\S+): (.*)$", re.M)
+
+
+class Body:
+    """A wrong body: its name, the files with their pairs of texts, and the functions that it changes."""
+
+    def __init__(self, folder, crate, file):
+        self.name = f"{crate}/{os.path.basename(file)[: -len('.edit')]}"
+        self.pairs, path, old = [], "", None
+        with open(file, encoding="utf-8") as text:
+            for line in text.read().split("\n"):
+                if line.startswith("file: "):
+                    path = line[len("file: ") :].strip()
+                elif line.startswith("old: "):
+                    old = line[len("old: ") :]
+                elif line.startswith("new:") and path and old:
+                    self.pairs.append((path, old, line[len("new:") :].removeprefix(" ")))
+                    old = None
+        if not self.pairs:
+            raise ValueError(f"{self.name}: no pair of texts")
+        self.functions, texts = set(), {}
+        for path, old, new in self.pairs:
+            if path not in texts:
+                with open(f"{folder}/{path}", encoding="utf-8") as text:
+                    texts[path] = text.read()
+            if texts[path].count(old) != 1:
+                raise ValueError(f"{self.name}: its text is {texts[path].count(old)} times in {path}, and not once")
+            self.functions.add(enclosing(crate, path, texts[path][: texts[path].index(old) + len(old)]))
+            texts[path] = texts[path].replace(old, new)
+
+    def is_of_functions(self):
+        return None not in self.functions
+
+
+def bare(name):
+    """A type or trait without its path, its lifetime and its parameters."""
+    name = re.sub(r"<.*", "", name.strip().lstrip("&")).strip()
+    return name.rpartition("::")[2]
+
+
+def enclosing(crate, path, text):
+    """The name, as a check tells it, of the function that this text ends in, if it ends in one."""
+    functions = [*re.finditer(r"^( *)(?:pub(?:\([^)]*\))? )?(?:const |final |unsafe )*fn (\w+)", text, re.M)]
+    items = [*re.finditer(r"^(?:pub(?:\([^)]*\))? )?(?:impl|trait|struct|enum)\b[^{;]*", text, re.M)]
+    if not functions or items and functions[-1].end() < items[-1].start():
+        return None
+    inside = path[len("src/") : -len(".rt")]
+    names = [crate, *([] if inside in ("lib", "main") else inside.split("/"))]
+    if functions[-1][1]:
+        owners = [it[0] for it in items if re.match(r"(?:pub(?:\([^)]*\))? )?(?:impl|trait)\b", it[0])]
+        owner = re.sub(r"^(?:pub(?:\([^)]*\))? )?", "", " ".join(owners[-1].split()))
+        if owner.startswith("trait"):
+            names.append(bare(owner[len("trait") :]))
+        else:
+            owner, depth = owner[len("impl") :].strip(), 0
+            if owner.startswith("<"):
+                for at, letter in enumerate(owner):
+                    depth += (letter == "<") - (letter == ">" and owner[at - 1] != "-")
+                    if not depth:
+                        owner = owner[at + 1 :].strip()
+                        break
+            trait, _, of = owner.partition(" for ")
+            # (of a conversion the name has the type that it is from)
+            conversion = re.fullmatch(r"From<(.*)>", trait.strip())
+            of, trait = (of, f"From{bare(conversion[1])}" if conversion else bare(trait)) if of else (trait, "")
+            of = bare(of)
+            names.append(of[:1].upper() + of[1:] + trait)
+    return "::".join([*names, functions[-1][2]])
+
+
+def found_in(answers, name):
+    """The name that a check tells for this one: a method is told with the module of its type, not with its own."""
+    last = "::".join(name.split("::")[-2:])
+    alike = [it for it in answers if it.endswith(f"::{last}")]
+    return name if name in answers or len(alike) != 1 else alike[0]
+
+
+def check(folder):
+    """What a check of the crate prints."""
+    ran = subprocess.run(["rt", "check"], cwd=folder, stdin=subprocess.DEVNULL, stdout=subprocess.PIPE, stderr=subprocess.STDOUT, errors="replace")
+    return ran.returncode, ran.stdout
+
+
+def is_unproved(status, told):
+    """Whether the check came to its end, and the crate is not proved."""
+    return status == 1 and re.search(r"^logic=not-proved", told, re.M) is not None
+
+
+class Crate:
+    def __init__(self, room, name):
+        self.name, self.folder, self.refused, self.failed = name, f"{room}/crates/{name}", 0, 0
+        files = sorted(it for it in os.listdir(f"{ROOT}/crates/{name}/wrong-bodies") if it.endswith(".edit"))
+        self.bodies = [Body(f"{ROOT}/crates/{name}", name, f"{ROOT}/crates/{name}/wrong-bodies/{it}") for it in files]
+
+    def with_bodies(self, bodies):
+        """Puts these bodies in place, checks, and takes them back."""
+        texts = {}
+        for body in bodies:
+            for path, old, new in body.pairs:
+                if path not in texts:
+                    with open(f"{ROOT}/crates/{self.name}/{path}", encoding="utf-8") as text:
+                        texts[path] = text.read()
+                texts[path] = texts[path].replace(old, new)
+        for path, text in texts.items():
+            with open(f"{self.folder}/{path}", "w", encoding="utf-8") as to:
+                to.write(text)
+        try:
+            return check(self.folder)
+        finally:
+            for path in texts:
+                shutil.copyfile(f"{ROOT}/crates/{self.name}/{path}", f"{self.folder}/{path}")
+
+    def group(self, pending):
+        """As many of these bodies as are of different functions and lines."""
+        chosen, functions, lines = [], set(), set()
+        for body in pending:
+            places = {(path, old) for path, old, _ in body.pairs}
+            if body.is_of_functions() and not body.functions & functions and not places & lines:
+                chosen.append(body)
+                functions |= body.functions
+                lines |= places
+        return chosen
+
+    def settle(self, body, is_refused, why):
+        self.refused += is_refused
+        self.failed += not is_refused
+        print(f"{body.name}: {'refused' if is_refused else 'FAILED'}: {why}", flush=True)
+
+    def alone(self, body):
+        """Tries one body, which has to leave the crate unproved."""
+        status, told = self.with_bodies([body])
+        said = next((it for it in told.split("\n") if re.match(r"(note: )?\S+:\d+:\d+:", it)), told[-160:])
+        self.settle(body, is_unproved(status, told), f"alone: {said[:160]}")
+
+    def together(self, bodies):
+        """Tries these bodies together, and returns those of which nothing is known yet."""
+        status, told = self.with_bodies(bodies)
+        answers = dict(TOLD.findall(told))
+        functions = {it: sorted({found_in(answers, name) for name in it.functions}) for it in bodies}
+        edited = {name for names in functions.values() for name in names}
+        others = [it for it, said in answers.items() if said.startswith("not proved") and it not in edited]
+        if not is_unproved(status, told) or others:
+            print(f"{self.name}: {len(bodies)} together told nothing: {', '.join(others) or told[-300:]}", flush=True)
+            return None
+        left = []
+        for body in bodies:
+            said = [answers.get(it, "no answer") for it in functions[body]]
+            if any(it.startswith("not proved") for it in said):
+                self.settle(body, True, f"not proved: {', '.join(functions[body])}")
+            elif all(it.startswith("proved") for it in said):
+                self.settle(body, False, f"still proved: {', '.join(functions[body])}")
+            else:
+                left.append(body)
+        return left
+
+    def run(self):
+        pending = self.bodies
+        while pending:
+            bodies = self.group(pending)
+            left = self.together(bodies) if len(bodies) > 1 else bodies
+            if left is None or len(left) == len(bodies):
+                # (one that waits for no other is found when it is tried alone)
+                for body in bodies:
+                    self.alone(body)
+                left = []
+            pending = left + [it for it in pending if it not in bodies]
+            if pending and not self.group(pending):
+                for body in pending:
+                    self.alone(body)
+                pending = []
+
+
+def main(names):
+    crates = names or sorted(it for it in os.listdir(f"{ROOT}/crates") if os.path.isdir(f"{ROOT}/crates/{it}/wrong-bodies"))
+    refused = failed = 0
+    with tempfile.TemporaryDirectory(prefix="wrong-bodies-") as room:
+        shutil.copytree(f"{ROOT}/crates", f"{room}/crates", symlinks=True)
+        for file in ("crates.txt", "HANDLES"):
+            shutil.copyfile(f"{ROOT}/{file}", f"{room}/{file}")
+        for name in crates:
+            crate = Crate(room, name)
+            crate.run()
+            refused, failed = refused + crate.refused, failed + crate.failed
+    print(f"wrong bodies: {refused} refused, {failed} failed")
+    return 1 if failed else 0
+
+
+if __name__ == "__main__":
+    sys.exit(main(sys.argv[1:]))
