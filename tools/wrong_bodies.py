@@ -102,6 +102,11 @@ def check(folder):
     return ran.returncode, ran.stdout
 
 
+def is_refused(said):
+    """Whether a check refuses this function for what it does itself, and not only for what it calls."""
+    return said.startswith("not proved") or "` did not prove `" in said
+
+
 def is_unproved(status, told):
     """Whether the check came to its end, and the crate is not proved."""
     return status == 1 and re.search(r"^logic=not-proved", told, re.M) is not None
@@ -159,14 +164,14 @@ class Crate:
         answers = dict(TOLD.findall(told))
         functions = {it: sorted({found_in(answers, name) for name in it.functions}) for it in bodies}
         edited = {name for names in functions.values() for name in names}
-        others = [it for it, said in answers.items() if said.startswith("not proved") and it not in edited]
+        others = [it for it, said in answers.items() if is_refused(said) and it not in edited]
         if not is_unproved(status, told) or others:
             print(f"{self.name}: {len(bodies)} together told nothing: {', '.join(others) or told[-300:]}", flush=True)
             return None
         left = []
         for body in bodies:
             said = [answers.get(it, "no answer") for it in functions[body]]
-            if any(it.startswith("not proved") for it in said):
+            if any(is_refused(it) for it in said):
                 self.settle(body, True, f"not proved: {', '.join(functions[body])}")
             elif all(it.startswith("proved") for it in said):
                 self.settle(body, False, f"still proved: {', '.join(functions[body])}")
