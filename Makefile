@@ -1,8 +1,8 @@
 # make               proves what changed, builds the program and leaves it at bin/flutejoin
-# make test          the whole gate: every proof from nothing, the must-fail edits, the tests, the trials, the
+# make test          the whole gate: every proof from nothing, the wrong bodies, the tests, the trials, the
 #                    program, the tools, the sessions of README, of docs/OPERATING.md, the man pages and the
 #                    tutorial, the completion, the longest journal, and memory refused in turn
-# make wrong-bodies  the wrong bodies that the gate leaves out
+# make wrong-bodies  the wrong bodies alone
 # make try           reads a first packet with the program as it stands, in about a minute and with nothing proved
 # make example       runs a small session: a file sent, received at three stations, joined and written
 # make install       copies the program to $(PREFIX)/bin, and the tools of the network and of pictures beside it; man pages, the
@@ -19,6 +19,7 @@ bin/flutejoin: $(SOURCES)
 
 test:
 	rt ci
+	tools/wrong_bodies.py
 	tests/trials.sh
 	tests/program.sh crates/flutejoin_cli/out/flutejoin_cli
 	tests/outputs.sh crates/flutejoin_cli/out/flutejoin_cli
@@ -36,7 +37,8 @@ test:
 	tests/refused_program.sh crates/flutejoin_cli/out/flutejoin_cli crates/flutejoin_cli/out/flutejoin_cli.by-rattle
 
 wrong-bodies:
-	tools/wrong_bodies.sh
+	rt must-fail
+	tools/wrong_bodies.py
 
 try:
 	@echo "flutejoin: nothing is proved by this: the program is run before any proof, on one packet" >&2

@@ -1,15 +1,19 @@
 #!/usr/bin/env python3
 """Tries wrong bodies: edits of the code that a contract has to refuse.
 
-usage: tools/wrong_bodies.py [CRATE ..]
+usage: tools/wrong_bodies.py [--alone] [CRATE ..]
 
 Those of crates/CRATE/wrong-bodies/, of the crates that are named or of all. An edit is a file as `rt must-fail` reads it:
 lines 'file: PATH', 'old: TEXT', 'new: TEXT'. A function is proved from the contracts of those that it calls, and from
 nothing else of them. So the edits of a crate are tried together, one of a function at a time, in a copy of the
-repository: each function that was edited has to be told as 'not proved', and no other. One that is told to wait for
-an edited function that it calls is tried again without that one. What is in doubt is tried alone.
+repository: each function that was edited has to be refused for a goal of its own, and no other function may be. One that
+only waits for an edited function that it calls is tried again without that one. What is in doubt is tried alone, and so is
+an edit outside functions. As many crates are tried side by side as there are processors.
 
 The last line is 'wrong bodies: N refused, M failed', and the status 0 if all were refused.
+
+With --alone `rt must-fail` tries each by itself, as it does the edits of crates/CRATE/must-fail/: that takes half a minute
+to two minutes for each.
 """
 import os
 import re
@@ -17,6 +21,7 @@ import shutil
 import subprocess
 import sys
 import tempfile
+from concurrent.futures import ThreadPoolExecutor
 
 ROOT = os.path.dirname(os.path.dirname(os.path.abspath(__file__)))
 TOLD = re.compile(r"^fn (\S+): (.*)$", re.M)
@@ -98,7 +103,7 @@ def found_in(answers, name):
 
 def check(folder):
     """What a check of the crate prints."""
-    ran = subprocess.run(["rt", "check"], cwd=folder, stdin=subprocess.DEVNULL, stdout=subprocess.PIPE, stderr=subprocess.STDOUT, errors="replace")
+    ran = subprocess.run(["rt", "check", "--jobs", "1"], cwd=folder, stdin=subprocess.DEVNULL, stdout=subprocess.PIPE, stderr=subprocess.STDOUT, errors="replace")
     return ran.returncode, ran.stdout
 
 
@@ -112,9 +117,29 @@ def is_unproved(status, told):
     return status == 1 and re.search(r"^logic=not-proved", told, re.M) is not None
 
 
+def link(one, other):
+    """A library that was built gets a second name: it is removed before it is made anew, and never written into."""
+    try:
+        os.link(one, other)
+    except OSError:
+        shutil.copy2(one, other)
+    return other
+
+
+def copy_to(room):
+    """Copies the repository, with the libraries that were built."""
+    for name in os.listdir(f"{ROOT}/crates"):
+        shutil.copytree(f"{ROOT}/crates/{name}", f"{room}/crates/{name}", ignore=shutil.ignore_patterns("out"))
+        if os.path.isdir(f"{ROOT}/crates/{name}/out/rlib"):
+            shutil.copytree(f"{ROOT}/crates/{name}/out/rlib", f"{room}/crates/{name}/out/rlib", symlinks=True, copy_function=link)
+    for file in ("crates.txt", "HANDLES"):
+        shutil.copyfile(f"{ROOT}/{file}", f"{room}/{file}")
+
+
 class Crate:
     def __init__(self, room, name):
-        self.name, self.folder, self.refused, self.failed = name, f"{room}/crates/{name}", 0, 0
+        self.name, self.folder, self.told = name, f"{room}/crates/{name}", []
+        self.refused = self.failed = 0
         files = sorted(it for it in os.listdir(f"{ROOT}/crates/{name}/wrong-bodies") if it.endswith(".edit"))
         self.bodies = [Body(f"{ROOT}/crates/{name}", name, f"{ROOT}/crates/{name}/wrong-bodies/{it}") for it in files]
 
@@ -150,7 +175,7 @@ class Crate:
     def settle(self, body, is_refused, why):
         self.refused += is_refused
         self.failed += not is_refused
-        print(f"{body.name}: {'refused' if is_refused else 'FAILED'}: {why}", flush=True)
+        self.told.append(f"{body.name}: {'refused' if is_refused else 'FAILED'}: {why}")
 
     def alone(self, body):
         """Tries one body, which has to leave the crate unproved."""
@@ -166,7 +191,7 @@ class Crate:
         edited = {name for names in functions.values() for name in names}
         others = [it for it, said in answers.items() if is_refused(said) and it not in edited]
         if not is_unproved(status, told) or others:
-            print(f"{self.name}: {len(bodies)} together told nothing: {', '.join(others) or told[-300:]}", flush=True)
+            self.told.append(f"{self.name}: {len(bodies)} together told nothing: {', '.join(others) or told[-300:]}")
             return None
         left = []
         for body in bodies:
@@ -196,19 +221,41 @@ class Crate:
                 pending = []
 
 
-def main(names):
-    crates = names or sorted(it for it in os.listdir(f"{ROOT}/crates") if os.path.isdir(f"{ROOT}/crates/{it}/wrong-bodies"))
-    refused = failed = 0
+def tried(name):
+    """Tries the wrong bodies of a crate, in a copy of its own, and returns how many were refused and how many were not."""
     with tempfile.TemporaryDirectory(prefix="wrong-bodies-") as room:
-        shutil.copytree(f"{ROOT}/crates", f"{room}/crates", symlinks=True)
-        for file in ("crates.txt", "HANDLES"):
-            shutil.copyfile(f"{ROOT}/{file}", f"{room}/{file}")
-        for name in crates:
-            crate = Crate(room, name)
-            crate.run()
-            refused, failed = refused + crate.refused, failed + crate.failed
+        copy_to(room)
+        crate = Crate(room, name)
+        crate.run()
+    print("\n".join(crate.told), flush=True)
+    return crate.refused, crate.failed
+
+
+def lines_of(name):
+    """About how long a check of the crate takes."""
+    return sum(os.path.getsize(f"{at}/{it}") for at, _, files in os.walk(f"{ROOT}/crates/{name}/src") for it in files)
+
+
+def each_alone(names):
+    """Lets `rt must-fail` try the wrong bodies of the crates that are named, or of all."""
+    with tempfile.TemporaryDirectory(prefix="wrong-bodies-") as room:
+        copy_to(room)
+        for name in os.listdir(f"{room}/crates"):
+            shutil.rmtree(f"{room}/crates/{name}/must-fail", ignore_errors=True)
+            if os.path.isdir(f"{room}/crates/{name}/wrong-bodies"):
+                os.rename(f"{room}/crates/{name}/wrong-bodies", f"{room}/crates/{name}/must-fail")
+        return subprocess.run(["rt", "must-fail", *names], cwd=room).returncode
+
+
+def main(names):
+    if "--alone" in names:
+        return each_alone([it for it in names if it != "--alone"])
+    crates = names or [it for it in os.listdir(f"{ROOT}/crates") if os.path.isdir(f"{ROOT}/crates/{it}/wrong-bodies")]
+    with ThreadPoolExecutor(len(os.sched_getaffinity(0))) as pool:
+        found = [*pool.map(tried, sorted(crates, key=lines_of, reverse=True))]
+    refused, failed = sum(it for it, _ in found), sum(it for _, it in found)
     print(f"wrong bodies: {refused} refused, {failed} failed")
-    return 1 if failed else 0
+    return 1 if failed or not refused else 0
 
 
 if __name__ == "__main__":

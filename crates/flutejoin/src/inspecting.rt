@@ -54,7 +54,7 @@ impl Inspected {
     }
 }
 
-/// Inspects at the kind of each input, and reads each datagram file, in their order.
+/// Inspects the kind of each input, and reads each datagram file, in their order.
 /// A journal is then to be read from its first byte.
 ///
 /// # Errors
@@ -96,7 +96,7 @@ pub(crate) fn inspect_all<R: Source>(
     Ok(inspected)
 }
 
-// Inspects at the kind of an input. Answers what it tells, if it is a datagram file; a journal is
+// Inspects the kind of an input. Answers what it tells, if it is a datagram file; a journal is
 // then to be read from its first byte.
 fn inspect<R: Source>(
     alloc: Global,
