@@ -1,7 +1,8 @@
 -- Where the turns of a walk lead, whatever is held behind the next symbol.
 use Common.{nat_tests}
 use Rattle.std.proofs.Common.{◌≡◌, ◌≢◌, ℕ, ◌+◌, ◌-◌, ◌*◌, ◌<◌, ◌≤◌, ◌^◌, ◌⊎◌, Bool, true, false, cond, ◌&&◌, Option, Some, None, refl, sym, ap, ◌∙◌, subst, arith, inl, inr}
-use Rattle.{std.specs.Prelude.{nat_lt, length}, flute_store.proofs.Upcoming.{by-place}}
+use Rattle.std.specs.Prelude.{nat_lt, length}
+use Rattle.flute_store.proofs.Upcoming.{by-place}
 use Rattle.flute_store.proofs.{GapSteps.{greater-cases, run-ends}, Turns.{run-is, no-run}}
 use Rattle.flute_store.proofs.Common
 use Common.{◌==◌, Ordering, Less, Equal, Greater, match_ordering, cases_Bool, eqb-true, ne_eqb}

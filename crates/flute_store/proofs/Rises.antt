@@ -3,7 +3,8 @@ use Rattle.std.proofs.Common.{ℕ, ◌+◌, ◌*◌, ◌≤◌, List, [], ◌∷
 use Rattle.std.proofs.Common.{◌≡◌, ◌++◌, refl, ap, ◌∙◌}
 use Rattle.flute_store.proofs.StoreJoin.{any_value, cell-stands, each-append, each-flat_map}
 use Rattle.flute_store.proofs.StoreJoin.{OrderedObject, OrderedSession, OrderedStore}
-use Rattle.{std.proofs.Math.Nat.{mul-le-mul_right}, flute_store.proofs.Shown.{equal_keys}}
+use Rattle.std.proofs.Math.Nat.{mul-le-mul_right}
+use Rattle.flute_store.proofs.Shown.{equal_keys}
 use Rattle.flute_store.proofs.Common
 use Common.{flat_map, EachValue, Cell, Absent, One, Conflict, Session, ObjectName, Key, Fact, Info}
 use Common.{InfoConflict, Symbol, SymbolConflict, Object, key_in, cell_facts, symbol_cell_facts}

@@ -1,8 +1,10 @@
 -- What is told of an object: its symbols, and what is wanted of it.
 use Rattle.std.proofs.Common.{◌≡◌, ◌≢◌, ℕ, List, ◌∷◌, false, Option, Some, None, refl, sym, ap, ◌∙◌, subst, ◌↔◌}
 use Rattle.std.proofs.Common.{◌+◌, length, arith}
-use Rattle.{std.specs.Ordering.{eq_by_cmp}, flute_store.specs.GapsLeft.{GapsLeft}}
-use Rattle.{std.proofs.lemmas.Cmp.{eq_by_cmp_equiv}, flute_store.proofs.Found.{known-fact}}
+use Rattle.std.specs.Ordering.{eq_by_cmp}
+use Rattle.flute_store.specs.GapsLeft.{GapsLeft}
+use Rattle.std.proofs.lemmas.Cmp.{eq_by_cmp_equiv}
+use Rattle.flute_store.proofs.Found.{known-fact}
 use Rattle.std.proofs.lemmas.Map.Views.{IsSome-lookup_from_Contains, Contains-keys_from_lookup}
 use Rattle.flute_store.{specs.GapAnswers.{GivesGaps}, proofs.Lookups.{blocks_from-all}}
 use Rattle.flute_store.proofs.Common

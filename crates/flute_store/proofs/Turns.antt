@@ -1,7 +1,8 @@
 -- What the turns of a walk do.
 use Rattle.std.proofs.Common.{◌≡◌, ℕ, ◌-◌, cond, List, ◌∷◌, Option, Some, None, refl, sym, ap, ◌∙◌, subst, inl, inr}
 use Rattle.std.proofs.Common.{rules, ◌+◌, ◌<◌, ◌^◌, false, length, arith, Bool}
-use Rattle.{std.specs.Prelude.{length}, flute_store.proofs.Lookups.{Entry}}
+use Rattle.std.specs.Prelude.{length}
+use Rattle.flute_store.proofs.Lookups.{Entry}
 use Rattle.flute_store.proofs.Upcoming.{told, step-pass, step-take, step-begin, ahead-trans}
 use Rattle.flute_store.proofs.GapSteps.{step-want, gap-run, gap-missing, gaps-end}
 use Rattle.flute_store.proofs.Common
