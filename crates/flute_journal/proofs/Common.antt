@@ -25,11 +25,14 @@ pub use Rattle.flute_journal.specs.Whole.{HasFault, ReadsPart, StopsAfter}
 pub use Rattle.flute_journal.specs.declared.{datagram_reader.FileState.{FileState}, datagram_reader.FileState.TheVariants.{Records}, either.Either.{Either}, either.Either.TheVariants.{First, Second}, fault.LoadFault.{LoadFault}, fault.LoadFault.TheVariants.{Full, Read}, fault.ReadFault.{ReadFault}}
 pub use Rattle.flute_journal.specs.declared.{format.EntryHead.{EntryHead}, format.Kind.{Kind}, format.version.Version.{Version}, format.version.Version.TheVariants.{One, Two}, journal_stream.LentStream.{LentStream}, all_streams.MergedJournal.{MergedJournal}, journal_reader.ReaderState.{ReaderState}, journal_reader.ReaderState.TheVariants.{Ended, Entries, Failed, Header}, streams_fault.InputFault.{InputFault}}
 pub use Rattle.flute_journal.specs.declared.{streams_fault.StreamsFault.{StreamsFault}, streams_fault.StreamsFault.TheVariants.{Input, Write}}
-pub use Rattle.flute_parts.proofs.Appended.{AppendsPart-first, AppendsPart-second, Writes-behind}
-pub use Rattle.flute_parts.proofs.Facts.{Below-from_Same, Same-append, Same-itself, Same-members, Same-sym, Same-trans, Same-twice, alone, alone-at, alone-elsewhere, fact_at-cons, fact_at-elsewhere, fact_at-here, fact_at-nil}
-pub use Rattle.flute_parts.proofs.Joined.{fact_at-append, joined, joined-apart, joined-assoc, joined-comm, joined-none, joined-same}
-pub use Rattle.flute_parts.proofs.Named.{Over-below}
-pub use Rattle.flute_parts.proofs.Rising.{StandAfter-before, fact_at-after, rising_unique}
+pub use Rattle.flute_parts.proofs.Public.{alone, alone-at, alone-elsewhere, AppendsPart-first}
+pub use Rattle.flute_parts.proofs.Public.{AppendsPart-second, Below-from_Same, fact_at-after}
+pub use Rattle.flute_parts.proofs.Public.{fact_at-append, fact_at-cons, fact_at-elsewhere}
+pub use Rattle.flute_parts.proofs.Public.{fact_at-here, fact_at-nil, joined, joined-apart}
+pub use Rattle.flute_parts.proofs.Public.{joined-assoc, joined-comm, joined-none, joined-same}
+pub use Rattle.flute_parts.proofs.Public.{Over-below, rising_unique, Same-append, Same-itself}
+pub use Rattle.flute_parts.proofs.Public.{Same-members, Same-sym, Same-trans, Same-twice}
+pub use Rattle.flute_parts.proofs.Public.{StandAfter-before, Writes-behind}
 pub use Rattle.flute_parts.specs.Addresses.{address, fact_of, info_address, symbol_address}
 pub use Rattle.flute_parts.specs.BigEndian.{big_endian}
 pub use Rattle.flute_parts.specs.Devices.{AppendsPart, times_failed}
@@ -46,7 +49,7 @@ pub use Rattle.flute_parts.specs.declared.{address.Address.{Address}, address.Pa
 pub use Rattle.flute_parts.specs.declared.{object_key.ObjectName.TheVariants.{File, Instance}, symbol_id.SymbolId.{SymbolId}}
 pub use Rattle.flute_store.specs.Walk.{IsSized, YieldsFact}
 pub use Rattle.byteorder.specs.Numbers.{length-bytes_high_first}
-pub use Rattle.flute_wire.proofs.BigEndian.{big_from-whole}
+pub use Rattle.flute_wire.proofs.Public.{big_from-whole}
 pub use Rattle.std.proofs.KnownBytes.{Appends-nil, Appends-trans, Consumes-kept, Consumes-nil, Consumes-trans, Consumes-whole}
 pub use Rattle.std.proofs.Math.ListN.{set}
 pub use Rattle.std.proofs.Math.Nat.{add-mul, div-eq_of_lt, div-one, mod-eq_of_lt, mul-add-div_right, mul-add-mod_self_right, mul-le-mul_right, mul_assoc, one-le-pow, pow-le-pow_right, pow-succ'}

@@ -1,39 +1,40 @@
-pub mod Common
-pub mod Each
-pub mod Sequences
-pub mod Numbers
-pub mod Entries
-pub mod ReadsUpTo
-pub mod Parts
-pub mod Written
-pub mod Decoded
-pub mod Calls
-pub mod Bodies
-pub mod Passes
-pub mod Existence
-pub mod Whole
-pub mod Saving
-pub mod Loading
-pub mod Records
-pub mod FileCalls
-pub mod Files
-pub mod Sending
-pub mod MergeRising
-pub mod MergeBytes
-pub mod Pairs
-pub mod BesideFacts
+mod Common
+mod Each
+mod Sequences
+mod Numbers
+mod Entries
+mod ReadsUpTo
+mod Parts
+mod Written
+mod Decoded
+mod Calls
+mod Bodies
+mod Passes
+mod Existence
+mod Whole
+mod Saving
+mod Loading
+mod Records
+mod FileCalls
+mod Files
+mod Sending
+mod MergeRising
+mod MergeBytes
+mod Pairs
+mod BesideFacts
 mod Replacements
-pub mod JournalReads
-pub mod OwnedReads
-pub mod GoingOn
-pub mod LowestFacts
-pub mod LeadFacts
-pub mod Finished
-pub mod WithinFacts
-pub mod WrittenSoFar
-pub mod StreamTurns
-pub mod StreamStops
-pub mod StreamStates
-pub mod Twos
-pub mod ListedFacts
-pub mod ChosenFacts
+mod JournalReads
+mod OwnedReads
+mod GoingOn
+mod LowestFacts
+mod LeadFacts
+mod Finished
+mod WithinFacts
+mod WrittenSoFar
+mod StreamTurns
+mod StreamStops
+mod StreamStates
+mod Twos
+mod ListedFacts
+mod ChosenFacts
+pub mod Public

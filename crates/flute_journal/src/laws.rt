@@ -97,7 +97,7 @@ pub fn first_entries_are_below()
 {}
 
 /// Rising facts that come to the same at each address are spelled alike.
-#[tactic(auto, using(flute_parts::proofs::Rising::rising_unique))]
+#[tactic(auto, using(flute_parts::proofs::Public::rising_unique))]
 pub fn rising_facts_have_one_spelling()
     ensures { (v : Version) (es fs : List Fact) → IsRising es → IsRising fs → Same es fs
         → spelling_in v es ≡ spelling_in v fs }

@@ -2,9 +2,9 @@
 use Rattle.std.proofs.Common.{◌≡◌, ℕ, zero, suc, ◌+◌, ◌-◌, List, [], ◌∷◌, ◌++◌, length, take, Option, Some, None, refl, sym, ap, ◌∙◌, subst, arith, append_assoc}
 use Rattle.flute_store.proofs.Lookups.{Above, above-before, blocks_from-all, blocks_from-next}
 use Rattle.std.{specs.Io.KnownBytes.{Appends}, proofs.KnownBytes.{Appends-trans}}
-use Rattle.flute_join.proofs.Under.{not_cons_nil}
+use Rattle.flute_join.proofs.Public.{not_cons_nil}
 use Rattle.flute_parts.specs.Devices.{AppendsPart}
-use Rattle.flute_parts.proofs.Appended.{AppendsPart-first, AppendsPart-second}
+use Rattle.flute_parts.proofs.Public.{AppendsPart-first, AppendsPart-second}
 use Rattle.flute_store.proofs.Lookups.{blocks_from-end, Entry, value-past, value-here}
 use Rattle.flute_store.proofs.{Runs.{runs-listed}, ToldObjects.{wants-told, told-information}}
 use Rattle.flute_store.proofs.{WholeObjects.{gapless-whole}, ObjectLength.{object-length}}

@@ -1,9 +1,7 @@
 -- The words that most proofs here cite, passed on from one place. Declares nothing.
 use Rattle.std.proofs.lemmas as Lemmas
 use Rattle.std.specs as Std
-use Rattle.flute_join.proofs as JoinProofs
 use Rattle.flute_join.specs as Join
-use Rattle.flute_parts.proofs as PartsProofs
 use Rattle.flute_parts.specs as Parts
 use Rattle.flute_wire.specs as Wire
 use Rattle.flute_store.specs as Store
@@ -20,24 +18,25 @@ pub use Std.declared.cmp.Ordering.{Ordering, TheVariants.{Equal, Greater, Less}}
 pub use Std.{BTreeMap.{is_at}, Borrow.{Bor}, Cmp.{Equal-is, IsTotalOrder}, Map.{keys_of, set_value}}
 pub use Std.{Option.{ForSome, option_copied, option_map_or}, Prelude.{not, option_map, ◌==◌}}
 unfoldable pub use Std.List.Sorted.{IsStrictlySortedBy}
-pub use JoinProofs.Below.{below_join, below_self, ok_is_not_err}
-pub use JoinProofs.Ordered.{EachValue-map_join, ordered-map_join}
-pub use JoinProofs.Single.{added_joins, length_new, single_held, single_new}
-pub use JoinProofs.Sound.{each-insert_entry, each-set_value, each-value_at, some_above}
-pub use JoinProofs.Values.{absent_past, value_at-map_join}
+pub use Rattle.flute_join.proofs.Public.{absent_past, added_joins, below_join, below_self}
+pub use Rattle.flute_join.proofs.Public.{each-insert_entry, each-set_value, each-value_at}
+pub use Rattle.flute_join.proofs.Public.{EachValue-map_join, length_new, ok_is_not_err}
+pub use Rattle.flute_join.proofs.Public.{ordered-map_join, single_held, single_new, some_above}
+pub use Rattle.flute_join.proofs.Public.{value_at-map_join}
 pub use Join.JoinMap.{EachValue, IsOrdered, IsSound, MapNeedsMemory, MapOver, join_values, map_join}
 pub use Join.declared.refusal.JoinRefusal.{JoinRefusal, TheVariants.{Full, OutOfMemory}}
 pub use Join.{Cell.{CellNeedsMemory, IsKnown, cell_join, one_value}, declared.cell.Cell.{Cell}}
 pub use Join.{JoinMap.{value_at}, MapLaws.{join_nothing, map_join_laws, nothing_join}}
 pub use Join.{Semilattice.{IsBelow, IsJoin}, declared.cell.Cell.TheVariants.{Absent, Conflict, One}}
-pub use PartsProofs.Counted.{Distinct, Distinct-firsts, Tells, has, has-firsts, length-Distinct}
-pub use PartsProofs.Facts.{Below-from_Same, Below-trans, Contains-from, Member-from, Same-sym}
-pub use PartsProofs.Facts.{fact_at-elsewhere, fact_at-here, fact_at-member_some, fact_at-nil}
-pub use PartsProofs.Joined.{fact_at-append, joined, joined-conflict_left, joined-conflict_right}
-pub use PartsProofs.Named.{Over-below, named-member, named-names, object_tells, session_tells}
-pub use PartsProofs.Named.{symbol_id_tells}
-pub use PartsProofs.{Facts.{fact_at-some_named}, Joined.{joined-itself, joined-none}}
-unfoldable pub use PartsProofs.{Facts.{Member}, Joined.{joined_fact}}
+pub use Rattle.flute_parts.proofs.Public.{Below-from_Same, Below-trans, Contains-from, Distinct}
+pub use Rattle.flute_parts.proofs.Public.{Distinct-firsts, fact_at-append, fact_at-elsewhere}
+pub use Rattle.flute_parts.proofs.Public.{fact_at-here, fact_at-member_some, fact_at-nil}
+pub use Rattle.flute_parts.proofs.Public.{fact_at-some_named, has, has-firsts, joined}
+pub use Rattle.flute_parts.proofs.Public.{joined-conflict_left, joined-conflict_right}
+pub use Rattle.flute_parts.proofs.Public.{joined-itself, joined-none, length-Distinct, Member-from}
+pub use Rattle.flute_parts.proofs.Public.{named-member, named-names, object_tells, Over-below}
+pub use Rattle.flute_parts.proofs.Public.{Same-sym, session_tells, symbol_id_tells, Tells}
+unfoldable pub use Rattle.flute_parts.proofs.Public.{joined_fact, Member}
 pub use Parts.Equality.{address_itself, address_same, both, eqb_itself, key_itself, key_same}
 pub use Parts.Equality.{object_place, session_itself, session_place, symbol_id_itself}
 pub use Parts.Facts.{Below, IsRising, Same, SameMembers, StandAfter, agreed, conflict_at, same_fact}

@@ -3,7 +3,7 @@ use Rattle.std.proofs.Common.{append-nil, ◌≡◌, ◌≢◌, ℕ, ◌≤◌, 
 use Rattle.flute_store.proofs.StoreJoin.{at-entries, OrderedObject, OrderedSession, OrderedStore}
 use Rattle.flute_store.proofs.StoreJoin.{ordered-store, in_session, in_store, entry_facts}
 use Rattle.flute_store.proofs.StoreJoin.{symbols_apart, objects_apart, sessions_apart}
-use Rattle.flute_parts.proofs.OneMore.{object_of-some, symbol_of-some}
+use Rattle.flute_parts.proofs.Public.{object_of-some, symbol_of-some}
 use Rattle.flute_store.proofs.StoreJoin.{object-symbol, object-info}
 use Rattle.flute_store.proofs.Common
 use Common.{Ordering, is_eq, option_map_or, keys_of, length-keys_of, none-some, same_Some, Session}

@@ -1,25 +1,26 @@
-pub mod Common
-pub mod StoreJoin
-pub mod OnePair
-pub mod Counting
-pub mod Exceeding
-pub mod Rises
-pub mod Spelled
-pub mod Refused
-pub mod KeyLists
-pub mod Runs
-pub mod WholeObjects
-pub mod Lookups
-pub mod Upcoming
-pub mod GapSteps
-pub mod Found
-pub mod ToldObjects
-pub mod Turns
-pub mod Shown
-pub mod Places
-pub mod ScanTurns
-pub mod ScanSteps
-pub mod HowMany
-pub mod ObjectLength
-pub mod BytesSteps
+mod Common
+mod StoreJoin
+mod OnePair
+mod Counting
+mod Exceeding
+mod Rises
+mod Spelled
+mod Refused
+mod KeyLists
+mod Runs
+mod WholeObjects
+mod Lookups
+mod Upcoming
+mod GapSteps
+mod Found
+mod ToldObjects
+mod Turns
+mod Shown
+mod Places
+mod ScanTurns
+mod ScanSteps
+mod HowMany
+mod ObjectLength
+mod BytesSteps
 mod Sent
+pub mod Public

@@ -2,7 +2,7 @@
 use Rattle.std.proofs.Common.{◌≡◌, ℕ, zero, suc, ◌+◌, ◌-◌, ◌*◌, ◌<◌, ◌≤◌, ◌&&◌, true, List, [], ◌∷◌, length, get_or, Some, refl, sym, ap, ◌∙◌, inl, inr, ◌⊎◌, arith}
 use Rattle.std.proofs.lemmas.{Grind.{div_ceil_times}, List.{length-append, length-take-le}}
 use Rattle.std.proofs.Math.Nat.{eq-zero-or-pos}
-use Rattle.flute_parts.proofs.{Division.{div_ceil-pos}, Split.{places-inverse, ids_counted}}
+use Rattle.flute_parts.proofs.Public.{div_ceil-pos, ids_counted, places-inverse}
 use Rattle.flute_store.proofs.Common
 use Common.{flat_map, ◌==◌, slice_get-get_or, eqb-true, or_cases, both, Information, symbol_count}
 use Common.{IsValid, symbol_address, fact_at, ids, place, last_length, fits_at, fits, Key, SymbolId}

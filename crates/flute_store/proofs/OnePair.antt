@@ -1,7 +1,7 @@
 -- One pair joined into a map: the outcome is sound, or passes a limit.
 use Rattle.std.proofs.Common.{◌≡◌, ◌≢◌, ℕ, ◌+◌, ◌<◌, ◌≤◌, List, [], ◌∷◌, length, Bool, true, false, cond, Option, Some, None, refl, sym, ap, ◌∙◌, subst, inl, inr, arith}
 use Rattle.std.proofs.lemmas.Map.{length-set_value}
-use Rattle.flute_join.proofs.Walk.{ordered_one}
+use Rattle.flute_join.proofs.Public.{ordered_one}
 use Rattle.flute_store.proofs.Common
 use Common.{cases_Bool, same_Some, Ordering, Equal, IsTotalOrder, is_at, none-some, IsJoin, IsBelow}
 use Common.{map_join, value_at, IsOrdered, EachValue, IsSound, map_join_laws, below_join}

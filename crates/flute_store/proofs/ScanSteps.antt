@@ -1,7 +1,7 @@
 -- What a scan has passed and given behind a turn.
 use Rattle.std.proofs.Common.{◌≡◌, ℕ, ◌+◌, ◌<◌, ◌≤◌, true, cond, List, [], ◌∷◌, ◌++◌, length, take, Option, Some, None, refl, sym, ap, ◌∙◌, subst, inl, inr, arith, append_assoc, append-nil}
 use Rattle.std.proofs.lemmas.Grind.{flat_map-append}
-use Rattle.flute_parts.proofs.Rising.{rising_tells}
+use Rattle.flute_parts.proofs.Public.{rising_tells}
 use Rattle.flute_store.proofs.{Lookups.{Entry}, Runs.{goes_on-tells}, GapSteps.{gaps-end}}
 use Rattle.flute_store.proofs.{KeyLists.{one_is, first_is}, ToldObjects.{want-symbol}}
 use Rattle.flute_store.proofs.{HowMany.{how-append, how-all, listed-length}, BytesSteps.{found-of}}

@@ -3,7 +3,7 @@ use Rattle.std.proofs.Common.{inl, inr}
 use Rattle.std.proofs.Common.{length-append, ◌≡◌, ℕ, ◌+◌, ◌-◌, ◌<◌, cond, List, [], ◌∷◌, ◌++◌, length, Option, Some, None, refl, sym, ap, ◌∙◌, subst, arith}
 use Rattle.flute_store.proofs.Lookups.{Entry, block_from-first, block_from-end, blocks_from-next}
 use Rattle.flute_parts.specs.Totality.{symbol_id_total}
-use Rattle.flute_join.proofs.Copied.{value_there}
+use Rattle.flute_join.proofs.Public.{value_there}
 use Rattle.std.proofs.lemmas.List.FromFn.{length-map-range_with_len}
 use Rattle.flute_store.proofs.{Lookups.{blocks_from-end, blocks_from-all}, ToldObjects.{start-left}}
 use Rattle.flute_store.proofs.HowMany.{how-nil}

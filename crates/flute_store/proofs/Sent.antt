@@ -1,11 +1,11 @@
 -- What is held of an object whose datagrams were all taken.
 use Rattle.std.proofs.Common.{◌≡◌, ℕ, zero, suc, inl, inr, List, [], ◌∷◌, ◌++◌, length, map, take, true, cond, Bool, Some, refl, sym, ap, subst, ◌∙◌, arith}
 use Rattle.std.proofs.lemmas.List.{Concat.{flat_map-cons}, Folds.{flat_map-map}, take_all}
-use Rattle.flute_parts.proofs.Readings.{fact_at-one}
+use Rattle.flute_parts.proofs.Public.{fact_at-one}
 use Rattle.flute_store.specs.Sent.{facts_at_key}
 use Rattle.flute_wire.specs.{Writing.{IsWritten}, Carousel.{symbols_of, packets_of, facts_sent}}
-use Rattle.flute_wire.proofs.{Pieces.{facts_are_sent}, Cut.{cut-ids, cut-joined, cut-fit, cut-one}}
-use Rattle.flute_wire.proofs.DatagramFacts.{IsSent, told-iff}
+use Rattle.flute_wire.proofs.Public.{cut-fit, cut-ids, cut-joined, cut-one, facts_are_sent, IsSent}
+use Rattle.flute_wire.proofs.Public.{told-iff}
 use Rattle.flute_store.proofs.Common
 use Common.{flat_map, Contains, filter, AllZip, cases_Bool, Information, IsValid, same_key}
 use Common.{key_itself, address, info_address, symbol_address, fact_at, SameMembers, ids, fits}

@@ -1,6 +1,6 @@
 -- What rising facts show of the symbols of an object.
 use Rattle.std.proofs.Common.{◌≡◌, ℕ, Bool, false, cond, List, [], ◌∷◌, ◌++◌, Some, refl, sym, ap, ◌∙◌, subst, inl, inr, append_assoc}
-use Rattle.flute_parts.proofs.Rising.{fact_at-after}
+use Rattle.flute_parts.proofs.Public.{fact_at-after}
 use Rattle.flute_store.proofs.{StoreJoin.{not_same, not_symbol, same_id}, Lookups.{Entry, Above}}
 use Rattle.flute_store.proofs.Common
 use Common.{AllByRecursion, IsStrictlySortedBy, keys_of, Equal, is_eq, ordering_then, Equal-is}

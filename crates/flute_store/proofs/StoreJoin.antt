@@ -1,7 +1,7 @@
 -- What facts come to at an address, and the content of the join of two stores.
 use Rattle.std.proofs.Common.{◌≡◌, List, [], ◌∷◌, ◌++◌, Bool, true, false, cond, Some, None, refl, sym, ap, ◌∙◌, subst, inl, inr}
 use Rattle.std.proofs.Common.{ℕ, append-nil, Option, arith}
-use Rattle.flute_join.proofs.Reading.{reading_at}
+use Rattle.flute_join.proofs.Public.{reading_at}
 use Rattle.std.specs.Prelude.{bytes_eq, ◌&&◌}
 use Rattle.flute_store.proofs.Common
 use Common.{AllByRecursion, flat_map, Ordering, Equal, is_eq, IsTotalOrder, Equal-is, tied_itself}

@@ -1,6 +1,6 @@
 -- What lists of facts make of an object.
 use Rattle.std.proofs.Common.{◌≡◌, ℕ, zero, suc, get_or, ◌<◌, Bool, true, false, cond, List, [], ◌∷◌, length, take, Option, Some, None, refl, sym, ap, ◌∙◌, arith}
-use Rattle.flute_parts.proofs.Readings.{fact_at-address}
+use Rattle.flute_parts.proofs.Public.{fact_at-address}
 use Rattle.flute_store.proofs.Runs.{runs-listed}
 use Rattle.flute_store.proofs.Common
 use Common.{flat_map, filter_map, option_map, Contains, cons_option, Key, SymbolId, Address, Reason}

@@ -13,8 +13,7 @@ use Rattle.std.proofs.lemmas.Bool.{cases_lt}
 use Rattle.flute_parts.specs.Information.{Information, symbol_count, IsValid}
 use Rattle.flute_parts.specs.Partition.{ids, place, fits, last_length}
 use Rattle.flute_parts.specs.declared.symbol_id.SymbolId.{SymbolId}
-use Rattle.flute_parts.proofs.Split.{ids_counted, places-inverse}
-use Rattle.flute_parts.proofs.Fits.{fits-means}
+use Rattle.flute_parts.proofs.Public.{fits-means, ids_counted, places-inverse}
 use Rattle.flute_wire.specs.Carousel.{piece, with_piece, symbols_of}
 use Rattle.flute_wire.proofs.Pieces.{symbol_there, begins_within}
 use Rattle.flute_wire.proofs.Faults.{length-piece}

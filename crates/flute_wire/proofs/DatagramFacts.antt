@@ -9,7 +9,7 @@ use Rattle.flute_parts.specs.declared.symbol_id.SymbolId.{SymbolId}
 use Rattle.flute_parts.specs.declared.key.Key.{Key}
 use Rattle.flute_parts.specs.declared.fact.Fact.{Fact}
 use Rattle.flute_parts.specs.declared.fact.Fact.TheVariants.{Info, Symbol}
-use Rattle.flute_parts.proofs.Facts.{Member, Member-from, Contains-from}
+use Rattle.flute_parts.proofs.Public.{Contains-from, Member, Member-from}
 use Rattle.flute_wire.specs.Writing.{outgoing_facts}
 use Rattle.flute_wire.specs.Carousel.{symbols_of, facts_sent}
 use Rattle.flute_wire.proofs.Pieces.{payloads_none, payloads_some, length-symbols_of, no_symbol, some_symbol}

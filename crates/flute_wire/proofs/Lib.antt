@@ -1,4 +1,4 @@
-pub mod BigEndian
+mod BigEndian
 mod Walking
 mod FirstRefusal
 mod Spelling
@@ -7,9 +7,10 @@ mod Decision
 mod Existence
 mod Exact
 mod Decided
-pub mod Computed
-pub mod Written
-pub mod Pieces
+mod Computed
+mod Written
+mod Pieces
 mod Faults
-pub mod Cut
-pub mod DatagramFacts
+mod Cut
+mod DatagramFacts
+pub mod Public

@@ -14,8 +14,7 @@ use Rattle.flute_parts.specs.declared.key.Key.{Key}
 use Rattle.std.specs.Int.{div_ceil}
 use Rattle.std.proofs.lemmas.List.{length-map}
 use Rattle.std.proofs.lemmas.List.FromFn.{length-enumerate_from}
-use Rattle.flute_parts.proofs.Split.{ids_counted}
-use Rattle.flute_parts.proofs.Division.{div_ceil-pos, div_ceil-zero}
+use Rattle.flute_parts.proofs.Public.{div_ceil-pos, div_ceil-zero, ids_counted}
 use Rattle.std.specs.Prelude.{flat_map}
 use Rattle.std.proofs.lemmas.List.Concat.{flat_map-cons}
 use Rattle.flute_parts.specs.declared.fact.Fact.{Fact}

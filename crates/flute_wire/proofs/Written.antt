@@ -26,7 +26,7 @@ use Rattle.flute_wire.specs.Reading.{facts}
 use Rattle.flute_wire.proofs.Spelling.{same_content, few}
 use Rattle.flute_wire.proofs.Computed.{facts-Spells}
 use Rattle.flute_wire.proofs.FirstRefusal.{first_found}
-use Rattle.flute_parts.proofs.Division.{fault-none}
+use Rattle.flute_parts.proofs.Public.{fault-none}
 
 -- a number in enough bytes is that number
 pub big_endian-big_bytes : (k n : ℕ) → n < 256 ^ k → big_endian (big_bytes k n) ≡ n

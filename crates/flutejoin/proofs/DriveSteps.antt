@@ -9,7 +9,8 @@ use Rattle.flute_parts.specs.declared.fact.Fact.{Fact}
 use Rattle.flute_parts.specs.Facts.{Same}
 use Rattle.flute_wire.specs.Content.{Content}
 use Rattle.flute_wire.specs.Reading.{packet, packet_facts, facts}
-use Rattle.flute_parts.proofs.Facts.{Same-itself, Same-trans, Same-append, Same-twice, Below-itself, Same-from_Below}
+use Rattle.flute_parts.proofs.Public.{Below-itself, Same-append, Same-from_Below, Same-itself}
+use Rattle.flute_parts.proofs.Public.{Same-trans, Same-twice}
 use Rattle.flutejoin.proofs.Receptions.{Same-from_journals, IsJournal-from_within}
 use Rattle.flutejoin.specs.declared.steps.Step.{Step}
 use Rattle.flutejoin.specs.declared.steps.Step.TheVariants.{Take, Load, Add, Merge, Reopen}

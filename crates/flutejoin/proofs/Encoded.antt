@@ -5,7 +5,7 @@ use Rattle.std.proofs.KnownBytes.{Appends-trans}
 use Rattle.std.proofs.lemmas.List.{take-append-drop, length-append, length-drop}
 use Rattle.hex.proofs.HexLemmas.{length-encode_with}
 use Rattle.flute_parts.specs.Devices.{AppendsPart}
-use Rattle.flute_parts.proofs.Appended.{AppendsPart-first, AppendsPart-second}
+use Rattle.flute_parts.proofs.Public.{AppendsPart-first, AppendsPart-second}
 use Rattle.hex.specs.Hex.{encode_with, encode_lower, lower_digits}
 
 encode_with-append : (t xs ys : List ℕ) → encode_with t (xs ++ ys) ≡ encode_with t xs ++ encode_with t ys

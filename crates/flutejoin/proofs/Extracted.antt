@@ -11,9 +11,9 @@ use Rattle.flute_parts.specs.Tally.{Counts}
 use Rattle.flute_parts.specs.declared.fact.Fact.{Fact}
 use Rattle.flute_parts.specs.declared.key.Key.{Key}
 use Rattle.flute_parts.specs.declared.tally.Tally.{Tally}
-use Rattle.flute_parts.proofs.Facts.{fact_at-nil, Same-itself}
+use Rattle.flute_parts.proofs.Public.{fact_at-nil, Same-itself}
 use Rattle.flute_parts.specs.Limits.{Over}
-use Rattle.flute_store.proofs.WholeObjects.{Whole-same, object-same, gaps-same}
+use Rattle.flute_store.proofs.Public.{gaps-same, object-same, Whole-same}
 use Rattle.flute_journal.specs.Format.{spelling_in}
 use Rattle.flute_journal.specs.Journal.{IsJournalWithin}
 use Rattle.flute_parts.specs.Devices.{times_failed}
@@ -24,8 +24,7 @@ use Rattle.flute_journal.specs.declared.fault.LoadFault.{LoadFault}
 use Rattle.flute_journal.specs.declared.fault.LoadFault.TheVariants as load
 use Rattle.flute_journal.specs.declared.fault.ReadFault.{ReadFault}
 use Rattle.flute_journal.specs.declared.journal_reader.ReaderState.{ReaderState}
-use Rattle.flute_journal.proofs.Loading.{Loaded, loaded-over}
-use Rattle.flute_journal.proofs.Whole.{sofar-next, sofar-stops, side-from}
+use Rattle.flute_journal.proofs.Public.{Loaded, loaded-over, side-from, sofar-next, sofar-stops}
 use Rattle.flutejoin.specs.Extract.{OfJournal, AnswersFrom, Extracts, FirstWritten, WritesFirst, SinkFails}
 use Rattle.flutejoin.specs.ObjectWriters.{WroteFirst, WritesNothing, TellsUntouched, FailedBy, Stands, PassesAll}
 use Rattle.flutejoin.specs.Show.{FailsToRead}

@@ -7,14 +7,13 @@ use Rattle.flute_parts.specs.Limits.{Over}
 use Rattle.flute_parts.specs.Tally.{Counts}
 use Rattle.flute_parts.specs.declared.fact.Fact.{Fact}
 use Rattle.flute_parts.specs.declared.tally.Tally.{Tally}
-use Rattle.flute_parts.proofs.Facts.{Same-itself}
+use Rattle.flute_parts.proofs.Public.{Same-itself}
 use Rattle.flute_journal.specs.declared.fault.ReadFault.{ReadFault}
 use Rattle.flute_journal.specs.declared.journal_reader.ReaderState.{ReaderState}
 use Rattle.flute_journal.specs.declared.journal_reader.ReaderState.TheVariants.{Header}
 use Rattle.flute_journal.specs.Reading.{GivesEntry, GivesEnd, GivesFault}
 use Rattle.flute_journal.specs.SoFar.{Sofar}
-use Rattle.flute_journal.proofs.Loading.{loaded-over}
-use Rattle.flute_journal.proofs.Whole.{sofar-none, sofar-next, sofar-stops, side-from}
+use Rattle.flute_journal.proofs.Public.{loaded-over, side-from, sofar-next, sofar-none, sofar-stops}
 use Rattle.flutejoin.specs.Gaps.{ListsJournal}
 use Rattle.flutejoin.specs.Load.{LoadFails}
 use Rattle.flutejoin.specs.Listing.{AreListed, Lists}

@@ -8,14 +8,13 @@ use Rattle.flute_parts.specs.Devices.{AppendsPart}
 use Rattle.flute_store.specs.Extract.{WritesWhole, TellsExtractFault}
 use Rattle.flute_store.specs.declared.extract.ExtractFault.{ExtractFault}
 use Rattle.flute_store.specs.declared.extract.ExtractFault.TheVariants.{NoObject, NoInformation, ConflictingInformation, NotWhole, Write}
-use Rattle.flute_store.proofs.WholeObjects.{Whole-same, object-same, gaps-same}
+use Rattle.flute_store.proofs.Public.{gaps-same, object-same, Whole-same}
 use Rattle.flute_journal.specs.Format.{spelling}
 use Rattle.flute_journal.specs.Journal.{Journal}
-use Rattle.flute_parts.proofs.Rising.{rising_unique}
+use Rattle.flute_parts.proofs.Public.{rising_unique, Same-members, Same-sym, Same-trans}
 use Rattle.flutejoin.specs.Outputs.{WritesJournal}
 use Rattle.flutejoin.proofs.Receptions.{Journal-of_same, Journal-only}
 use Rattle.flute_parts.specs.Facts.{Same, SameMembers, IsRising}
-use Rattle.flute_parts.proofs.Facts.{Same-sym, Same-trans, Same-members}
 use Rattle.flutejoin.specs.declared.steps.Step.{Step}
 use Rattle.flutejoin.specs.Held.{Held}
 use Rattle.flutejoin.specs.Steps.{held_by}

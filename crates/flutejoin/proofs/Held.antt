@@ -9,8 +9,8 @@ use Rattle.std.proofs.lemmas.List.Sums.{sum_by_push}
 use Rattle.std.proofs.lemmas.Grind.{flat_map-append}
 use Rattle.flute_parts.specs.declared.fact.Fact.{Fact}
 use Rattle.flute_parts.specs.Facts.{Same}
-use Rattle.flute_parts.proofs.Facts.{Same-itself, Same-trans, Same-append, Below-from_Same}
-use Rattle.flute_parts.proofs.Named.{Over-below}
+use Rattle.flute_parts.proofs.Public.{Below-from_Same, Over-below, Same-append, Same-itself}
+use Rattle.flute_parts.proofs.Public.{Same-trans}
 use Rattle.flutejoin.specs.declared.command_fault.CommandFault.{CommandFault}
 use Rattle.flutejoin.specs.declared.command_fault.CommandFault.TheVariants.{Full, Input}
 use Rattle.flutejoin.specs.declared.joined.Joined.{Joined}

@@ -10,11 +10,10 @@ use Rattle.std.proofs.lemmas.List.{length-append}
 use Rattle.std.proofs.lemmas.Option.{slice_get_within}
 use Rattle.flute_parts.specs.Facts.{Same, SameMembers}
 use Rattle.flute_parts.specs.declared.fact.Fact.{Fact}
-use Rattle.flute_parts.proofs.Facts.{Same-sym, Same-trans, Same-members}
-use Rattle.flute_parts.proofs.Rising.{rising_unique}
+use Rattle.flute_parts.proofs.Public.{rising_unique, Same-members, Same-sym, Same-trans}
 use Rattle.flute_journal.specs.Format.{spelling, spelling_in}
 use Rattle.flute_journal.specs.declared.format.version.Version.{Version}
-use Rattle.flute_journal.proofs.MergeBytes.{journal_parts}
+use Rattle.flute_journal.proofs.Public.{journal_parts}
 use Rattle.flute_journal.specs.Journal.{Journal, Collects}
 use Rattle.flute_journal.specs.JournalWriters.{Written}
 use Rattle.flute_journal.specs.Kinds.{HasKind}

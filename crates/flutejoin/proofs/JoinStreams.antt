@@ -7,8 +7,8 @@ use Rattle.std.proofs.lemmas.List.Sums.{sum_by-append}
 use Rattle.std.proofs.lemmas.Option.{slice_get_within}
 use Rattle.flute_parts.specs.Facts.{Same}
 use Rattle.flute_parts.specs.declared.fact.Fact.{Fact}
-use Rattle.flute_parts.proofs.Facts.{Same-itself, Same-sym, Same-append, Below-from_Same}
-use Rattle.flute_parts.proofs.Named.{Over-below}
+use Rattle.flute_parts.proofs.Public.{Below-from_Same, Over-below, Same-append, Same-itself}
+use Rattle.flute_parts.proofs.Public.{Same-sym}
 use Rattle.flute_journal.specs.Journal.{IsJournalWithin}
 use Rattle.flute_journal.specs.Sessions.{chosen}
 use Rattle.flute_journal.specs.Streams.{Behaviour, IsNew, most_of}

@@ -6,12 +6,13 @@ use Rattle.std.proofs.Math.ListN.{set, length-set}
 use Rattle.std.proofs.lemmas.List.{set-get_or}
 use Rattle.flute_parts.specs.declared.fact.Fact.{Fact}
 use Rattle.flute_parts.specs.Facts.{Same, Below}
-use Rattle.flute_parts.proofs.Facts.{Same-itself, Same-sym, Same-trans, Same-append, Below-trans, Below-from_Same}
+use Rattle.flute_parts.proofs.Public.{Below-from_Same, Below-trans, Same-append, Same-itself}
+use Rattle.flute_parts.proofs.Public.{Same-sym, Same-trans}
 use Rattle.flute_journal.specs.declared.fault.ReadFault.{ReadFault}
 use Rattle.flute_journal.specs.declared.fault.ReadFault.TheVariants as read
 use Rattle.flute_journal.specs.declared.fault.LoadFault.{LoadFault}
 use Rattle.flute_journal.specs.declared.fault.LoadFault.TheVariants as load
-use Rattle.flute_journal.proofs.MergeBytes.{written_journal}
+use Rattle.flute_journal.proofs.Public.{written_journal}
 use Rattle.flute_journal.specs.Journal.{Journal, IsJournal, IsJournalWithin, Stops}
 use Rattle.flute_journal.specs.Whole.{StopsAfter}
 use Rattle.flute_journal.specs.Stores.{FailsToLoad, IsJournalOf, IsLoadFault}

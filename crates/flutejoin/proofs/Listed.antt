@@ -7,7 +7,7 @@ use Rattle.std.proofs.KnownBytes.{Appends-trans}
 use Rattle.std.proofs.lemmas.List.{append-nil, flat_map_more}
 use Rattle.std.proofs.lemmas.Grind.{flat_map-append}
 use Rattle.flute_parts.specs.Devices.{AppendsPart}
-use Rattle.flute_parts.proofs.Appended.{AppendsPart-first, AppendsPart-second}
+use Rattle.flute_parts.proofs.Public.{AppendsPart-first, AppendsPart-second}
 
 -- the items before the rest were written
 pub record Listed {X : Type 0} (f : X → List ℕ) (all rest : List X) (old new : Option (List ℕ)) : Type 0 where

@@ -5,7 +5,7 @@ use Rattle.flute_parts.specs.Facts.{Same}
 use Rattle.flute_parts.specs.declared.fact.Fact.{Fact}
 use Rattle.flute_journal.specs.Journal.{IsJournal}
 use Rattle.flute_journal.specs.Stores.{IsJournalOf}
-use Rattle.flute_journal.proofs.MergeBytes.{written_journal}
+use Rattle.flute_journal.proofs.Public.{written_journal}
 use Rattle.flute_journal.specs.declared.fault.ReadFault.{ReadFault}
 use Rattle.flute_journal.specs.declared.fault.ReadFault.TheVariants.{Read}
 use Rattle.flutejoin.specs.declared.command_fault.CommandFault.{CommandFault}

@@ -19,10 +19,8 @@ use Rattle.flute_parts.specs.declared.fact.Fact.{Fact}
 use Rattle.flute_parts.specs.declared.fact.Fact.TheVariants.{InfoConflict}
 use Rattle.flute_parts.specs.declared.key.Key.{Key}
 use Rattle.flute_parts.specs.declared.symbol_id.SymbolId.{SymbolId}
-use Rattle.flute_parts.proofs.Facts.{Member, Member-from}
-use Rattle.flute_parts.proofs.OneMore.{tied, key-before, rising-front, before-next}
-use Rattle.flute_parts.proofs.Readings.{fact_at-none}
-use Rattle.flute_parts.proofs.Rising.{member-after, rising_tells}
+use Rattle.flute_parts.proofs.Public.{before-next, fact_at-none, key-before, Member, member-after}
+use Rattle.flute_parts.proofs.Public.{Member-from, rising-front, rising_tells, tied}
 use Rattle.flute_store.specs.Found.{IsUnheard}
 use Rattle.flute_store.specs.GapAnswers.{LacksInformation, HasConflict}
 use Rattle.flutejoin.specs.ObjectWriters.{Settled, IsOther}

@@ -17,18 +17,17 @@ use Rattle.flute_parts.specs.declared.fact.Fact.{Fact}
 use Rattle.flute_parts.specs.declared.fact.Fact.TheVariants.{Info}
 use Rattle.flute_parts.specs.declared.key.Key.{Key}
 use Rattle.flute_parts.specs.declared.symbol_id.SymbolId.{SymbolId}
-use Rattle.flute_parts.proofs.Rising.{rising_tells}
+use Rattle.flute_parts.proofs.Public.{rising_tells}
 use Rattle.flute_store.specs.Extract.{IsNotWhole, WritesWhole, WritesPart}
 use Rattle.flute_store.specs.Objects.{Whole, object}
-use Rattle.flute_store.proofs.ObjectLength.{object-length}
+use Rattle.flute_store.proofs.Public.{object-length}
 use Rattle.flute_store.specs.declared.gap.Gap.{Gap}
 use Rattle.flute_store.specs.declared.turn.Turn.{Turn}
 use Rattle.flute_store.specs.declared.turn.Turn.TheVariants as turns
 use Rattle.flute_store.specs.Scan.{Scanned, Turned, next_fact, value_of, IsFirstPart, Follows, CanCome, coming_fact, PassedNext, PartOf, GaveAll, at_begin}
 use Rattle.flute_store.specs.Scans.{Scans}
 use Rattle.flute_journal.specs.JournalWriters.{Written, PutsBytes}
-use Rattle.flute_journal.proofs.Each.{all_more}
-use Rattle.flute_journal.proofs.WrittenSoFar.{written-more}
+use Rattle.flute_journal.proofs.Public.{all_more, written-more}
 use Rattle.flutejoin.specs.Extract.{HoldsFirst}
 use Rattle.flutejoin.specs.ObjectWriters.{Settled, IsOther, WroteFirst, Scanning, HasFound, EndsScan, WritesNothing}
 use Rattle.flutejoin.specs.declared.object_writer.WholeSoFar.{WholeSoFar}

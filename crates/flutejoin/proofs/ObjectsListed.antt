@@ -22,11 +22,9 @@ use Rattle.flute_parts.specs.declared.address.Address.{Address}
 use Rattle.flute_parts.specs.declared.key.Key.{Key}
 use Rattle.flute_parts.specs.declared.fact.Fact.{Fact}
 use Rattle.flute_parts.specs.declared.fact.Fact.TheVariants.{Info, InfoConflict, Symbol, SymbolConflict}
-use Rattle.flute_parts.proofs.Facts.{Member, Member-from, Contains-from, fact_at-some_named}
-use Rattle.flute_parts.proofs.Joined.{joined, joined-none, fact_at-append}
-use Rattle.flute_parts.proofs.OneMore.{key-before, tied}
-use Rattle.flute_parts.proofs.Readings.{fact_at-none, none-at}
-use Rattle.flute_parts.proofs.Rising.{member-after}
+use Rattle.flute_parts.proofs.Public.{Contains-from, fact_at-append, fact_at-none}
+use Rattle.flute_parts.proofs.Public.{fact_at-some_named, joined, joined-none, key-before, Member}
+use Rattle.flute_parts.proofs.Public.{member-after, Member-from, none-at, tied}
 use Rattle.flute_store.specs.Objects.{want, wants, runs}
 use Rattle.flute_store.specs.Held.{HoldsObject}
 use Rattle.flutejoin.specs.Lines.{status_line, gap_line}

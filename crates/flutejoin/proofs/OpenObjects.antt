@@ -15,9 +15,7 @@ use Rattle.flute_parts.specs.declared.key.Key.{Key}
 use Rattle.flute_parts.specs.declared.symbol_id.SymbolId.{SymbolId}
 use Rattle.flute_parts.specs.declared.fact.Fact.{Fact}
 use Rattle.flute_parts.specs.declared.fact.Fact.TheVariants.{Info, InfoConflict}
-use Rattle.flute_parts.proofs.OneMore.{rising-front}
-use Rattle.flute_parts.proofs.Readings.{fact_at-none}
-use Rattle.flute_parts.proofs.Rising.{rising_tells}
+use Rattle.flute_parts.proofs.Public.{fact_at-none, rising-front, rising_tells}
 use Rattle.flute_store.specs.Held.{HoldsObject}
 use Rattle.flute_store.specs.declared.status.Status.{Status}
 use Rattle.flute_store.specs.Scan.{Scanned, next_fact, at_begin, Follows, GaveAll}

@@ -8,7 +8,7 @@ use Rattle.flute_join.specs.declared.refusal.JoinRefusal.{JoinRefusal}
 use Rattle.flute_join.specs.declared.refusal.JoinRefusal.TheVariants as join
 use Rattle.flute_parts.specs.declared.fact.Fact.{Fact}
 use Rattle.flute_parts.specs.Facts.{Same, Below}
-use Rattle.flute_parts.proofs.Facts.{Same-sym, Same-twice, Below-from_Same}
+use Rattle.flute_parts.proofs.Public.{Below-from_Same, Same-sym, Same-twice}
 use Rattle.flute_wire.specs.Reading.{facts}
 use Rattle.flute_store.specs.Held.{HasCell}
 use Rattle.flutejoin.specs.declared.steps.Step.{Step}

@@ -5,7 +5,8 @@ use Rattle.std.proofs.lemmas.Bool.{cases_eq, cases_lt}
 use Rattle.std.proofs.lemmas.List.{get_or-set_same, get_or-set_other, set_past, set-get_or}
 use Rattle.flute_parts.specs.declared.fact.Fact.{Fact}
 use Rattle.flute_parts.specs.Facts.{Same, Below}
-use Rattle.flute_parts.proofs.Facts.{Same-itself, Same-sym, Same-trans, Same-append, Below-itself, Below-trans, Below-append, Below-from_Same}
+use Rattle.flute_parts.proofs.Public.{Below-append, Below-from_Same, Below-itself, Below-trans}
+use Rattle.flute_parts.proofs.Public.{Same-append, Same-itself, Same-sym, Same-trans}
 use Rattle.flutejoin.specs.Steps.{held_by, given_to, EachSame, EachBelow}
 use Rattle.flutejoin.proofs.Receptions.{Below-left}
 

@@ -6,17 +6,16 @@ use Rattle.flute_parts.specs.declared.fact.Fact.{Fact}
 use Rattle.flute_parts.specs.declared.fact.Fact.TheVariants.{Info, InfoConflict, Symbol, SymbolConflict}
 use Rattle.flute_parts.specs.Addresses.{symbol_address}
 use Rattle.flute_parts.specs.Facts.{fact_at, Same, SameMembers, Below}
-use Rattle.flute_parts.proofs.Joined.{joined, joined-none, fact_at-append}
-use Rattle.flute_parts.proofs.Facts.{Same-members, Same-itself, Same-sym, Same-trans, Same-append, Same-swap, Same-twice, Below-trans, Below-from_Same}
-use Rattle.flute_parts.proofs.Named.{Over-below}
-use Rattle.flute_parts.proofs.Rising.{rising_unique}
+use Rattle.flute_parts.proofs.Public.{Below-from_Same, Below-trans, fact_at-append, joined}
+use Rattle.flute_parts.proofs.Public.{joined-none, Over-below, rising_unique, Same-append}
+use Rattle.flute_parts.proofs.Public.{Same-itself, Same-members, Same-swap, Same-sym, Same-trans}
+use Rattle.flute_parts.proofs.Public.{Same-twice}
 use Rattle.flute_store.specs.Held.{HasCell}
 use Rattle.flute_journal.specs.declared.fault.ReadFault.{ReadFault}
 use Rattle.flute_journal.specs.Format.{spelling}
 use Rattle.flute_journal.specs.Journal.{Journal, IsJournal, IsJournalWithin, Stops}
-use Rattle.flute_journal.proofs.Entries.{facts_of}
-use Rattle.flute_journal.proofs.MergeBytes.{journal_parts, parts_journal, same_journal}
-use Rattle.flute_journal.proofs.Passes.{beyond, without_end-below}
+use Rattle.flute_journal.proofs.Public.{beyond, facts_of, journal_parts, parts_journal}
+use Rattle.flute_journal.proofs.Public.{same_journal, without_end-below}
 use Rattle.flutejoin.specs.Held.{Capacity, IsOver}
 use Rattle.flute_journal.specs.Stores.{BeginsWith, IsJournalOf}
 use Rattle.flutejoin.specs.Outcome.{IsLonger}

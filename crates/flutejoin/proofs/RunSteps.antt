@@ -9,7 +9,7 @@ use Rattle.std.proofs.lemmas.Option.{slice_get_within, get_or_from_slice_get}
 use Rattle.flute_parts.specs.declared.fact.Fact.{Fact}
 use Rattle.flute_parts.specs.Facts.{Same}
 use Rattle.flute_wire.specs.Reading.{facts}
-use Rattle.flute_parts.proofs.Facts.{Same-itself, Below-trans, Below-from_Same}
+use Rattle.flute_parts.proofs.Public.{Below-from_Same, Below-trans, Same-itself}
 use Rattle.flutejoin.proofs.Receptions.{Below-right, IsOver-below, IsLonger-same, IsJournal-from_within, never_both, begins_below, HasCell-below, HasCells-below}
 use Rattle.flutejoin.specs.declared.steps.Step.{Step}
 use Rattle.flutejoin.specs.declared.steps.Step.TheVariants.{Take, Load, Add, Merge, Reopen}

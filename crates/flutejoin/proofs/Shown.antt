@@ -5,7 +5,7 @@ use Rattle.std.specs.Io.KnownBytes.{Appends, Consumes}
 use Rattle.std.proofs.KnownBytes.{Appends-trans}
 use Rattle.std.proofs.lemmas.List.{length-append, append-nil, flat_map_more}
 use Rattle.flute_parts.specs.Devices.{AppendsPart}
-use Rattle.flute_parts.proofs.Appended.{AppendsPart-second}
+use Rattle.flute_parts.proofs.Public.{AppendsPart-second}
 use Rattle.flute_parts.specs.declared.fact.Fact.{Fact}
 use Rattle.flute_journal.specs.declared.fault.ReadFault.{ReadFault}
 use Rattle.flute_journal.specs.declared.fault.ReadFault.TheVariants as faults
@@ -15,7 +15,8 @@ use Rattle.flute_journal.specs.Input.{Fails, FailsIf}
 use Rattle.flute_journal.specs.Journal.{IsJournalWithin}
 use Rattle.flute_journal.specs.Reading.{is_open, GivesEntry, GivesEnd, GivesFault, Gives}
 use Rattle.flute_journal.specs.SoFar.{Sofar}
-use Rattle.flute_journal.proofs.Whole.{AtEnd, sofar-next, sofar-stops, side-from, open_behind, read_some}
+use Rattle.flute_journal.proofs.Public.{AtEnd, open_behind, read_some, side-from, sofar-next}
+use Rattle.flute_journal.proofs.Public.{sofar-stops}
 use Rattle.flutejoin.specs.Lines.{fact_line, entries_line}
 use Rattle.flutejoin.specs.Show.{entry_lines, FailsToRead, ShowsAll, ShowsUntil, ShowsPart, of_entries, of_journal}
 use Rattle.flutejoin.specs.declared.command_fault.CommandFault.TheVariants.{Input}

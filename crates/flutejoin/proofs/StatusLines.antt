@@ -7,7 +7,7 @@ use Rattle.flute_parts.specs.Information.{Information}
 use Rattle.flute_parts.specs.Addresses.{info_address}
 use Rattle.flute_parts.specs.Facts.{fact_at}
 use Rattle.flute_parts.specs.Devices.{AppendsPart, Writes}
-use Rattle.flute_parts.proofs.Appended.{AppendsPart-first, Writes-behind}
+use Rattle.flute_parts.proofs.Public.{AppendsPart-first, Writes-behind}
 use Rattle.flute_parts.specs.declared.key.Key.{Key}
 use Rattle.flute_parts.specs.declared.symbol_id.SymbolId.{SymbolId}
 use Rattle.flute_parts.specs.declared.address.Part.TheVariants.{Info as InfoPart}
@@ -22,8 +22,7 @@ use Rattle.flute_store.specs.GapsLeft.{GapsLeft}
 use Rattle.flute_store.specs.GapAnswers.{GivesGaps, TellsGapFault}
 use Rattle.flute_store.specs.Objects.{wants, listed}
 use Rattle.flute_store.specs.Status.{how_many, TellsStatus}
-use Rattle.flute_store.proofs.Runs.{runs-listed}
-use Rattle.flute_store.proofs.WholeObjects.{whole-gapless}
+use Rattle.flute_store.proofs.Public.{runs-listed, whole-gapless}
 use Rattle.flutejoin.specs.Lines.{status_line, gap_line}
 use Rattle.flutejoin.specs.Objects.{status_wanting, status_at, gaps_at, object_lines}
 

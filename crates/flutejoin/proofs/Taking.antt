@@ -5,15 +5,13 @@ use Rattle.std.specs.List.{AllByRecursion}
 use Rattle.flute_parts.specs.declared.fact.Fact.{Fact}
 use Rattle.flute_parts.specs.Facts.{Same}
 use Rattle.flute_parts.specs.Limits.{Over}
-use Rattle.flute_parts.proofs.Facts.{Same-itself}
-use Rattle.flute_parts.proofs.Named.{Over-below}
-use Rattle.flute_parts.proofs.Facts.{Below-from_Same}
+use Rattle.flute_parts.proofs.Public.{Below-from_Same, Over-below, Same-itself}
 use Rattle.flute_wire.specs.Content.{Content}
 use Rattle.flute_wire.specs.Datagram.{Spells}
 use Rattle.flute_wire.specs.Refusals.{Applies, Refuses, rank}
 use Rattle.flute_wire.specs.Reading.{packet, facts}
 use Rattle.flute_wire.specs.declared.refusal.Refusal.{Refusal}
-use Rattle.flute_wire.proofs.Computed.{packet-iff, facts-refused}
+use Rattle.flute_wire.proofs.Public.{facts-refused, packet-iff}
 use Rattle.flute_store.specs.Held.{HasCell}
 use Rattle.flute_store.specs.declared.taken.Taken.{Taken}
 use Rattle.flute_store.specs.declared.taken.TakeFault.{TakeFault}

@@ -1,6 +1,7 @@
 use Rattle.std.proofs.Common.{[], ◌++◌, List, ◌∙◌, refl}
 use Rattle.flute_parts.specs.{declared.fact.Fact.{Fact}, Facts.{Same, Below}}
-use Rattle.flute_parts.proofs.Facts.{Same-twice, Same-from_Below, Below-itself, Below-append, Below-trans, Below-from_Same}
+use Rattle.flute_parts.proofs.Public.{Below-append, Below-from_Same, Below-itself, Below-trans}
+use Rattle.flute_parts.proofs.Public.{Same-from_Below, Same-twice}
 use Rattle.flute_store.proofs.laws.absorbing_again_gives_the_join.Goals as goal
 
 joined_again : (old other left : List Fact) → Below old left → Below left (old ++ other) → Same (left ++ other) (old ++ other)

@@ -3,8 +3,7 @@ use Rattle.std.proofs.lemmas.Result.{err_from_is_err_and}
 use Rattle.flute_journal.specs.Reading.{is_open}
 use Rattle.flute_journal.specs.SoFar.{Sofar}
 use Rattle.flute_journal.specs.declared.journal_reader.ReaderState.{ReaderState}
-use Rattle.flute_journal.proofs.Loading.{given-entry, loaded-read}
-use Rattle.flute_journal.proofs.Whole.{sofar-none}
+use Rattle.flute_journal.proofs.Public.{given-entry, loaded-read, sofar-none}
 use Rattle.flutejoin.specs.declared.limits.TheConstants.{MAX_ENTRIES}
 use Rattle.flutejoin.proofs.Extracted.{passing-next, passing-fault, passing-full, passing-end, given-fault, given-end}
 use Rattle.flutejoin.proofs.extract.read_into.Goals as goal

@@ -1,6 +1,6 @@
 -- The lines of the entries that were read were made.
 use Rattle.std.proofs.Common.{◌≡◌, ◌-◌}
-use Rattle.flute_journal.proofs.Loading.{entries_at}
+use Rattle.flute_journal.proofs.Public.{entries_at}
 use Rattle.flutejoin.specs.declared.limits.TheConstants.{MAX_ENTRIES}
 use Rattle.flutejoin.proofs.GapsRead.{ListsRead}
 use Rattle.flutejoin.proofs.journal_gaps.lines_of.Given as goal

@@ -1,4 +1,4 @@
-use Rattle.flute_store.proofs.WholeObjects.{Whole-same, object-same, gaps-same}
+use Rattle.flute_store.proofs.Public.{gaps-same, object-same, Whole-same}
 use Rattle.flutejoin.proofs.Receptions.{Journal-of_same, Journal-only}
 use Rattle.flutejoin.proofs.Given.{given_the_same}
 use Rattle.flutejoin.proofs.laws.the_same_facts_make_the_same.Goals as goal

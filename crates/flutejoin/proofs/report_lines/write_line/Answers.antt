@@ -3,7 +3,7 @@ use Rattle.std.specs.Io.KnownBytes.{Appends}
 use Rattle.std.proofs.lemmas.Result.{err_from_is_err_and}
 use Rattle.hex.specs.Hex.{encode_lower}
 use Rattle.flute_parts.specs.Devices.{AppendsPart}
-use Rattle.flute_parts.proofs.Appended.{AppendsPart-first, AppendsPart-second, Writes-behind}
+use Rattle.flute_parts.proofs.Public.{AppendsPart-first, AppendsPart-second, Writes-behind}
 use Rattle.flutejoin.proofs.report_lines.write_line.Goals as goal
 
 pub returns-in_err-write_all-clause-line : goal.returns-in_err-write_all-clause-line

@@ -1,4 +1,4 @@
-use Rattle.flute_join.proofs.Below.{below_self, below_join}
+use Rattle.flute_join.proofs.Public.{below_join, below_self}
 use Rattle.join_sample.specs.Object.{maps}
 use Rattle.join_sample.proofs.ObjectJoin.join_from.Goals as goal
 

@@ -2,7 +2,7 @@ use Rattle.std.proofs.Common.{◌≡◌, [], ◌∷◌, ◌++◌, sym, ap, ◌�
 use Rattle.std.proofs.lemmas.Result.{err_from_is_err_and}
 use Rattle.flute_journal.specs.Records.{GivesRecord, GivesFileFault}
 use Rattle.flute_journal.specs.FilesSoFar.{FileSofar}
-use Rattle.flute_journal.proofs.Records.{file_sofar_next, file_sofar_fault}
+use Rattle.flute_journal.proofs.Public.{file_sofar_fault, file_sofar_next}
 use Rattle.flute_journal_tests.proofs.tests.datagram_files.datagrams_of.Goals as goal
 
 pub returns-in_err-datagram-clause-fault : goal.returns-in_err-datagram-clause-fault

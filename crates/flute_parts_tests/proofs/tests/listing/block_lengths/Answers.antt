@@ -2,7 +2,7 @@ use Rattle.std.proofs.Common.{◌≡◌, ◌-◌, ◌*◌, ◌/◌, ◌++◌, sy
 use Rattle.std.specs.Int.{div_ceil}
 use Rattle.std.specs.Result.{IfOk}
 use Rattle.flute_parts.specs.Information.{symbol_count, block_count, large_length}
-use Rattle.flute_parts.proofs.Sizes.{sizes-none, sizes-some}
+use Rattle.flute_parts.proofs.Public.{sizes-none, sizes-some}
 use Rattle.flute_parts_tests.proofs.tests.listing.block_lengths.Goals as goal
 
 with_more : {X E : Type 0} (P Q : X → Type 0) (r : Result X E) → ((x : X) → P x → Q x) → IfOk r P → IfOk r Q

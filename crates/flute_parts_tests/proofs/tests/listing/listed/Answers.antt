@@ -4,7 +4,7 @@ use Rattle.std.proofs.Math.Facts.{Fits-of_lt}
 use Rattle.std.proofs.lemmas.List.{drop_all}
 use Rattle.flute_parts.specs.Information.{sizes}
 use Rattle.flute_parts.specs.Partition.{block_ids, ids}
-use Rattle.flute_parts.proofs.Sizes.{sizes-few, sizes-short}
+use Rattle.flute_parts.proofs.Public.{sizes-few, sizes-short}
 use Rattle.flute_parts_tests.proofs.tests.listing.listed.Goals as goal
 
 pub overflow_cast-sbn : goal.overflow_cast-sbn

@@ -1,5 +1,5 @@
 use Rattle.std.proofs.Common.{◌≡◌, [], lit<}
-use Rattle.flute_wire.proofs.Computed.{facts-Spells, facts-refused}
+use Rattle.flute_wire.proofs.Public.{facts-refused, facts-Spells}
 use Rattle.flute_store.proofs.Common.{err_from_is_err_and, ok_is_not_err, facts}
 use Rattle.flute_store.proofs.{Counting.{not_over_more}, Spelled.{spelled-size}}
 use Rattle.flute_store.proofs.Refused.{full_fault, no_datagram_fault, not_full}

@@ -1,5 +1,5 @@
 use Rattle.std.proofs.Common.{[], ◌∷◌}
-use Rattle.flute_parts.proofs.OneMore.{rising-front}
+use Rattle.flute_parts.proofs.Public.{rising-front}
 use Rattle.flutejoin.proofs.OpenObjects.{begun}
 use Rattle.flutejoin.proofs.listing.Listing.begin.Goals as goal
 
