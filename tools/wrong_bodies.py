@@ -180,7 +180,7 @@ class Crate:
     def alone(self, body):
         """Tries one body, which has to leave the crate unproved."""
         status, told = self.with_bodies([body])
-        said = next((it for it in told.split("\n") if re.match(r"(note: )?\S+:\d+:\d+:", it)), told[-160:])
+        said = next((it for it in told.split("\n") if re.match(r"(note: )?\S+:\d+:\d+: (error|it is not proved)", it)), told[-160:])
         self.settle(body, is_unproved(status, told), f"alone: {said[:160]}")
 
     def together(self, bodies):
