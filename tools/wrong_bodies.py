@@ -112,6 +112,13 @@ def is_refused(said):
     return said.startswith("not proved") or "` did not prove `" in said
 
 
+# What a check says of a limit of its own, which it meets wherever it checks the same.
+LIMITS = re.compile(
+    r"antt ran out of (stack|the (steps|memory) that the check of one declaration may (take|use))"
+    r"|(outgrew the memory limit|stopped at the step limit) \("
+)
+
+
 def is_unproved(status, told):
     """Whether the check came to its end, and the crate is not proved."""
     return status == 1 and re.search(r"^logic=not-proved", told, re.M) is not None
@@ -178,10 +185,11 @@ class Crate:
         self.told.append(f"{body.name}: {'refused' if is_refused else 'FAILED'}: {why}")
 
     def alone(self, body):
-        """Tries one body, which has to leave the crate unproved."""
+        """Tries one body, which has to leave the crate unproved; a limit of the prover is no proof either."""
         status, told = self.with_bodies([body])
         said = next((it for it in told.split("\n") if re.match(r"(note: )?\S+:\d+:\d+: (error|it is not proved)", it)), told[-160:])
-        self.settle(body, is_unproved(status, told), f"alone: {said[:160]}")
+        at_limit = status == 3 and LIMITS.search(told) is not None
+        self.settle(body, is_unproved(status, told) or at_limit, f"alone: {said[:160]}")
 
     def together(self, bodies):
         """Tries these bodies together, and returns those of which nothing is known yet."""
@@ -204,21 +212,22 @@ class Crate:
                 left.append(body)
         return left
 
+    def left_of(self, bodies):
+        """Tries these bodies, and returns those of which nothing is known yet: in halves, if together they tell nothing."""
+        if len(bodies) == 1:
+            self.alone(bodies[0])
+            return []
+        left = self.together(bodies)
+        if left is None or len(left) == len(bodies):
+            half = len(bodies) // 2
+            return self.left_of(bodies[:half]) + self.left_of(bodies[half:])
+        return left
+
     def run(self):
         pending = self.bodies
         while pending:
-            bodies = self.group(pending)
-            left = self.together(bodies) if len(bodies) > 1 else bodies
-            if left is None or len(left) == len(bodies):
-                # (one that waits for no other is found when it is tried alone)
-                for body in bodies:
-                    self.alone(body)
-                left = []
-            pending = left + [it for it in pending if it not in bodies]
-            if pending and not self.group(pending):
-                for body in pending:
-                    self.alone(body)
-                pending = []
+            bodies = self.group(pending) or pending[:1]
+            pending = self.left_of(bodies) + [it for it in pending if it not in bodies]
 
 
 def tried(name):
