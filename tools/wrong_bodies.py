@@ -150,15 +150,23 @@ class Crate:
         files = sorted(it for it in os.listdir(f"{ROOT}/crates/{name}/wrong-bodies") if it.endswith(".edit"))
         self.bodies = [Body(f"{ROOT}/crates/{name}", name, f"{ROOT}/crates/{name}/wrong-bodies/{it}") for it in files]
 
+    def edited(self, body, texts):
+        """The texts of files with this body put into them, if each text that it replaces is there once."""
+        texts = dict(texts)
+        for path, old, new in body.pairs:
+            if path not in texts:
+                with open(f"{ROOT}/crates/{self.name}/{path}", encoding="utf-8") as text:
+                    texts[path] = text.read()
+            if texts[path].count(old) != 1:
+                return None
+            texts[path] = texts[path].replace(old, new)
+        return texts
+
     def with_bodies(self, bodies):
         """Puts these bodies in place, checks, and takes them back."""
         texts = {}
         for body in bodies:
-            for path, old, new in body.pairs:
-                if path not in texts:
-                    with open(f"{ROOT}/crates/{self.name}/{path}", encoding="utf-8") as text:
-                        texts[path] = text.read()
-                texts[path] = texts[path].replace(old, new)
+            texts = self.edited(body, texts)
         for path, text in texts.items():
             with open(f"{self.folder}/{path}", "w", encoding="utf-8") as to:
                 to.write(text)
@@ -169,14 +177,14 @@ class Crate:
                 shutil.copyfile(f"{ROOT}/crates/{self.name}/{path}", f"{self.folder}/{path}")
 
     def group(self, pending):
-        """As many of these bodies as are of different functions and lines."""
-        chosen, functions, lines = [], set(), set()
+        """As many of these bodies as are of different functions, and leave each other's texts as they are."""
+        chosen, functions, texts = [], set(), {}
         for body in pending:
-            places = {(path, old) for path, old, _ in body.pairs}
-            if body.is_of_functions() and not body.functions & functions and not places & lines:
+            with_it = self.edited(body, texts)
+            if body.is_of_functions() and not body.functions & functions and with_it:
                 chosen.append(body)
                 functions |= body.functions
-                lines |= places
+                texts = with_it
         return chosen
 
     def settle(self, body, is_refused, why):
