@@ -101,9 +101,10 @@ def found_in(answers, name):
     return name if name in answers or len(alike) != 1 else alike[0]
 
 
-def check(folder):
-    """What a check of the crate prints."""
-    ran = subprocess.run(["rt", "check", "--jobs", "1"], cwd=folder, stdin=subprocess.DEVNULL, stdout=subprocess.PIPE, stderr=subprocess.STDOUT, errors="replace")
+def check(folder, functions):
+    """What a check of the crate prints, or one of these functions, and those that they call, alone."""
+    words = [word for name in sorted(functions) for word in ("--only", "::".join(name.split("::")[-2:]))]
+    ran = subprocess.run(["rt", "check", "--jobs", "1", *words], cwd=folder, stdin=subprocess.DEVNULL, stdout=subprocess.PIPE, stderr=subprocess.STDOUT, errors="replace")
     return ran.returncode, ran.stdout
 
 
@@ -120,8 +121,8 @@ LIMITS = re.compile(
 
 
 def is_unproved(status, told):
-    """Whether the check came to its end, and the crate is not proved."""
-    return status == 1 and re.search(r"^logic=not-proved", told, re.M) is not None
+    """Whether the check came to its end, and not all is proved."""
+    return status == 1 and re.search(r"^(logic=not-proved|only=\d+ proved=\d+)", told, re.M) is not None
 
 
 def link(one, other):
@@ -162,8 +163,8 @@ class Crate:
             texts[path] = texts[path].replace(old, new)
         return texts
 
-    def with_bodies(self, bodies):
-        """Puts these bodies in place, checks, and takes them back."""
+    def with_bodies(self, bodies, functions=()):
+        """Puts these bodies in place, checks the crate or these functions, and takes them back."""
         texts = {}
         for body in bodies:
             texts = self.edited(body, texts)
@@ -171,7 +172,7 @@ class Crate:
             with open(f"{self.folder}/{path}", "w", encoding="utf-8") as to:
                 to.write(text)
         try:
-            return check(self.folder)
+            return check(self.folder, functions)
         finally:
             for path in texts:
                 shutil.copyfile(f"{ROOT}/crates/{self.name}/{path}", f"{self.folder}/{path}")
@@ -201,7 +202,7 @@ class Crate:
 
     def together(self, bodies):
         """Tries these bodies together, and returns those of which nothing is known yet."""
-        status, told = self.with_bodies(bodies)
+        status, told = self.with_bodies(bodies, {name for it in bodies for name in it.functions})
         answers = dict(TOLD.findall(told))
         functions = {it: sorted({found_in(answers, name) for name in it.functions}) for it in bodies}
         edited = {name for names in functions.values() for name in names}
@@ -222,10 +223,10 @@ class Crate:
 
     def left_of(self, bodies):
         """Tries these bodies, and returns those of which nothing is known yet: in halves, if together they tell nothing."""
-        if len(bodies) == 1:
+        left = self.together(bodies) if bodies[0].is_of_functions() else None
+        if len(bodies) == 1 and left != []:
             self.alone(bodies[0])
             return []
-        left = self.together(bodies)
         if left is None or len(left) == len(bodies):
             half = len(bodies) // 2
             return self.left_of(bodies[:half]) + self.left_of(bodies[half:])
