@@ -4,10 +4,7 @@ use crate::findings::Findings;
 use crate::refusing::{Case, refuse_after, was_refused};
 use crate::report::Report;
 use crate::stores::{are_same, expect_quiet, is_between, is_part, taken, writes};
-use crate::vectors::{
-    INFO_AND_FIRST, INFO_AND_LAST, INFO_AND_PADDED, JOURNAL_OF_CONFLICT, JOURNAL_OF_SEVERAL, LAST,
-    OTHER_FILE, OTHER_SESSION, WHOLE,
-};
+use crate::vectors::Vectors;
 use flute_join::JoinRefusal;
 use flute_parts::Key;
 use flute_store::Shelf;
@@ -58,43 +55,52 @@ impl Case for Absorb<'_> {
 }
 
 /// A symbol, what is held, another value of a symbol, and several objects.
-pub fn absorbs<P: Print>(report: &mut Report<'_, P>, key: &Key) {
+pub fn absorbs<P: Print>(report: &mut Report<'_, P>, vectors: &Vectors, key: &Key) {
     let absorb = Absorb {
         key,
-        held: &[INFO_AND_FIRST],
-        other: &[INFO_AND_LAST],
-        both: &[INFO_AND_FIRST, INFO_AND_LAST],
-        journal: WHOLE,
+        held: &[&vectors.info_and_first],
+        other: &[&vectors.info_and_last],
+        both: &[&vectors.info_and_first, &vectors.info_and_last],
+        journal: &vectors.whole,
     };
     report.refuse("absorb of a symbol", &absorb);
     let absorb = Absorb {
         key,
-        held: &[INFO_AND_FIRST, INFO_AND_LAST],
-        other: &[INFO_AND_LAST],
-        both: &[INFO_AND_FIRST, INFO_AND_LAST],
-        journal: WHOLE,
+        held: &[&vectors.info_and_first, &vectors.info_and_last],
+        other: &[&vectors.info_and_last],
+        both: &[&vectors.info_and_first, &vectors.info_and_last],
+        journal: &vectors.whole,
     };
     report.ask_for_none("absorb of what is held", &absorb);
     let absorb = Absorb {
         key,
-        held: &[INFO_AND_FIRST, INFO_AND_LAST],
-        other: &[INFO_AND_PADDED],
-        both: &[INFO_AND_FIRST, INFO_AND_LAST, INFO_AND_PADDED],
-        journal: JOURNAL_OF_CONFLICT,
+        held: &[&vectors.info_and_first, &vectors.info_and_last],
+        other: &[&vectors.info_and_padded],
+        both: &[
+            &vectors.info_and_first,
+            &vectors.info_and_last,
+            &vectors.info_and_padded,
+        ],
+        journal: &vectors.journal_of_conflict,
     };
     report.ask_for_none("absorb of another value", &absorb);
     let absorb = Absorb {
         key,
-        held: &[LAST],
-        other: &[INFO_AND_FIRST, INFO_AND_PADDED, OTHER_FILE, OTHER_SESSION],
-        both: &[
-            LAST,
-            INFO_AND_FIRST,
-            INFO_AND_PADDED,
-            OTHER_FILE,
-            OTHER_SESSION,
+        held: &[&vectors.last],
+        other: &[
+            &vectors.info_and_first,
+            &vectors.info_and_padded,
+            &vectors.other_file,
+            &vectors.other_session,
         ],
-        journal: JOURNAL_OF_SEVERAL,
+        both: &[
+            &vectors.last,
+            &vectors.info_and_first,
+            &vectors.info_and_padded,
+            &vectors.other_file,
+            &vectors.other_session,
+        ],
+        journal: &vectors.journal_of_several,
     };
     report.refuse_midway(
         "absorb of several objects",

@@ -4,7 +4,7 @@ use crate::findings::Findings;
 use crate::refusing::{Case, refuse_after, refuse_all, was_refused};
 use crate::report::Report;
 use crate::stores::{are_same, expect_quiet, taken, writes};
-use crate::vectors::{FIRST, JOURNAL_OF_FIRST, JOURNAL_OF_INFO, LAST, WHOLE};
+use crate::vectors::Vectors;
 use anyhow::Result;
 use flute_join::JoinRefusal;
 use flute_parts::{Bytes, Fact, Info, Key, SymbolId};
@@ -63,15 +63,20 @@ impl Case for Add<'_> {
 }
 
 /// Information, and a symbol.
-pub fn adds<P: Print>(report: &mut Report<'_, P>, key: Key, info: Info) -> Result<()> {
+pub fn adds<P: Print>(
+    report: &mut Report<'_, P>,
+    vectors: &Vectors,
+    key: Key,
+    info: Info,
+) -> Result<()> {
     let fact = Fact::Info { key, info };
     let to_symbols = Add {
         key: &key,
-        before: &[FIRST, LAST],
+        before: &[&vectors.first, &vectors.last],
         fact: &fact,
         old_status: Some(Status::NoInformation),
         new_status: Status::Whole { length: 5 },
-        journal: WHOLE,
+        journal: &vectors.whole,
     };
     report.ask_for_none("add of information to symbols", &to_symbols);
     let to_nothing = Add {
@@ -84,13 +89,13 @@ pub fn adds<P: Print>(report: &mut Report<'_, P>, key: Key, info: Info) -> Resul
             conflicting: 0,
             misfit: 0,
         },
-        journal: JOURNAL_OF_INFO,
+        journal: &vectors.journal_of_info,
     };
     report.refuse("add of information", &to_nothing);
-    add_symbol(report, key)
+    add_symbol(report, vectors, key)
 }
 
-fn add_symbol<P: Print>(report: &mut Report<'_, P>, key: Key) -> Result<()> {
+fn add_symbol<P: Print>(report: &mut Report<'_, P>, vectors: &Vectors, key: Key) -> Result<()> {
     let fact = Fact::Symbol {
         key,
         id: SymbolId { sbn: 0, esi: 0 },
@@ -102,7 +107,7 @@ fn add_symbol<P: Print>(report: &mut Report<'_, P>, key: Key) -> Result<()> {
         fact: &fact,
         old_status: None,
         new_status: Status::NoInformation,
-        journal: JOURNAL_OF_FIRST,
+        journal: &vectors.journal_of_first,
     };
     report.refuse("add of a symbol", &add);
     Ok(())

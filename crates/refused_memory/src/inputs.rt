@@ -4,9 +4,7 @@ use crate::findings::Findings;
 use crate::refusing::{Case, refuse_after, was_refused};
 use crate::report::Report;
 use crate::stores::writes;
-use crate::vectors::{
-    DATAGRAMS, OLD_SYMBOLS, OLD_WHOLE, SYMBOLS_OF_SENDER, WHOLE, WHOLE_OF_BOTH, WHOLE_OF_SENDER,
-};
+use crate::vectors::Vectors;
 use anyhow::Result;
 use flute_journal::{ReadFault, Sessions};
 use flute_parts::{Info, Key, MemorySink, MemorySource, Sender};
@@ -176,47 +174,58 @@ fn expect_part(written: &[u8], journal: &[u8], findings: &mut Findings) {
 }
 
 /// Information that is added to a journal of symbols, of version 1, and of another sender.
-pub fn informs<P: Print>(report: &mut Report<'_, P>, key: Key, key_of_sender: Key, info: Info) {
+pub fn informs<P: Print>(
+    report: &mut Report<'_, P>,
+    vectors: &Vectors,
+    key: Key,
+    key_of_sender: Key,
+    info: Info,
+) {
     let inform = Inform {
         key,
         info,
-        journal: OLD_SYMBOLS,
-        both: WHOLE,
+        journal: &vectors.old_symbols,
+        both: &vectors.whole,
         entries: 3,
     };
     report.refuse("info_to", &inform);
     let inform = Inform {
         key: key_of_sender,
         info,
-        journal: SYMBOLS_OF_SENDER,
-        both: WHOLE_OF_SENDER,
+        journal: &vectors.symbols_of_sender,
+        both: &vectors.whole_of_sender,
         entries: 3,
     };
     report.refuse("info_to of another sender", &inform);
 }
 
 /// A journal of version 1 read whole, and joined with a datagram file; and one of another sender.
-pub fn joins<P: Print>(report: &mut Report<'_, P>) -> Result<()> {
+pub fn joins<P: Print>(report: &mut Report<'_, P>, vectors: &Vectors) -> Result<()> {
     let alloc = report.alloc();
-    report.refuse("Blob::read", &Input { bytes: OLD_WHOLE });
-    let sent = Blob::read(alloc, &mut MemorySource::new(DATAGRAMS))?;
-    let journal = Blob::read(alloc, &mut MemorySource::new(OLD_WHOLE))?;
+    report.refuse(
+        "Blob::read",
+        &Input {
+            bytes: &vectors.old_whole,
+        },
+    );
+    let sent = Blob::read(alloc, &mut MemorySource::new(&vectors.datagrams))?;
+    let journal = Blob::read(alloc, &mut MemorySource::new(&vectors.old_whole))?;
     let inputs = Inputs {
         inputs: &[sent, journal],
-        journal: WHOLE,
+        journal: &vectors.whole,
     };
     report.refuse("join_inputs", &inputs);
     report.refuse("join_sources", &Streams { inputs, entries: 3 });
-    joins_of_two_senders(report)
+    joins_of_two_senders(report, vectors)
 }
 
-fn joins_of_two_senders<P: Print>(report: &mut Report<'_, P>) -> Result<()> {
+fn joins_of_two_senders<P: Print>(report: &mut Report<'_, P>, vectors: &Vectors) -> Result<()> {
     let alloc = report.alloc();
-    let sent = Blob::read(alloc, &mut MemorySource::new(DATAGRAMS))?;
-    let journal = Blob::read(alloc, &mut MemorySource::new(WHOLE_OF_SENDER))?;
+    let sent = Blob::read(alloc, &mut MemorySource::new(&vectors.datagrams))?;
+    let journal = Blob::read(alloc, &mut MemorySource::new(&vectors.whole_of_sender))?;
     let inputs = Inputs {
         inputs: &[sent, journal],
-        journal: WHOLE_OF_BOTH,
+        journal: &vectors.whole_of_both,
     };
     report.refuse("join_inputs of two senders", &inputs);
     let streams = Streams { inputs, entries: 6 };

@@ -34,26 +34,36 @@ use reading::reads;
 use report::Report;
 use running::steps;
 use sending::sends;
+use std::alloc::Global;
+use std::io::Print;
+use std::test::Fail;
 use taking::takes;
+use vectors::Vectors;
 
-fn main(rt: HostRuntime) -> Result<()> {
+fn main(rt: HostRuntime) -> Result<(), Fail> {
+    // This asks for memory, and no request for that is refused yet.
+    let vectors = Vectors::read(rt.alloc())?;
+    Ok(try_calls(&rt, rt.alloc(), &vectors)?)
+}
+
+fn try_calls<P: Print>(out: &P, alloc: Global, vectors: &Vectors) -> Result<()> {
     let object = ObjectKey::file(1).context("a file")?;
     let session = SessionKey::new(Sender::new(0), 7).context("a session")?;
     let key = Key { session, object };
     let session = SessionKey::new(Sender::v4(0x0A00_0001), 7).context("a session")?;
     let key_of_sender = Key { session, object };
     let info = Info::new(5, 4, 2)?;
-    let mut report = Report::new(&rt, rt.alloc());
+    let mut report = Report::new(out, alloc);
     maps(&mut report);
-    names_and_packets(&mut report);
-    takes(&mut report, &key);
-    adds(&mut report, key, info)?;
-    absorbs(&mut report, &key);
-    reads(&mut report);
-    merges(&mut report);
-    steps(&mut report, &key)?;
-    sends(&mut report, &key, &info)?;
-    joins(&mut report)?;
-    informs(&mut report, key, key_of_sender, info);
+    names_and_packets(&mut report, vectors);
+    takes(&mut report, vectors, &key);
+    adds(&mut report, vectors, key, info)?;
+    absorbs(&mut report, vectors, &key);
+    reads(&mut report, vectors);
+    merges(&mut report, vectors);
+    steps(&mut report, vectors, &key)?;
+    sends(&mut report, vectors, &key, &info)?;
+    joins(&mut report, vectors)?;
+    informs(&mut report, vectors, key, key_of_sender, info);
     report.end()
 }

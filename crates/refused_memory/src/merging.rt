@@ -3,7 +3,7 @@
 use crate::findings::Findings;
 use crate::refusing::{Case, refuse_after, was_refused};
 use crate::report::Report;
-use crate::vectors::{JOINED, OLD_OTHERS, OLD_WHOLE, WHOLE_OF_BOTH, WHOLE_OF_SENDER};
+use crate::vectors::Vectors;
 use flute_journal::{MergeFault, ReadFault, merge_streams};
 use flute_parts::{MemorySink, MemorySource};
 use std::alloc::Global;
@@ -58,18 +58,18 @@ impl Case for Merge<'_> {
 }
 
 /// The journal of the file, and one of other symbols of it, or of the file of another sender.
-pub fn merges<P: Print>(report: &mut Report<'_, P>) {
+pub fn merges<P: Print>(report: &mut Report<'_, P>, vectors: &Vectors) {
     let merge = Merge {
-        first: OLD_WHOLE,
-        second: OLD_OTHERS,
-        both: JOINED,
+        first: &vectors.old_whole,
+        second: &vectors.old_others,
+        both: &vectors.joined,
         entries: 4,
     };
     report.refuse("merge_streams", &merge);
     let merge = Merge {
-        first: OLD_WHOLE,
-        second: WHOLE_OF_SENDER,
-        both: WHOLE_OF_BOTH,
+        first: &vectors.old_whole,
+        second: &vectors.whole_of_sender,
+        both: &vectors.whole_of_both,
         entries: 6,
     };
     report.refuse("merge_streams of both versions", &merge);

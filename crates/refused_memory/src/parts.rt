@@ -3,7 +3,7 @@
 use crate::findings::Findings;
 use crate::refusing::{Case, refuse_all, was_refused};
 use crate::report::Report;
-use crate::vectors::{INFO_AND_FIRST, WHOLE};
+use crate::vectors::Vectors;
 use flute_parts::{
     Address, Bytes, Fact, Info, InfoFault, Key, MemorySource, ObjectKey, Part, Partition, Sender,
     SessionKey, Source, SymbolId,
@@ -59,8 +59,8 @@ fn is_informed() -> bool {
 }
 
 /// A datagram is read.
-fn is_read() -> bool {
-    read(INFO_AND_FIRST).is_ok_and(|packet| {
+fn is_read(vectors: &Vectors) -> bool {
+    read(&vectors.info_and_first).is_ok_and(|packet| {
         packet.tsi() == 7
             && packet.toi() == 1
             && packet.instance().is_none()
@@ -88,18 +88,20 @@ fn is_addressed(key: &Key) -> bool {
 }
 
 /// A source gives its bytes, and a new store has nothing.
-fn is_opened(alloc: Global) -> bool {
+fn is_opened(alloc: Global, vectors: &Vectors) -> bool {
     let mut buffer = [0; 4];
-    let mut source = MemorySource::new(WHOLE);
+    let mut source = MemorySource::new(&vectors.whole);
     let read = source.read(&mut buffer) == Ok(4) && buffer.starts_with(b"FLJN");
     read && Shelf::new(alloc).walk().next().is_none()
 }
 
 /// All of them at once.
 #[derive(Clone, Copy)]
-pub struct Parts;
+pub struct Parts<'a> {
+    vectors: &'a Vectors,
+}
 
-impl Case for Parts {
+impl Case for Parts<'_> {
     fn refused_after(&self, alloc: Global, _granted: u16, findings: &mut Findings) -> bool {
         let (Ok(octets), Ok(bytes)) = (
             Vec::from_slice(alloc, OCTETS),
@@ -112,10 +114,10 @@ impl Case for Parts {
         let key = file();
         let sent = is_sent();
         let informed = is_informed();
-        let read = is_read();
+        let read = is_read(self.vectors);
         let addressed = key.is_some_and(|key| is_addressed(&key));
         let made = is_made(octets, bytes);
-        let opened = is_opened(alloc);
+        let opened = is_opened(alloc, self.vectors);
         findings.expect(!was_refused(alloc), "a part asked for memory");
         findings.expect(sent, "a text names another sender");
         findings.expect(informed, "information tells otherwise");
@@ -128,6 +130,9 @@ impl Case for Parts {
 }
 
 /// They are made and looked at while all requests are refused.
-pub fn names_and_packets<P: Print>(report: &mut Report<'_, P>) {
-    report.ask_for_none("names, senders, information, packets and devices", &Parts);
+pub fn names_and_packets<P: Print>(report: &mut Report<'_, P>, vectors: &Vectors) {
+    report.ask_for_none(
+        "names, senders, information, packets and devices",
+        &Parts { vectors },
+    );
 }

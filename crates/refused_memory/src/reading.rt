@@ -4,7 +4,7 @@ use crate::findings::Findings;
 use crate::refusing::{Case, refuse_after, refuse_all, was_refused};
 use crate::report::Report;
 use crate::stores::{taken, writes};
-use crate::vectors::{DATAGRAMS, INFO_AND_FIRST, INFO_AND_LAST, OLD_WHOLE, WHOLE, WHOLE_OF_SENDER};
+use crate::vectors::Vectors;
 use flute_journal::{DatagramReader, JournalReader, LoadFault, ReadFault, read_store};
 use flute_parts::MemorySource;
 use flute_store::Shelf;
@@ -143,31 +143,34 @@ impl Case for Loaded<'_> {
 }
 
 /// The journal of the file, of either version, and the datagram file that sends it.
-pub fn reads<P: Print>(report: &mut Report<'_, P>) {
-    let store: Shelf = taken(report.alloc(), &[INFO_AND_FIRST, INFO_AND_LAST]);
+pub fn reads<P: Print>(report: &mut Report<'_, P>, vectors: &Vectors) {
+    let store: Shelf = taken(
+        report.alloc(),
+        &[&vectors.info_and_first, &vectors.info_and_last],
+    );
     let entries = Entries {
-        journal: OLD_WHOLE,
+        journal: &vectors.old_whole,
         store: &store,
     };
     report.refuse("JournalReader", &entries);
     let entries = Entries {
-        journal: WHOLE,
+        journal: &vectors.whole,
         store: &store,
     };
     report.refuse("JournalReader of version 2", &entries);
     let records = Records {
-        file: DATAGRAMS,
-        datagrams: &[INFO_AND_FIRST, INFO_AND_LAST],
+        file: &vectors.datagrams,
+        datagrams: &[&vectors.info_and_first, &vectors.info_and_last],
     };
     report.refuse("DatagramReader", &records);
     let loaded = Loaded {
-        journal: OLD_WHOLE,
-        written: WHOLE,
+        journal: &vectors.old_whole,
+        written: &vectors.whole,
     };
     report.refuse("read_store", &loaded);
     let loaded = Loaded {
-        journal: WHOLE_OF_SENDER,
-        written: WHOLE_OF_SENDER,
+        journal: &vectors.whole_of_sender,
+        written: &vectors.whole_of_sender,
     };
     report.refuse("read_store of another sender", &loaded);
 }

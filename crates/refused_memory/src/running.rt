@@ -4,9 +4,7 @@ use crate::findings::Findings;
 use crate::refusing::{Case, refuse_after, refuse_all, refuse_in_turn, was_refused};
 use crate::report::Report;
 use crate::stores::{are_same, expect_quiet, is_between, is_part, writes};
-use crate::vectors::{
-    FIRST_NARROW, INFO_AND_FIRST, INFO_AND_LAST, OLD_OTHERS, REFUSED, WHOLE, WHOLE_OF_SENDER,
-};
+use crate::vectors::Vectors;
 use anyhow::Result;
 use flute_parts::{Bytes, Fact, Key, MemorySource, Sender, SymbolId};
 use flute_store::Shelf;
@@ -204,11 +202,11 @@ fn load(alloc: Global, replica: u32, journal: &[u8]) -> Result<Step> {
 }
 
 /// Three replicas, each given a part of the file, merged in a ring.
-fn ring(alloc: Global) -> Result<Vec<Step>> {
+fn ring(alloc: Global, vectors: &Vectors) -> Result<Vec<Step>> {
     let mut steps = Vec::new(alloc);
-    steps.push(take(alloc, 0, INFO_AND_FIRST)?)?;
-    steps.push(take(alloc, 1, INFO_AND_LAST)?)?;
-    steps.push(take(alloc, 2, FIRST_NARROW)?)?;
+    steps.push(take(alloc, 0, &vectors.info_and_first)?)?;
+    steps.push(take(alloc, 1, &vectors.info_and_last)?)?;
+    steps.push(take(alloc, 2, &vectors.first_narrow)?)?;
     for (into, from) in [(0, 1), (1, 2), (2, 0), (0, 2), (0, 0)] {
         steps.push(Step::Merge { into, from })?;
     }
@@ -226,20 +224,23 @@ fn add(alloc: Global, replica: u32, key: &Key) -> Result<Step> {
 }
 
 /// The ring, by `run` and by each step, and then steps that a refusal leaves in the midst.
-pub fn steps<P: Print>(report: &mut Report<'_, P>, key: &Key) -> Result<()> {
+pub fn steps<P: Print>(report: &mut Report<'_, P>, vectors: &Vectors, key: &Key) -> Result<()> {
     let alloc = report.alloc();
-    let mut steps = ring(alloc)?;
+    let mut steps = ring(alloc, vectors)?;
     let whole = WholeRun {
         steps: &steps,
-        journal: WHOLE,
+        journal: &vectors.whole,
     };
     report.refuse("run", &whole);
-    steps.push(load(alloc, 1, OLD_OTHERS)?)?;
+    steps.push(load(alloc, 1, &vectors.old_others)?)?;
     steps.push(Step::Merge { into: 2, from: 1 })?;
     steps.push(add(alloc, 0, key)?)?;
-    steps.push(load(alloc, 2, WHOLE_OF_SENDER)?)?;
+    steps.push(load(alloc, 2, &vectors.whole_of_sender)?)?;
     steps.push(Step::Reopen { replica: 2 })?;
-    let quiet = [Step::Merge { into: 0, from: 0 }, take(alloc, 0, REFUSED)?];
+    let quiet = [
+        Step::Merge { into: 0, from: 0 },
+        take(alloc, 0, &vectors.refused)?,
+    ];
     let mut findings = Findings::new();
     let mut refused = 0_u16;
     for (k, step) in steps.iter().enumerate() {

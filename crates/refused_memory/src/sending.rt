@@ -4,7 +4,7 @@ use crate::findings::Findings;
 use crate::refusing::{Case, refuse_after, was_refused};
 use crate::report::Report;
 use crate::stores::taken;
-use crate::vectors::{DATAGRAMS, EMPTY_FILE, INFO_AND_FIRST, INFO_AND_LAST, WHOLE};
+use crate::vectors::Vectors;
 use anyhow::Result;
 use flute_journal::{write_datagrams, write_store};
 use flute_parts::{Info, Key, MemorySink};
@@ -114,13 +114,18 @@ impl Case for Written<'_> {
 }
 
 /// The file and an object of no bytes, sent, and the file written in three ways.
-pub fn sends<P: Print>(report: &mut Report<'_, P>, key: &Key, info: &Info) -> Result<()> {
+pub fn sends<P: Print>(
+    report: &mut Report<'_, P>,
+    vectors: &Vectors,
+    key: &Key,
+    info: &Info,
+) -> Result<()> {
     let content = b"hello".as_slice();
     let sent = Sent {
         key,
         info,
         content,
-        datagrams: &[INFO_AND_FIRST, INFO_AND_LAST],
+        datagrams: &[&vectors.info_and_first, &vectors.info_and_last],
     };
     report.refuse("carousel", &sent);
     let nothing = Info::new(0, 0, 0)?;
@@ -128,14 +133,17 @@ pub fn sends<P: Print>(report: &mut Report<'_, P>, key: &Key, info: &Info) -> Re
         key,
         info: &nothing,
         content: &[],
-        datagrams: &[EMPTY_FILE],
+        datagrams: &[&vectors.empty_file],
     };
     report.refuse("carousel of no bytes", &sent);
     let datagrams = carousel(report.alloc(), key, info, content)?;
-    let store: Shelf = taken(report.alloc(), &[INFO_AND_FIRST, INFO_AND_LAST]);
+    let store: Shelf = taken(
+        report.alloc(),
+        &[&vectors.info_and_first, &vectors.info_and_last],
+    );
     let journal = Written::Journal {
         store: &store,
-        bytes: WHOLE,
+        bytes: &vectors.whole,
     };
     report.refuse("write_store", &journal);
     let object = Written::Object {
@@ -146,7 +154,7 @@ pub fn sends<P: Print>(report: &mut Report<'_, P>, key: &Key, info: &Info) -> Re
     report.refuse("extract", &object);
     let file = Written::Datagrams {
         datagrams: &datagrams,
-        bytes: DATAGRAMS,
+        bytes: &vectors.datagrams,
     };
     report.refuse("write_datagrams", &file);
     Ok(())

@@ -5,10 +5,7 @@ use crate::findings::Findings;
 use crate::refusing::{Case, refuse_after, refuse_all, was_refused};
 use crate::report::Report;
 use crate::stores::{are_same, expect_quiet, taken, writes};
-use crate::vectors::{
-    FIRST, INFO_AND_FIRST, INFO_AND_LAST, JOURNAL_OF_FIRST, JOURNAL_OF_PART, JOURNAL_OF_SYMBOLS,
-    LAST, OTHER_FILE, OTHER_SESSION, WHOLE,
-};
+use crate::vectors::Vectors;
 use flute_parts::{Key, Sender};
 use flute_store::{Store, TakeFault, Taken};
 use std::alloc::Global;
@@ -79,56 +76,56 @@ fn take_with_refusal<const SESSIONS: u32, const OBJECTS: u32, const SYMBOLS: u32
 }
 
 /// Datagrams of one file, and others that have no room.
-pub fn takes<P: Print>(report: &mut Report<'_, P>, key: &Key) {
+pub fn takes<P: Print>(report: &mut Report<'_, P>, vectors: &Vectors, key: &Key) {
     let take = Take {
         key,
         before: &[],
-        datagram: INFO_AND_FIRST,
+        datagram: &vectors.info_and_first,
         answer: Ok(Taken { facts: 2 }),
-        journal: JOURNAL_OF_PART,
+        journal: &vectors.journal_of_part,
     };
     report.refuse("take of the first datagram", &take);
     let take = Take {
         key,
-        before: &[INFO_AND_FIRST],
-        datagram: INFO_AND_LAST,
+        before: &[&vectors.info_and_first],
+        datagram: &vectors.info_and_last,
         answer: Ok(Taken { facts: 2 }),
-        journal: WHOLE,
+        journal: &vectors.whole,
     };
     report.refuse("take of the last datagram", &take);
     let take = Take {
         key,
-        before: &[FIRST],
-        datagram: LAST,
+        before: &[&vectors.first],
+        datagram: &vectors.last,
         answer: Ok(Taken { facts: 1 }),
-        journal: JOURNAL_OF_SYMBOLS,
+        journal: &vectors.journal_of_symbols,
     };
     report.refuse("take without information", &take);
     let take = Take {
         key,
         before: &[],
-        datagram: FIRST,
+        datagram: &vectors.first,
         answer: Ok(Taken { facts: 1 }),
-        journal: JOURNAL_OF_FIRST,
+        journal: &vectors.journal_of_first,
     };
     report.refuse("take in little room", &TakeInLittleRoom { take });
-    takes_in_no_room(report, key);
+    takes_in_no_room(report, vectors, key);
 }
 
-fn takes_in_no_room<P: Print>(report: &mut Report<'_, P>, key: &Key) {
+fn takes_in_no_room<P: Print>(report: &mut Report<'_, P>, vectors: &Vectors, key: &Key) {
     let full = Err(TakeFault::Full);
     for (datagram, answer) in [
-        (LAST, full),
-        (OTHER_SESSION, full),
-        (OTHER_FILE, full),
-        (FIRST, Ok(Taken { facts: 1 })),
+        (&vectors.last, full),
+        (&vectors.other_session, full),
+        (&vectors.other_file, full),
+        (&vectors.first, Ok(Taken { facts: 1 })),
     ] {
         let take = Take {
             key,
-            before: &[FIRST],
+            before: &[&vectors.first],
             datagram,
             answer,
-            journal: JOURNAL_OF_FIRST,
+            journal: &vectors.journal_of_first,
         };
         report.ask_for_none("take in no room", &TakeInLittleRoom { take });
     }
