@@ -6,7 +6,7 @@ usage: tools/wrong_bodies.py [--alone] [CRATE ..]
 Those of crates/CRATE/wrong-bodies/, of the crates that are named or of all. An edit is a file as `rt must-fail` reads it:
 lines 'file: PATH', 'old: TEXT', 'new: TEXT'. A function is proved from the contracts of those that it calls, and from
 nothing else of them. So the edits of a crate are tried together, one of a function at a time, in a copy of the
-repository: each function that was edited has to be refused for a goal of its own, and no other function may be. One that
+crate: each function that was edited has to be refused for a goal of its own, and no other function may be. One that
 only waits for an edited function that it calls is tried again without that one. What is in doubt is tried alone, and so is
 an edit outside functions. As many crates are tried side by side as there are processors.
 
@@ -24,6 +24,9 @@ import tempfile
 from concurrent.futures import ThreadPoolExecutor
 
 ROOT = os.path.dirname(os.path.dirname(os.path.abspath(__file__)))
+KIT = os.path.dirname(os.path.dirname(os.path.realpath(shutil.which("rt") or "rt")))
+with open(f"{ROOT}/crates.txt", encoding="utf-8") as lines:
+    LINES = [it.partition("#")[0] for it in lines]
 TOLD = re.compile(r"^fn (\S+): (.*)$", re.M)
 
 
@@ -101,10 +104,42 @@ def found_in(answers, name):
     return name if name in answers or len(alike) != 1 else alike[0]
 
 
-def check(folder, functions):
+def libraries_of(name):
+    """The libraries that crates.txt lists for the crate: those of the repository, with those below them, and those of the kit."""
+    lines = [it.partition(":") for it in LINES]
+    listed = {it[0].split()[0]: it[2].split() for it in lines if it[0].strip()}
+    own = [it for it in listed[name] if it in listed]
+    below = [*own]
+    for one in below:
+        below += [it for it in listed[one] if it in listed and it not in below]
+    return own, below, [it for it in listed[name] if it not in listed]
+
+
+def rlibs(name):
+    return f"{ROOT}/crates/{name}/out/rlib"
+
+
+def words_of(name):
+    """The command that checks the crate in the current folder over the libraries that were built."""
+    own, below, of_kit = libraries_of(name)
+    words = [f"{KIT}/bin/rattle", "check", "--crate-name", name]
+    words += ["src/main.rt" if os.path.isfile(f"{ROOT}/crates/{name}/src/main.rt") else "src/lib.rt"]
+    for it in ["std", *of_kit]:
+        words += ["--extern", f"{it}={KIT}/rlibs/{it}.rlib"]
+    words += ["-L", f"dependency={KIT}/rlibs"]
+    for it in own:
+        words += ["--extern", f"{it}={rlibs(it)}/{it}.rlib"]
+    for it in below:
+        words += ["-L", f"dependency={rlibs(it)}"]
+    words += ["--antt-project", f"{KIT}/rattle/logic/antt-project.json", "--logic-built", f"{KIT}/logic_built"]
+    return [*words, "--links", f"{name}=", "--jobs", "1", "--incremental", "kept"]
+
+
+def check(name, folder, functions):
     """What a check of the crate prints, or one of these functions, and those that they call, alone."""
-    words = [word for name in sorted(functions) for word in ("--only", "::".join(name.split("::")[-2:]))]
-    ran = subprocess.run(["rt", "check", "--jobs", "1", *words], cwd=folder, stdin=subprocess.DEVNULL, stdout=subprocess.PIPE, stderr=subprocess.STDOUT, errors="replace")
+    words = [word for it in sorted(functions) for word in ("--only", "::".join(it.split("::")[-2:]))]
+    how = {"stdin": subprocess.DEVNULL, "stdout": subprocess.PIPE, "stderr": subprocess.STDOUT, "errors": "replace"}
+    ran = subprocess.run([*words_of(name), *words], cwd=folder, **how)
     return ran.returncode, ran.stdout
 
 
@@ -125,28 +160,9 @@ def is_unproved(status, told):
     return status == 1 and re.search(r"^(logic=not-proved|only=\d+ proved=\d+)", told, re.M) is not None
 
 
-def link(one, other):
-    """A library that was built gets a second name: it is removed before it is made anew, and never written into."""
-    try:
-        os.link(one, other)
-    except OSError:
-        shutil.copy2(one, other)
-    return other
-
-
-def copy_to(room):
-    """Copies the repository, with the libraries that were built."""
-    for name in os.listdir(f"{ROOT}/crates"):
-        shutil.copytree(f"{ROOT}/crates/{name}", f"{room}/crates/{name}", ignore=shutil.ignore_patterns("out"))
-        if os.path.isdir(f"{ROOT}/crates/{name}/out/rlib"):
-            shutil.copytree(f"{ROOT}/crates/{name}/out/rlib", f"{room}/crates/{name}/out/rlib", symlinks=True, copy_function=link)
-    for file in ("crates.txt", "HANDLES"):
-        shutil.copyfile(f"{ROOT}/{file}", f"{room}/{file}")
-
-
 class Crate:
-    def __init__(self, room, name):
-        self.name, self.folder, self.told = name, f"{room}/crates/{name}", []
+    def __init__(self, folder, name):
+        self.name, self.folder, self.told = name, folder, []
         self.refused = self.failed = 0
         files = sorted(it for it in os.listdir(f"{ROOT}/crates/{name}/wrong-bodies") if it.endswith(".edit"))
         self.bodies = [Body(f"{ROOT}/crates/{name}", name, f"{ROOT}/crates/{name}/wrong-bodies/{it}") for it in files]
@@ -172,7 +188,7 @@ class Crate:
             with open(f"{self.folder}/{path}", "w", encoding="utf-8") as to:
                 to.write(text)
         try:
-            return check(self.folder, functions)
+            return check(self.name, self.folder, functions)
         finally:
             for path in texts:
                 shutil.copyfile(f"{ROOT}/crates/{self.name}/{path}", f"{self.folder}/{path}")
@@ -242,7 +258,10 @@ class Crate:
 def tried(name):
     """Tries the wrong bodies of a crate, in a copy of its own, and returns how many were refused and how many were not."""
     with tempfile.TemporaryDirectory(prefix="wrong-bodies-") as room:
-        copy_to(room)
+        for part in ("src", "specs", "proofs"):
+            if os.path.isdir(f"{ROOT}/crates/{name}/{part}"):
+                shutil.copytree(f"{ROOT}/crates/{name}/{part}", f"{room}/{part}")
+        os.mkdir(f"{room}/kept")
         crate = Crate(room, name)
         crate.run()
     print("\n".join(crate.told), flush=True)
@@ -257,7 +276,9 @@ def lines_of(name):
 def each_alone(names):
     """Lets `rt must-fail` try the wrong bodies of the crates that are named, or of all."""
     with tempfile.TemporaryDirectory(prefix="wrong-bodies-") as room:
-        copy_to(room)
+        shutil.copytree(f"{ROOT}/crates", f"{room}/crates", ignore=shutil.ignore_patterns("out"))
+        for file in ("crates.txt", "HANDLES"):
+            shutil.copyfile(f"{ROOT}/{file}", f"{room}/{file}")
         for name in os.listdir(f"{room}/crates"):
             shutil.rmtree(f"{room}/crates/{name}/must-fail", ignore_errors=True)
             if os.path.isdir(f"{room}/crates/{name}/wrong-bodies"):
@@ -269,6 +290,10 @@ def main(names):
     if "--alone" in names:
         return each_alone([it for it in names if it != "--alone"])
     crates = names or [it for it in os.listdir(f"{ROOT}/crates") if os.path.isdir(f"{ROOT}/crates/{it}/wrong-bodies")]
+    needed = {below for it in crates for below in libraries_of(it)[1]}
+    if not all(os.path.isdir(f"{rlibs(it)}/{it}.rlib") for it in needed):
+        # (a check of the program builds all libraries below it)
+        subprocess.run(["rt", "check"], cwd=f"{ROOT}/crates/flutejoin_cli", check=True)
     with ThreadPoolExecutor(len(os.sched_getaffinity(0))) as pool:
         found = [*pool.map(tried, sorted(crates, key=lines_of, reverse=True))]
     refused, failed = sum(it for it, _ in found), sum(it for _, it in found)
