@@ -2,7 +2,7 @@
 # make test          the whole gate: every proof from nothing, the wrong bodies, the tests, the trials, the
 #                    program, the tools, the sessions of README, of docs/OPERATING.md, the man pages and the
 #                    tutorial, the completion, the longest journal, and memory refused in turn
-# make wrong-bodies  the wrong bodies alone
+# make wrong-bodies  all wrong bodies, also second ones of a function, which the gate leaves out
 # make try           reads a first packet with the program as it stands, in about a minute and with nothing proved
 # make example       runs a small session: a file sent, received at three stations, joined and written
 # make install       copies the program to $(PREFIX)/bin, and the tools of the network and of pictures beside it; man pages, the
@@ -38,7 +38,7 @@ test:
 
 wrong-bodies:
 	rt must-fail
-	tools/wrong_bodies.py
+	tools/wrong_bodies.py --all
 
 try:
 	@echo "flutejoin: nothing is proved by this: the program is run before any proof, on one packet" >&2

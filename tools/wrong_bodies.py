@@ -1,9 +1,10 @@
 #!/usr/bin/env python3
 """Tries wrong bodies: edits of the code that a contract has to refuse.
 
-usage: tools/wrong_bodies.py [--alone] [CRATE ..]
+usage: tools/wrong_bodies.py [--all | --alone] [CRATE ..]
 
-Those of crates/CRATE/wrong-bodies/, of the crates that are named or of all. An edit is a file as `rt must-fail` reads it:
+Those of crates/CRATE/wrong-bodies/, of the crates that are named or of all; with --all, those of wrong-bodies/more/ as well,
+second ones of a function. An edit is a file as `rt must-fail` reads it:
 lines 'file: PATH', 'old: TEXT', 'new: TEXT'. A function is proved from the contracts of those that it calls, and from
 nothing else of them. So the edits of a crate are tried together, one of a function at a time, in a copy of the
 crate: each function that was edited has to be refused for a goal of its own, and no other function may be. One that
@@ -160,12 +161,18 @@ def is_unproved(status, told):
     return status == 1 and re.search(r"^(logic=not-proved|only=\d+ proved=\d+)", told, re.M) is not None
 
 
+def edits_of(name):
+    """The files of the crate's wrong bodies."""
+    folder = f"{ROOT}/crates/{name}/wrong-bodies"
+    folders = [folder, f"{folder}/more"] if "--all" in sys.argv else [folder]
+    return [f"{at}/{it}" for at in folders if os.path.isdir(at) for it in sorted(os.listdir(at)) if it.endswith(".edit")]
+
+
 class Crate:
     def __init__(self, folder, name):
         self.name, self.folder, self.told = name, folder, []
         self.refused = self.failed = 0
-        files = sorted(it for it in os.listdir(f"{ROOT}/crates/{name}/wrong-bodies") if it.endswith(".edit"))
-        self.bodies = [Body(f"{ROOT}/crates/{name}", name, f"{ROOT}/crates/{name}/wrong-bodies/{it}") for it in files]
+        self.bodies = [Body(f"{ROOT}/crates/{name}", name, it) for it in edits_of(name)]
 
     def edited(self, body, texts):
         """The texts of files with this body put into them, if each text that it replaces is there once."""
@@ -281,14 +288,16 @@ def each_alone(names):
             shutil.copyfile(f"{ROOT}/{file}", f"{room}/{file}")
         for name in os.listdir(f"{room}/crates"):
             shutil.rmtree(f"{room}/crates/{name}/must-fail", ignore_errors=True)
-            if os.path.isdir(f"{room}/crates/{name}/wrong-bodies"):
-                os.rename(f"{room}/crates/{name}/wrong-bodies", f"{room}/crates/{name}/must-fail")
+            for edit in edits_of(name):
+                os.makedirs(f"{room}/crates/{name}/must-fail", exist_ok=True)
+                shutil.copy(edit, f"{room}/crates/{name}/must-fail")
         return subprocess.run(["rt", "must-fail", *names], cwd=room).returncode
 
 
 def main(names):
     if "--alone" in names:
         return each_alone([it for it in names if it != "--alone"])
+    names = [it for it in names if it != "--all"]
     crates = names or [it for it in os.listdir(f"{ROOT}/crates") if os.path.isdir(f"{ROOT}/crates/{it}/wrong-bodies")]
     needed = {below for it in crates for below in libraries_of(it)[1]}
     if not all(os.path.isdir(f"{rlibs(it)}/{it}.rlib") for it in needed):
