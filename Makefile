@@ -19,8 +19,8 @@ bin/flutejoin: $(SOURCES)
 
 test:
 	rt ci
-	tools/wrong_bodies.py
-	tests/trials.sh
+	$(MAKE) --no-print-directory --jobs=2 --output-sync test-wrong-bodies test-trials
+	tests/wrong_bodies.sh
 	tests/program.sh crates/flutejoin_cli/out/flutejoin_cli
 	tests/outputs.sh crates/flutejoin_cli/out/flutejoin_cli
 	tests/capture.sh crates/flutejoin_cli/out/flutejoin_cli
@@ -35,6 +35,13 @@ test:
 	tests/tutorial.sh crates/flutejoin_cli/out/flutejoin_cli
 	tests/refused_memory.sh crates/refused_memory/out/refused_memory crates/refused_memory/out/refused_memory.by-rattle
 	tests/refused_program.sh crates/flutejoin_cli/out/flutejoin_cli crates/flutejoin_cli/out/flutejoin_cli.by-rattle
+
+# Neither waits for anything but the processor.
+test-wrong-bodies:
+	tools/wrong_bodies.py
+
+test-trials:
+	tests/trials.sh
 
 wrong-bodies:
 	rt must-fail
@@ -70,4 +77,4 @@ install: bin/flutejoin
 clean:
 	rm -rf bin crates/*/out
 
-.PHONY: test wrong-bodies try example install clean
+.PHONY: test test-wrong-bodies test-trials wrong-bodies try example install clean

@@ -1,21 +1,17 @@
 #!/usr/bin/env python3
 """Tries wrong bodies: edits of the code that a contract has to refuse.
 
-usage: tools/wrong_bodies.py [--all | --alone] [CRATE ..]
+An edit is a file as `rt must-fail` reads it, with lines 'file: PATH', 'old: TEXT' and 'new: TEXT'.
+A function is proved from the contracts of those that it calls, and from nothing else of them. So
+the edits of a crate are tried together, one of a function at a time, in a copy of the crate: each
+function that was edited has to be refused for a goal of its own, and no other function may be. One
+that only waits for an edited function that it calls is tried again without that one. What is in
+doubt is tried alone, and so is an edit outside functions. As many crates are tried side by side as
+there are processors.
 
-Those of crates/CRATE/wrong-bodies/, of the crates that are named or of all; with --all, those of wrong-bodies/more/ as well,
-second ones of a function. An edit is a file as `rt must-fail` reads it:
-lines 'file: PATH', 'old: TEXT', 'new: TEXT'. A function is proved from the contracts of those that it calls, and from
-nothing else of them. So the edits of a crate are tried together, one of a function at a time, in a copy of the
-crate: each function that was edited has to be refused for a goal of its own, and no other function may be. One that
-only waits for an edited function that it calls is tried again without that one. What is in doubt is tried alone, and so is
-an edit outside functions. As many crates are tried side by side as there are processors.
-
-The last line is 'wrong bodies: N refused, M failed', and the status 0 if all were refused.
-
-With --alone `rt must-fail` tries each by itself, as it does the edits of crates/CRATE/must-fail/: that takes half a minute
-to two minutes for each.
+The last line is 'wrong bodies: N refused, M failed', and the status is 0 if all were refused.
 """
+import argparse
 import os
 import re
 import shutil
@@ -26,40 +22,110 @@ from concurrent.futures import ThreadPoolExecutor
 
 ROOT = os.path.dirname(os.path.dirname(os.path.abspath(__file__)))
 KIT = os.path.dirname(os.path.dirname(os.path.realpath(shutil.which("rt") or "rt")))
-with open(f"{ROOT}/crates.txt", encoding="utf-8") as lines:
-    LINES = [it.partition("#")[0] for it in lines]
-TOLD = re.compile(r"^fn (\S+): (.*)$", re.M)
+
+PUB = r"(?:pub(?:\([^)]*\))? )?"
+FUNCTION = re.compile(rf"^( *){PUB}(?:const |final |unsafe )*fn (\w+)", re.M)
+ITEM = re.compile(rf"^{PUB}(?:impl|trait|struct|enum)\b[^{{;]*", re.M)
+OWNER = re.compile(rf"{PUB}(?:impl|trait)\b")
+# What a check says of a function.
+ANSWER = re.compile(r"^fn (\S+): (.*)$", re.M)
+# The end of what it says where it came to its end, and not all is proved.
+UNPROVED = re.compile(r"^(logic=not-proved|only=\d+ proved=\d+)", re.M)
+# The place of a fault.
+FAULT = re.compile(r"(note: )?\S+:\d+:\d+: (error|it is not proved)")
+# What it says of a limit of its own, which it meets wherever it checks the same.
+LIMIT = re.compile(
+    r"antt ran out of (stack|the (steps|memory) that the check of one declaration may (take|use))"
+    r"|(outgrew the memory limit|stopped at the step limit) \("
+)
+
+
+def text_of(path):
+    with open(path, encoding="utf-8") as file:
+        return file.read()
+
+
+def crate_folder(name):
+    return f"{ROOT}/crates/{name}"
 
 
 class Body:
-    """A wrong body: its name, the files with their pairs of texts, and the functions that it changes."""
+    """A wrong body: its name, its files with their pairs of texts, and the functions it changes."""
 
-    def __init__(self, folder, crate, file):
+    def __init__(self, crate, file):
         self.name = f"{crate}/{os.path.basename(file)[: -len('.edit')]}"
-        self.pairs, path, old = [], "", None
-        with open(file, encoding="utf-8") as text:
-            for line in text.read().split("\n"):
-                if line.startswith("file: "):
-                    path = line[len("file: ") :].strip()
-                elif line.startswith("old: "):
-                    old = line[len("old: ") :]
-                elif line.startswith("new:") and path and old:
-                    self.pairs.append((path, old, line[len("new:") :].removeprefix(" ")))
-                    old = None
+        self.pairs = pairs_of(text_of(file))
         if not self.pairs:
             raise ValueError(f"{self.name}: no pair of texts")
         self.functions, texts = set(), {}
         for path, old, new in self.pairs:
             if path not in texts:
-                with open(f"{folder}/{path}", encoding="utf-8") as text:
-                    texts[path] = text.read()
-            if texts[path].count(old) != 1:
-                raise ValueError(f"{self.name}: its text is {texts[path].count(old)} times in {path}, and not once")
-            self.functions.add(enclosing(crate, path, texts[path][: texts[path].index(old) + len(old)]))
+                texts[path] = text_of(f"{crate_folder(crate)}/{path}")
+            times = texts[path].count(old)
+            if times != 1:
+                raise ValueError(f"{self.name}: its text is {times} times in {path}, and not once")
+            end = texts[path].index(old) + len(old)
+            self.functions.add(enclosing(crate, path, texts[path][:end]))
             texts[path] = texts[path].replace(old, new)
 
     def is_of_functions(self):
         return None not in self.functions
+
+
+def pairs_of(text):
+    """The paths of an edit with their old and new texts, in their order."""
+    pairs, path, old = [], "", None
+    for line in text.split("\n"):
+        if line.startswith("file: "):
+            path = line[len("file: ") :].strip()
+        elif line.startswith("old: "):
+            old = line[len("old: ") :]
+        elif line.startswith("new:") and path and old:
+            pairs.append((path, old, line[len("new:") :].removeprefix(" ")))
+            old = None
+    return pairs
+
+
+def enclosing(crate, path, text):
+    """The name, as a check tells it, of the function that this text ends in, if it is in one."""
+    functions = [*FUNCTION.finditer(text)]
+    items = [*ITEM.finditer(text)]
+    if not functions or items and functions[-1].end() < items[-1].start():
+        return None
+    inside = path[len("src/") : -len(".rt")]
+    names = [crate, *([] if inside in ("lib", "main") else inside.split("/"))]
+    indent, function = functions[-1].groups()
+    if indent:
+        owners = [it[0] for it in items if OWNER.match(it[0])]
+        names.append(owner_name(re.sub(f"^{PUB}", "", " ".join(owners[-1].split()))))
+    return "::".join([*names, function])
+
+
+def owner_name(head):
+    """The name that a check has for the owner of methods, from the head of its impl or trait."""
+    if head.startswith("trait"):
+        return bare(head[len("trait") :])
+    head = without_parameters(head[len("impl") :].strip())
+    trait, _, of = head.partition(" for ")
+    if not of:
+        trait, of = "", trait
+    # The name of a conversion has the type that it is from.
+    conversion = re.fullmatch(r"From<(.*)>", trait.strip())
+    trait = f"From{bare(conversion[1])}" if conversion else bare(trait)
+    of = bare(of)
+    return of[:1].upper() + of[1:] + trait
+
+
+def without_parameters(head):
+    """The head of an impl after its list of parameters."""
+    if not head.startswith("<"):
+        return head
+    depth = 0
+    for at, letter in enumerate(head):
+        depth += (letter == "<") - (letter == ">" and head[at - 1] != "-")
+        if not depth:
+            return head[at + 1 :].strip()
+    return head
 
 
 def bare(name):
@@ -68,47 +134,36 @@ def bare(name):
     return name.rpartition("::")[2]
 
 
-def enclosing(crate, path, text):
-    """The name, as a check tells it, of the function that this text ends in, if it ends in one."""
-    functions = [*re.finditer(r"^( *)(?:pub(?:\([^)]*\))? )?(?:const |final |unsafe )*fn (\w+)", text, re.M)]
-    items = [*re.finditer(r"^(?:pub(?:\([^)]*\))? )?(?:impl|trait|struct|enum)\b[^{;]*", text, re.M)]
-    if not functions or items and functions[-1].end() < items[-1].start():
-        return None
-    inside = path[len("src/") : -len(".rt")]
-    names = [crate, *([] if inside in ("lib", "main") else inside.split("/"))]
-    if functions[-1][1]:
-        owners = [it[0] for it in items if re.match(r"(?:pub(?:\([^)]*\))? )?(?:impl|trait)\b", it[0])]
-        owner = re.sub(r"^(?:pub(?:\([^)]*\))? )?", "", " ".join(owners[-1].split()))
-        if owner.startswith("trait"):
-            names.append(bare(owner[len("trait") :]))
-        else:
-            owner, depth = owner[len("impl") :].strip(), 0
-            if owner.startswith("<"):
-                for at, letter in enumerate(owner):
-                    depth += (letter == "<") - (letter == ">" and owner[at - 1] != "-")
-                    if not depth:
-                        owner = owner[at + 1 :].strip()
-                        break
-            trait, _, of = owner.partition(" for ")
-            # (of a conversion the name has the type that it is from)
-            conversion = re.fullmatch(r"From<(.*)>", trait.strip())
-            of, trait = (of, f"From{bare(conversion[1])}" if conversion else bare(trait)) if of else (trait, "")
-            of = bare(of)
-            names.append(of[:1].upper() + of[1:] + trait)
-    return "::".join([*names, functions[-1][2]])
+def last_names(name):
+    """A method is told with the module of its type, not with its own."""
+    return "::".join(name.split("::")[-2:])
 
 
 def found_in(answers, name):
-    """The name that a check tells for this one: a method is told with the module of its type, not with its own."""
-    last = "::".join(name.split("::")[-2:])
-    alike = [it for it in answers if it.endswith(f"::{last}")]
+    """The name that a check tells for this one."""
+    alike = [it for it in answers if it.endswith(f"::{last_names(name)}")]
     return name if name in answers or len(alike) != 1 else alike[0]
 
 
+def is_refused(said):
+    """Whether a function is refused for what it does itself, and not only for what it calls."""
+    return said.startswith("not proved") or "` did not prove `" in said
+
+
+def is_unproved(status, told):
+    return status == 1 and UNPROVED.search(told) is not None
+
+
+def listed_libraries():
+    """The libraries that crates.txt lists for each crate."""
+    lines = text_of(f"{ROOT}/crates.txt").split("\n")
+    listed = [it.partition("#")[0].partition(":") for it in lines]
+    return {it[0].split()[0]: it[2].split() for it in listed if it[0].strip()}
+
+
 def libraries_of(name):
-    """The libraries that crates.txt lists for the crate: those of the repository, with those below them, and those of the kit."""
-    lines = [it.partition(":") for it in LINES]
-    listed = {it[0].split()[0]: it[2].split() for it in lines if it[0].strip()}
+    """The crate's libraries: the repository's, with those below them, and the kit's."""
+    listed = listed_libraries()
     own = [it for it in listed[name] if it in listed]
     below = [*own]
     for one in below:
@@ -117,14 +172,14 @@ def libraries_of(name):
 
 
 def rlibs(name):
-    return f"{ROOT}/crates/{name}/out/rlib"
+    return f"{crate_folder(name)}/out/rlib"
 
 
-def words_of(name):
-    """The command that checks the crate in the current folder over the libraries that were built."""
+def checking(name):
+    """The command that checks the crate in the current folder over its libraries as built."""
     own, below, of_kit = libraries_of(name)
-    words = [f"{KIT}/bin/rattle", "check", "--crate-name", name]
-    words += ["src/main.rt" if os.path.isfile(f"{ROOT}/crates/{name}/src/main.rt") else "src/lib.rt"]
+    root = "main" if os.path.isfile(f"{crate_folder(name)}/src/main.rt") else "lib"
+    words = [f"{KIT}/bin/rattle", "check", "--crate-name", name, f"src/{root}.rt"]
     for it in ["std", *of_kit]:
         words += ["--extern", f"{it}={KIT}/rlibs/{it}.rlib"]
     words += ["-L", f"dependency={KIT}/rlibs"]
@@ -132,76 +187,56 @@ def words_of(name):
         words += ["--extern", f"{it}={rlibs(it)}/{it}.rlib"]
     for it in below:
         words += ["-L", f"dependency={rlibs(it)}"]
-    words += ["--antt-project", f"{KIT}/rattle/logic/antt-project.json", "--logic-built", f"{KIT}/logic_built"]
+    words += ["--antt-project", f"{KIT}/rattle/logic/antt-project.json"]
+    words += ["--logic-built", f"{KIT}/logic_built"]
     return [*words, "--links", f"{name}=", "--jobs", "1", "--incremental", "kept"]
 
 
-def check(name, folder, functions):
-    """What a check of the crate prints, or one of these functions, and those that they call, alone."""
-    words = [word for it in sorted(functions) for word in ("--only", "::".join(it.split("::")[-2:]))]
-    how = {"stdin": subprocess.DEVNULL, "stdout": subprocess.PIPE, "stderr": subprocess.STDOUT, "errors": "replace"}
-    ran = subprocess.run([*words_of(name), *words], cwd=folder, **how)
-    return ran.returncode, ran.stdout
-
-
-def is_refused(said):
-    """Whether a check refuses this function for what it does itself, and not only for what it calls."""
-    return said.startswith("not proved") or "` did not prove `" in said
-
-
-# What a check says of a limit of its own, which it meets wherever it checks the same.
-LIMITS = re.compile(
-    r"antt ran out of (stack|the (steps|memory) that the check of one declaration may (take|use))"
-    r"|(outgrew the memory limit|stopped at the step limit) \("
-)
-
-
-def is_unproved(status, told):
-    """Whether the check came to its end, and not all is proved."""
-    return status == 1 and re.search(r"^(logic=not-proved|only=\d+ proved=\d+)", told, re.M) is not None
-
-
-def edits_of(name):
-    """The files of the crate's wrong bodies."""
-    folder = f"{ROOT}/crates/{name}/wrong-bodies"
-    folders = [folder, f"{folder}/more"] if "--all" in sys.argv else [folder]
-    return [f"{at}/{it}" for at in folders if os.path.isdir(at) for it in sorted(os.listdir(at)) if it.endswith(".edit")]
-
-
 class Crate:
-    def __init__(self, folder, name):
+    """A crate in a folder of its own, in which its wrong bodies are tried."""
+
+    def __init__(self, folder, name, edits):
         self.name, self.folder, self.told = name, folder, []
         self.refused = self.failed = 0
-        self.bodies = [Body(f"{ROOT}/crates/{name}", name, it) for it in edits_of(name)]
+        self.bodies = [Body(name, it) for it in edits]
 
     def edited(self, body, texts):
-        """The texts of files with this body put into them, if each text that it replaces is there once."""
+        """The texts with this body put into them, if each text that it replaces is there once."""
         texts = dict(texts)
         for path, old, new in body.pairs:
             if path not in texts:
-                with open(f"{ROOT}/crates/{self.name}/{path}", encoding="utf-8") as text:
-                    texts[path] = text.read()
+                texts[path] = text_of(f"{crate_folder(self.name)}/{path}")
             if texts[path].count(old) != 1:
                 return None
             texts[path] = texts[path].replace(old, new)
         return texts
 
-    def with_bodies(self, bodies, functions=()):
-        """Puts these bodies in place, checks the crate or these functions, and takes them back."""
+    def check(self, bodies, functions=()):
+        """Puts these bodies in place, checks the crate or these functions, and takes them back.
+        Returns the status of the check and what it printed."""
         texts = {}
         for body in bodies:
             texts = self.edited(body, texts)
         for path, text in texts.items():
-            with open(f"{self.folder}/{path}", "w", encoding="utf-8") as to:
-                to.write(text)
+            with open(f"{self.folder}/{path}", "w", encoding="utf-8") as file:
+                file.write(text)
+        only = [word for it in sorted(functions) for word in ("--only", last_names(it))]
         try:
-            return check(self.name, self.folder, functions)
+            ran = subprocess.run(
+                [*checking(self.name), *only],
+                cwd=self.folder,
+                stdin=subprocess.DEVNULL,
+                stdout=subprocess.PIPE,
+                stderr=subprocess.STDOUT,
+                errors="replace",
+            )
+            return ran.returncode, ran.stdout
         finally:
             for path in texts:
-                shutil.copyfile(f"{ROOT}/crates/{self.name}/{path}", f"{self.folder}/{path}")
+                shutil.copyfile(f"{crate_folder(self.name)}/{path}", f"{self.folder}/{path}")
 
     def group(self, pending):
-        """As many of these bodies as are of different functions, and leave each other's texts as they are."""
+        """As many of these bodies as are of different functions and leave each other's texts."""
         chosen, functions, texts = [], set(), {}
         for body in pending:
             with_it = self.edited(body, texts)
@@ -217,35 +252,40 @@ class Crate:
         self.told.append(f"{body.name}: {'refused' if is_refused else 'FAILED'}: {why}")
 
     def alone(self, body):
-        """Tries one body, which has to leave the crate unproved; a limit of the prover is no proof either."""
-        status, told = self.with_bodies([body])
-        said = next((it for it in told.split("\n") if re.match(r"(note: )?\S+:\d+:\d+: (error|it is not proved)", it)), told[-160:])
-        at_limit = status == 3 and LIMITS.search(told) is not None
+        """Tries one body, with which the crate has to be unproved. A limit of the prover is no
+        proof either."""
+        status, told = self.check([body])
+        said = next((it for it in told.split("\n") if FAULT.match(it)), told[-160:])
+        at_limit = status == 3 and LIMIT.search(told) is not None
         self.settle(body, is_unproved(status, told) or at_limit, f"alone: {said[:160]}")
 
     def together(self, bodies):
-        """Tries these bodies together, and returns those of which nothing is known yet."""
-        status, told = self.with_bodies(bodies, {name for it in bodies for name in it.functions})
-        answers = dict(TOLD.findall(told))
-        functions = {it: sorted({found_in(answers, name) for name in it.functions}) for it in bodies}
+        """Tries these bodies together, and returns those of which nothing is known yet, or None
+        if that tells nothing of any."""
+        status, told = self.check(bodies, {name for it in bodies for name in it.functions})
+        answers = dict(ANSWER.findall(told))
+        functions = {it: sorted({found_in(answers, one) for one in it.functions}) for it in bodies}
         edited = {name for names in functions.values() for name in names}
         others = [it for it, said in answers.items() if is_refused(said) and it not in edited]
         if not is_unproved(status, told) or others:
-            self.told.append(f"{self.name}: {len(bodies)} together told nothing: {', '.join(others) or told[-300:]}")
+            why = ", ".join(others) or told[-300:]
+            self.told.append(f"{self.name}: {len(bodies)} together told nothing: {why}")
             return None
         left = []
         for body in bodies:
             said = [answers.get(it, "no answer") for it in functions[body]]
+            names = ", ".join(functions[body])
             if any(is_refused(it) for it in said):
-                self.settle(body, True, f"not proved: {', '.join(functions[body])}")
+                self.settle(body, True, f"not proved: {names}")
             elif all(it.startswith("proved") for it in said):
-                self.settle(body, False, f"still proved: {', '.join(functions[body])}")
+                self.settle(body, False, f"still proved: {names}")
             else:
                 left.append(body)
         return left
 
     def left_of(self, bodies):
-        """Tries these bodies, and returns those of which nothing is known yet: in halves, if together they tell nothing."""
+        """Tries these bodies, in halves if together they tell nothing, and returns those of which
+        nothing is known yet."""
         left = self.together(bodies) if bodies[0].is_of_functions() else None
         if len(bodies) == 1 and left != []:
             self.alone(bodies[0])
@@ -262,49 +302,97 @@ class Crate:
             pending = self.left_of(bodies) + [it for it in pending if it not in bodies]
 
 
-def tried(name):
-    """Tries the wrong bodies of a crate, in a copy of its own, and returns how many were refused and how many were not."""
+def edits_in(folders):
+    """The files of edits in these folders."""
+    files = [f"{at}/{it}" for at in folders if os.path.isdir(at) for it in sorted(os.listdir(at))]
+    return [it for it in files if it.endswith(".edit")]
+
+
+def edits_of(name, options):
+    """The files of the crate's wrong bodies."""
+    if options.edits:
+        return edits_in([options.edits])
+    folder = f"{crate_folder(name)}/wrong-bodies"
+    return edits_in([folder, f"{folder}/more"] if options.all else [folder])
+
+
+def tried(name, edits):
+    """Tries the wrong bodies of a crate in a copy of it, and returns how many were refused and how
+    many were not."""
     with tempfile.TemporaryDirectory(prefix="wrong-bodies-") as room:
         for part in ("src", "specs", "proofs"):
-            if os.path.isdir(f"{ROOT}/crates/{name}/{part}"):
-                shutil.copytree(f"{ROOT}/crates/{name}/{part}", f"{room}/{part}")
+            if os.path.isdir(f"{crate_folder(name)}/{part}"):
+                shutil.copytree(f"{crate_folder(name)}/{part}", f"{room}/{part}")
         os.mkdir(f"{room}/kept")
-        crate = Crate(room, name)
+        crate = Crate(room, name, edits)
         crate.run()
     print("\n".join(crate.told), flush=True)
     return crate.refused, crate.failed
 
 
-def lines_of(name):
-    """About how long a check of the crate takes."""
-    return sum(os.path.getsize(f"{at}/{it}") for at, _, files in os.walk(f"{ROOT}/crates/{name}/src") for it in files)
-
-
-def each_alone(names):
-    """Lets `rt must-fail` try the wrong bodies of the crates that are named, or of all."""
+def each_alone(names, options):
+    """Lets `rt must-fail` try each wrong body of these crates by itself."""
     with tempfile.TemporaryDirectory(prefix="wrong-bodies-") as room:
-        shutil.copytree(f"{ROOT}/crates", f"{room}/crates", ignore=shutil.ignore_patterns("out"))
+        copied = shutil.ignore_patterns("out", "must-fail")
+        shutil.copytree(f"{ROOT}/crates", f"{room}/crates", ignore=copied)
         for file in ("crates.txt", "HANDLES"):
             shutil.copyfile(f"{ROOT}/{file}", f"{room}/{file}")
-        for name in os.listdir(f"{room}/crates"):
-            shutil.rmtree(f"{room}/crates/{name}/must-fail", ignore_errors=True)
-            for edit in edits_of(name):
-                os.makedirs(f"{room}/crates/{name}/must-fail", exist_ok=True)
+        for name in names:
+            os.mkdir(f"{room}/crates/{name}/must-fail")
+            for edit in edits_of(name, options):
                 shutil.copy(edit, f"{room}/crates/{name}/must-fail")
         return subprocess.run(["rt", "must-fail", *names], cwd=room).returncode
 
 
-def main(names):
-    if "--alone" in names:
-        return each_alone([it for it in names if it != "--alone"])
-    names = [it for it in names if it != "--all"]
-    crates = names or [it for it in os.listdir(f"{ROOT}/crates") if os.path.isdir(f"{ROOT}/crates/{it}/wrong-bodies")]
-    needed = {below for it in crates for below in libraries_of(it)[1]}
+def size_of(name):
+    """The bytes of the crate's code, by which its check takes longer or shorter."""
+    found = os.walk(f"{crate_folder(name)}/src")
+    return sum(os.path.getsize(f"{at}/{it}") for at, _, files in found for it in files)
+
+
+def options_of(words):
+    is_crate = lambda it: os.path.isdir(f"{crate_folder(it)}/wrong-bodies")
+    all_crates = [it for it in sorted(os.listdir(f"{ROOT}/crates")) if is_crate(it)]
+    parser = argparse.ArgumentParser(
+        description=__doc__, formatter_class=argparse.RawDescriptionHelpFormatter
+    )
+    parser.add_argument(
+        "crates", metavar="CRATE", nargs="*", help="a crate whose wrong bodies are tried; else all"
+    )
+    parser.add_argument(
+        "--all",
+        action="store_true",
+        help="those in wrong-bodies/more too, second ones of a function",
+    )
+    parser.add_argument(
+        "--alone",
+        action="store_true",
+        help="let 'rt must-fail' try each by itself, in half a minute to two minutes for each",
+    )
+    parser.add_argument("--edits", metavar="FOLDER", help="the edits in this folder, all of CRATE")
+    options = parser.parse_args(words)
+    if options.edits and len(options.crates) != 1:
+        parser.error("--edits wants one CRATE")
+    options.crates = options.crates or all_crates
+    return options
+
+
+def main(words):
+    options = options_of(words)
+    if options.alone:
+        return each_alone(options.crates, options)
+    needed = {below for it in options.crates for below in libraries_of(it)[1]}
     if not all(os.path.isdir(f"{rlibs(it)}/{it}.rlib") for it in needed):
         # (a check of the program builds all libraries below it)
-        subprocess.run(["rt", "check"], cwd=f"{ROOT}/crates/flutejoin_cli", check=True)
-    with ThreadPoolExecutor(len(os.sched_getaffinity(0))) as pool:
-        found = [*pool.map(tried, sorted(crates, key=lines_of, reverse=True))]
+        subprocess.run(["rt", "check"], cwd=crate_folder("flutejoin_cli"), check=True)
+    # The longest first.
+    crates = sorted(options.crates, key=size_of, reverse=True)
+    try:
+        with ThreadPoolExecutor(len(os.sched_getaffinity(0))) as pool:
+            found = [*pool.map(lambda it: tried(it, edits_of(it, options)), crates)]
+    except ValueError as fault:
+        print(f"wrong_bodies.py: {fault}", file=sys.stderr)
+        return 2
     refused, failed = sum(it for it, _ in found), sum(it for _, it in found)
     print(f"wrong bodies: {refused} refused, {failed} failed")
     return 1 if failed or not refused else 0
