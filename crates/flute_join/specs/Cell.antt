@@ -78,6 +78,6 @@ module _ {T : Type 0} {eq : T → T → Bool} (laws : IsEquivalence eq)
   repeats (One x) = ap (λ b. cond b (One x) Conflict) (laws.refl x)
   repeats Conflict = refl
 
-  -- the join of cells is a join, where values that compare equal are the same
+  -- the join of cells is a join, if values that compare equal are the same
   pub cell_join_laws : IsJoin (cell_join eq)
   cell_join_laws = record { commutative = commutes; associative = associates; idempotent = repeats }

@@ -7,7 +7,7 @@ use Rattle.std.specs.BTreeMap.{is_at}
 use Rattle.std.specs.Option.{ForSome}
 use Rattle.std.specs.List.Sorted.{IsStrictlySortedBy}
 
--- the values that two maps have at one key, joined where both have one
+-- the values that two maps have at one key, joined if both have one
 abbrev pub join_values : {X : Type 0} → (X → X → X) → Option X → Option X → Option X
 join_values join None d = d
 join_values join (Some v) None = Some v
@@ -34,8 +34,8 @@ module _ {K X : Type 0} (cmp : K → K → Ordering) where
     pub some : es ≢ []
     pub each : EachValue P es
 
-  -- joining fs into es may ask for memory: at some key of fs that es lacks, or where joining
-  -- the values at it may ask
+  -- joining fs into es may ask for memory: some key of fs is not in es, or joining the values
+  -- at it may ask
   abbrev pub MapNeedsMemory : (X → X → Type 0) → List (K × X) → List (K × X) → Type 0
   MapNeedsMemory needs_memory es fs =
       (q : K) × (w : X) × (value_at fs q ≡ Some w) × ForSome (value_at es q) (λ v. needs_memory v w)

@@ -193,7 +193,7 @@ module _ {K X : Type 0} {cmp : K → K → Ordering} (order : IsTotalOrder cmp)
   associates [] fs gs = refl
   associates (e ∷ es) fs gs = associates_middle e es (associates es) fs gs
 
-  -- the join of maps is a join, where keys that compare equal are the same and the join
+  -- the join of maps is a join, if keys that compare equal are the same and the join
   -- of the values is one
   pub map_join_laws : IsJoin (map_join cmp join)
   map_join_laws = record { commutative = commutes; associative = associates; idempotent = repeats }

@@ -18,7 +18,7 @@ module _ {K X : Type 0} (cmp : K → K → Ordering) (join : X → X → X) (lim
     pub parts : fs ≡ before ++ entry ∷ after
     pub above : IsBelow (map_join cmp join) (map_join cmp join es before) ds
     pub below : IsBelow (map_join cmp join) ds (map_join cmp join es (before ++ entry ∷ []))
-    -- a new key is not joined, and it is `Full` exactly where there is no room for it
+    -- a new key is not joined, and it is `Full` exactly if there is no room for it
     pub new_unchanged : IsNone (value_at cmp es entry.0) → ds ≡ map_join cmp join es before
     pub new_full : IsNone (value_at cmp es entry.0) → ((why ≡ Full) ↔ (length ds ≡ limit))
     -- at a held key the join of the two values is refused

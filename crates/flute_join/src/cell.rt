@@ -47,8 +47,7 @@ impl<T: Value> Cell<T> {
         matches!(self, Cell::Conflict)
     }
 
-    /// The value, where the cell holds one; `None` where it is absent or a
-    /// conflict. Takes no memory.
+    /// The value, if the cell holds one; `None` if it is absent or a conflict. Takes no memory.
     pub fn one(&self) -> Option<&T>
         ensures { option_copied result ≡ one_value self.now }
     {
@@ -62,7 +61,7 @@ impl<T: Value> Cell<T> {
 impl<T: Value> Join for Cell<T> {
     ghost joined = { cell_join T.eq };
 
-    // No limit stands in the way of two cells.
+    // No limit forbids the join of two cells.
     ghost over = { λ _ _. ⊥ };
 
     ghost needs_memory = { CellNeedsMemory };
@@ -71,7 +70,7 @@ impl<T: Value> Join for Cell<T> {
 
     ghost join_laws = { cell_join_laws T.Eq.laws T.same_where_equal };
 
-    /// Joins another cell into this one. It is never `Full`, and takes memory only where this cell
+    /// Joins another cell into this one. It is never `Full`, and takes memory only if this cell
     /// is absent and the other holds one value; refused, it leaves this cell as it was.
     fn join_from(&mut self, alloc: Global, other: &Cell<T>) -> Result<(), JoinRefusal>
         ensures ok { OnOk result (self.new ≡ cell_join T.eq self.old other.now) }

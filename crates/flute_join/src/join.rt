@@ -5,7 +5,7 @@ ghost use Rattle.flute_join.specs.Semilattice.{IsJoin, IsBelow};
 use crate::refusal::JoinRefusal;
 use std::alloc::Global;
 
-/// A type whose values are joined. One value is below another where joining the
+/// A type whose values are joined. One value is below another if joining the
 /// two gives the other.
 pub trait Join: Drop {
     // The join of two values. It knows no limit.
@@ -17,13 +17,13 @@ pub trait Join: Drop {
     // Joining the second value into the first may ask for memory.
     ghost needs_memory: { Self → Self → Type 0 };
 
-    // What is asked of the values that stand in a map. A join keeps it, refused or not.
+    // What is asked of the values in a map. A join keeps it, refused or not.
     ghost sound: { Self → Type 0 };
 
     /// Joins `other` into this value.
     ///
-    /// `Full` comes only where the limits forbid the join, and there no join succeeds.
-    /// `OutOfMemory` comes only where the join asks for memory and was refused. After a refusal
+    /// `Full` comes only if the limits forbid the join, and then no join succeeds.
+    /// `OutOfMemory` comes only if the join asked for memory and was refused. After a refusal
     /// this value is above the old one and below the join, so joining `other` again with
     /// success gives the join.
     fn join_from(&mut self, alloc: Global, other: &Self) -> Result<(), JoinRefusal>

@@ -71,7 +71,7 @@ impl<K: Place, V: Join, const LIMIT: u32> JoinMap<K, V, LIMIT> {
         self.entries.is_empty()
     }
 
-    /// The value at a key, or `None` where the key is not held.
+    /// The value at a key, or `None` if the key is not held.
     pub fn get(&self, key: &K) -> Option<&V>
         ensures value { option_copied result ≡ value_at K.cmp self.now key.now }
         ensures ordered { IsOrdered K.cmp self.now }
@@ -97,7 +97,7 @@ impl<K: Place, V: Join, const LIMIT: u32> JoinMap<K, V, LIMIT> {
         self.entries.iter()
     }
 
-    /// The value at a key, to be changed in place, or `None` where the key is not held. What is
+    /// The value at a key, to be changed in place, or `None` if the key is not held. What is
     /// written changes the value at that key alone.
     pub fn get_mut(&mut self, key: &K) -> Option<&mut V>
         ensures* writes_back { sem 𝓛
@@ -109,8 +109,8 @@ impl<K: Place, V: Join, const LIMIT: u32> JoinMap<K, V, LIMIT> {
         self.entries.get_mut(key)
     }
 
-    /// As [`get_mut`](JoinMap::get_mut), but quicker where the key stands above all that are held,
-    /// and a little slower elsewhere: for keys that mostly come in rising order.
+    /// As [`get_mut`](JoinMap::get_mut), but quicker if the key is above all that are held, and
+    /// a little slower otherwise: for keys that mostly come in rising order.
     pub fn seek_mut(&mut self, key: &K) -> Option<&mut V>
         ensures* writes_back { sem 𝓛
             (lends_value K.row V.row LIMIT.row K.Place V.Join self.entry (K.cmp key.now) result) }
@@ -124,7 +124,7 @@ impl<K: Place, V: Join, const LIMIT: u32> JoinMap<K, V, LIMIT> {
         self.get_mut(key)
     }
 
-    /// Adds an entry at a key that is not held; `contains` is the test. `Full` comes exactly where
+    /// Adds an entry at a key that is not held; `contains` is the test. `Full` comes exactly if
     /// the map has `LIMIT` keys, before any memory is asked for. A refusal leaves the map
     /// unchanged, and drops the value.
     pub fn add_new(&mut self, key: K, value: V) -> Result<(), JoinRefusal>
@@ -148,7 +148,7 @@ impl<K: Place, V: Join, const LIMIT: u32> JoinMap<K, V, LIMIT> {
 
     /// Joins a value into the one at a key, as joining a map of that one pair.
     ///
-    /// At a new key `Full` comes exactly where the map has `LIMIT` keys, before any memory is
+    /// At a new key `Full` comes exactly if the map has `LIMIT` keys, before any memory is
     /// asked for, and a refusal leaves the map unchanged. At a held key the answer is that of
     /// joining the two values.
     pub fn join_at(&mut self, alloc: Global, key: K, value: &V) -> Result<(), JoinRefusal>
@@ -190,7 +190,7 @@ impl<K: Place, V: Join, const LIMIT: u32> JoinMap<K, V, LIMIT> {
         self.insert(key, value.copy(alloc)?)
     }
 
-    // Whether a key stands above all that are held, and so is new.
+    // Whether a key is above all that are held, and so is new.
     fn is_above_all(&self, key: &K) -> bool
         ensures new { OnTrue result (IsNone (value_at K.cmp self.now key.now)) }
         ensures not_above { OnFalse result ((i : ℕ) × (e : K × V) × (slice_get self.now i ≡ Some e)
@@ -248,7 +248,7 @@ impl<K: Place, V: Join, const LIMIT: u32> Join for JoinMap<K, V, LIMIT> {
     ///
     /// The entries of `other` are taken in rising order of their keys. A refusal stops at one of
     /// them: those before it are joined, those after it are not. At a new key it is `Full` exactly
-    /// where this map has `LIMIT` keys, before any memory is asked for; at a held key it is the
+    /// if this map has `LIMIT` keys, before any memory is asked for; at a held key it is the
     /// refusal of joining the two values.
     fn join_from(&mut self, alloc: Global, other: &Self) -> Result<(), JoinRefusal>
         ensures ok { OnOk result (self.new ≡ map_join K.cmp V.joined self.old other.now) }

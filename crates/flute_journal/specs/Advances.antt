@@ -6,7 +6,7 @@ use Rattle.flute_journal.specs.declared.streams_fault.InputFault.{InputFault}
 use Rattle.flute_journal.specs.Streams.{Behaviour, place_of, GoesOn, StopsAt, IsNew}
 
 module _ {S : Type 0} (b : Behaviour S) where
-  -- a stream went on where it stood at that place, and is as it was elsewhere
+  -- a stream went on if it was at that place, and else is as it was
   abbrev pub GoesOnAt : Option Address → S → S → Type 0
   GoesOnAt place old new =
       ((place_of (b.held old) ≡ place) × GoesOn b old new)
@@ -17,7 +17,7 @@ module _ {S : Type 0} (b : Behaviour S) where
   GoOnAt place (s ∷ old) (t ∷ new) = GoesOnAt place s t × GoOnAt place old new
   GoOnAt place _ _ = ⊥
 
-  -- those before this number went on, that one stopped at the fault, and those behind
+  -- those before this number went on, that one stopped at the fault, and those after
   -- it are as they were
   abbrev pub StopAt : Option Address → ℕ → LoadFault → List S → List S → Type 0
   StopAt place zero fault (s ∷ old) (t ∷ new) =

@@ -1,10 +1,10 @@
--- A stream that something stands beside.
+-- A stream with something beside it.
 use Rattle.std.specs.Prelude.{◌≡◌}
 use Rattle.flute_journal.specs.declared.beside.Beside.{Beside}
 use Rattle.flute_journal.specs.Streams.{Behaviour}
 
 module _ {A S : Type 0} (b : Behaviour S) where
-  -- what holds of the stream since it was new, and what stands beside it is as it was
+  -- what holds of the stream since it was new, and what is beside it is as it was
   abbrev pub kept_beside : {X : Type 0} → (S → S → X → Type 0) → Beside A S → Beside A S → X
       → Type 0
   kept_beside P start now x = P start.stream now.stream x × (now.beside ≡ start.beside)

@@ -1,4 +1,4 @@
--- How what facts come to at the lowest of their addresses changes.
+-- How the value of facts at the lowest of their addresses changes.
 use Rattle.std.specs.Prelude.{Option, Some}
 use Rattle.flute_parts.specs.Addresses.{address}
 use Rattle.flute_parts.specs.Facts.{conflict_at}
@@ -6,7 +6,7 @@ use Rattle.flute_parts.specs.declared.fact.Fact.{Fact}
 use Rattle.flute_journal.specs.declared.lowest.Change.{Change}
 use Rattle.flute_journal.specs.declared.lowest.Change.TheVariants.{Lower, Conflict, Nothing}
 
--- what stands there after this change, by this fact
+-- the value there after this change, by this fact
 abbrev pub changed : Option Fact → Fact → Change → Option Fact
 changed lowest f Lower = Some f
 changed lowest f Conflict = Some (conflict_at (address f))

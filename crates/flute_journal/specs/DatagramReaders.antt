@@ -12,6 +12,6 @@ datagrams_source_of reader = reader.source
 abbrev pub records_limit_of : {R : Type 0} → DatagramReader R → ℕ
 records_limit_of reader = reader.max_records
 
--- where it stands
+-- where it is in the file
 abbrev pub file_stage_of : {R : Type 0} → DatagramReader R → FileState
 file_stage_of reader = reader.state

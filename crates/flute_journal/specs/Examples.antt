@@ -58,7 +58,7 @@ key-bytes : (key_bytes One key ≡ k) × (key_bytes Two key ≡ k₂) × (key_by
 unfolding sender_size
 key-bytes = (refl, refl, refl)
 
--- what stands behind the key of an entry
+-- what follows the key of an entry
 abbrev info_rest : List ℕ
 info_rest = 0 ∷ 0 ∷ 0 ∷ 0 ∷ 0 ∷ 5 ∷ 0 ∷ 4 ∷ 0 ∷ 0 ∷ 0 ∷ 2 ∷ []
 
@@ -136,7 +136,7 @@ sizes : (length (old (info ∷ hell ∷ letter_o ∷ [])) ≡ 110)
 unfolding sender_size
 sizes = (refl, refl, refl)
 
--- The entries of the last are in order, and what the two before it come to.
+-- The entries of the last are in order, and are those of the two joined.
 
 joined-rising : IsRising (info ∷ hell ∷ SymbolConflict key (id 1) ∷ letter_x ∷ [])
 joined-rising = ((refl, (refl, (refl, tt))), ((refl, (refl, tt)), ((refl, tt), (tt, tt))))
@@ -168,7 +168,7 @@ header-cut : (header_fault (0x46 ∷ 0x4C ∷ []) ≡ Some faults.Cut)
     × (header_fault (0x46 ∷ 0x4C ∷ 0x4A ∷ 0x4E ∷ 9 ∷ []) ≡ Some faults.Cut)
 header-cut = (refl, refl)
 
--- What may stand behind entries.
+-- What may follow entries.
 
 abbrev fault_behind : List Fact → List ℕ → Option ReadFault
 fault_behind entries bytes = next_fault (before One entries) 16777216 bytes
@@ -182,7 +182,7 @@ goes-on-two : (fault_in_two [] (1 ∷ k₂ ++ info_rest ++ 3 ∷ k₂) ≡ None)
 unfolding sender_size
 goes-on-two = (refl, refl)
 
--- a session of a higher sender stands behind, whatever its identifier is
+-- a session of a higher sender comes after, whatever its identifier is
 senders-first :
     (fault_in_two (InfoConflict other_key ∷ [])
     (2 ∷ replicate 16 0 ++ 0 ∷ 0 ∷ 0 ∷ 0 ∷ 0 ∷ 8 ∷ 1 ∷ replicate 13 0 ++ 1 ∷ [])
@@ -193,7 +193,7 @@ senders-first :
 unfolding sender_size
 senders-first = (refl, refl)
 
--- an input that ends within the sender, or within the name behind it
+-- an input that ends within the sender, or within the name after it
 cut-in-sender : (fault_in_two [] (2 ∷ replicate 15 0) ≡ Some faults.Cut)
     × (fault_in_two [] (2 ∷ k) ≡ Some faults.Cut)
 unfolding sender_size
@@ -205,7 +205,7 @@ goes-on : (fault_behind [] (1 ∷ k ++ info_rest ++ 3 ∷ k) ≡ None)
 unfolding sender_size
 goes-on = (refl, refl, refl)
 
--- two entries that are swapped, or one that stands twice
+-- two entries that are swapped, or one that is there twice
 out-of-order :
     (fault_behind (info ∷ letter_o ∷ []) (3 ∷ k ++ hell_rest ++ end_bytes 3) ≡ Some faults.Order)
     × (fault_behind (info ∷ hell ∷ letter_o ∷ []) (3 ∷ k ++ letter_o_rest ++ end_bytes 4)
@@ -213,7 +213,7 @@ out-of-order :
 unfolding sender_size
 out-of-order = (refl, refl)
 
--- information behind information of one object: told before it is looked at
+-- information after information of one object: told before it is looked at
 second-information : (fault_behind (info ∷ []) (2 ∷ k ++ end_bytes 2) ≡ Some faults.Order)
     × (fault_behind (info ∷ []) (1 ∷ k ++ 0 ∷ 0 ∷ 0 ∷ 0 ∷ 0 ∷ 5 ∷ 0 ∷ 4 ∷ 0 ∷ 0 ∷ 0 ∷ 0 ∷ [])
     ≡ Some faults.Order)
@@ -269,7 +269,7 @@ too-many :
 unfolding sender_size
 too-many = (refl, refl, refl, refl)
 
--- an input that ends before an entry, behind its kind, within its key, within its rest,
+-- an input that ends before an entry, after its kind, within its key, within its rest,
 -- or within the end
 cut-short : (fault_behind (info ∷ []) [] ≡ Some faults.Cut)
     × (fault_behind (info ∷ []) (3 ∷ []) ≡ Some faults.Cut)

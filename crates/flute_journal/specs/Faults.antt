@@ -96,7 +96,7 @@ id_in bytes = record { sbn = number_at 0 2 bytes; esi = number_at 2 2 bytes }
 abbrev pub info_in : List ℕ → Information
 info_in bytes = information (number_at 0 6 bytes) (number_at 6 2 bytes) (number_at 8 4 bytes)
 
--- what stands before an entry: the version of the journal, how many entries,
+-- what is before an entry: the version of the journal, how many entries,
 -- and the address of the last
 pub record Before : Type 0 where
   pub version : Version
@@ -114,7 +114,7 @@ abbrev pub info_checks : Option InfoFault → List Check
 info_checks None = []
 info_checks (Some f) = (true, faults.Information f) ∷ []
 
--- behind the key of an entry of kind 1
+-- after the key of an entry of kind 1
 abbrev pub information_checks : Option Address → Key → List ℕ → List Check
 information_checks last key rest =
     in_order last (info_address key)
@@ -129,14 +129,14 @@ bytes_checks rest =
     ∷ cut (big_endian (take 2 rest)) (drop 2 rest)
     ∷ []
 
--- behind the key of an entry of kind 3 or 4
+-- after the key of an entry of kind 3 or 4
 abbrev pub id_checks : Option Address → Key → List ℕ → List Check → List Check
 id_checks last key rest more =
     cut 4 rest
     ∷ in_order last (symbol_address key (id_in (take 4 rest)))
     ∷ more
 
--- behind the key
+-- after the key
 abbrev pub rest_checks : Option Address → ℕ → Key → List ℕ → List Check
 rest_checks last kind key rest =
     if kind == 1 then information_checks last key rest
@@ -144,20 +144,20 @@ rest_checks last kind key rest =
     else (if kind == 3 then id_checks last key rest (bytes_checks (drop 4 rest))
     else id_checks last key rest []))
 
--- behind the kind of an entry within the bound
+-- after the kind of an entry within the bound
 abbrev pub body_checks : Version → Option Address → ℕ → List ℕ → List Check
 body_checks version last kind rest =
     cut (key_size version) rest ∷ (not (is_key version (take (key_size version) rest)), faults.Key)
     ∷ rest_checks last kind (key_in version (take (key_size version) rest))
     (drop (key_size version) rest)
 
--- behind a kind of 1 to 4
+-- after a kind of 1 to 4
 abbrev pub entry_checks : Before → ℕ → ℕ → List ℕ → List Check
 entry_checks before limit kind rest =
     (nat_le limit before.count, faults.TooMany)
     ∷ body_checks before.version before.last kind rest
 
--- behind the byte 255
+-- after the byte 255
 abbrev pub end_checks : ℕ → List ℕ → List Check
 end_checks count rest =
     cut 8 rest
@@ -168,7 +168,7 @@ end_checks count rest =
 abbrev pub is_kind : ℕ → Bool
 is_kind kind = nat_le 1 kind && nat_le kind 4
 
--- the fault of what stands behind whole entries: of the next entry, or of the end
+-- the fault of what follows whole entries: of the next entry, or of the end
 abbrev pub next_fault : Before → ℕ → List ℕ → Option ReadFault
 next_fault before limit [] = Some faults.Cut
 next_fault before limit (kind ∷ rest) =

@@ -28,7 +28,7 @@ version_bytes version = 0 ∷ version_number version ∷ []
 abbrev pub header_in : Version → List ℕ
 header_in version = magic ++ version_bytes version
 
--- how many bytes of an entry name its sender: none, where each sender is 0, or those
+-- how many bytes of an entry name its sender: none, if each sender is 0, or those
 -- of an IPv6 address
 unfoldable pub sender_size : Version → ℕ
 sender_size One = 0
@@ -72,14 +72,14 @@ kind (SymbolConflict key id) = 4
 abbrev pub fact_key : Fact → Key
 fact_key f = (address f).key
 
--- what stands behind the key
+-- what follows the key
 abbrev pub rest_bytes : Fact → List ℕ
 rest_bytes (Info key info) = info_bytes info
 rest_bytes (InfoConflict key) = []
 rest_bytes (Symbol key id bytes) = id_bytes id ++ counted_bytes bytes
 rest_bytes (SymbolConflict key id) = id_bytes id
 
--- what stands behind the kind
+-- what follows the kind
 abbrev pub body : Version → Fact → List ℕ
 body version f = key_bytes version (fact_key f) ++ rest_bytes f
 

@@ -14,7 +14,7 @@ pub record Fills (old new : Option (List ℕ)) (n : ℕ) (bytes : List ℕ) : Ty
   pub most : length bytes ≤ n
   pub fewer : length bytes < n → IsAtEnd new
 
--- these bytes were read: n of them, or fewer at the end of the input, or where the source failed
+-- these bytes were read: n of them, or fewer at the end of the input, or if the source failed
 pub record ReadsUpTo (old new : Option (List ℕ)) (n : ℕ) (failed : Bool)
     (bytes : List ℕ) : Type 0 where
   pub read : Consumes old new bytes
@@ -32,14 +32,14 @@ abbrev pub left_by : ReadFault → ReadFault
 left_by faults.Cut = faults.Read
 left_by f = f
 
--- what is or_failed of bytes behind which the source may have failed
+-- what `or_failed` gives, after whose bytes the source may have failed
 abbrev pub or_failed : {T : Type 0} → Bool → Result T ReadFault → Result T ReadFault
 or_failed false result = result
 or_failed true (Ok x) = Err faults.Read
 or_failed true (Err f) = Err (left_by f)
 
--- How often the source failed in a call that gave this: once at `Read`; never where a value
--- was given, the input ended or memory ran out; and at most once where the bytes before
+-- How often the source failed in a call that gave this: once at `Read`; never if a value
+-- was given, the input ended or memory ran out; and at most once if the bytes before
 -- it have another fault.
 abbrev pub Fails : {T : Type 0} → ℕ → ℕ → Result T ReadFault → Type 0
 Fails old new (Ok x) = new ≡ old
@@ -62,7 +62,7 @@ IsFaultOf fault old new faults.OutOfMemory =
     (part : List ℕ) × Consumes old new part × IfSome (fault part) (λ f. f ≡ faults.Cut)
 IsFaultOf fault old new f = IfSome old (λ bytes. fault bytes ≡ Some f)
 
--- the same where the source may also fail behind these bytes, which nothing may follow
+-- the same if the source may also fail after these bytes, which nothing may follow
 abbrev pub IsFaultUpTo : List ℕ → (List ℕ → Option ReadFault) → Option (List ℕ) → Option (List ℕ)
     → ReadFault → Type 0
 IsFaultUpTo whole fault old new faults.Read =
@@ -75,12 +75,12 @@ abbrev pub Reads : {T : Type 0} → (T → List ℕ) → (T → Type 0) → (Lis
 Reads spelling IsValid fault old new result =
     MatchResult result (λ x. IsValid x × Consumes old new (spelling x)) (IsFaultOf fault old new)
 
--- the bytes hold nothing behind a whole value
+-- the bytes hold nothing after a whole value
 abbrev pub IsWithin : {T : Type 0} → (T → List ℕ) → (T → Type 0) → List ℕ → Type 0
 IsWithin {T} spelling IsValid bytes =
     (x : T) (more : List ℕ) → IsValid x → bytes ≡ spelling x ++ more → more ≡ []
 
--- where it failed, no byte behind a whole value was read
+-- if it failed, no byte after a whole value was read
 abbrev pub StaysWithin : {T X : Type 0} → (T → List ℕ) → (T → Type 0) → Option (List ℕ)
     → Option (List ℕ) → Result X ReadFault → Type 0
 StaysWithin spelling IsValid old new result =

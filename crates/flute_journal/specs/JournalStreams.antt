@@ -27,7 +27,7 @@ pub record ReadWhole (limit : ℕ) (first now : Option (List ℕ)) (entries : Li
   pub whole : IfSome first (λ bytes. IsJournalWithin limit bytes entries)
   pub read : ReadsBehind first now entries
 
--- by where its reader stands: these entries were given, and one more is held
+-- by where its reader is: these entries were given, and one more is held
 abbrev pub ReadAt : ℕ → Option (List ℕ) → Option (List ℕ) → ReaderState → List Fact → Option Fact
     → Type 0
 ReadAt limit first now Ended entries held = ReadWhole limit first now entries × (held ≡ None)

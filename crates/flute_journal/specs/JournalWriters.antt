@@ -1,15 +1,15 @@
--- What is written of a journal, by a writer that goes on behind a failure.
+-- What is written of a journal, by a writer that goes on after a failure.
 use Rattle.std.specs.Prelude.{◌≡◌, ℕ, ◌+◌, Bool, true, false, List, [], Option}
 use Rattle.std.specs.Io.KnownBytes.{Appends}
 use Rattle.flute_parts.specs.Devices.{AppendsPart, times_failed}
 use Rattle.flute_journal.specs.declared.journal_writer.JournalWriter.{JournalWriter}
 
--- all the bytes were appended; or, where the sink has failed, a part of them
+-- all the bytes were appended; or, if the sink has failed, a part of them
 abbrev pub Written : Bool → Option (List ℕ) → Option (List ℕ) → List ℕ → Type 0
 Written false old new bytes = Appends old new bytes
 Written true old new bytes = AppendsPart old new bytes
 
--- so it is with these bytes, where the sink had not failed before, and else nothing was appended
+-- so it is with these bytes, if the sink had not failed before, and else nothing was appended
 abbrev pub PutsBytes : Bool → Bool → Option (List ℕ) → Option (List ℕ) → List ℕ → Type 0
 PutsBytes false failed old new bytes = Written failed old new bytes
 PutsBytes true true old new bytes = Appends old new []

@@ -9,13 +9,13 @@ use Rattle.flute_parts.specs.declared.fact.Fact.{Fact}
 use Rattle.flute_journal.specs.Streams.{Behaviour, place_of}
 use Rattle.flute_journal.specs.Lowest.{IsNotBefore}
 
--- a fact is held, below that address, where there is one
+-- a fact is held, below that address, if there is one
 abbrev pub IsBelowNext : Option Fact → Option Address → Type 0
 IsBelowNext None next = ⊥
 IsBelowNext (Some f) None = Unit {0}
 IsBelowNext (Some f) (Some a) = address_cmp (address f) a ≡ Less
 
--- no fact is held before that address, and none at all where there is none
+-- no fact is held before that address, and none at all if there is none
 abbrev pub NoneBefore : Option Address → Option Fact → Type 0
 NoneBefore next None = Unit {0}
 NoneBefore None (Some f) = ⊥
@@ -31,7 +31,7 @@ module _ {S : Type 0} (b : Behaviour S) where
     pub others : (k : ℕ) (s : S) → slice_get streams k ≡ Some s → k ≢ number
         → NoneBefore next (b.held s)
 
-  -- the stream that leads stands at that place
+  -- the stream that leads is at that place
   abbrev pub StandsAt : Option Address → List S → ℕ → Type 0
   StandsAt place streams number =
       (s : S) → slice_get streams number ≡ Some s → place_of (b.held s) ≡ place

@@ -12,8 +12,8 @@ use Rattle.flute_journal.specs.Faults.{is_after}
 use Rattle.flute_journal.specs.Journal.{IsFactIn}
 use Rattle.flute_journal.specs.Records.{IsDatagram, record_of}
 
--- the bytes begin with the entry of this fact, which has so many bytes and stands
--- in order behind the last
+-- the bytes begin with the entry of this fact, which has so many bytes and is
+-- in order after the last
 pub record BeginsWithEntry (version : Version) (last : Option Address) (bytes : List ℕ) (f : Fact)
     (size : ℕ) : Type 0 where
   pub valid : IsFactIn version f

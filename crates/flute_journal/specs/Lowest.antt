@@ -1,4 +1,4 @@
--- What facts come to at the lowest of their addresses.
+-- The value of facts at the lowest of their addresses.
 use Rattle.std.specs.Prelude.{◌≡◌, ◌≢◌, List, [], Option, Some, None}
 use Rattle.std.specs.List.{AllByRecursion}
 use Rattle.std.specs.declared.cmp.Ordering.TheVariants.{Greater}
@@ -8,11 +8,11 @@ use Rattle.flute_parts.specs.Facts.{fact_at}
 use Rattle.flute_parts.specs.declared.address.Address.{Address}
 use Rattle.flute_parts.specs.declared.fact.Fact.{Fact}
 
--- the fact does not stand before that address
+-- the fact is not before that address
 abbrev pub IsNotBefore : Address → Fact → Type 0
 IsNotBefore a f = address_cmp a (address f) ≢ Greater
 
--- the facts come to g at its address, and none of them stands before that
+-- the value of the facts at the address of g is g, and none of them is before that
 pub record Lowest (facts : List Fact) (g : Fact) : Type 0 where
   pub comes : fact_at facts (address g) ≡ Some g
   pub first : AllByRecursion (IsNotBefore (address g)) facts

@@ -1,4 +1,4 @@
--- What a merge of two journals comes to.
+-- The outcome of a merge of two journals.
 use Rattle.std.specs.Prelude.{◌≡◌, ◌≢◌, ℕ, ◌<◌, ◌≤◌, ◌^◌, List, [], ◌∷◌, ◌++◌, length, Option, Some, ⊤, IfSome, Result, Ok, Err}
 use Rattle.std.specs.List.{AllByRecursion}
 use Rattle.std.specs.Io.KnownBytes.{Appends, Consumes}
@@ -28,7 +28,7 @@ pub record Merged (limit n : ℕ) (first second old new : Option (List ℕ)) : T
 abbrev pub IsProperPrefix : List ℕ → List ℕ → Type 0
 IsProperPrefix bytes whole = (more : List ℕ) × (more ≢ []) × (bytes ++ more ≡ whole)
 
--- what was appended is no journal of any version, and where both inputs are, it is a first part
+-- what was appended is no journal of any version, and if both inputs are, it is a first part
 -- of the journal of both
 pub record StopsShort (first second old new : Option (List ℕ)) : Type 0 where
   pub bytes : List ℕ
@@ -42,14 +42,14 @@ abbrev pub written_up_to : List Fact → List ℕ
 written_up_to [] = []
 written_up_to (f ∷ fs) = without_end (f ∷ fs)
 
--- The bytes begin with what is written up to these entries, and are no more than that where
+-- The bytes begin with what is written up to these entries, and are no more than that if
 -- an input was at fault.
 abbrev pub AppendedUpTo : MergeFault → List ℕ → List Fact → Type 0
 AppendedUpTo Write bytes entries = (rest : List ℕ) × (bytes ≡ written_up_to entries ++ rest)
 AppendedUpTo fault bytes entries = bytes ≡ written_up_to entries
 
 -- the bytes are no more than a header's, or these whole entries and then no byte
--- behind one entry more
+-- after one entry more
 pub data EndsBehind (version : Version) (entries : List Fact) (bytes : List ℕ) : Type 0 where
   in_header : entries ≡ [] → length bytes ≤ length header → EndsBehind version entries bytes
   behind : (part : List ℕ) → bytes ≡ without_end_in version entries ++ part
@@ -64,7 +64,7 @@ pub record ReadsBehind (input left : Option (List ℕ)) (entries : List Fact) : 
   pub ends : EndsBehind version entries bytes
 
 -- What was read, and what was appended: whole entries of both inputs and at most one more of each,
--- and all that the whole entries come to.
+-- and all that the whole entries tell.
 pub record KeepsUp (first first_left second second_left old new : Option (List ℕ))
     (fault : MergeFault) : Type 0 where
   pub first_entries : List Fact
@@ -83,7 +83,7 @@ NamesFault limit first second (First f) = HasFault limit first f
 NamesFault limit first second (Second f) = HasFault limit second f
 NamesFault limit first second Write = ⊤
 
--- how often each device failed in a merge that gave this: a source only where its input is at fault
+-- how often each device failed in a merge that gave this: a source only if its input is at fault
 abbrev pub FirstFails : ℕ → ℕ → Result ℕ MergeFault → Type 0
 FirstFails old new (Err (First f)) = Fails {T = Option Fact} old new (Err f)
 FirstFails old new _ = new ≡ old

@@ -15,7 +15,7 @@ module _ {S : Type 0} (b : Behaviour S) where
   most_or_full (Stream s) = b.most s
   most_or_full Full = 0
 
-  -- what holds of a stream, or where there is none
+  -- what holds of a stream, or if there is none
   abbrev pub of_either : {X : Type 0} → (S → X → Type 0) → (X → Type 0) → OrFull S → X → Type 0
   of_either P Q (Stream s) x = P s x
   of_either P Q Full x = Q x

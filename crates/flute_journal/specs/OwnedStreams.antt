@@ -15,7 +15,7 @@ use Rattle.flute_journal.specs.JournalStreams.{ReadAt, room, StopsReading, Fails
 abbrev pub owned_limit : {R : Type 0} → OwnedJournalStream R → ℕ
 owned_limit s = s.max_entries
 
--- where its reader stands
+-- where its reader is
 abbrev pub owned_state : {R : Type 0} → OwnedJournalStream R → ReaderState
 owned_state s = s.state
 

@@ -13,7 +13,7 @@ abbrev pub fault_at : ℕ → ReadFault → MergeFault
 fault_at zero fault = First fault
 fault_at (suc number) fault = Second fault
 
--- that of one that stops only where it cannot be read
+-- that of one that stops only if it cannot be read
 abbrev pub IsFaultAt : ℕ → LoadFault → MergeFault → Type 0
 IsFaultAt number (Read fault) merge = merge ≡ fault_at number fault
 IsFaultAt number Full merge = ⊥
@@ -24,7 +24,7 @@ abbrev pub IsFaultOfTwo : StreamsFault → MergeFault → Type 0
 IsFaultOfTwo (streams.Input fault) merge = IsFaultAt fault.number fault.fault merge
 IsFaultOfTwo streams.Write merge = merge ≡ Write
 
--- no input stopped but where it could not be read
+-- an input stopped only if it could not be read
 abbrev pub IsOfReading : StreamsFault → Type 0
 IsOfReading (streams.Input fault) = IsRead fault.fault
   where

@@ -12,6 +12,6 @@ source_of reader = reader.source
 abbrev pub limit_of : {R : Type 0} → JournalReader R → ℕ
 limit_of reader = reader.max_entries
 
--- where it stands
+-- where it is in the journal
 abbrev pub state_of : {R : Type 0} → JournalReader R → ReaderState
 state_of reader = reader.state

@@ -27,7 +27,7 @@ pub other_file_version : opening_fault file_header (0x46 ∷ 0x4C ∷ 0x44 ∷ 0
     ≡ Some Version
 other_file_version = refl
 
--- behind two records: nothing, a record, one that is cut in its length or in its bytes,
+-- after two records: nothing, a record, one that is cut in its length or in its bytes,
 -- and one beyond the bound
 pub the_end : record_fault 2 2 [] ≡ None
 the_end = refl

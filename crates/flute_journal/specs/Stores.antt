@@ -12,7 +12,7 @@ use Rattle.flute_journal.specs.Input.{Fails}
 use Rattle.flute_journal.specs.Journal.{AreEntries, IsJournalWithin}
 use Rattle.flute_journal.specs.Whole.{StopsAfter}
 
--- the bytes are the journal of what these facts come to, with at most so many entries
+-- the bytes are a journal of the values of these facts, with at most so many entries
 abbrev pub IsJournalOf : ℕ → List ℕ → List Fact → Type 0
 IsJournalOf limit bytes facts =
     (entries : List Fact) × IsJournalWithin limit bytes entries × Same facts entries
@@ -28,7 +28,7 @@ abbrev pub BeginsOver : ℕ → ℕ → ℕ → ℕ → List ℕ → Type 0
 BeginsOver sessions objects symbols limit bytes =
     (entries : List Fact) × BeginsWith limit bytes entries × Over entries sessions objects symbols
 
--- why the bytes that were left are not read into a store: a fault behind entries within its limits,
+-- why the bytes that were left are not read into a store: a fault after entries within its limits,
 -- or entries that pass them; memory may run out at any entry
 abbrev pub IsLoadFault : ℕ → ℕ → ℕ → ℕ → Option (List ℕ) → Option (List ℕ) → LoadFault → Type 0
 IsLoadFault sessions objects symbols limit old new (Read f) =
@@ -43,7 +43,7 @@ abbrev pub refused : JoinRefusal → LoadFault
 refused join.Full = Full
 refused join.OutOfMemory = OutOfMemory
 
--- how often the source failed in a call that gave this: only where it could not be read
+-- how often the source failed in a call that gave this: only if it could not be read
 abbrev pub FailsToLoad : {T : Type 0} → ℕ → ℕ → Result T LoadFault → Type 0
 FailsToLoad {T} old new (Err (Read f)) = Fails {T = T} old new (Err f)
 FailsToLoad old new _ = new ≡ old

@@ -1,4 +1,4 @@
--- What a merge of streams comes to.
+-- The outcome of a merge of streams.
 use Rattle.std.specs.Prelude.{◌≡◌, ℕ, zero, suc, Bool, true, false, ◌<◌, ◌^◌, List, [], ◌∷◌, ◌++◌, length, Option, Some, None, ⊤, Result, Err, slice_get}
 use Rattle.std.specs.Io.KnownBytes.{Appends}
 use Rattle.flute_parts.specs.declared.fact.Fact.{Fact}
@@ -50,7 +50,7 @@ EachSince P [] [] [] = Unit {0}
 EachSince P (s ∷ old) (t ∷ new) (F ∷ given) = P s t F × EachSince P old new given
 EachSince P _ _ _ = ⊥
 
--- what bytes of a merge that stopped begin with: they are no more than that where an input stopped
+-- what bytes of a merge that stopped begin with: they are no more than that if an input stopped
 abbrev pub BeginWith : StreamsFault → List ℕ → List Fact → Type 0
 BeginWith Write bytes entries = (rest : List ℕ) × (bytes ≡ written_up_to entries ++ rest)
 BeginWith (Input fault) bytes entries = bytes ≡ written_up_to entries
@@ -107,7 +107,7 @@ module _ {S : Type 0} (b : Behaviour S) where
     pub as_others : (others : List Fact) → SameMembers (all_of told) others → (bytes : List ℕ)
         → Journal bytes others → Written joined.cut old new bytes
 
-  -- What was appended is the journal of nothing, in any version. Where all the facts of each input
+  -- What was appended is the journal of nothing, in any version. If all the facts of each input
   -- are known, it is a first part of the journal of all of them, and not all of it.
   pub record AppendsPartOf (inputs : List S) (old new : Option (List ℕ)) : Type 0 where
     pub bytes : List ℕ
@@ -116,7 +116,7 @@ module _ {S : Type 0} (b : Behaviour S) where
     pub prefix : (known : List (List Fact)) → Each b.knows inputs known → (whole : List ℕ)
         → Journal whole (all_of known) → IsProperPrefix bytes whole
 
-  -- Of each input these facts were read, and at most one more; what they come to was appended.
+  -- Of each input these facts were read, and at most one more; what they tell was appended.
   pub record ReadsAhead (inputs now : List S) (old new : Option (List ℕ))
       (fault : StreamsFault) : Type 0 where
     pub read : List (List Fact)

@@ -43,7 +43,7 @@ abbrev pub place_of : Option Fact → Option Address
 place_of None = None
 place_of (Some f) = Some (address f)
 
--- facts begin with those that were given, and with no others where nothing is held
+-- facts begin with those that were given, and with no others if nothing is held
 pub record Continues (facts given : List Fact) (held : Option Fact) : Type 0 where
   pub rest : List Fact
   pub is : facts ≡ given ++ rest

@@ -1,4 +1,4 @@
--- What is written of a fact behind the fixed part of its entry.
+-- What is written of a fact after the fixed part of its entry.
 use Rattle.std.specs.Prelude.{ℕ, List, []}
 use Rattle.flute_parts.specs.declared.fact.Fact.{Fact}
 use Rattle.flute_parts.specs.declared.fact.Fact.TheVariants.{Symbol}

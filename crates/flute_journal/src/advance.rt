@@ -13,7 +13,7 @@ use std::alloc::Global;
 ///
 /// # Errors
 ///
-/// The fault of the first that stopped. Those behind it are as they were.
+/// The fault of the first that stopped. Those after it are as they were.
 #[tactic(auto, using(crate::proofs::GoingOn::goings))]
 #[inline(always)]
 pub fn advance_at<G: Streams>(
@@ -51,7 +51,7 @@ fn first_of(any: bool, number: usize) -> Option<usize>
     if any { None } else { Some(number) }
 }
 
-// Whether a stream that holds this stands at this address, or holds nothing where there is none.
+// Whether a stream that holds this is at this address, or holds nothing if there is none.
 #[inline(always)]
 fn is_at(head: &Option<FactRef<'_>>, place: &Option<Address>) -> bool
     ensures at { result ≡ true → place_of (fact_in head.now) ≡ place.now }

@@ -37,18 +37,18 @@ pub struct MergedJournal {
 /// symbols of each of these.
 ///
 /// The first fact of each stream is taken, and then the header written. Each turn writes what the
-/// streams hold at the lowest address, and then advances each of those that stood there, in their
+/// streams hold at the lowest address, and then advances each of those that were there, in their
 /// order. It takes no memory of its own.
 ///
 /// # Errors
 ///
 /// - `Input` with the number of the stream, from 0, and the fault that it met;
-/// - `Write` where the sink failed.
+/// - `Write` if the sink failed.
 ///
-/// What was appended is then no journal of anything. Where each stream would have come to its end,
+/// What was appended is then no journal of anything. If each stream would have come to its end,
 /// it is a first part of the journal of all, and not all of it; after `Input` it is whole entries
-/// behind the header, or nothing. Of each stream, the facts were read that stand at addresses whose
-/// entry was appended whole, and at most one more.
+/// after the header, or nothing. Of each stream, the facts were read at addresses whose entry was
+/// appended whole, and at most one more.
 pub fn merge_all<const SESSIONS: u32, const OBJECTS: u32, const SYMBOLS: u32, G: Streams, W: Sink>(
     alloc: Global,
     streams: &mut G,
@@ -77,9 +77,9 @@ pub fn merge_all<const SESSIONS: u32, const OBJECTS: u32, const SYMBOLS: u32, G:
     merge_into::<SESSIONS, OBJECTS, SYMBOLS, _, _>(alloc, streams, &mut writer, false)
 }
 
-/// Appends the journal of all that streams tell, as `merge_all` does, but goes on where the sink
+/// Appends the journal of all that streams tell, as `merge_all` does, but goes on if the sink
 /// has failed: each stream is read to its end all the same, and what is told of them is told
-/// whatever became of the sink. The end is left out where all the streams together are over the
+/// whatever became of the sink. The end is left out if all the streams together are over the
 /// limits: what was appended is then no journal of anything.
 ///
 /// # Errors
@@ -121,8 +121,8 @@ pub fn join_streams<
     }
 }
 
-// Merges streams into what a writer writes. It stops where that has failed, unless it is patient:
-// it then leaves out the end where the streams together are over the limits.
+// Merges streams into what a writer writes. It stops if that has failed, unless it is patient:
+// it then leaves out the end if the streams together are over the limits.
 #[tactic(auto, using(crate::proofs::StreamStates::turns))]
 fn merge_into<const SESSIONS: u32, const OBJECTS: u32, const SYMBOLS: u32, G: Streams, W: Sink>(
     alloc: Global,

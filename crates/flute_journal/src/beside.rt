@@ -1,4 +1,4 @@
-//! A stream that something stands beside.
+//! A stream with something beside it.
 ghost use Rattle.flute_journal.specs.Besides.{beside_behaviour};
 
 use crate::fault::LoadFault;

@@ -32,7 +32,7 @@ pub fn read_header<R: Source>(source: &mut R) -> Result<Version, ReadFault>
     read.or_failed(check_header(read.bytes))
 }
 
-/// Reads the next entry or the end of a journal of this version, field by field, behind so many
+/// Reads the next entry or the end of a journal of this version, field by field, after so many
 /// entries, of which the last is at `last`. The journal may have at most `max_entries`.
 #[inline(never)]
 pub fn read_entry<R: Source>(
@@ -68,7 +68,7 @@ pub fn read_entry<R: Source>(
     Ok(Some(fact))
 }
 
-// Reads the number of entries, behind which nothing may stand.
+// Reads the number of entries, which nothing may follow.
 #[tactic(auto, using(crate::proofs::ReadsUpTo::parsed_fails))]
 fn read_end<R: Source>(source: &mut R, count: u64) -> Result<(), ReadFault>
     ensures reads { ReadsEnd count (R.unread source.old) (R.unread source.new) result }
@@ -80,7 +80,7 @@ fn read_end<R: Source>(source: &mut R, count: u64) -> Result<(), ReadFault>
     read.or_failed(check_end(count, read.bytes))
 }
 
-// Reads what stands behind the kind of an entry.
+// Reads what follows the kind of an entry.
 #[tactic(auto, using(crate::proofs::Bodies::body_stopped))]
 fn read_body<R: Source>(
     alloc: Global,
@@ -104,7 +104,7 @@ fn read_body<R: Source>(
     }
 }
 
-// Reads what stands behind the kind of an entry, up to the bytes of a symbol.
+// Reads what follows the kind of an entry, up to the bytes of a symbol.
 #[tactic(auto, using(crate::proofs::ReadsUpTo::parsed_fails))]
 fn read_head<R: Source>(
     source: &mut R,

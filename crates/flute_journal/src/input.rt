@@ -13,25 +13,25 @@ use flute_parts::Source;
 use std::alloc::Global;
 
 /// What was read of a source up to some number of bytes: so many, or fewer at the end of the input
-/// or where the source failed.
+/// or if the source failed.
 #[derive(Clone, Copy, Debug)]
 pub struct ReadUpTo<'b> {
     /// The bytes.
     pub bytes: &'b [u8],
-    /// Whether the source failed behind them.
+    /// Whether the source failed after them.
     pub failed: bool,
 }
 
 impl ReadUpTo<'_> {
-    /// The fault where these bytes are too few.
+    /// The fault if these bytes are too few.
     pub fn shortage(self) -> ReadFault
         ensures { result ≡ shortage self.entry.failed }
     {
         shortage(self.failed)
     }
 
-    /// What was found in the bytes, where the source may have failed behind them: a fault that they
-    /// have is told as it is, and else `Read`.
+    /// What was found in the bytes; but if the source failed after them, a fault that they have
+    /// other than `Cut`, and else `Read`.
     pub fn or_failed<T: Drop>(self, found: Result<T, ReadFault>) -> Result<T, ReadFault>
         ensures { result ≡ or_failed self.entry.failed found }
     {
@@ -45,7 +45,7 @@ impl ReadUpTo<'_> {
     }
 }
 
-// The fault where bytes are too few.
+// The fault if bytes are too few.
 fn shortage(failed: bool) -> ReadFault
     ensures { result ≡ shortage failed }
 {
@@ -75,7 +75,7 @@ pub fn read_up_to<'b, R: Source>(source: &mut R, buffer: &'b mut [u8]) -> ReadUp
 ///
 /// # Errors
 ///
-/// `Read` where the source fails, and nothing else. The buffer may hold anything then.
+/// `Read` if the source fails, and nothing else. The buffer may hold anything then.
 pub fn fill<R: Source>(source: &mut R, buffer: &mut [u8]) -> Result<usize, ReadFault>
     ensures filled { IfOk result (λ count. (count ≤ length buffer.new) × Fills (R.unread source.old)
         (R.unread source.new) (length buffer.new) (take count buffer.new)) }

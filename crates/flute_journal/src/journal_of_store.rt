@@ -18,7 +18,7 @@ use flute_store::Store;
 ///
 /// # Errors
 ///
-/// `Write` where the sink failed. A first part of the journal was then written, and not all of it.
+/// `Write` if the sink failed. A first part of the journal was then written, and not all of it.
 pub fn write_store<const SESSIONS: u32, const OBJECTS: u32, const SYMBOLS: u32, W: Sink>(
     store: &Store<SESSIONS, OBJECTS, SYMBOLS>,
     sink: &mut W,

@@ -9,7 +9,7 @@ ghost use Rattle.flute_journal.specs.JournalWriters.{Puts};
 use crate::format::{HEADER, HeadBytes, end_of, put_head, symbol_value};
 use flute_parts::{FactRef, Sink};
 
-/// Writes a journal into a sink, until that fails. What is written behind a failure is dropped.
+/// Writes a journal into a sink, until that fails. What is written after a failure is dropped.
 #[derive(Debug, Drop)]
 pub struct JournalWriter<'a, W> {
     pub sink: &'a mut W,

@@ -12,7 +12,7 @@ pub enum Kind {
 }
 
 /// What a file holds, as its first four bytes say: `FLJN` is a journal, and `FLDG` a datagram file.
-/// None where they are neither. Nothing behind them is looked at.
+/// None if they are neither. Nothing after them is looked at.
 pub fn kind_of(bytes: &[u8]) -> Option<Kind>
     ensures { MatchOption result (IsNeither bytes.now) (λ kind. HasKind kind bytes.now) }
 {

@@ -25,7 +25,7 @@ pub fn entry_has_one_reading()
         → entry_in v f ++ x ≡ entry_in v g ++ y → (f ≡ g) × (x ≡ y) }
 {}
 
-/// Every fact is spelled in the version that is written, and in version 1 exactly where its sender
+/// Every fact is spelled in the version that is written, and in version 1 exactly if its sender
 /// is 0.
 pub fn every_fact_has_an_entry()
     ensures written { (f : Fact) → IsFact f → IsFactIn Two f }
@@ -33,7 +33,7 @@ pub fn every_fact_has_an_entry()
         → IsFactIn One f ↔ ((address f).key.session.sender ≡ 0) }
 {}
 
-/// Journals of one version are equal exactly where their facts come to the same at each address.
+/// Journals of one version are equal exactly if their facts have the same value at each address.
 pub fn one_journal_for_one_content()
     ensures { (v : Version) (bs cs : List ℕ) (F G : List Fact) → JournalIn v bs F → JournalIn v cs G
         → (bs ≡ cs) ↔ Same F G }
@@ -45,7 +45,7 @@ pub fn a_journal_has_one_version()
         → v ≡ w }
 {}
 
-/// Merging what merges wrote is merging all at once: where the facts of each group were joined into
+/// Merging what merges wrote is merging all at once: if the facts of each group were joined into
 /// entries, the journal of all these entries is the journal of the facts of all groups.
 pub fn merging_merged_is_merging_all()
     ensures { (v : Version) (groups joined : List (List Fact)) → Each Collects groups joined
@@ -59,7 +59,7 @@ pub fn no_journal_begins_another()
         → more ≡ [] }
 {}
 
-/// Lists with one journal come to the same at each address.
+/// Lists with one journal have the same value at each address.
 pub fn a_journal_has_one_content()
     ensures { (bs : List ℕ) (F G : List Fact) → IsJournal bs F → IsJournal bs G → Same F G }
 {}
@@ -70,7 +70,7 @@ pub fn a_journal_within_a_bound_is_one()
         → IsJournalOf limit bs F → IsJournal bs F }
 {}
 
-/// A journal stops nowhere but behind more entries than the bound.
+/// A journal stops only if it has more entries than the bound.
 pub fn a_journal_stops_at_the_bound()
     ensures { (bs : List ℕ) (F es : List Fact) (limit : ℕ) (f : Fault) → IsJournal bs F
         → Stops bs limit es f
@@ -84,7 +84,7 @@ pub fn a_journal_has_no_fault()
         → IsJournalWithin limit bs es → Stops bs limit fs f → ⊥ }
 {}
 
-/// Bytes have one first fault, behind one list of entries.
+/// Bytes have one first fault, after one list of entries.
 pub fn bytes_stop_once()
     ensures { (bs : List ℕ) (limit : ℕ) (es fs : List Fact) (f g : Fault) → Stops bs limit es f
         → Stops bs limit fs g → (es ≡ fs) × (f ≡ g) }
@@ -96,7 +96,7 @@ pub fn first_entries_are_below()
         → BeginsWith limit bs es → Below es F }
 {}
 
-/// Rising facts that come to the same at each address are spelled alike.
+/// Rising facts with the same value at each address are spelled alike.
 #[tactic(auto, using(flute_parts::proofs::Public::rising_unique))]
 pub fn rising_facts_have_one_spelling()
     ensures { (v : Version) (es fs : List Fact) → IsRising es → IsRising fs → Same es fs
@@ -129,21 +129,21 @@ pub fn bytes_are_a_file_or_stop()
         ⊎ ((ds : List (List ℕ)) × ((f : Fault) × FileStops bs limit ds f)) }
 {}
 
-/// Bytes have one first fault, behind one list of datagrams.
+/// Bytes have one first fault, after one list of datagrams.
 pub fn a_file_stops_once()
     ensures { (bs : List ℕ) (limit : ℕ) (ds es : List (List ℕ)) (f g : Fault)
         → FileStops bs limit ds f → FileStops bs limit es g → (ds ≡ es) × (f ≡ g) }
 {}
 
-/// A datagram file stops nowhere but behind more records than the bound.
+/// A datagram file stops only if it has more records than the bound.
 pub fn a_file_stops_at_the_bound()
     ensures { (bs : List ℕ) (limit : ℕ) (ds es : List (List ℕ)) (f : Fault) → IsFileOf bs ds
         → FileStops bs limit es f
         → (f ≡ faults.TooMany) × (limit < length ds) }
 {}
 
-/// A datagram file is told by what its reader gives record by record: behind these records it
-/// stands where they end; at the end the file was that of all of them, and at a fault the file has
+/// A datagram file is told by what its reader gives record by record: after these records it
+/// is where they end; at the end the file was that of all of them, and at a fault the file has
 /// this fault.
 #[tactic(auto, using(crate::proofs::Records::files_so_far))]
 pub fn a_file_is_read_record_by_record()

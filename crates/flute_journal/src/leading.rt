@@ -23,7 +23,7 @@ pub struct Lead {
     known: bool,
     /// Its number.
     number: usize,
-    /// The lowest address of the others. None where they hold nothing.
+    /// The lowest address of the others. None if they hold nothing.
     next: Option<Address>,
 }
 
@@ -39,8 +39,8 @@ impl Lead {
         }
     }
 
-    /// What the facts that streams hold come to at the lowest of their addresses.
-    /// None where none is held.
+    /// The value of the facts that streams hold at the lowest of their addresses.
+    /// None if none is held.
     #[inline(always)]
     pub fn lowest<'a, G: Streams>(&self, streams: &'a G) -> Option<FactRef<'a>>
         requires { self.now.known ≡ true
@@ -61,7 +61,7 @@ impl Lead {
     ///
     /// # Errors
     ///
-    /// The fault of the first that stopped. Those behind it are as they were.
+    /// The fault of the first that stopped. Those after it are as they were.
     #[inline(always)]
     pub fn advance<G: Streams>(
         &mut self,
@@ -139,7 +139,7 @@ impl Lead {
     }
 }
 
-// Whether a stream that holds this stands below an address. Where there is none, anything does.
+// Whether a stream that holds this is below an address. If there is none, any held fact is.
 #[inline(always)]
 fn is_below(head: &Option<FactRef<'_>>, next: &Option<Address>) -> bool
     ensures { result ≡ true → IsBelowNext (fact_in head.now) next.now }

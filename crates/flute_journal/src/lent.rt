@@ -13,7 +13,7 @@ use flute_wire::Datagram;
 /// Takes the next entry of a journal of this version, if it is of a symbol, lies whole in the
 /// source's buffer and has no fault. The entry before it is at `last`.
 ///
-/// None where it is another, does not, or has a fault, and nothing was taken then. `OutOfMemory`
+/// None if it is another, does not, or has a fault, and nothing was taken then. `OutOfMemory`
 /// is the only fault. The bytes of a symbol are put into the memory of `spare`, as far as it
 /// suffices.
 #[inline(always)]
@@ -36,8 +36,8 @@ pub fn take_entry<R: Source>(
     Ok(Some(Fact::Symbol { key, id, bytes }))
 }
 
-// The symbol whose entry stands at the front of the bytes, and how many bytes the entry has. None
-// where there is another entry, or it is not whole or has a fault.
+// The symbol whose entry is at the front of the bytes, and how many bytes the entry has. None
+// if there is another entry, or it is not whole or has a fault.
 #[inline(always)]
 fn entry_in<'a>(
     bytes: &'a [u8],
@@ -59,7 +59,7 @@ fn entry_in<'a>(
 
 /// Takes the next record of a datagram file, if it lies whole in the source's buffer.
 ///
-/// None where it does not, and nothing was taken then. `OutOfMemory` is the only fault. The bytes
+/// None if it does not, and nothing was taken then. `OutOfMemory` is the only fault. The bytes
 /// of the datagram are put into the memory of `spare`, as far as it suffices.
 #[inline(always)]
 pub fn take_record<R: Source>(source: &mut R, spare: Vec<u8>) -> Result<Option<Datagram>, ReadFault>
@@ -76,7 +76,7 @@ pub fn take_record<R: Source>(source: &mut R, spare: Vec<u8>) -> Result<Option<D
     }
 }
 
-// The datagram whose record stands at the front of the bytes. None where it is not whole.
+// The datagram whose record is at the front of the bytes. None if it is not whole.
 #[inline(always)]
 fn record_in(bytes: &[u8], spare: Vec<u8>) -> Result<Option<Datagram>, ReadFault>
     ensures begins { IfOk result (λ o. IfSome o (BeginsWithRecord bytes.now)) }

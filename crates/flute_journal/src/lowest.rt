@@ -12,8 +12,8 @@ use crate::streams::Streams;
 use flute_parts::{Address, FactRef, Part};
 use std::cmp::Ordering;
 
-/// What the facts that streams hold come to at the lowest of their addresses.
-/// None where none is held.
+/// The value of the facts that streams hold at the lowest of their addresses.
+/// None if none is held.
 #[tactic(auto, using(std::proofs::Common::take_all))]
 #[inline(always)]
 pub fn lowest_held<G: Streams>(streams: &G) -> Option<FactRef<'_>>
@@ -33,18 +33,18 @@ pub fn lowest_held<G: Streams>(streams: &G) -> Option<FactRef<'_>>
     lowest
 }
 
-/// How what facts come to at the lowest of their addresses changes by one fact more.
+/// How the value of facts at the lowest of their addresses changes by one fact more.
 #[derive(Clone, Copy, Debug)]
 pub enum Change {
-    /// It stands below them, or is the first.
+    /// It is below them, or is the first.
     Lower,
-    /// It stands there with another value.
+    /// It is at that address with another value.
     Conflict,
-    /// It stands above, or is the same.
+    /// It is above, or is the same.
     Nothing,
 }
 
-// The change that a fact makes to what others come to.
+// The change that a fact makes to the value of others.
 #[inline(always)]
 fn change_by(lowest: &Option<FactRef<'_>>, fact: &FactRef<'_>) -> Change
     ensures { (facts : List Fact) → IsLowest facts (fact_in lowest.now)

@@ -16,7 +16,7 @@ use std::alloc::Global;
 /// entries, into a new store.
 ///
 /// It reads entry by entry, and hands each to the store without a copy of its bytes. The whole
-/// source is read where it succeeds.
+/// source is read if it succeeds.
 ///
 /// # Errors
 ///
@@ -24,8 +24,8 @@ use std::alloc::Global;
 ///
 /// - `Read` with the fault that [`JournalReader::next`] answers: the entries before it are
 ///   within the limits;
-/// - `Full` where an entry needs a new session, object or symbol beyond the limits;
-/// - `OutOfMemory` where there is no memory for an entry in the store.
+/// - `Full` if an entry needs a new session, object or symbol beyond the limits;
+/// - `OutOfMemory` if there is no memory for an entry in the store.
 ///
 /// There is no store after any of these, and nothing past the entry at which it ended was read.
 #[tactic(auto, using(crate::proofs::Loading::loads))]

@@ -15,7 +15,7 @@ pub trait Streams {
 
     ghost streams: { Self → List Self.Stream };
 
-    // The references that they stand behind.
+    // The references that they are behind.
     ghost names: { Self → List GName };
 
     /// How many there are.

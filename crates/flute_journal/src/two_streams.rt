@@ -40,21 +40,21 @@ pub enum MergeFault {
 /// may have at most `max_entries` entries, which are fewer than 2^63.
 ///
 /// The first entry of each is read, and then the header written. Each turn writes the entry at the
-/// lower address, or at an equal address what both come to, and then reads the next entry of each
+/// lower address, or at an equal address the value of both, and then reads the next entry of each
 /// input whose entry was used, of `first` before `second`. One entry of each input is held, and the
 /// bytes of its symbol are the only memory that is taken.
 ///
 /// # Errors
 ///
 /// - `First` and `Second` with the fault of that input that its reader met: the first fault
-///   of its bytes; or `Read` where the source failed, and `OutOfMemory` where there was no
+///   of its bytes; or `Read` if the source failed, and `OutOfMemory` if there was no
 ///   memory for a symbol.
-/// - `Write` where the sink failed.
+/// - `Write` if the sink failed.
 ///
-/// What was appended is then no journal of anything. Where both inputs are journals it is a first
+/// What was appended is then no journal of anything. If both inputs are journals it is a first
 /// part of the journal of both, and not all of it; after `First` or `Second` it is whole entries
-/// behind the header, or nothing. Of each input, the entries were read whole that stand at
-/// addresses whose entry was appended whole, and at most one more.
+/// after the header, or nothing. Of each input, the entries were read whole at addresses whose
+/// entry was appended whole, and at most one more.
 pub fn merge_streams<A: Source, B: Source, W: Sink>(
     alloc: Global,
     first: &mut A,

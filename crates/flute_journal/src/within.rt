@@ -12,7 +12,7 @@ use crate::stream::Stream;
 use flute_parts::{FactRef, Tally};
 use std::alloc::Global;
 
-/// A stream that stops with `Full` where its facts alone are over limits: more than `SESSIONS`
+/// A stream that stops with `Full` if its facts alone are over limits: more than `SESSIONS`
 /// sessions, `OBJECTS` objects of one session or `SYMBOLS` symbols of one object. Its other faults
 /// are those of the stream that it counts.
 #[derive(Debug, Drop)]

@@ -8,7 +8,7 @@ pub record Stored : Type 0 where
   pub bytes : List ℕ
   pub on_disk : Bool
 
--- with these bytes behind
+-- with these bytes appended
 abbrev pub longer : List ℕ → Stored → Stored
 longer more file = record { bytes = file.bytes ++ more; on_disk = false }
 
@@ -16,9 +16,9 @@ abbrev pub safe : Stored → Stored
 safe file = record file { on_disk = true }
 
 pub record Entries : Type 0 where
-  -- the file named OUT, where there is one
+  -- the file named OUT, if there is one
   pub out : Option Stored
-  -- the file beside it, where there is one
+  -- the file beside it, if there is one
   pub beside : Option Stored
   -- bytes that were taken and are not in the file beside it yet
   pub waiting : List ℕ
@@ -27,18 +27,18 @@ pub record Entries : Type 0 where
   -- what OUT has been since then and is no more, the oldest first
   pub past : List (Option Stored)
 
--- R of what was and what is, where the folder tells; it tells always or never
+-- R of what was and what is, if the folder tells; it tells always or never
 abbrev pub Leads : (Entries → Entries → Type 0) → Option Entries → Option Entries → Type 0
 Leads R None None = ⊤
 Leads R None (Some new) = ⊥
 Leads R (Some old) None = ⊥
 Leads R (Some old) (Some new) = R old new
 
--- f was done, where the folder tells
+-- f was done, if the folder tells
 abbrev pub Does : (Entries → Entries) → Option Entries → Option Entries → Type 0
 Does f old new = Leads (λ before after. after ≡ f before) old new
 
--- an empty file is made beside OUT, also where one stood there
+-- an empty file is made beside OUT, also if one was there
 abbrev pub created : Entries → Entries
 created e = record e {
   beside = Some (record { bytes = []; on_disk = false });
@@ -76,7 +76,7 @@ file_bytes (Some s) = s.bytes
 abbrev pub taken : Entries → List ℕ
 taken e = file_bytes e.beside ++ e.waiting
 
--- what OUT is to become: these bytes, which the disk has first where OUT was there
+-- what OUT is to become: these bytes, which the disk has first if OUT was there
 abbrev pub whole : Entries → List ℕ → Stored
 whole e bytes = record { bytes = bytes; on_disk = is_some e.found }
 

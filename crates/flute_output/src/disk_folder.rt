@@ -58,8 +58,7 @@ impl<'a, R: Files<File = File> + Print> DiskFolder<'a, R> {
     ///
     /// # Errors
     ///
-    /// `CannotCreate` where the path is empty or a folder, or cannot be looked
-    /// at, and `OutOfMemory`.
+    /// `CannotCreate` if the path is empty or a folder, or cannot be looked at, and `OutOfMemory`.
     pub fn new(
         rt: &'a R,
         alloc: Global,
@@ -86,7 +85,7 @@ impl<'a, R: Files<File = File> + Print> DiskFolder<'a, R> {
     }
 
     /// Whether OUT is a regular file, or nothing yet: its bytes go to a file beside it first, and
-    /// what it took is dropped where it is not finished.
+    /// what it took is dropped if it is not finished.
     pub fn is_beside(&self) -> bool {
         match self.place {
             Place::Beside(_) => true,

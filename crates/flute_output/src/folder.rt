@@ -15,7 +15,7 @@ pub enum Name {
 
 /// A folder, as far as an output needs it: the name OUT, and a file beside it, which takes bytes.
 pub trait Folder {
-    // What the two names stand for, where the folder tells.
+    // What the two names stand for, if the folder tells.
     ghost entries: { Self → Option Entries };
 
     // How often a call has failed.
@@ -25,7 +25,7 @@ pub trait Folder {
     ///
     /// # Errors
     ///
-    /// `DeviceFault` where it cannot be made. OUT is as before.
+    /// `DeviceFault` if it cannot be made. OUT is as before.
     fn create(&mut self) -> Result<(), DeviceFault>
         ensures made { OnOk result (Does created (entries self.old) (entries self.new)) }
         ensures refused { OnErr result (Leads OutStays (entries self.old) (entries self.new)) }
@@ -37,7 +37,7 @@ pub trait Folder {
     ///
     /// # Errors
     ///
-    /// `DeviceFault` where the device failed. It then took nothing.
+    /// `DeviceFault` if the device failed. It then took nothing.
     fn write(&mut self, bytes: &[u8]) -> Result<usize, DeviceFault>
         ensures bound { IfOk result (λ n. n ≤ length bytes.now) }
         ensures progress { 0 < length bytes.now → IfOk result (λ n. 0 < n) }
@@ -51,7 +51,7 @@ pub trait Folder {
     ///
     /// # Errors
     ///
-    /// `DeviceFault` where the device failed. Which of them it has is then not known.
+    /// `DeviceFault` if the device failed. Which of them it has is then not known.
     fn flush(&mut self) -> Result<(), DeviceFault>
         ensures flushed { OnOk result (Does flushed (entries self.old) (entries self.new)) }
         ensures refused { OnErr result (Leads OutStays (entries self.old) (entries self.new)) }
@@ -66,7 +66,7 @@ pub trait Folder {
     ///
     /// # Errors
     ///
-    /// `DeviceFault` where the disk failed.
+    /// `DeviceFault` if the disk failed.
     fn sync(&mut self) -> Result<(), DeviceFault>
         ensures synced { OnOk result (Does synced (entries self.old) (entries self.new)) }
         ensures refused { OnErr result (Leads OutStays (entries self.old) (entries self.new)) }
@@ -77,7 +77,7 @@ pub trait Folder {
     ///
     /// # Errors
     ///
-    /// `DeviceFault` where that failed. Both entries are as before.
+    /// `DeviceFault` if that failed. Both entries are as before.
     fn put_in_place(&mut self) -> Result<(), DeviceFault>
         ensures put { OnOk result (Does put_in_place (entries self.old) (entries self.new)) }
         ensures refused { OnErr result (Leads OutStays (entries self.old) (entries self.new)) }
@@ -88,7 +88,7 @@ pub trait Folder {
     ///
     /// # Errors
     ///
-    /// `DeviceFault` where that failed. It is as before.
+    /// `DeviceFault` if that failed. It is as before.
     fn remove(&mut self, name: Name) -> Result<(), DeviceFault>
         ensures removed { OnOk result (Does (removes name) (entries self.old) (entries self.new)) }
         ensures refused { OnErr result (Leads OutStays (entries self.old) (entries self.new)) }

@@ -34,7 +34,7 @@ impl MemoryFolder {
     ghost use Rattle.flute_output.specs.Memory.{memory_entries};
 
     /// A folder where OUT has these bytes, all of them on the disk, or is not there. After `good`
-    /// calls each call fails; before that only where it finds no memory, or no file beside OUT.
+    /// calls each call fails; before that only if it finds no memory, or no file beside OUT.
     pub fn new(alloc: Global, out: Option<Vec<u8>>, good: usize) -> MemoryFolder
         ensures { memory_entries result ≡ record {
           out = option_map (λ v. record { bytes = v.items; on_disk = true }) out;

@@ -8,13 +8,13 @@ use std::os::unix::fs::{OpenOptionsExt, PermissionsExt};
 use std::path::PathBuf;
 use std::rt::Files;
 
-/// What the name of the file beside OUT has behind OUT's.
+/// What the name of the file beside OUT has after OUT's.
 const SUFFIX: &str = ".partial";
 
 /// The most links that are followed, as the system does.
 const MAX_LINKS: u32 = 40;
 
-/// How often the file beside OUT is tried to be made where other runs take its name.
+/// How often a run tries to make the file beside OUT while other runs take its name.
 const ATTEMPTS: u32 = 16;
 
 /// Who may read and write a new file, but for what the user's mask takes away.
@@ -73,9 +73,9 @@ impl Neighbours {
     ///
     /// # Errors
     ///
-    /// Those of the system, also where OUT may not be written; `WouldBlock` where a running program
-    /// has the file locked; and `AlreadyExists` where it is one of `inputs`, or no regular file.
-    /// Only what a killed run left may be gone then.
+    /// Those of the system, also if OUT may not be written; `WouldBlock` if a running program has
+    /// the file locked; and `AlreadyExists` if it is one of `inputs`, or no regular file. Only what
+    /// a killed run left may be gone then.
     pub fn create<R: Files<File = File>>(&self, rt: &R, inputs: &[FileId]) -> io::Result<File> {
         if self.has_out() {
             OpenOptions::new().write(true).open(rt, &self.out)?;
@@ -91,7 +91,7 @@ impl Neighbours {
         Err(ErrorKind::AlreadyExists.into())
     }
 
-    // `AlreadyExists` where the name is taken, also by another run between the two steps.
+    // `AlreadyExists` if the name is taken, also by another run between the two steps.
     fn make<R: Files<File = File>>(&self, rt: &R) -> io::Result<File> {
         let file = OpenOptions::new()
             .write(true)
@@ -144,7 +144,7 @@ impl Neighbours {
     ///
     /// # Errors
     ///
-    /// Those of the system, and `NotFound` where the name beside OUT is no longer the file's.
+    /// Those of the system, and `NotFound` if the name beside OUT is no longer the file's.
     /// Nothing was renamed.
     pub fn put_in_place<R: Files>(&self, rt: &R, file: &File) -> io::Result<()> {
         if !self.is_beside(rt, file)? {
@@ -157,7 +157,7 @@ impl Neighbours {
     ///
     /// # Errors
     ///
-    /// Those of the system, and `NotFound` where the name beside OUT is no longer the file's.
+    /// Those of the system, and `NotFound` if the name beside OUT is no longer the file's.
     /// Nothing was removed.
     pub fn remove_beside<R: Files>(&self, rt: &R, file: &File) -> io::Result<()> {
         if !self.is_beside(rt, file)? {
@@ -176,7 +176,7 @@ impl Neighbours {
     }
 }
 
-// Locks the file, or answers `WouldBlock` where another program has it locked. A file system
+// Locks the file, or answers `WouldBlock` if another program has it locked. A file system
 // that knows no locks is used without.
 fn lock(file: &File) -> io::Result<()> {
     match file.try_lock() {

@@ -9,7 +9,7 @@ use std::marker::Model;
 /// An output whose bytes go to a file beside OUT. It is made, written as a [`Sink`], and then
 /// finished: OUT is then the file of all these bytes, or what it was.
 ///
-/// Contracts see it as its folder, where the file beside OUT stands.
+/// Contracts see it as its folder, which has the file beside OUT.
 #[derive(Debug, Drop)]
 pub struct Output<F: Folder + Drop> {
     folder: F,
@@ -40,7 +40,7 @@ impl<F: Folder + Drop> Output<F> {
     ///
     /// # Errors
     ///
-    /// The folder, where the file could not be made. OUT is as before.
+    /// The folder, if the file could not be made. OUT is as before.
     pub fn create(mut folder: F) -> Result<Output<F>, F>
         ensures made { IfOk result (λ output. Does created (F.entries folder) (F.entries output)) }
         ensures refused { IfErr result
@@ -54,8 +54,8 @@ impl<F: Folder + Drop> Output<F> {
         }
     }
 
-    /// Ends an output after the work that wrote it. Where that was done, the file beside OUT is
-    /// flushed, brought to the disk if OUT was there before, and named OUT. Where it failed, or one
+    /// Ends an output after the work that wrote it. If that was done, the file beside OUT is
+    /// flushed, brought to the disk if OUT was there before, and named OUT. If it failed, or one
     /// of these steps does, the file beside OUT is removed.
     ///
     /// It gives the folder back. OUT is then what was written, or exactly what it was; and at each
@@ -63,7 +63,7 @@ impl<F: Folder + Drop> Output<F> {
     ///
     /// # Errors
     ///
-    /// The fault of the work; or else `DeviceFault`, where a step failed. OUT is as before. The
+    /// The fault of the work; or else `DeviceFault`, if a step failed. OUT is as before. The
     /// file beside it is gone, unless the folder failed to remove it.
     pub fn finish<T: Drop, E: From<DeviceFault> + Drop>(
         self,
@@ -79,8 +79,8 @@ impl<F: Folder + Drop> Output<F> {
         ensures any_moment { Leads (λ old new. IsEitherAlways (whole old (taken old)) new)
             (F.entries self) (F.entries result.1) }
 
-        // The file beside OUT is left only where removing it failed, and a step fails only
-        // where the folder did.
+        // The file beside OUT is left only if removing it failed, and a step fails only if the
+        // folder did.
         ensures gone_ok { OnOk result.0 (Leads (λ old new. new.beside ≡ None)
             (F.entries self) (F.entries result.1)) }
         ensures gone { OnErr result.0
@@ -113,7 +113,7 @@ impl<F: Folder + Drop> Sink for Output<F> {
     }
 }
 
-// Puts the file beside OUT in its place. The disk has it first where OUT is there, so that a lost
+// Puts the file beside OUT in its place. The disk has it first if OUT is there, so that a lost
 // power leaves one of the two.
 fn keep<F: Folder>(folder: &mut F) -> Result<(), DeviceFault>
     requires { IfSome (F.entries folder.old) IsWriting }
@@ -155,7 +155,7 @@ fn take_all<F: Folder>(folder: &mut F, bytes: &[u8]) -> Result<(), OutputFault>
 ///
 /// # Errors
 ///
-/// `Create` where the file beside OUT could not be made, and `Write` where a later step failed. OUT
+/// `Create` if the file beside OUT could not be made, and `Write` if a later step failed. OUT
 /// is as before. The file beside it is gone, unless the folder failed to remove it.
 pub fn write_file<F: Folder + Drop>(folder: F, bytes: &[u8]) -> (Result<(), OutputFault>, F)
     ensures written { OnOk result.0

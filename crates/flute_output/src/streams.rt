@@ -10,7 +10,7 @@ const STREAMS: i32 = 3;
 /// What can be opened, and neither read nor written.
 const NEITHER_READ_NOR_WRITTEN: &str = "/";
 
-/// Makes sure that no file which is opened later becomes standard input, output or error, where the
+/// Makes sure that no file which is opened later becomes standard input, output or error, if the
 /// program was started with one of them closed: it is opened as something that can be neither read
 /// nor written. Call it first.
 pub fn take_standard_streams<R: Files<File = File>>(rt: &R) {

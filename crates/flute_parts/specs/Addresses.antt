@@ -1,4 +1,4 @@
--- Where facts stand.
+-- The addresses of facts.
 use Rattle.std.specs.Prelude.{ℕ, List, []}
 use Rattle.flute_parts.specs.declared.key.Key.{Key}
 use Rattle.flute_parts.specs.declared.symbol_id.SymbolId.{SymbolId}
@@ -9,14 +9,14 @@ use Rattle.flute_parts.specs.declared.fact.Fact.TheVariants.{Info, InfoConflict,
 use Rattle.flute_parts.specs.declared.fact.FactRef.{FactRef}
 use Rattle.flute_parts.specs.declared.fact.FactRef.TheVariants.{Info as InfoRef, InfoConflict as InfoConflictRef, Symbol as SymbolRef, SymbolConflict as SymbolConflictRef}
 
--- where the information of an object stands, and where a symbol of it
+-- the address of the information of an object, and of a symbol of it
 abbrev pub info_address : Key → Address
 info_address key = record { key = key; part = InfoPart }
 
 abbrev pub symbol_address : Key → SymbolId → Address
 symbol_address key id = record { key = key; part = SymbolPart id }
 
--- where a fact stands
+-- the address of a fact
 abbrev pub address : Fact → Address
 address (Info key info) = info_address key
 address (InfoConflict key) = info_address key

@@ -125,7 +125,7 @@ last_objects :
     (last_key [] ≡ None) × (last_key (InfoConflict (key_of (Instance 3)) ∷ known) ≡ Some key)
 last_objects = (refl, refl)
 
--- an FDT Instance stands before every file, and information before symbols
+-- an FDT Instance is before every file, and information before symbols
 ordered :
     (address_cmp (symbol_address (key_of (Instance 9)) (symbol_id 5 5)) (info_address key) ≡ Less)
     × (address_cmp (info_address key) (symbol_address key (symbol_id 0 0)) ≡ Less)

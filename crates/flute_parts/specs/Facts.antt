@@ -1,4 +1,4 @@
--- Lists of facts, and what they come to at an address.
+-- Lists of facts, and their value at an address.
 use Rattle.std.specs.Prelude.{◌≡◌, Bool, false, ◌&&◌, ◌==◌, if◌then◌else◌, List, [], ◌∷◌, ◌++◌, filter, bytes_eq, Option, Some, None, Contains, ◌↔◌}
 use Rattle.std.specs.List.{list_all}
 use Rattle.std.specs.declared.cmp.Ordering.TheVariants.{Less}
@@ -34,16 +34,16 @@ same_fact (Symbol k i b) (Symbol l j c) = same_key k l && (same_symbol_id i j &&
 same_fact (SymbolConflict k i) (SymbolConflict l j) = same_key k l && same_symbol_id i j
 same_fact _ _ = false
 
--- what facts at one address come to: the one fact that all of them tell, or else the conflict
+-- the value of facts at one address: the one fact that all of them tell, or else the conflict
 abbrev pub agreed : Address → List Fact → Option Fact
 agreed a [] = None
 agreed a (f ∷ fs) = Some (if list_all (same_fact f) fs then f else conflict_at a)
 
--- what a list of facts comes to at an address: `None` where none of them stands there
+-- the value of a list of facts at an address: `None` if none of them has that address
 unfoldable pub fact_at : List Fact → Address → Option Fact
 fact_at facts a = agreed a (filter (λ f. same_address (address f) a) facts)
 
--- the lists come to the same at each address
+-- the lists have the same value at each address
 pub record Same (F G : List Fact) : Type 0 where
   pub each : (a : Address) → fact_at F a ≡ fact_at G a
 
@@ -55,12 +55,12 @@ Below F G = Same (F ++ G) G
 abbrev pub SameMembers : List Fact → List Fact → Type 0
 SameMembers F G = (f : Fact) → Contains F f ↔ Contains G f
 
--- each of the facts stands after the address
+-- each of the facts is after the address
 abbrev pub StandAfter : Address → List Fact → Type 0
 StandAfter a [] = Unit {0}
 StandAfter a (f ∷ fs) = (address_cmp a (address f) ≡ Less) × StandAfter a fs
 
--- the addresses rise strictly: after each fact stand all that follow it
+-- the addresses rise strictly: all facts that follow a fact are after it
 abbrev pub IsRising : List Fact → Type 0
 IsRising [] = Unit {0}
 IsRising (f ∷ fs) = StandAfter (address f) fs × IsRising fs

@@ -53,7 +53,7 @@ pub record HasBlocks (i : Information) : Type 0 where
   pub blocks : block_count i ≤ 65536
   pub longest : large_length i ≤ 65536
 
--- a transfer length has 48 bits (RFC 5445, 3.2.2.2); where it is 0 there is no block to number
+-- a transfer length has 48 bits (RFC 5445, 3.2.2.2); if it is 0 there is no block to number
 pub record IsValid (i : Information) : Type 0 where
   pub length : i.transfer_length < 2 ^ 48
   pub parts : 0 < i.transfer_length → HasBlocks i

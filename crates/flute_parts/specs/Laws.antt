@@ -21,7 +21,7 @@ OrderIsFree = (F G : List Fact) → Same (F ++ G) (G ++ F)
 abbrev pub RepeatsAreFree : Type 0
 RepeatsAreFree = (F : List Fact) → Same (F ++ F) F
 
--- lists stay the same, or one below the other, where such lists are appended to both
+-- lists stay the same, or one below the other, if such lists are appended to both
 abbrev pub AppendKeepsSame : Type 0
 AppendKeepsSame = (F G H K : List Fact) → Same F G → Same H K → Same (F ++ H) (G ++ K)
 
@@ -41,7 +41,7 @@ BelowBothWays = (F G : List Fact) → Below F G → Below G F → Same F G
 abbrev pub OverIsMonotone : Type 0
 OverIsMonotone = (F G : List Fact) (s o y : ℕ) → Below F G → Over F s o y → Over G s o y
 
--- at an address stands nothing, or the one value that is told there, or the conflict of two
+-- the value at an address is nothing, the one that is told there, or the conflict of two
 abbrev pub AbsentWhereNoneStands : Type 0
 AbsentWhereNoneStands =
     (F : List Fact) (a : Address)
@@ -65,8 +65,8 @@ ConflictWhereOneIsTold =
 abbrev pub AnswersStandThere : Type 0
 AnswersStandThere = (F : List Fact) (a : Address) (f : Fact) → fact_at F a ≡ Some f → address f ≡ a
 
--- a rising list has one fact at an address, which is what it comes to there, and no two
--- of them come to the same
+-- a rising list has one fact at an address, which is its value there, and no two of them
+-- have the same values
 abbrev pub RisingHasOneFact : Type 0
 RisingHasOneFact =
     (F : List Fact) (f g : Fact) → IsRising F → Contains F f → Contains F g → address f ≡ address g
@@ -112,6 +112,6 @@ FitsMeans =
     × ((n ≡ info.symbol_length)
     ⊎ ((slice_get (ids info) (length (ids info) - 1) ≡ Some id) × (n ≡ last_length info))))
 
--- information is valid exactly where it has no fault
+-- information is valid exactly if it has no fault
 abbrev pub ValidHasNoFault : Type 0
 ValidHasNoFault = (info : Information) → IsValid info ↔ (info_fault info ≡ None)

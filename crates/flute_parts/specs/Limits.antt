@@ -11,7 +11,7 @@ use Rattle.flute_parts.specs.declared.address.Part.TheVariants.{Info as InfoPart
 use Rattle.flute_parts.specs.declared.address.Address.{Address}
 use Rattle.flute_parts.specs.declared.fact.Fact.{Fact}
 
--- each element once, where it first stands
+-- each element once, at its first place
 abbrev pub firsts : {X : Type 0} → (X → X → Bool) → List X → List X
 firsts same [] = []
 firsts same (x ∷ xs) = x ∷ filter (λ y. not (same x y)) (firsts same xs)

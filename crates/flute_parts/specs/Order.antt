@@ -44,7 +44,7 @@ part_cmp (SymbolPart m) (SymbolPart n) = symbol_id_cmp m n
 abbrev pub address_cmp : Address → Address → Ordering
 address_cmp a b = ordering_then (key_cmp a.key b.key) (part_cmp a.part b.part)
 
--- names and addresses are the same where they compare equal
+-- names and addresses are the same if they compare equal
 abbrev pub same_session : Session → Session → Bool
 same_session a b = is_eq (session_cmp a b)
 

@@ -1,4 +1,4 @@
-//! Where facts stand.
+//! The addresses of facts.
 
 use crate::key::Key;
 use crate::symbol_id::SymbolId;
@@ -12,7 +12,7 @@ pub enum Part {
     Symbol(SymbolId),
 }
 
-/// Where a fact stands. Addresses are ordered by session, object, and part.
+/// The address of a fact. Addresses are ordered by session, object, and part.
 #[derive(Clone, Copy, Debug, PartialEq, Eq, PartialOrd, Ord)]
 pub struct Address {
     pub key: Key,

@@ -43,7 +43,7 @@ impl Bytes {
     ///
     /// # Errors
     ///
-    /// `Empty` and `TooLong` for their number, and `OutOfMemory` where there is no
+    /// `Empty` and `TooLong` for their number, and `OutOfMemory` if there is no
     /// memory for the copy.
     pub fn new(alloc: Global, octets: &[u8]) -> Result<Bytes, BytesFault>
         ensures { MatchResult result
@@ -131,7 +131,7 @@ impl Value for Bytes {
 
     ghost same_where_equal = { bytes_same };
 
-    /// A copy of the bytes. `OutOfMemory` where there is no memory for it.
+    /// A copy of the bytes. `OutOfMemory` if there is no memory for it.
     fn copy(&self, alloc: Global) -> Result<Bytes, JoinRefusal> {
         match self.octets.to_vec(alloc) {
             Ok(octets) => Ok(Bytes { octets }),

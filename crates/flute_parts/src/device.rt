@@ -15,7 +15,7 @@ pub trait Sink {
     // How often a call has failed.
     ghost failures: { Self → ℕ };
 
-    // The bytes taken so far, where the sink tells them.
+    // The bytes taken so far, if the sink tells them.
     ghost written: { Self → Option (List ℕ) };
 
     /// Takes the first bytes of `bytes`, and answers how many: at least one,
@@ -23,7 +23,7 @@ pub trait Sink {
     ///
     /// # Errors
     ///
-    /// `DeviceFault` where the device failed. It then took nothing.
+    /// `DeviceFault` if the device failed. It then took nothing.
     fn write(&mut self, bytes: &[u8]) -> Result<usize, DeviceFault>
         ensures bound { IfOk result (λ n. n ≤ length bytes.now) }
         ensures progress { 0 < length bytes.now → IfOk result (λ n. 0 < n) }
@@ -35,7 +35,7 @@ pub trait Sink {
     ///
     /// # Errors
     ///
-    /// `DeviceFault` where one of them failed. The device then took a first part of
+    /// `DeviceFault` if one of them failed. The device then took a first part of
     /// the bytes, and not all.
     final fn write_all(&mut self, bytes: &[u8]) -> Result<(), DeviceFault>
         ensures bytes { Writes (written self.old) (written self.new) bytes.now result }

@@ -60,7 +60,7 @@ pub enum FactRef<'a> {
 }
 
 impl Fact {
-    /// Where the fact stands.
+    /// The address of the fact.
     pub fn address(&self) -> Address
         ensures { result ≡ address self.now }
     {
@@ -106,7 +106,7 @@ impl Fact {
 }
 
 impl FactRef<'_> {
-    /// Where the fact stands.
+    /// The address of the fact.
     pub fn address(&self) -> Address
         ensures { result ≡ address (fact_of self.now) }
     {

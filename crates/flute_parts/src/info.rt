@@ -11,7 +11,7 @@ use thiserror::Error;
 /// Object Transmission Information (RFC 5052, section 6.2.4) for Compact No-Code FEC
 /// (RFC 5445, section 3.2.2).
 ///
-/// It is always valid: the transfer length is below 2^48, and where that is not 0 the block
+/// It is always valid: the transfer length is below 2^48, and if that is not 0 the block
 /// partition of RFC 5052, section 9.1 gives at most 65,536 blocks of at most 65,536 symbols each.
 #[derive(Clone, Copy, Debug, PartialEq, Eq)]
 pub struct Info {
@@ -61,7 +61,7 @@ impl Info {
     ghost use Rattle.flute_parts.specs.Information.{IsValid};
 
     /// The information of an object of `length` bytes, in symbols of `symbol` bytes and blocks of
-    /// at most `block` symbols. Where `length` is 0, the other two may be anything.
+    /// at most `block` symbols. If `length` is 0, the other two may be anything.
     ///
     /// # Errors
     ///

@@ -19,7 +19,7 @@ use crate::object_key::ObjectKey;
 use crate::session_key::SessionKey;
 use crate::symbol_id::SymbolId;
 
-/// Lists with the same facts come to the same at each address, in whatever order and
+/// Lists with the same facts have the same value at each address, in whatever order and
 /// however often each is told.
 pub fn members_decide()
     ensures members { MembersDecide }
@@ -27,7 +27,7 @@ pub fn members_decide()
     ensures repeats { RepeatsAreFree }
 {}
 
-/// Lists that come to the same can stand for one another in longer lists.
+/// Lists with the same value at each address can replace one another in longer lists.
 pub fn same_is_kept()
     ensures { AppendKeepsSame }
 {}
@@ -40,12 +40,12 @@ pub fn below_is_an_order()
     ensures append { AppendKeepsBelow }
 {}
 
-/// Where a list passes limits, each list above it passes them too.
+/// If a list passes limits, each list above it passes them too.
 pub fn over_is_monotone()
     ensures { OverIsMonotone }
 {}
 
-/// What a list of facts comes to at an address.
+/// The value of a list of facts at an address.
 pub fn facts_agree_or_conflict()
     ensures absent { AbsentWhereNoneStands }
     ensures value { ValueWhereAllAgree }
@@ -55,7 +55,7 @@ pub fn facts_agree_or_conflict()
 {}
 
 /// A list of facts at rising addresses has one fact at each, and is the only such list
-/// that comes to the same.
+/// with the same values.
 pub fn rising_lists_agree()
     ensures one { RisingHasOneFact }
     ensures tells { RisingTellsItsFacts }
@@ -71,7 +71,7 @@ pub fn names_are_ordered()
     ensures addresses { (a b : Address) → ⟦<Address as Ord>⟧.cmp a b ≡ address_cmp a b }
 {}
 
-/// The symbols of a partition stand in rising order, each at its place.
+/// The symbols of a partition are in rising order, each at its place.
 pub fn symbols_are_in_order()
     ensures places { PlacesAreInverse }
     ensures rise { IdsRise }
@@ -84,7 +84,7 @@ pub fn symbols_fit()
     ensures { FitsMeans }
 {}
 
-/// Information is valid exactly where it has no fault.
+/// Information is valid exactly if it has no fault.
 pub fn valid_has_no_fault()
     ensures { ValidHasNoFault }
 {}

@@ -5,7 +5,7 @@ use crate::device::{DeviceFault, Sink};
 use crate::failures::Failures;
 use std::alloc::Global;
 
-/// A sink that keeps its bytes in memory. It fails only where it finds no memory for more.
+/// A sink that keeps its bytes in memory. It fails only if it finds no memory for more.
 #[derive(Debug, Drop)]
 pub struct MemorySink {
     bytes: Vec<u8>,

@@ -77,7 +77,7 @@ impl Partition {
         self.large_blocks + self.small_blocks
     }
 
-    /// The number of symbols in the block of this source block number, at most 65,536. 0 where
+    /// The number of symbols in the block of this source block number, at most 65,536. 0 if
     /// there is no such block.
     pub fn block_len(&self, sbn: u16) -> u32
         ensures value { result ≡ slice_index (sizes self.now) sbn }
@@ -93,7 +93,7 @@ impl Partition {
         }
     }
 
-    /// The place of a symbol. None where the object has no such symbol.
+    /// The place of a symbol. None if the object has no such symbol.
     pub fn place(&self, id: SymbolId) -> Option<u64>
         ensures { result ≡ place self.now id }
     {
@@ -144,7 +144,7 @@ impl Partition {
 
     /// Whether `len` bytes can be the symbol: as many as the encoding symbol length, or, of the
     /// last symbol, as many as the object still has there, without padding (RFC 5445, section 3.4).
-    /// False where the object has no such symbol.
+    /// False if the object has no such symbol.
     pub fn fits(&self, id: SymbolId, len: usize) -> bool
         ensures { result ≡ fits self.now id len }
     {

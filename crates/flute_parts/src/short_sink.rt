@@ -15,7 +15,7 @@ pub struct ShortSink {
 
 impl ShortSink {
     /// A sink that takes `good` bytes, and fails in each call from then on. Before that it fails
-    /// only where it finds no memory for more. It takes no memory yet.
+    /// only if it finds no memory for more. It takes no memory yet.
     pub fn new(alloc: Global, good: usize) -> ShortSink
         ensures bytes { ⟦<ShortSink as Sink>⟧.written result ≡ Some [] }
         ensures failures { ⟦<ShortSink as Sink>⟧.failures result ≡ 0 }

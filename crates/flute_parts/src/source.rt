@@ -10,18 +10,18 @@ pub trait Source {
     // How often a call has failed.
     ghost failures: { Self → ℕ };
 
-    // The bytes still unread, where the source tells them.
+    // The bytes still unread, if the source tells them.
     ghost unread: { Self → Option (List ℕ) };
 
     // The next of these, as far as they lie in memory.
     ghost buffered: { Self → List ℕ } = { λ _. [] };
 
     /// Puts the next bytes at the front of `buffer`, and answers how many: none only at the end, or
-    /// where `buffer` is empty.
+    /// if `buffer` is empty.
     ///
     /// # Errors
     ///
-    /// `DeviceFault` where the device failed. It then gave nothing, and `buffer` may hold anything.
+    /// `DeviceFault` if the device failed. It then gave nothing, and `buffer` may hold anything.
     fn read(&mut self, buffer: &mut [u8]) -> Result<usize, DeviceFault>
         ensures bound { IfOk result (λ n. n ≤ length buffer.new) }
         ensures bytes { ReadConsumes (unread self.old) (unread self.new) result buffer.new }

@@ -36,7 +36,7 @@ impl<W: Write> StdSink<W> {
     ///
     /// # Errors
     ///
-    /// `DeviceFault` where the writer failed. What it still holds is then not known.
+    /// `DeviceFault` if the writer failed. What it still holds is then not known.
     pub fn flush(&mut self) -> Result<(), DeviceFault>
         ensures bytes { Keeps (⟦<StdSink<W> as Sink>⟧.written self.old)
             (⟦<StdSink<W> as Sink>⟧.written self.new) }

@@ -44,7 +44,7 @@ impl<const SESSIONS: u32, const OBJECTS: u32, const SYMBOLS: u32> Tally<
     }
 
     /// Counts the next address. True if no limit is passed by it and those before. Each has
-    /// to stand after all that were counted: once one did not, or the answer was false, the
+    /// to be after all that were counted: once one was not, or the answer was false, the
     /// tally tells nothing more.
     pub fn count(&mut self, next: &Address) -> bool
         ensures within { (F : List Fact) (f : Fact) → address f ≡ next.now → IsRising (F ++ f ∷ [])
@@ -57,7 +57,7 @@ impl<const SESSIONS: u32, const OBJECTS: u32, const SYMBOLS: u32> Tally<
         self.count_key(&next.key) && self.count_part(&next.part)
     }
 
-    // Counts the session and the object of the next address, where they are new.
+    // Counts the session and the object of the next address, each if it is new.
     fn count_key(&mut self, key: &Key) -> bool
         ensures within { (F : List Fact) (f : Fact) → (address f).key ≡ key.now
             → IsRising (F ++ f ∷ [])

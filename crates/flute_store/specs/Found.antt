@@ -16,7 +16,7 @@ use Rattle.flute_store.specs.Held.{HoldsObject}
 use Rattle.flute_store.specs.declared.object.Object.{Object}
 use Rattle.flute_store.specs.WellFormed.{IsObject}
 
--- nothing stands at the addresses of the object
+-- no fact has an address of the object
 abbrev pub IsUnheard : List Fact → Key → Type 0
 IsUnheard F key = (part : Part) → fact_at F (record { key = key; part = part }) ≡ None
 

@@ -25,7 +25,7 @@ pub record IsHeldScan (w : HeldScan) : Type 0 where
 abbrev pub IsAheadOf : HeldScan → HeldScan → Type 0
 IsAheadOf v w = IsAhead (walk_in v) (walk_in w)
 
--- a gap takes no tick, nor does the end where it was found before
+-- a gap takes no tick, nor does the end if it was found before
 abbrev pub TurnTicks : HeldScan → Option Turn → HeldScan → Type 0
 TurnTicks v (Some (Turn.Gap gap)) w = w.ticks ≡ v.ticks
 TurnTicks v (Some Turn.End) w = w.ended ≡ true

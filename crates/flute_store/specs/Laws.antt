@@ -9,7 +9,7 @@ use Rattle.flute_parts.specs.declared.fact.Fact.TheVariants.{Info}
 use Rattle.flute_store.specs.declared.gap.Gap.{Gap}
 use Rattle.flute_store.specs.Objects.{Whole, object, wants, gaps, listed, AreRuns}
 
--- lists that come to the same make the same of each object
+-- lists with the same value at each address make the same of each object
 abbrev pub SameWhole : Type 0
 SameWhole =
     (F G : List Fact) (key : Key) (info : Information) → Same F G → Whole F key info
@@ -39,7 +39,7 @@ GapsAreUnique =
     (F : List Fact) (key : Key) (info : Information) (others : List Gap)
     → flat_map listed others ≡ wants F key info → AreRuns others → others ≡ gaps F key info
 
--- an object with one information is whole exactly where it has no gap
+-- an object with one information is whole exactly if it has no gap
 abbrev pub WholeHasNoGap : Type 0
 WholeHasNoGap =
     (F : List Fact) (key : Key) (info : Information)

@@ -25,7 +25,7 @@ pub record Whole (F : List Fact) (key : Key) (info : Information) : Type 0 where
   pub information : fact_at F (info_address key) ≡ Some (Info key info)
   pub each : (id : SymbolId) → Contains (ids info) id → IsHeld F key info id
 
--- the bytes of a fact, where it is one value of a symbol
+-- the bytes of a fact, if it is one value of a symbol
 abbrev pub value_bytes : Option Fact → List ℕ
 value_bytes (Some (Symbol key id bytes)) = bytes
 value_bytes _ = []
@@ -63,7 +63,7 @@ goes_on g h = (g.sbn == h.sbn) && ((g.last + 1 == h.first) && same_reason g.reas
 abbrev pub one : SymbolId × Reason → Gap
 one (id, reason) = record { sbn = id.sbn; first = id.esi; last = id.esi; reason = reason }
 
--- a gap put before others, as one with the first of them where that goes on
+-- a gap put before others, as one with the first of them if that goes on
 abbrev pub before : Gap → List Gap → List Gap
 before g [] = g ∷ []
 before g (h ∷ gaps) = if goes_on g h then record h { first = g.first } ∷ gaps else (g ∷ h ∷ gaps)

@@ -69,7 +69,7 @@ gaps_left w = runs (all_left w)
 abbrev pub remaining : Walk → ℕ
 remaining w = (length (sizes w.partition) - w.begun) + length w.held
 
--- these stand behind the symbol
+-- these are after the symbol
 abbrev pub IsBehind : ℕ → ℕ → List (SymbolId × Cell (List ℕ)) → Type 0
 IsBehind sbn esi held =
     AllByRecursion (λ id. symbol_id_cmp (symbol_id sbn esi) id ≡ Less) (keys_of held)
@@ -144,7 +144,7 @@ upcoming_of w =
     cond (w.esi == w.size) (cond (w.begun == length (sizes w.partition)) End BlockEnd)
     (upcoming_held w.partition (symbol_id w.sbn w.esi) w.held)
 
--- up to where the symbols of the block are not held, if the next one is not
+-- the end of the symbols of the block that are not held, if the next one is not
 abbrev pub until_held : ℕ → ℕ → List (SymbolId × Cell (List ℕ)) → ℕ
 until_held sbn size [] = size
 until_held sbn size (e ∷ es) = cond ((e.0.sbn == sbn) && nat_lt e.0.esi size) e.0.esi size
@@ -187,7 +187,7 @@ until_next sbn size None = size
 until_next sbn size (Some next) =
     cond ((next.0.sbn == sbn) && nat_lt next.0.esi size) next.0.esi size
 
--- the run, where what comes next ends it
+-- the run, if what comes next ends it
 abbrev pub ended_run : Option Gap → Upcoming → Option Gap
 ended_run None upcoming = None
 ended_run (Some gap) Passed = None
@@ -215,7 +215,7 @@ after_block w = record w {
   begun = w.begun + 1;
 }
 
--- what is answered, or nothing where a block is begun, and the walk behind it
+-- what is answered, or nothing if a block is begun, and the walk after that
 abbrev pub turn_on : PartitionScan → Option (SymbolId × Option ℕ) → Upcoming
     → Option Turn × PartitionScan
 turn_on w next End = (Some Turn.End, w)
@@ -268,7 +268,7 @@ pub record IsEnd (w : Walk) : Type 0 where
   pub begun : w.begun ≡ length (sizes w.partition)
   pub none : gaps_left w ≡ []
 
--- the held symbols that are not passed behind a turn
+-- the held symbols that are not passed after a turn
 abbrev pub held_after : Option Turn → List (SymbolId × Cell (List ℕ))
     → List (SymbolId × Cell (List ℕ))
 held_after (Some Turn.Fitting) held = drop 1 held

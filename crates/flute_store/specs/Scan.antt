@@ -24,10 +24,10 @@ pub record Scanned : Type 0 where
   pub facts : List Fact
   -- the gaps that were given
   pub given : List Gap
-  -- the values of the symbols of the partition up to the last one passed, where each of them
+  -- the values of the symbols of the partition up to the last one passed, if each of them
   -- is held as one fitting value
   pub bytes : Option (List ℕ)
-  -- what comes next, where it was said with a gap or at the end: the fact of a symbol,
+  -- what comes next, if it was said with a gap or at the end: the fact of a symbol,
   -- or that none is left
   pub coming : Option (Option Fact)
   -- it falls with each gap
@@ -42,7 +42,7 @@ abbrev pub coming_fact : Key → Option (SymbolId × Option (Bor (List ℕ))) �
 coming_fact key None = None
 coming_fact key (Some next) = Some (next_fact key next)
 
--- what comes next stands behind what was passed
+-- what comes next is after what was passed
 abbrev pub CanFollow : Scanned → Option (SymbolId × Option (Bor (List ℕ))) → Type 0
 CanFollow s None = Unit {0}
 CanFollow s (Some next) = IsRising (s.facts ++ next_fact s.key next ∷ [])
@@ -56,7 +56,7 @@ abbrev pub ComeNext : Key → Option (SymbolId × Option (Bor (List ℕ))) → L
 ComeNext key (Some next) rest = (others : List Fact) × (rest ≡ next_fact key next ∷ others)
 ComeNext key None rest = AllByRecursion (λ f. (address f).key ≡ key → ⊥) rest
 
--- all facts: those that were passed stand among them one after another, and this comes
+-- all facts: those that were passed are among them one after another, and this comes
 -- next of the object
 pub record Follows (s : Scanned) (next : Option (SymbolId × Option (Bor (List ℕ))))
     (F : List Fact) : Type 0 where
@@ -75,7 +75,7 @@ pub record IsFirstPart (F : List Fact) (key : Key) (info : Information)
   pub held : (id : SymbolId) → Contains first id → IsHeld F key info id
   pub values : bytes ≡ flat_map (λ id. value_bytes (fact_at F (symbol_address key id))) first
 
--- a gap was given, and nothing passed; where it is the first one, it tells what is not whole
+-- a gap was given, and nothing passed; if it is the first one, it tells what is not whole
 pub record GaveGap (old : Scanned) (next : Option (SymbolId × Option (Bor (List ℕ)))) (gap : Gap)
     (new : Scanned) : Type 0 where
   pub now : new
@@ -101,8 +101,7 @@ pub record PassedNext (old : Scanned) (next : SymbolId × Option (Bor (List ℕ)
         ahead = new.ahead;
       }
 
--- all gaps were given: these are the gaps of the object, of which the bytes are known
--- where it has none
+-- all gaps were given: these are the gaps of the object; if it has none, its bytes are known
 pub record GaveAll (s : Scanned) (F : List Fact) : Type 0 where
   pub information : fact_at F (info_address s.key) ≡ Some (Info s.key s.info)
   pub gaps_are : gaps F s.key s.info ≡ s.given
@@ -141,8 +140,8 @@ at_begin key info = record {
   ahead = length (ids info);
 }
 
--- the bytes are a first part of the object, in all facts among which those that were passed
--- stand one after another
+-- the bytes are a first part of the object, in all facts in which those that were passed
+-- follow one another
 abbrev pub PartOf : Scanned → Type 0
 PartOf s =
     IfSome s.bytes (λ bytes. (F before rest : List Fact) → F ≡ before ++ (s.facts ++ rest)

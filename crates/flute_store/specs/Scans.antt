@@ -1,4 +1,4 @@
--- How a scan stands for what it has passed and given.
+-- How a scan represents what it has passed and given.
 use Rattle.std.specs.Prelude.{◌≡◌, ℕ, true, ◌+◌, ◌-◌, ◌*◌, ◌≤◌, List, [], ◌∷◌, ◌++◌, length, flat_map, Contains, Option, Some, None, IfSome}
 use Rattle.std.specs.Borrow.{Bor}
 use Rattle.flute_join.specs.Cell.{IsKnown}
@@ -54,7 +54,7 @@ pub record IsScan (o : ScanState) : Type 0 where
   pub within : CountsWithin o.walk o.wanted
   pub partition : o.walk.partition ≡ o.info
 
--- these come next, where that was said
+-- these come next, if that was said
 abbrev pub ComesAs : Key → Option Fact → List (SymbolId × Cell (List ℕ)) → Type 0
 ComesAs key None more = more ≡ []
 ComesAs key (Some f) more =
@@ -104,7 +104,7 @@ pub record Scans (o : ScanState) (s : Scanned) : Type 0 where
 abbrev pub announced : Scanned → Next → Scanned
 announced s next = record s { coming = Some (coming_fact s.key next) }
 
--- a held symbol behind the last block is passed
+-- a held symbol after the last block is passed
 abbrev pub passed_at_end : Option Turn → Option (SymbolId × Option ℕ) → Option Turn
 passed_at_end (Some Turn.End) (Some next) = Some Turn.Passed
 passed_at_end turn next = turn

@@ -16,7 +16,7 @@ use Rattle.flute_store.specs.Objects.{Whole, object}
 abbrev pub facts_at_key : Key → List Fact → List Fact
 facts_at_key key F = filter (λ f. same_key (address f).key key) F
 
--- where as much is known of an object as its datagrams tell from its sender, in any order
+-- if as much is known of an object as its datagrams tell from its sender, in any order
 -- and with any repeats, it is whole, and its bytes are those that were sent
 abbrev pub DatagramsGiveTheObject : Type 0
 DatagramsGiveTheObject =

@@ -1,4 +1,4 @@
--- What is told where a store refuses.
+-- What is told when a store refuses.
 use Rattle.flute_join.specs.declared.refusal.JoinRefusal.{JoinRefusal}
 use Rattle.flute_join.specs.declared.refusal.JoinRefusal.TheVariants as join
 use Rattle.flute_store.specs.declared.taken.TakeFault.{TakeFault}

@@ -54,7 +54,7 @@ fn bytes_in<'a>(held: &'a HeldSymbol) -> &'a [u8]
     }
 }
 
-// The first `len` of the bytes, or all of them where there are no more.
+// The first `len` of the bytes, or all of them if there are no more.
 fn up_to(bytes: &[u8], len: u64) -> &[u8]
     ensures { result.now ≡ take len bytes.now }
 {
@@ -90,7 +90,7 @@ impl<'a> HeldScan<'a> {
         }
     }
 
-    // Writes the symbols that are left one behind the other, up to `len` bytes.
+    // Writes the symbols that are left one after another, up to `len` bytes.
     // None of them is wanted.
     fn write<W: Sink>(&mut self, sink: &mut W, len: u64) -> Result<(), DeviceFault>
         requires walk { IsHeldScan self.old }
@@ -136,10 +136,10 @@ impl<const SESSIONS: u32, const OBJECTS: u32, const SYMBOLS: u32> Store<
     /// Writes an object that is whole, and answers its length in bytes: its symbols in the order of
     /// the partition, without the padding of the last one (RFC 5052, section 9.1).
     ///
-    /// `NoObject` where nothing of the object is held, `NoInformation` where no information of it
-    /// is, `ConflictingInformation` where two values of it were told, and `NotWhole` where some
-    /// symbol of the partition is not held as one fitting value: after these nothing was written.
-    /// `Write` where the sink failed: it then took a first part of the object, and not all.
+    /// `NoObject` if nothing of the object is held, `NoInformation` if no information of it is,
+    /// `ConflictingInformation` if two values of it were told, and `NotWhole` if some symbol of
+    /// the partition is not held as one fitting value: after these nothing was written. `Write` if
+    /// the sink failed: it then took a first part of the object, and not all.
     ///
     /// It hands each symbol to the sink as it lies in the store. It takes no memory of its own, and
     /// time by the number of blocks and of held symbols.

@@ -106,7 +106,7 @@ impl Iterator for Gaps<'_> {
 
     ghost remaining = { item_count (λ g. g.gaps) };
 
-    /// The next gap, by constant time a tick. None where none is left, and again None after that.
+    /// The next gap, by constant time a tick. None if none is left, and again None after that.
     ///
     /// Each block that it begins takes a tick, and each held symbol that it passes, and, once, that
     /// it finds nothing left. At a gap it has begun the blocks up to the gap's, and passed the held
@@ -135,8 +135,8 @@ impl<const SESSIONS: u32, const OBJECTS: u32, const SYMBOLS: u32> Store<
     /// the longest runs of symbols of one block that follow one another and are missing for one
     /// reason. A held symbol that the partition does not have is no gap.
     ///
-    /// `NoObject` where nothing of the object is held, `NoInformation` where no information of it
-    /// is, and `ConflictingInformation` where two values of it were told. It takes no memory, and
+    /// `NoObject` if nothing of the object is held, `NoInformation` if no information of it
+    /// is, and `ConflictingInformation` if two values of it were told. It takes no memory, and
     /// the time of two look-ups: of the session, and of its object.
     pub fn gaps(&self, key: &Key) -> Result<Gaps<'_>, GapFault>
         ensures { MatchResult result (λ gaps. GivesGaps self.now key.now gaps)

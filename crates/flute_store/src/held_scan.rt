@@ -58,7 +58,7 @@ impl<'a> HeldScan<'a> {
         }
     }
 
-    /// What comes next. None where a block was begun.
+    /// What comes next. None if a block was begun.
     pub fn turn(&mut self) -> Option<Turn>
         requires { IsHeldScan self.old }
         ensures { Turns self.old result self.new }

@@ -51,7 +51,7 @@ impl HeldSymbol {
         }
     }
 
-    /// The bytes. None where there were two values.
+    /// The bytes. None if there were two values.
     pub fn value(&self) -> Option<&[u8]>
         ensures { MatchOption result
             (self.now ≡ Cell.Conflict)
@@ -75,7 +75,7 @@ impl HeldSymbol {
 impl Join for HeldSymbol {
     ghost joined = { cell_join bytes_eq };
 
-    // No limit stands in the way of two symbols.
+    // No limit forbids the join of two symbols.
     ghost over = { λ _ _. ⊥ };
 
     ghost needs_memory = { CellNeedsMemory };

@@ -20,7 +20,7 @@ pub fn held_addresses_have_cells()
         → fact_at held (address fact) ≢ None → HasCell held fact }
 {}
 
-/// Lists of facts that come to the same at each address make the same of each object.
+/// Lists of facts with the same value at each address make the same of each object.
 pub fn objects_agree()
     ensures whole { SameWhole }
     ensures bytes { SameObject }
@@ -28,7 +28,7 @@ pub fn objects_agree()
 {}
 
 /// Gaps are the maximal runs of the symbols that are not held as one fitting value, and an object
-/// is whole exactly where it has no gap.
+/// is whole exactly if it has no gap.
 pub fn gaps_are_maximal_runs()
     ensures wants { GapsListWants }
     ensures runs { GapsAreRuns }
@@ -41,7 +41,7 @@ pub fn whole_objects_have_their_length()
     ensures { WholeHasItsLength }
 {}
 
-/// Where as much is known of an object as the datagrams tell that carry it, from its sender,
+/// If as much is known of an object as the datagrams tell that carry it, from its sender,
 /// in any order and with any repeats, it is whole, and its bytes are those that were sent.
 pub fn datagrams_give_the_object()
     ensures { DatagramsGiveTheObject }

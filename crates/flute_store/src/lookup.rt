@@ -11,7 +11,7 @@ impl<const SESSIONS: u32, const OBJECTS: u32, const SYMBOLS: u32> Store<
     OBJECTS,
     SYMBOLS,
 > {
-    /// What is held of an object. None where nothing of it is.
+    /// What is held of an object. None if nothing of it is.
     pub(crate) fn object(&self, key: &Key) -> Option<&Object<SYMBOLS>>
         ensures { MatchOption result (IsUnheard self.now key.now)
             (λ x. IsTold self.now key.now x.now) }

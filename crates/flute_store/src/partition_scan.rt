@@ -18,7 +18,7 @@ pub enum Upcoming {
     End,
     /// The block has no symbol left.
     BlockEnd,
-    /// A held symbol that stands before the next symbol of the block.
+    /// A held symbol that is before the next symbol of the block.
     Passed,
     /// The next symbol of the block, held as one fitting value.
     Fitting,
@@ -28,7 +28,7 @@ pub enum Upcoming {
     NotHeld,
 }
 
-/// A held symbol: its ID, and how many bytes its one value has. None where two were told.
+/// A held symbol: its ID, and how many bytes its one value has. None if two were told.
 pub type Held = (SymbolId, Option<usize>);
 
 /// A walk over the blocks of an object, beside the symbols that are held of it, which are shown to
@@ -102,7 +102,7 @@ impl PartitionScan {
         }
     }
 
-    // The run, where what comes next ends it.
+    // The run, if what comes next ends it.
     fn ended_run(&self, upcoming: Upcoming) -> Option<Gap>
         ensures { result ≡ ended_run self.now.run upcoming }
     {
@@ -162,7 +162,7 @@ impl PartitionScan {
         gap
     }
 
-    // Up to where the symbols of the block from the next one on are not held.
+    // The end of the symbols of the block, from the next one on, that are not held.
     fn until(&self, next: &Option<Held>) -> u32
         ensures { result ≡ until_next self.now.sbn self.now.size next.now }
     {
@@ -175,7 +175,7 @@ impl PartitionScan {
     }
 
     /// What comes next, given the next held symbol that was not passed, if one is left.
-    /// None where a block was begun.
+    /// None if a block was begun.
     pub fn turn(&mut self, next: &Option<Held>) -> Option<Turn>
         requires { IsPlace self.old }
         ensures turn { (result, self.new) ≡ turn_of self.old next.now }

@@ -56,8 +56,8 @@ impl ObjectScan {
         }
     }
 
-    /// What comes next, given the next symbol that is held, with its one value, or None where two
-    /// were told; or that none is left. It is passed where the answer is `Fitting`, `Wanted` or
+    /// What comes next, given the next symbol that is held, with its one value, or None if two
+    /// were told; or that none is left. It is passed if the answer is `Fitting`, `Wanted` or
     /// `Passed`. After `Gap` the same is to be given again.
     ///
     /// It takes constant time for each block that it begins, and besides; and all calls together
@@ -80,7 +80,7 @@ impl ObjectScan {
         }
     }
 
-    // What comes next. None where a block was begun.
+    // What comes next. None if a block was begun.
     #[inline(always)]
     fn step(&mut self, held: &Option<Held>) -> Option<Turn>
         ensures step { (s : Scanned) (next : Next) → held.now ≡ held_next next
@@ -115,7 +115,7 @@ fn held_next(next: &Option<(SymbolId, Option<&[u8]>)>) -> Option<Held>
     }
 }
 
-// A held symbol behind the last block is passed.
+// A held symbol after the last block is passed.
 #[inline(always)]
 fn passed_at_end(turn: Option<Turn>, held: &Option<Held>) -> Option<Turn>
     ensures { result ≡ passed_at_end turn held.now }

@@ -113,7 +113,7 @@ impl<const SESSIONS: u32, const OBJECTS: u32, const SYMBOLS: u32> Store<
     OBJECTS,
     SYMBOLS,
 > {
-    /// How much of an object is held. None where nothing of it is. A held symbol that the partition
+    /// How much of an object is held. None if nothing of it is. A held symbol that the partition
     /// does not have is not counted.
     ///
     /// It takes no memory, and time by the number of blocks and of held symbols,

@@ -115,15 +115,15 @@ impl<const SESSIONS: u32, const OBJECTS: u32, const SYMBOLS: u32> Store<
         }
     }
 
-    /// Joins another store into this one: it holds the facts of both, and where they tell two
-    /// values, the conflict.
+    /// Joins another store into this one: it holds the facts of both, and the conflict at each
+    /// address where they tell two values.
     ///
     /// It looks up each session, object and symbol of the other store once, and copies the bytes of
-    /// a symbol only where the symbol is new.
+    /// a symbol only if the symbol is new.
     ///
     /// # Errors
     ///
-    /// `Full` only where both together pass the limits, and `OutOfMemory` only where the other
+    /// `Full` only if both together pass the limits, and `OutOfMemory` only if the other
     /// store has a fact at an address that is not held here. After either this store has its old
     /// facts and perhaps some of the other one's: absorbing that again with success gives the join.
     pub fn absorb(&mut self, alloc: Global, other: &Self) -> Result<(), JoinRefusal>
@@ -157,12 +157,12 @@ impl<const SESSIONS: u32, const OBJECTS: u32, const SYMBOLS: u32> Store<
         join_session(&mut self.sessions, alloc, key, update)
     }
 
-    /// Adds a fact. Where another value is held at its address, the conflict is held from then on,
+    /// Adds a fact. If another value is held at its address, the conflict is held from then on,
     /// and a conflict that is told makes one. It costs as much as [`take`](Store::take).
     ///
     /// # Errors
     ///
-    /// `Full` exactly where the fact needs a new session, object or symbol beyond the limits,
+    /// `Full` exactly if the fact needs a new session, object or symbol beyond the limits,
     /// before any memory is asked for, and else `OutOfMemory`. Neither comes at a held address.
     /// After each the store is unchanged.
     pub fn add(&mut self, alloc: Global, fact: &Fact) -> Result<(), JoinRefusal>
@@ -175,12 +175,12 @@ impl<const SESSIONS: u32, const OBJECTS: u32, const SYMBOLS: u32> Store<
         self.join_update(alloc, &fact.address().key, Update::of_fact(fact))
     }
 
-    /// As [`add`](Store::add), but the fact is handed over: none of its bytes is copied. Where it
+    /// As [`add`](Store::add), but the fact is handed over: none of its bytes is copied. If it
     /// isn't kept, it is dropped.
     ///
     /// # Errors
     ///
-    /// `Full` exactly where the fact needs a new session, object or symbol beyond the limits,
+    /// `Full` exactly if the fact needs a new session, object or symbol beyond the limits,
     /// before any memory is asked for, and else `OutOfMemory`. Neither comes at a held address.
     /// After each the store is unchanged.
     pub fn put(&mut self, alloc: Global, fact: Fact) -> Result<(), JoinRefusal>
@@ -230,9 +230,9 @@ impl<const SESSIONS: u32, const OBJECTS: u32, const SYMBOLS: u32> Store<
     ///
     /// # Errors
     ///
-    /// `Datagram` with the first refusal of [`read`](flute_wire::read), else `Full` exactly where a
-    /// fact needs a new session, object or symbol beyond the limits, and else `OutOfMemory`. Where
-    /// every fact stands at a held address neither of the last two comes. After each the store is
+    /// `Datagram` with the first refusal of [`read`](flute_wire::read), else `Full` exactly if a
+    /// fact needs a new session, object or symbol beyond the limits, and else `OutOfMemory`. If
+    /// every fact has a held address, neither of the last two comes. After each the store is
     /// unchanged: of two facts it never keeps one.
     pub fn take(
         &mut self,

@@ -80,7 +80,7 @@ impl<'a> Update<'a> {
         }
     }
 
-    /// What a packet tells. None where it has neither information nor a symbol.
+    /// What a packet tells. None if it has neither information nor a symbol.
     pub fn of_packet(packet: &Packet<'a>) -> Option<Self>
         requires { IfSome packet.now.symbol (λ symbol. HasSymbolSize symbol.1) }
         ensures update { IfSome result IsUpdate }

@@ -26,7 +26,7 @@ with_piece i content s = (s.1, piece i content s.0)
 unfoldable pub symbols_of : Information → List ℕ → List (SymbolId × List ℕ)
 symbols_of i content = map (with_piece i content) (enumerate_from 0 (ids i))
 
--- what is sent with the information: each symbol in turn, or none once, where the object has none
+-- what is sent with the information: each symbol in turn, or none once, if the object has none
 unfoldable pub payloads_of : Information → List ℕ → List (Option (SymbolId × List ℕ))
 payloads_of i content =
     if i.transfer_length == 0 then None ∷ [] else map (λ s. Some s) (symbols_of i content)

@@ -7,7 +7,7 @@ use Rattle.flute_parts.specs.declared.object_key.ObjectName.TheVariants.{Instanc
 use Rattle.flute_parts.specs.declared.symbol_id.SymbolId.{SymbolId}
 
 -- TSI, TOI, for TOI 0 the FDT Instance, the transmission information and the symbol with its bytes,
--- where there are any
+-- if there are any
 pub record Content : Type 0 where
   pub tsi : ℕ
   pub toi : ℕ

@@ -40,7 +40,7 @@ ext_fdt = 192
 abbrev pub ext_cenc : ℕ
 ext_cenc = 193
 
--- EXT_FTI of FEC Encoding ID 0: behind HEL six bytes of transfer length, two that are
+-- EXT_FTI of FEC Encoding ID 0: after HEL six bytes of transfer length, two that are
 -- reserved, two of encoding symbol length and four of maximum source block length
 -- (RFC 5775, 4.2; RFC 5445, 3.2.2.2)
 abbrev pub fti_information : List ℕ → Information

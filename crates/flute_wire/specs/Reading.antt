@@ -82,6 +82,6 @@ abbrev pub packet_facts : ℕ → Option Content → List Fact
 packet_facts sender None = []
 packet_facts sender (Some c) = facts_of sender c
 
--- the facts that a datagram of a sender tells: none, where it spells no packet
+-- the facts that a datagram of a sender tells: none, if it spells no packet
 unfoldable pub facts : ℕ → List ℕ → List Fact
 facts sender d = packet_facts sender (packet d)

@@ -19,13 +19,13 @@ Occurs Absent bs = bs ≡ []
 Occurs (Once body) bs = bs ≡ body.now ∷ []
 Occurs Repeated bs = 1 < length bs
 
--- some type that FLUTE reads stands twice
+-- some type that FLUTE reads is there twice
 abbrev pub IsRepeated : List HeaderExtension → Type 0
 IsRepeated es =
     (1 < length (bodies ext_fti es))
     ⊎ ((1 < length (bodies ext_fdt es)) ⊎ (1 < length (bodies ext_cenc es)))
 
--- the bytes of the extensions are refused: they are no extensions, or some type stands twice
+-- the bytes of the extensions are refused: they are no extensions, or some type is there twice
 pub record RefusesArea (area : List ℕ) (r : Refusal) : Type 0 where
   pub cases :
       ((r ≡ refusals.ExtensionLength) × ((es : List HeaderExtension) → HasExtensions area es → ⊥))

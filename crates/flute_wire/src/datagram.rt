@@ -42,7 +42,7 @@ impl Datagram {
     ///
     /// # Errors
     ///
-    /// `TooLong` for more than 65,535 bytes, and else `OutOfMemory` where there is no
+    /// `TooLong` for more than 65,535 bytes, and else `OutOfMemory` if there is no
     /// memory for the copy.
     pub fn new(alloc: Global, bytes: &[u8]) -> Result<Datagram, DatagramFault>
         ensures made { IfOk result (λ d. d ≡ bytes.now) }

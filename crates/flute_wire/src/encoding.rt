@@ -40,7 +40,7 @@ fn fixed_fields(words: u8, tsi: u32, toi: u32) -> [u8; 16]
     bytes
 }
 
-/// Appends EXT_FDT, where the object is an FDT Instance.
+/// Appends EXT_FDT, if the object is an FDT Instance.
 fn put_fdt(out: &mut Vec<u8>, key: &Key) -> Result<(), AllocError>
     ensures bytes { OnOk result
         (out.new.items ≡ out.old.items ++ fdt_bytes (instance_of key.now.object)) }
@@ -68,7 +68,7 @@ fn fti_of(info: &Info) -> [u8; 16]
     bytes
 }
 
-/// Appends EXT_FTI, where there is information.
+/// Appends EXT_FTI, if there is information.
 fn put_fti(out: &mut Vec<u8>, info: Option<Info>) -> Result<(), AllocError>
     ensures bytes { OnOk result (out.new.items ≡ out.old.items ++ fti_bytes info) }
     ensures fits { OnOk result (HasFittingInformation info) }
@@ -89,7 +89,7 @@ fn payload_id(id: SymbolId) -> [u8; PAYLOAD_ID_LEN]
     bytes
 }
 
-/// Appends the FEC Payload ID and the bytes of the symbol, where there is one.
+/// Appends the FEC Payload ID and the bytes of the symbol, if there is one.
 fn put_symbol(out: &mut Vec<u8>, symbol: Option<(SymbolId, &[u8])>) -> Result<(), AllocError>
     ensures bytes { OnOk result (out.new.items
         ≡ out.old.items ++ symbol_bytes (option_map (λ s. (s.0, s.1.now)) symbol.entry)) }

@@ -17,15 +17,14 @@ pub const EXT_FDT: u8 = 192;
 /// (RFC 6726, section 3.4.3).
 const EXT_CENC: u8 = 193;
 
-/// One extension: its type HET and the bytes after that, the length HEL included where there is
-/// one.
+/// One extension: its type HET and the bytes after that, the length HEL included if there is one.
 #[derive(Clone, Copy, Debug)]
 pub struct Extension<'a> {
     het: u8,
     body: &'a [u8],
 }
 
-/// The extension at the front, and the bytes after it. None where no extension is there: it has no
+/// The extension at the front, and the bytes after it. None if no extension is there: it has no
 /// words, or more than there are.
 fn split_extension(bytes: &[u8]) -> Option<(Extension<'_>, &[u8])>
     ensures whole { IfSome result (λ s. IsExtension (extension_of s.0)) }
@@ -45,7 +44,7 @@ fn split_extension(bytes: &[u8]) -> Option<(Extension<'_>, &[u8])>
     Some((Extension { het, body }, rest))
 }
 
-/// How often an extension of one type stands in a header, with its body where that is once.
+/// How often an extension of one type is in a header, with its body if it is there once.
 #[derive(Clone, Copy, Debug)]
 pub enum Occurrence<'a> {
     Absent,
@@ -72,7 +71,7 @@ impl<'a> Occurrence<'a> {
     ///
     /// # Errors
     ///
-    /// `Repeated` where there are more.
+    /// `Repeated` if there are more.
     fn body(self) -> Result<Option<&'a [u8]>, Refusal>
         ensures found { IfOk result (λ body. (bs : List (List ℕ)) → Occurs self.entry bs
             → bs ≡ option_to_list (option_copied body)) }
@@ -88,7 +87,7 @@ impl<'a> Occurrence<'a> {
     }
 }
 
-/// The bodies of the extensions that FLUTE reads: what stands behind their type.
+/// The bodies of the extensions that FLUTE reads: what follows their type.
 /// All others are skipped.
 #[derive(Clone, Copy, Debug)]
 pub struct Known<'a> {
@@ -102,8 +101,8 @@ impl<'a> Known<'a> {
     ///
     /// # Errors
     ///
-    /// `ExtensionLength` where the bytes are no extensions, wherever that is found, and else
-    /// `Repeated` where one of the three stands twice.
+    /// `ExtensionLength` if the bytes are no extensions, wherever that is found, and else
+    /// `Repeated` if one of the three is there twice.
     pub fn read(area: &'a [u8]) -> Result<Self, Refusal>
         ensures found { IfOk result (λ k. Finds area.now (option_copied k.fti) (option_copied k.fdt)
             (option_copied k.cenc)) }

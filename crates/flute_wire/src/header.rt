@@ -9,7 +9,7 @@ use crate::first_word::FirstWord;
 use crate::numbers::{number_of_48_bits, number_of_112_bits, u32_at};
 use crate::refusal::Refusal;
 
-/// What stands in the header, and what follows it.
+/// What is in the header, and what follows it.
 #[derive(Debug, Drop)]
 pub struct Header<'a> {
     /// The Transport Session Identifier, below 2^48.

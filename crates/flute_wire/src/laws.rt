@@ -17,15 +17,15 @@ ghost use Rattle.flute_wire.specs.Facts.{facts_of};
 ghost use Rattle.flute_wire.specs.Reading.{packet, facts};
 ghost use Rattle.flute_wire.specs.declared.refusal.Refusal.{Refusal};
 
-/// A datagram spells one packet at most, and one exactly where no refusal applies to it.
+/// A datagram spells one packet at most, and one exactly if no refusal applies to it.
 pub fn one_reading()
     ensures one { (d : List ℕ) (p q : Content) → Spells d p → Spells d q → p ≡ q }
     ensures some { (d : List ℕ) → ((p : Content) × Spells d p) ↔ ((r : Refusal) → ¬ Applies r d) }
     ensures decided { (d : List ℕ) → ((p : Content) × Spells d p) ⊎ ((r : Refusal) × Applies r d) }
 {}
 
-/// The packet of a datagram can be computed, and from it the facts that the datagram tells where
-/// some sender sent it: none, where it is refused.
+/// The packet of a datagram can be computed, and from it the facts that the datagram tells if
+/// some sender sent it: none, if it is refused.
 pub fn computed_reading()
     ensures packet { (d : List ℕ) (p : Content) → (packet d ≡ Some p) ↔ Spells d p }
     ensures facts { (s : ℕ) (d : List ℕ) (p : Content) → Spells d p → facts s d ≡ facts_of s p }
@@ -48,7 +48,7 @@ pub fn an_object_is_cut_into_symbols()
         → Contains (symbols_of i content) t → s.0 ≡ t.0 → s ≡ t }
 {}
 
-/// What an object's datagrams tell, where the key's sender sent them, is its information
+/// What an object's datagrams tell, if the key's sender sent them, is its information
 /// and each of its symbols, and nothing else.
 pub fn an_object_is_told_by_its_datagrams()
     ensures facts { (key : Key) (i : Information) (content : List ℕ) (f : Fact) → IsValid i

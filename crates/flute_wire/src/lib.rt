@@ -1,6 +1,6 @@
 //! Datagrams of FLUTE version 2 (RFC 6726), read and written.
 //!
-//! A datagram is an LCT header with its extensions (RFC 5651, section 5), and behind it the FEC
+//! A datagram is an LCT header with its extensions (RFC 5651, section 5), and after it the FEC
 //! Payload ID and the payload of ALC (RFC 5775, section 4.1). Those with Compact No-Code FEC
 //! (RFC 5445, section 3), one encoding symbol in each packet and no content encoding are read; any
 //! other is refused, and the [`Refusal`] says why. [`write`] writes a datagram in one form of the

@@ -76,7 +76,7 @@ impl<'a> Packet<'a> {
         self.toi
     }
 
-    /// The FDT Instance ID, below 2^20. There is one exactly where the TOI is 0
+    /// The FDT Instance ID, below 2^20. There is one exactly if the TOI is 0
     /// (RFC 6726, section 3.4.1).
     pub fn instance(&self) -> Option<u32>
         ensures { result ≡ self.now.instance }
@@ -84,8 +84,8 @@ impl<'a> Packet<'a> {
         self.instance
     }
 
-    /// What the packet belongs to, where this sender sent it: the session of the sender and the TSI
-    /// (RFC 5651, section 5.1), and there the FDT Instance of its number, where the TOI is 0, and
+    /// What the packet belongs to, if this sender sent it: the session of the sender and the TSI
+    /// (RFC 5651, section 5.1), and there the FDT Instance of its number, if the TOI is 0, and
     /// else the file of its TOI (RFC 6726, section 3.4). The widths of the fields make no
     /// difference. It takes no memory.
     pub fn key(&self, sender: Sender) -> Key
@@ -99,7 +99,7 @@ impl<'a> Packet<'a> {
         Key { session, object }
     }
 
-    /// The transmission information of EXT_FTI. None where there is no EXT_FTI (RFC 5775,
+    /// The transmission information of EXT_FTI. None if there is no EXT_FTI (RFC 5775,
     /// section 4.2; RFC 5445, section 3.2.2).
     pub fn info(&self) -> Option<Info>
         ensures { result ≡ self.now.info }
@@ -107,7 +107,7 @@ impl<'a> Packet<'a> {
         self.info
     }
 
-    /// The numbers of the encoding symbol and its bytes, 1 to 65,519 of them. None where the
+    /// The numbers of the encoding symbol and its bytes, 1 to 65,519 of them. None if the
     /// datagram ends with its header or with the FEC Payload ID (RFC 5445, section 3.2.1). Whether
     /// they fit the transmission information is not looked at.
     pub fn symbol(&self) -> Option<(SymbolId, &'a [u8])>

@@ -20,13 +20,13 @@ use flute_parts::{Info, SymbolId};
 /// The length of EXT_FTI's body: four words without the byte of the type.
 const FTI_LEN: usize = 15;
 
-/// The transmission information of EXT_FTI, if that is there. Behind HEL stand the transfer length,
+/// The transmission information of EXT_FTI, if that is there. After HEL come the transfer length,
 /// two bytes that are reserved, the encoding symbol length and the maximum source block length
 /// (RFC 5445, section 3.2.2.2).
 ///
 /// # Errors
 ///
-/// `FtiLength` where EXT_FTI does not have four words, and else `Information` where its
+/// `FtiLength` if EXT_FTI does not have four words, and else `Information` if its
 /// numbers are not valid.
 fn information(fti: Option<&[u8]>) -> Result<Option<Info>, Refusal>
     ensures taken { OnOk result (IfSome (option_copied fti.entry)
@@ -65,7 +65,7 @@ fn fdt_fields(body: &[u8]) -> (u8, u32)
 ///
 /// # Errors
 ///
-/// `NoInstance` where the TOI is 0 and there is no EXT_FDT, and `FluteVersion` where it
+/// `NoInstance` if the TOI is 0 and there is no EXT_FDT, and `FluteVersion` if it
 /// is not of version 2.
 fn instance(toi: u128, fdt: Option<&[u8]>) -> Result<Option<u32>, Refusal>
     requires { IfSome (option_copied fdt) (λ body. length body ≡ 3) }
@@ -105,12 +105,12 @@ fn check_encoding(cenc: Option<&[u8]>) -> Result<(), Refusal>
     }
 }
 
-/// The symbol behind the header, if there is one: the FEC Payload ID and at least one byte
+/// The symbol after the header, if there is one: the FEC Payload ID and at least one byte
 /// (RFC 5445, section 3.2.1).
 ///
 /// # Errors
 ///
-/// `PayloadIdCut` where 1 to 3 bytes follow the header.
+/// `PayloadIdCut` if 1 to 3 bytes follow the header.
 fn symbol(tail: &[u8]) -> Result<Option<(SymbolId, &[u8])>, Refusal>
     ensures value { IfOk result (λ s. option_map (λ s. (s.0, s.1.now)) s ≡ tail_symbol tail.now) }
     ensures taken { OnOk result ((tail.now ≡ []) ⊎ (4 ≤ length tail.now)) }

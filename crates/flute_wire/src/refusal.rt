@@ -5,7 +5,7 @@ use thiserror::Error;
 
 /// Why a datagram is refused, in the order of the checks: the first that applies is told. Shown as
 /// its number in that order, from 1, and its name, as `4 HeaderLength`; `Information` with the name
-/// of its fault behind that.
+/// of its fault after that.
 ///
 /// The header is that of RFC 5651, section 5.
 #[derive(Clone, Copy, Debug, PartialEq, Eq, Error)]
@@ -38,7 +38,7 @@ pub enum Refusal {
     /// A header extension has no words, or passes the header's end (RFC 5651, section 5.2).
     #[error("9 ExtensionLength")]
     ExtensionLength,
-    /// EXT_FTI, EXT_FDT or EXT_CENC stands in the header twice, whatever the TOI.
+    /// EXT_FTI, EXT_FDT or EXT_CENC is in the header twice, whatever the TOI.
     #[error("10 Repeated")]
     Repeated,
     /// EXT_FTI does not have four words (RFC 5775, section 4.2; RFC 5445, section 3.2.2.2).

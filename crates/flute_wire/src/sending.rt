@@ -17,7 +17,7 @@ use std::alloc::{AllocError, Global};
 use thiserror::Error;
 
 /// Why an object is not sent, in the order of the checks: the first that applies is told. Shown by
-/// its name, `Write` with the name of its fault behind that.
+/// its name, `Write` with the name of its fault after that.
 #[derive(Clone, Copy, Debug, PartialEq, Eq, Error)]
 pub enum CarouselFault {
     /// The content does not have as many bytes as the transfer length says.
@@ -58,7 +58,7 @@ fn symbol_at<'a>(
     Some((id, piece(content, symbol_length, place as usize)))
 }
 
-/// The datagrams of an object, where the first can be written, and so all of them.
+/// The datagrams of an object, if the first can be written, and so all of them.
 fn datagrams_of(
     alloc: Global,
     key: &Key,

@@ -46,7 +46,7 @@ pub enum WriteFault {
     OutOfMemory,
 }
 
-/// The 32-bit words of the header, where the packet can be written. It takes no memory.
+/// The 32-bit words of the header, if the packet can be written. It takes no memory.
 ///
 /// # Errors
 ///
@@ -94,8 +94,8 @@ pub fn encoded(alloc: Global, outgoing: &Outgoing<'_>, words: u8) -> Result<Data
 /// written.
 ///
 /// There is one form (RFC 5651, section 5.1): a TSI, a TOI and congestion control information of 32
-/// bits each, the last of them 0. EXT_FDT follows where the object is an FDT Instance (RFC 6726,
-/// section 3.4.1), and then EXT_FTI where there is information (RFC 5775, section 4.2). The FEC
+/// bits each, the last of them 0. EXT_FDT follows if the object is an FDT Instance (RFC 6726,
+/// section 3.4.1), and then EXT_FTI if there is information (RFC 5775, section 4.2). The FEC
 /// Payload ID and the symbol's bytes end the datagram; without a symbol it ends with its header.
 /// The symbol's bytes are copied once, into the one piece of memory that is asked for.
 ///

@@ -9,7 +9,7 @@ IsBlobFault old TooLarge = IfSome old (λ bytes. 4294967295 < length bytes)
 IsBlobFault old Read = ⊤
 IsBlobFault old OutOfMemory = ⊤
 
--- how often the source failed in a call that gave this: once, where it answers `Read`
+-- how often the source failed in a call that gave this: once, if it answers `Read`
 abbrev pub blob_failed : {T : Type 0} → Result T BlobFault → ℕ
 blob_failed (Err Read) = 1
 blob_failed _ = 0

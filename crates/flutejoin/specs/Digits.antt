@@ -2,7 +2,7 @@
 use Rattle.std.specs.Prelude.{◌≡◌, ℕ, ◌+◌, ◌*◌, ◌/◌, ◌%◌, ◌<◌, List, slice_index}
 use Rattle.hex.specs.Hex.{lower_digits}
 
--- the two digits of a byte stand one behind the other, those of byte 0 first
+-- the two digits of each byte, one after the other, those of byte 0 first
 abbrev pub HasDigits : List ℕ → Type 0
 HasDigits pairs =
     (byte : ℕ) → byte < 256

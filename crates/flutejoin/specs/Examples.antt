@@ -38,7 +38,7 @@ letter_o = Symbol key (id 1) (codes "o")
 abbrev padded_o : Fact
 padded_o = Symbol key (id 1) (0x6F ∷ 0 ∷ 0 ∷ 0 ∷ [])
 
--- what the facts come to at its information and its two symbols
+-- the values of the facts at its information and its two symbols
 abbrev told : List Fact → List (Option Fact)
 told F =
     fact_at F (info_address key) ∷ fact_at F (symbol_address key (id 0))
@@ -84,7 +84,7 @@ pub conflicting :
 unfolding known_after fact_at
 conflicting = refl
 
--- where some steps are refused, what the others gave
+-- if some steps are refused, what the others gave
 pub stopping :
     told (held_by
     (known_of_done (nothing_held 1) (Add 0 hell ∷ Merge 0 1 ∷ Load 0 [] ∷ Add 0 letter_o ∷ [])

@@ -29,7 +29,7 @@ pub record OfJournal (input left : Option (List ℕ)) (P : List Fact → Type 0)
   pub within : ¬ IsOverShelf entries
   pub holds : P entries
 
--- the fault is that of the journal, as where it is loaded; else P holds of its entries
+-- the fault is that of the journal, as when it is loaded; else P holds of its entries
 abbrev pub AnswersFrom : Option (List ℕ) → Option (List ℕ) → (List Fact → Type 0)
     → Result ℕ CommandFault → Type 0
 AnswersFrom input left P (Err (Input number fault)) = LoadFails 1 input left (Input number fault)
@@ -71,8 +71,8 @@ abbrev pub WritesFirst : {W : Type 0} → (W → Option (List ℕ)) → Option (
 WritesFirst written input key old new =
     (new ≡ old) ⊎ FirstWritten input (written old) (written new) key
 
--- how often the sink failed: once where the answer says so, never where the object was written,
--- and at most once where another fault is told
+-- how often the sink failed: once if the answer says so, never if the object was written,
+-- and at most once if another fault is told
 abbrev pub SinkFails : ℕ → ℕ → Result ℕ CommandFault → Type 0
 SinkFails old new (Ok n) = new ≡ old
 SinkFails old new (Err CannotWrite) = new ≡ old + 1

@@ -27,7 +27,7 @@ abbrev pub source_in : {R : Type 0} → JoinInput R → MutBor R
 source_in input = (peeked input).source
 
 module _ {R : Type 0} (unread : R → Option (List ℕ)) where
-  -- what a source has left: of the bytes that were read ahead, and behind them
+  -- what a source has left: of the bytes that were read ahead, and after them
   abbrev pub left : PeekedSource R → Option (List ℕ)
   left source =
       prepend_known (drop source.given (take source.first.count source.first.bytes))

@@ -1,4 +1,4 @@
--- What the inputs of several stations come to.
+-- What the inputs of several stations tell together.
 use Rattle.std.specs.Prelude.{◌≡◌, ◌≢◌, ℕ, ◌+◌, List, [], ◌∷◌, ◌++◌, ◌≤◌, length, Option, Some, Bool, true, false, if◌then◌else◌, ⊤, ◌⊎◌}
 use Rattle.std.specs.List.{flat_map, count_by, AllByRecursion}
 use Rattle.flute_parts.specs.Facts.{Same}
@@ -59,13 +59,13 @@ abbrev pub Tells : List ℕ → InputContent → Type 0
 Tells bytes (of_journal entries) = IsJournalWithin MAX_ENTRIES bytes entries
 Tells bytes (of_file datagrams) = IsFileWithin MAX_ENTRIES bytes datagrams
 
--- each input tells what stands at its place
+-- each input tells what is at its place
 unfoldable pub TellAll : List (List ℕ) → List InputContent → Type 0
 TellAll [] [] = Unit {0}
 TellAll (bytes ∷ inputs) (one ∷ told) = Tells bytes one × TellAll inputs told
 TellAll _ _ = ⊥
 
--- what the inputs come to: the facts of all, and how many datagrams they have, and refused ones
+-- what the inputs tell together: the facts of all, and how many datagrams and refused ones
 pub record Joins (choice : Choice) (inputs : List (List ℕ)) (joined : Joined) : Type 0 where
   pub told : List InputContent
   pub tell : TellAll inputs told

@@ -57,7 +57,7 @@ pub record AllTell (choice : Choice) (inputs : List (List ℕ)) : Type 0 where
   pub alone : AllByRecursion (TellsWithin choice) inputs
   pub together : ¬ IsOverShelf (flat_map (content_facts choice) told)
 
--- why inputs were not joined: as those in memory; or a device failed, the sink only where all
+-- why inputs were not joined: as those in memory; or a device failed, the sink only if all
 -- the inputs could be joined
 pub data JoinToFails (choice : Choice) (inputs : List (List ℕ))
     (fault : CommandFault) : Type 0 where
@@ -183,7 +183,7 @@ module _ {S : Type 0} (b : Behaviour S) where
   IsStreamOf (Some file) (Some s) = IsFileStream file s
   IsStreamOf _ _ = ⊥
 
--- what is said of inputs as streams, where others stand in the places of some
+-- what is said of inputs as streams, with others in the places of some
 abbrev pub joined_behaviour : {R S : Type 0} → (R → Option (List ℕ)) → (R → ℕ) → Behaviour S
     → Behaviour (Either (JoinInput R) (Beside (JoinInput R) S))
 joined_behaviour unread failures b =

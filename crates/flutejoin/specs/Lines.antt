@@ -21,7 +21,7 @@ use Rattle.flute_wire.specs.Facts.{object_named}
 abbrev pub line : List ℕ → List ℕ
 line words = words ++ codes "\n"
 
--- a file by its TOI, an FDT Instance by its ID behind the word fdt
+-- a file by its TOI, an FDT Instance by its ID after the word fdt
 abbrev pub object_words : ObjectName → List ℕ
 object_words (File toi) = codes "object " ++ decimal toi
 object_words (Instance instance) = codes "object fdt " ++ decimal instance
@@ -54,7 +54,7 @@ packet_lines c =
     ++ (line (object_words (object_named c.toi c.instance))
     ++ (line (info_or_none c.info) ++ line (symbol_or_none c.symbol)))
 
--- a sender's address in 32 digits, where it is not 0
+-- a sender's address in 32 digits, if it is not 0
 abbrev pub source_words : ℕ → List ℕ
 source_words sender =
     if sender == 0 then []

@@ -58,7 +58,7 @@ ListsWith F lines gap_lines (Some o) = HasOpen F lines gap_lines o.key o.state
 abbrev pub Lists : List Fact → Listing → Type 0
 Lists F l = ListsWith F l.lines.items l.gap_lines.items l.open
 
--- the symbol was passed, or, where none is left, all gaps were given
+-- the symbol was passed, or, if none is left, all gaps were given
 abbrev pub Passes : Scanned → Option (SymbolId × Option (Bor (List ℕ))) → Scanned → Type 0
 Passes s (Some next) t =
     (t.key ≡ s.key) × (t.facts ≡ s.facts ++ next_fact s.key next ∷ []) × (t.coming ≡ None)

@@ -7,7 +7,7 @@ use Rattle.flutejoin.specs.declared.limits.TheConstants.{MAX_ENTRIES}
 use Rattle.flutejoin.specs.declared.command_fault.CommandFault.{CommandFault}
 use Rattle.flutejoin.specs.declared.command_fault.CommandFault.TheVariants.{Input, Full, OutOfMemory}
 
--- the input with this number has this fault behind entries within 64 sessions,
+-- the input with this number has this fault after entries within 64 sessions,
 -- 4,096 objects of one and 1,048,576 symbols of one, or begins with entries beyond these;
 -- memory may run out at any entry
 abbrev pub LoadFails : ℕ → Option (List ℕ) → Option (List ℕ) → CommandFault → Type 0

@@ -15,7 +15,7 @@ MergeFails first second (Input number fault) =
 MergeFails first second CannotWrite = ⊤
 MergeFails first second _ = ⊥
 
--- how often each source failed in a merge that gave this: only where its input was at fault
+-- how often each source failed in a merge that gave this: only if its input was at fault
 abbrev pub FirstInputFails : ℕ → ℕ → Result ℕ CommandFault → Type 0
 FirstInputFails old new (Err (Input (suc zero) fault)) = Fails {T = Option Fact} old new (Err fault)
 FirstInputFails old new _ = new ≡ old

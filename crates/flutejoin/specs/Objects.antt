@@ -28,7 +28,7 @@ status_wanting info [] = Whole info.transfer_length
 status_wanting info (w ∷ ws) =
     Partial (how_many Missing (w ∷ ws)) (how_many Conflicting (w ∷ ws)) (how_many Misfit (w ∷ ws))
 
--- how much is held of an object of which something is, by what stands at the address
+-- how much is held of an object of which something is, by the value at the address
 -- of its information
 abbrev pub status_at : List Fact → Key → Option Fact → Status
 status_at F key None = NoInformation

@@ -17,7 +17,7 @@ use Rattle.flutejoin.specs.Held.{Held, Capacity, IsOver}
 use Rattle.flutejoin.specs.Steps.{held_by, held_after_step, NamesReplicas, target_of, LoadsJournal, FitsStep, EachSame, EachBelow}
 use Rattle.flutejoin.specs.Refused.{CountsRefused}
 
--- the facts stand at more than so many addresses: the rising list that is the same has more facts
+-- the facts have more than so many addresses: the rising list that is the same has more facts
 pub record IsLonger (F : List Fact) (limit : ℕ) : Type 0 where
   pub entries : List Fact
   pub rising : IsRising entries
@@ -51,7 +51,7 @@ pub record IsDone (capacity : Capacity) (before : Held) (step : Step) (now : Hel
   -- the replica changed is within its capacity
   pub within : ¬ IsOver (held_by now.contents (target_of step)) capacity
 
--- a journal's reader gives this fault at a `Load`, behind entries within the capacity,
+-- a journal's reader gives this fault at a `Load`, after entries within the capacity,
 -- or at a `Reopen`
 abbrev pub IsReadFault : Capacity → List (List Fact) → Step → ReadFault → Type 0
 IsReadFault capacity held (Load replica journal) fault =
@@ -106,7 +106,7 @@ pub record IsRefused (capacity : Capacity) (before : Held) (step : Step) (now : 
   pub refused : now.refused ≡ before.refused
   pub unchanged : IsHarmless step fault → now ≡ before
 
--- A step that takes no memory, and so succeeds: all that a `Take` or an `Add` gives stands in cells
+-- A step that takes no memory, and so succeeds: all that a `Take` or an `Add` gives is in cells
 -- that are held (a refused datagram gives nothing), or a `Merge` is of a replica into itself.
 abbrev pub NeedsNothing : List (List Fact) → Step → Type 0
 NeedsNothing held (Take replica sender datagram) =

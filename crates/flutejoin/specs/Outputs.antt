@@ -46,7 +46,7 @@ IsOutputFault capacity count steps replica NoReplica = count ≤ replica
 IsOutputFault capacity count steps replica (Save f) = replica < count
 IsOutputFault capacity count steps replica (Extract f) = replica < count
 
--- where it was the run that stopped, it stopped at a step that takes memory
+-- if it was the run that stopped, it stopped at a step that takes memory
 abbrev pub IsOutputNeed : ℕ → List Step → OutputFault → Type 0
 IsOutputNeed count steps (Run f) = StopsAtNeed count steps f
 IsOutputNeed count steps _ = ⊤
@@ -60,7 +60,7 @@ WritesAsOthers count steps r old new =
     → SameMembers (known_by count steps origins r) (known_by m others further q) → (bytes : List ℕ)
     → Journal bytes (known_by m others further q) → Appends old new bytes
 
--- how often the sink failed in a call that gave this: once, where it says so
+-- how often the sink failed in a call that gave this: once, if it says so
 abbrev pub output_failed : {T : Type 0} → Result T OutputFault → ℕ
 output_failed (Err (Save f)) = 1
 output_failed (Err (Extract extract.Write)) = 1

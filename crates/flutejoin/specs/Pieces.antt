@@ -21,7 +21,7 @@ packet_head c =
     codes "session " ++ decimal c.tsi ++ codes "\n" ++ object_words (object_named c.toi c.instance)
     ++ codes "\n" ++ info_or_none c.info ++ codes "\n" ++ symbol_head c.symbol
 
--- the words of a fact's line, and the bytes behind them
+-- the words of a fact's line, and the bytes after them
 unfoldable pub fact_head : Fact → List ℕ
 fact_head (Info key info) = key_words key ++ codes " " ++ information_words info
 fact_head (InfoConflict key) = key_words key ++ codes " info conflict"

@@ -4,7 +4,7 @@ use Rattle.flute_wire.specs.Reading.{packet}
 use Rattle.flutejoin.specs.declared.steps.Step.{Step}
 use Rattle.flutejoin.specs.declared.steps.Step.TheVariants.{Take, Load, Add, Merge, Reopen}
 
--- a datagram is refused where it spells no packet
+-- a datagram is refused if it spells no packet
 abbrev pub is_refused : List ℕ → Bool
 is_refused datagram = is_none (packet datagram)
 

@@ -88,7 +88,7 @@ pub record IsDriven (before : Held) (steps : List Step) (done : List Bool)
   -- and no more than what all steps give it
   pub most : (origins : ℕ → List Fact) → Fits steps origins
       → EachBelow now.contents (known before.contents steps origins)
-  -- where each step that was not done is followed by the same step, it has just that
+  -- if each step that was not done is followed by the same step, it has just that
   pub whole : IsRetried steps done → (origins : ℕ → List Fact) → Fits steps origins
       → EachSame (known before.contents steps origins) now.contents
   -- each refused datagram is counted, in 64 bits that stay at their greatest

@@ -53,7 +53,7 @@ ShowFails input left old new (Input number fault) =
 ShowFails input left old new CannotWrite = ShowsPart input left old new
 ShowFails input left old new _ = ⊥
 
--- how often the source failed in a command that gave this: only where an input was at fault
+-- how often the source failed in a command that gave this: only if an input was at fault
 abbrev pub FailsToRead : {T : Type 0} → ℕ → ℕ → Result T CommandFault → Type 0
 FailsToRead {T} old new (Err (Input number fault)) = Fails {T = T} old new (Err fault)
 FailsToRead old new _ = new ≡ old

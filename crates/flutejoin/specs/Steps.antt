@@ -7,11 +7,11 @@ use Rattle.flute_journal.specs.Journal.{IsJournal, IsJournalWithin}
 use Rattle.flutejoin.specs.declared.steps.Step.{Step}
 use Rattle.flutejoin.specs.declared.steps.Step.TheVariants.{Take, Load, Add, Merge, Reopen}
 
--- what replica r holds, nothing where there is no such replica
+-- what replica r holds, nothing if there is no such replica
 abbrev pub held_by : List (List Fact) → ℕ → List Fact
 held_by held r = slice_index_or held r []
 
--- the facts held once replica r was given more, where there is such a replica
+-- the facts held once replica r was given more, if there is such a replica
 abbrev pub given_to : List (List Fact) → ℕ → List Fact → List (List Fact)
 given_to held r more = slice_set held r (held_by held r ++ more)
 
@@ -49,7 +49,7 @@ LoadsJournal limit (Add replica fact) = ⊤
 LoadsJournal limit (Merge into from) = ⊤
 LoadsJournal limit (Reopen replica) = ⊤
 
--- the origin fits the step: it is a list of which a `Load` reads a journal, and it is empty where
+-- the origin fits the step: it is a list of which a `Load` reads a journal, and it is empty if
 -- that reads no journal
 abbrev pub FitsStep : Step → List Fact → Type 0
 FitsStep (Load replica journal) origin =

@@ -84,8 +84,8 @@ impl Blob {
     ///
     /// # Errors
     ///
-    /// The first that is met: `Read` where the source fails, `TooLarge` behind 4,294,967,295 bytes,
-    /// and `OutOfMemory` where there is no memory for the bytes.
+    /// The first that is met: `Read` if the source fails, `TooLarge` after 4,294,967,295 bytes,
+    /// and `OutOfMemory` if there is no memory for the bytes.
     pub fn read<R: Source>(alloc: Global, source: &mut R) -> Result<Blob, BlobFault>
         ensures bytes { IfOk result (λ blob. IfSome (R.unread source.old) (λ bytes. blob ≡ bytes)) }
         ensures end { OnOk result (IsAtEnd (R.unread source.new)) }

@@ -74,12 +74,12 @@ pub enum Line<'a> {
 ///
 /// # Errors
 ///
-/// `CommandLine` with the parser's text where that refuses the words, or where they ask for help or
+/// `CommandLine` with the parser's text if that refuses the words, or if they ask for help or
 /// the version; `BadNumber` with the first option, in the order `--tsi`, `--toi`, `--fdt`,
-/// `--length`, `--symbol`, `--block`, that is not a number of its range, or with `--tsi` where
-/// `join` has it more than 64 times; `BadSource` where `--source` is not 32 or 8 hexadecimal
-/// digits; `BadKey` where `--fdt` does not go with `--toi`; `TooManyInputs` where `join` has more
-/// than 64 inputs; `OutputIsInput` where `merge` is to write one of its inputs; and `OutOfMemory`.
+/// `--length`, `--symbol`, `--block`, that is not a number of its range, or with `--tsi` if
+/// `join` has it more than 64 times; `BadSource` if `--source` is not 32 or 8 hexadecimal
+/// digits; `BadKey` if `--fdt` does not go with `--toi`; `TooManyInputs` if `join` has more
+/// than 64 inputs; `OutputIsInput` if `merge` is to write one of its inputs; and `OutOfMemory`.
 pub fn line_of(alloc: Global, words: &[String]) -> Result<Line<'_>, CommandFault>
     ensures few { IfOk result HasFewInputs }
     ensures fault { IfErr result IsLineFault }

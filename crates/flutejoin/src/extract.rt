@@ -20,21 +20,21 @@ use std::alloc::Global;
 
 /// Writes the object that a journal of at most 16,777,216 entries makes whole, and answers how many
 /// bytes it has: its symbols in the order of the partition, without the padding of the last one.
-/// They are written as they are read, and one entry is held. Of whatever else comes to the same as
-/// the journal's facts, it is the same object that is written, and the same fault that is told.
+/// They are written as they are read, and one entry is held. Of any facts with the same values as
+/// the journal's, it is the same object that is written, and the same fault that is told.
 ///
 /// # Errors
 ///
 /// The first of these that applies, wherever in the journal it is found:
 ///
-/// - `Input` with the fault of the journal, as input 1, and `Full` where it has more sessions,
+/// - `Input` with the fault of the journal, as input 1, and `Full` if it has more sessions,
 ///   objects or symbols than a store holds, whichever is met first;
-/// - `NoObject` where nothing of the object is held, `NoInformation` where no information of it is,
-///   `ConflictingInformation` where two values of it were told: nothing was written then;
+/// - `NoObject` if nothing of the object is held, `NoInformation` if no information of it is,
+///   `ConflictingInformation` if two values of it were told: nothing was written then;
 /// - `NotWhole` with the first symbol of its partition that is not held as one fitting value;
-/// - `CannotWrite` where the sink failed: it took a first part of the object, and not all.
+/// - `CannotWrite` if the sink failed: it took a first part of the object, and not all.
 ///
-/// What was written is then a first part of the symbols that are held, and no symbol behind one
+/// What was written is then a first part of the symbols that are held, and no symbol after one
 /// that is not.
 pub fn extract_to<R: Source, W: Sink>(
     alloc: Global,

@@ -52,7 +52,7 @@ pub fn push_info(text: &mut Text, info: Option<Info>)
     }
 }
 
-/// Appends the session's sender, where it is not 0, its TSI and the name of the object.
+/// Appends the session's sender, if it is not 0, its TSI and the name of the object.
 pub fn push_key(text: &mut Text, key: &Key)
     requires { length text.old + 160 ≤ 512 }
     ensures text { text.new ≡ text.old ++ key_words key.now }

@@ -20,7 +20,7 @@ impl FirstBytes {
     ///
     /// # Errors
     ///
-    /// `Read` where the source fails, and nothing else.
+    /// `Read` if the source fails, and nothing else.
     pub fn read<R: Source>(source: &mut R) -> Result<FirstBytes, ReadFault>
         ensures begins { IfOk result (λ first. Begins (take first.count first.bytes)
             (R.unread source.old) (R.unread source.new)) }

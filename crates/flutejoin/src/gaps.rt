@@ -15,12 +15,12 @@ use flute_parts::{DeviceFault, Key, Sink};
 use flute_store::{Gap, Gaps, Shelf, Status};
 
 /// Writes how much is held of each object, in the order of their keys: a line for the object, and
-/// where some symbols are missing, in conflict or of a length that does not fit, a line for each
+/// if some symbols are missing, in conflict or of a length that does not fit, a line for each
 /// longest run of those.
 ///
 /// # Errors
 ///
-/// `CannotWrite` where the sink failed: it took a first part of the lines, and not all.
+/// `CannotWrite` if the sink failed: it took a first part of the lines, and not all.
 pub fn gaps_to<W: Sink>(shelf: &Shelf, sink: &mut W) -> Result<(), CommandFault>
     ensures printed { OnOk result
         (OfObjects shelf.now (Appends (W.written sink.old) (W.written sink.new))) }

@@ -21,7 +21,7 @@ use std::alloc::Global;
 /// What a datagram file tells.
 #[derive(Drop)]
 pub(crate) struct HeldFile {
-    /// Its facts, and how many datagrams it has. Where the facts alone are over the limits of a
+    /// Its facts, and how many datagrams it has. If the facts alone are over the limits of a
     /// store, a part of them.
     pub(crate) told: Joined,
     /// Whether all its facts are held.
@@ -102,8 +102,8 @@ fn is_of_others(sessions: &Sessions, datagram: &[u8]) -> bool
 ///
 /// # Errors
 ///
-/// `Input` with the number and the fault of the file, or where the source failed or there was no
-/// memory for a datagram; and `OutOfMemory` where there was none for its facts.
+/// `Input` with the number and the fault of the file, or if the source failed or there was no
+/// memory for a datagram; and `OutOfMemory` if there was none for its facts.
 pub(crate) fn read_file<R: Source>(
     alloc: Global,
     number: usize,

@@ -32,7 +32,7 @@ impl HexDigits {
     ///
     /// # Errors
     ///
-    /// `DeviceFault` where the sink failed: it then took a first part of the digits, and not all.
+    /// `DeviceFault` if the sink failed: it then took a first part of the digits, and not all.
     #[inline(never)]
     pub fn write<W: Sink>(&self, sink: &mut W, bytes: &[u8]) -> Result<(), DeviceFault>
         ensures digits { Writes (W.written sink.old) (W.written sink.new)

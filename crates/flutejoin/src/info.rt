@@ -26,14 +26,14 @@ use flute_parts::{Fact, Info, Key, Sink, Source};
 use std::alloc::Global;
 
 /// Writes the journal of all that a journal tells, of at most 16,777,216 entries, and the
-/// information of an object with it, and answers the number of its entries. Where the journal tells
+/// information of an object with it, and answers the number of its entries. If the journal tells
 /// other information of that object, the two are in conflict from then on. One entry is held.
 ///
 /// # Errors
 ///
-/// The first that is met: `Input` with the fault of the journal, as input 1, or `Full` where it
-/// alone has more sessions, objects or symbols than a store holds; `Full` where both together do;
-/// `CannotWrite` where the sink failed. What was written is then no journal.
+/// The first that is met: `Input` with the fault of the journal, as input 1, or `Full` if it
+/// alone has more sessions, objects or symbols than a store holds; `Full` if both together do;
+/// `CannotWrite` if the sink failed. What was written is then no journal.
 pub fn info_to<R: Source, W: Sink>(
     alloc: Global,
     source: &mut R,

@@ -59,9 +59,9 @@ impl Inspected {
 ///
 /// # Errors
 ///
-/// Of the first input, numbered from 1, that has a fault: `UnknownKind` where it is neither;
-/// `Input` with the fault of a datagram file, or where its source failed or there was no memory
-/// for a datagram. `OutOfMemory` where there was none for what it tells.
+/// Of the first input, numbered from 1, that has a fault: `UnknownKind` if it is neither;
+/// `Input` with the fault of a datagram file, or if its source failed or there was no memory
+/// for a datagram. `OutOfMemory` if there was none for what it tells.
 pub(crate) fn inspect_all<R: Source>(
     alloc: Global,
     sender: Sender,

@@ -1,4 +1,4 @@
-//! What the inputs of several stations come to.
+//! What the inputs of several stations tell together.
 ghost use Rattle.std.specs.Prelude.{◌≡◌, ◌≤◌, ◌<◌, ◌+◌, ◌^◌, [], ◌++◌, OnOk, OnErr, IfErr};
 ghost use Rattle.flute_wire.specs.Reading.{facts};
 ghost use Rattle.flutejoin.specs.Joined.{TakesDatagram, StoreFails};
@@ -9,7 +9,7 @@ use flute_store::{Shelf, Store, TakeFault};
 use flute_wire::one_reading;
 use std::alloc::Global;
 
-/// What inputs come to together.
+/// What inputs tell together.
 #[derive(Debug, Drop)]
 pub struct Joined {
     /// The facts of all of them.
@@ -21,7 +21,7 @@ pub struct Joined {
 }
 
 impl Joined {
-    // What no input comes to.
+    // What no inputs tell.
     pub(crate) fn new(alloc: Global) -> Joined
         ensures store { result.store ≡ [] }
         ensures datagrams { result.datagrams ≡ 0 }

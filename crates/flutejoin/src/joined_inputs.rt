@@ -39,15 +39,15 @@ use std::alloc::Global;
 ///
 /// Inputs are numbered from 1. The first that is met:
 ///
-/// - first, input by input: `UnknownKind` where it is neither; `Input` with the fault of a datagram
-///   file, which may have at most 16,777,216 records, or with `Read` where its source fails;
+/// - first, input by input: `UnknownKind` if it is neither; `Input` with the fault of a datagram
+///   file, which may have at most 16,777,216 records, or with `Read` if its source fails;
 /// - then, input by input: `Input` with the fault of a journal, which may have at most 16,777,216
-///   entries, or with `Read` where its source fails, and `Full` where the input alone has more
+///   entries, or with `Read` if its source fails, and `Full` if the input alone has more
 ///   sessions, objects or symbols than a store holds;
-/// - then `Full` where all of them together do;
-/// - last, `CannotWrite` where the sink failed. The inputs are read to their ends all the same.
+/// - then `Full` if all of them together do;
+/// - last, `CannotWrite` if the sink failed. The inputs are read to their ends all the same.
 ///
-/// `OutOfMemory`, or `Input` with it, where a request for memory was refused. What was written is
+/// `OutOfMemory`, or `Input` with it, if a request for memory was refused. What was written is
 /// then no journal. The inputs were read in part, and are of no further use.
 pub fn join_to<R: Source, W: Sink>(
     alloc: Global,

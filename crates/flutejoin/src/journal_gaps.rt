@@ -15,16 +15,16 @@ use flute_parts::{Sink, Source, Tally};
 use std::alloc::Global;
 
 /// Writes how much is held of each object of the journal that the source gives, of at most
-/// 16,777,216 entries, in the order of their keys: a line for the object, and where some symbols
+/// 16,777,216 entries, in the order of their keys: a line for the object, and if some symbols
 /// are missing, in conflict or of a length that does not fit, a line for each longest run of those.
 /// One entry is held, and the lines, which are written once the whole journal was read.
 ///
 /// # Errors
 ///
-/// The first that is met: `Input` with the fault of the journal, as input 1, or where the source
-/// failed or there was no memory for a symbol; `Full` where its entries are over the limits of a
-/// store; `OutOfMemory` where there was none for the lines. Nothing was written then. `CannotWrite`
-/// where the sink failed: it took a first part of the lines, and not all.
+/// The first that is met: `Input` with the fault of the journal, as input 1, or if the source
+/// failed or there was no memory for a symbol; `Full` if its entries are over the limits of a
+/// store; `OutOfMemory` if there was none for the lines. Nothing was written then. `CannotWrite`
+/// if the sink failed: it took a first part of the lines, and not all.
 pub fn gaps_from<R: Source, W: Sink>(
     alloc: Global,
     source: &mut R,

@@ -15,7 +15,7 @@ ghost use Rattle.flutejoin.specs.Laws.{GivenTheSame};
 ghost use Rattle.flutejoin.specs.declared.limits.TheConstants.{MAX_ENTRIES};
 ghost use Rattle.flutejoin.specs.declared.steps.Step.{Step as Doing};
 
-/// Replicas that were given the same facts come to the same at each address, whatever the order,
+/// Replicas that were given the same facts have the same value at each address, whatever the order,
 /// the repeats, the merges and the journals between. So they have one journal, and the same whole
 /// objects with the same bytes and gaps.
 pub fn the_same_facts_make_the_same()
@@ -32,7 +32,7 @@ pub fn the_same_facts_make_the_same()
         → gaps F key info ≡ gaps G key info }
 {}
 
-/// Replicas of runs that succeeded are such replicas, where what they were given
+/// Replicas of runs that succeeded are such replicas, if what they were given
 /// has the same members.
 pub fn runs_leave_what_was_given()
     ensures { (n m : ℕ) (steps others : List Doing) (origins further : ℕ → List Known)
@@ -47,7 +47,7 @@ pub fn equal_journals_mean_one_content()
     ensures { (F G : List Known) (bs : List ℕ) → IsJournal bs F → IsJournal bs G → Same F G }
 {}
 
-/// What is read of the journal of some facts comes to the same as any facts with the same members.
+/// What is read of the journal of some facts has the values of any facts with the same members.
 /// So `extract_to` writes the same of the journal of any inputs that tell these facts.
 pub fn a_journal_is_read_as_what_was_joined()
     ensures { (held joined others : List Known) (bs : List ℕ) → IsJournalOf MAX_ENTRIES bs held

@@ -21,7 +21,7 @@ use std::alloc::{AllocError, Global};
 pub struct Listing {
     /// The lines of the objects before the open one.
     pub lines: Vec<u8>,
-    /// The lines of the gaps of the open object that were found. They stand behind the line of its
+    /// The lines of the gaps of the open object that were found. They follow the line of its
     /// status, which is known when all its facts came.
     pub gap_lines: Vec<u8>,
     /// The object of the last fact.
@@ -55,11 +55,11 @@ impl Listing {
         }
     }
 
-    /// Takes the next fact, which stands after those that came before.
+    /// Takes the next fact, which is after those that came before.
     ///
     /// # Errors
     ///
-    /// Where there is no memory for the lines. They are of no use then.
+    /// If there is no memory for the lines. They are of no use then.
     #[inline(always)]
     pub fn add(&mut self, fact: &Fact) -> Result<(), AllocError>
         ensures { (F : List Fact) → IsRising (F ++ fact.now ∷ []) → Lists F self.old
@@ -78,7 +78,7 @@ impl Listing {
         }
     }
 
-    // Takes a symbol with its one value, or None where two were told.
+    // Takes a symbol with its one value, or None if two were told.
     #[inline(always)]
     fn add_symbol(
         &mut self,
@@ -129,7 +129,7 @@ impl Listing {
     ///
     /// # Errors
     ///
-    /// Where there is no memory for them.
+    /// If there is no memory for them.
     pub fn finish(mut self) -> Result<Vec<u8>, AllocError>
         ensures { (F : List Fact) → IsRising F → Lists F self
             → IfOk result (λ lines. AreListed F lines.items) }
@@ -176,7 +176,7 @@ fn end_object(state: ObjectState, gap_lines: &mut Vec<u8>) -> Result<Status, All
     }
 }
 
-// Passes the next symbol, or the end where none is left, and appends the lines of the gaps before.
+// Passes the next symbol, or the end if none is left, and appends the lines of the gaps before.
 #[inline(always)]
 fn pass(
     scan: &mut ObjectScan,

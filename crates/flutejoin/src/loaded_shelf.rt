@@ -17,10 +17,10 @@ use std::alloc::Global;
 ///
 /// # Errors
 ///
-/// The first that is met: `Input` with the fault of the journal, or where the source failed or
+/// The first that is met: `Input` with the fault of the journal, or if the source failed or
 /// there was no memory for a symbol, and the entries before it are within the limits of the store;
-/// `Full` where an entry needs a new session, object or symbol beyond the limits of the store;
-/// `OutOfMemory` where the store found none for an entry.
+/// `Full` if an entry needs a new session, object or symbol beyond the limits of the store;
+/// `OutOfMemory` if the store found none for an entry.
 pub fn load<R: Source>(alloc: Global, source: &mut R) -> Result<Shelf, CommandFault>
     ensures journal { IfOk result (λ shelf. IfSome (R.unread source.old)
         (λ bytes. IsJournalOf MAX_ENTRIES bytes shelf)) }

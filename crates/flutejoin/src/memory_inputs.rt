@@ -15,9 +15,9 @@ use flute_journal::{ReadFault, Sessions, read_store};
 use flute_parts::{MemorySink, MemorySource, Sender, Sink};
 use std::alloc::Global;
 
-/// What all the inputs come to together, each a journal or a datagram file, as [`join_to`] joins
+/// What all the inputs tell together, each a journal or a datagram file, as [`join_to`] joins
 /// them: into a journal in memory, which is then read into a store. There may be up to 64, and none
-/// comes to the empty store.
+/// gives the empty store.
 ///
 /// # Errors
 ///

@@ -16,7 +16,7 @@ use std::alloc::Global;
 ///
 /// # Errors
 ///
-/// `Input` with the number of the journal, 1 or 2, and its fault; `CannotWrite` where the sink
+/// `Input` with the number of the journal, 1 or 2, and its fault; `CannotWrite` if the sink
 /// failed. What was written is then no journal.
 pub fn merge_to<A: Source, B: Source, W: Sink>(
     alloc: Global,

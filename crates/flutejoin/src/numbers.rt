@@ -21,7 +21,7 @@ impl KeyNumbers {
     ///
     /// # Errors
     ///
-    /// `BadKey` where the TOI is 0 and no FDT Instance is named, or is another and one is.
+    /// `BadKey` if the TOI is 0 and no FDT Instance is named, or is another and one is.
     pub fn key(&self, sender: Sender) -> Result<Key, CommandFault>
         ensures { IfErr result IsLineFault }
     {
@@ -57,11 +57,11 @@ pub fn key_numbers(matches: &ArgMatches<'_>) -> Result<KeyNumbers, CommandFault>
     Ok(KeyNumbers { tsi, toi, instance })
 }
 
-/// The sessions of `--tsi`, or all where it is left out.
+/// The sessions of `--tsi`, or all if it is left out.
 ///
 /// # Errors
 ///
-/// `BadNumber` where one of its numbers is not below 2^48, or where there are more than 64.
+/// `BadNumber` if one of its numbers is not below 2^48, or if there are more than 64.
 pub fn sessions(matches: &ArgMatches<'_>) -> Result<Sessions, CommandFault>
     ensures { IfErr result IsLineFault }
 {
@@ -78,11 +78,11 @@ pub fn sessions(matches: &ArgMatches<'_>) -> Result<Sessions, CommandFault>
     Ok(sessions)
 }
 
-/// The sender of `--source`, or 0 where that is left out.
+/// The sender of `--source`, or 0 if that is left out.
 ///
 /// # Errors
 ///
-/// `BadSource` where it is not 32 or 8 hexadecimal digits.
+/// `BadSource` if it is not 32 or 8 hexadecimal digits.
 pub fn source(matches: &ArgMatches<'_>) -> Result<Sender, CommandFault>
     ensures { IfErr result IsLineFault }
 {
@@ -96,7 +96,7 @@ pub fn source(matches: &ArgMatches<'_>) -> Result<Sender, CommandFault>
 ///
 /// # Errors
 ///
-/// `BadNumber` where it is not 1 to 39 decimal digits, or not below the limit.
+/// `BadNumber` if it is not 1 to 39 decimal digits, or not below the limit.
 pub fn number_below(
     matches: &ArgMatches<'_>,
     name: &'static str,
@@ -111,7 +111,7 @@ pub fn number_below(
     }
 }
 
-// The number that 1 to 39 decimal digits spell, where it is below 2^128.
+// The number that 1 to 39 decimal digits spell, if it is below 2^128.
 fn decimal(text: &str) -> Option<u128> {
     if text.len() > 39 || !text.bytes().all(|byte| byte.is_ascii_digit()) {
         return None;

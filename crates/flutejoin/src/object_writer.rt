@@ -132,7 +132,7 @@ impl ObjectWriter {
         }
     }
 
-    // Takes its next symbol, with its one value, or None where two were told.
+    // Takes its next symbol, with its one value, or None if two were told.
     #[inline(always)]
     fn symbol<W: Sink>(&mut self, id: SymbolId, value: Option<&[u8]>, sink: &mut W)
         ensures passed { (P : List Known) (start : Option (List ℕ))
@@ -157,13 +157,12 @@ impl ObjectWriter {
         }
     }
 
-    /// Answers how many bytes the object has, once all facts passed and where it is whole and was
-    /// written.
+    /// Answers how many bytes the object has, once all facts passed, if it is whole and written.
     ///
     /// # Errors
     ///
     /// `NoObject`, `NoInformation`, `ConflictingInformation` or `NotWhole`, as said of the command;
-    /// else `CannotWrite` where the sink has failed.
+    /// else `CannotWrite` if the sink has failed.
     pub fn end(&mut self) -> Result<u64, CommandFault>
         ensures extracts { (P : List Known) (start now : Option (List ℕ)) → IsRising P
             → Stands P self.old start now → Extracts (λ x. x) P self.old.key start now result }
@@ -201,7 +200,7 @@ impl WholeSoFar {
         }
     }
 
-    // Takes the next symbol, and writes it where it is the next of the partition. The first symbol
+    // Takes the next symbol, and writes it if it is the next of the partition. The first symbol
     // that is not held as one fitting value, if that is known now.
     #[inline(always)]
     fn symbol<W: Sink>(
@@ -235,7 +234,7 @@ impl WholeSoFar {
         }
     }
 
-    // The first symbol that is not held as one fitting value, where no symbol is left.
+    // The first symbol that is not held as one fitting value, if no symbol is left.
     fn end(&mut self) -> Option<SymbolId>
         ensures ended { (P : List Known) (key : Name) (failed : Bool) (start now : Option (List ℕ))
             → IsRising P → Scanning P key failed start now self.old
@@ -252,7 +251,7 @@ impl WholeSoFar {
     }
 }
 
-// Writes the first `left` of the bytes, or all of them where there are no more, unless the sink has
+// Writes the first `left` of the bytes, or all of them if there are no more, unless the sink has
 // failed.
 #[inline(always)]
 fn write_first<W: Sink>(bytes: &[u8], left: &mut u64, failed: &mut bool, sink: &mut W)
@@ -269,7 +268,7 @@ fn write_first<W: Sink>(bytes: &[u8], left: &mut u64, failed: &mut bool, sink: &
     }
 }
 
-// The first `len` of the bytes, or all of them where there are no more.
+// The first `len` of the bytes, or all of them if there are no more.
 #[inline(always)]
 fn up_to(bytes: &[u8], len: u64) -> &[u8]
     ensures { result.now ≡ take len bytes.now }

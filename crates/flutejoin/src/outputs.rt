@@ -38,8 +38,8 @@ pub enum OutputFault {
 ///
 /// # Errors
 ///
-/// `Run` with the fault of [`run`], and else `NoReplica` exactly where the replica is not there:
-/// nothing was written then. `Save` where the sink failed: it then took a first part of the
+/// `Run` with the fault of [`run`], and else `NoReplica` exactly if the replica is not there:
+/// nothing was written then. `Save` if the sink failed: it then took a first part of the
 /// journal, and not all.
 pub fn journal_after<const SESSIONS: u32, const OBJECTS: u32, const SYMBOLS: u32, W: Sink>(
     alloc: Global,
@@ -79,7 +79,7 @@ pub fn journal_after<const SESSIONS: u32, const OBJECTS: u32, const SYMBOLS: u32
 ///
 /// # Errors
 ///
-/// `Run` with the fault of [`run`], and else `NoReplica` exactly where the replica is not there:
+/// `Run` with the fault of [`run`], and else `NoReplica` exactly if the replica is not there:
 /// nothing was written then. `Extract` with the fault of
 /// [`Store::extract`](flute_store::Store::extract), and what that leaves written.
 pub fn object_after<const SESSIONS: u32, const OBJECTS: u32, const SYMBOLS: u32, W: Sink>(

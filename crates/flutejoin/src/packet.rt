@@ -21,8 +21,8 @@ use std::alloc::Global;
 ///
 /// # Errors
 ///
-/// `BadHex` where `text` is not an even number of hexadecimal digits, `Refused` where the datagram
-/// is refused, and `OutOfMemory`: nothing was written then. `CannotWrite` where the sink failed: it
+/// `BadHex` if `text` is not an even number of hexadecimal digits, `Refused` if the datagram
+/// is refused, and `OutOfMemory`: nothing was written then. `CannotWrite` if the sink failed: it
 /// took a first part of the lines, and not all.
 pub fn packet_to<W: Sink>(alloc: Global, text: &str, sink: &mut W) -> Result<(), CommandFault>
     ensures printed { OnOk result

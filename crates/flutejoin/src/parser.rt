@@ -3,7 +3,7 @@
 use clap::{Arg, ArgAction, Command};
 use std::alloc::Global;
 
-/// What journals are read and written, behind the number that `--version` tells.
+/// What journals are read and written, after the number that `--version` tells.
 const VERSION: &str = "\
 0.1.0
 Journals of versions 1 and 2 are read, and those of version 2 written.";
@@ -273,7 +273,7 @@ fn number<'a>(alloc: Global, name: &'a str) -> Arg<'a> {
     value(alloc, name, "N")
 }
 
-// An option with a value, which is inspected later: also where it begins with a hyphen.
+// An option with a value, which is inspected later: also if it begins with a hyphen.
 fn value<'a>(alloc: Global, name: &'a str, value_name: &'a str) -> Arg<'a> {
     Arg::new(alloc, name)
         .long(name)

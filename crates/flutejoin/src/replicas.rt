@@ -104,7 +104,7 @@ impl<const SESSIONS: u32, const OBJECTS: u32, const SYMBOLS: u32> Replicas<
     ///
     /// # Errors
     ///
-    /// `OutOfMemory` where there is no memory for their list, and nothing else.
+    /// `OutOfMemory` if there is no memory for their list, and nothing else.
     pub fn new(alloc: Global, count: u32) -> Result<Self, JoinRefusal>
         ensures empty { IfOk result (λ r. r ≡ new_held count) }
         ensures fault { IfErr result (λ e. e ≡ refusals.OutOfMemory) }
@@ -129,7 +129,7 @@ impl<const SESSIONS: u32, const OBJECTS: u32, const SYMBOLS: u32> Replicas<
         self.replicas.len() as u32
     }
 
-    /// The store of a replica, None where it is not there.
+    /// The store of a replica, None if it is not there.
     pub fn store(&self, replica: u32) -> Option<&Store<SESSIONS, OBJECTS, SYMBOLS>>
         ensures { MatchOption result (length self.now.contents ≤ replica)
             (λ s. (replica < length self.now.contents)
@@ -139,7 +139,7 @@ impl<const SESSIONS: u32, const OBJECTS: u32, const SYMBOLS: u32> Replicas<
         Some(&held.store)
     }
 
-    /// How many datagrams were refused to a replica, None where it is not there. It stays at
+    /// How many datagrams were refused to a replica, None if it is not there. It stays at
     /// the greatest number.
     pub fn refused(&self, replica: u32) -> Option<u64>
         ensures { MatchOption result (length self.now.contents ≤ replica)
@@ -257,13 +257,13 @@ impl<const SESSIONS: u32, const OBJECTS: u32, const SYMBOLS: u32> Replicas<
     ///
     /// # Errors
     ///
-    /// - `NoReplica` where the step names a replica that is not there.
-    /// - `Journal` with the first fault of a journal that a `Load` reads, behind entries within
-    ///   the limits, and with `TooMany` where a `Reopen` is of a replica at more than
+    /// - `NoReplica` if the step names a replica that is not there.
+    /// - `Journal` with the first fault of a journal that a `Load` reads, after entries within
+    ///   the limits, and with `TooMany` if a `Reopen` is of a replica at more than
     ///   16,777,216 addresses.
-    /// - `Full` where the facts that the step gives pass the limits, or the entries do that a
+    /// - `Full` if the facts that the step gives pass the limits, or the entries do that a
     ///   `Load` begins with.
-    /// - `OutOfMemory` where a request for memory was refused.
+    /// - `OutOfMemory` if a request for memory was refused.
     ///
     /// A refused step leaves all replicas unchanged. Only a `Load` or a `Merge` that is refused
     /// by `Full` or `OutOfMemory` may leave a part of what it gives with its replica: no fact
@@ -293,7 +293,7 @@ impl<const SESSIONS: u32, const OBJECTS: u32, const SYMBOLS: u32> Replicas<
     /// Does all the steps in turn, refused or not. `done` tells of each whether it succeeded.
     ///
     /// Each replica then has at least what the steps that succeeded gave it, and nothing but
-    /// what all the steps give. Where each refused step is followed directly by the same
+    /// what all the steps give. If each refused step is followed directly by the same
     /// step, it has just that.
     pub fn drive(&mut self, alloc: Global, steps: &[Step], done: &mut [bool])
         requires aligned { length steps.now ≡ length done.old }

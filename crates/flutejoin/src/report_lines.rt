@@ -17,7 +17,7 @@ use std::alloc::AllocError;
 ///
 /// # Errors
 ///
-/// `DeviceFault` where the sink failed: it then took a first part of the line, and not all.
+/// `DeviceFault` if the sink failed: it then took a first part of the line, and not all.
 pub fn write_words<W: Sink>(sink: &mut W, mut words: Text) -> Result<(), DeviceFault>
     requires { length words + 1 ≤ 512 }
     ensures line { Writes (W.written sink.old) (W.written sink.new) (line words) result }
@@ -31,7 +31,7 @@ pub fn write_words<W: Sink>(sink: &mut W, mut words: Text) -> Result<(), DeviceF
 ///
 /// # Errors
 ///
-/// `DeviceFault` where the sink failed: it then took a first part of the line, and not all.
+/// `DeviceFault` if the sink failed: it then took a first part of the line, and not all.
 pub fn write_line<W: Sink>(
     sink: &mut W,
     digits: &HexDigits,
@@ -51,7 +51,7 @@ pub fn write_line<W: Sink>(
 ///
 /// # Errors
 ///
-/// `DeviceFault` where the sink failed: it then took a first part of the line, and not all.
+/// `DeviceFault` if the sink failed: it then took a first part of the line, and not all.
 pub fn write_count<W: Sink>(sink: &mut W, word: &str, count: u64) -> Result<(), DeviceFault>
     requires { length word.now ≤ 100 }
     ensures line { Writes (W.written sink.old) (W.written sink.new)
@@ -69,7 +69,7 @@ pub fn write_count<W: Sink>(sink: &mut W, word: &str, count: u64) -> Result<(), 
 ///
 /// # Errors
 ///
-/// `CannotWrite` where the sink failed: it took a first part of the line, and not all.
+/// `CannotWrite` if the sink failed: it took a first part of the line, and not all.
 pub fn count_to<W: Sink>(word: &str, count: u64, sink: &mut W) -> Result<(), CommandFault>
     requires { length word.now ≤ 100 }
     ensures printed { OnOk result
@@ -88,7 +88,7 @@ pub fn count_to<W: Sink>(word: &str, count: u64, sink: &mut W) -> Result<(), Com
 ///
 /// # Errors
 ///
-/// Where there is no memory for it. The lines are as before then.
+/// If there is no memory for it. The lines are as before then.
 pub fn push_line(lines: &mut Vec<u8>, mut words: Text) -> Result<(), AllocError>
     requires { length words + 1 ≤ 512 }
     ensures line { lines.new.items

@@ -23,7 +23,7 @@ pub enum RunFault {
 ///
 /// # Errors
 ///
-/// `Start` where there is no memory for the replicas, and `At` with the number of the first step
+/// `Start` if there is no memory for the replicas, and `At` with the number of the first step
 /// that was refused. No step before it has a cause for a fault, and no run stops at a step that
 /// takes no memory: a `Take` or an `Add` of what is held already, a `Take` of a refused datagram,
 /// or a `Merge` of a replica into itself. Nothing is handed out then.

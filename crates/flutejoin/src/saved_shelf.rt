@@ -16,7 +16,7 @@ use flute_store::Shelf;
 ///
 /// # Errors
 ///
-/// `CannotWrite` where the sink failed: it took a first part of the journal, and not all.
+/// `CannotWrite` if the sink failed: it took a first part of the journal, and not all.
 pub fn save_to<W: Sink>(shelf: &Shelf, sink: &mut W) -> Result<u64, CommandFault>
     ensures written { OnOk result
         (Appends (W.written sink.old) (W.written sink.new) (spelling shelf.now)) }

@@ -23,7 +23,7 @@ pub fn sender_of(text: &str) -> Option<Sender>
     }
 }
 
-/// Appends `source`, the 32 digits of the sender's address and a space; nothing where it is 0.
+/// Appends `source`, the 32 digits of the sender's address and a space; nothing if it is 0.
 pub fn push_source(text: &mut Text, sender: Sender)
     requires { length text.old + 40 ≤ 512 }
     ensures text { text.new ≡ text.old ++ source_words sender }

@@ -19,8 +19,8 @@ use std::alloc::Global;
 ///
 /// # Errors
 ///
-/// `BadInformation` where the length of the content and the two numbers are no transmission
-/// information; `CannotSend` where a datagram cannot be written, with the reason of the
+/// `BadInformation` if the length of the content and the two numbers are no transmission
+/// information; `CannotSend` if a datagram cannot be written, with the reason of the
 /// first; and `OutOfMemory`.
 pub fn datagrams_of(
     alloc: Global,
@@ -48,7 +48,7 @@ pub fn datagrams_of(
 ///
 /// # Errors
 ///
-/// `CannotWrite` where the sink failed: it took a first part of the file, and not all.
+/// `CannotWrite` if the sink failed: it took a first part of the file, and not all.
 pub fn send_to<W: Sink>(datagrams: &Datagrams, sink: &mut W) -> Result<u64, CommandFault>
     ensures written { OnOk result (Appends (W.written sink.old) (W.written sink.new)
         (file_header ++ flat_map record_of datagrams.now)) }

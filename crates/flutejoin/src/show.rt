@@ -21,9 +21,9 @@ use std::alloc::Global;
 ///
 /// # Errors
 ///
-/// `Input` with the fault of the journal, or where the source failed or there was no memory for a
+/// `Input` with the fault of the journal, or if the source failed or there was no memory for a
 /// symbol: the lines of the entries that were read before it were written, and no more.
-/// `CannotWrite` where the sink failed: it took a first part of the lines of the entries that
+/// `CannotWrite` if the sink failed: it took a first part of the lines of the entries that
 /// were read, and not all.
 pub fn show_to<R: Source, W: Sink>(
     alloc: Global,

@@ -40,10 +40,10 @@ impl Read for Reader {
 #[derive(Drop)]
 pub struct OpenInput {
     pub source: Input,
-    /// How many bytes it has, where the system knows that. Of standard input
+    /// How many bytes it has, if the system knows that. Of standard input
     /// some may have been read.
     pub size: Option<u64>,
-    /// Which file it is, where the system tells.
+    /// Which file it is, if the system tells.
     pub file: Option<FileId>,
 }
 

@@ -116,7 +116,7 @@ fn gaps(rt: &HostRuntime, j: &str) -> Result<(), CommandFault> {
 }
 
 /// Writes the object to an output that is created once the input is open, and before it is read,
-/// where it becomes OUT whole or not at all.
+/// if it becomes OUT whole or not at all.
 fn extract(rt: &HostRuntime, out: &str, key: &Key, j: &str) -> Result<(), CommandFault> {
     let mut input = open_input(rt, 1, j)?;
     let file = files_of(rt, &input)?;
@@ -176,7 +176,7 @@ fn extract_held(
     tell_count(rt, report, "bytes", bytes)
 }
 
-/// Creates the output once the input is open, and before it is read. Where that cannot be,
+/// Creates the output once the input is open, and before it is read. If that cannot be,
 /// the input's fault is told first.
 fn add_information(
     rt: &HostRuntime,
@@ -200,7 +200,7 @@ fn add_information(
 }
 
 /// Creates the output once all inputs are open and their first bytes were read, and before they are
-/// read further. Where that cannot be, a fault of the inputs is told first.
+/// read further. If that cannot be, a fault of the inputs is told first.
 fn join(
     rt: &HostRuntime,
     out: &str,

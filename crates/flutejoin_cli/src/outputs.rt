@@ -52,7 +52,7 @@ pub fn create_output<'a>(
     create_in(folder_at(rt, path, inputs)?)
 }
 
-/// Ends the output after the work that wrote it: it is kept where that was done, and
+/// Ends the output after the work that wrote it: it is kept if that was done, and
 /// dropped after a fault.
 pub fn finish<T: Drop>(
     output: OutputFile<'_>,
@@ -75,7 +75,7 @@ pub fn standard_output(rt: &HostRuntime) -> Result<Lines<'_>, CommandFault> {
     Ok(StdSink::new(writer))
 }
 
-/// What stands for an output that could not be created, where the inputs are read all the same.
+/// What stands for an output that could not be created, while the inputs are read all the same.
 pub fn nothing() -> StdSink<Nothing> {
     StdSink::new(io::sink())
 }

@@ -1,5 +1,5 @@
 //! From bytes to what they say. Every function takes the bytes that were read: all that its part
-//! needs, or fewer where the input ends.
+//! needs, or fewer at the end of the input.
 ghost use Rattle.std.specs.Prelude.{◌≡◌, ◌<◌, ◌≤◌, ◌++◌, IfSome, IsTrue, MatchOption, MatchResult, length, true, false, Some};
 ghost use Rattle.flute_parts.specs.Information.{info_fault};
 ghost use Rattle.flute_journal.specs.Numbers.{in_bytes};
@@ -59,7 +59,7 @@ pub fn check_header(bytes: &[u8]) -> Result<Version, ReadFault>
     Version::from_bytes(rest).ok_or(ReadFault::Version)
 }
 
-/// Looks at what stands behind the byte 255 of a journal of so many entries, and at one byte
+/// Looks at what follows the byte 255 of a journal of so many entries, and at one byte
 /// more if there is one.
 #[tactic(auto, using(crate::proofs::Decoded::end_read, crate::proofs::Numbers::octets))]
 pub fn check_end(count: u64, bytes: &[u8]) -> Result<(), ReadFault>
@@ -78,7 +78,7 @@ pub fn check_end(count: u64, bytes: &[u8]) -> Result<(), ReadFault>
     Ok(())
 }
 
-/// What stands behind the kind of an entry, up to the bytes of a symbol. The entry
+/// What follows the kind of an entry, up to the bytes of a symbol. The entry
 /// before it is at `last`.
 pub fn parse(
     version: Version,
@@ -107,8 +107,8 @@ pub fn parse(
     }
 }
 
-/// What stands behind the kind of the entry of a symbol, up to its bytes: its key, its id and how
-/// many bytes follow. The entry before it is at `last`. None where there is a fault.
+/// What follows the kind of the entry of a symbol, up to its bytes: its key, its id and how
+/// many bytes follow. The entry before it is at `last`. None if there is a fault.
 #[inline(always)]
 pub fn symbol_in(
     version: Version,
@@ -168,8 +168,8 @@ fn named_in(sender: Sender, bytes: &[u8]) -> Option<Key>
     Some(Key { session, object })
 }
 
-// Whether a part of the object stands after the entry before. It is never inlined: where a reader
-// is inlined too, the key that it looks at would be kept in memory twice.
+// Whether a part of the object is after the entry before. It is never inlined: if a reader is
+// inlined too, the key that it looks at would be kept in memory twice.
 #[inline(never)]
 fn in_order(last: &Option<Address>, key: &Key, part: Part) -> Result<(), ReadFault>
     ensures { MatchResult result
@@ -196,7 +196,7 @@ fn is_after(last: &Option<Address>, key: &Key, part: Part) -> bool
     }
 }
 
-// What stands behind the key of an entry of information.
+// What follows the key of an entry of information.
 #[tactic(auto, using(crate::proofs::Decoded::info_read, crate::proofs::Numbers::octets))]
 fn information_at(last: &Option<Address>, key: Key, bytes: &[u8]) -> Result<EntryHead, ReadFault>
     requires key { IsKey key }
@@ -227,7 +227,7 @@ fn info_in(bytes: &[u8]) -> Result<Info, InfoFault>
     Info::new(length, symbol, block)
 }
 
-// What stands behind the key of an entry of an information conflict.
+// What follows the key of an entry of an information conflict.
 fn information_conflict_at(
     last: &Option<Address>,
     key: Key,
@@ -242,7 +242,7 @@ fn information_conflict_at(
     Ok(EntryHead::Whole(Fact::InfoConflict { key }))
 }
 
-// The id and the number of the bytes of a symbol, which stand behind the key of its entry.
+// The id and the number of the bytes of a symbol, which follow the key of its entry.
 #[tactic(auto, using(crate::proofs::Decoded::symbol_faults))]
 #[inline(always)]
 fn symbol_at(last: &Option<Address>, key: &Key, bytes: &[u8]) -> Result<(SymbolId, u16), ReadFault>
@@ -258,7 +258,7 @@ fn symbol_at(last: &Option<Address>, key: &Key, bytes: &[u8]) -> Result<(SymbolI
     Ok((id, length))
 }
 
-// What stands behind the key of an entry of a symbol conflict.
+// What follows the key of an entry of a symbol conflict.
 fn symbol_conflict_at(
     last: &Option<Address>,
     key: Key,

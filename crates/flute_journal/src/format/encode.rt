@@ -18,7 +18,7 @@ use flute_parts::{FactRef, Info, Key, SymbolId};
 /// The front of an entry, up to the bytes of a symbol.
 pub type HeadBytes = ArrayVec<u8, 50>;
 
-/// Puts the front of an entry where nothing is yet.
+/// Puts the front of an entry into `head`, which is empty.
 #[inline(always)]
 pub fn put_head(head: &mut HeadBytes, fact: &FactRef<'_>)
     requires empty { head.old.items ≡ [] }

@@ -8,12 +8,12 @@ ghost use Rattle.flute_journal.specs.Faults.{is_version};
 pub enum Version {
     /// They don't, and each sender is 0. Such journals are read, and no longer written.
     One,
-    /// Each entry has its sender behind its kind.
+    /// Each entry has its sender after its kind.
     Two,
 }
 
 impl Version {
-    /// The version that these two bytes of a header tell. None where they tell none.
+    /// The version that these two bytes of a header tell. None if they tell none.
     pub fn from_bytes(bytes: &[u8]) -> Option<Version>
         requires { length bytes.now ≡ 2 }
         ensures { MatchOption result (is_version bytes.now ≡ false)
