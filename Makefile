@@ -1,16 +1,27 @@
 # make               proves what changed, builds the program and leaves it at bin/flutejoin
-# make test          the whole gate: every proof from nothing, the wrong bodies, the tests, the trials, the
-#                    program, the tools, the sessions of README, of docs/OPERATING.md, the man pages and the
-#                    tutorial, the completion, the longest journal, and memory refused in turn
+# make test          the whole gate: every proof from nothing, the wrong bodies, the tests, the
+#                    trials, the program, the tools, the sessions of README, of docs/OPERATING.md,
+#                    the man pages and the tutorial, the completion, the longest journal, and memory
+#                    refused in turn
 # make wrong-bodies  all wrong bodies, also second ones of a function, which the gate leaves out
-# make try           reads a first packet with the program as it stands, in about a minute and with nothing proved
-# make example       runs a small session: a file sent, received at three stations, joined and written
-# make install       copies the program to $(PREFIX)/bin, and the tools of the network and of pictures beside it; man pages, the
-#                    completion for bash and the examples of the tutorial and of many stations to $(PREFIX)/share
+# make try           reads a first packet with the program as it stands, in about a minute and with
+#                    nothing proved
+# make example       runs a small session: a file sent, received at three stations, joined and
+#                    written
+# make install       copies the program to $(PREFIX)/bin, and the tools of the network and of
+#                    pictures beside it; man pages, the completion for bash and the examples of the
+#                    tutorial and of many stations to $(PREFIX)/share
 
 PREFIX ?= /usr/local
 # They find their modules beside themselves, so bin has links to them.
 TOOLS := flutejoin-capture flutejoin-map flutejoin-mend flutejoin-receive
+
+# What `rt ci` leaves: the program, and the sweep through refused requests for memory
+BUILT := crates/flutejoin_cli/out/flutejoin_cli
+SWEEP := crates/refused_memory/out/refused_memory
+
+COMPLETIONS = $(DESTDIR)$(PREFIX)/share/bash-completion/completions
+EXAMPLES = $(DESTDIR)$(PREFIX)/share/flutejoin/examples
 
 SOURCES := crates.txt $(shell find crates -name out -prune -o -type f -print)
 
@@ -21,20 +32,20 @@ test:
 	rt ci
 	$(MAKE) --no-print-directory --jobs=2 --output-sync test-wrong-bodies test-trials
 	tests/wrong_bodies.sh
-	tests/program.sh crates/flutejoin_cli/out/flutejoin_cli
-	tests/outputs.sh crates/flutejoin_cli/out/flutejoin_cli
-	tests/capture.sh crates/flutejoin_cli/out/flutejoin_cli
-	tests/receive.sh crates/flutejoin_cli/out/flutejoin_cli
-	tests/map.sh crates/flutejoin_cli/out/flutejoin_cli
-	tests/readme.sh crates/flutejoin_cli/out/flutejoin_cli
+	tests/program.sh $(BUILT)
+	tests/outputs.sh $(BUILT)
+	tests/capture.sh $(BUILT)
+	tests/receive.sh $(BUILT)
+	tests/map.sh $(BUILT)
+	tests/readme.sh $(BUILT)
 	tests/library_pages.sh
-	tests/tree.sh crates/flutejoin_cli/out/flutejoin_cli
-	tests/longest_journal.py crates/flutejoin_cli/out/flutejoin_cli
-	tests/man.sh crates/flutejoin_cli/out/flutejoin_cli
-	tests/completion.sh crates/flutejoin_cli/out/flutejoin_cli
-	tests/tutorial.sh crates/flutejoin_cli/out/flutejoin_cli
-	tests/refused_memory.sh crates/refused_memory/out/refused_memory crates/refused_memory/out/refused_memory.by-rattle
-	tests/refused_program.sh crates/flutejoin_cli/out/flutejoin_cli crates/flutejoin_cli/out/flutejoin_cli.by-rattle
+	tests/tree.sh $(BUILT)
+	tests/longest_journal.py $(BUILT)
+	tests/man.sh $(BUILT)
+	tests/completion.sh $(BUILT)
+	tests/tutorial.sh $(BUILT)
+	tests/refused_memory.sh $(SWEEP) $(SWEEP).by-rattle
+	tests/refused_program.sh $(BUILT) $(BUILT).by-rattle
 
 # Neither waits for anything but the processor.
 test-wrong-bodies:
@@ -48,7 +59,8 @@ wrong-bodies:
 	tools/wrong_bodies.py --all
 
 try:
-	@echo "flutejoin: nothing is proved by this: the program is run before any proof, on one packet" >&2
+	@echo "flutejoin: nothing is proved by this:" \
+		"the program is run before any proof, on one packet" >&2
 	@cd crates/flutejoin_cli && rt try -- packet 10A004000000000000000007000000010000000068656C6C
 
 example: bin/flutejoin
@@ -65,14 +77,14 @@ install: bin/flutejoin
 	done
 	install -d "$(DESTDIR)$(PREFIX)/share/man/man1"
 	install -m 644 man/*.1 "$(DESTDIR)$(PREFIX)/share/man/man1"
-	install -d "$(DESTDIR)$(PREFIX)/share/bash-completion/completions"
-	install -m 644 completions/flutejoin.bash "$(DESTDIR)$(PREFIX)/share/bash-completion/completions/flutejoin"
+	install -d "$(COMPLETIONS)"
+	install -m 644 completions/flutejoin.bash "$(COMPLETIONS)/flutejoin"
 	for tool in $(TOOLS); do \
-		ln -sf flutejoin "$(DESTDIR)$(PREFIX)/share/bash-completion/completions/$$tool" || exit 1; \
+		ln -sf flutejoin "$(COMPLETIONS)/$$tool" || exit 1; \
 	done
-	install -d "$(DESTDIR)$(PREFIX)/share/flutejoin/examples"
-	install -m 644 examples/captures.py examples/tree.mk "$(DESTDIR)$(PREFIX)/share/flutejoin/examples"
-	install -m 755 examples/tree_steps.sh examples/stations.py "$(DESTDIR)$(PREFIX)/share/flutejoin/examples"
+	install -d "$(EXAMPLES)"
+	install -m 644 examples/captures.py examples/tree.mk "$(EXAMPLES)"
+	install -m 755 examples/tree_steps.sh examples/stations.py "$(EXAMPLES)"
 
 clean:
 	rm -rf bin crates/*/out

@@ -1,4 +1,5 @@
-# Completion for bash of flutejoin and its tools. Files are completed where a file is read or written.
+# Completion for bash of flutejoin and its tools. Files are completed where a file is read or
+# written.
 
 # Files whose names begin with the word
 _flutejoin_files() {
@@ -27,7 +28,10 @@ _flutejoin_options() {
         carousel) echo '-o --tsi --toi --fdt --symbol --block --help' ;;
         flutejoin) echo '--help --version' ;;
         flutejoin-capture) echo '--port --group -o --split --any-checksum --help' ;;
-        flutejoin-receive) echo '--group --port --from --interface -o --count --seconds --senders --split --buffer --help' ;;
+        flutejoin-receive)
+            echo '--group --port --from --interface -o --count --seconds --senders --split' \
+                '--buffer --help'
+            ;;
         flutejoin-map) echo '-o --text --source --tsi --toi --fdt --flutejoin --help' ;;
         flutejoin-mend) echo '-o --help' ;;
     esac
@@ -73,7 +77,9 @@ _flutejoin() {
     esac
     case $command in
         packet | flutejoin-receive) _flutejoin_words "$word" "$(_flutejoin_options "$command")" ;;
-        show | gaps | extract | info | join | merge | carousel | flutejoin-*) _flutejoin_files "$word" ;;
+        show | gaps | extract | info | join | merge | carousel | flutejoin-*)
+            _flutejoin_files "$word"
+            ;;
     esac
 }
 

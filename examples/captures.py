@@ -1,8 +1,9 @@
 #!/usr/bin/env python3
-"""captures.py SENT PERCENT OUT..: writes each OUT, a capture (pcap) of what one station sees of the datagram file SENT.
+"""captures.py SENT PERCENT OUT..: makes captures (pcap) of what stations see of a datagram file.
 
-The sender is 10.0.0.1, the group 239.1.1.1, the port 4001. Each station loses about PERCENT of the datagrams, and other ones.
-Which they are depends on a station's place among the OUTs alone, so the example is the same each time.
+Each OUT is that of one station, of the datagram file SENT. The sender is 10.0.0.1, the group
+239.1.1.1, the port 4001. Each station loses about PERCENT of the datagrams, and other ones. Which
+they are depends on a station's place among the OUTs alone, so the example is the same each time.
 """
 import random
 import struct

@@ -1,7 +1,8 @@
 #!/usr/bin/env python3
-"""lose.py IN OUT PERCENT SEED: copies the datagram file IN to OUT without about PERCENT of its records.
+"""lose.py IN OUT PERCENT SEED: copies a datagram file without some of its records.
 
-Which records are lost depends on SEED alone, so the example is the same each time.
+OUT has those of IN but for about PERCENT of them. Which records are lost depends on SEED alone, so
+the example is the same each time.
 """
 import random
 import struct

@@ -1,8 +1,8 @@
 #!/bin/sh
 # One session, received at three stations: session.sh PROGRAM
 #
-# A file is cut into datagrams. Each station loses other datagrams, and keeps what it received as a journal. The journals
-# are joined, what is missing shrinks, and the file comes out whole.
+# A file is cut into datagrams. Each station loses other datagrams, and keeps what it received as a
+# journal. The journals are joined, what is missing shrinks, and the file comes out whole.
 set -eu
 program=$(realpath "$1")
 here=$(dirname "$(realpath "$0")")
@@ -10,7 +10,7 @@ work=$(mktemp -d)
 trap 'rm -rf "$work"' EXIT
 cd "$work"
 
-say() { printf '\n# %s\n' "$1"; }
+say() { printf '\n# %s\n' "$*"; }
 run() {
     echo "\$ flutejoin $*"
     "$program" "$@"
@@ -19,7 +19,8 @@ run() {
 # 40,000 bytes: the same each time.
 awk 'BEGIN { for (i = 1; i <= 5000; i++) printf "%07d\n", i }' > file
 
-say "The sender cuts the file into 40 datagrams: session 7, object 1, symbols of 1,000 bytes, blocks of at most 16"
+say "The sender cuts the file into 40 datagrams: session 7, object 1, symbols of 1,000 bytes," \
+    "blocks of at most 16"
 run carousel -o sent --tsi 7 --toi 1 --symbol 1000 --block 16 file
 
 say "Three stations lose about a third of the datagrams, each other ones"
@@ -47,7 +48,8 @@ say "The file comes out whole"
 run extract -o out --tsi 7 --toi 1 all
 cmp file out && echo "file and out are equal"
 
-say "Another sender, 10.0.0.2, has a session 7 and an object 1 too: named by its address, it is another object"
+say "Another sender, 10.0.0.2, has a session 7 and an object 1 too: named by its address," \
+    "it is another object"
 awk 'BEGIN { for (i = 5000; i >= 1; i--) printf "%07d\n", i }' > other_file
 run carousel -o other_sent --tsi 7 --toi 1 --symbol 1000 --block 16 other_file
 run join -o of_second --source 0a000002 other_sent

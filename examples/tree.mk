@@ -11,14 +11,17 @@
 # SOURCE     the sender of the inputs that are datagram files (--source)
 # FLUTEJOIN  the program
 #
-# An input is joined again, with the path from it to OUT, where its file has other times, another length or another place on the disk; where one is
-# added; and where one is taken away, and then OUT has no more what it alone had. An input stays in its group, and a new one fills a free
-# place. To group anew, remove TREE.
+# An input is joined again, with the path from it to OUT, where its file has other times, another
+# length or another place on the disk; where one is added; and where one is taken away, and then OUT
+# has no more what it alone had. An input stays in its group, and a new one fills a free place. To
+# group anew, remove TREE.
 #
-# Names of inputs are UTF-8 without line feeds. OUT and TREE may have letters, digits and . _ + , @ / - alone. Anything else stops before the first join.
+# Names of inputs are UTF-8 without line feeds. OUT and TREE may have letters, digits and
+# . _ + , @ / - alone. Anything else stops before the first join.
 #
-# Each join replaces its output whole or not at all. Where one fails, the input at fault is named, OUT stays what it was, and the next run goes on from
-# there; with -k the joins beside it are done first. One make at a time may work in a TREE.
+# Each join replaces its output whole or not at all. Where one fails, the input at fault is named,
+# OUT stays what it was, and the next run goes on from there; with -k the joins beside it are done
+# first. One make at a time may work in a TREE.
 #
 # Needed: GNU make and the GNU tools of Linux.
 
@@ -34,7 +37,8 @@ endif
 STEPS := $(dir $(lastword $(MAKEFILE_LIST)))tree_steps.sh
 quoted = '$(subst ','\'',$(1))'
 
-$(info $(shell $(call quoted,$(STEPS)) plan $(call quoted,$(INPUTS)) $(call quoted,$(LIST)) $(call quoted,$(PATTERN)) \
+$(info $(shell $(call quoted,$(STEPS)) plan \
+	$(call quoted,$(INPUTS)) $(call quoted,$(LIST)) $(call quoted,$(PATTERN)) \
 	$(call quoted,$(OUT)) $(call quoted,$(TREE)) $(call quoted,$(FANIN))))
 ifneq ($(.SHELLSTATUS),0)
 $(error tree.mk: nothing was joined)

@@ -1,10 +1,13 @@
 #!/bin/sh
 # The two steps of tree.mk.
 #
-# tree_steps.sh plan INPUTS LIST PATTERN OUT TREE FANIN: puts the inputs into groups, writes the list of each join where it changed, and TREE/plan.mk
-# tree_steps.sh join PROGRAM SOURCE OUTPUT LIST:         joins what a list names, and names the input that is at fault
+# tree_steps.sh plan INPUTS LIST PATTERN OUT TREE FANIN
+#     puts the inputs into groups, writes the list of each join where it changed, and TREE/plan.mk
+# tree_steps.sh join PROGRAM SOURCE OUTPUT LIST
+#     joins what a list names, and names the input that is at fault
 #
-# A line of a list is a stamp, a space and a name. The stamp of a station's file changes when the file does.
+# A line of a list is a stamp, a space and a name. The stamp of a station's file changes when the
+# file does.
 set -eu
 LC_ALL=C
 export LC_ALL
@@ -17,7 +20,10 @@ stop() {
 # plain WHAT TEXT: names that stand in make's rules
 plain() {
     case $2 in
-    '' | -* | *[!A-Za-z0-9._+,@/-]*) stop "$1 may have letters, digits and . _ + , @ / - alone, and may not begin with -: '$2'" ;;
+    '' | -* | *[!A-Za-z0-9._+,@/-]*)
+        stop "$1 may have letters, digits and . _ + , @ / - alone," \
+            "and may not begin with -: '$2'"
+        ;;
     esac
 }
 
@@ -52,8 +58,12 @@ stamped() {
 # check NAMES: stops at a name that cannot be handed on
 check() {
     [ -s "$1" ] || stop 'there are no inputs'
-    if grep -q "$(printf '\001')" "$1"; then stop "a name has a line feed or the byte 1: $(grep -m 1 "$(printf '\001')" "$1" | cat -v)"; fi
-    iconv -f UTF-8 -t UTF-8 < "$1" > /dev/null 2>&1 || stop 'a name is not UTF-8, and flutejoin takes text alone'
+    if grep -q "$(printf '\001')" "$1"; then
+        stop "a name has a line feed or the byte 1:" \
+            "$(grep -m 1 "$(printf '\001')" "$1" | cat -v)"
+    fi
+    iconv -f UTF-8 -t UTF-8 < "$1" > /dev/null 2>&1 ||
+        stop 'a name is not UTF-8, and flutejoin takes text alone'
 }
 
 plan() {
@@ -78,43 +88,66 @@ plan() {
     replace "$work" "$5"
 }
 
-# groups WORK FANIN: a group for each name. A name stays where it is; a new one fills a place that is free.
+# groups WORK FANIN: a group for each name. A name stays where it is; a new one fills a place that
+# is free.
 groups() {
     awk -v fanin="$2" -v kept="$1/kept" '
-        { stamp = $1; name = substr($0, length($1) + 2); names[++count] = name; stamps[name] = stamp }
+        {
+            stamp = $1
+            name = substr($0, length($1) + 2)
+            names[++count] = name
+            stamps[name] = stamp
+        }
         END {
             free = 0
             while ((getline line < kept) > 0) {
                 split(line, words, " ")
                 name = substr(line, length(words[1]) + length(words[2]) + 3)
                 group = substr(words[1], 3) + 0
-                if ((name in stamps) && !(name in of) && sizes[group] < fanin) { of[name] = group; sizes[group]++ }
+                if ((name in stamps) && !(name in of) && sizes[group] < fanin) {
+                    of[name] = group
+                    sizes[group]++
+                }
             }
             for (i = 1; i <= count; i++) {
                 if (!(names[i] in of)) {
                     while (sizes[free] >= fanin) free++
-                    of[names[i]] = free; sizes[free]++
+                    of[names[i]] = free
+                    sizes[free]++
                 }
                 print of[names[i]], stamps[names[i]], names[i]
             }
         }' "$1/stamped" | sort -s -n -k 1,1 > "$1/grouped"
 }
 
-# nodes WORK OUT TREE FANIN: the list of each join, and the rules. Node N of a level is an input of node N / FANIN of the next.
+# nodes WORK OUT TREE FANIN: the list of each join, and the rules. Node N of a level is an input of
+# node N / FANIN of the next.
 nodes() {
     awk -v work="$1" -v out="$2" -v tree="$3" -v fanin="$4" '
         function add(level, node, line,   key) {
             key = level "-" node
-            if (!(key in inputs)) { order[level, ++nodes[level]] = node; inputs[key] = ""; if (node > last[level]) last[level] = node }
+            if (!(key in inputs)) {
+                order[level, ++nodes[level]] = node
+                inputs[key] = ""
+                if (node > last[level]) last[level] = node
+            }
             print line > (work "/" key ".list")
         }
-        { if ($1 != now) { if (NR > 1) close(work "/1-" now ".list"); now = $1 } add(1, $1, substr($0, length($1) + 2)) }
+        {
+            if ($1 != now) {
+                if (NR > 1) close(work "/1-" now ".list")
+                now = $1
+            }
+            add(1, $1, substr($0, length($1) + 2))
+        }
         END {
             close(work "/1-" now ".list")
             rules = work "/plan.mk"
             for (level = 1; last[level] + 1 > fanin; level++)
                 for (i = 1; i <= nodes[level]; i++) {
-                    node = order[level, i]; parent = int(node / fanin); file = tree "/" level "-" node ".journal"
+                    node = order[level, i]
+                    parent = int(node / fanin)
+                    file = tree "/" level "-" node ".journal"
                     if (i > 1 && parent != before) close(work "/" (level + 1) "-" before ".list")
                     before = parent
                     add(level + 1, parent, "node " file)
@@ -143,13 +176,17 @@ replace() {
 # join PROGRAM SOURCE OUTPUT LIST
 join() {
     [ "$(wc -l < "$4")" -le 64 ] || stop "$4 names more than 64 inputs"
-    # With -x xargs stops where the names are too long for one command, so that a list is joined in one command or not at all.
-    if told=$(cut -d ' ' -f 2- "$4" | tr '\n' '\0' | xargs -0 -x -n 64 "$1" join -o "$3" ${2:+"--source=$2"} 2>&1); then
-        echo "$3: $(wc -l < "$4" | tr -d ' ') inputs, $(echo "$told" | sed -n 's/^entries //p') entries"
+    # With -x xargs stops where the names are too long for one command, so that a list is joined in
+    # one command or not at all.
+    if told=$(cut -d ' ' -f 2- "$4" | tr '\n' '\0' |
+        xargs -0 -x -n 64 "$1" join -o "$3" ${2:+"--source=$2"} 2>&1); then
+        entries=$(echo "$told" | sed -n 's/^entries //p')
+        echo "$3: $(wc -l < "$4" | tr -d ' ') inputs, $entries entries"
         return
     fi
     at=$(echo "$told" | sed -n 's/.*input \([0-9]*\).*/\1/p' | head -n 1)
-    [ -z "$at" ] || stop "$3 is not joined: $told, which is $(cut -d ' ' -f 2- "$4" | sed -n "${at}p")"
+    [ -z "$at" ] ||
+        stop "$3 is not joined: $told, which is $(cut -d ' ' -f 2- "$4" | sed -n "${at}p")"
     stop "$3 is not joined: $told"
 }
 

@@ -1,6 +1,7 @@
 #!/bin/sh
-# From captures to journals, and what killed writers left: runs tools/flutejoin-capture and tools/flutejoin-mend as a user would, and compares with
-# what the program makes of the datagram files themselves. The captures are written by tests/captures.py: python3 is all that is needed.
+# From captures to journals, and what killed writers left: runs tools/flutejoin-capture and
+# tools/flutejoin-mend as a user would, and compares with what the program makes of the datagram
+# files themselves. The captures are written by tests/captures.py: python3 is all that is needed.
 # usage: tests/capture.sh PROGRAM
 set -u
 here=$(dirname "$(readlink -f "$0")")
@@ -23,10 +24,13 @@ told() {
 
 # check NAME STATUS OUT ERR: what the last run left must be this ("-": anything)
 check() {
-    if { [ "$2" = - ] || [ "$status" = "$2" ]; } && { [ "$3" = - ] || [ "$(cat out)" = "$3" ]; } && { [ "$4" = - ] || [ "$(cat err)" = "$4" ]; }; then
+    if { [ "$2" = - ] || [ "$status" = "$2" ]; } &&
+        { [ "$3" = - ] || [ "$(cat out)" = "$3" ]; } &&
+        { [ "$4" = - ] || [ "$(cat err)" = "$4" ]; }; then
         passed=$((passed + 1))
     else
-        told "$1" "status $status, standard output '$(head -c 600 out)', standard error '$(head -c 400 err)'"
+        printed=$(head -c 600 out)
+        told "$1" "status $status, standard output '$printed', standard error '$(head -c 400 err)'"
     fi
 }
 
@@ -66,21 +70,24 @@ source_of() {
     esac
 }
 
-# joined NAME FOLDER KEPT: the lines of `out` that join each sender's files are run as they stand, and make the journals that the
-# program makes of the datagram files of the folder KEPT; and each file that was made has one of these senders
+# joined NAME FOLDER KEPT: the lines of `out` that join each sender's files are run as they stand,
+# and make the journals that the program makes of the datagram files of the folder KEPT; and each
+# file that was made has one of these senders
 joined() {
     grep '^flutejoin join ' out > lines
     sh -e lines > told 2>&1 || told "$1" "the lines to join: $(cat told)"
     for kept in "$3"/*; do
         sender=$(basename "$kept" | tr : -)
         if [ "$(wc -c < "$kept")" -gt 6 ]; then
-            flutejoin join -o wanted --source "$(source_of "$sender")" "$kept" > told || told "$1" 'the journal that is wanted'
+            flutejoin join -o wanted --source "$(source_of "$sender")" "$kept" > told ||
+                told "$1" 'the journal that is wanted'
             same "$1: the journal of $sender" "$2/$sender.journal" wanted
         else
             holds "$1: no file of $sender" [ ! -e "$2/$sender.fldg" ]
         fi
     done
-    holds "$1: no other senders" [ "$(sed 's/.*--source \([^ ]*\).*/\1/' lines | sort -u | wc -l)" -le "$(ls "$3" | wc -l)" ]
+    senders=$(sed 's/.*--source \([^ ]*\).*/\1/' lines | sort -u | wc -l)
+    holds "$1: no other senders" [ "$senders" -le "$(ls "$3" | wc -l)" ]
 }
 
 # until_there FILE: waits until it has bytes, at most 20 seconds
@@ -92,7 +99,8 @@ until_there() {
     told 'a file that was waited for' "$1"
 }
 
-# Two senders have the same session and the same object, of which each has its own bytes, and a station has lost some of both.
+# Two senders have the same session and the same object, of which each has its own bytes, and a
+# station has lost some of both.
 awk 'BEGIN { for (i = 1; i <= 5000; i++) printf "%07d\n", i }' > file1
 awk 'BEGIN { for (i = 5000; i >= 1; i--) printf "%07d\n", i }' > file2
 for sender in 1 2; do
@@ -105,6 +113,7 @@ flutejoin carousel -o odd --tsi 7 --toi 1 --symbol 999 --block 16 file1 > told
 # A line is a capture: its name, how it is made, and what is left out.
 cut='cut short by the capture (capture whole packets: tcpdump -s 0)'
 icmp='13: ICMP error that quotes a datagram'
+lost='6: a fragment is lost'
 two='10.0.0.1=got1 10.0.0.2=got2'
 both='10.0.0.1=got1 2001:db8::1=got2'
 cat > rows << END
@@ -147,8 +156,8 @@ short_fragments|--fragment 8 --disorder 40 $both|
 last_fragment_first|--fragment 520 --disorder 3 $both|
 repeated_fragments|--fragment 400 --spoil repeat --disorder 7 $both|
 no_checksum_ipv4|--spoil nochecksum $two|
-lost_fragment|--fragment 400 --spoil lost --other $both|6: a fragment is lost
-lost_first_fragment|--fragment 400 --spoil lostfirst $both|6: a fragment is lost, of a port that is not known
+lost_fragment|--fragment 400 --spoil lost --other $both|$lost
+lost_first_fragment|--fragment 400 --spoil lostfirst $both|$lost, of a port that is not known
 overlapping_fragments|--fragment 400 --spoil overlap $both|6: fragments overlap or disagree
 overlong_fragments|--fragment 400 --spoil overlong $two|6: fragments overlap or disagree
 wrong_checksum|--spoil checksum --other $both|6: wrong UDP checksum
@@ -176,7 +185,15 @@ END
 mkdir made
 helper make rows made
 
-# row NAME LEFT_OUT: the datagrams that the capture has whole and right come to the same journals, and the others are counted
+# What the tool tells, and the line that joins the files of the sender of IPv6
+none='flutejoin-capture: no UDP datagrams'
+listed='without --port all flows are listed'
+before='the packets before it were read'
+occupied='is there already, and is left as it is; no other file is written for its sender'
+join6='flutejoin join --source 20010db8000000000000000000000001'
+
+# row NAME LEFT_OUT: the datagrams that the capture has whole and right come to the same journals,
+# and the others are counted
 row() {
     case $1 in
         cut*) at_end=1 ;;
@@ -189,7 +206,7 @@ row() {
         0) check "$1" 0 - '' ;;
         1) check "$1" 1 - - ;;
         none)
-            check "$1" 1 - 'flutejoin-capture: no UDP datagrams to port 4001; without --port all flows are listed'
+            check "$1" 1 - "$none to port 4001; $listed"
             holds "$1: no folder" [ ! -e "out.$1" ]
             return
             ;;
@@ -200,9 +217,10 @@ while IFS='|' read -r name _ left_out; do
     row "$name" "$left_out"
 done < rows
 capture --port 4001 -o out2.cut made/cut
-check 'a capture cut at its end' 1 - 'flutejoin-capture: made/cut: ends within a packet; the packets before it were read'
+check 'a capture cut at its end' 1 - "flutejoin-capture: made/cut: ends within a packet; $before"
 capture --port 4001 -o out2.gzip made/cut_gzip
-check 'a compressed capture cut at its end' 1 - 'flutejoin-capture: made/cut_gzip: ends within what gzip compressed; the packets before it were read'
+check 'a compressed capture cut at its end' 1 - \
+    "flutejoin-capture: made/cut_gzip: ends within what gzip compressed; $before"
 grep '^flutejoin join ' out | sh > told 2> err
 flutejoin join -o wanted --source 0a000001 got1 > told
 flutejoin merge -o merged wanted out2.gzip/10.0.0.1.journal > told
@@ -210,10 +228,10 @@ same 'what came before the cut is part of the whole' merged wanted
 
 # What it prints
 capture --port 4001 -o printed made/ipv6
-check 'the files and the lines' 0 'printed/2001-db8--1.fldg: 27 datagrams from 2001:db8::1
+check 'the files and the lines' 0 "printed/2001-db8--1.fldg: 27 datagrams from 2001:db8::1
 printed/10.0.0.1.fldg: 23 datagrams from 10.0.0.1
-flutejoin join --source 20010db8000000000000000000000001 -o printed/2001-db8--1.journal printed/2001-db8--1.fldg
-flutejoin join --source 0a000001 -o printed/10.0.0.1.journal printed/10.0.0.1.fldg' ''
+$join6 -o printed/2001-db8--1.journal printed/2001-db8--1.fldg
+flutejoin join --source 0a000001 -o printed/10.0.0.1.journal printed/10.0.0.1.fldg" ''
 same 'a datagram file of one sender is what it sent' printed/10.0.0.1.fldg got1
 holds 'nothing beside' [ "$(ls printed | wc -l)" = 2 ]
 capture made/ipv6
@@ -221,20 +239,23 @@ check 'the flows' 0 'from 2001:db8::1 to --group ff3e::4321 --port 4001: 27 data
 from 10.0.0.1 to --group 239.1.1.1 --port 4001: 23 datagrams, 23 like FLUTE
 from 10.0.0.99 to --group 239.1.1.2 --port 5353: 10 datagrams, 0 like FLUTE' ''
 capture --group ff3e::4321 made/ipv6
-check 'the flows to a group' 0 'from 2001:db8::1 to --group ff3e::4321 --port 4001: 27 datagrams, 27 like FLUTE' ''
+check 'the flows to a group' 0 \
+    'from 2001:db8::1 to --group ff3e::4321 --port 4001: 27 datagrams, 27 like FLUTE' ''
 capture --port 4001 --group 239.1.1.1 -o grouped made/sll
 check 'a group' 0 'grouped/10.0.0.1.fldg: 23 datagrams from 10.0.0.1
 left out 6: ICMP error that quotes a datagram
 flutejoin join --source 0a000001 -o grouped/10.0.0.1.journal grouped/10.0.0.1.fldg' ''
 capture --port 4001 --group 239.1.1.1 -o tunnels made/vxlan
-holds 'tunnels are told beside a group' grep -q '^left out 10: in a tunnel (VXLAN), which is not opened' out
+holds 'tunnels are told beside a group' \
+    grep -q '^left out 10: in a tunnel (VXLAN), which is not opened' out
 capture made/vxlan
-holds 'tunnels are told in a list' grep -q '^left out 10: in a tunnel (VXLAN), which is not opened' out
+holds 'tunnels are told in a list' \
+    grep -q '^left out 10: in a tunnel (VXLAN), which is not opened' out
 capture --port 5353 --port 4001 --group ff3e::4321 --group 239.1.1.2 -o ports made/ipv6
-check 'two ports and two groups' 0 'ports/2001-db8--1.fldg: 27 datagrams from 2001:db8::1
+check 'two ports and two groups' 0 "ports/2001-db8--1.fldg: 27 datagrams from 2001:db8::1
 ports/10.0.0.99.fldg: 10 datagrams from 10.0.0.99
-flutejoin join --source 20010db8000000000000000000000001 -o ports/2001-db8--1.journal ports/2001-db8--1.fldg
-flutejoin join --source 0a000063 -o ports/10.0.0.99.journal ports/10.0.0.99.fldg' ''
+$join6 -o ports/2001-db8--1.journal ports/2001-db8--1.fldg
+flutejoin join --source 0a000063 -o ports/10.0.0.99.journal ports/10.0.0.99.fldg" ''
 capture --port 4001 -o several made/ethernet made/vlan made/pcapng
 check 'several captures' 0 - ''
 holds 'their datagrams are in one file' grep -q '^several/10.0.0.1.fldg: 69 datagrams' out
@@ -255,13 +276,14 @@ while place < len(data):
     place += 16 + struct.unpack_from("<I", data, place + 8)[0]
 open(sys.argv[2], "wb").write(data)
 END
-hint='flutejoin-capture: most UDP checksums do not hold; if this was captured on the sending host, where they are filled in later, use --any-checksum'
+hint='flutejoin-capture: most UDP checksums do not hold; if this was captured on the sending host,'
+hint="$hint where they are filled in later, use --any-checksum"
 capture --port 4001 -o sending_host sending/unfilled
 check 'most checksums fail' 1 'left out 40: wrong UDP checksum' "$hint
-flutejoin-capture: no UDP datagrams to port 4001; without --port all flows are listed"
+$none to port 4001; $listed"
 capture sending/unfilled
 check 'most checksums fail in a list' 1 'left out 40: wrong UDP checksum' "$hint
-flutejoin-capture: no UDP datagrams"
+$none"
 
 # Files in parts, and lines of at most 64 inputs
 mkdir 'a folder' && printf before > 'a folder/kept'
@@ -291,12 +313,14 @@ for number in range(25):
     out.add(b"\x0a\0\0\1", b"datagram")
 out.finish()
 END
-holds 'a file has as many records as are read' [ "$(cat told)" = 'records/10.0.0.1.fldg: 10 datagrams from 10.0.0.1
+holds 'a file has as many records as are read' \
+    [ "$(cat told)" = 'records/10.0.0.1.fldg: 10 datagrams from 10.0.0.1
 records/10.0.0.1.2.fldg: 10 datagrams from 10.0.0.1
 records/10.0.0.1.3.fldg: 5 datagrams from 10.0.0.1' ]
 printf x > "it's"
 capture --port 4001 -o "./it's" made/ethernet
-check 'a file in the place of the folder' 3 '' "flutejoin-capture: cannot make the folder ./it's: File exists"
+check 'a file in the place of the folder' 3 '' \
+    "flutejoin-capture: cannot make the folder ./it's: File exists"
 rm "it's"
 capture --port 4001 -o "it's" made/ethernet
 joined 'names that the shell would take apart' "it's" made/ethernet.kept
@@ -312,21 +336,22 @@ check 'the first run' 0 - ''
 capture --port 4001 -o there made/ipv6
 check 'a second run in the same folder' 3 "there/2001-db8--1.fldg: 27 datagrams from 2001:db8::1
 left out 23: its sender's file cannot be made
-flutejoin join --source 20010db8000000000000000000000001 -o there/2001-db8--1.journal there/2001-db8--1.fldg" \
-    'flutejoin-capture: there/10.0.0.1.fldg: is there already, and is left as it is; no other file is written for its sender'
+$join6 -o there/2001-db8--1.journal there/2001-db8--1.fldg" \
+    "flutejoin-capture: there/10.0.0.1.fldg: $occupied"
 same 'the file that was there' there/10.0.0.1.fldg printed/10.0.0.1.fldg
 mkdir left && printf before > left/10.0.0.1.fldg.partial
 capture --port 4001 -o left made/ethernet
 check 'what a killed run left' 3 - \
-    'flutejoin-capture: left/10.0.0.1.fldg.partial: is there already, and is left as it is; no other file is written for its sender'
+    "flutejoin-capture: left/10.0.0.1.fldg.partial: $occupied"
 holds 'it stays' [ "$(cat left/10.0.0.1.fldg.partial)" = before ]
 holds 'the other sender has a file' [ -e left/10.0.0.2.fldg ]
 capture --port 4001 -o again made/ethernet
 grep '^flutejoin join ' out | sh > told
 rm again/*.fldg
 capture --port 4001 -o again sending/whole
-check 'a journal that is there is joined' 0 'again/10.0.0.1.fldg: 40 datagrams from 10.0.0.1
-flutejoin join --source 0a000001 -o again/10.0.0.1.journal again/10.0.0.1.journal again/10.0.0.1.fldg' ''
+journal=again/10.0.0.1.journal
+check 'a journal that is there is joined' 0 "again/10.0.0.1.fldg: 40 datagrams from 10.0.0.1
+flutejoin join --source 0a000001 -o $journal $journal again/10.0.0.1.fldg" ''
 
 # Bad input, outputs that cannot be made, bad command lines
 : > empty
@@ -336,6 +361,7 @@ head -c 20 made/gzip > begun_gzip
 head -c 24 made/ipv6 > garbage
 head -c 5000 file1 >> garbage
 is_no='is no capture (pcap or pcapng, which gzip may have compressed)'
+damage='is damaged (a packet of 808464432 bytes); the packets before that were read'
 for options in '' '--port 4001 -o bad'; do
     capture $options empty
     check "an empty file $options" 1 '' 'flutejoin-capture: empty: is empty'
@@ -346,31 +372,40 @@ for options in '' '--port 4001 -o bad'; do
         check "$file is no capture $options" 1 '' "flutejoin-capture: $file: $is_no"
     done
     capture $options begun
-    check "a header that is cut $options" 1 '' 'flutejoin-capture: begun: ends within its header; the packets before it were read'
+    check "a header that is cut $options" 1 '' \
+        "flutejoin-capture: begun: ends within its header; $before"
     capture $options begun_gzip
-    check "a compressed header that is cut $options" 1 '' 'flutejoin-capture: begun_gzip: ends within what gzip compressed; the packets before it were read'
+    check "a compressed header that is cut $options" 1 '' \
+        "flutejoin-capture: begun_gzip: ends within what gzip compressed; $before"
     capture $options garbage
-    check "a capture that goes on with other bytes $options" 1 '' 'flutejoin-capture: garbage: is damaged (a packet of 808464432 bytes); the packets before that were read'
+    check "a capture that goes on with other bytes $options" 1 '' \
+        "flutejoin-capture: garbage: $damage"
     capture $options missing
-    check "a capture that is not there $options" 3 '' 'flutejoin-capture: missing: cannot be read: No such file or directory'
+    check "a capture that is not there $options" 3 '' \
+        'flutejoin-capture: missing: cannot be read: No such file or directory'
     capture $options made
-    check "a folder in the place of a capture $options" 3 '' 'flutejoin-capture: made: cannot be read: Is a directory'
+    check "a folder in the place of a capture $options" 3 '' \
+        'flutejoin-capture: made: cannot be read: Is a directory'
     capture $options made/ethernet missing
-    check "a second capture that is not there $options" 3 '' 'flutejoin-capture: missing: cannot be read: No such file or directory'
+    check "a second capture that is not there $options" 3 '' \
+        'flutejoin-capture: missing: cannot be read: No such file or directory'
     "$python" "$here/../tools/flutejoin-capture" $options - > out 2> err <&-
     status=$?
-    check "standard input that is closed $options" 3 '' 'flutejoin-capture: standard input: cannot be read: Bad file descriptor'
+    check "standard input that is closed $options" 3 '' \
+        'flutejoin-capture: standard input: cannot be read: Bad file descriptor'
 done
 holds 'no folder of bad input' [ ! -e bad ]
 capture made/silence
-check 'no UDP' 1 '' 'flutejoin-capture: no UDP datagrams'
+check 'no UDP' 1 '' "$none"
 capture --port 4002 -o bad made/ipv6
-check 'another port' 1 '' 'flutejoin-capture: no UDP datagrams to port 4002; without --port all flows are listed'
+check 'another port' 1 '' "$none to port 4002; $listed"
 capture --port 4001 -o not/there made/ipv6
-check 'a folder in none' 3 '' 'flutejoin-capture: cannot make the folder not/there: No such file or directory'
+check 'a folder in none' 3 '' \
+    'flutejoin-capture: cannot make the folder not/there: No such file or directory'
 capture --port 4001 -o /proc made/ipv6
 check 'a folder that takes no files' 3 '' -
-for words in '' '--port 0 x' '--port 65536 x' '--port x x' '--port 4001' '--group 1.2.3 x' '-o folder x' '--split 0 --port 1 x' '--split 4294967296 --port 1 x' '--por 1 x'; do
+for words in '' '--port 0 x' '--port 65536 x' '--port x x' '--port 4001' '--group 1.2.3 x' \
+    '-o folder x' '--split 0 --port 1 x' '--split 4294967296 --port 1 x' '--por 1 x'; do
     capture $words
     check "the command line: $words" 2 '' -
 done
@@ -393,15 +428,20 @@ check 'a full standard output' 3 '' 'flutejoin-capture: cannot write'
 same 'the file in spite of that' full/10.0.0.1.fldg got1
 
 # A disk that takes no more: 8 blocks of 512 bytes hold 3 datagrams.
+full='cannot write: File too large; what was written whole is kept'
 for form in gzip ethernet; do
-    (ulimit -f 8; "$python" "$here/../tools/flutejoin-capture" --port 4001 -o disk.$form made/$form) > out 2> err
+    (
+        ulimit -f 8
+        "$python" "$here/../tools/flutejoin-capture" --port 4001 -o disk.$form made/$form
+    ) > out 2> err
     status=$?
     check "a full disk, $form" 3 - -
-    holds "it is told, $form" grep -q '^flutejoin-capture: disk.*/.*fldg: cannot write: File too large; what was written whole is kept$' err
+    holds "it is told, $form" grep -q "^flutejoin-capture: disk.*/.*fldg: $full\$" err
     holds "nothing beside, $form" [ -z "$(ls disk.$form | grep partial)" ]
     grep '^flutejoin join ' out | sh > told 2>&1
     for sender in disk.$form/*.fldg; do
-        holds "what was written whole, $form" [ "$(flutejoin join -o journal "$sender")" = 'datagrams 3
+        holds "what was written whole, $form" \
+            [ "$(flutejoin join -o journal "$sender")" = 'datagrams 3
 refused 0
 entries 4' ]
     done
@@ -413,7 +453,8 @@ mkfifo pipe
 grows() {
     name=$1 hangup=$2
     shift 2
-    env "$hangup" "$python" "$here/../tools/flutejoin-capture" --port 4001 -o "live.$name" - < pipe > out 2> err &
+    env "$hangup" "$python" "$here/../tools/flutejoin-capture" --port 4001 -o "live.$name" - \
+        < pipe > out 2> err &
     live=$!
     exec 3> pipe
     head -c 21000 made/ipv6 >&3
@@ -425,7 +466,8 @@ grows() {
     status=$?
     exec 3>&-
     check "a capture that grows, $name" 0 - ''
-    holds "its last packets, $name" [ "$(awk '/fldg: / { sum += $2 } END { print sum }' out)" -gt 30 ]
+    count=$(awk '/fldg: / { sum += $2 } END { print sum }' out)
+    holds "its last packets, $name" [ "$count" -gt 30 ]
     holds "nothing beside, $name" [ -z "$(ls "live.$name" | grep partial)" ]
     grep '^flutejoin join ' out | sh > told
     flutejoin join -o wanted --source 0a000001 got1 > told
@@ -435,15 +477,19 @@ grows() {
 for signal in INT TERM HUP; do grows $signal --default-signal=HUP $signal; done
 # A hangup is none of them where it is ignored. Of two that are, the second ends it at once.
 grows nohup --ignore-signal=HUP HUP INT
-cat made/gzip_pcapng | "$python" "$here/../tools/flutejoin-capture" --port 4001 -o stream - > out 2> err
+cat made/gzip_pcapng |
+    "$python" "$here/../tools/flutejoin-capture" --port 4001 -o stream - > out 2> err
 status=$?
 check 'a compressed capture from a pipe' 0 - ''
 joined 'a compressed capture from a pipe' stream made/gzip_pcapng.kept
 
 # Damaged captures: no traceback, status 0 or 1, and what comes out are datagram files.
 mkdir damaged
-helper damage damaged 200 made/ethernet made/pcapng made/sll2 made/fragments made/gzip made/pcapng_sections made/loopback made/headers
-for number in $(seq 0 199); do echo "--port 4001 -o damaged/$number.out damaged/$number"; done > lines
+helper damage damaged 200 made/ethernet made/pcapng made/sll2 made/fragments made/gzip \
+    made/pcapng_sections made/loopback made/headers
+for number in $(seq 0 199); do
+    echo "--port 4001 -o damaged/$number.out damaged/$number"
+done > lines
 helper run "$here/../tools/flutejoin-capture" lines > told_runs
 holds 'each damaged capture was tried' [ "$(wc -l < told_runs)" = 200 ]
 holds 'damaged captures have status 0 or 1' [ -z "$(grep -v '^[01] ' told_runs)" ]
@@ -458,10 +504,12 @@ flutejoin join -o wanted got1 got2 > told
 holds 'files of damaged captures' [ "$(ls damaged/*.out/*.fldg | wc -l)" -gt 50 ]
 cp wanted merged
 ls damaged/*.out/*.fldg | xargs -n 60 flutejoin join -o merged merged > told 2> err
-holds 'they are datagram files of datagrams that are taken' [ "$(grep -v '^datagrams\|^entries' told | sort -u | cat - err)" = 'refused 0' ]
+holds 'they are datagram files of datagrams that are taken' \
+    [ "$(grep -v '^datagrams\|^entries' told | sort -u | cat - err)" = 'refused 0' ]
 same 'no wrong datagram of any damaged capture' merged wanted
 
-# Mending, at each byte: a datagram file, a journal with each kind of entry, and the same in version 1
+# Mending, at each byte: a datagram file, a journal with each kind of entry, and the same in
+# version 1
 printf hello > hello
 flutejoin carousel -o small --tsi 7 --toi 1 --symbol 2 --block 2 hello > told
 printf help! > help
@@ -475,16 +523,20 @@ same 'the journal of version 1' version2 more
 for file in small more old; do
     mkdir cuts.$file mended.$file
     helper cuts $file cuts.$file
-    for cut in $(ls cuts.$file | sort -n); do echo "-o mended.$file/$cut cuts.$file/$cut"; done > lines
+    for cut in $(ls cuts.$file | sort -n); do
+        echo "-o mended.$file/$cut cuts.$file/$cut"
+    done > lines
     helper run "$here/../tools/flutejoin-mend" lines > told_runs
     holds "$file: each cut was tried" [ "$(wc -l < told_runs)" = "$(wc -c < $file)" ]
-    holds "$file: a kind is told from four bytes on" [ "$(head -n 4 told_runs | cut -c 1 | tr -d '\n')" = 1111 ]
+    holds "$file: a kind is told from four bytes on" \
+        [ "$(head -n 4 told_runs | cut -c 1 | tr -d '\n')" = 1111 ]
     holds "$file: each other cut is mended" [ "$(tail -n +5 told_runs | sort -u)" = '0 ' ]
     helper mended $file mended.$file && passed=$((passed + 1))
     flutejoin join -o wanted $file > told
     cp wanted merged
     find mended.$file -type f | xargs -n 60 flutejoin join -o merged merged > told 2> err
-    holds "$file: what was mended is taken" [ "$(grep -v '^datagrams\|^entries' told | sort -u | cat - err)" = 'refused 0' ]
+    holds "$file: what was mended is taken" \
+        [ "$(grep -v '^datagrams\|^entries' told | sort -u | cat - err)" = 'refused 0' ]
     same "$file: what was mended is part of the whole" merged wanted
 done
 
@@ -494,7 +546,8 @@ check 'mend of a datagram file' 0 'mended: 2 datagrams; 918 bytes behind them we
 flutejoin join -o journal mended > told
 holds 'what it holds' [ "$(head -n 1 told)" = 'datagrams 2' ]
 mend -o mended cut.fldg
-check 'an output that is there' 3 '' 'flutejoin-mend: mended: is there already, and is left as it is'
+check 'an output that is there' 3 '' \
+    'flutejoin-mend: mended: is there already, and is left as it is'
 mend -o cut.fldg cut.fldg
 check 'in place' 2 '' -
 ln -s cut.fldg link
@@ -526,14 +579,16 @@ status=$?
 check 'a full disk' 3 '' 'flutejoin-mend: whole: File too large'
 printf before > whole.mending
 mend -o whole cut.fldg
-check 'what a killed run left' 3 '' 'flutejoin-mend: whole.mending: is there already: left by a run that was killed, or being written'
+there='is there already: left by a run that was killed, or being written'
+check 'what a killed run left' 3 '' "flutejoin-mend: whole.mending: $there"
 rm whole.mending
 mend cut.fldg
 check 'no output' 2 '' -
 mend --help
 check 'help of mend' 0 - ''
 holds 'nothing was written' [ ! -e whole ]
-# A mend that a signal ends leaves nothing. It waits until its bytes are on the disk, which here never comes to pass.
+# A mend that a signal ends leaves nothing. It waits until its bytes are on the disk, which here
+# never comes to pass.
 cat > waits.py << 'END'
 import os, runpy, sys, time
 os.fsync = lambda _file: time.sleep(20)
@@ -545,7 +600,8 @@ END
 ended() {
     name=$1 wanted=$2 hangup=$3
     shift 3
-    env "$hangup" "$python" waits.py "$here/../tools/flutejoin-mend" -o whole cut.fldg > out 2> err &
+    env "$hangup" "$python" waits.py "$here/../tools/flutejoin-mend" -o whole cut.fldg \
+        > out 2> err &
     mending=$!
     until_there whole.mending
     for signal; do kill "-$signal" $mending; done
@@ -571,12 +627,16 @@ for number in $(seq 0 89); do
     case $fault in
         '') wanted='0 ' ;;
         Cut) wanted='0 ' ;;
-        'unknown kind') wanted="1 flutejoin-mend: faults/$number: is neither a datagram file nor a journal" ;;
+        'unknown kind')
+            wanted="1 flutejoin-mend: faults/$number: is neither a datagram file nor a journal"
+            ;;
         *) wanted="1 flutejoin-mend: faults/$number: $fault" ;;
     esac
     [ "$text" = "$wanted" ] || told "fault $number" "'$text', and the program tells '$fault'"
-    [ ! -e faults/$number.mended ] || [ "$fault" = Cut ] || told "fault $number" 'something was written'
-    [ "$fault" != Cut ] || flutejoin join -o journal faults/$number.mended > told 2> err || told "fault $number, mended" "$(cat err)"
+    [ ! -e faults/$number.mended ] || [ "$fault" = Cut ] ||
+        told "fault $number" 'something was written'
+    [ "$fault" != Cut ] || flutejoin join -o journal faults/$number.mended > told 2> err ||
+        told "fault $number, mended" "$(cat err)"
 done
 passed=$((passed + 1))
 

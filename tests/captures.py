@@ -1,13 +1,23 @@
 #!/usr/bin/env python3
 """Captures for tests/capture.sh, written by Python's own library.
 
-  captures.py make ROWS FOLDER       of each row NAME|OPTIONS|.. of a file: FOLDER/NAME, a capture of the datagram files that its options name,
-                                     and FOLDER/NAME.kept/SENDER, a datagram file of those datagrams that the capture has whole and right
-  captures.py damage FOLDER COUNT FILE..   copies of captures in which bytes drawn at random, with a fixed seed, are others
-  captures.py cuts FILE FOLDER       FOLDER/N, the first N bytes of a file, for each N
-  captures.py version1 FILE OUT      a journal of version 2 in version 1: its entries without their senders, once they are all of one
-  captures.py mended FILE FOLDER     whether FOLDER/N, for each N, is what stands whole in the first N bytes of a file, as a right file
-  captures.py run TOOL LIST          runs a tool with the words of each line of a list, and tells its status and standard error, a line for each run
+  captures.py make ROWS FOLDER
+      of each row NAME|OPTIONS|.. of a file: FOLDER/NAME, a capture of the datagram files that its
+      options name, and FOLDER/NAME.kept/SENDER, a datagram file of those datagrams that the capture
+      has whole and right
+  captures.py damage FOLDER COUNT FILE..
+      copies of captures in which bytes drawn at random, with a fixed seed, are others
+  captures.py cuts FILE FOLDER
+      FOLDER/N, the first N bytes of a file, for each N
+  captures.py version1 FILE OUT
+      a journal of version 2 in version 1: its entries without their senders, once they are all of
+      one
+  captures.py mended FILE FOLDER
+      whether FOLDER/N, for each N, is what stands whole in the first N bytes of a file, as a right
+      file
+  captures.py run TOOL LIST
+      runs a tool with the words of each line of a list, and tells its status and standard error, a
+      line for each run
 """
 import argparse
 import gzip
@@ -23,12 +33,32 @@ import sys
 PORT = 4001
 GROUPS = {4: "239.1.1.1", 6: "ff3e::4321"}
 LINKS = {  # the link type, and what stands before an IP packet of version 4 and 6
-    "ethernet": (1, b"\x01\0\x5e\x01\1\1\2\0\0\0\0\1\x08\0", b"\x33\x33\0\0\x43\x21\2\0\0\0\0\1\x86\xdd"),
-    "vlan": (1, b"\x01\0\x5e\x01\1\1\2\0\0\0\0\1\x81\0\0\7\x08\0", b"\x33\x33\0\0\x43\x21\2\0\0\0\0\1\x81\0\0\7\x86\xdd"),
-    "qinq": (1, b"\x01\0\x5e\x01\1\1\2\0\0\0\0\1\x88\xa8\0\7\x81\0\0\x08\x08\0", b"\x33\x33\0\0\x43\x21\2\0\0\0\0\1\x88\xa8\0\7\x81\0\0\x08\x86\xdd"),
+    "ethernet": (
+        1,
+        b"\x01\0\x5e\x01\1\1\2\0\0\0\0\1\x08\0",
+        b"\x33\x33\0\0\x43\x21\2\0\0\0\0\1\x86\xdd",
+    ),
+    "vlan": (
+        1,
+        b"\x01\0\x5e\x01\1\1\2\0\0\0\0\1\x81\0\0\7\x08\0",
+        b"\x33\x33\0\0\x43\x21\2\0\0\0\0\1\x81\0\0\7\x86\xdd",
+    ),
+    "qinq": (
+        1,
+        b"\x01\0\x5e\x01\1\1\2\0\0\0\0\1\x88\xa8\0\7\x81\0\0\x08\x08\0",
+        b"\x33\x33\0\0\x43\x21\2\0\0\0\0\1\x88\xa8\0\7\x81\0\0\x08\x86\xdd",
+    ),
     "sll": (113, b"\0\2\0\1\0\6\2\0\0\0\0\1\0\0\x08\0", b"\0\2\0\1\0\6\2\0\0\0\0\1\0\0\x86\xdd"),
-    "sllvlan": (113, b"\0\2\0\1\0\6\2\0\0\0\0\1\0\0\x81\0\0\7\x08\0", b"\0\2\0\1\0\6\2\0\0\0\0\1\0\0\x81\0\0\7\x86\xdd"),
-    "sll2": (276, b"\x08\0\0\0\0\0\0\3\0\1\2\6\2\0\0\0\0\1\0\0", b"\x86\xdd\0\0\0\0\0\3\0\1\2\6\2\0\0\0\0\1\0\0"),
+    "sllvlan": (
+        113,
+        b"\0\2\0\1\0\6\2\0\0\0\0\1\0\0\x81\0\0\7\x08\0",
+        b"\0\2\0\1\0\6\2\0\0\0\0\1\0\0\x81\0\0\7\x86\xdd",
+    ),
+    "sll2": (
+        276,
+        b"\x08\0\0\0\0\0\0\3\0\1\2\6\2\0\0\0\0\1\0\0",
+        b"\x86\xdd\0\0\0\0\0\3\0\1\2\6\2\0\0\0\0\1\0\0",
+    ),
     "raw": (101, b"", b""),
     "rawbsd": (12, b"", b""),
     "rawopenbsd": (14, b"", b""),
@@ -52,7 +82,9 @@ def ones(data):
 
 
 def ip4(source, target, protocol, data, number=0, place=0, options=b""):
-    head = struct.pack(">BBHHHBBH4s4s", 0x45 + len(options) // 4, 0, 20 + len(options) + len(data), number, place, 16, protocol, 0, source, target) + options
+    first, length = 0x45 + len(options) // 4, 20 + len(options) + len(data)
+    fields = first, 0, length, number, place, 16, protocol, 0, source, target
+    head = struct.pack(">BBHHHBBH4s4s", *fields) + options
     return head[:10] + struct.pack(">H", ones(head)) + head[12:] + data
 
 
@@ -61,7 +93,8 @@ def ip6(source, target, kind, data):
 
 
 def ip(source, target, protocol, data):
-    return ip4(source, target, protocol, data) if len(source) == 4 else ip6(source, target, protocol, data)
+    packet = ip4 if len(source) == 4 else ip6
+    return packet(source, target, protocol, data)
 
 
 def udp(source, target, payload, port=PORT):
@@ -74,11 +107,13 @@ def fragments(source, target, data, number, size):
     """The IP packets of a UDP datagram that is cut into pieces of `size` bytes."""
     made = []
     for at in range(0, len(data), size):
-        more = at + size < len(data)
+        more, piece = at + size < len(data), data[at : at + size]
         if len(source) == 4:
-            made.append(ip4(source, target, 17, data[at : at + size], number, at // 8 | (0x2000 if more else 0)))
+            place = at // 8 | (0x2000 if more else 0)
+            made.append(ip4(source, target, 17, piece, number, place))
         else:
-            made.append(ip6(source, target, 44, struct.pack(">BBHI", 17, 0, at | more, number) + data[at : at + size]))
+            head = struct.pack(">BBHI", 17, 0, at | more, number)
+            made.append(ip6(source, target, 44, head + piece))
     return made
 
 
@@ -100,7 +135,10 @@ class Capture:
         self.packets, self.kept, self.number, self.last = [], {}, 0, None
 
     def send(self, sender, payload, count):
-        """A datagram of a sender, its `count`th: whole and right unless it is one of those that an option spoils."""
+        """A datagram of a sender, its `count`th.
+
+        It is whole and right unless it is one of those that an option spoils.
+        """
         source = ipaddress.ip_address(sender)
         target = ipaddress.ip_address(GROUPS[source.version]).packed
         source, spoil = source.packed, self.options.spoil if count in SPOILT else None
@@ -115,10 +153,12 @@ class Capture:
             data = data[:6] + b"\x12\x34" + data[8:]
         self.number += not self.options.same  # the identification of its fragments
         if self.options.fragment:
-            self.packets += self.lose(fragments(source, target, data, self.number, self.options.fragment), spoil)
+            made = fragments(source, target, data, self.number, self.options.fragment)
+            self.packets += self.lose(made, spoil)
         else:
             self.packets.append(self.head(source, target, data, spoil))
-        if not spoil or spoil in ("repeat", "harmless") or spoil == "nochecksum" and len(source) == 4:
+        is_unasked = spoil == "nochecksum" and len(source) == 4  # IPv4 demands no checksum
+        if not spoil or spoil in ("repeat", "harmless") or is_unasked:
             self.kept[sender].append(payload)
         if self.options.icmp and count % 4 == 0:
             self.packets.append(self.error(source, target, self.packets[-1]))
@@ -126,9 +166,11 @@ class Capture:
     def head(self, source, target, data, spoil):
         if len(source) == 16:
             if self.options.headers:  # hop-by-hop and destination options
-                return ip6(source, target, 0, b"\x3c\0\1\4\0\0\0\0" + b"\x11\1\1\x0c" + b"\0" * 12 + data)
+                headers = b"\x3c\0\1\4\0\0\0\0" + b"\x11\1\1\x0c" + b"\0" * 12
+                return ip6(source, target, 0, headers + data)
             return ip6(source, target, 17, data)
-        packet = ip4(source, target, 17, data, self.number, 0, b"\x94\4\0\0" if self.options.headers else b"")
+        options = b"\x94\4\0\0" if self.options.headers else b""
+        packet = ip4(source, target, 17, data, self.number, 0, options)
         return packet[:8] + b"\7" + packet[9:] if spoil == "header" else packet
 
     def lose(self, pieces, spoil):
@@ -145,7 +187,8 @@ class Capture:
         if spoil == "overlap":  # another first fragment, which says other bytes
             return [other, *pieces]
         if spoil == "overlong" and head == 20:  # a fragment that reaches into the next one
-            return [ip4(first[12:16], first[16:20], 17, first[20:] + b"\0" * 8, self.number, 0x2000), *pieces[1:]]
+            longer = first[20:] + b"\0" * 8
+            return [ip4(first[12:16], first[16:20], 17, longer, self.number, 0x2000), *pieces[1:]]
         if spoil == "overlong":
             return [ip6(first[8:24], first[24:40], 44, first[40:] + b"\0" * 8), *pieces[1:]]
         return pieces
@@ -154,7 +197,8 @@ class Capture:
         """An ICMP error of a router, which quotes a packet."""
         if len(source) == 4:
             body = b"\x0b\0\0\0\0\0\0\0" + packet
-            return ip4(b"\x0a\0\0\x32", source, 1, body[:2] + struct.pack(">H", ones(body)) + body[4:])
+            body = body[:2] + struct.pack(">H", ones(body)) + body[4:]
+            return ip4(b"\x0a\0\0\x32", source, 1, body)
         router = ipaddress.ip_address("2001:db8::50").packed
         body = b"\3\0\0\0\0\0\0\0" + packet
         total = ones(router + source + struct.pack(">II", len(body), 58) + body)
@@ -164,14 +208,17 @@ class Capture:
         """What else is on a network: another port, TCP, a tunnel, what is no IP."""
         source, target = b"\x0a\0\0\x63", b"\xef\1\1\2"
         if self.options.other and count % 5 == 0:
-            self.packets.append(ip4(source, target, 17, udp(source, target, b"not FLUTE %d" % count, 5353)))
-            self.packets.append(ip4(source, b"\x0a\0\0\1", 6, struct.pack(">HHIIHHHH", 4001, 4001, 1, 1, 0x5010, 9, 0, 0)))
+            other_port = udp(source, target, b"not FLUTE %d" % count, 5353)
+            self.packets.append(ip4(source, target, 17, other_port))
+            tcp = struct.pack(">HHIIHHHH", 4001, 4001, 1, 1, 0x5010, 9, 0, 0)
+            self.packets.append(ip4(source, b"\x0a\0\0\1", 6, tcp))
             self.packets.append(ip4(source, target, 6, b"\x0f\xa1" * 20, 7, 0x2000))
         if self.options.tunnel == "gre" and count % 5 == 0:
             self.packets.append(ip4(source, b"\xc0\0\2\1", 47, b"\0\0\x08\0" + self.packets[0]))
         if self.options.tunnel == "vxlan" and count % 5 == 0:
             inner = b"\x08\0\0\0\0\0\7\0" + LINKS["ethernet"][1] + self.packets[0]
-            self.packets.append(ip4(source, b"\xc0\0\2\1", 17, udp(source, b"\xc0\0\2\1", inner, 4789)))
+            outer = udp(source, b"\xc0\0\2\1", inner, 4789)
+            self.packets.append(ip4(source, b"\xc0\0\2\1", 17, outer))
 
     def fill(self):
         """All datagrams of all senders, each sender's in their order."""
@@ -188,7 +235,10 @@ class Capture:
             self.last = sender
             self.others(count)
         if self.options.disorder:  # a packet comes before up to that many others
-            places = {id(packet): at + self.draw.random() * self.options.disorder for at, packet in enumerate(self.packets)}
+            places = {
+                id(packet): at + self.draw.random() * self.options.disorder
+                for at, packet in enumerate(self.packets)
+            }
             self.packets.sort(key=lambda packet: places[id(packet)])
 
     def frames(self):
@@ -211,24 +261,41 @@ def pcap(frames, order, magic, snap):
 
 def block(order, number, body):
     body += b"\0" * (-len(body) % 4)
-    return struct.pack(order + "II", number, 12 + len(body)) + body + struct.pack(order + "I", 12 + len(body))
+    length = struct.pack(order + "I", 12 + len(body))
+    return struct.pack(order + "I", number) + length + body + length
 
 
 def pcapng(frames, order, kind, snap):
-    """Blocks of packets of a kind: enhanced (6), simple (3) or old (2), with blocks of other things among them."""
+    """Blocks of packets of a kind: enhanced (6), simple (3) or old (2).
+
+    There are blocks of other things among them.
+    """
     links = list(dict.fromkeys(link for link, _frame, _length in frames))
-    made = [block(order, 0x0A0D0D0A, struct.pack(order + "IHHq", 0x1A2B3C4D, 1, 0, -1) + struct.pack(order + "HH4sHH", 4, 3, b"abc\0", 0, 0))]
+    section = struct.pack(order + "IHHq", 0x1A2B3C4D, 1, 0, -1)
+    section += struct.pack(order + "HH4sHH", 4, 3, b"abc\0", 0, 0)
+    made = [block(order, 0x0A0D0D0A, section)]
     made += [block(order, 1, struct.pack(order + "HHI", link, 0, snap)) for link in links]
     for at, (link, frame, length) in enumerate(frames):
         if at % 7 == 0:  # interface statistics, and a block of nobody's
-            made += [block(order, 5, struct.pack(order + "III", 0, 0, at)), block(order, 0x0BAD0BAD, b"\0" * 70000)]
+            made.append(block(order, 5, struct.pack(order + "III", 0, 0, at)))
+            made.append(block(order, 0x0BAD0BAD, b"\0" * 70000))
         if kind == 6:
-            made.append(block(order, 6, struct.pack(order + "IIIII", links.index(link), 0, at, len(frame), length) + frame + b"\0" * (-len(frame) % 4) + struct.pack(order + "HHIHH", 2, 4, 0, 0, 0)))
+            fields = links.index(link), 0, at, len(frame), length
+            body = struct.pack(order + "IIIII", *fields) + frame + b"\0" * (-len(frame) % 4)
+            body += struct.pack(order + "HHIHH", 2, 4, 0, 0, 0)
+            made.append(block(order, 6, body))
         elif kind == 3:
             made.append(block(order, 3, struct.pack(order + "I", length) + frame))
         else:
-            made.append(block(order, 2, struct.pack(order + "HHIIII", links.index(link), 0, 0, at, len(frame), length) + frame))
+            fields = links.index(link), 0, 0, at, len(frame), length
+            made.append(block(order, 2, struct.pack(order + "HHIIII", *fields) + frame))
     return b"".join(made)
+
+
+def sections(frames, snap):
+    """Two sections, each with its order of bytes."""
+    half = len(frames) // 2
+    return pcapng(frames[:half], "<", 6, snap) + pcapng(frames[half:], ">", 6, snap)
 
 
 FORMS = {
@@ -240,7 +307,7 @@ FORMS = {
     "pcapngbig": lambda frames, snap: pcapng(frames, ">", 6, snap),
     "pcapngsimple": lambda frames, snap: pcapng(frames, "<", 3, snap),
     "pcapngold": lambda frames, snap: pcapng(frames, ">", 2, snap),
-    "sections": lambda frames, snap: pcapng(frames[: len(frames) // 2], "<", 6, snap) + pcapng(frames[len(frames) // 2 :], ">", 6, snap),
+    "sections": sections,
 }
 
 
@@ -260,7 +327,10 @@ def make(name, words):
     capture = Capture(options)
     capture.fill()
     frames = list(capture.frames())
-    data = FORMS[options.form](frames, options.snap) if frames else pcap([(1, b"", 0)], "<", 0xA1B2C3D4, 262144)[:24]
+    if frames:
+        data = FORMS[options.form](frames, options.snap)
+    else:
+        data = pcap([(1, b"", 0)], "<", 0xA1B2C3D4, 262144)[:24]
     if options.members:  # two gzip members, one after the other
         data = gzip.compress(data[:5000], mtime=0) + gzip.compress(data[5000:], mtime=0)
     elif options.gzip:
@@ -277,7 +347,9 @@ def make(name, words):
 
 def write_datagrams(name, payloads):
     with open(name, "wb") as file:
-        file.write(b"FLDG\0\1" + b"".join(struct.pack(">H", len(payload)) + payload for payload in payloads))
+        file.write(b"FLDG\0\1")
+        for payload in payloads:
+            file.write(struct.pack(">H", len(payload)) + payload)
 
 
 def damage(folder, count, names):
@@ -303,7 +375,10 @@ def cuts(name, folder):
 
 
 def pieces(data):
-    """The records of a datagram file, or the entries of a journal, by their lengths (docs/FORMATS.md)."""
+    """The records of a datagram file, or the entries of a journal, by their lengths.
+
+    docs/FORMATS.md has the formats.
+    """
     place, is_journal, sender = 6, data[:4] == b"FLJN", 16 if data[5] == 2 else 0
     while place < len(data) and not (is_journal and data[place] == 0xFF):
         if not is_journal:
@@ -316,7 +391,8 @@ def pieces(data):
 
 
 def journal(version, entries):
-    return b"FLJN\0" + bytes([version]) + b"".join(entries) + b"\xff" + len(entries).to_bytes(8, "big")
+    end = b"\xff" + len(entries).to_bytes(8, "big")
+    return b"FLJN\0" + bytes([version]) + b"".join(entries) + end
 
 
 def version1(name, out):
@@ -341,7 +417,8 @@ def mended(name, folder):
         else:
             wanted = data[:6] + b"".join(whole)
         path = os.path.join(folder, str(length))
-        if data[:4] == b"FLDG" and len(wanted) == length:  # it is whole: it ends between two records
+        # A datagram file is whole where it ends between two records.
+        if data[:4] == b"FLDG" and len(wanted) == length:
             assert not os.path.exists(path), path
         else:
             with open(path, "rb") as file:
@@ -349,10 +426,15 @@ def mended(name, folder):
 
 
 def run(tool, name):
-    """Runs a tool many times in children of one Python, which has its modules already: the same, and sooner."""
+    """Runs a tool many times in children of one Python, which has its modules already.
+
+    It is the same as with a Python for each run, and sooner.
+    """
     sys.path.insert(0, os.path.dirname(os.path.realpath(tool)))
     sys.dont_write_bytecode = True
-    for module in ("argparse", "gzip", "ipaddress", "flutejoin_captures", "flutejoin_datagrams", "flutejoin_files"):
+    for module in ("argparse", "gzip", "ipaddress"):
+        __import__(module)
+    for module in ("flutejoin_captures", "flutejoin_datagrams", "flutejoin_files"):
         __import__(module)
     with open(name) as file:
         lines = [shlex.split(line) for line in file]

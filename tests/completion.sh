@@ -1,5 +1,6 @@
 #!/bin/bash
-# The completion for bash: its function is called with words of a command line, as bash does. The options that it offers are those of each help.
+# The completion for bash: its function is called with words of a command line, as bash does. The
+# options that it offers are those of each help.
 # usage: tests/completion.sh PROGRAM
 set -u
 program=$(readlink -f "$1")
@@ -36,7 +37,10 @@ offers() {
 
 # options_of HELP: the options that a help text has, by their long names where they have one
 options_of() {
-    "$@" --help | sed -nE 's/^ +(-[a-zA-Z], )?(--[a-z-]+).*/\2/p; s/^ +(-[a-z])( .*)?$/\1/p' | sort -u | paste -sd ,
+    "$@" --help |
+        sed -nE 's/^ +(-[a-zA-Z], )?(--[a-z-]+).*/\2/p; s/^ +(-[a-z])( .*)?$/\1/p' |
+        sort -u |
+        paste -sd ,
 }
 
 commands=$("$program" --help | sed -n '/^Commands:/,/^$/s/^  \([a-z]*\) .*/\1/p' | paste -sd ,)

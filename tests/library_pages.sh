@@ -1,5 +1,6 @@
 #!/bin/sh
-# The examples on the pages of the libraries (the docs of src/lib.rt) stand, line after line, in the crate that their page names.
+# The examples on the pages of the libraries (the docs of src/lib.rt) stand, line after line, in the
+# crate that their page names.
 set -eu
 cd "$(dirname "$0")/.."
 python3 - <<'END'
@@ -11,7 +12,10 @@ passed = failed = 0
 
 
 def stands_in(example, crate):
-    """Whether the lines of the example follow one another in a file of the crate, however far they are indented."""
+    """Whether the lines of the example follow one another in a file of the crate.
+
+    How far they are indented does not matter.
+    """
     for path in pathlib.Path("crates", crate, "src").rglob("*.rt"):
         lines = [line.strip() for line in path.read_text().splitlines()]
         for start in range(len(lines)):

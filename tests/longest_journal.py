@@ -1,8 +1,9 @@
 #!/usr/bin/env python3
-"""The longest journal there may be, 16,777,216 entries in 755 MB, through a pipe: what `gaps` and `extract` take of time.
+"""The longest journal there may be, 16,777,216 entries in 755 MB, through a pipe.
 
-Each runs in 16 MiB of address space, and has to print what is in the journal, which is made while it is read, so that no disk is
-needed. That takes some 20 seconds.
+It tells what `gaps` and `extract` take of time. Each runs in 16 MiB of address space, and has to
+print what is in the journal, which is made while it is read, so that no disk is needed. That takes
+some 20 seconds.
 
 usage: tests/longest_journal.py PROGRAM
 """
@@ -48,7 +49,10 @@ def write_journal(out):
 
 
 def piped(program, *words):
-    """What a command prints that reads the journal from standard input in at most so much memory, and its processor time."""
+    """What a command prints that reads the journal from standard input.
+
+    It gets at most so much memory, and its processor time is told.
+    """
     read_end, write_end = os.pipe()
     maker = os.fork()
     if maker == 0:
@@ -70,7 +74,9 @@ def piped(program, *words):
     if status:
         return f"status {os.waitstatus_to_exitcode(status)}"
     seconds = used.ru_utime + used.ru_stime
-    print(f"{words[0]}: {OBJECTS * (SYMBOLS + 1):,} entries, {seconds:.2f} s of processor time, within {MOST_MEMORY >> 20} MiB of memory")
+    entries = f"{OBJECTS * (SYMBOLS + 1):,} entries"
+    used_time = f"{seconds:.2f} s of processor time"
+    print(f"{words[0]}: {entries}, {used_time}, within {MOST_MEMORY >> 20} MiB of memory")
     return printed.decode()
 
 
@@ -85,7 +91,10 @@ def main():
         if os.path.exists(out):
             with open(out, "rb") as file:
                 content = file.read()
-    found = {"gaps": lines == wanted, "extract": told == f"bytes {SYMBOLS}\n" and content == BYTE * SYMBOLS}
+    found = {
+        "gaps": lines == wanted,
+        "extract": told == f"bytes {SYMBOLS}\n" and content == BYTE * SYMBOLS,
+    }
     for command, printed in ("gaps", lines), ("extract", told):
         if not found[command]:
             print(f"longest_journal: {command}: {printed[:200]}")

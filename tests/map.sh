@@ -1,6 +1,7 @@
 #!/bin/sh
-# What is missing as a picture: runs tools/flutejoin-map on journals of several stations, and compares the counts of its panels and the cells that it
-# draws with what the program tells (tests/maps.py), as a page and as text. python3 is all that is needed.
+# What is missing as a picture: runs tools/flutejoin-map on journals of several stations, and
+# compares the counts of its panels and the cells that it draws with what the program tells
+# (tests/maps.py), as a page and as text. python3 is all that is needed.
 # usage: tests/map.sh PROGRAM
 set -u
 here=$(dirname "$(readlink -f "$0")")
@@ -24,10 +25,13 @@ told() {
 
 # check NAME STATUS OUT ERR: what the last run left must be this ("-": anything)
 check() {
-    if { [ "$2" = - ] || [ "$status" = "$2" ]; } && { [ "$3" = - ] || [ "$(cat out)" = "$3" ]; } && { [ "$4" = - ] || [ "$(cat err)" = "$4" ]; }; then
+    if { [ "$2" = - ] || [ "$status" = "$2" ]; } &&
+        { [ "$3" = - ] || [ "$(cat out)" = "$3" ]; } &&
+        { [ "$4" = - ] || [ "$(cat err)" = "$4" ]; }; then
         passed=$((passed + 1))
     else
-        told "$1" "status $status, standard output '$(head -c 600 out)', standard error '$(head -c 400 err)'"
+        printed=$(head -c 600 out)
+        told "$1" "status $status, standard output '$printed', standard error '$(head -c 400 err)'"
     fi
 }
 
@@ -43,7 +47,8 @@ map() {
     status=$?
 }
 
-# agrees NAME JOURNAL..: the page and the text of all objects are what flutejoin gaps tells of each journal and of all joined
+# agrees NAME JOURNAL..: the page and the text of all objects are what flutejoin gaps tells of each
+# journal and of all joined
 agrees() {
     claim=$1
     shift
@@ -58,8 +63,10 @@ agrees() {
 
 # sent NAME OBJECT SYMBOL BLOCK BYTES: a datagram file of so many bytes
 sent() {
-    awk -v most="$5" 'BEGIN { for (i = 0; i < most; i += 8) printf "%07d\n", i }' | head -c "$5" > file
-    flutejoin carousel -o "$1" --tsi 7 $2 --symbol "$3" --block "$4" file > told || told "$1" 'cannot be sent'
+    awk -v most="$5" 'BEGIN { for (i = 0; i < most; i += 8) printf "%07d\n", i }' |
+        head -c "$5" > file
+    flutejoin carousel -o "$1" --tsi 7 $2 --symbol "$3" --block "$4" file > told ||
+        told "$1" 'cannot be sent'
 }
 
 # station JOURNAL SENT PERCENT SEED [SOURCE]: the journal of a station that lost so much
@@ -122,7 +129,8 @@ map --text right1 wrong1 short1 conflict1
 holds 'conflicts are drawn' grep -q '|[#.?]*!' out
 holds 'misfits are drawn' grep -q '|[#.!]*?' out
 
-# Objects of several kinds: FDT Instance, empty, two senders with one TSI, no information, conflicting information
+# Objects of several kinds: FDT Instance, empty, two senders with one TSI, no information,
+# conflicting information
 sent fdt '--toi 0 --fdt 3' 100 8 2500
 station fdt1 fdt 30 1
 sent empty '--toi 2' 100 8 0
@@ -135,8 +143,10 @@ station from_a right 30 1 0a000001
 station from_b right 30 2 20010db8000000000000000000000001
 agrees 'two senders' from_a from_b
 map --text from_a from_b
-holds 'the address of IPv4' grep -q '^source 00000000000000000000ffff0a000001 session 7 object 1 (sender 10.0.0.1): ' out
-holds 'the address of IPv6' grep -q '^source 20010db8000000000000000000000001 session 7 object 1 (sender 2001:db8::1): ' out
+holds 'the address of IPv4' \
+    grep -q '^source 00000000000000000000ffff0a000001 session 7 object 1 (sender 10.0.0.1): ' out
+holds 'the address of IPv6' \
+    grep -q '^source 20010db8000000000000000000000001 session 7 object 1 (sender 2001:db8::1): ' out
 "$python" "$here/maps.py" forget right without
 station without1 without 40 4
 agrees 'no information' without1
@@ -163,7 +173,8 @@ holds 'it is said' grep -q 'The journals tell of no object' page.svg
 
 # One object of several
 flutejoin join -o mixed right1 fdt1 from_a empty1 > told
-for key in '--toi 1' '--toi 0 --fdt 3' '--toi 2' '--toi 1 --source 0a000001' '--toi 1 --source 00000000000000000000FFFF0A000001'; do
+for key in '--toi 1' '--toi 0 --fdt 3' '--toi 2' '--toi 1 --source 0a000001' \
+    '--toi 1 --source 00000000000000000000FFFF0A000001'; do
     map --text --tsi 7 $key mixed
     check "$key" 0 - ''
     holds "$key alone" [ "$(grep -c '^s[eo].*session\|^session' out)" = 1 ]
@@ -196,7 +207,8 @@ holds 'a name that is no text is told' [ $status = 2 ]
 flutejoin join -o objects1 objects > told
 map --text objects1 one1
 check 'many objects' 0 - ''
-holds 'the rest is counted' [ "$(tail -n 1 out)" = '40 more objects are not drawn, 0 of them whole; --tsi and --toi name one' ]
+rest='40 more objects are not drawn, 0 of them whole; --tsi and --toi name one'
+holds 'the rest is counted' [ "$(tail -n 1 out)" = "$rest" ]
 
 # OUT
 map -o - one1 one2
@@ -218,26 +230,32 @@ check 'what a killed run left' 0 '' ''
 holds 'it is gone' [ ! -e page.svg.partial ]
 mkdir page.svg.partial
 map -o page.svg one1
-check 'a folder beside' 3 '' 'flutejoin-map: page.svg: cannot write: page.svg.partial beside it is in the way'
+check 'a folder beside' 3 '' \
+    'flutejoin-map: page.svg: cannot write: page.svg.partial beside it is in the way'
 rmdir page.svg.partial
 holds 'OUT is what it was' cmp -s before page.svg
 map -o not/there.svg one1
-check 'a folder that is not there' 3 '' 'flutejoin-map: not/there.svg: cannot write: No such file or directory'
+check 'a folder that is not there' 3 '' \
+    'flutejoin-map: not/there.svg: cannot write: No such file or directory'
 map -o /proc/page.svg one1
-check 'a folder that takes no files' 3 '' 'flutejoin-map: /proc/page.svg: cannot write: No such file or directory'
+check 'a folder that takes no files' 3 '' \
+    'flutejoin-map: /proc/page.svg: cannot write: No such file or directory'
 map -o bin one1
 check 'a folder as OUT' 3 '' 'flutejoin-map: bin: cannot write: Is a directory'
 mkdir locked
 chmod 555 locked
+denied='flutejoin-map: locked/page.svg: cannot write: Permission denied'
+nobody='setpriv --reuid=65534 --regid=65534 --clear-groups'
 if [ "$(id -u)" != 0 ]; then
     map -o locked/page.svg one1
-    check 'a folder without leave to write' 3 '' 'flutejoin-map: locked/page.svg: cannot write: Permission denied'
-elif chmod 755 . && setpriv --reuid=65534 --regid=65534 --clear-groups sh -c "'$tool' --help && flutejoin --version" > out 2> err; then
-    setpriv --reuid=65534 --regid=65534 --clear-groups "$tool" -o locked/page.svg one1 > out 2> err
+    check 'a folder without leave to write' 3 '' "$denied"
+elif chmod 755 . && $nobody sh -c "'$tool' --help && flutejoin --version" > out 2> err; then
+    $nobody "$tool" -o locked/page.svg one1 > out 2> err
     status=$?
-    check 'a folder without leave to write' 3 '' 'flutejoin-map: locked/page.svg: cannot write: Permission denied'
+    check 'a folder without leave to write' 3 '' "$denied"
 else
-    echo 'map: skipped: a folder without leave (no other user can be had here, or the tool is not theirs to run)'
+    echo 'map: skipped: a folder without leave (no other user can be had here,' \
+        'or the tool is not theirs to run)'
 fi
 map -o /dev/full one1
 check 'a full device' 3 '' 'flutejoin-map: /dev/full: cannot write: No space left on device'
@@ -270,7 +288,8 @@ ended() {
     name=$1 wanted=$2 hangup=$3
     shift 3
     rm -f started
-    env --default-signal=INT "$hangup" "$python" "$tool" --flutejoin ./slow -o ended.svg one1 > out 2> err &
+    env --default-signal=INT "$hangup" "$python" "$tool" --flutejoin ./slow -o ended.svg one1 \
+        > out 2> err &
     drawing=$!
     for _ in $(seq 100); do
         [ -s started ] && break
@@ -303,7 +322,8 @@ check 'another file' 1 '' 'flutejoin-map: words: Magic'
 map -o bad.svg one1 words
 check 'another file, second' 1 '' 'flutejoin-map: words: unknown kind'
 map -o bad.svg missing
-check 'a file that is not there' 3 '' 'flutejoin-map: missing: cannot be read: No such file or directory'
+check 'a file that is not there' 3 '' \
+    'flutejoin-map: missing: cannot be read: No such file or directory'
 map -o bad.svg bin
 check 'a folder' 3 '' 'flutejoin-map: bin: cannot be read: is no regular file'
 mkfifo pipe
@@ -316,7 +336,8 @@ map --flutejoin ./missing --text one1
 check 'a program that is not there' 3 '' 'flutejoin-map: there is no program ./missing'
 (PATH=/nowhere "$python" "$tool" --text one1) > out 2> err
 status=$?
-check 'no program on the PATH' 3 '' 'flutejoin-map: there is no program flutejoin; --flutejoin names it'
+check 'no program on the PATH' 3 '' \
+    'flutejoin-map: there is no program flutejoin; --flutejoin names it'
 map --flutejoin "$work/bin/flutejoin" --text one1
 check 'a program that is named' 0 - ''
 mkdir lib installed
@@ -329,11 +350,14 @@ check 'the program beside the tool' 0 - ''
 map --flutejoin false --text one1
 check 'another program' 1 '' 'flutejoin-map: one1: flutejoin ended with status 1'
 map --flutejoin echo --text one1
-check 'a program that prints other lines' 3 '' 'flutejoin-map: flutejoin tells a line that is not known here: gaps one1'
+check 'a program that prints other lines' 3 '' \
+    'flutejoin-map: flutejoin tells a line that is not known here: gaps one1'
 
 # Command lines
-for words in '' '--text' '-o x' 'one1' '--text -o x one1' '--text --tsi 7 one1' '--text --toi 7 one1' '--text --fdt 1 one1' '--text --tsi 7 --toi 0 one1' \
-    '--text --tsi 7 --toi 1 --fdt 1 one1' '--text --tsi x --toi 1 one1' '--text --tsi 281474976710656 --toi 1 one1' '--text --source 0a one1' \
+for words in '' '--text' '-o x' 'one1' '--text -o x one1' '--text --tsi 7 one1' \
+    '--text --toi 7 one1' '--text --fdt 1 one1' '--text --tsi 7 --toi 0 one1' \
+    '--text --tsi 7 --toi 1 --fdt 1 one1' '--text --tsi x --toi 1 one1' \
+    '--text --tsi 281474976710656 --toi 1 one1' '--text --source 0a one1' \
     '--text --tsi 7 --toi 1 --source 0x00000a one1' '--text -' '--tex one1'; do
     map $words
     check "the command line: $words" 2 '' -

@@ -1,5 +1,7 @@
 #!/usr/bin/env python3
-"""Compares what flutejoin-map drew with what flutejoin tells, and makes datagram files for its test.
+"""Compares what flutejoin-map drew with what flutejoin tells.
+
+It makes datagram files for its test, too.
 
   maps.py PAGE TEXT JOURNAL...   the panels and cells of both are those of flutejoin gaps
   maps.py cut IN OUT             each datagram without its last byte
@@ -13,15 +15,23 @@ import sys
 import xml.etree.ElementTree as ElementTree
 
 NAMES = "held", "missing", "conflicting", "misfit"
+OBJECT = r"(.*object (?:fdt )?\d+) "
+STATE = re.compile(OBJECT + "(whole|partial|no information|conflicting information).*")
+ENTRY = re.compile(OBJECT + "(info|symbol) (.*)")
 SVG = "{http://www.w3.org/2000/svg}"
+BAR = re.compile(r"M([0-9.]+) ([0-9.]+)H([0-9.]+)V([0-9.]+)H\1Z")
 
 
 def run(*words):
-    return subprocess.run(["flutejoin", *words], check=True, capture_output=True, text=True).stdout.splitlines()
+    told = subprocess.run(["flutejoin", *words], check=True, capture_output=True, text=True)
+    return told.stdout.splitlines()
 
 
 class Journal:
-    """What flutejoin tells of a journal: of each object the state, the information, the kinds by gaps, and the symbols."""
+    """What flutejoin tells of a journal.
+
+    Of each object it has the state, the information, the kinds by gaps, and the symbols.
+    """
 
     def __init__(self, path):
         self.states, self.gaps, self.infos, self.symbols = {}, {}, {}, {}
@@ -31,15 +41,16 @@ class Journal:
                 block, first, last = (int(number) for number in re.split("[/-]", place))
                 self.gaps[key] += [(block, number, kind) for number in range(first, last + 1)]
             else:
-                key, state = re.fullmatch(r"(.*object (?:fdt )?\d+) (whole|partial|no information|conflicting information).*", line).groups()
+                key, state = STATE.fullmatch(line).groups()
                 self.states[key], self.gaps[key], self.symbols[key] = state, [], {}
         for line in run("show", path)[:-1]:
-            key, what, rest = re.fullmatch(r"(.*object (?:fdt )?\d+) (info|symbol) (.*)", line).groups()
+            key, what, rest = ENTRY.fullmatch(line).groups()
             words = rest.split()
             if what == "info" and words[0] == "length":
                 self.infos[key] = int(words[1]), int(words[3]), int(words[5])
             elif what == "symbol":
-                self.symbols[key][tuple(map(int, words[0].split("/")))] = None if words[1] == "conflict" else int(words[2])
+                symbol = tuple(map(int, words[0].split("/")))
+                self.symbols[key][symbol] = None if words[1] == "conflict" else int(words[2])
 
     def kinds(self, key, info):
         """The kind of each symbol in the order of the object."""
@@ -68,7 +79,10 @@ def listing_of(info):
         return []
     symbols = (length + size - 1) // size
     blocks = (symbols + most - 1) // most
-    return [(block, number) for block in range(blocks) for number in range(symbols // blocks + (block < symbols % blocks))]
+    small, larger = divmod(symbols, blocks)
+    return [
+        (block, number) for block in range(blocks) for number in range(small + (block < larger))
+    ]
 
 
 def counts(kinds):
@@ -106,13 +120,17 @@ def compare(one, other, what):
 def see_page(page, wanted):
     root = ElementTree.parse(page).getroot()
     compare(root.tag, f"{SVG}svg", "the page")
-    drawn = [(group.get("aria-label"), [panel for panel in group if panel.tag == f"{SVG}g"]) for group in root if group.tag == f"{SVG}g"]
-    compare([re.sub(r" \(sender .*", "", key) for key, _ in drawn], [key for key, _ in wanted], "the objects")
+    groups = root.findall(f"{SVG}g")
+    drawn = [(group.get("aria-label"), group.findall(f"{SVG}g")) for group in groups]
+    keys = [re.sub(r" \(sender .*", "", key) for key, _ in drawn]
+    compare(keys, [key for key, _ in wanted], "the objects")
     for (key, panels), (_, told) in zip(drawn, wanted):
-        compare([panel.find(f"{SVG}title").text for panel in panels], [words for words, _, _ in told], key)
+        titles = [panel.find(f"{SVG}title").text for panel in panels]
+        compare(titles, [words for words, _, _ in told], key)
         for panel, (words, listing, kinds) in zip(panels, told):
-            legend = [text.text for text in panel.findall(f"{SVG}text") if text.text.split()[0] in NAMES]
-            compare(", ".join(legend), counts(kinds) if ": held " in words else "", f"{words}: its legend")
+            texts = [text.text for text in panel.findall(f"{SVG}text")]
+            legend = ", ".join(text for text in texts if text.split()[0] in NAMES)
+            compare(legend, counts(kinds) if ": held " in words else "", f"{words}: its legend")
             see_cells(panel.findall(f"{SVG}g"), listing, kinds, words)
             see_edges(panel, words)
 
@@ -124,29 +142,41 @@ def see_cells(cells, listing, kinds, words):
         title = cell.find(f"{SVG}title").text
         one, other, told = re.fullmatch(r"(\d+/\d+)(?:(-\d+| to \d+/\d+))?: (.*)", title).groups()
         first = tuple(map(int, one.split("/")))
-        last = first if not other else (first[0], int(other[1:])) if other[0] == "-" else tuple(map(int, other[4:].split("/")))
+        if not other:
+            last = first
+        elif other[0] == "-":
+            last = first[0], int(other[1:])
+        else:
+            last = tuple(map(int, other[4:].split("/")))
         compare(places[first], at, f"{words}: {title}")
         at = places[last] + 1
         part = kinds[places[first] : at]
-        compare(told, ", ".join(f"{name} {part.count(name)}" for name in NAMES if name in part), f"{words}: {title}")
+        has = ", ".join(f"{name} {part.count(name)}" for name in NAMES if name in part)
+        compare(told, has, f"{words}: {title}")
         compare(len(cell.findall(f"{SVG}path")), len(set(part)), f"{words}: {title}: its colours")
     compare(at, len(kinds), f"{words}: all symbols")
 
 
 def see_edges(panel, words):
-    """Each bar begins with the very number by which its neighbour ends, and the lines between cells stand at these edges."""
+    """Each bar begins with the very number by which its neighbour ends.
+
+    The lines between cells stand at these edges.
+    """
     before, ends = None, set()
     for cell in panel.findall(f"{SVG}g"):
-        bars = [re.fullmatch(r"M([0-9.]+) ([0-9.]+)H([0-9.]+)V([0-9.]+)H\1Z", bar.get("d")).groups() for bar in cell.findall(f"{SVG}path")]
-        compare([(bar[0], bar[2]) for bar in bars], [(bars[0][0], bars[0][2])] * len(bars), f"{words}: bars one above the other")
-        compare([bar[1] for bar in bars[1:]], [bar[3] for bar in bars[:-1]], f"{words}: bars that meet")
+        bars = [BAR.fullmatch(bar.get("d")).groups() for bar in cell.findall(f"{SVG}path")]
+        sides = [(bar[0], bar[2]) for bar in bars]
+        compare(sides, [sides[0]] * len(bars), f"{words}: bars one above the other")
+        tops, bottoms = [bar[1] for bar in bars[1:]], [bar[3] for bar in bars[:-1]]
+        compare(tops, bottoms, f"{words}: bars that meet")
         left, top, right, bottom = bars[0][0], bars[0][1], bars[0][2], bars[-1][3]
         if before and before[1] == top:
             compare((left, bottom), (before[2], before[3]), f"{words}: cells that meet")
             ends.add(left)
         before = left, top, right, bottom
     for lines in panel.findall(f"{SVG}path"):
-        compare(ends - set(re.findall(r"M([0-9.]+) ", lines.get("d"))), set(), f"{words}: cells without a line between them")
+        between = set(re.findall(r"M([0-9.]+) ", lines.get("d")))
+        compare(ends - between, set(), f"{words}: cells without a line between them")
 
 
 def sign(part):
@@ -161,10 +191,11 @@ def sign(part):
 
 def see_text(lines, wanted):
     lines = iter(lines[2:])
+    scale = re.compile(r"a row is (?:a block|(\d+) blocks), a cell is (?:a symbol|(\d+) symbols)")
     for key, panels in wanted:
         compare(next(lines), "", key)
-        compare(re.match(re.escape(key) + r"(?: \(sender [^)]*\))?: ", next(lines)) is not None, True, key)
-        scale = re.compile(r"a row is (?:a block|(\d+) blocks), a cell is (?:a symbol|(\d+) symbols)")
+        title = re.compile(re.escape(key) + r"(?: \(sender [^)]*\))?: ")
+        compare(title.match(next(lines)) is not None, True, key)
         of_all = None
         for words, listing, kinds in panels:
             line = next(lines)
@@ -175,12 +206,14 @@ def see_text(lines, wanted):
             compare(next(lines), words, key)
             if not kinds:
                 continue
-            group, size = (int(number or 1) for number in (of_all or scale.fullmatch(next(lines))).groups())
+            numbers = (of_all or scale.fullmatch(next(lines))).groups()
+            group, size = (int(number or 1) for number in numbers)
             rows = {}
             for (block, _), kind in zip(listing, kinds):
                 rows.setdefault(block // group, []).append(kind)
             for row, part in rows.items():
-                cells = "".join(sign(part[begin : begin + size]) for begin in range(0, len(part), size))
+                begins = range(0, len(part), size)
+                cells = "".join(sign(part[begin : begin + size]) for begin in begins)
                 compare(next(lines), f"{row * group:>7} |{cells}|", words)
     compare(list(lines), [], "the rest")
 
@@ -196,7 +229,9 @@ def records(path):
 
 def write(path, datagrams):
     with open(path, "wb") as file:
-        file.write(b"FLDG\0\1" + b"".join(struct.pack(">H", len(datagram)) + datagram for datagram in datagrams))
+        file.write(b"FLDG\0\1")
+        for datagram in datagrams:
+            file.write(struct.pack(">H", len(datagram)) + datagram)
 
 
 def main():
@@ -204,10 +239,14 @@ def main():
     if mode == "cut":
         write(rest[0], [datagram[:-1] for datagram in records(first)])
     elif mode == "forget":
-        write(rest[0], [datagram[:2] + b"\4" + datagram[3:16] + datagram[32:] for datagram in records(first)])
+        forgotten = [
+            datagram[:2] + b"\4" + datagram[3:16] + datagram[32:] for datagram in records(first)
+        ]
+        write(rest[0], forgotten)
     elif mode == "objects":
         datagram = next(records(first))
-        write(rest[0], [datagram[:12] + struct.pack(">I", number) + datagram[16:] for number in range(1001, 1213)])
+        numbers = [struct.pack(">I", number) for number in range(1001, 1213)]
+        write(rest[0], [datagram[:12] + number + datagram[16:] for number in numbers])
     else:
         wanted = list(expected(rest))
         see_page(mode, wanted)

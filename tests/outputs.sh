@@ -1,5 +1,6 @@
 #!/bin/sh
-# Outputs whole or not at all: runs the built program as a user would, and looks at what stands after faults, kills and in odd places.
+# Outputs whole or not at all: runs the built program as a user would, and looks at what stands
+# after faults, kills and in odd places.
 # usage: tests/outputs.sh PROGRAM
 set -u
 work=$(mktemp -d)
@@ -19,10 +20,13 @@ told() {
 
 # check NAME STATUS OUT ERR: what the last run left must be this ("-": anything)
 check() {
-    if { [ "$2" = - ] || [ "$status" = "$2" ]; } && { [ "$3" = - ] || [ "$(cat out)" = "$3" ]; } && { [ "$4" = - ] || [ "$(cat err)" = "$4" ]; }; then
+    if { [ "$2" = - ] || [ "$status" = "$2" ]; } &&
+        { [ "$3" = - ] || [ "$(cat out)" = "$3" ]; } &&
+        { [ "$4" = - ] || [ "$(cat err)" = "$4" ]; }; then
         passed=$((passed + 1))
     else
-        told "$1" "status $status, standard output '$(head -c 400 out)', standard error '$(head -c 400 err)'"
+        printed=$(head -c 400 out)
+        told "$1" "status $status, standard output '$printed', standard error '$(head -c 400 err)'"
     fi
 }
 
@@ -40,7 +44,11 @@ holds() {
 
 # alone NAME FILE: nothing stands beside it
 alone() {
-    if [ ! -e "$2.partial" ] && [ ! -L "$2.partial" ]; then passed=$((passed + 1)); else told "$1" "$2.partial is there"; fi
+    if [ ! -e "$2.partial" ] && [ ! -L "$2.partial" ]; then
+        passed=$((passed + 1))
+    else
+        told "$1" "$2.partial is there"
+    fi
 }
 
 run() {
@@ -71,8 +79,10 @@ until_there() {
 # What is received of two files in two stations: each has one of them, and both come to `both`.
 printf 'a file of some bytes, in many symbols' > content
 printf 'hello' > other
-"$program" carousel -o sent1 --tsi 7 --toi 1 --symbol 4 --block 2 content > out || told carousel 'failed'
-"$program" carousel -o sent2 --tsi 7 --toi 2 --symbol 4 --block 2 other > out || told carousel 'failed'
+"$program" carousel -o sent1 --tsi 7 --toi 1 --symbol 4 --block 2 content > out ||
+    told carousel 'failed'
+"$program" carousel -o sent2 --tsi 7 --toi 2 --symbol 4 --block 2 other > out ||
+    told carousel 'failed'
 "$program" join -o one sent1 > out || told join 'failed'
 "$program" join -o two sent2 > out || told join 'failed'
 "$program" join -o both one two > out || told join 'failed'
@@ -86,7 +96,8 @@ run join -o all all two
 check 'join in place' 0 "$both_lines" ''
 same 'the journal joined in place' all both
 alone 'join in place leaves nothing beside' all
-# A journal of one conflict of information, in version 1 and in version 2, where its entry has a sender of 16 bytes more
+# A journal of one conflict of information, in version 1 and in version 2, where its entry has a
+# sender of 16 bytes more
 zeros='\000\000\000\000\000\000\000\000\000\000\000\000'
 key="\\000\\000\\000\\000\\000\\007\\001$zeros\\000\\001"
 end='\377\000\000\000\000\000\000\000\001'
@@ -220,7 +231,8 @@ done
 same 'after a fault of join the output is what it was' all one
 holds 'after a fault of join there is no new output' [ ! -e fresh ]
 
-# The same of extract: the object is whole, and the journal is cut behind it, or the object is not whole.
+# The same of extract: the object is whole, and the journal is cut behind it, or the object is not
+# whole.
 head -c $(($(wc -c < both) - 1)) both > cut_both
 first_record=$((8 + $(od -An -tu1 -j6 -N1 sent1) * 256 + $(od -An -tu1 -j7 -N1 sent1)))
 head -c $first_record sent1 > sent_part
@@ -228,7 +240,8 @@ head -c $first_record sent1 > sent_part
 for target in all fresh; do
     cp one all
     run extract -o $target --tsi 7 --toi 1 cut_both
-    check "extract of a whole object from a journal that is cut behind it, to $target" 1 '' 'input 1: Cut'
+    check "extract of a whole object from a journal that is cut behind it, to $target" \
+        1 '' 'input 1: Cut'
     alone "a fault behind an object leaves nothing beside $target" $target
     run extract -o $target --tsi 7 --toi 1 part
     check "extract of a part, to $target" 1 '' 'not whole: 0/1'
@@ -417,7 +430,8 @@ for k in $(seq 20); do
     fi
 done
 passed=$((passed + 1))
-echo "outputs: of 20 runs that were killed, $((20 - kept)) left the old journal and $kept the new one"
+kills="of 20 runs that were killed"
+echo "outputs: $kills, $((20 - kept)) left the old journal and $kept the new one"
 run join -o place place sent5
 check 'the join after the killed ones' 0 - ''
 same 'it has all' place new
@@ -526,7 +540,8 @@ status=$?
 check 'the content from a pipe' 0 'datagrams 2' ''
 same 'its datagrams' got sent2
 
-# closed NAME COMMAND..: with standard output, standard error or both closed, a command that writes OUT leaves it whole.
+# closed NAME COMMAND..: with standard output, standard error or both closed, a command that writes
+# OUT leaves it whole.
 closed() {
     name=$1
     expected=$2
@@ -554,7 +569,8 @@ closed packet none packet 10A004000000000000000007000000010000000068656C6C
 closed show none show two
 closed gaps none gaps two
 closed extract other extract -o closed --tsi 7 --toi 2 two
-closed 'extract of a sender' other extract -o closed --source 00000000000000000000000000000000 --tsi 7 --toi 2 two
+closed 'extract of a sender' other \
+    extract -o closed --source 00000000000000000000000000000000 --tsi 7 --toi 2 two
 "$program" info -o informed --tsi 7 --toi 3 --length 5 --symbol 4 --block 2 two > out
 closed info informed info -o closed --tsi 7 --toi 3 --length 5 --symbol 4 --block 2 two
 closed join two join -o closed two
@@ -593,7 +609,8 @@ else
     echo 'outputs: skipped: a user without leave (no other user can be had here)'
 fi
 
-# A content of more than 4,294,967,295 bytes is told by its length, before it is read; the inputs of join have no such bound.
+# A content of more than 4,294,967,295 bytes is told by its length, before it is read; the inputs of
+# join have no such bound.
 printf 'FLDG\000\001' > huge
 truncate -s 4294967296 huge
 "$program" carousel -o got --tsi 7 --toi 2 --symbol 1400 --block 64 huge > out 2> err &
@@ -611,7 +628,8 @@ for _ in $(seq 256); do
     printf '\377\377'
     cat zeros
 done > chunk
-{ printf 'FLDG\000\001'; for _ in $(seq 257); do cat chunk; done; } | "$program" join -o got two - > out 2> err
+{ printf 'FLDG\000\001'; for _ in $(seq 257); do cat chunk; done; } |
+    "$program" join -o got two - > out 2> err
 status=$?
 check 'a datagram file of more than 4 GiB' 0 'datagrams 65792
 refused 65792

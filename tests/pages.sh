@@ -1,6 +1,7 @@
-# Sourced by the tests of pages: the command lines of a page, run as they stand. Those of each section's blocks of the kind `console` run in a folder, one after another.
-# Each prints what the page shows, and changes no file that was there before it. python3 is all that is needed.
-# Before it is sourced: `name` is the test's, `page` the file, and $1 the program.
+# Sourced by the tests of pages: the command lines of a page, run as they stand. Those of each
+# section's blocks of the kind `console` run in a folder, one after another. Each prints what the
+# page shows, and changes no file that was there before it. python3 is all that is needed. Before it
+# is sourced: `name` is the test's, `page` the file, and $1 the program.
 here=$(dirname "$(readlink -f "$0")")
 work=$(mktemp -d)
 trap 'rm -rf "$work"' EXIT
@@ -18,17 +19,26 @@ told() {
     echo "$name: $1: $2"
 }
 
-# steps TITLE: the command lines of a section, and what the page shows behind each, as files N.command and N.shown
+# steps TITLE: the command lines of a section, and what the page shows behind each, as files
+# N.command and N.shown
 steps() {
     awk -v title="## $1" '
         /^## / { is_section = $0 == title }
         is_section && /^```/ { is_shown = $0 == "```console"; next }
-        is_section && is_shown && /^\$ / { if (++count > 1) close(shown); shown = sprintf("%03d.shown", count); printf "" > shown
-            command = sprintf("%03d.command", count); print substr($0, 3) > command; close(command); next }
+        is_section && is_shown && /^\$ / {
+            if (++count > 1) close(shown)
+            shown = sprintf("%03d.shown", count)
+            printf "" > shown
+            command = sprintf("%03d.command", count)
+            print substr($0, 3) > command
+            close(command)
+            next
+        }
         is_section && is_shown { print > shown }' "$page"
 }
 
-# sums: two lines for each file of the current folder, which another file in its place has not, whatever its bytes
+# sums: two lines for each file of the current folder, which another file in its place has not,
+# whatever its bytes
 sums() {
     { find . -type f -exec cksum {} + && find . -type f -exec ls -i {} +; } | sort
 }
@@ -51,7 +61,8 @@ session() {
         if cmp -s "$work/printed" "$shown"; then
             passed=$((passed + 1))
         else
-            told "$(cat "$command")" "prints '$(head -c 600 "$work/printed")', and the page shows '$(cat "$shown")'"
+            printed=$(head -c 600 "$work/printed")
+            told "$(cat "$command")" "prints '$printed', and the page shows '$(cat "$shown")'"
         fi
         sums | comm -23 "$work/before" - > "$work/changed"
         [ ! -s "$work/changed" ] || told "$(cat "$command")" "changes $(cat "$work/changed")"

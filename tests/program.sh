@@ -19,7 +19,8 @@ check() {
         passed=$((passed + 1))
     else
         failed=$((failed + 1))
-        echo "program: $1: status $status, standard output '$(head -c 400 out)', standard error '$(head -c 400 err)'"
+        echo "program: $1: status $status, standard output '$(head -c 400 out)'," \
+            "standard error '$(head -c 400 err)'"
     fi
 }
 
@@ -46,18 +47,23 @@ file() {
     done > "$name"
 }
 
-# Journals are written here in version 1, as they are read in most checks, and compared in version 2, as the program writes them.
+# Journals are written here in version 1, as they are read in most checks, and compared in version
+# 2, as the program writes them.
 zero=00000000000000000000000000000000
 
-# version2 SENDER HEX..: the bytes of a version 1 journal, or of some of its entries, in version 2 with this sender in each entry. An entry
-# begins with its kind, the TSI, and the object's tag and number, with one space between them.
+# version2 SENDER HEX..: the bytes of a version 1 journal, or of some of its entries, in version 2
+# with this sender in each entry. An entry begins with its kind, the TSI, and the object's tag and
+# number, with one space between them.
 version2() {
     sender=$1
     shift
-    echo "$*" | sed -E "s/^464C4A4E0001/464C4A4E0002/; s/(^| )(0[1-4]) ([[:xdigit:]]{12} 0[01] [[:xdigit:]]{28})/\1\2 $sender \3/g"
+    echo "$*" | sed -E "
+        s/^464C4A4E0001/464C4A4E0002/
+        s/(^| )(0[1-4]) ([[:xdigit:]]{12} 0[01] [[:xdigit:]]{28})/\1\2 $sender \3/g"
 }
 
-# journal NAME HEX..: makes NAME, a version 1 journal of these bytes, and NAME2, the same in version 2, where each sender is zero
+# journal NAME HEX..: makes NAME, a version 1 journal of these bytes, and NAME2, the same in version
+# 2, where each sender is zero
 journal() {
     name=$1
     shift
@@ -100,7 +106,8 @@ journal empty "$header FF 0000000000000000"
 journal conflict "$header 02 $key FF 0000000000000001"
 journal symbol "$header $first FF 0000000000000001"
 journal part "$header $info $first FF 0000000000000002"
-journal instance "$header 03 000000000007 00 0000000000000000000000000003 0000 0000 0001 3C FF 0000000000000001"
+journal instance "$header
+    03 000000000007 00 0000000000000000000000000003 0000 0000 0001 3C FF 0000000000000001"
 
 info_line='session 7 object 1 info length 5 symbol 4 block 2'
 first_line='session 7 object 1 symbol 0/0 length 4 68656c6c'
@@ -184,7 +191,8 @@ gap 0/1-1 missing' ''
 run gaps symbol
 check 'gaps of an object without information' 0 'session 7 object 1 no information' ''
 run gaps conflict
-check 'gaps of an object whose information is in conflict' 0 'session 7 object 1 conflicting information' ''
+check 'gaps of an object whose information is in conflict' 0 \
+    'session 7 object 1 conflicting information' ''
 run gaps empty
 check 'gaps of an empty journal' 0 '' ''
 run gaps bad
@@ -224,8 +232,10 @@ check 'extract from a file that is not there' 3 '' 'cannot open input 1'
 run_to /dev/full extract -o got2 --tsi 7 --toi 1 whole
 check 'extract to a full standard output' 3 '' 'cannot write'
 
-journal others "$header $first 03 $key 0000 0001 0004 6F000000 03 $key 0000 0002 0001 78 FF 0000000000000003"
-journal joined "$header $info $first 04 $key 0000 0001 03 $key 0000 0002 0001 78 FF 0000000000000004"
+journal others "$header $first 03 $key 0000 0001 0004 6F000000 03 $key 0000 0002 0001 78
+    FF 0000000000000003"
+journal joined "$header $info $first 04 $key 0000 0001 03 $key 0000 0002 0001 78
+    FF 0000000000000004"
 journal symbols "$header $first $last FF 0000000000000002"
 file sent "464C44470001
     0028 10A00800 00000000 00000007 00000001 40040000 00000005 00000004 00000002 00000000 68656C6C
@@ -416,8 +426,10 @@ for output in kept got5 no/got /dev/full; do
     printf before > kept
     run join -o $output many more
     check "join of one session too many to $output" 1 '' 'full'
-    [ "$(cat kept)" = before ] || check 'the output that was there before inputs over the limits' x - -
-    [ ! -e kept.partial ] && [ ! -e got5 ] && [ ! -e got5.partial ] || check 'nothing is left of inputs over the limits' x - -
+    [ "$(cat kept)" = before ] ||
+        check 'the output that was there before inputs over the limits' x - -
+    [ ! -e kept.partial ] && [ ! -e got5 ] && [ ! -e got5.partial ] ||
+        check 'nothing is left of inputs over the limits' x - -
 done
 run join -o got5 many more bad
 check 'a fault before too many sessions together' 1 '' 'input 3: Trailing'
@@ -432,7 +444,8 @@ check 'join of nothing' 2 '' -
 run join -o got $(yes whole | head -n 65)
 check 'join of too many inputs' 2 '' 'too many inputs'
 
-# As many symbols of one object as a store holds, from the network and from a journal, and one more of each.
+# As many symbols of one object as a store holds, from the network and from a journal, and one more
+# of each.
 head -c 1048576 /dev/zero > border
 head -c 1048577 /dev/zero > beyond
 run carousel -o border.sent --tsi 7 --toi 1 --symbol 1 --block 65536 border
@@ -478,15 +491,20 @@ check 'full before an object that is not there' 1 '' 'full'
 [ ! -e got8 ] || check 'no file after a full extract' x - -
 rm -f border* beyond* more got6 got7
 
-# As many objects of one session as a store holds, and one more: each has its information in conflict.
+# As many objects of one session as a store holds, and one more: each has its information in
+# conflict.
 for count in 4096 4097; do
     python3 -c "
 import sys
-sys.stdout.buffer.write(b'FLJN\0\1' + b''.join(b'\2' + (7).to_bytes(6, 'big') + b'\1' + n.to_bytes(14, 'big') for n in range(1, $count + 1)))
-sys.stdout.buffer.write(b'\377' + ($count).to_bytes(8, 'big'))" > objects.$count
+out = sys.stdout.buffer
+out.write(b'FLJN\0\1')
+for number in range(1, $count + 1):
+    out.write(b'\2' + (7).to_bytes(6, 'big') + b'\1' + number.to_bytes(14, 'big'))
+out.write(b'\377' + ($count).to_bytes(8, 'big'))" > objects.$count
 done
 run gaps objects.4096
-check 'gaps of as many objects as a store holds' 0 "$(seq 4096 | sed 's/.*/session 7 object & conflicting information/')" ''
+check 'gaps of as many objects as a store holds' 0 \
+    "$(seq 4096 | sed 's/.*/session 7 object & conflicting information/')" ''
 run gaps objects.4097
 check 'gaps of one object more' 1 '' 'full'
 run extract -o got8 --tsi 7 --toi 4096 objects.4096
@@ -498,13 +516,17 @@ rm -f objects.4096 objects.4097
 
 # Journals of version 2. The bytes of `whole2`, all of them by hand:
 file by_hand 464C4A4E 0002 \
-    01 00000000000000000000000000000000 000000000007 01 0000000000000000000000000001 000000000005 0004 00000002 \
-    03 00000000000000000000000000000000 000000000007 01 0000000000000000000000000001 0000 0000 0004 68656C6C \
-    03 00000000000000000000000000000000 000000000007 01 0000000000000000000000000001 0000 0001 0001 6F \
+    01 00000000000000000000000000000000 \
+        000000000007 01 0000000000000000000000000001 000000000005 0004 00000002 \
+    03 00000000000000000000000000000000 \
+        000000000007 01 0000000000000000000000000001 0000 0000 0004 68656C6C \
+    03 00000000000000000000000000000000 \
+        000000000007 01 0000000000000000000000000001 0000 0001 0001 6F \
     FF 0000000000000003
 same 'a journal of version 2, by hand' by_hand whole2
 
-# What old journals tell is told of the new ones too, and a new one is written again as the same bytes.
+# What old journals tell is told of the new ones too, and a new one is written again as the same
+# bytes.
 for old in whole empty conflict symbol part instance others symbols many; do
     for command in show gaps; do
         run $command $old
@@ -563,28 +585,34 @@ hello_of_zero=$(version2 $zero "$info $first $last")
 world_of_v4=$(version2 $v4 "$world")
 file world "$header2 $world_of_v4 FF 0000000000000003"
 file two "$header2 $hello_of_zero $world_of_v4 FF 0000000000000006"
-file three "$header2 $hello_of_zero $(version2 $zero "02 $third 02 $session_8") $world_of_v4 $(version2 $v4 "01 $second 000000000005 0004 00000002") \
+file three "$header2 $hello_of_zero $(version2 $zero "02 $third 02 $session_8")
+    $world_of_v4 $(version2 $v4 "01 $second 000000000005 0004 00000002")
     $(version2 $v6 "02 $key") FF 000000000000000A"
 
 run show world
-check 'show of a journal of 10.0.0.1' 0 "source $v4_lower session 7 object 1 info length 5 symbol 4 block 2
+check 'show of a journal of 10.0.0.1' 0 \
+    "source $v4_lower session 7 object 1 info length 5 symbol 4 block 2
 source $v4_lower session 7 object 1 symbol 0/0 length 4 776f726c
 source $v4_lower session 7 object 1 symbol 0/1 length 1 64
 entries 3" ''
 run gaps world
 check 'gaps of a journal of 10.0.0.1' 0 "source $v4_lower session 7 object 1 whole 5" ''
 fdt_3='000000000007 00 0000000000000000000000000003'
-file states "$header2 $(version2 $v4 "03 $fdt_3 0000 0000 0001 3C 02 $key 01 $second 000000000005 0004 00000002 03 $second 0000 0000 0004 68656C6C \
-    04 $third 0000 0001") FF 0000000000000005"
+states="03 $fdt_3 0000 0000 0001 3C 02 $key
+    01 $second 000000000005 0004 00000002 03 $second 0000 0000 0004 68656C6C
+    04 $third 0000 0001"
+file states "$header2 $(version2 $v4 "$states") FF 0000000000000005"
 run show states
-check 'show of each kind of entry of 10.0.0.1' 0 "source $v4_lower session 7 object fdt 3 symbol 0/0 length 1 3c
+check 'show of each kind of entry of 10.0.0.1' 0 \
+    "source $v4_lower session 7 object fdt 3 symbol 0/0 length 1 3c
 source $v4_lower session 7 object 1 info conflict
 source $v4_lower session 7 object 2 info length 5 symbol 4 block 2
 source $v4_lower session 7 object 2 symbol 0/0 length 4 68656c6c
 source $v4_lower session 7 object 3 symbol 0/1 conflict
 entries 5" ''
 run gaps states
-check 'gaps of each kind of object of 10.0.0.1' 0 "source $v4_lower session 7 object fdt 3 no information
+check 'gaps of each kind of object of 10.0.0.1' 0 \
+    "source $v4_lower session 7 object fdt 3 no information
 source $v4_lower session 7 object 1 conflicting information
 source $v4_lower session 7 object 2 partial missing 1 conflicting 0 misfit 0
 gap 0/1-1 missing
@@ -615,7 +643,8 @@ source $v6_lower session 7 object 1 info conflict
 entries 10" ''
 
 # Inputs of both versions and of several senders come to one journal.
-for inputs in 'whole world' 'world whole' 'whole2 world' 'world whole2' 'two whole' 'world two' 'two two'; do
+for inputs in 'whole world' 'world whole' 'whole2 world' 'world whole2' \
+    'two whole' 'world two' 'two two'; do
     run merge -o got $inputs
     check "merge of $inputs" 0 'entries 6' ''
     same "the journal of two senders, merged from $inputs" got two
@@ -678,7 +707,8 @@ for source in $v6 $v6_lower 20010dB8000000000000000000000001; do
 done
 
 # info: to an object of the sender that is told
-file informed "$header2 $(version2 $zero "$first $last") $(version2 $v4 "$info") FF 0000000000000003"
+file informed "$header2 $(version2 $zero "$first $last") $(version2 $v4 "$info")
+    FF 0000000000000003"
 for source in $v4 $v4_lower 00000000000000000000FfFf0a000001 0A000001 0a000001; do
     for words in "--source $source" "--source=$source"; do
         : > got
@@ -705,7 +735,8 @@ source $v4_lower session 7 object 1 conflicting information" ''
 run info -o got --source 00000000 --tsi 7 --toi 0 --fdt 3 --length 5 --symbol 4 --block 2 empty
 check 'info of an FDT Instance of 0.0.0.0' 0 'entries 1' ''
 run show got
-check 'the information of an FDT Instance of 0.0.0.0' 0 'source 00000000000000000000ffff00000000 session 7 object fdt 3 info length 5 symbol 4 block 2
+check 'the information of an FDT Instance of 0.0.0.0' 0 \
+    'source 00000000000000000000ffff00000000 session 7 object fdt 3 info length 5 symbol 4 block 2
 entries 1' ''
 # The limit on sessions counts those of all senders.
 run info -o got8 --source 0a000001 --tsi 63 --toi 1 --length 5 --symbol 4 --block 2 many
@@ -731,7 +762,8 @@ check 'join of two datagram files of one sender' 0 'datagrams 4
 refused 0
 entries 3' ''
 same 'the journal of two datagram files of one sender' got hello_v4
-for inputs in 'sent whole' 'whole sent' 'whole2 sent' 'sent whole2 sent' 'hello_both sent' 'hello_v4 whole'; do
+for inputs in 'sent whole' 'whole sent' 'whole2 sent' 'sent whole2 sent' \
+    'hello_both sent' 'hello_v4 whole'; do
     : > got
     run join -o got --source 0a000001 $inputs
     check "join of datagrams of a sender and journals: $inputs" 0 - ''
@@ -759,7 +791,8 @@ run join -o got8 mixed
 check 'join of 66 sessions' 1 '' 'full'
 run join -o got8 strays whole
 check 'join of 65 sessions and a journal' 1 '' 'full'
-for words in '--tsi 7 mixed' '--tsi=7 mixed' '--tsi 7 strays sent' '--tsi 7 sent strays' '--tsi 7 --tsi 7 mixed' '--tsi 007 mixed'; do
+for words in '--tsi 7 mixed' '--tsi=7 mixed' '--tsi 7 strays sent' '--tsi 7 sent strays' \
+    '--tsi 7 --tsi 7 mixed' '--tsi 007 mixed'; do
     : > got
     run join -o got $words
     check "join of one session: $words" 0 'datagrams 132
@@ -800,7 +833,8 @@ run merge -o journal65 journal64 whole
 check 'merge of 65 sessions' 0 'entries 195' ''
 run join -o got8 journal65
 check 'join of a journal of 65 sessions' 1 '' 'full'
-for words in '--tsi 7 journal65' '--tsi 7 journal64 whole' '--tsi 7 whole journal64' '--tsi 7 journal65 whole2' '--tsi 7 journal64 sent'; do
+for words in '--tsi 7 journal65' '--tsi 7 journal64 whole' '--tsi 7 whole journal64' \
+    '--tsi 7 journal65 whole2' '--tsi 7 journal64 sent'; do
     : > got
     run join -o got $words
     check "join of one session of journals: $words" 0 - ''
@@ -816,7 +850,8 @@ check 'join of two sessions of a journal and a file' 0 'datagrams 132
 refused 0
 others 317
 entries 6' ''
-# What is not asked for is read and checked all the same, and a refused datagram is no other session's.
+# What is not asked for is read and checked all the same, and a refused datagram is no other
+# session's.
 (cat mixed; printf '\000\002ab') > refused_too
 run join -o got --tsi 7 refused_too
 check 'a refused datagram is no other session' 0 'datagrams 133
@@ -874,21 +909,26 @@ check 'extract of the sender zero where it sent nothing' 1 '' 'no object'
 
 # A source that is none: told behind the numbers and before all else, and nothing is made.
 printf before > kept
-for source in '' A 0 0A00001 0A0000010 0A00 0000000000000000 ${v4%?} ${v4}0 ${v4}00 0G000001 0g000001 ${v4%?}G -A000001 -0A00001 -0A000001 \
-    - -- -h +A000001 ' A000001' '0A000001 ' '0A 00001' 10.0.0.1 ::1 ::ffff:10.0.0.1 0x0A0000 0x0A000001; do
+for source in '' A 0 0A00001 0A0000010 0A00 0000000000000000 ${v4%?} ${v4}0 ${v4}00 \
+    0G000001 0g000001 ${v4%?}G -A000001 -0A00001 -0A000001 - -- -h \
+    +A000001 ' A000001' '0A000001 ' '0A 00001' 10.0.0.1 ::1 ::ffff:10.0.0.1 0x0A0000 0x0A000001
+do
     for output in kept got8; do
         run extract -o $output --source "$source" --tsi 7 --toi 1 three
         check "extract to $output with the source '$source'" 2 '' 'bad source'
         run extract -o $output "--source=$source" --tsi 7 --toi 0 missing
-        check "extract to $output with the source '$source' before the key and the input" 2 '' 'bad source'
+        check "extract to $output with the source '$source' before the key and the input" \
+            2 '' 'bad source'
         run info -o $output --source "$source" --tsi 7 --toi 1 --length 5 --symbol 4 --block 2 three
         check "info to $output with the source '$source'" 2 '' 'bad source'
         run join -o $output --source "$source" sent three
         check "join to $output with the source '$source'" 2 '' 'bad source'
         run join -o $output "--source=$source" missing
         check "join to $output with the source '$source' before the input" 2 '' 'bad source'
-        run info -o $output "--source=$source" --tsi 7 --toi 1 --fdt 3 --length 5 --symbol 0 --block 2 missing
-        check "info to $output with the source '$source' before the key, the information and the input" 2 '' 'bad source'
+        run info -o $output "--source=$source" --tsi 7 --toi 1 --fdt 3 \
+            --length 5 --symbol 0 --block 2 missing
+        told="with the source '$source' before the key, the information and the input"
+        check "info to $output $told" 2 '' 'bad source'
     done
 done
 run extract -o got8 --source 0A000001 --tsi 7 --toi 0 missing
@@ -896,7 +936,8 @@ check 'extract with a bad key and a good source' 2 '' 'bad key'
 run info -o got8 --source 0A000001 --tsi 7 --toi 0 --length 5 --symbol 0 --block 2 missing
 check 'info with a bad key and a good source' 2 '' 'bad key'
 for name in tsi toi fdt length symbol block; do
-    words=$(echo '--tsi 7 --toi 0 --fdt 3 --length 5 --symbol 4 --block 2' | sed "s/--$name [0-9]*/--$name x/")
+    words=$(echo '--tsi 7 --toi 0 --fdt 3 --length 5 --symbol 4 --block 2' |
+        sed "s/--$name [0-9]*/--$name x/")
     run info -o kept --source 0 $words missing
     check "a bad --$name of info before a bad source" 2 '' "bad number: --$name"
     run info -o kept $words --source -A000001 missing
@@ -931,39 +972,52 @@ for words in 'show three' 'gaps three' 'merge -o kept three three' "packet $symb
 done
 run extract -o kept --source 0A000001 --tsi 7 --toi 1 --source 0A000001 three
 told_first 'extract with two sources' "the argument '--source <HEX>' cannot be used multiple times"
-run info -o kept --source 0A000001 --tsi 7 --toi 1 --length 5 --symbol 4 --block 2 --source 0A000002 three
+run info -o kept --source 0A000001 --tsi 7 --toi 1 --length 5 --symbol 4 --block 2 \
+    --source 0A000002 three
 told_first 'info with two sources' "the argument '--source <HEX>' cannot be used multiple times"
 run join -o kept --source 0A000001 --source 0A000002 sent
 told_first 'join with two sources' "the argument '--source <HEX>' cannot be used multiple times"
 run extract -o kept --tsi 7 --toi 1 three --source
-told_first 'a source without a value' "a value is required for '--source <HEX>' but none was supplied"
-[ "$(cat kept)" = before ] && [ ! -e kept.partial ] || check 'the output that was there before bad sources' x - -
-[ ! -e got8 ] && [ ! -e got8.partial ] || check 'nothing is made with a bad source, or of an object that the sender has not' x - -
+told_first 'a source without a value' \
+    "a value is required for '--source <HEX>' but none was supplied"
+[ "$(cat kept)" = before ] && [ ! -e kept.partial ] ||
+    check 'the output that was there before bad sources' x - -
+[ ! -e got8 ] && [ ! -e got8.partial ] ||
+    check 'nothing is made with a bad source, or of an object that the sender has not' x - -
 
 # The faults of version 2
 fault Version "$(version2 $v4 "464C4A4E0003 $info FF 0000000000000001")" ''
 fault Version "464C4A4E0000 FF 0000000000000000" ''
 fault Kind "$header2 $(version2 $v4 "$info") 05 $v4 $key" "source $v4_lower $info_line"
-fault Key "$header2 $(version2 $v4 "02 000000000007 01 0000000000000000000000000000") FF 0000000000000001" ''
-fault 'Information BlockLength' "$header2 $(version2 $v4 "01 $key 000000000005 0004 00000000") FF 0000000000000001" ''
+fault Key "$header2 $(version2 $v4 "02 000000000007 01 0000000000000000000000000000")
+    FF 0000000000000001" ''
+fault 'Information BlockLength' "$header2 $(version2 $v4 "01 $key 000000000005 0004 00000000")
+    FF 0000000000000001" ''
 fault EmptySymbol "$header2 $(version2 $v4 "03 $key 0000 0000 0000") FF 0000000000000001" ''
-fault Order "$header2 $(version2 $v4 "02 $key") $(version2 $zero "02 $session_8") FF 0000000000000002" \
-    "source $v4_lower session 7 object 1 info conflict"
-fault Order "$header2 $(version2 $v6 "02 $key") $(version2 $v4 "02 $session_8") FF 0000000000000002" \
-    "source $v6_lower session 7 object 1 info conflict"
-fault Order "$header2 $(version2 $v4 "02 $key $info") FF 0000000000000002" "source $v4_lower session 7 object 1 info conflict"
-fault Order "$header2 $(version2 $v4 "02 $session_8 02 $key") FF 0000000000000002" "source $v4_lower session 8 object 1 info conflict"
-fault Count "$header2 $world_of_v4 FF 0000000000000004" "$(printf '%s\n' "source $v4_lower $info_line" \
-    "source $v4_lower session 7 object 1 symbol 0/0 length 4 776f726c" "source $v4_lower session 7 object 1 symbol 0/1 length 1 64")"
-fault Trailing "$header2 $(version2 $v4 "$info") FF 0000000000000001 00" "source $v4_lower $info_line"
-fault Cut "$header2 $(version2 $v4 "$info") 03 00000000000000000000FFFF0A0000" "source $v4_lower $info_line"
+conflict_of_v4="source $v4_lower session 7 object 1 info conflict"
+fault Order "$header2 $(version2 $v4 "02 $key") $(version2 $zero "02 $session_8")
+    FF 0000000000000002" "$conflict_of_v4"
+fault Order "$header2 $(version2 $v6 "02 $key") $(version2 $v4 "02 $session_8")
+    FF 0000000000000002" "source $v6_lower session 7 object 1 info conflict"
+fault Order "$header2 $(version2 $v4 "02 $key $info") FF 0000000000000002" "$conflict_of_v4"
+fault Order "$header2 $(version2 $v4 "02 $session_8 02 $key") FF 0000000000000002" \
+    "source $v4_lower session 8 object 1 info conflict"
+fault Count "$header2 $world_of_v4 FF 0000000000000004" "source $v4_lower $info_line
+source $v4_lower session 7 object 1 symbol 0/0 length 4 776f726c
+source $v4_lower session 7 object 1 symbol 0/1 length 1 64"
+fault Trailing "$header2 $(version2 $v4 "$info") FF 0000000000000001 00" \
+    "source $v4_lower $info_line"
+fault Cut "$header2 $(version2 $v4 "$info") 03 00000000000000000000FFFF0A0000" \
+    "source $v4_lower $info_line"
 # What an entry has is said by the version of its journal alone.
 fault Cut "$header2 02 $key FF 0000000000000001" ''
 fault Kind "$header 02 $zero $key FF 0000000000000001" 'session 0 object fdt 0 info conflict'
 
-# at_fault NAME STATUS OUT ERR: each command that reads a journal tells so of `bad`, and makes nothing
+# at_fault NAME STATUS OUT ERR: each command that reads a journal tells so of `bad`, and makes
+# nothing
 at_fault() {
-    for words in 'show bad' 'gaps bad' 'extract -o got8 --tsi 7 --toi 1 bad' 'info -o got8 --tsi 7 --toi 1 --length 5 --symbol 4 --block 2 bad' \
+    for words in 'show bad' 'gaps bad' 'extract -o got8 --tsi 7 --toi 1 bad' \
+        'info -o got8 --tsi 7 --toi 1 --length 5 --symbol 4 --block 2 bad' \
         'join -o got8 bad' 'merge -o got8 bad whole'; do
         run $words
         check "$words: $1" "$2" "$3" "$4"
@@ -985,7 +1039,8 @@ for version in 0002 0003 0000; do
     run join -o got8 world bad
     check "join with a datagram file of version $version" 1 '' 'input 2: Version'
 done
-[ ! -e got8 ] && [ ! -e got8.partial ] || check 'nothing is made of a datagram file of another version' x - -
+[ ! -e got8 ] && [ ! -e got8.partial ] ||
+    check 'nothing is made of a datagram file of another version' x - -
 
 run frob
 check 'a command that does not exist' 2 '' -
@@ -998,7 +1053,8 @@ check 'an argument that is not text' 2 '' 'an argument is not text'
 
 run --help
 check 'help' 0 - ''
-grep -q '10A004000000000000000007000000010000000068656C6C' out || check 'help gives an example' x - -
+grep -q '10A004000000000000000007000000010000000068656C6C' out ||
+    check 'help gives an example' x - -
 # The example lines of a help text, which are run as they stand.
 examples() {
     sed -n '/[Ee]xample/,$ { s/^  \(flutejoin .*\)/\1/p; s/^  \(seq .*\)/\1/p; }' "$1"

@@ -1,7 +1,7 @@
 #!/bin/sh
-# The sessions of README and of docs/OPERATING.md, run as they are printed. A page's block of commands that
-# is not run is a failure. The commands that need a network are not run: what they leave is made of the files
-# of the first session.
+# The sessions of README and of docs/OPERATING.md, run as they are printed. A page's block of
+# commands that is not run is a failure. The commands that need a network are not run: what they
+# leave is made of the files of the first session.
 # usage: tests/readme.sh PROGRAM
 set -u
 name=readme
@@ -11,12 +11,20 @@ page=$(dirname "$(readlink -f "$0")")/../README.md
 # all_run TITLE..: the sections of the page that have commands are those with these titles
 all_run() {
     printf '%s\n' "$@" | sort > "$work/run"
-    awk '/^## / { title = substr($0, 4) } /^```console/ { print title }' "$page" | sort -u > "$work/titles"
+    awk '
+        /^## / { title = substr($0, 4) }
+        /^```console/ { print title }' "$page" | sort -u > "$work/titles"
     if cmp -s "$work/run" "$work/titles"; then
         passed=$((passed + 1))
     else
-        told "$page" "has commands in other sections than those that are run: $(diff "$work/run" "$work/titles")"
+        others=$(diff "$work/run" "$work/titles")
+        told "$page" "has commands in other sections than those that are run: $others"
     fi
+}
+
+# same_file TITLE FILE OUT: what a section extracts is the file that was sent
+same_file() {
+    if cmp -s "$2" "$3"; then passed=$((passed + 1)); else told "$1" 'another file comes out'; fi
 }
 
 session 'A short session' short
@@ -28,7 +36,7 @@ echo 'monday.pcap|10.0.0.1=short/sent' > rows
 python3 "$here/captures.py" make rows monday || told 'the capture' 'cannot be made'
 rm -r monday/*.kept
 session 'From your network' monday
-if cmp -s "$work/short/file" "$work/monday/whole"; then passed=$((passed + 1)); else told 'From your network' 'another file comes out'; fi
+same_file 'From your network' "$work/short/file" "$work/monday/whole"
 all_run 'A short session' 'From your network'
 
 page=$here/../docs/OPERATING.md
@@ -50,7 +58,7 @@ python3 "$here/captures.py" make rows network || told 'the captures' 'cannot be 
 rm -r network/*.kept
 cp session/received3 network/station3/10.0.0.1.fldg
 session 'From your network' network
-if cmp -s "$work/session/file" "$work/network/out"; then passed=$((passed + 1)); else told 'From your network' 'another file comes out'; fi
+same_file 'From your network' "$work/session/file" "$work/network/out"
 all_run 'A session, step by step' 'What is missing, as a picture' 'From your network'
 
 echo "readme: $passed passed, $failed failed"

@@ -1,12 +1,14 @@
 #!/bin/sh
-# Receives what is sent to 127.0.0.1, and to groups on the loopback of a network namespace of its own, and compares the datagram
-# files and the journals with those of what was sent. Nothing is sent anywhere else.
+# Receives what is sent to 127.0.0.1, and to groups on the loopback of a network namespace of its
+# own, and compares the datagram files and the journals with those of what was sent. Nothing is sent
+# anywhere else.
 # usage: tests/receive.sh PROGRAM
 set -u
 program=$(readlink -f "$1")
 script=$(readlink -f "$0")
 receive=$(dirname "$script")/../tools/flutejoin-receive
-# The interpreter itself, and without packages of the machine (-S): what stands for it on the PATH may take longer than the tool.
+# The interpreter itself, and without packages of the machine (-S): what stands for it on the PATH
+# may take longer than the tool.
 python=$(python3 -c 'import sys; print(sys.executable)')
 work=$(mktemp -d)
 trap 'rm -rf "$work"' EXIT
@@ -19,7 +21,8 @@ told() {
     echo "receive: $1: $2"
 }
 
-# check NAME STATUS OUT ERR: what the last run left must be this ("-": anything). The line that tells that it listens is not compared.
+# check NAME STATUS OUT ERR: what the last run left must be this ("-": anything). The line that
+# tells that it listens is not compared.
 check() {
     ok=1
     [ "$2" = - ] || [ "$status" = "$2" ] || ok=0
@@ -28,7 +31,8 @@ check() {
     if [ $ok = 1 ]; then
         passed=$((passed + 1))
     else
-        told "$1" "status $status, standard output '$(head -c 400 out)', standard error '$(head -c 400 err)'"
+        printed=$(head -c 400 out)
+        told "$1" "status $status, standard output '$printed', standard error '$(head -c 400 err)'"
     fi
 }
 
@@ -52,7 +56,8 @@ holds() {
     fi
 }
 
-# send FILE [SOURCE [TARGET [FIRST [COUNT]]]]: sends the datagrams of a file, of which the first has the number 0
+# send FILE [SOURCE [TARGET [FIRST [COUNT]]]]: sends the datagrams of a file, of which the first has
+# the number 0
 cat > send.py <<'PYTHON'
 import socket, struct, sys
 file, source, target, port, first, count = *sys.argv[1:4], *map(int, sys.argv[4:])
@@ -99,12 +104,14 @@ has_ended() { ! kill -0 "$receiver" 2> /dev/null; }
 is_ready() { grep -q ': listening ' err || has_ended; }
 listen_at='--interface 127.0.0.1'
 
-# start WORD..: starts to receive, and waits until it listens or has ended. The seconds end a run that hangs.
+# start WORD..: starts to receive, and waits until it listens or has ended. The seconds end a run
+# that hangs.
 start() {
     : > out
     : > err
     # shellcheck disable=SC2086
-    $limit "$python" -S "$receive" --port "$port" $listen_at --buffer 200000 --seconds 30 "$@" > out 2> err &
+    $limit "$python" -S "$receive" --port "$port" $listen_at --buffer 200000 --seconds 30 "$@" \
+        > out 2> err &
     receiver=$!
     until_true is_ready
 }
@@ -167,7 +174,8 @@ groups() {
     group IPv4 239.1.1.1 127.0.0.1 127.0.0.2
     group source-specific-IPv4 232.1.1.1 127.0.0.1 127.0.0.2
 
-    # The interface by its address; another group at the port is not received, nor what is sent to the address itself.
+    # The interface by its address; another group at the port is not received, nor what is sent to
+    # the address itself.
     start --group 239.1.1.1 --interface 127.0.0.1 --from 127.0.0.2 --count 2 -o by_address
     send sent2 127.0.0.2 239.1.1.2
     send sent2 127.0.0.2 127.0.0.1
@@ -200,18 +208,21 @@ groups() {
     wait $first
     receiver=$other
     finish
-    check 'each address of an interface, of IPv4' 0 "alone/127.0.0.1.fldg: 2 datagrams from 127.0.0.1
+    check 'each address of an interface, of IPv4' 0 \
+        "alone/127.0.0.1.fldg: 2 datagrams from 127.0.0.1
 flutejoin join --source 7f000001 -o alone/127.0.0.1.journal alone/127.0.0.1.fldg" ''
 
     # A loopback takes no groups of IPv6 unless they are routed to it as addresses of its own.
-    if ip -6 addr add 2001:db8::1/128 dev lo nodad 2> err && ip -6 addr add 2001:db8::2/128 dev lo nodad \
-        && ip -6 route add local ff00::/8 dev lo table local; then
+    if ip -6 addr add 2001:db8::1/128 dev lo nodad 2> err &&
+        ip -6 addr add 2001:db8::2/128 dev lo nodad &&
+        ip -6 route add local ff00::/8 dev lo table local; then
         group IPv6 ff3e::8000:1 2001:db8::1 2001:db8::2
         start --count 2 -o alone6
         send sent2 2001:db8::1 ::1
         finish
-        check 'each address, of IPv6' 0 "alone6/2001-db8--1.fldg: 2 datagrams from 2001:db8::1
-flutejoin join --source 20010db8000000000000000000000001 -o alone6/2001-db8--1.journal alone6/2001-db8--1.fldg" ''
+        stem=alone6/2001-db8--1
+        check 'each address, of IPv6' 0 "$stem.fldg: 2 datagrams from 2001:db8::1
+flutejoin join --source 20010db8000000000000000000000001 -o $stem.journal $stem.fldg" ''
     else
         echo 'receive: skipped: IPv6 (the loopback cannot have addresses of it)'
     fi
@@ -222,7 +233,13 @@ if [ "${2:-}" = groups ]; then
     exit
 fi
 
-free_port() { "$python" -S -c 'import socket; udp = socket.socket(socket.AF_INET, socket.SOCK_DGRAM); udp.bind(("127.0.0.1", 0)); print(udp.getsockname()[1])'; }
+free_port() {
+    "$python" -S -c '
+import socket
+udp = socket.socket(socket.AF_INET, socket.SOCK_DGRAM)
+udp.bind(("127.0.0.1", 0))
+print(udp.getsockname()[1])'
+}
 port=$(free_port)
 
 # Two senders
@@ -246,8 +263,9 @@ same 'the file' got file
 start --count 2 -o two
 send sent2
 finish
+journal=two/127.0.0.1.journal
 check 'a second run' 0 "two/127.0.0.1.fldg: 42 datagrams from 127.0.0.1, 2 of them new
-flutejoin join --source 7f000001 -o two/127.0.0.1.journal two/127.0.0.1.journal two/127.0.0.1.fldg" ''
+flutejoin join --source 7f000001 -o $journal $journal two/127.0.0.1.fldg" ''
 { cat sent; tail -c +7 sent2; } > both
 same 'it goes on behind the first' two/127.0.0.1.fldg both
 same 'the other file stays' two/127.0.0.2.fldg sent
@@ -255,7 +273,8 @@ run_lines
 "$program" join -o direct --source 7f000001 both > out
 same 'the journal of both runs' two/127.0.0.1.journal direct
 
-# A file that a kill cut, at each kind of place: in the header, behind it, in a length, in a datagram, and behind a record
+# A file that a kill cut, at each kind of place: in the header, behind it, in a length, in a
+# datagram, and behind a record
 set -- 0 0 1 0 5 0 6 0 7 0 8 0 1044 1 1045 1 20000 19
 while [ $# -gt 0 ]; do
     length=$1 whole=$2
@@ -267,7 +286,10 @@ while [ $# -gt 0 ]; do
     rest=$((length - $(stat -c %s expected)))
     [ "$length" -ge 6 ] || rest=$length
     told_cut=
-    [ $rest = 0 ] || told_cut="flutejoin-receive: cut/127.0.0.1.fldg: a record was cut at its end; these $rest bytes are taken away"
+    if [ $rest != 0 ]; then
+        told_cut="flutejoin-receive: cut/127.0.0.1.fldg: a record was cut at its end;"
+        told_cut="$told_cut these $rest bytes are taken away"
+    fi
     tail -c +7 sent2 >> expected
     start --count 2 -o cut
     send sent2
@@ -277,23 +299,27 @@ while [ $# -gt 0 ]; do
 done
 
 # What is no datagram file is refused, and left as it is.
+is_none='is no datagram file of version 1, and is left as it is'
 for bytes in 'FLDG\000\002' 'FLJN\000\002' 'hello, world' x; do
     rm -rf other
     mkdir other
     printf "$bytes" > other/127.0.0.9.fldg
     cp other/127.0.0.9.fldg before
     run -o other
-    check "a file that begins with $bytes" 1 '' 'flutejoin-receive: other/127.0.0.9.fldg: is no datagram file of version 1, and is left as it is'
+    check "a file that begins with $bytes" 1 '' \
+        "flutejoin-receive: other/127.0.0.9.fldg: $is_none"
     same "a file that begins with $bytes stays" other/127.0.0.9.fldg before
 done
 rm -f other/127.0.0.9.fldg
 mkfifo other/127.0.0.9.fldg
 run -o other
-check 'a pipe' 1 '' 'flutejoin-receive: other/127.0.0.9.fldg: is no regular file, and is left as it is'
+check 'a pipe' 1 '' \
+    'flutejoin-receive: other/127.0.0.9.fldg: is no regular file, and is left as it is'
 rm -f other/127.0.0.9.fldg
 mkdir other/127.0.0.9.fldg
 run -o other
-check 'a folder in place of a file' 3 '' 'flutejoin-receive: cannot open other/127.0.0.9.fldg: Is a directory'
+check 'a folder in place of a file' 3 '' \
+    'flutejoin-receive: cannot open other/127.0.0.9.fldg: Is a directory'
 rmdir other/127.0.0.9.fldg
 for name in notes.fldg 127.0.0.9.1.fldg 127.0.0.09.fldg 127.0.0.9.fldg.partial; do
     echo x > other/$name
@@ -355,19 +381,22 @@ holds 'nothing leaves no file' rmdir nothing
 start --count 40 --split 10000 -o parts
 send sent
 finish
+parts='parts/127.0.0.1.fldg parts/127.0.0.1.2.fldg parts/127.0.0.1.3.fldg'
+parts="$parts parts/127.0.0.1.4.fldg parts/127.0.0.1.5.fldg"
 check 'a split' 0 "parts/127.0.0.1.fldg: 9 datagrams from 127.0.0.1
 parts/127.0.0.1.2.fldg: 9 datagrams from 127.0.0.1
 parts/127.0.0.1.3.fldg: 9 datagrams from 127.0.0.1
 parts/127.0.0.1.4.fldg: 9 datagrams from 127.0.0.1
 parts/127.0.0.1.5.fldg: 4 datagrams from 127.0.0.1
-flutejoin join --source 7f000001 -o parts/127.0.0.1.journal parts/127.0.0.1.fldg parts/127.0.0.1.2.fldg parts/127.0.0.1.3.fldg parts/127.0.0.1.4.fldg parts/127.0.0.1.5.fldg" ''
+flutejoin join --source 7f000001 -o parts/127.0.0.1.journal $parts" ''
 run_lines
 same 'the journal of the parts' parts/127.0.0.1.journal direct.7f000001
 start --count 2 --split 10000 -o parts
 send sent2
 finish
 check 'the last part goes on' 0 - ''
-holds 'in its place' grep -q '^parts/127.0.0.1.5.fldg: 6 datagrams from 127.0.0.1, 2 of them new$' out
+holds 'in its place' \
+    grep -q '^parts/127.0.0.1.5.fldg: 6 datagrams from 127.0.0.1, 2 of them new$' out
 # A file of 16,777,215 datagrams of no bytes takes one more.
 mkdir most
 printf 'FLDG\000\001' > most/127.0.0.1.fldg
@@ -375,9 +404,11 @@ truncate -s $((6 + 2 * 16777215)) most/127.0.0.1.fldg
 start --count 2 -o most
 send sent2
 finish
-check 'as many datagrams as a file may have' 0 "most/127.0.0.1.fldg: 16777216 datagrams from 127.0.0.1, 1 of them new
+parts='most/127.0.0.1.fldg most/127.0.0.1.2.fldg'
+check 'as many datagrams as a file may have' 0 \
+    "most/127.0.0.1.fldg: 16777216 datagrams from 127.0.0.1, 1 of them new
 most/127.0.0.1.2.fldg: 1 datagrams from 127.0.0.1
-flutejoin join --source 7f000001 -o most/127.0.0.1.journal most/127.0.0.1.fldg most/127.0.0.1.2.fldg" ''
+flutejoin join --source 7f000001 -o most/127.0.0.1.journal $parts" ''
 rm -rf most
 start --count 80 --split 1 -o many
 send sent
@@ -410,11 +441,16 @@ start --senders 1 -o few
 send sent2 127.0.0.2
 kill -INT $receiver
 finish
-check 'files of earlier runs count as senders' 1 'left out 2: more than 1 senders (--senders takes more, and --from names the one)' \
+check 'files of earlier runs count as senders' 1 \
+    'left out 2: more than 1 senders (--senders takes more, and --from names the one)' \
     'flutejoin-receive: no datagrams came'
 
 # The shortest and the longest datagrams
-{ printf 'FLDG\000\001\000\000\377\343'; head -c 65507 /dev/urandom; printf '\000\000\000\001x'; } > extremes
+{
+    printf 'FLDG\000\001\000\000\377\343'
+    head -c 65507 /dev/urandom
+    printf '\000\000\000\001x'
+} > extremes
 start --count 4 -o extreme
 send extremes
 finish
@@ -433,18 +469,21 @@ kept=$(sed -n 's/.*fldg: \([0-9]*\) datagrams from .*/\1/p' out)
 dropped=$(sed -n 's/^left out \([0-9]*\): dropped by the system .*/\1/p' out)
 holds 'all are kept or told' [ $((${kept:-0} + ${dropped:-0})) = 40 ]
 holds 'some were dropped' [ "${dropped:-0}" -gt 0 ]
-holds 'and told while it runs' grep -q '^flutejoin-receive: the system dropped [0-9]* datagrams$' err
+holds 'and told while it runs' \
+    grep -q '^flutejoin-receive: the system dropped [0-9]* datagrams$' err
 
 # Several runs at once
 start -o first
 first=$receiver
 mv out out1
 run -o second
-check 'a second run on one address' 3 '' "flutejoin-receive: cannot listen at 127.0.0.1 port $port: Address already in use"
+check 'a second run on one address' 3 '' \
+    "flutejoin-receive: cannot listen at 127.0.0.1 port $port: Address already in use"
 port_of_first=$port
 port=$(free_port)
 run -o first
-check 'a second run with one folder' 3 '' 'flutejoin-receive: cannot use the folder first: another run writes into it'
+check 'a second run with one folder' 3 '' \
+    'flutejoin-receive: cannot use the folder first: another run writes into it'
 port=$port_of_first
 send sent2
 until_true has_size first/127.0.0.1.fldg "$(stat -c %s sent2)"
@@ -453,25 +492,28 @@ wait $first
 same 'the first run goes on' first/127.0.0.1.fldg sent2
 
 # Folders that cannot be written
+cannot='flutejoin-receive: cannot use the folder'
 run -o file
-check 'a file as the folder' 3 '' 'flutejoin-receive: cannot use the folder file: Not a directory'
+check 'a file as the folder' 3 '' "$cannot file: Not a directory"
 run -o missing/folder
-check 'a folder in one that is not there' 3 '' 'flutejoin-receive: cannot use the folder missing/folder: No such file or directory'
+check 'a folder in one that is not there' 3 '' "$cannot missing/folder: No such file or directory"
 run -o /proc/folder
-check 'a folder that cannot be made' 3 '' 'flutejoin-receive: cannot use the folder /proc/folder: No such file or directory'
+check 'a folder that cannot be made' 3 '' "$cannot /proc/folder: No such file or directory"
 mkdir locked
 chmod 555 locked
+nobody='setpriv --reuid=65534 --regid=65534 --clear-groups'
 if [ "$(id -u)" != 0 ]; then
     run -o locked
-    check 'a folder without leave to write' 3 '' 'flutejoin-receive: cannot use the folder locked: it cannot be written'
-elif setpriv --reuid=65534 --regid=65534 --clear-groups "$python" -S "$receive" --help > out 2> err; then
+    check 'a folder without leave to write' 3 '' "$cannot locked: it cannot be written"
+elif $nobody "$python" -S "$receive" --help > out 2> err; then
     chmod 755 .
-    limit='setpriv --reuid=65534 --regid=65534 --clear-groups'
+    limit=$nobody
     run -o "$work/locked"
     limit=
-    check 'a folder without leave to write' 3 '' "flutejoin-receive: cannot use the folder $work/locked: it cannot be written"
+    check 'a folder without leave to write' 3 '' "$cannot $work/locked: it cannot be written"
 else
-    echo 'receive: skipped: a folder without leave (no other user can be had here, or the tool is not theirs to run)'
+    echo 'receive: skipped: a folder without leave (no other user can be had here,' \
+        'or the tool is not theirs to run)'
 fi
 
 # A limit on a file's length, and a full disk: the files end behind a whole record.
@@ -492,7 +534,8 @@ limit=
 send sent
 finish
 check 'a limit on the length of a file' 3 - -
-holds 'the limit is told' grep -q '^flutejoin-receive: cannot write limited/127.0.0.1.fldg: File too large$' err
+holds 'the limit is told' \
+    grep -q '^flutejoin-receive: cannot write limited/127.0.0.1.fldg: File too large$' err
 ends_whole 'a limit on the length of a file' limited/127.0.0.1.fldg
 mkdir full
 cat > on_small_disk.sh <<'SHELL'
@@ -509,7 +552,8 @@ if unshare -rm mount -t tmpfs -o size=20k none full 2> held; then
     send sent
     finish
     check 'a full disk' 3 - -
-    holds 'the full disk is told' grep -q '^flutejoin-receive: cannot write full/127.0.0.1.fldg: No space left on device$' err
+    full='cannot write full/127.0.0.1.fldg: No space left on device'
+    holds 'the full disk is told' grep -q "^flutejoin-receive: $full\$" err
     ends_whole 'a full disk' after/127.0.0.1.fldg
 else
     echo "receive: skipped: a full disk (no file system can be mounted here: $(head -n 1 held))"
@@ -517,7 +561,8 @@ fi
 
 # A standard output that cannot be written
 : > err
-"$python" -S "$receive" --port "$port" --interface 127.0.0.1 --buffer 200000 --seconds 30 --count 2 -o unheard > /dev/full 2> err &
+"$python" -S "$receive" --port "$port" --interface 127.0.0.1 --buffer 200000 --seconds 30 \
+    --count 2 -o unheard > /dev/full 2> err &
 receiver=$!
 until_true is_ready
 send sent2
@@ -554,7 +599,8 @@ bad_line --port 4001 --buffer 0
 bad_line --port 4001 --seco 1
 bad_line --port 4001 more
 run --interface no-such-interface -o folder
-check 'an interface that is not there' 3 '' 'flutejoin-receive: there is no interface no-such-interface'
+check 'an interface that is not there' 3 '' \
+    'flutejoin-receive: there is no interface no-such-interface'
 holds 'no folder is left' [ ! -e folder ]
 "$receive" --help > out 2> err
 status=$?
@@ -568,13 +614,15 @@ check 'help to a full standard output' 3 '' 'flutejoin-receive: cannot write'
 status=$?
 check 'help to a closed standard output' 3 '' 'flutejoin-receive: cannot write'
 
-if unshare -rn sh -c 'ip link set lo up && ip link set lo multicast on && ip route add 224.0.0.0/4 dev lo' 2> held; then
-    unshare -rn sh -c 'ip link set lo up && ip link set lo multicast on && ip route add 224.0.0.0/4 dev lo && exec "$@"' sh \
-        "$script" "$program" groups "$work/counts"
+# A network namespace of its own, whose loopback takes groups
+loopback='ip link set lo up && ip link set lo multicast on && ip route add 224.0.0.0/4 dev lo'
+if unshare -rn sh -c "$loopback" 2> held; then
+    unshare -rn sh -c "$loopback && exec \"\$@\"" sh "$script" "$program" groups "$work/counts"
     read -r passed_inside failed_inside < counts
     passed=$((passed + passed_inside)) failed=$((failed + failed_inside))
 else
-    echo "receive: skipped: groups (no network namespace with a loopback can be had here: $(head -n 1 held))"
+    echo "receive: skipped: groups" \
+        "(no network namespace with a loopback can be had here: $(head -n 1 held))"
 fi
 
 echo "receive: $passed passed, $failed failed"

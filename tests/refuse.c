@@ -1,11 +1,14 @@
 /* Refuses requests for memory on purpose. It is loaded before a program by LD_PRELOAD.
 
-   With a number n in the environment, as REFUSE, the n-th request is refused, from 1, and the line "refused" is then written
-   to descriptor 9. Else nothing is refused but what the program asks to have refused, by requests for so many bytes that
-   no allocator meets them; each of these is refused itself:
-     2^62 + n   the next n requests are granted, the one after them is refused, and those behind it are granted
+   With a number n in the environment, as REFUSE, the n-th request is refused, from 1, and the line
+   "refused" is then written to descriptor 9. Else nothing is refused but what the program asks to
+   have refused, by requests for so many bytes that no allocator meets them; each of these is
+   refused itself:
+     2^62 + n   the next n requests are granted, the one after them is refused, and those behind it
+                are granted
      2^62 - 2   all requests are refused from now on
-     2^62 - 1   requests are granted from now on, but the next is refused if one was since the steering before
+     2^62 - 1   requests are granted from now on, but the next is refused if one was since the
+                steering before
    A program that runs without this library finds each of them refused too, and no other request.
 
    No header is read, so that a compiler without the C library's can compile it. */

@@ -1,5 +1,6 @@
 #!/bin/sh
-# Compiles the library that refuses requests for memory, tests/refuse.c, by cc or else by the clang of Rattle's toolchain.
+# Compiles the library that refuses requests for memory, tests/refuse.c, by cc or else by the clang
+# of Rattle's toolchain.
 # usage: tests/refuse.sh LIBRARY
 set -eu
 source=$(dirname "$0")/refuse.c

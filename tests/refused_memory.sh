@@ -1,6 +1,7 @@
 #!/bin/sh
-# Runs builds of crates/refused_memory, which have requests for memory refused in turn, with the library that refuses them
-# loaded before them. Each line that tells a number of refused requests has to tell at least one.
+# Runs builds of crates/refused_memory, which have requests for memory refused in turn, with the
+# library that refuses them loaded before them. Each line that tells a number of refused requests
+# has to tell at least one.
 # usage: tests/refused_memory.sh PROGRAM..
 set -u
 work=$(mktemp -d)
@@ -18,7 +19,8 @@ for program; do
         echo "refused memory: $sum requests refused in turn, in $lines lines"
     else
         cat "$work/out"
-        echo "refused memory: $program: status $status, no request was refused in $none of $lines lines"
+        told="status $status, no request was refused in $none of $lines lines"
+        echo "refused memory: $program: $told"
         failed=$((failed + 1))
     fi
 done

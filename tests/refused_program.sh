@@ -1,8 +1,8 @@
 #!/bin/sh
-# Runs each command of the built program again and again, each time with another of its requests for memory refused, up to
-# the run that makes no more. A run that was refused one has to end
-#   with status 3 and one line, `out of memory` or `input N: OutOfMemory`, with nothing on standard output (of `show` the
-#   lines of first entries), and with OUT as it was;
+# Runs each command of the built program again and again, each time with another of its requests for
+# memory refused, up to the run that makes no more. A run that was refused one has to end
+#   with status 3 and one line, `out of memory` or `input N: OutOfMemory`, with nothing on standard
+#   output (of `show` the lines of first entries), and with OUT as it was;
 #   or just as with ample memory.
 # usage: tests/refused_program.sh PROGRAM..
 set -u
@@ -65,11 +65,12 @@ begin() {
 
 wrong() {
     failed=$((failed + 1))
-    echo "refused program: $command, request $n: status $status, standard output '$(head -c 400 out)'," \
-        "standard error '$(head -c 400 err)'"
+    echo "refused program: $command, request $n: status $status," \
+        "standard output '$(head -c 400 out)', standard error '$(head -c 400 err)'"
 }
 
-# sweep STATUS ARG..: the program on these arguments, with this status where memory is ample. OUT is `made`.
+# sweep STATUS ARG..: the program on these arguments, with this status where memory is ample. OUT is
+# `made`.
 sweep() {
     ample_status=$1
     shift
@@ -124,7 +125,8 @@ info="01 $key 000000000005 0004 00000002"
 first="03 $key 0000 0000 0004 68656C6C"
 last="03 $key 0000 0001 0001 6F"
 file whole "$header $info $first $last FF 0000000000000003"
-file others "$header $first 03 $key 0000 0001 0004 6F000000 03 $key 0000 0002 0001 78 FF 0000000000000003"
+file others "$header $first 03 $key 0000 0001 0004 6F000000 03 $key 0000 0002 0001 78
+    FF 0000000000000003"
 file sent "464C44470001
     0028 10A00800 00000000 00000007 00000001 40040000 00000005 00000004 00000002 00000000 68656C6C
     0025 10A00800 00000000 00000007 00000001 40040000 00000005 00000004 00000002 00000001 6F"

@@ -1,5 +1,6 @@
 #!/bin/sh
-# Joins 100 stations by examples/tree.mk, changes some, and compares the journals, the number of joins and the faults.
+# Joins 100 stations by examples/tree.mk, changes some, and compares the journals, the number of
+# joins and the faults.
 # usage: tests/tree.sh PROGRAM
 set -u
 program=$(readlink -f "$1")
@@ -19,7 +20,8 @@ check() {
         passed=$((passed + 1))
     else
         failed=$((failed + 1))
-        echo "tree: $name: status $status, standard output '$(tail -c 400 out)', standard error '$(tail -c 400 err)'"
+        echo "tree: $name: status $status, standard output '$(tail -c 400 out)'," \
+            "standard error '$(tail -c 400 err)'"
     fi
 }
 
@@ -58,10 +60,12 @@ no_partial() {
     [ -z "$(find . -name '*.partial' -o -name 'plan.?*' ! -name plan.mk)" ]
 }
 
-# at_once: all stations, 64 in the first join and the others with its journal in the second, as `once`
+# at_once: all stations, 64 in the first join and the others with its journal in the second, as
+# `once`
 at_once() {
     find stations -type f | sort > names
-    head -n 64 names | xargs "$program" join -o first > /dev/null && tail -n +65 names | xargs "$program" join -o once first > /dev/null
+    head -n 64 names | xargs "$program" join -o first > /dev/null &&
+        tail -n +65 names | xargs "$program" join -o once first > /dev/null
 }
 
 # as_once OUT: what at_once writes, and so not the journal before a change
@@ -69,7 +73,8 @@ as_once() {
     at_once && cmp -s once "$1"
 }
 
-# A file of 40,000 bytes as 40 datagrams. Each station lost about 97 of 100, and all lost the last. Odd ones are journals, the others datagram files.
+# A file of 40,000 bytes as 40 datagrams. Each station lost about 97 of 100, and all lost the last.
+# Odd ones are journals, the others datagram files.
 awk 'BEGIN { for (i = 1; i <= 5000; i++) printf "%07d\n", i }' > file
 "$program" carousel -o sent --tsi 7 --toi 1 --symbol 1000 --block 16 file > /dev/null
 head -c -1038 sent > sent_but_last
@@ -90,7 +95,9 @@ check 'a list in another order, by 7' joined 19
 check 'the tree of the list and all at once' cmp -s once listed
 "$program" join -o merged $(tail -n 64 names) > /dev/null
 head -n 36 names | while read -r name; do
-    "$program" join -o single "$name" > /dev/null && "$program" merge -o next merged single > /dev/null && mv next merged
+    "$program" join -o single "$name" > /dev/null &&
+        "$program" merge -o next merged single > /dev/null &&
+        mv next merged
 done
 check 'the tree and merges one by one' cmp -s merged all
 
@@ -124,7 +131,8 @@ rm stations/s0000[0-3]
 tree INPUTS=stations OUT=deep TREE=four FANIN=4
 check 'a group taken away: no join of its own' joined 3
 check 'a group taken away: all at once' as_once deep
-check 'a group taken away: its journal and list are gone' test ! -e four/1-0.journal -a ! -e four/1-0.list
+check 'a group taken away: its journal and list are gone' \
+    test ! -e four/1-0.journal -a ! -e four/1-0.list
 tree INPUTS=stations OUT=all
 
 # Damage: OUT stays
@@ -149,7 +157,8 @@ check 'the station is mended: all at once' as_once all
 # Names
 mkdir odd
 i=0
-for name in 'two words' "a'quote" 'a"b' '$HOME' 'a:b' '#a' 'a%b' 'a\b' 'a*b' '-o' 'a;b' 'a&b' '~' 'a=b' 'é' ' first' 'last '; do
+for name in 'two words' "a'quote" 'a"b' '$HOME' 'a:b' '#a' 'a%b' 'a\b' 'a*b' '-o' \
+    'a;b' 'a&b' '~' 'a=b' 'é' ' first' 'last '; do
     cp "stations/s000$((10 + i))" "odd/$name"
     i=$((i + 1))
 done
@@ -174,7 +183,9 @@ feed"
 cp stations/s00010 "odd/$(printf '\377')"
 tree INPUTS=odd OUT=none
 check 'a name that is not UTF-8' untouched 'a name is not UTF-8'
-for words in 'OUT=a:b' 'OUT=-o' 'TREE=a%b' 'OUT=a~b' 'TREE=' 'FANIN=1' 'FANIN=65' 'FANIN=x' 'INPUTS=missing' 'LIST=missing' 'OUT=stations/all' 'TREE=stations/tree'; do
+for words in 'OUT=a:b' 'OUT=-o' 'TREE=a%b' 'OUT=a~b' 'TREE=' \
+    'FANIN=1' 'FANIN=65' 'FANIN=x' \
+    'INPUTS=missing' 'LIST=missing' 'OUT=stations/all' 'TREE=stations/tree'; do
     case $words in
     LIST=*) tree "$words" OUT=none ;;
     *) tree INPUTS=stations OUT=none "$words" ;;

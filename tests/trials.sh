@@ -1,7 +1,8 @@
 #!/bin/sh
-# Runs the tests of trials/, which are not proved, with checks at run time: in a copy of the repository where they are a
-# crate. Those that fail are shown, with what they told. (rt ci takes no .rt file that it does not prove, so the files of
-# trials/ have a name of their own, and get that one in the copy.)
+# Runs the tests of trials/, which are not proved, with checks at run time: in a copy of the
+# repository where they are a crate. Those that fail are shown, with what they told. (rt ci takes no
+# .rt file that it does not prove, so the files of trials/ have a name of their own, and get that
+# one in the copy.)
 set -u
 cd "$(dirname "$0")/.." || exit 1
 room=$(mktemp -d)

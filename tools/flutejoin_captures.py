@@ -1,4 +1,7 @@
-"""Packet captures, read as they come: pcap and pcapng, also compressed by gzip, from files or from a pipe that still grows."""
+"""Packet captures, read as they come: pcap and pcapng, also compressed by gzip.
+
+They are files, or come from a pipe that still grows.
+"""
 import errno
 import io
 import os
@@ -15,7 +18,12 @@ import flutejoin_files as files
 MOST_PACKET = 1 << 20  # bytes; a longer one is damage
 GRACE = 1.0  # seconds that a capture in a pipe has for its last packets after a signal
 SECTION = b"\x0a\x0d\x0d\x0a"  # how pcapng begins
-ORDERS = {b"\xd4\xc3\xb2\xa1": "<", b"\x4d\x3c\xb2\xa1": "<", b"\xa1\xb2\xc3\xd4": ">", b"\xa1\xb2\x3c\x4d": ">"}  # how pcap does
+ORDERS = {  # how pcap begins
+    b"\xd4\xc3\xb2\xa1": "<",
+    b"\x4d\x3c\xb2\xa1": "<",
+    b"\xa1\xb2\xc3\xd4": ">",
+    b"\xa1\xb2\x3c\x4d": ">",
+}
 SECTION_ORDERS = {b"\x4d\x3c\x2b\x1a": "<", b"\x1a\x2b\x3c\x4d": ">"}
 INTERFACE, OLD_PACKET, SIMPLE_PACKET, PACKET = 1, 2, 3, 6  # the blocks of pcapng that are read
 
@@ -54,8 +62,8 @@ class Stop:
 class Input(io.RawIOBase):
     """The bytes of a file or pipe, which end where it ends or once a signal asked for it.
 
-    A pipe has a moment more: Ctrl-C also reaches the program that captures, which then hands over its last packets.
-    Where a pipe has nothing for a second, `idle` is called.
+    A pipe has a moment more: Ctrl-C also reaches the program that captures, which then hands over
+    its last packets. Where a pipe has nothing for a second, `idle` is called.
     """
 
     def __init__(self, file, stop, idle):
@@ -83,7 +91,9 @@ class Input(io.RawIOBase):
                 self.idle()
                 timeout = None
         left = self.stop.since + self.grace - time.monotonic()
-        return self.stop.asked == 1 and left > 0 and bool(select.select([self.file], [], [], left)[0])
+        if self.stop.asked != 1 or left <= 0:
+            return False
+        return bool(select.select([self.file], [], [], left)[0])
 
     def readinto(self, buffer):
         if self.begin:
@@ -104,7 +114,8 @@ class Inflated(io.RawIOBase):
 
     def readinto(self, buffer):
         while True:
-            data = self.member.unused_data or self.member.unconsumed_tail or self.stream.read1(65536)
+            data = self.member.unused_data or self.member.unconsumed_tail
+            data = data or self.stream.read1(65536)
             if self.member.eof:
                 data = data.lstrip(b"\0")  # zeros may follow a member
                 if not data and not self.stream.peek(1):
@@ -119,7 +130,10 @@ class Inflated(io.RawIOBase):
 
 
 def read(name, stop, idle, take):
-    """Hands each packet of a capture to `take`, up to its end or a signal. `Fault` where it is damaged or cut, `OSError` where it cannot be read."""
+    """Hands each packet of a capture to `take`, up to its end or a signal.
+
+    `Fault` where it is damaged or cut, `OSError` where it cannot be read.
+    """
     if name == "-" and sys.stdin is None:
         raise OSError(errno.EBADF, os.strerror(errno.EBADF), "standard input")
     with open(0 if name == "-" else name, "rb", buffering=0, closefd=name != "-") as file:
@@ -138,7 +152,7 @@ def read(name, stop, idle, take):
 
 
 def packets(stream):
-    """Of each packet of a capture: its link type, its bytes, and whether more of them were on the network."""
+    """Of each packet: its link type, its bytes, and whether more of them were on the network."""
     magic = stream.read(4)
     if magic == SECTION:
         yield from block_packets(stream)
@@ -171,7 +185,10 @@ def taken(stream, size, what="a packet"):
 
 
 def block_packets(stream):
-    """The same of a pcapng capture, whose first four bytes were read: sections, each with its order of bytes and its interfaces."""
+    """The same of a pcapng capture, whose first four bytes were read.
+
+    It has sections, each with its order of bytes and its interfaces.
+    """
     order, interfaces, kind = "<", [], SECTION
     while kind:
         size = taken(stream, 4) if len(kind) == 4 else taken(stream, 1 << 20)
@@ -207,12 +224,16 @@ def block_body(stream, length, is_read):
 
 
 def block_packet(order, interfaces, number, body):
-    """The packet of a block. A simple one is of the first interface, and does not tell where that cut it."""
+    """The packet of a block.
+
+    A simple one is of the first interface, and does not tell where that cut it.
+    """
     if number == SIMPLE_PACKET:
         (original,) = struct.unpack_from(order + "I", body)
         interface, captured, start = 0, min(original, interfaces[0][1] or original), 4
     else:
-        interface, captured, original = struct.unpack_from(order + ("I8xII" if number == PACKET else "H10xII"), body)
+        fields = order + ("I8xII" if number == PACKET else "H10xII")
+        interface, captured, original = struct.unpack_from(fields, body)
         start = 20
     if captured > len(body) - start:
         raise Damage("a packet longer than its block")

@@ -1,4 +1,7 @@
-"""UDP datagrams out of the frames of captures: only those that came whole and right; the others are counted by their cause."""
+"""UDP datagrams out of the frames of captures.
+
+Only those are taken that came whole and right; the others are counted by their cause.
+"""
 import collections
 import struct
 
@@ -19,19 +22,32 @@ PORT_UNKNOWN = ", of a port that is not known"
 ETHERNET, COOKED, COOKED_2 = 1, 113, 276  # link types, https://www.tcpdump.org/linktypes.html
 RAW_IP = (12, 14, 101, 228, 229)
 LOOPBACK = (0, 108)
-FAMILIES = (b"\2", b"\n", b"\x17", b"\x18", b"\x1c", b"\x1e")  # what the systems number IPv4 and IPv6 by, on loopback
+# What the systems number IPv4 and IPv6 by, on loopback.
+FAMILIES = (b"\2", b"\n", b"\x17", b"\x18", b"\x1c", b"\x1e")
 IP = (b"\x08\x00", b"\x86\xdd")
 VLAN_TAGS = (b"\x81\x00", b"\x88\xa8", b"\x91\x00")
 UDP, ICMP, ICMP6, FRAGMENT = 17, 1, 58, 44
-HEADERS = (0, 43, 60, 135, 139, 140)  # IPv6 extension headers that tell their length in one way (RFC 6564)
+# IPv6 extension headers that tell their length in one way (RFC 6564).
+HEADERS = (0, 43, 60, 135, 139, 140)
 ICMP_ERRORS = {ICMP: (3, 4, 5, 11, 12), ICMP6: (1, 2, 3, 4)}
 IP_TUNNELS = {4: "IPv4 in IP", 41: "IPv6 in IP", 47: "GRE", 50: "IPsec", 51: "IPsec", 115: "L2TP"}
-UDP_TUNNELS = {1701: "L2TP", 2152: "GTP", 2268: "AMT", 3544: "Teredo", 4500: "IPsec", 4789: "VXLAN", 6081: "Geneve", 8472: "VXLAN"}
+UDP_TUNNELS = {
+    1701: "L2TP",
+    2152: "GTP",
+    2268: "AMT",
+    3544: "Teredo",
+    4500: "IPsec",
+    4789: "VXLAN",
+    6081: "Geneve",
+    8472: "VXLAN",
+}
 FRAME_TUNNELS = {b"\x88\x47": "MPLS", b"\x88\x48": "MPLS", b"\x88\x64": "PPPoE", b"\x88\xe7": "PBB"}
 
-IP4_HEAD = struct.Struct(">BxHHHxB2x4s4s")  # version and header length, length, identification, fragment, protocol, addresses
+# Version and header length, length, identification, fragment, protocol, addresses.
+IP4_HEAD = struct.Struct(">BxHHHxB2x4s4s")
 IP6_HEAD = struct.Struct(">4xHBx16s16s")  # length, next header, addresses
-FRAGMENT_HEAD = struct.Struct(">BxHI")  # next header, offset and whether more follow, identification
+# Next header, offset and whether more follow, identification.
+FRAGMENT_HEAD = struct.Struct(">BxHI")
 UDP_HEAD = struct.Struct(">2xHHH")  # destination port, length, checksum
 
 
@@ -50,9 +66,17 @@ class Fragmented:
         self.pieces = {0: self.pieces[0][:256]} if 0 in self.pieces else {}
 
     def add(self, offset, more, data):
-        """Takes a fragment that is no repeat. No two overlap, so they are the whole where their lengths come to its end."""
+        """Takes a fragment that is no repeat.
+
+        No two overlap, so they are the whole where their lengths come to its end.
+        """
         end = offset + len(data)
-        is_wrong = not data or end > 65535 or more and len(data) % 8 or len(self.pieces) >= MOST_FRAGMENTS
+        is_wrong = (
+            not data
+            or end > 65535
+            or (more and len(data) % 8)
+            or len(self.pieces) >= MOST_FRAGMENTS
+        )
         is_beyond = self.end is not None and (not more or end > self.end)
         for at, piece in self.pieces.items():
             is_beyond = is_beyond or offset < at + len(piece) and (at < end or not more)
@@ -66,7 +90,10 @@ class Fragmented:
 
 
 class Fragments:
-    """The last datagrams that came in fragments. Those that are whole stay among them, since a capture may have a fragment twice."""
+    """The last datagrams that came in fragments.
+
+    Those that are whole stay among them, since a capture may have a fragment twice.
+    """
 
     def __init__(self, lose):
         self.last, self.lose = collections.OrderedDict(), lose
@@ -88,7 +115,9 @@ class Fragments:
         else:
             datagram.pieces.setdefault(offset, data)
             datagram.fail(CUT)
-        return b"".join(datagram.pieces[at] for at in sorted(datagram.pieces)) if datagram.is_done else None
+        if not datagram.is_done:
+            return None
+        return b"".join(datagram.pieces[at] for at in sorted(datagram.pieces))
 
     def forget(self):
         """Forgets the oldest. One that is not whole by now is lost."""
@@ -98,10 +127,14 @@ class Fragments:
 
 
 class Datagrams:
-    """Takes the UDP datagrams out of frames, hands on those that are wanted, and counts what it leaves out."""
+    """Takes the UDP datagrams out of frames.
+
+    It hands on those that are wanted, and counts what it leaves out.
+    """
 
     def __init__(self, ports, groups, any_checksum, hand_on):
-        self.ports, self.groups, self.any_checksum, self.hand_on = ports, groups, any_checksum, hand_on
+        self.ports, self.groups = ports, groups
+        self.any_checksum, self.hand_on = any_checksum, hand_on
         self.count, self.left_out = 0, collections.Counter()
         self.fragments = Fragments(self.lose)
 
@@ -154,7 +187,9 @@ class Datagrams:
             if place & 0x1FFF or self.may_want(data):
                 self.leave_out(HEADER_CHECKSUM)
         elif place & 0x3FFF:
-            data = self.fragments.add((source, target, number, UDP), (place & 0x1FFF) * 8, bool(place & 0x2000), data, is_whole)
+            key = source, target, number, UDP
+            offset, more = (place & 0x1FFF) * 8, bool(place & 0x2000)
+            data = self.fragments.add(key, offset, more, data, is_whole)
             if data is not None:
                 self.take_udp(source, target, data, True)
         else:
@@ -173,7 +208,9 @@ class Datagrams:
             if place & 0xFFF9:  # else it is a whole packet for itself (RFC 6946)
                 if kind != UDP and kind not in HEADERS:
                     return
-                data = self.fragments.add((source, target, number, kind), place & 0xFFF8, bool(place & 1), data, is_whole)
+                key = source, target, number, kind
+                offset, more = place & 0xFFF8, bool(place & 1)
+                data = self.fragments.add(key, offset, more, data, is_whole)
                 if data is None:
                     return
                 is_whole = True
@@ -199,7 +236,9 @@ class Datagrams:
         elif not 8 <= size <= len(data):
             self.leave_out(LENGTHS)
         else:
-            cause = None if self.any_checksum else checksum_fault(source, target, data[:size], checksum)
+            cause = None
+            if not self.any_checksum:
+                cause = checksum_fault(source, target, data[:size], checksum)
             if cause:
                 self.leave_out(cause)
             else:
@@ -213,7 +252,10 @@ class Datagrams:
             self.leave_out(LENGTHS if is_whole else CUT)
 
     def take_other(self, protocol, data):
-        """Counts what may carry datagrams and is not opened. An ICMP error quotes the packet that it is about behind 8 bytes."""
+        """Counts what may carry datagrams and is not opened.
+
+        An ICMP error quotes the packet that it is about behind 8 bytes.
+        """
         if protocol in IP_TUNNELS:
             self.leave_tunnel(IP_TUNNELS[protocol])
         elif protocol in ICMP_ERRORS and data and data[0] in ICMP_ERRORS[protocol]:
@@ -245,7 +287,10 @@ class Datagrams:
 
 
 def network_layer(link, frame):
-    """The EtherType of what a frame carries, and its place in the frame. None for a link type that is not known."""
+    """The EtherType of what a frame carries, and its place in the frame.
+
+    None for a link type that is not known.
+    """
     if link == ETHERNET:
         return frame[12:14], 14
     if link == COOKED:
@@ -260,14 +305,20 @@ def network_layer(link, frame):
 
 
 def behind_headers(kind, data):
-    """What stands behind the extension headers of an IPv6 packet: its kind and its bytes. Where it ends within one of them: that one."""
+    """What stands behind the extension headers of an IPv6 packet: its kind and its bytes.
+
+    Where it ends within one of them: that one.
+    """
     while kind in HEADERS and len(data) >= 8 and len(data) >= 8 + data[1] * 8:
         kind, data = data[0], data[8 + data[1] * 8 :]
     return kind, data
 
 
 def checksum_fault(source, target, udp, checksum):
-    """Why the UDP checksum does not hold (RFC 768; RFC 8200, section 8.1), or None. The sum of words in ones' complement is the number modulo 65,535."""
+    """Why the UDP checksum does not hold (RFC 768; RFC 8200, section 8.1), or None.
+
+    The sum of words in ones' complement is the number modulo 65,535.
+    """
     if not checksum:
         return None if len(source) == 4 else NO_CHECKSUM
     size = len(udp)
@@ -276,7 +327,10 @@ def checksum_fault(source, target, udp, checksum):
 
 
 def is_like_flute(payload):
-    """Whether a datagram has the LCT header of a FLUTE packet as flutejoin takes it, whatever its extensions say (RFC 5651, section 5)."""
+    """Whether a datagram has the LCT header of a FLUTE packet as flutejoin takes it.
+
+    What its extensions say does not matter (RFC 5651, section 5).
+    """
     if len(payload) < 4 or payload[0] >> 4 != 1 or payload[3]:
         return False
     has_session, has_object, is_half = payload[1] >> 7, payload[1] >> 5 & 3, payload[1] >> 4 & 1

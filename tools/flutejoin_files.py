@@ -1,4 +1,7 @@
-"""Datagram files, one or several for each sender, and what the tools take and tell. A file gets its name once it is whole."""
+"""Datagram files, one or several for each sender, and what the tools take and tell.
+
+A file gets its name once it is whole.
+"""
 import argparse
 import collections
 import errno
@@ -26,7 +29,10 @@ class Unwritable(Exception):
 
 
 class Report:
-    """What a tool tells: lines of standard output, and faults, of which the greatest status is kept."""
+    """What a tool tells: lines of standard output, and faults.
+
+    The greatest status of the faults is kept.
+    """
 
     def __init__(self, tool):
         self.tool, self.status, self.is_mute = tool, 0, False
@@ -52,11 +58,20 @@ class Report:
 
 
 class CommandLine(argparse.ArgumentParser):
-    """What a tool takes and its help, which is an output like any other: where it cannot be written, that is told."""
+    """What a tool takes and its help.
+
+    The help is an output like any other: where it cannot be written, that is told.
+    """
 
     def __init__(self, tool, description, epilog=None):
         form = argparse.RawDescriptionHelpFormatter
-        super().__init__(prog=tool, description=description, epilog=epilog, formatter_class=form, allow_abbrev=False)
+        super().__init__(
+            prog=tool,
+            description=description,
+            epilog=epilog,
+            formatter_class=form,
+            allow_abbrev=False,
+        )
 
     def print_help(self, file=None):
         report = Report(self.prog)
@@ -66,20 +81,29 @@ class CommandLine(argparse.ArgumentParser):
 
 
 def answer_stops(answer):
-    """Has the signals that end a run answered so. A hangup is none of them where it is ignored, as under nohup."""
+    """Has the signals that end a run answered so.
+
+    A hangup is none of them where it is ignored, as under nohup.
+    """
     for number in STOPPING:
         if number != signal.SIGHUP or signal.getsignal(number) != signal.SIG_IGN:
             signal.signal(number, answer)
 
 
 def stop(number, _frame):
-    """Ends a run by the first signal. Others that come change nothing: what is left is to clear up."""
+    """Ends a run by the first signal.
+
+    Others that come change nothing: what is left is to clear up.
+    """
     answer_stops(lambda *_: None)
     raise KeyboardInterrupt(number)
 
 
 def keep_status():
-    """For the end of a run: Python lets signals kill while it ends, and a late Ctrl-C would then take the status away."""
+    """For the end of a run: it keeps the status that the run ends with.
+
+    Python lets signals kill while it ends, and a late Ctrl-C would then take the status away.
+    """
     for number in STOPPING:
         signal.signal(number, signal.SIG_IGN)
 
@@ -92,7 +116,10 @@ def put(stream, text):
 
 
 def stem(text):
-    """What the names of a sender's files begin with: the address without colons, which some systems and tools do not take in names."""
+    """What the names of a sender's files begin with: the address without colons.
+
+    Some systems and tools do not take colons in names.
+    """
     return text.replace(":", "-")
 
 
@@ -102,11 +129,16 @@ def file_name(text, part):
 
 
 def join_lines(sender, journal, inputs):
-    """The lines that join a sender's files, and what an earlier run of such a line made of some. A line takes 64 inputs."""
+    """The lines that join a sender's files, and what an earlier run of such a line made of some.
+
+    A line takes 64 inputs.
+    """
     inputs = [journal, *inputs] if os.path.lexists(journal) else inputs
     while inputs:
-        paths = [f"./{path}" if path.startswith("-") else path for path in [journal, *inputs[:MOST_INPUTS]]]
-        yield " ".join(map(shlex.quote, ["flutejoin", "join", "--source", sender.hex(), "-o", *paths]))
+        paths = [journal, *inputs[:MOST_INPUTS]]
+        paths = [f"./{path}" if path.startswith("-") else path for path in paths]
+        words = ["flutejoin", "join", "--source", sender.hex(), "-o", *paths]
+        yield " ".join(map(shlex.quote, words))
         rest = inputs[MOST_INPUTS:]
         inputs = [journal, *rest] if rest else []
 
@@ -116,7 +148,10 @@ def address(sender):
 
 
 class Part:
-    """A datagram file that is being written beside its name. What is not written yet begins with a whole record."""
+    """A datagram file that is being written beside its name.
+
+    What is not written yet begins with a whole record.
+    """
 
     def __init__(self, path):
         self.path, self.size, self.count = path, 0, 0
@@ -126,7 +161,10 @@ class Part:
         self.waiting = bytearray(HEADER)
 
     def flush(self):
-        """Writes what waits. After a failure the file ends behind the last record of which all was written."""
+        """Writes what waits.
+
+        After a failure the file ends behind the last record of which all was written.
+        """
         written = 0
         try:
             while written < len(self.waiting):
@@ -139,7 +177,10 @@ class Part:
             self.waiting.clear()
 
     def keep_whole(self, written):
-        """Of what waited so many bytes were written: cuts the file behind the whole records among them."""
+        """Of what waited so many bytes were written.
+
+        Cuts the file behind the whole records among them.
+        """
         whole = at = 0 if self.size else len(HEADER)
         while at < len(self.waiting):
             at += 2 + LENGTH.unpack_from(self.waiting, at)[0]
@@ -149,7 +190,10 @@ class Part:
         self.file.truncate(self.size)
 
     def finish(self):
-        """Brings the file to the disk and gives it its name, unless another file has taken that since. A file of no record is removed."""
+        """Brings the file to the disk and gives it its name.
+
+        It does not, where another file has taken that since. A file of no record is removed.
+        """
         with self.file:
             if self.count:
                 os.fsync(self.file.fileno())
@@ -198,7 +242,10 @@ class Files:
     def add(self, sender, payload):
         part = self.open.get(sender)
         size = len(payload) + 2
-        if part and (part.count >= MOST_RECORDS or part.size + len(part.waiting) + size > self.split):
+        is_full = part and (
+            part.count >= MOST_RECORDS or part.size + len(part.waiting) + size > self.split
+        )
+        if is_full:
             self.close(sender)
             part = None
         part = part or self.begin(sender)
@@ -210,7 +257,10 @@ class Files:
                 self.flush(part)
 
     def begin(self, sender):
-        """The next part of a sender; None where it can have none, of which the first time is told."""
+        """The next part of a sender.
+
+        None where it can have none, of which the first time is told.
+        """
         if sender in self.refused or sender not in self.parts and len(self.parts) >= MOST_SENDERS:
             self.left_out[OCCUPIED if sender in self.refused else SENDERS] += 1
             return None
@@ -219,7 +269,11 @@ class Files:
             self.open[sender] = Part(path)
             self.parts.setdefault(sender, 0)
         except FileExistsError as fault:
-            self.report.fault(3, f"{fault.filename}: is there already, and is left as it is; no other file is written for its sender")
+            self.report.fault(
+                3,
+                f"{fault.filename}: is there already, and is left as it is; "
+                "no other file is written for its sender",
+            )
             self.refused.add(sender)
             self.left_out[OCCUPIED] += 1
         except OSError as fault:
@@ -230,7 +284,9 @@ class Files:
         try:
             part.flush()
         except OSError as fault:
-            raise Unwritable(f"{part.path}: cannot write: {fault.strerror}; what was written whole is kept") from None
+            raise Unwritable(
+                f"{part.path}: cannot write: {fault.strerror}; what was written whole is kept"
+            ) from None
 
     def flush_all(self):
         for part in self.open.values():
@@ -246,7 +302,8 @@ class Files:
                 self.report.fault(3, str(fault))
             part.finish()
         except OSError as fault:
-            self.report.fault(3, f"{part.path}{PARTIAL}: cannot become {part.path}: {fault.strerror}")
+            partial = part.path + PARTIAL
+            self.report.fault(3, f"{partial}: cannot become {part.path}: {fault.strerror}")
             self.refused.add(sender)
             return
         if part.count:
@@ -266,4 +323,5 @@ class Files:
         for sender, parts in self.parts.items():
             if parts:
                 journal = os.path.join(self.folder, stem(address(sender)) + ".journal")
-                yield from join_lines(sender, journal, [self.path(sender, part + 1) for part in range(parts)])
+                paths = [self.path(sender, part + 1) for part in range(parts)]
+                yield from join_lines(sender, journal, paths)

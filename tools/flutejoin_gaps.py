@@ -1,4 +1,7 @@
-"""What flutejoin tells of journals: of each object its state, its gaps and its information. Its lines are read as they come."""
+"""What flutejoin tells of journals: of each object its state, its gaps and its information.
+
+Its lines are read as they come.
+"""
 import array
 import contextlib
 import os
@@ -12,10 +15,14 @@ import flutejoin_files as files
 
 HELD, MISSING, CONFLICTING, MISFIT = range(4)
 REASONS = {b"missing": MISSING, b"conflicting": CONFLICTING, b"misfit": MISFIT}
-WHOLE, PARTIAL, NO_INFORMATION, CONFLICTING_INFORMATION = "whole", "partial", "no information", "conflicting information"
+WHOLE, PARTIAL = "whole", "partial"
+NO_INFORMATION, CONFLICTING_INFORMATION = "no information", "conflicting information"
 
 OBJECT = rb"((?:source [0-9a-f]{32} )?session \d+ object (?:fdt )?\d+) "
-STATE = re.compile(OBJECT + rb"(?:(whole) \d+|(no information)|(conflicting information)|(partial) missing \d+ conflicting \d+ misfit \d+)\n")
+STATE = re.compile(
+    OBJECT + rb"(?:(whole) \d+|(no information)|(conflicting information)"
+    rb"|(partial) missing \d+ conflicting \d+ misfit \d+)\n"
+)
 GAP = re.compile(rb"gap (\d+)/(\d+)-(\d+) (missing|conflicting|misfit)\n")
 INFORMATION = re.compile(OBJECT + rb"info length (\d+) symbol (\d+) block (\d+)\n")
 
@@ -40,7 +47,9 @@ def find(name):
         return beside
     path = shutil.which(name or "flutejoin")
     if path is None:
-        raise Fault(3, f"there is no program {shown(name)}" if name else "there is no program flutejoin; --flutejoin names it")
+        if name:
+            raise Fault(3, f"there is no program {shown(name)}")
+        raise Fault(3, "there is no program flutejoin; --flutejoin names it")
     return path
 
 
@@ -49,7 +58,8 @@ class Told:
 
     def __init__(self, state):
         self.state = state
-        self.blocks, self.firsts, self.lasts, self.reasons = array.array("H"), array.array("H"), array.array("H"), bytearray()
+        self.blocks, self.firsts, self.lasts = array.array("H"), array.array("H"), array.array("H")
+        self.reasons = bytearray()
 
     def add(self, block, first, last, reason):
         self.blocks.append(block)
@@ -66,9 +76,15 @@ class Told:
 
 @contextlib.contextmanager
 def later():
-    """Signals that come meanwhile are answered behind it: what was begun by then is known, and is ended with the run."""
+    """Signals that come meanwhile are answered behind it.
+
+    What was begun by then is known, and is ended with the run.
+    """
     came = []
-    before = {number: signal.signal(number, lambda number, _frame: came.append(number)) for number in files.STOPPING}
+    before = {
+        number: signal.signal(number, lambda number, _frame: came.append(number))
+        for number in files.STOPPING
+    }
     try:
         yield
     finally:
@@ -90,12 +106,16 @@ class Program:
         names = [shown(path) for path in journals]
         if len(paths) == 1:
             return self.read_gaps([(["gaps", *paths], names)], is_wanted)
-        return self.read_gaps([(["join", "-o", "-", *paths], names), (["gaps", "-"], ["the journals joined"])], is_wanted)
+        joined = (["join", "-o", "-", *paths], names)
+        return self.read_gaps([joined, (["gaps", "-"], ["the journals joined"])], is_wanted)
 
     def gaps_with(self, journal, information, is_wanted):
-        """What a journal tells with the information of objects, each of them `(object, numbers)`, that is added to it."""
+        """What a journal tells once information is added to it: pairs `(object, numbers)`."""
         name = shown(journal)
-        added = [(["info", "-o", "-", *options(key), *numbers_of(numbers), "-"], [name]) for key, numbers in information]
+        added = [
+            (["info", "-o", "-", *options(key), *numbers_of(numbers), "-"], [name])
+            for key, numbers in information
+        ]
         added[0][0][-1] = argument(journal)
         return self.read_gaps([*added, (["gaps", "-"], [name])], is_wanted)
 
@@ -117,23 +137,32 @@ class Program:
         return told
 
     def information(self, journal, keys):
-        """The information of these objects, of which the journal has it: length, bytes of a symbol, symbols of a block."""
+        """The information of these objects, of which the journal has it.
+
+        It is the object's length, the bytes of a symbol and the symbols of a block.
+        """
         found = {}
-        with contextlib.closing(self.lines([(["show", argument(journal)], [shown(journal)])])) as lines:
+        show = (["show", argument(journal)], [shown(journal)])
+        with contextlib.closing(self.lines([show])) as lines:
             for line in lines:
                 if b" info length " not in line[:140]:
                     continue
                 information = INFORMATION.fullmatch(line)
                 if not information:
                     raise unknown(line)
-                if information[1].decode() in keys:
-                    found[information[1].decode()] = tuple(int(number) for number in information.groups()[1:])
+                key = information[1].decode()
+                if key in keys:
+                    found[key] = tuple(int(number) for number in information.groups()[1:])
                     if len(found) == len(keys):
                         return found
         raise Fault(3, f"{shown(journal)}: changed while it was read")
 
     def lines(self, commands):
-        """The lines that the last command prints. Each is its words and the names of its inputs, and takes what the one before it writes."""
+        """The lines that the last command prints.
+
+        Each command is its words and the names of its inputs, and takes what the one before it
+        writes.
+        """
         running = []
         try:
             for words, _ in commands:
@@ -143,7 +172,8 @@ class Program:
                 if len(running) > 1:
                     feed.close()
             yield from running[-1].stdout
-            faults = [fault for process, (_, names) in zip(running, commands) for fault in [fault_of(process, names)] if fault]
+            faults = [fault_of(process, names) for process, (_, names) in zip(running, commands)]
+            faults = [fault for fault in faults if fault]
         finally:
             for process in running:
                 process.kill()
@@ -157,7 +187,9 @@ class Program:
 
     def start(self, words, feed):
         try:
-            return subprocess.Popen([self.path, *words], stdin=feed, stdout=subprocess.PIPE, stderr=subprocess.PIPE)
+            return subprocess.Popen(
+                [self.path, *words], stdin=feed, stdout=subprocess.PIPE, stderr=subprocess.PIPE
+            )
         except OSError as fault:
             raise Fault(3, f"{shown(self.path)}: cannot be run: {fault.strerror}") from None
 
@@ -182,7 +214,10 @@ def numbers_of(information):
 
 
 def fault_of(process, names):
-    """What a run of the program tells to be wrong, with the name of the file; None where it did its work."""
+    """What a run of the program tells to be wrong, with the name of the file.
+
+    None where it did its work.
+    """
     told = process.stderr.read().decode(errors="replace").strip()
     status = process.wait()
     if not status:
@@ -195,11 +230,13 @@ def fault_of(process, names):
     elif status < 0:
         text = f"flutejoin was ended by signal {-status}"
     else:
-        text = f"{names[0] if len(names) == 1 else 'the journals joined'}: {text or f'flutejoin ended with status {status}'}"
+        name = names[0] if len(names) == 1 else "the journals joined"
+        text = f"{name}: {text or f'flutejoin ended with status {status}'}"
     fault = Fault(status if status in (1, 2, 3) else 3, text)
     fault.is_write = status == -signal.SIGPIPE or told.endswith("cannot write")
     return fault
 
 
 def unknown(line):
-    return Fault(3, f"flutejoin tells a line that is not known here: {shown(line[:80].decode(errors='replace').strip())}")
+    told = shown(line[:80].decode(errors="replace").strip())
+    return Fault(3, f"flutejoin tells a line that is not known here: {told}")

@@ -1,4 +1,7 @@
-"""Datagram files that grow while datagrams are received, one or several for each sender, and what flutejoin-receive tells."""
+"""Datagram files that grow while datagrams are received, and what flutejoin-receive tells.
+
+Each sender has one of them, or several.
+"""
 import collections
 import fcntl
 import ipaddress
@@ -29,7 +32,10 @@ def note(text):
 
 
 def address_of(text):
-    """The address that a socket names. An IPv4 address may come in IPv6 form, and a link's name behind an address is no part of it."""
+    """The address that a socket names.
+
+    An IPv4 address may come in IPv6 form, and a link's name behind an address is no part of it.
+    """
     address = ipaddress.ip_address(text.partition("%")[0])
     return getattr(address, "ipv4_mapped", None) or address
 
@@ -49,8 +55,11 @@ def part_of(name):
 
 
 def walk(piece):
-    """Goes over the records that a piece of a file begins with: how many have their length in it, where the last of them begins, and where it
-    ends, which may be behind the piece."""
+    """Goes over the records that a piece of a file begins with.
+
+    Answers how many have their length in it, where the last of them begins, and where it ends,
+    which may be behind the piece.
+    """
     count = begin = end = 0
     last = len(piece) - 2
     while end <= last:
@@ -74,7 +83,10 @@ def last_whole(file, size, place):
 
 
 def mended(descriptor, path):
-    """The length and the number of records of a file, once a record that was cut at its end is taken away."""
+    """The length and the number of records of a file.
+
+    A record that was cut at its end is taken away before.
+    """
     found = os.fstat(descriptor)
     if not stat.S_ISREG(found.st_mode):
         raise Fault(1, f"{path}: is no regular file, and is left as it is")
@@ -86,12 +98,16 @@ def mended(descriptor, path):
         end, records = last_whole(file, found.st_size, len(HEADER)) if head == HEADER else (0, 0)
     if end < found.st_size:
         os.ftruncate(descriptor, end)
-        note(f"{path}: a record was cut at its end; these {found.st_size - end} bytes are taken away")
+        cut = found.st_size - end
+        note(f"{path}: a record was cut at its end; these {cut} bytes are taken away")
     return end, records
 
 
 class SenderFiles:
-    """The datagram files of one sender. The last of them grows: whole records wait in memory and are written together."""
+    """The datagram files of one sender.
+
+    The last of them grows: whole records wait in memory and are written together.
+    """
 
     def __init__(self, folder, address, split, parts):
         self.folder, self.address, self.split = folder, address, split
@@ -114,7 +130,10 @@ class SenderFiles:
         return join_lines(self.address.packed, journal, [self.path_of(part) for part in self.parts])
 
     def begin(self):
-        """Begins the next file. It is made when it gets its first records, so that no kill leaves an empty one."""
+        """Begins the next file.
+
+        It is made when it gets its first records, so that no kill leaves an empty one.
+        """
         self.parts.append(self.parts[-1] + 1 if self.parts else 1)
         self.closed, self.is_made = False, False
         self.descriptor, self.waiting = None, bytearray(HEADER)
@@ -159,7 +178,8 @@ class SenderFiles:
         waiting, self.waiting = self.waiting, bytearray()
         try:
             if self.descriptor is None:
-                self.descriptor = os.open(self.path(), os.O_RDWR | os.O_APPEND | os.O_CREAT | os.O_EXCL, 0o666)
+                flags = os.O_RDWR | os.O_APPEND | os.O_CREAT | os.O_EXCL
+                self.descriptor = os.open(self.path(), flags, 0o666)
                 self.is_made = True
             rest = memoryview(waiting)
             while rest:
@@ -170,7 +190,10 @@ class SenderFiles:
             raise Fault(3, f"cannot write {self.path()}: {error.strerror}")
 
     def cut_back(self):
-        """After a failed write: takes away what is no whole record, and the file if it has none at all."""
+        """After a failed write: takes away what is no whole record.
+
+        The file is removed if it has no record at all.
+        """
         received, self.records = self.records, self.written
         try:
             if self.descriptor is not None:
@@ -178,7 +201,8 @@ class SenderFiles:
                 if self.is_made and not self.records:
                     os.unlink(self.path())
         except OSError as error:
-            note(f"{self.path()}: the record that is cut at its end cannot be taken away: {error.strerror}")
+            told = "the record that is cut at its end cannot be taken away"
+            note(f"{self.path()}: {told}: {error.strerror}")
         self.unwritten += received - self.records
         self.written = self.records
 
@@ -219,7 +243,10 @@ class Folder:
         self.look_at(names)
 
     def take_lock(self):
-        """Two runs would write into one another's files. Where the file system has no locks they are not told apart."""
+        """Keeps other runs out: two would write into one another's files.
+
+        Where the file system has no locks they are not told apart.
+        """
         try:
             fcntl.flock(self.lock, fcntl.LOCK_EX | fcntl.LOCK_NB)
         except BlockingIOError:
@@ -228,7 +255,10 @@ class Folder:
             pass
 
     def look_at(self, names):
-        """Opens what earlier runs left, before anything is received, since looking through long files takes seconds."""
+        """Opens what earlier runs left.
+
+        That is before anything is received, since looking through long files takes seconds.
+        """
         found = collections.defaultdict(list)
         for name in names:
             of = part_of(name) if name.endswith(".fldg") else None
@@ -238,14 +268,18 @@ class Folder:
             self.files[address] = SenderFiles(self.folder, address, self.split, found[address])
 
     def admit(self, text):
-        """The files of a sender from whom nothing came before; None where its datagrams are left out, which is counted."""
+        """The files of a sender from whom nothing came before.
+
+        None where its datagrams are left out, which is counted.
+        """
         address = address_of(text)
         if self.sender not in (None, address):
             self.left_out[f"other senders than {self.sender}"] += 1
             return None
         if address not in self.files:
             if len(self.files) >= self.most:
-                self.left_out[f"more than {self.most} senders (--senders takes more, and --from names the one)"] += 1
+                cause = f"more than {self.most} senders"
+                self.left_out[f"{cause} (--senders takes more, and --from names the one)"] += 1
                 return None
             self.files[address] = SenderFiles(self.folder, address, self.split, [])
         self.by_text[text] = self.files[address]
@@ -274,7 +308,11 @@ class Folder:
         return any(files.done for files in self.files.values())
 
     def report(self):
-        """The lines about the files that grew, about what was left out, and the commands that join the files."""
+        """The lines of a run.
+
+        They are about the files that grew and about what was left out; and there are the commands
+        that join the files.
+        """
         grew = [files for files in self.files.values() if files.done]
         for files in grew:
             for path, records, new in files.done:

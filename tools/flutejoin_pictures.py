@@ -1,4 +1,7 @@
-"""Pictures of what stations hold of an object: its source blocks as rows of cells, as a page of SVG and as text."""
+"""Pictures of what stations hold of an object, as a page of SVG and as text.
+
+Its source blocks are rows of cells.
+"""
 import array
 import collections
 import html
@@ -11,14 +14,19 @@ NAMES = ("held", "missing", "conflicting", "misfit")
 COLOURS = ("#7db8dc", "#c44500", "#1a1a1a", "#ffe436")
 SIGNS = ("#", ".", "!", "?")
 
-# An object that is drawn: what it is called, what is told about it, and a panel for each station and for all of them.
+# An object that is drawn: what it is called, what is told about it, and a panel for each station
+# and for all of them.
 Drawing = collections.namedtuple("Drawing", "title words panels")
-# A station's part: its name, what is told in words, its grid (None where no symbol is known), and whether it is that of all stations.
+# A station's part: its name, what is told in words, its grid (None where no symbol is known), and
+# whether it is that of all stations.
 Panel = collections.namedtuple("Panel", "name words grid is_all")
 
 
 class Partition:
-    """An object's source blocks (RFC 5052, section 9.1): the first `larger` of them have a symbol more than the others."""
+    """An object's source blocks (RFC 5052, section 9.1).
+
+    The first `larger` of them have a symbol more than the others.
+    """
 
     def __init__(self, length, symbol, block):
         self.numbers = length, symbol, block
@@ -47,7 +55,8 @@ class Partition:
             return "empty: 0 bytes, and no symbol"
         small = f" or {self.small}" if self.larger else ""
         of = f" of {self.small + (self.larger > 0)}{small}" if self.blocks > 1 else ""
-        return f"{counted(length, 'byte')}, {counted(self.symbols, 'symbol')} of {counted(symbol, 'byte')}, {counted(self.blocks, 'block')}{of}"
+        sizes = f"{counted(self.symbols, 'symbol')} of {counted(symbol, 'byte')}"
+        return f"{counted(length, 'byte')}, {sizes}, {counted(self.blocks, 'block')}{of}"
 
 
 def counted(number, what):
@@ -55,19 +64,26 @@ def counted(number, what):
 
 
 class Grid:
-    """Cells that each stand for a run of symbols, and rows that each stand for one block or several; and how many symbols of each cell,
-    and of all, are held, missing, conflicting or misfit."""
+    """Cells that each stand for a run of symbols, and rows that each stand for a block or several.
+
+    It has how many symbols of each cell, and of all, are held, missing, conflicting or misfit.
+    """
 
     def __init__(self, partition, most_rows, columns_of):
         self.partition = partition
-        self.group = 1 if partition.blocks <= most_rows else -(-partition.blocks // (most_rows // 2))
+        self.group = 1
+        if partition.blocks > most_rows:
+            self.group = -(-partition.blocks // (most_rows // 2))
         self.rows = -(-partition.blocks // self.group)
         longest = partition.start(min(self.group, partition.blocks))
         self.run = max(1, -(-longest // columns_of(self.rows)))
         self.columns = -(-longest // self.run)
         self.counts = [0, 0, 0, 0]
         self.counts[HELD] = partition.symbols
-        self.cells = {reason: array.array("Q", bytes(8 * self.rows * self.columns)) for reason in (MISSING, CONFLICTING, MISFIT)}
+        self.cells = {
+            reason: array.array("Q", bytes(8 * self.rows * self.columns))
+            for reason in (MISSING, CONFLICTING, MISFIT)
+        }
 
     def is_fine(self):
         """Whether each row is a block, and each cell a symbol."""
@@ -86,7 +102,8 @@ class Grid:
         first, last = at + first, at + last
         cells, base = self.cells[reason], row * self.columns
         for column in range(first // self.run, last // self.run + 1):
-            cells[base + column] += min(last, (column + 1) * self.run - 1) - max(first, column * self.run) + 1
+            begin, end = column * self.run, (column + 1) * self.run
+            cells[base + column] += min(last, end - 1) - max(first, begin) + 1
         self.counts[reason] += last - first + 1
         self.counts[HELD] -= last - first + 1
         return True
@@ -104,7 +121,10 @@ class Grid:
             yield (min(self.run, size - column * self.run) - sum(other), *other)
 
     def row_runs(self, row):
-        """Cells side by side that are wholly of one kind, and each other cell alone: its first column, the one behind, and its counts."""
+        """Cells side by side that are wholly of one kind, and each other cell alone.
+
+        Of each its first column, the one behind, and its counts.
+        """
         begin, one, kind = 0, None, None
         for column, counts in enumerate(self.row_cells(row)):
             pure = sum(count > 0 for count in counts) == 1
@@ -123,7 +143,9 @@ class Grid:
         last = self.partition.id_at(min(self.begin(row) + end * self.run, self.begin(row + 1)) - 1)
         if first == last:
             return "%d/%d" % first
-        return "%d/%d-%d" % (*first, last[1]) if first[0] == last[0] else "%d/%d to %d/%d" % (*first, *last)
+        if first[0] == last[0]:
+            return "%d/%d-%d" % (*first, last[1])
+        return "%d/%d to %d/%d" % (*first, *last)
 
     def scale_words(self):
         row = "a row is a block" if self.group == 1 else f"a row is {self.group} blocks"
@@ -131,11 +153,15 @@ class Grid:
 
 
 def count_words(counts, is_short=False):
-    return ", ".join(f"{name} {count}" for name, count in zip(NAMES, counts) if count or not is_short)
+    shown = [(name, count) for name, count in zip(NAMES, counts) if count or not is_short]
+    return ", ".join(f"{name} {count}" for name, count in shown)
 
 
 def scales(panels):
-    """Once what the rows and cells of all panels stand for, or none where the panels are of several kinds."""
+    """Once what the rows and cells of all panels stand for.
+
+    None where the panels are of several kinds.
+    """
     words = {panel.grid.scale_words() for panel in panels if panel.grid and panel.grid.rows}
     return words.pop() if len(words) == 1 else ""
 
@@ -147,7 +173,8 @@ TEXT_ROWS, TEXT_COLUMNS = 64, 64
 
 def text_lines(title, drawings, notes):
     yield title
-    yield "  ".join(f"{sign} {name}" for sign, name in zip(SIGNS, NAMES)) + "  1 to 9 of several symbols: tenths missing"
+    kinds = "  ".join(f"{sign} {name}" for sign, name in zip(SIGNS, NAMES))
+    yield f"{kinds}  1 to 9 of several symbols: tenths missing"
     for drawing in drawings:
         yield ""
         yield f"{drawing.title}: {drawing.words}" if drawing.words else drawing.title
@@ -218,10 +245,16 @@ def svg_lines(title, drawings, notes):
         body.append(text(MARGIN, top, note))
     height = top + MARGIN
     yield '<?xml version="1.0" encoding="UTF-8"?>'
-    yield (f'<svg xmlns="http://www.w3.org/2000/svg" width="{WIDTH}" height="{height}" viewBox="0 0 {WIDTH} {height}" role="img" '
-           'shape-rendering="crispEdges" font-family="DejaVu Sans, Verdana, Arial, sans-serif" font-size="12" fill="#222">')
+    yield (
+        f'<svg xmlns="http://www.w3.org/2000/svg" width="{WIDTH}" height="{height}" '
+        f'viewBox="0 0 {WIDTH} {height}" role="img" shape-rendering="crispEdges" '
+        'font-family="DejaVu Sans, Verdana, Arial, sans-serif" font-size="12" fill="#222">'
+    )
     yield f"<title>{html.escape(title)}</title>"
-    yield "<desc>Each row of cells is a source block, or several. A cell has the colour of its symbol; one of several symbols shows the share of each kind.</desc>"
+    yield (
+        "<desc>Each row of cells is a source block, or several. A cell has the colour of its "
+        "symbol; one of several symbols shows the share of each kind.</desc>"
+    )
     yield f'<rect width="{WIDTH}" height="{height}" fill="#fff"/>'
     yield text(MARGIN, 32, title, 'font-size="18" font-weight="bold"')
     for number, name in enumerate(NAMES):
@@ -236,7 +269,11 @@ def text(x, y, words, more=""):
 
 
 def swatch(x, y, kind, words):
-    return f'<rect x="{x:g}" y="{y:g}" width="11" height="11" fill="{COLOURS[kind]}" stroke="#555" stroke-width=".5"/>' + text(x + 16, y + 10, words)
+    square = (
+        f'<rect x="{x:g}" y="{y:g}" width="11" height="11" fill="{COLOURS[kind]}" '
+        'stroke="#555" stroke-width=".5"/>'
+    )
+    return square + text(x + 16, y + 10, words)
 
 
 def drawing_svg(body, drawing, top):
@@ -249,10 +286,14 @@ def drawing_svg(body, drawing, top):
         if words:
             top += 17
             body.append(text(MARGIN, top, words))
-    line = per_line(len(drawing.panels))
+    line, width = per_line(len(drawing.panels)), plot_width(len(drawing.panels))
+    lefts = [MARGIN + place * ((WIDTH - MARGIN) // line) for place in range(line)]
     for begin in range(0, len(drawing.panels), line):
-        ends = [panel_svg(body, panel, MARGIN + place * ((WIDTH - MARGIN) // line), top + 26, plot_width(len(drawing.panels)), scale)
-                for place, panel in enumerate(drawing.panels[begin : begin + line])]
+        panels = drawing.panels[begin : begin + line]
+        ends = [
+            panel_svg(body, panel, left, top + 26, width, scale)
+            for left, panel in zip(lefts, panels)
+        ]
         top = max(ends, default=top)
     return top + 8
 
@@ -269,7 +310,8 @@ def panel_svg(body, panel, x, y, width, scale):
         body.append(text(x, y, words))
     if grid:
         for number, count in enumerate(grid.counts):
-            body.append(swatch(x + number % 2 * max(132, width // 3), y + 8 + number // 2 * 16, number, f"{NAMES[number]} {count}"))
+            left, high = x + number % 2 * max(132, width // 3), y + 8 + number // 2 * 16
+            body.append(swatch(left, high, number, f"{NAMES[number]} {count}"))
         y += 44
         if not scale and grid.rows:
             y += 12
@@ -283,28 +325,40 @@ def grid_svg(body, grid, x, y, width):
     if not grid.rows:
         return y
     cell = min(MOST_CELL, width / grid.columns)
-    height = max(LEAST_ROW if grid.is_fine() else LEAST_SHARED_ROW, min(MOST_CELL, 384 // grid.rows))
+    least = LEAST_ROW if grid.is_fine() else LEAST_SHARED_ROW
+    height = max(least, min(MOST_CELL, 384 // grid.rows))
     if grid.is_fine():
         step = next(step for step in (1, 2, 5, 10, 20, 50, 100) if step * cell >= 30 or step == 100)
         y += 10
         for number in range(0, grid.columns, step):
-            body.append(text(x + (number + 0.5) * cell, y - 2, str(number), 'font-size="9" text-anchor="middle" fill="#666"'))
+            middle = x + (number + 0.5) * cell
+            style = 'font-size="9" text-anchor="middle" fill="#666"'
+            body.append(text(middle, y - 2, str(number), style))
     every = -(-12 // height)
     for row in range(grid.rows):
         at = y + row * height
         if row % every == 0:
-            body.append(text(x - 5, at + max(height - 1, 8) / 2 + 3, str(row * grid.group), 'font-size="9" text-anchor="end" fill="#666"'))
+            low = at + max(height - 1, 8) / 2 + 3
+            style = 'font-size="9" text-anchor="end" fill="#666"'
+            body.append(text(x - 5, low, str(row * grid.group), style))
         for begin, end, counts in grid.row_runs(row):
-            body.append(f"<g><title>{grid.range_words(row, begin, end)}: {count_words(counts, True)}</title>"
-                        + "".join(bars(counts, x + begin * cell, x + end * cell, at, height - 1)) + "</g>")
+            words = f"{grid.range_words(row, begin, end)}: {count_words(counts, True)}"
+            parts = bars(counts, x + begin * cell, x + end * cell, at, height - 1)
+            body.append(f"<g><title>{words}</title>{''.join(parts)}</g>")
     if cell >= 5:
-        lines = "".join(f"M{edge(x + number * cell)} {edge(y)}v{grid.rows * height}" for number in range(1, grid.columns))
+        lines = "".join(
+            f"M{edge(x + number * cell)} {edge(y)}v{grid.rows * height}"
+            for number in range(1, grid.columns)
+        )
         body.append(f'<path d="{lines}" stroke="#fff" stroke-width=".8"/>')
     return y + grid.rows * height
 
 
 def edge(place):
-    """A place as text. An edge that two neighbours have is written by its place in both, so that they meet exactly."""
+    """A place as text.
+
+    An edge that two neighbours have is written by its place in both, so that they meet exactly.
+    """
     return f"{place:.2f}".rstrip("0").rstrip(".")
 
 
@@ -315,12 +369,16 @@ def bars(counts, left, right, y, height):
     most = max(kinds, key=parts.get)
     parts[most] -= sum(parts.values()) - height
     for kind, part in parts.items():
-        yield f'<path d="M{edge(left)} {edge(y)}H{edge(right)}V{edge(y + part)}H{edge(left)}Z" fill="{COLOURS[kind]}"/>'
+        outline = f"M{edge(left)} {edge(y)}H{edge(right)}V{edge(y + part)}H{edge(left)}Z"
+        yield f'<path d="{outline}" fill="{COLOURS[kind]}"/>'
         y += part
 
 
 def shortened(words, most):
-    """Words in so many characters: their end, which tells files apart, and a part of their beginning."""
+    """Words in so many characters.
+
+    Their end stays, which tells files apart, and a part of their beginning.
+    """
     if len(words) <= most:
         return words
     front = (most - 3) // 3

@@ -8,13 +8,17 @@ import sys
 from flutejoin_growing import Fault, note
 
 # What Python's socket module does not name. The numbers are Linux's.
-SO_RCVBUFFORCE, SO_MEMINFO, IP_MULTICAST_ALL, IPV6_MULTICAST_ALL, MCAST_JOIN_SOURCE_GROUP = 33, 55, 49, 29, 46
-IP_ADD_SOURCE_MEMBERSHIP, SO_BINDTODEVICE = 39, 25
+SO_RCVBUFFORCE, SO_MEMINFO, SO_BINDTODEVICE = 33, 55, 25
+IP_MULTICAST_ALL, IPV6_MULTICAST_ALL = 49, 29
+IP_ADD_SOURCE_MEMBERSHIP, MCAST_JOIN_SOURCE_GROUP = 39, 46
 LINUX = sys.platform == "linux"
 
 
 class Interface:
-    """Where to receive, by the name of an interface or by one of its addresses. Without either the system chooses."""
+    """Where to receive, by the name of an interface or by one of its addresses.
+
+    Without either the system chooses.
+    """
 
     def __init__(self, text):
         self.text, self.name, self.index, self.address = text, None, 0, None
@@ -31,7 +35,10 @@ class Interface:
             self.index = self.index_of_address()
 
     def index_of_address(self):
-        """The number of the interface with this IPv6 address, which the calls for IPv6 groups take alone."""
+        """The number of the interface with this IPv6 address.
+
+        The calls for IPv6 groups take that alone.
+        """
         try:
             with open("/proc/net/if_inet6", encoding="ascii") as table:
                 for line in table:
@@ -53,9 +60,13 @@ def set_option(udp, level, option, value):
 
 
 def open_socket(options, interface):
-    """A socket that receives what the command line names, and nothing that other programs asked for."""
+    """A socket that receives what the command line names.
+
+    It receives nothing that other programs asked for.
+    """
     local = options.group or interface.address
-    family = socket.AF_INET if local and local.version == 4 or not socket.has_ipv6 else socket.AF_INET6
+    is_ip4 = local and local.version == 4 or not socket.has_ipv6
+    family = socket.AF_INET if is_ip4 else socket.AF_INET6
     try:
         udp = socket.socket(family, socket.SOCK_DGRAM)
     except OSError:
@@ -69,7 +80,8 @@ def open_socket(options, interface):
     if family == socket.AF_INET6:
         udp.setsockopt(socket.IPPROTO_IPV6, socket.IPV6_V6ONLY, 1 if local else 0)
     if options.group:
-        # Several runs may receive one group. Of one address the last run would get all, so there the second is refused.
+        # Several runs may receive one group. Of one address the last run would get all, so there
+        # the second is refused.
         udp.setsockopt(socket.SOL_SOCKET, socket.SO_REUSEADDR, 1)
     elif interface.name:
         udp.setsockopt(socket.SOL_SOCKET, SO_BINDTODEVICE, interface.name.encode() + b"\0")
@@ -90,13 +102,16 @@ def join_group(udp, options, interface):
         return
     if group.version == 4:
         address = interface.address.packed if interface.address else bytes(4)
-        request = struct.pack("=4s4si", group.packed, address, interface.index) if LINUX else group.packed + address
+        request = group.packed + address
+        if LINUX:
+            request = struct.pack("=4s4si", group.packed, address, interface.index)
         udp.setsockopt(socket.IPPROTO_IP, socket.IP_ADD_MEMBERSHIP, request)
     else:
         request = group.packed + struct.pack("@I", interface.index)
         udp.setsockopt(socket.IPPROTO_IPV6, socket.IPV6_JOIN_GROUP, request)
     if sender:
-        note(f"this system cannot join {group} of {sender} alone; what others send to it is received and left out")
+        told = f"this system cannot join {group} of {sender} alone"
+        note(f"{told}; what others send to it is received and left out")
 
 
 def join_source(udp, group, sender, interface):
@@ -106,7 +121,8 @@ def join_source(udp, group, sender, interface):
         return set_option(udp, socket.IPPROTO_IP, IP_ADD_SOURCE_MEMBERSHIP, request)
     level = socket.IPPROTO_IP if group.version == 4 else socket.IPPROTO_IPV6
     # The number of the interface, and two addresses as the system keeps them, each in 128 bytes.
-    request = struct.pack("@I0L128s128s", interface.index, system_address(group), system_address(sender))
+    addresses = system_address(group), system_address(sender)
+    request = struct.pack("@I0L128s128s", interface.index, *addresses)
     return set_option(udp, level, MCAST_JOIN_SOURCE_GROUP, request)
 
 
@@ -125,13 +141,16 @@ def ask_for_buffer(udp, wanted):
         got //= 2  # The other half is for the system's own use.
     if got < wanted // 2:
         setting = "net.core.rmem_max" if LINUX else "kern.ipc.maxsockbuf"
-        note(f"asked for a receive buffer of {wanted} bytes and got {got}: `sysctl -w {setting}={wanted}` allows it")
+        told = f"asked for a receive buffer of {wanted} bytes and got {got}"
+        note(f"{told}: `sysctl -w {setting}={wanted}` allows it")
     return got
 
 
 def dropped_by_system(udp):
-    """How many datagrams the system dropped, or None where it does not tell. (SO_RXQ_OVFL comes with the next datagram, and so never tells
-    of the last.)"""
+    """How many datagrams the system dropped, or None where it does not tell.
+
+    SO_RXQ_OVFL comes with the next datagram, and so never tells of the last.
+    """
     try:
         counts = udp.getsockopt(socket.SOL_SOCKET, SO_MEMINFO, 36)
         if len(counts) == 36:
@@ -140,7 +159,8 @@ def dropped_by_system(udp):
         pass
     number = str(os.fstat(udp.fileno()).st_ino)
     try:
-        with open("/proc/net/udp6" if udp.family == socket.AF_INET6 else "/proc/net/udp", encoding="ascii") as table:
+        name = "udp6" if udp.family == socket.AF_INET6 else "udp"
+        with open(f"/proc/net/{name}", encoding="ascii") as table:
             for line in table:
                 fields = line.split()
                 if fields[9] == number:
