@@ -32,7 +32,7 @@ abbrev pub left_by : ReadFault → ReadFault
 left_by faults.Cut = faults.Read
 left_by f = f
 
--- what `or_failed` gives, after whose bytes the source may have failed
+-- what `or_failed` gives, whether or not the source failed after the bytes
 abbrev pub or_failed : {T : Type 0} → Bool → Result T ReadFault → Result T ReadFault
 or_failed false result = result
 or_failed true (Ok x) = Err faults.Read

@@ -47,8 +47,8 @@ pub struct MergedJournal {
 ///
 /// What was appended is then no journal of anything. If each stream would have come to its end,
 /// it is a first part of the journal of all, and not all of it; after `Input` it is whole entries
-/// after the header, or nothing. Of each stream, the facts were read at addresses whose entry was
-/// appended whole, and at most one more.
+/// after the header, or nothing. Of each stream, the facts at addresses whose entry was appended
+/// whole were read, and at most one more.
 pub fn merge_all<const SESSIONS: u32, const OBJECTS: u32, const SYMBOLS: u32, G: Streams, W: Sink>(
     alloc: Global,
     streams: &mut G,

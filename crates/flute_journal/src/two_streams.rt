@@ -53,8 +53,8 @@ pub enum MergeFault {
 ///
 /// What was appended is then no journal of anything. If both inputs are journals it is a first
 /// part of the journal of both, and not all of it; after `First` or `Second` it is whole entries
-/// after the header, or nothing. Of each input, the entries were read whole at addresses whose
-/// entry was appended whole, and at most one more.
+/// after the header, or nothing. Of each input, the entries at addresses whose entry was appended
+/// whole were read whole, and at most one more.
 pub fn merge_streams<A: Source, B: Source, W: Sink>(
     alloc: Global,
     first: &mut A,
