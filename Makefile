@@ -30,7 +30,7 @@ bin/flutejoin: $(SOURCES)
 
 test:
 	rt ci
-	$(MAKE) --no-print-directory --jobs=2 --output-sync test-wrong-bodies test-trials
+	$(MAKE) --no-print-directory --jobs=2 --output-sync=line test-wrong-bodies test-trials
 	tests/wrong_bodies.sh
 	tests/program.sh $(BUILT)
 	tests/outputs.sh $(BUILT)
