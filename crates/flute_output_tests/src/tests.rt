@@ -11,9 +11,10 @@ const ENOUGH: usize = 100;
 
 #[test]
 fn a_file_is_written(rt: HostRuntime) {
-    let (done, folder) = write_file(MemoryFolder::new(rt.alloc(), None, ENOUGH), NEW);
-    assert!(rt; done.is_ok());
-    assert!(rt; folder.out().is_some());
+    let alloc = rt.alloc();
+    let (done, folder) = write_file(MemoryFolder::new(alloc, None, ENOUGH), NEW);
+    assert_eq!(rt; done, Ok(()));
+    assert_eq!(rt; folder.out(), Some(NEW));
     assert!(rt; folder.beside().is_none());
 }
 

@@ -6,9 +6,8 @@ use std::test::Fail;
 #[test]
 fn blocks_of_four_three_and_three(rt: HostRuntime) -> Result<(), Fail> {
     let partition = Partition::of(&Info::new(10, 1, 4)?);
+    assert_eq!(rt; (partition.symbols(), partition.blocks()), (10, 3));
     let id = SymbolId { sbn: 1, esi: 0 };
-    assert!(rt; partition.symbols() == 10);
-    assert!(rt; partition.blocks() == 3);
     assert!(rt; partition.block_len(0) == 4);
     assert!(rt; partition.place(id) == Some(4));
     assert!(rt; partition.id_at(4) == Some(id));
