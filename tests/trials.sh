@@ -19,8 +19,8 @@ mkdir "$crate" && cp -R trials "$crate/src" && cp crates.txt "$room" || exit 1
 find "$crate/src" -name '*.trial' | while read -r file; do
     mv "$file" "${file%.trial}.rt"
 done
-libraries='flute_join flute_parts flute_wire flute_store flute_journal flutejoin test_vectors'
-echo "flutejoin_trials: $libraries" >> "$room/crates.txt"
+libraries='flute_join flute_parts flute_output flute_wire flute_store flute_journal flutejoin'
+echo "flutejoin_trials: $libraries test_vectors" >> "$room/crates.txt"
 
 (cd "$crate" && rt try --test --seconds 1200) > "$room/told" 2> "$room/faults"
 status=$?

@@ -7,7 +7,8 @@ the edits of a crate are tried together, one of a function at a time, in a copy 
 function that was edited has to be refused for a goal of its own, and no other function may be. One
 that only waits for an edited function that it calls is tried again without that one. What is in
 doubt is tried alone, and so is an edit outside functions. As many crates are tried side by side as
-there are processors.
+there are processors. The edits of must-fail/ are tried by `rt ci`, and here only with --all or
+--alone.
 
 The last line is 'wrong bodies: N refused, M failed', and the status is 0 if all were refused.
 """
@@ -312,8 +313,12 @@ def edits_of(name, options):
     """The files of the crate's wrong bodies."""
     if options.edits:
         return edits_in([options.edits])
-    folder = f"{crate_folder(name)}/wrong-bodies"
-    return edits_in([folder, f"{folder}/more"] if options.all else [folder])
+    folders = ["wrong-bodies"]
+    if options.all:
+        folders.append("wrong-bodies/more")
+    if options.all or options.alone:
+        folders.append("must-fail")
+    return edits_in([f"{crate_folder(name)}/{it}" for it in folders])
 
 
 def tried(name, edits):
@@ -351,8 +356,6 @@ def size_of(name):
 
 
 def options_of(words):
-    is_crate = lambda it: os.path.isdir(f"{crate_folder(it)}/wrong-bodies")
-    all_crates = [it for it in sorted(os.listdir(f"{ROOT}/crates")) if is_crate(it)]
     parser = argparse.ArgumentParser(
         description=__doc__, formatter_class=argparse.RawDescriptionHelpFormatter
     )
@@ -362,18 +365,20 @@ def options_of(words):
     parser.add_argument(
         "--all",
         action="store_true",
-        help="those in wrong-bodies/more too, second ones of a function",
+        help="those in wrong-bodies/more too, second ones of a function, and those in must-fail",
     )
     parser.add_argument(
         "--alone",
         action="store_true",
-        help="let 'rt must-fail' try each by itself, in half a minute to two minutes for each",
+        help="let 'rt must-fail' try each by itself, those in must-fail too, in half a minute to"
+        " two minutes for each",
     )
     parser.add_argument("--edits", metavar="FOLDER", help="the edits in this folder, all of CRATE")
     options = parser.parse_args(words)
     if options.edits and len(options.crates) != 1:
         parser.error("--edits wants one CRATE")
-    options.crates = options.crates or all_crates
+    crates = sorted(os.listdir(f"{ROOT}/crates"))
+    options.crates = options.crates or [it for it in crates if edits_of(it, options)]
     return options
 
 

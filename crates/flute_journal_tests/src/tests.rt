@@ -1,4 +1,4 @@
-//! The worked examples of the format, and each public call once.
+//! Each public call once. Worked examples are in `trials/journal/examples`.
 
 mod datagram_files;
 mod many;
@@ -17,21 +17,11 @@ type Small = Store<4, 4, 4>;
 /// The bound of journals that are not refused for it.
 const MANY: u64 = 16_777_216;
 
-/// The sender of some journals: 10.0.0.1.
-fn other_sender() -> Sender {
-    Sender::v4(0x0A00_0001)
-}
-
-/// File 1 of session 7 of this sender.
-fn file_of(sender: Sender) -> Option<Key> {
-    let session = SessionKey::new(sender, 7)?;
-    let object = ObjectKey::file(1)?;
-    Some(Key { session, object })
-}
-
 /// File 1 of session 7 of the sender 0.
 fn file() -> Option<Key> {
-    file_of(Sender::new(0))
+    let session = SessionKey::new(Sender::new(0), 7)?;
+    let object = ObjectKey::file(1)?;
+    Some(Key { session, object })
 }
 
 #[test]
