@@ -4,7 +4,7 @@ use Rattle.flute_journal.proofs.laws.a_journal_within_a_bound_is_one.Goals as go
 pub returns : goal.returns
 returns c bs limit F small h =
     let es = h.0 in
-    let a = h.1.are_entries in
+    let a = h.1.are_items in
     let v = a.version in (
       v,
       parts_journal v bs F (record {
