@@ -1,7 +1,7 @@
 -- What the calls of a reader of a journal come to.
-use Rattle.flute_journal.proofs.Common.{Before, Fact, IfErr, IsFactIn, Items, List, Ok, Err, Option, ReadFault, ReadsFrom, ReadsNext, Result, StaysWithin, entry_in, journal_framing, ℕ}
+use Rattle.flute_journal.proofs.Common.{Before, Fact, Gives, IfErr, IsFactIn, Items, List, Ok, Err, Option, ReadFault, ReaderState, ReadsFrom, ReadsNext, Result, StaysWithin, Version, entry_in, is_open, journal_framing, place_at, state_after, subst, true, ℕ, ◌≡◌}
 use Rattle.std.specs.Prelude.{⊤}
-use Rattle.flute_journal.proofs.Framed.{reads_on}
+use Rattle.flute_journal.proofs.Framed.{gives, reads_on}
 
 -- any fault may be one of a journal
 pub any_fault : {X : Type 0} (r : Result X ReadFault) → IfErr r (λ f. ⊤)
@@ -11,3 +11,13 @@ any_fault (Err f) = tt
 pub reads_entries : (limit : ℕ) (before : Before) (u v : Option (List ℕ)) (r : Result (Option Fact) ReadFault) → ReadsNext journal_framing limit before u v r
     → StaysWithin (entry_in before.version) (IsFactIn before.version) u v r → ReadsFrom journal_framing before.version limit (Items before) u v r
 reads_entries limit before u v r h w = reads_on journal_framing limit before.version before u v r h w (any_fault r)
+
+pub gives_entries : (limit : ℕ) (told : Version) (old new : ReaderState Before) (u v : Option (List ℕ)) (r : Result (Option Fact) ReadFault) → is_open old ≡ true
+    → new ≡ state_after journal_framing (place_at journal_framing told old) r → ReadsFrom journal_framing told limit old u v r → Gives journal_framing limit old new u v r
+gives_entries limit told old new u v r opened e h = gives journal_framing limit told old new u v r opened e h
+
+-- the same of a state and bytes that are known by equations
+pub gives_at : (limit : ℕ) (at old new : ReaderState Before) (x u v : Option (List ℕ)) (r : Result (Option Fact) ReadFault) → at ≡ old → x ≡ u
+    → Gives journal_framing limit at new x v r → Gives journal_framing limit old new u v r
+gives_at limit at old new x u v r is same g =
+    subst (λ (z : Option (List ℕ)). Gives journal_framing limit old new z v r) same (subst (λ (s : ReaderState Before). Gives journal_framing limit s new x v r) is g)

@@ -1,5 +1,5 @@
 -- What holds of framed files, and what the calls of a reader come to.
-use Rattle.flute_journal.proofs.Common.{◌≡◌, ℕ, ◌+◌, ◌<◌, List, [], ◌∷◌, ◌++◌, length, drop, drop_at, Option, Some, None, Result, Ok, Err, IsTrue, true, refl, sym, ap, ◌∙◌, subst, arith, inr, IfSome, IfErr, Consumes, Consumes-trans, ReadFault, IsFaultOf, StaysWithin}
+use Rattle.flute_journal.proofs.Common.{◌≡◌, ℕ, ◌+◌, ◌<◌, List, [], ◌∷◌, ◌++◌, length, drop, drop_at, Option, Some, None, Result, Ok, Err, IsTrue, true, refl, ap, ◌∙◌, subst, arith, inr, IfSome, IfErr, Consumes, Consumes-trans, ReadFault, IsFaultOf, StaysWithin}
 use Rattle.flute_journal.specs.declared.fault.ReadFault.TheVariants as faults
 use Rattle.flute_journal.specs.declared.reader_state.ReaderState.{ReaderState}
 use Rattle.flute_journal.specs.declared.reader_state.ReaderState.TheVariants.{Header, Items, Ended, Failed}

@@ -1,5 +1,5 @@
 -- A journal that is read on is a stream that goes on.
-use Rattle.flute_journal.proofs.Common.{AreItems, journal_framing, BeginsWith, Behaviour, Bool, Consumes, Consumes-kept, Consumes-whole, Continues, Ended, Items, Err, Fact, Failed, FailsIf, FailsSince, Gives, GivesEnd, GivesFault, GoesOn, HasFault, Header, IfSome, IsFactIn, IsJournalOfAll, IsJournalWithin, IsRising, IsSized, IsTrue, Keeps, LentStream, List, LoadFault, None, Ok, Option, ReadAt, ReadFault, ReadWhole, ReadsBehind, SameLoans, Sofar, Some, ReaderState, Before, StopsAt, [], ap, append-nil, arith, count_at, end, false, without_end_in, inl, inr, is_open, journal_behaviour, length, lent, lent_behaviour, limit_of, option_list, refl, room, source_of, spelling_in, state_of, subst, sym, true, unread_of, ℕ, ◌++◌, ◌+◌, ◌-◌, ◌∙◌, ◌∷◌, ◌≡◌, ◌≤◌}
+use Rattle.flute_journal.proofs.Common.{AreItems, journal_framing, BeginsWith, Behaviour, Bool, Consumes, Consumes-kept, Continues, Ended, Items, Err, Fact, Failed, FailsIf, FailsSince, Gives, GivesEnd, GivesFault, GoesOn, HasFault, Header, IfSome, IsFactIn, IsJournalOfAll, IsJournalWithin, IsRising, IsSized, IsTrue, Keeps, LentStream, List, LoadFault, None, Ok, Option, ReadAt, ReadFault, ReadWhole, ReadsBehind, SameLoans, Sofar, Some, ReaderState, Before, StopsAt, [], ap, append-nil, arith, count_at, end, false, without_end_in, inl, inr, is_open, journal_behaviour, length, lent, lent_behaviour, limit_of, option_list, refl, room, source_of, spelling_in, state_of, subst, sym, true, unread_of, ℕ, ◌++◌, ◌+◌, ◌-◌, ◌∙◌, ◌∷◌, ◌≡◌, ◌≤◌}
 use Rattle.flute_journal.proofs.Whole.{ahead-sofar, reads-side, reads-sofar, reads-fault}
 use Rattle.flute_journal.proofs.SoFar.{AtEnd, whole-at, side-from, open_behind, sofar-fault, read_some}
 use Rattle.flute_journal.proofs.Framings.{journal_sound}
@@ -96,7 +96,7 @@ begins_read limit (Some x) None es a h = absurd h
 begins_read limit (Some x) (Some z) es a h = record { are_items = a; rest = z; whole = h }
 
 begins_of : (limit : ℕ) (u w : Option (List ℕ)) (state : ReaderState Before) (F : List Fact) (o : Option Fact) → Read limit u w state F o → IfSome u (λ bytes. BeginsWith limit bytes (F ++ option_list o))
-begins_of limit u w state F (Some f) r = begins_read limit u w (F ++ f ∷ []) r.are_items (subst (Consumes u w) (read_some r.are_items.told F f) r.read)
+begins_of limit u w state F (Some f) r = begins_read limit u w (F ++ f ∷ []) r.are_items (subst (Consumes u w) (read_some journal_framing r.are_items.told F f) r.read)
 begins_of limit None w state F None r = tt
 begins_of limit (Some x) w state F None r =
     let h = r.0.whole in

@@ -1,5 +1,5 @@
 -- A store that is read entry by entry.
-use Rattle.flute_journal.proofs.Common.{AreItems, journal_framing, BeginsOver, Below-from_Same, Bool, Consumes, Consumes-whole, Err, Fact, FailsIf, FailsToLoad, Gives, GivesItem, GivesFault, Header, IfSome, IsAtEnd, IsJournalOf, IsLoadFault, List, MatchBool, None, Ok, Option, Over, Over-below, Read, ReadFault, ReadsPart, Same, Same-append, Same-itself, Same-sym, Same-trans, Sofar, Some, ReaderState, Before, [], append-nil, arith, behind, count_at, end, err_from_is_err_and, without_end_in, file_framing, is_open, more_objects, more_sessions, more_symbols, refl, refused, session, spelling_in, subst, sym, ℕ, ◌++◌, ◌∙◌, ◌∷◌, ◌≡◌}
+use Rattle.flute_journal.proofs.Common.{AreItems, journal_framing, BeginsOver, Below-from_Same, Bool, Consumes, Consumes-whole, Err, Fact, FailsIf, FailsToLoad, Gives, GivesItem, GivesFault, Header, IfSome, IsAtEnd, IsJournalOf, IsLoadFault, List, MatchBool, None, Ok, Option, Over, Over-below, Read, ReadFault, ReadsPart, Same, Same-append, Same-itself, Same-sym, Same-trans, Sofar, Some, Two, ReaderState, Before, [], append-nil, arith, behind, count_at, end, err_from_is_err_and, without_end_in, file_framing, is_open, more_objects, more_sessions, more_symbols, refl, refused, session, spelling_in, subst, sym, ℕ, ◌++◌, ◌∙◌, ◌∷◌, ◌≡◌}
 use Rattle.flute_join.specs.declared.refusal.JoinRefusal.{JoinRefusal}
 use Rattle.flute_join.specs.declared.refusal.JoinRefusal.TheVariants as join
 use Rattle.flute_journal.specs.Whole.{behind}
@@ -61,7 +61,7 @@ pub loaded-over : (s o y limit : ℕ) (u v w : Option (List ℕ)) (old new : Rea
 loaded-over s o y limit u v w old new F f l h over =
     let es = l.entries in
     let next = sofar-next journal_sound limit u v w old new es f l.sofar h in
-    begins-over s o y limit u w es f next.are_items (subst (Consumes u w) (read_some next.are_items.told es f) next.read)
+    begins-over s o y limit u w es f next.are_items (subst (Consumes u w) (read_some journal_framing next.are_items.told es f) next.read)
     (over-same (F ++ f ∷ []) (es ++ f ∷ []) s o y (one_more F es f l.same) over)
 
 -- what the end tells
@@ -77,7 +77,7 @@ entries_at state = count_at journal_framing state
 
 pub loaded_failed : (T X : Type 0) (s o y limit : ℕ) (u v : Option (List ℕ)) (state : ReaderState Before) (F : List Fact) (f : ReadFault) (n m k : ℕ) → Loaded s o y limit u v state F
     → m ≡ n → FailsIf {T = T} (is_open state) m k (Err f) → FailsToLoad {T = X} n k (Err (Read f))
-loaded_failed T X s o y limit u v state F f n m k l e h = let open = open_behind limit u v state l.entries l.sofar in grind arith
+loaded_failed T X s o y limit u v state F f n m k l e h = let opened = open_behind limit u v state l.entries l.sofar in grind arith
 
 -- no failure is counted where something was given
 pub loaded-read : (b : Bool) (n m k : ℕ) → m ≡ n → MatchBool b (k ≡ m) (k ≡ m) → k ≡ n
@@ -132,7 +132,7 @@ refused-part s o y limit bound u v w old new F given f l b e h =
     let next = sofar-next journal_sound limit u v w old new l.entries f l.sofar (given-entry limit bound v w old new given f b e h) in (
       es,
       behind next.are_items []
-          (subst (Consumes u w) (read_some next.are_items.told l.entries f ∙ sym (append-nil (without_end_in next.are_items.told es))) next.read)
+          (subst (Consumes u w) (read_some journal_framing next.are_items.told l.entries f ∙ sym (append-nil (without_end_in next.are_items.told es))) next.read)
           (within_nil next.are_items.told),
     )
 

@@ -1,10 +1,8 @@
 -- The records of a datagram file.
-use Rattle.flute_journal.proofs.Common.{◌≡◌, ℕ, ◌+◌, ◌^◌, ◌<◌, ◌≤◌, Bool, true, IsTrue, leb, List, [], ◌∷◌, ◌++◌, length, take, drop, Option, Some, None, Result, Ok, Err, inl, inr, refl, sym, ap, ◌∙◌, subst, append_assoc, arith, le-leb, lt-leb, nil_from_length, take_at, drop_at, length-append, append-nil, flat_map_more, flat_map, AllByRecursion, Consumes, IsAtEnd, Consumes-trans, Consumes-nil, IfSome, big_endian, ReadFault, ReaderState, Items, in_bytes, first_fault, cut, opening_fault, ReadsUpTo, IsFaultOf, IsFaultUpTo, IsWithin, StaysWithin, or_failed, IsByte, cut_fault, or_else, file_header, record_of, IsDatagram, AreItems, file_framing, Stops, HasFault, ReadsNext, record_checks, record_fault, count_at, fault_from, GivesItem, GivesFault, IsFileWithin, length-bytes_high_first}
-use Rattle.flute_journal.proofs.{Parts.{first-pass, first-stop, cut-passes, nothing_left, within-short}, Each.{all_more}, Numbers.{in_bytes-injective}, ReadsUpTo.{fault-behind, fault_up_to}, Existence.{opening_is}}
+use Rattle.flute_journal.proofs.Common.{◌≡◌, ℕ, ◌^◌, ◌<◌, ◌≤◌, Bool, true, IsTrue, leb, List, [], ◌∷◌, ◌++◌, length, take, drop, Option, Some, None, Result, Ok, Err, sym, ap, ◌∙◌, append_assoc, arith, le-leb, lt-leb, nil_from_length, take_at, drop_at, length-append, AllByRecursion, Consumes, Consumes-trans, big_endian, ReadFault, in_bytes, first_fault, cut, ReadsUpTo, IsFaultOf, IsFaultUpTo, IsWithin, StaysWithin, or_failed, IsByte, cut_fault, record_of, IsDatagram, file_framing, ReadsNext, record_checks, record_fault, length-bytes_high_first}
+use Rattle.flute_journal.proofs.{Parts.{first-pass, first-stop, cut-passes, nothing_left, within-short}, Numbers.{in_bytes-injective}, ReadsUpTo.{fault-behind, fault_up_to}}
 use Rattle.flute_journal.specs.declared.fault.ReadFault.TheVariants as faults
-use Rattle.flute_journal.specs.declared.reader_state.ReaderState.TheVariants.{Header, Ended, Failed}
 use Rattle.flute_journal.specs.Input.{Advances}
-use Rattle.flute_journal.specs.Framing.{in_header, behind, opening, GivesEnd, state_at, read_of, Sofar}
 use Rattle.flute_journal.specs.Records.{file_framing}
 
 -- a byte follows as many records as there may be

@@ -24,7 +24,7 @@ pub record FaultBehind {V P T : Type 0} (framing : Framing V P T) (limit : ℕ) 
   pub before_it : Consumes u x (read_of framing are_items.told items)
   pub at_fault : IsAtFault framing are_items.told limit (state_at framing are_items.told items) x w f
 
-module _ {V P T : Type 0} {framing : Framing V P T} where
+module _ {V P T : Type 0} (framing : Framing V P T) where
   state_more : (t : T) (xs : List V) (x : V) → Items (framing.place_behind t (xs ++ x ∷ [])) ≡ state_at framing t (xs ++ x ∷ [])
   state_more t [] x = refl
   state_more t (y ∷ ys) x = refl
@@ -54,9 +54,6 @@ module _ {V P T : Type 0} {framing : Framing V P T} where
   not_failed t [] f e = cc
   not_failed t (y ∷ ys) f e = cc
 
-  pub open_behind : (limit : ℕ) (u v : Option (List ℕ)) (state : ReaderState P) (xs : List V) → Sofar framing limit u v state xs → IsTrue (is_open state)
-  open_behind limit u v state xs s = ap is_open s.state_is ∙ open_at s.are_items.told xs
-
   -- where a reader is, by what a header tells that is still to come
   record Placed (told : T) (limit : ℕ) (u v : Option (List ℕ)) (state : ReaderState P) (xs : List V) : Type 0 where
     are_items : AreItems framing limit xs
@@ -74,11 +71,15 @@ module _ {V P T : Type 0} {framing : Framing V P T} where
   placed told limit u v state (y ∷ ys) s =
       record { are_items = s.are_items; read = s.read; place = ap (place_at framing told) s.state_is; start = ap (opening framing told) s.state_is }
 
-  -- a fault that is found now
-
   part_of : (t told : T) (place : P) (part : List ℕ) → IsPart framing t (Items place) part → IsPart framing told (Items place) part
   part_of t told place part (in_opening few) = in_opening few
   part_of t told place part (in_item more e w) = in_item more e w
+
+module _ {V P T : Type 0} {framing : Framing V P T} where
+  pub open_behind : (limit : ℕ) (u v : Option (List ℕ)) (state : ReaderState P) (xs : List V) → Sofar framing limit u v state xs → IsTrue (is_open state)
+  open_behind limit u v state xs s = ap is_open s.state_is ∙ open_at framing s.are_items.told xs
+
+  -- a fault that is found now
 
   fault_behind : (told : T) (limit : ℕ) (u x w : Option (List ℕ)) (state : ReaderState P) (xs : List V) (f : ReadFault) → Sofar framing limit u x state xs → IsAtFault framing told limit state x w f
       → FaultBehind framing limit u x w xs f
@@ -93,13 +94,13 @@ module _ {V P T : Type 0} {framing : Framing V P T} where
       record {
         are_items = s.are_items;
         before_it = s.read;
-        at_fault = record { fault = g.fault; possible = g.possible; part = g.part; read = g.read; is_part = part_of told t (framing.place_behind t (y ∷ ys)) g.part g.is_part };
+        at_fault = record { fault = g.fault; possible = g.possible; part = g.part; read = g.read; is_part = part_of framing told t (framing.place_behind t (y ∷ ys)) g.part g.is_part };
       }
 
   pub found_now : (limit : ℕ) (u x w : Option (List ℕ)) (old new : ReaderState P) (xs : List V) (f : ReadFault) → Sofar framing limit u x old xs → GivesFault framing limit old new x w f
       → FaultBehind framing limit u x w xs f
   found_now limit u x w old new xs f s h = elim h.found [
-    | inl p ↦ absurd (not_failed s.are_items.told xs f (sym s.state_is ∙ p.0))
+    | inl p ↦ absurd (not_failed framing s.are_items.told xs f (sym s.state_is ∙ p.0))
     | inr p ↦ fault_behind h.told limit u x w old xs f s p.1
   ]
 
@@ -110,7 +111,7 @@ module _ {V P T : Type 0} {framing : Framing V P T} (sound : IsSound framing) wh
   pub sofar-next : (limit : ℕ) (u v w : Option (List ℕ)) (old new : ReaderState P) (xs : List V) (x : V) → Sofar framing limit u v old xs
       → GivesItem framing limit old new v w x → Sofar framing limit u w new (xs ++ x ∷ [])
   sofar-next limit u v w old new xs x s h =
-      let p = placed h.told limit u v old xs s in
+      let p = placed framing h.told limit u v old xs s in
       let a = p.are_items in
       let t = a.told in
       let told : framing.told (place_at framing h.told old) ≡ t = ap framing.told p.place ∙ sound.told_is t xs in
@@ -121,8 +122,8 @@ module _ {V P T : Type 0} {framing : Framing V P T} (sound : IsSound framing) wh
       let bytes : Consumes v w (opening framing t (state_at framing t xs) ++ framing.item t x) = subst (Consumes v w) (λ i. p.start i ++ framing.item (told i) x) h.bytes in
       record {
         are_items = record { told = t; valid = all_more (framing.IsItem t) xs x a.valid valid; in_order = sound.more_in_order t xs x a.in_order follows; few = omega (arith, within, length-append xs (x ∷ [])) };
-        state_is = goes ∙ state_more t xs x;
-        read = subst (Consumes u w) (read_more t xs x) (Consumes-trans u v w (read_of framing t xs) (opening framing t (state_at framing t xs) ++ framing.item t x) p.read bytes);
+        state_is = goes ∙ state_more framing t xs x;
+        read = subst (Consumes u w) (read_more framing t xs x) (Consumes-trans u v w (read_of framing t xs) (opening framing t (state_at framing t xs) ++ framing.item t x) p.read bytes);
       }
 
   -- a reader behind items gives an item or the end
@@ -130,16 +131,16 @@ module _ {V P T : Type 0} {framing : Framing V P T} (sound : IsSound framing) wh
       → Sofar framing limit u v old settled → Gives framing limit old new v w (Ok o) → Side framing limit u w new settled o
   side-from limit u v w old new settled (Some x) s g = sofar-next limit u v w old new settled x s g
   side-from limit u v w old new settled None s g = elim g.bytes [
-    | inl b ↦ absurd (not_ended s.are_items.told settled (sym s.state_is ∙ b.0))
+    | inl b ↦ absurd (not_ended framing s.are_items.told settled (sym s.state_is ∙ b.0))
     | inr b ↦
-        let p = placed g.told limit u v old settled s in
+        let p = placed framing g.told limit u v old settled s in
         let t = p.are_items.told in
         let count : framing.count (place_at framing g.told old) ≡ length settled = ap framing.count p.place ∙ sound.counted t settled in
         let start = opening framing t (state_at framing t settled) in
         let last : Consumes v w (start ++ framing.end (length settled)) = subst (Consumes v w) (λ i. p.start i ++ framing.end (count i)) b.1 in
         record {
           are_items = p.are_items;
-          read = subst (Consumes u w) (all_read t settled (framing.end (length settled))) (Consumes-trans u v w (read_of framing t settled) (start ++ framing.end (length settled)) p.read last);
+          read = subst (Consumes u w) (all_read framing t settled (framing.end (length settled))) (Consumes-trans u v w (read_of framing t settled) (start ++ framing.end (length settled)) p.read last);
           at_end = b.2;
         }
   ]

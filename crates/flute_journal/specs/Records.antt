@@ -1,5 +1,5 @@
 -- Files of datagrams: a record for each, in the order in which they came.
-use Rattle.std.specs.Prelude.{◌≡◌, ℕ, ◌+◌, ◌^◌, ◌<◌, ◌≤◌, nat_le, true, List, [], ◌∷◌, ◌++◌, length, take, drop, Option, None, ⊤}
+use Rattle.std.specs.Prelude.{◌≡◌, ℕ, ◌+◌, ◌^◌, ◌<◌, nat_le, true, List, [], ◌∷◌, ◌++◌, length, take, drop, Option, None, ⊤}
 use Rattle.std.specs.List.{flat_map, AllByRecursion}
 use Rattle.flute_parts.specs.BigEndian.{big_endian}
 use Rattle.flute_journal.specs.declared.fault.ReadFault.{ReadFault}

@@ -94,7 +94,7 @@ impl<'a, R: Source> JournalReader<'a, R> {
 }
 
 // The next entry of a journal whose reader stands there, and where it stands behind it.
-#[tactic(auto, using(crate::proofs::Framed::gives, crate::proofs::Calls::reads_entries))]
+#[tactic(auto, using(crate::proofs::Calls::gives_entries, crate::proofs::Calls::reads_entries))]
 #[inline(always)]
 pub(crate) fn read_at<R: Source>(
     alloc: Global,
@@ -128,7 +128,7 @@ pub(crate) fn read_at<R: Source>(
 }
 
 // The same, but what stands there is read field by field.
-#[tactic(auto, using(crate::proofs::Framed::gives, crate::proofs::Calls::reads_entries))]
+#[tactic(auto, using(crate::proofs::Calls::gives_entries, crate::proofs::Calls::reads_entries))]
 #[inline(never)]
 fn read_fields<R: Source>(
     alloc: Global,

@@ -46,7 +46,7 @@ pub shown-part : (u v w : Option (List ℕ)) (from to : ReaderState Before) (s t
     → GivesItem journal_framing MAX_ENTRIES from to v w f → AppendsPart t t' (fact_line f) → ShowsPart u w s t'
 shown-part u v w from to s t t' count f h g part =
     let all = sofar-next journal_sound MAX_ENTRIES u v w from to h.entries f h.sofar g in
-    of_entries (h.entries ++ f ∷ []) all.are_items (subst (Consumes u w) (read_some all.are_items.told h.entries f) all.read)
+    of_entries (h.entries ++ f ∷ []) all.are_items (subst (Consumes u w) (read_some journal_framing all.are_items.told h.entries f) all.read)
     (subst (λ (x : List ℕ). AppendsPart s t' x) (line_more h.entries f) (AppendsPart-second s t t' (entry_lines h.entries) (fact_line f) h.written part))
 
 -- The fault behind the entries.

@@ -31,13 +31,13 @@ returns-in_default-from_byte-clause-reads g c =
     fault_here (g.R.Source.unread c.args.source.now) (g.R.Source.unread c.read_up_to-read.new.source) front (next_fault c.args.before.now c.args.max_entries) (Some faults.Kind) c.read_up_to-read.ensures.filled.read
     (λ r. kind_wrong c.args.before.now c.args.max_entries byte front r is c.if-byte.false c.in_default-from_byte.ensures)
 
-pub returns-then-count-max_entries-clause-reads : goal.returns-then-count-max_entries-clause-reads
-returns-then-count-max_entries-clause-reads g c =
+pub returns-then-before-max_entries-clause-reads : goal.returns-then-before-max_entries-clause-reads
+returns-then-before-max_entries-clause-reads g c =
     let front = c.read_up_to-read.result.bytes.now in
     let k = c.in-Some-from_byte.kind in
     let is : front ≡ c.in-Some.field-0.now ∷ [] = one_byte front c.in-Some.field-0.now c.read_up_to-read.ensures.filled.most c.in-Some.ensures.value in
     fault_here (g.R.Source.unread c.args.source.now) (g.R.Source.unread c.read_up_to-read.new.source) front (next_fault c.args.before.now c.args.max_entries) (Some faults.TooMany) c.read_up_to-read.ensures.filled.read
-    (λ r. too_many c.args.before.now c.args.max_entries k front r (is ∙ ap (λ b. b ∷ []) c.in-Some-from_byte.ensures) c.if-before-count-max_entries.true)
+    (λ r. too_many c.args.before.now c.args.max_entries k front r (is ∙ ap (λ b. b ∷ []) c.in-Some-from_byte.ensures) c.if-before-max_entries.true)
 
 pub returns-in_err-fact-clause-reads : goal.returns-in_err-fact-clause-reads
 returns-in_err-fact-clause-reads g c =
@@ -47,7 +47,7 @@ returns-in_err-fact-clause-reads g c =
     let e = err_from_is_err_and c.from_residual-in_err-fact.result c.from_residual-in_err-fact.ensures.1 in
     subst (ReadsNext journal_framing c.args.max_entries c.args.before.now (g.R.Source.unread c.args.source.now) _) (sym (e.1 ∙ ap Err e.2))
     (body_stops c.args.max_entries c.args.before.now.count c.args.before.now.version c.args.before.now.last k (g.R.Source.unread c.args.source.now) (g.R.Source.unread c.read_up_to-read.new.source) _ front c.in_err-fact.field-0.0
-    (is ∙ ap (λ b. b ∷ []) c.in-Some-from_byte.ensures) c.if-before-count-max_entries.false c.read_up_to-read.ensures.filled.read c.in_err-fact.ensures.reads)
+    (is ∙ ap (λ b. b ∷ []) c.in-Some-from_byte.ensures) c.if-before-max_entries.false c.read_up_to-read.ensures.filled.read c.in_err-fact.ensures.reads)
 
 pub returns-in_err-fact-clause-within : goal.returns-in_err-fact-clause-within
 returns-in_err-fact-clause-within g c =

@@ -4,6 +4,7 @@ use Rattle.flute_journal.specs.Framing.{is_open, Sofar}
 use Rattle.flute_journal.specs.Journal.{journal_framing}
 use Rattle.flute_journal.specs.declared.reader_state.ReaderState.{ReaderState}
 use Rattle.flute_journal.specs.declared.entry_fields.Before.{Before}
+use Rattle.flute_journal.specs.declared.format.version.Version.TheVariants.{Two}
 use Rattle.flute_journal.proofs.Public.{given-entry, loaded-read, sofar-none, journal_sound}
 use Rattle.flutejoin.specs.declared.limits.TheConstants.{MAX_ENTRIES}
 use Rattle.flutejoin.proofs.Extracted.{passing-next, passing-fault, passing-full, passing-end, given-fault, given-end}
