@@ -1,7 +1,6 @@
 -- What the calls of a reader of a journal come to.
-use Rattle.flute_journal.proofs.Common.{Before, Fact, Gives, IfErr, IsFactIn, Items, List, Ok, Err, Option, ReadFault, ReaderState, ReadsFrom, ReadsNext, Result, StaysWithin, Version, entry_in, is_open, journal_framing, place_at, state_after, subst, true, ℕ, ◌≡◌}
+use Rattle.flute_journal.proofs.{Common.{Before, Fact, Gives, IfErr, IsFactIn, Items, List, Ok, Err, Option, ReadFault, ReaderState, ReadsFrom, ReadsNext, Result, StaysWithin, Version, entry_in, is_open, journal_framing, place_at, state_after, subst, true, ℕ, ◌≡◌}, Framed.{gives, reads_on}}
 use Rattle.std.specs.Prelude.{⊤}
-use Rattle.flute_journal.proofs.Framed.{gives, reads_on}
 
 -- any fault may be one of a journal
 pub any_fault : {X : Type 0} (r : Result X ReadFault) → IfErr r (λ f. ⊤)

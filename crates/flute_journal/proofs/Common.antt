@@ -2,7 +2,9 @@
 pub use Rattle.std.proofs.Common.{Bool, Err, IfErr, IfSome, IsTrue, List, MatchBool, None, Ok, OnOk, Option, Result, Some, [], add-one, ap, append-nil, append_assoc, arith, bytes_eq, drop, drop-cons, drop-drop, drop-set-lt, drop_at, eqb, false, flat_map, get_or, if◌then◌else◌, inl, inr, is_eq, is_lt, is_some, le_refl, leb, length, length-append, length-drop, length-set, length-take, length-take-le, lit<, ltb, not, refl, rules, slice_get, slice_range, slice_set, subst, suc, sym, take, take-append-drop, take_all, take_at, true, zero, ℕ, ◌%◌, ◌&&◌, ◌*◌, ◌++◌, ◌+◌, ◌-◌, ◌/◌, ◌<◌, ◌^◌, ◌∙◌, ◌∷◌, ◌≡◌, ◌≢◌, ◌≤◌, ◌⊎◌}
 pub use Rattle.flute_journal.specs.Advances.{AreNew, GoOnAt, GoesOnAt, StopAt, StopsIn}
 pub use Rattle.flute_journal.specs.Eithers.{either_behaviour}
-pub use Rattle.flute_journal.specs.declared.entry_fields.Before.{Before}
+pub use Rattle.flute_journal.specs.declared.{all_streams.MergedJournal.{MergedJournal}, either.Either.TheVariants.{First, Second}, either.Either.{Either}, entry_fields.Before.{Before}, fault.LoadFault.TheVariants.{Full, Read}, fault.LoadFault.{LoadFault}}
+pub use Rattle.flute_journal.specs.declared.{fault.ReadFault.{ReadFault}, format.EntryHead.{EntryHead}, format.Kind.{Kind}, format.version.Version.TheVariants.{One, Two}, format.version.Version.{Version}, journal_stream.LentStream.{LentStream}}
+pub use Rattle.flute_journal.specs.declared.{reader_state.ReaderState.TheVariants.{Ended, Failed, Header, Items}, reader_state.ReaderState.{ReaderState}, streams_fault.InputFault.{InputFault}, streams_fault.StreamsFault.TheVariants.{Input, Write}, streams_fault.StreamsFault.{StreamsFault}}
 pub use Rattle.flute_journal.specs.Faults.{Check, bytes_checks, cut, end_checks, entry_checks, first_fault, header_fault, id_checks, id_in, in_order, info_checks, info_in, is_after, is_key, is_kind, is_name, is_object, is_version, key_in, key_size, named_in, next_fault, object_in, opening_fault, rest_checks, version_fault, version_in}
 pub use Rattle.flute_journal.specs.Format.{body, counted_bytes, end, entry, entry_in, fact_key, header, header_in, id_bytes, info_bytes, key_bytes, kind, magic, name_bytes, object_bytes, rest_bytes, sender_bytes, sender_size, spelling, spelling_in, version_bytes, version_number, without_end, without_end_in}
 pub use Rattle.flute_journal.specs.Input.{Fails, FailsIf, IsFaultOf, IsFaultUpTo, IsWithin, Reads, ReadsUpTo, StaysWithin, left_by, or_failed}
@@ -21,22 +23,6 @@ pub use Rattle.flute_journal.specs.Stores.{BeginsOver, BeginsWith, FailsToLoad, 
 pub use Rattle.flute_journal.specs.StreamMerges.{AppendsNoJournal, AppendsPartOf, BeginWith, CanGoOn, Each, EachSince, FailAs, GaveBefore, IsCounted, IsWithinLimits, MergedAll, NamesInput, NoneFails, OneFails, ReadsAhead, all_of}
 pub use Rattle.flute_journal.specs.Streams.{Advances, Behaviour, Continues, Gave, GoesOn, Stopped, StopsAt, fact_in, heads, most_of, option_list, place_of}
 pub use Rattle.flute_journal.specs.Whole.{ReadsPart, StopsAfter}
-pub use Rattle.flute_journal.specs.declared.reader_state.ReaderState.{ReaderState}
-pub use Rattle.flute_journal.specs.declared.reader_state.ReaderState.TheVariants.{Ended, Failed, Header, Items}
-pub use Rattle.flute_journal.specs.declared.either.Either.{Either}
-pub use Rattle.flute_journal.specs.declared.either.Either.TheVariants.{First, Second}
-pub use Rattle.flute_journal.specs.declared.fault.LoadFault.{LoadFault}
-pub use Rattle.flute_journal.specs.declared.fault.LoadFault.TheVariants.{Full, Read}
-pub use Rattle.flute_journal.specs.declared.fault.ReadFault.{ReadFault}
-pub use Rattle.flute_journal.specs.declared.format.EntryHead.{EntryHead}
-pub use Rattle.flute_journal.specs.declared.format.Kind.{Kind}
-pub use Rattle.flute_journal.specs.declared.format.version.Version.{Version}
-pub use Rattle.flute_journal.specs.declared.format.version.Version.TheVariants.{One, Two}
-pub use Rattle.flute_journal.specs.declared.journal_stream.LentStream.{LentStream}
-pub use Rattle.flute_journal.specs.declared.all_streams.MergedJournal.{MergedJournal}
-pub use Rattle.flute_journal.specs.declared.streams_fault.InputFault.{InputFault}
-pub use Rattle.flute_journal.specs.declared.streams_fault.StreamsFault.{StreamsFault}
-pub use Rattle.flute_journal.specs.declared.streams_fault.StreamsFault.TheVariants.{Input, Write}
 pub use Rattle.flute_parts.specs.Ranges.{IsByte, IsFact, IsId, IsInfo, IsKey, IsSymbol}
 pub use Rattle.flute_parts.proofs.Public.{alone, alone-at, alone-elsewhere, AppendsPart-first, AppendsPart-second, Below-from_Same, fact_at-after, fact_at-append, fact_at-cons, fact_at-elsewhere, fact_at-here, fact_at-nil, joined, joined-apart, joined-assoc, joined-comm, joined-none, joined-same, Over-below, rising_unique, Same-append, Same-itself, Same-members, Same-sym, Same-trans, Same-twice, StandAfter-before, Writes-behind}
 pub use Rattle.flute_parts.specs.Addresses.{address, fact_of, info_address, symbol_address}

@@ -1,6 +1,5 @@
 -- Bytes are a framed file, or they stop at a fault.
-use Rattle.flute_journal.proofs.Common.{◌≡◌, ℕ, zero, suc, ◌<◌, ◌≤◌, List, [], ◌∷◌, ◌++◌, length, drop, Option, Some, None, IsTrue, inl, inr, ◌⊎◌, refl, sym, ap, ◌∙◌, subst, arith, append_assoc, append-nil, length-append, flat_map_more, AllByRecursion, IsByte, ReadFault, Framing, AreItems, IsWhole, Stops, in_header, behind, up_to_end}
-use Rattle.flute_journal.proofs.{Each.{all_more, all_split}, Numbers.{octets-drop}, Framed.{IsSound}}
+use Rattle.flute_journal.proofs.{Common.{◌≡◌, ℕ, zero, suc, ◌<◌, ◌≤◌, List, [], ◌∷◌, ◌++◌, length, drop, Option, Some, None, IsTrue, inl, inr, ◌⊎◌, refl, sym, ap, ◌∙◌, subst, arith, append_assoc, append-nil, length-append, flat_map_more, AllByRecursion, IsByte, ReadFault, Framing, AreItems, IsWhole, Stops, in_header, behind, up_to_end}, Each.{all_more, all_split}, Numbers.{octets-drop}, Framed.{IsSound}}
 
 -- what stands at a place where the bytes have no fault: the end, or an item
 pub data Next {V P T : Type 0} (framing : Framing V P T) (limit : ℕ) (place : P) (rest : List ℕ) : Type 0 where

@@ -1,7 +1,6 @@
 -- What the calls of a reader of datagrams come to.
-use Rattle.flute_journal.proofs.Common.{Bool, Consumes, Err, Gives, Header, IfErr, IsDatagram, IsFileFault, Items, List, Ok, Option, Parses, ReadFault, ReaderState, ReadsFrom, ReadsNext, Result, Some, StaysWithin, StopsReading, [], arith, bytes_eq, cut, drop, false, file_framing, file_header, first_fault, is_open, left_by, not, opening_fault, place_at, record_of, refl, state_after, subst, take, or_failed, true, ℕ, ◌++◌, ◌∷◌, ◌≡◌}
+use Rattle.flute_journal.proofs.{Common.{Bool, Consumes, Err, Gives, Header, IfErr, IsDatagram, IsFileFault, Items, List, Ok, Option, Parses, ReadFault, ReaderState, ReadsFrom, ReadsNext, Result, Some, StaysWithin, StopsReading, [], arith, bytes_eq, cut, drop, false, file_framing, file_header, first_fault, is_open, left_by, not, opening_fault, place_at, record_of, refl, state_after, subst, take, or_failed, true, ℕ, ◌++◌, ◌∷◌, ◌≡◌}, Framed.{reads_on, reads_first, gives}, Framings.{file_sound}}
 use Rattle.flute_journal.specs.declared.fault.ReadFault.TheVariants as faults
-use Rattle.flute_journal.proofs.{Framed.{reads_on, reads_first, gives}, Framings.{file_sound}}
 
 -- a header has no other faults
 opening_faults : (a b c d : Bool) (f : ReadFault) → first_fault ((a, faults.Cut) ∷ (b, faults.Magic) ∷ (c, faults.Cut) ∷ (d, faults.Version) ∷ []) ≡ Some f → IsFileFault f

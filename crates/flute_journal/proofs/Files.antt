@@ -1,9 +1,7 @@
 -- Bytes are the datagram file of one list of datagrams, or they stop at one fault.
-use Rattle.flute_journal.proofs.Common.{length-bytes_high_first, none-some, same_Some, ◌≡◌, ℕ, ◌^◌, ◌<◌, ◌≤◌, List, [], ◌∷◌, ◌++◌, length, take, drop, Some, None, refl, sym, ap, ◌∙◌, subst, append_assoc, arith, flat_map, AllByRecursion, bytes_eq, leb-false, ltb-false, length-append, length-take-le, drop_at, take-append-drop, append-nil, big_endian, ReadFault, in_bytes, opening_fault, IsByte, file_header, record_of, IsDatagram, AreItems, file_framing, IsFileOf, IsFileWithin, Stops, record_fault}
-use Rattle.flute_journal.proofs.{Sequences.{begins, one_stop, stop_at_bound}, Each.{all_split}, Entries.{counted-injective}, Numbers.{number-in_bytes, number-below, octets-take, octets-drop, spelled}, Parts.{opening_comes, first-pass, cut-passes}, Existence.{first-none}, Decisions.{Next, at_end, at_item}}
+use Rattle.flute_journal.proofs.{Common.{length-bytes_high_first, none-some, same_Some, ◌≡◌, ℕ, ◌^◌, ◌<◌, ◌≤◌, List, [], ◌∷◌, ◌++◌, length, take, drop, Some, None, refl, sym, ap, ◌∙◌, subst, append_assoc, arith, flat_map, AllByRecursion, bytes_eq, leb-false, ltb-false, length-append, length-take-le, drop_at, take-append-drop, append-nil, big_endian, ReadFault, in_bytes, opening_fault, IsByte, file_header, record_of, IsDatagram, AreItems, file_framing, IsFileOf, IsFileWithin, Stops, record_fault}, Sequences.{begins, one_stop, stop_at_bound}, Each.{all_split}, Entries.{counted-injective}, Numbers.{number-in_bytes, number-below, octets-take, octets-drop, spelled}, Parts.{opening_comes, first-pass, cut-passes}, Existence.{first-none}, Decisions.{Next, at_end, at_item}, Records.{record_comes, too_many_records}}
 use Rattle.flute_journal.specs.declared.fault.ReadFault.TheVariants as faults
 use Rattle.flute_journal.specs.Framing.{in_header, behind}
-use Rattle.flute_journal.proofs.Records.{record_comes, too_many_records}
 
 -- what a record spells is read in one way, whatever follows it
 pub record-injective : (d e x y : List ℕ) → IsDatagram d → IsDatagram e → record_of d ++ x ≡ record_of e ++ y → (d ≡ e) × (x ≡ y)

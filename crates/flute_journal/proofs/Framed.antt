@@ -1,11 +1,7 @@
 -- What holds of framed files, and what the calls of a reader come to.
-use Rattle.flute_journal.proofs.Common.{◌≡◌, ℕ, ◌+◌, ◌<◌, List, [], ◌∷◌, ◌++◌, length, drop, drop_at, Option, Some, None, Result, Ok, Err, IsTrue, true, refl, ap, ◌∙◌, subst, arith, inr, IfSome, IfErr, Consumes, Consumes-trans, ReadFault, IsFaultOf, StaysWithin}
+use Rattle.flute_journal.proofs.{Common.{◌≡◌, ℕ, ◌+◌, ◌<◌, List, [], ◌∷◌, ◌++◌, length, drop, drop_at, Option, Some, None, Result, Ok, Err, IsTrue, true, refl, ap, ◌∙◌, subst, arith, inr, IfSome, IfErr, Consumes, Consumes-trans, ReadFault, IsFaultOf, StaysWithin}, ReadsUpTo.{fault_up_to, fault_up_to-behind}}
 use Rattle.flute_journal.specs.declared.fault.ReadFault.TheVariants as faults
-use Rattle.flute_journal.specs.declared.reader_state.ReaderState.{ReaderState}
-use Rattle.flute_journal.specs.declared.reader_state.ReaderState.TheVariants.{Header, Items, Ended, Failed}
-use Rattle.flute_journal.specs.Input.{Advances}
-use Rattle.flute_journal.specs.Framing.{Framing, or_else, is_open, ReadsNext, ReadsFrom, count_at, place_at, end_bytes, fault_from, state_after, Gives, GivesItem, in_opening, in_item}
-use Rattle.flute_journal.proofs.ReadsUpTo.{fault_up_to, fault_up_to-behind}
+use Rattle.flute_journal.specs.{declared.reader_state.ReaderState.{ReaderState}, declared.reader_state.ReaderState.TheVariants.{Header, Items, Ended, Failed}, Input.{Advances}, Framing.{Framing, or_else, is_open, ReadsNext, ReadsFrom, count_at, place_at, end_bytes, fault_from, state_after, Gives, GivesItem, in_opening, in_item}}
 
 -- a header is read back, and a place counts the items before it
 pub record IsSound {V P T : Type 0} (framing : Framing V P T) : Type 0 where

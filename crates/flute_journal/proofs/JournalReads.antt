@@ -1,12 +1,5 @@
 -- A journal that is read on is a stream that goes on.
-use Rattle.flute_journal.proofs.Common.{AreItems, journal_framing, BeginsWith, Behaviour, Bool, Consumes, Consumes-kept, Continues, Ended, Items, Err, Fact, Failed, FailsIf, FailsSince, Gives, GivesEnd, GivesFault, GoesOn, HasFault, Header, IfSome, IsFactIn, IsJournalOfAll, IsJournalWithin, IsRising, IsSized, IsTrue, Keeps, LentStream, List, LoadFault, None, Ok, Option, ReadAt, ReadFault, ReadWhole, ReadsBehind, SameLoans, Sofar, Some, ReaderState, Before, StopsAt, [], ap, append-nil, arith, count_at, end, false, without_end_in, inl, inr, is_open, journal_behaviour, length, lent, lent_behaviour, limit_of, option_list, refl, room, source_of, spelling_in, state_of, subst, sym, true, unread_of, ℕ, ◌++◌, ◌+◌, ◌-◌, ◌∙◌, ◌∷◌, ◌≡◌, ◌≤◌}
-use Rattle.flute_journal.proofs.Whole.{ahead-sofar, reads-side, reads-sofar, reads-fault}
-use Rattle.flute_journal.proofs.SoFar.{AtEnd, whole-at, side-from, open_behind, sofar-fault, read_some}
-use Rattle.flute_journal.proofs.Framings.{journal_sound}
-use Rattle.flute_journal.proofs.Framed.{one_given}
-use Rattle.flute_journal.proofs.Each.{all_split}
-use Rattle.flute_journal.proofs.Bodies.{fact_sized}
-use Rattle.flute_journal.proofs.MergeBytes.{spelling-injective}
+use Rattle.flute_journal.proofs.{Common.{AreItems, journal_framing, BeginsWith, Behaviour, Bool, Consumes, Consumes-kept, Continues, Ended, Items, Err, Fact, Failed, FailsIf, FailsSince, Gives, GivesEnd, GivesFault, GoesOn, HasFault, Header, IfSome, IsFactIn, IsJournalOfAll, IsJournalWithin, IsRising, IsSized, IsTrue, Keeps, LentStream, List, LoadFault, None, Ok, Option, ReadAt, ReadFault, ReadWhole, ReadsBehind, SameLoans, Sofar, Some, ReaderState, Before, StopsAt, [], ap, append-nil, arith, count_at, end, false, without_end_in, inl, inr, is_open, journal_behaviour, length, lent, lent_behaviour, limit_of, option_list, refl, room, source_of, spelling_in, state_of, subst, sym, true, unread_of, ℕ, ◌++◌, ◌+◌, ◌-◌, ◌∙◌, ◌∷◌, ◌≡◌, ◌≤◌}, Whole.{ahead-sofar, reads-side, reads-sofar, reads-fault}, SoFar.{AtEnd, whole-at, side-from, open_behind, sofar-fault, read_some}, Framings.{journal_sound}, Framed.{one_given}, Each.{all_split}, Bodies.{fact_sized}, MergeBytes.{spelling-injective}}
 use Rattle.flute_journal.specs.declared.fault.LoadFault.TheVariants as load
 use Rattle.flute_journal.specs.declared.journal_stream.JournalStream.{JournalStream}
 

@@ -1,12 +1,8 @@
 -- A store that is read entry by entry.
-use Rattle.flute_journal.proofs.Common.{AreItems, journal_framing, BeginsOver, Below-from_Same, Bool, Consumes, Consumes-whole, Err, Fact, FailsIf, FailsToLoad, Gives, GivesItem, GivesFault, Header, IfSome, IsAtEnd, IsJournalOf, IsLoadFault, List, MatchBool, None, Ok, Option, Over, Over-below, Read, ReadFault, ReadsPart, Same, Same-append, Same-itself, Same-sym, Same-trans, Sofar, Some, Two, ReaderState, Before, [], append-nil, arith, behind, count_at, end, err_from_is_err_and, without_end_in, file_framing, is_open, more_objects, more_sessions, more_symbols, refl, refused, session, spelling_in, subst, sym, ℕ, ◌++◌, ◌∙◌, ◌∷◌, ◌≡◌}
+use Rattle.flute_journal.proofs.{Common.{AreItems, journal_framing, BeginsOver, Below-from_Same, Bool, Consumes, Consumes-whole, Err, Fact, FailsIf, FailsToLoad, Gives, GivesItem, GivesFault, Header, IfSome, IsAtEnd, IsJournalOf, IsLoadFault, List, MatchBool, None, Ok, Option, Over, Over-below, Read, ReadFault, ReadsPart, Same, Same-append, Same-itself, Same-sym, Same-trans, Sofar, Some, Two, ReaderState, Before, [], append-nil, arith, behind, count_at, end, err_from_is_err_and, without_end_in, file_framing, is_open, more_objects, more_sessions, more_symbols, refl, refused, session, spelling_in, subst, sym, ℕ, ◌++◌, ◌∙◌, ◌∷◌, ◌≡◌}, MergeBytes.{within_nil}, SoFar.{AtEnd, read_some, side-from, open_behind, sofar-none, sofar-next}, Framings.{journal_sound}, Whole.{sofar-stops}}
 use Rattle.flute_join.specs.declared.refusal.JoinRefusal.{JoinRefusal}
 use Rattle.flute_join.specs.declared.refusal.JoinRefusal.TheVariants as join
 use Rattle.flute_journal.specs.Whole.{behind}
-use Rattle.flute_journal.proofs.MergeBytes.{within_nil}
-use Rattle.flute_journal.proofs.SoFar.{AtEnd, read_some, side-from, open_behind, sofar-none, sofar-next}
-use Rattle.flute_journal.proofs.Framings.{journal_sound}
-use Rattle.flute_journal.proofs.Whole.{sofar-stops}
 
 -- these entries were read, and what they come to is held within the limits
 pub record Loaded (s o y limit : ℕ) (first now : Option (List ℕ)) (state : ReaderState Before) (content : List Fact) : Type 0 where

@@ -1,9 +1,7 @@
 -- What was spelled has no fault, and where bytes that begin like a journal stop.
-use Rattle.flute_journal.proofs.Common.{Address, AllByRecursion, Before, Below, Fact, Info, InfoConflict, Information, IsFact, IsFactIn, IsInfo, IsRising, IsSymbol, JournalIn, Kind, List, None, Option, ReadFault, Same, Same-append, Same-itself, Same-twice, Some, Stops, journal_framing, Symbol, SymbolConflict, Version, [], address, ap, append_assoc, arith, at_place, before, behind, byte_of, bytes_fault, end, entry_in, flat_map, without_end_in, header_fault, header_in, id_bytes, in_bytes, in_header, info_address, info_bytes, info_in, is_after, key_bytes, fact_key, last_of, length, length-append, next_fault, none-some, refl, rest_bytes, rest_fault, same_Some, spelling_in, subst, sym, symbol_address, counted_bytes, true, ℕ, ◌++◌, ◌<◌, ◌^◌, ◌∙◌, ◌∷◌, ◌≡◌, ◌≤◌}
-use Rattle.flute_journal.proofs.{Sequences.{one_stop, stop_at_bound}, MergeBytes.{without_end-both, journal_parts}, Each.{all_split}, Numbers.{number-in_bytes}, MergeRising.{Rises, rising-rises}, Entries.{length_fits, entry_injective, not_end, header-injective}}
+use Rattle.flute_journal.proofs.{Common.{Address, AllByRecursion, Before, Below, Fact, Info, InfoConflict, Information, IsFact, IsFactIn, IsInfo, IsRising, IsSymbol, JournalIn, Kind, List, None, Option, ReadFault, Same, Same-append, Same-itself, Same-twice, Some, Stops, journal_framing, Symbol, SymbolConflict, Version, [], address, ap, append_assoc, arith, at_place, before, behind, byte_of, bytes_fault, end, entry_in, flat_map, without_end_in, header_fault, header_in, id_bytes, in_bytes, in_header, info_address, info_bytes, info_in, is_after, key_bytes, fact_key, last_of, length, length-append, next_fault, none-some, refl, rest_bytes, rest_fault, same_Some, spelling_in, subst, sym, symbol_address, counted_bytes, true, ℕ, ◌++◌, ◌<◌, ◌^◌, ◌∙◌, ◌∷◌, ◌≡◌, ◌≤◌}, Sequences.{one_stop, stop_at_bound}, MergeBytes.{without_end-both, journal_parts}, Each.{all_split}, Numbers.{number-in_bytes}, MergeRising.{Rises, rising-rises}, Entries.{length_fits, entry_injective, not_end, header-injective}, Parts.{id_comes, order_passes, symbol_comes, entry_comes, too_many, end_counts, header_passes, key_valid, first-pass, cut-passes, info_passes, length_passes}}
 use Rattle.flute_journal.specs.declared.format.Kind.TheVariants as kinds
 use Rattle.flute_journal.specs.declared.fault.ReadFault.TheVariants as faults
-use Rattle.flute_journal.proofs.Parts.{id_comes, order_passes, symbol_comes, entry_comes, too_many, end_counts, header_passes, key_valid, first-pass, cut-passes, info_passes, length_passes}
 
 info_reads : (i : Information) → IsInfo i → info_in (info_bytes i) ≡ i
 info_reads i p = grind (arith, number-in_bytes, length_fits)

@@ -1,11 +1,7 @@
 -- A framed file that is read item by item.
-use Rattle.flute_journal.proofs.Common.{◌≡◌, ℕ, ◌<◌, List, [], ◌∷◌, ◌++◌, length, drop, Option, Some, None, Ok, IsTrue, true, inl, inr, refl, sym, ap, ◌∙◌, subst, arith, append_assoc, append-nil, length-append, flat_map_more, IfSome, Consumes, Consumes-nil, Consumes-trans, Consumes-whole, IsAtEnd, ReadFault}
+use Rattle.flute_journal.proofs.{Common.{◌≡◌, ℕ, ◌<◌, List, [], ◌∷◌, ◌++◌, length, drop, Option, Some, None, Ok, IsTrue, true, inl, inr, refl, sym, ap, ◌∙◌, subst, arith, append_assoc, append-nil, length-append, flat_map_more, IfSome, Consumes, Consumes-nil, Consumes-trans, Consumes-whole, IsAtEnd, ReadFault}, Each.{all_more}, Framed.{IsSound}}
 use Rattle.flute_journal.specs.declared.fault.ReadFault.TheVariants as faults
-use Rattle.flute_journal.specs.declared.reader_state.ReaderState.{ReaderState}
-use Rattle.flute_journal.specs.declared.reader_state.ReaderState.TheVariants.{Header, Items, Ended, Failed}
-use Rattle.flute_journal.specs.Framing.{Framing, or_else, is_open, up_to_end, AreItems, IsWhole, Stops, in_header, behind, HasFault, place_at, opening, fault_from, GivesItem, GivesFault, Gives, IsPart, in_opening, in_item, IsAtFault, state_at, read_of, Sofar}
-use Rattle.flute_journal.proofs.Each.{all_more}
-use Rattle.flute_journal.proofs.Framed.{IsSound}
+use Rattle.flute_journal.specs.{declared.reader_state.ReaderState.{ReaderState}, declared.reader_state.ReaderState.TheVariants.{Header, Items, Ended, Failed}, Framing.{Framing, or_else, is_open, up_to_end, AreItems, IsWhole, Stops, in_header, behind, HasFault, place_at, opening, fault_from, GivesItem, GivesFault, Gives, IsPart, in_opening, in_item, IsAtFault, state_at, read_of, Sofar}}
 
 -- an input that was read to the end of its file
 pub record AtEnd {V P T : Type 0} (framing : Framing V P T) (limit : ℕ) (input left : Option (List ℕ)) (items : List V) : Type 0 where

@@ -1,7 +1,6 @@
 -- A journal that is read entry by entry.
-use Rattle.flute_journal.proofs.Common.{Address, AllByRecursion, AreItems, Consumes, Consumes-trans, EndsBehind, Fact, GivesFault, IsFactIn, IsFaultUpTo, IsPart, IsRising, List, None, Option, ReadFault, ReaderState, Before, ReadsBehind, ReadsPart, Some, Sofar, StopsAfter, Version, [], ap, append-nil, append_assoc, arith, end, end_bytes, entry_in, fault_from, header_in, in_item, in_opening, inl, inr, journal_framing, last_of, length, nil_from_length, none-some, read_of, refl, same_Some, spelling_in, state_at, subst, sym, without_end_in, ℕ, ◌++◌, ◌∙◌, ◌∷◌, ◌≡◌}
+use Rattle.flute_journal.proofs.{Common.{Address, AllByRecursion, AreItems, Consumes, Consumes-trans, EndsBehind, Fact, GivesFault, IsFactIn, IsFaultUpTo, IsPart, IsRising, List, None, Option, ReadFault, ReaderState, Before, ReadsBehind, ReadsPart, Some, Sofar, StopsAfter, Version, [], ap, append-nil, append_assoc, arith, end, end_bytes, entry_in, fault_from, header_in, in_item, in_opening, inl, inr, journal_framing, last_of, length, nil_from_length, none-some, read_of, refl, same_Some, spelling_in, state_at, subst, sym, without_end_in, ℕ, ◌++◌, ◌∙◌, ◌∷◌, ◌≡◌}, SoFar.{FaultBehind, Side, found_now, read_some, stops_at, stops_by}, Framings.{journal_sound}, Parts.{entry_within-short}, Each.{all_split}, MergeBytes.{without_end_in-snoc, within_entry, within_end, within_nil, without_end-of_spelling}, MergeRising.{Rises-second, Rises, rising-rises}}
 use Rattle.flute_journal.specs.{Whole.{in_header as part_in_header, behind as part_behind}, Merges.{in_header, behind}}
-use Rattle.flute_journal.proofs.{SoFar.{FaultBehind, Side, found_now, read_some, stops_at, stops_by}, Framings.{journal_sound}, Parts.{entry_within-short}, Each.{all_split}, MergeBytes.{without_end_in-snoc, within_entry, within_end, within_nil, without_end-of_spelling}, MergeRising.{Rises-second, Rises, rising-rises}}
 use Rattle.flute_journal.specs.declared.fault.ReadFault.TheVariants as faults
 
 -- no entry is held back before the next one

@@ -75,7 +75,8 @@ module _ {V P T : Type 0} (framing : Framing V P T) where
     pub are_items : AreItems limit items
     pub rest : List ℕ
     pub whole : bytes ≡ up_to_end are_items.told items ++ rest
-    pub first : framing.next_fault (framing.place_behind are_items.told items) limit rest ≡ Some fault
+    pub first :
+        framing.next_fault (framing.place_behind are_items.told items) limit rest ≡ Some fault
 
 -- the first field at fault has this fault, and these are the items that end before it
 pub data Stops {V P T : Type 0} (framing : Framing V P T) (bytes : List ℕ) (limit : ℕ)

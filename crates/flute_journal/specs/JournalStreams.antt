@@ -28,8 +28,8 @@ pub record ReadWhole (limit : ℕ) (first now : Option (List ℕ)) (entries : Li
   pub read : ReadsBehind first now entries
 
 -- by where its reader is: these entries were given, and one more is held
-abbrev pub ReadAt : ℕ → Option (List ℕ) → Option (List ℕ) → ReaderState Before → List Fact → Option Fact
-    → Type 0
+abbrev pub ReadAt : ℕ → Option (List ℕ) → Option (List ℕ) → ReaderState Before → List Fact
+    → Option Fact → Type 0
 ReadAt limit first now Ended entries held = ReadWhole limit first now entries × (held ≡ None)
 ReadAt limit first now (Failed fault) entries held = ⊥
 ReadAt limit first now state entries held =
@@ -86,7 +86,8 @@ module _ {R : Type 0} (unread : R → Option (List ℕ)) (failures : R → ℕ) 
     tells = λ s F. IfSome (unread_of s) (λ bytes. IsJournalWithin (limit_of s.reader) bytes F);
     knows = λ s F. IsJournalOfAll (unread_of s) F;
     begins = λ s F. IfSome (unread_of s) (λ bytes. BeginsWith (limit_of s.reader) bytes F);
-    stops = λ s fault. StopsReading (HasFault journal_framing (limit_of s.reader) (unread_of s)) fault;
+    stops = λ s fault.
+        StopsReading (HasFault journal_framing (limit_of s.reader) (unread_of s)) fault;
     passes = PassesSince;
     reads = λ start now F. ReadsBehind (unread_of start) (unread_of now) F;
     fails = FailsSince;

@@ -40,7 +40,8 @@ module _ {R : Type 0} (unread : R → Option (List ℕ)) (failures : R → ℕ) 
     tells = λ s F. IfSome (unread s.source) (λ bytes. IsJournalWithin s.max_entries bytes F);
     knows = λ s F. IsJournalOfAll (unread s.source) F;
     begins = λ s F. IfSome (unread s.source) (λ bytes. BeginsWith s.max_entries bytes F);
-    stops = λ s fault. StopsReading (HasFault journal_framing s.max_entries (unread s.source)) fault;
+    stops = λ s fault.
+        StopsReading (HasFault journal_framing s.max_entries (unread s.source)) fault;
     passes = OwnedPasses;
     reads = λ start now F. ReadsBehind (unread start.source) (unread now.source) F;
     fails = λ start now fault. FailsBy (failures start.source) (failures now.source) fault;

@@ -26,4 +26,5 @@ StopsAfter limit entries old new faults.Read =
     (part : List ℕ) × Consumes old new part
     × (Stops journal_framing part limit entries faults.Cut ⊎ IsJournalWithin limit part entries)
 StopsAfter limit entries old new faults.OutOfMemory = ReadsPart limit old new entries
-StopsAfter limit entries old new f = IfSome old (λ bytes. Stops journal_framing bytes limit entries f)
+StopsAfter limit entries old new f =
+    IfSome old (λ bytes. Stops journal_framing bytes limit entries f)

@@ -68,8 +68,9 @@ impl<'a, R: Source> JournalReader<'a, R> {
     pub fn next(&mut self, alloc: Global) -> Result<Option<Fact>, ReadFault>
         ensures source { (source_of self.new).ghost_name ≡ (source_of self.old).ghost_name }
         ensures limit { limit_of self.new ≡ limit_of self.old }
-        ensures gives { Gives journal_framing (limit_of self.old) (state_of self.old) (state_of self.new)
-            (R.unread (source_of self.old).now) (R.unread (source_of self.new).now) result }
+        ensures gives { Gives journal_framing (limit_of self.old) (state_of self.old)
+            (state_of self.new) (R.unread (source_of self.old).now)
+            (R.unread (source_of self.new).now) result }
         ensures failures { FailsIf (is_open (state_of self.old))
             (R.failures (source_of self.old).now) (R.failures (source_of self.new).now) result }
     {
@@ -84,8 +85,9 @@ impl<'a, R: Source> JournalReader<'a, R> {
     pub fn next_with(&mut self, alloc: Global, spare: Vec<u8>) -> Result<Option<Fact>, ReadFault>
         ensures source { (source_of self.new).ghost_name ≡ (source_of self.old).ghost_name }
         ensures limit { limit_of self.new ≡ limit_of self.old }
-        ensures gives { Gives journal_framing (limit_of self.old) (state_of self.old) (state_of self.new)
-            (R.unread (source_of self.old).now) (R.unread (source_of self.new).now) result }
+        ensures gives { Gives journal_framing (limit_of self.old) (state_of self.old)
+            (state_of self.new) (R.unread (source_of self.old).now)
+            (R.unread (source_of self.new).now) result }
         ensures failures { FailsIf (is_open (state_of self.old))
             (R.failures (source_of self.old).now) (R.failures (source_of self.new).now) result }
     {
@@ -163,8 +165,8 @@ fn read_first<R: Source>(
     max_entries: u64,
     state: &mut ReaderState<Before>,
 ) -> Result<Option<Fact>, ReadFault>
-    ensures gives { Gives journal_framing max_entries ReaderState.Header state.new (R.unread source.old)
-        (R.unread source.new) result }
+    ensures gives { Gives journal_framing max_entries ReaderState.Header state.new
+        (R.unread source.old) (R.unread source.new) result }
     ensures failures { Fails (R.failures source.old) (R.failures source.new) result }
 {
     match read_header(source) {

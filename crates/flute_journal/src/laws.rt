@@ -86,8 +86,8 @@ pub fn a_journal_has_no_fault()
 
 /// Bytes have one first fault, after one list of entries.
 pub fn bytes_stop_once()
-    ensures { (bs : List ℕ) (limit : ℕ) (es fs : List Fact) (f g : Fault) → Stops journal_framing bs limit es f
-        → Stops journal_framing bs limit fs g → (es ≡ fs) × (f ≡ g) }
+    ensures { (bs : List ℕ) (limit : ℕ) (es fs : List Fact) (f g : Fault)
+        → Stops journal_framing bs limit es f → Stops journal_framing bs limit fs g → (es ≡ fs) × (f ≡ g) }
 {}
 
 /// The entries that a journal begins with tell nothing more than its facts.
@@ -132,7 +132,8 @@ pub fn bytes_are_a_file_or_stop()
 /// Bytes have one first fault, after one list of datagrams.
 pub fn a_file_stops_once()
     ensures { (bs : List ℕ) (limit : ℕ) (ds es : List (List ℕ)) (f g : Fault)
-        → Stops file_framing bs limit ds f → Stops file_framing bs limit es g → (ds ≡ es) × (f ≡ g) }
+        → Stops file_framing bs limit ds f → Stops file_framing bs limit es g
+        → (ds ≡ es) × (f ≡ g) }
 {}
 
 /// A datagram file stops only if it has more records than the bound.
@@ -150,10 +151,12 @@ pub fn a_file_is_read_record_by_record()
         states.Header [] }
     ensures goes_on { (limit : ℕ) (first now next : Option (List ℕ)) (old new : ReaderState ℕ)
         (ds : List (List ℕ)) (d : List ℕ) → Sofar file_framing limit first now old ds
-        → GivesItem file_framing limit old new now next d → Sofar file_framing limit first next new (ds ++ d ∷ []) }
+        → GivesItem file_framing limit old new now next d
+        → Sofar file_framing limit first next new (ds ++ d ∷ []) }
     ensures ends { (limit : ℕ) (first now next : Option (List ℕ)) (old new : ReaderState ℕ)
         (ds : List (List ℕ)) → Sofar file_framing limit first now old ds
-        → GivesEnd file_framing old new now next → IfSome first (λ bytes. IsFileWithin limit bytes ds) }
+        → GivesEnd file_framing old new now next
+        → IfSome first (λ bytes. IsFileWithin limit bytes ds) }
     ensures stops { (limit : ℕ) (first now next : Option (List ℕ)) (old new : ReaderState ℕ)
         (ds : List (List ℕ)) (f : Fault) → Sofar file_framing limit first now old ds
         → GivesFault file_framing limit old new now next f → HasFault file_framing limit first f }

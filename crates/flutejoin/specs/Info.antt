@@ -25,7 +25,8 @@ IsOverWith bytes facts =
 -- why facts were not added: the fault of the journal; the limits of a store, over which it is alone
 -- or with them; or the sink
 abbrev pub InfoFails : Option (List ℕ) → List Fact → CommandFault → Type 0
-InfoFails input facts (Input told fault) = (told ≡ 1) × HasFault journal_framing MAX_ENTRIES input fault
+InfoFails input facts (Input told fault) =
+    (told ≡ 1) × HasFault journal_framing MAX_ENTRIES input fault
 InfoFails input facts Full = IfSome input (λ bytes. BeginsOverShelf bytes ⊎ IsOverWith bytes facts)
 InfoFails input facts CannotWrite = ⊤
 InfoFails input facts _ = ⊥

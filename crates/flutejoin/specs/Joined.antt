@@ -166,6 +166,7 @@ pub record HoldsDatagrams (choice : Choice) (file : HeldFile)
 
 -- why a datagram file was not held
 abbrev pub FileFails : ℕ → Option (List ℕ) → CommandFault → Type 0
-FileFails number input (Input told fault) = (told ≡ number) × HasFault file_framing MAX_ENTRIES input fault
+FileFails number input (Input told fault) =
+    (told ≡ number) × HasFault file_framing MAX_ENTRIES input fault
 FileFails number input OutOfMemory = ⊤
 FileFails number input _ = ⊥

@@ -56,7 +56,8 @@ pub record IsDone (capacity : Capacity) (before : Held) (step : Step) (now : Hel
 -- or at a `Reopen`
 abbrev pub IsReadFault : Capacity → List (List Fact) → Step → ReadFault → Type 0
 IsReadFault capacity held (Load replica journal) fault =
-    (entries : List Fact) × Stops journal_framing journal MAX_ENTRIES entries fault × ¬ IsOver entries capacity
+    (entries : List Fact) × Stops journal_framing journal MAX_ENTRIES entries fault
+    × ¬ IsOver entries capacity
 IsReadFault capacity held (Reopen replica) fault =
     (fault ≡ ReadFault.TooMany) × IsLonger (held_by held replica) MAX_ENTRIES
 IsReadFault capacity held (Take replica sender datagram) fault = ⊥

@@ -40,7 +40,8 @@ pub record ShowsUntil (input left old new : Option (List ℕ)) (fault : ReadFaul
 -- or of a whole journal
 pub data ShowsPart (input left old new : Option (List ℕ)) : Type 0 where
   of_entries : (entries : List Fact) → (a : AreItems journal_framing MAX_ENTRIES entries)
-      → Consumes input left (without_end_in a.told entries) → AppendsPart old new (entry_lines entries)
+      → Consumes input left (without_end_in a.told entries)
+      → AppendsPart old new (entry_lines entries)
       → ShowsPart input left old new
   of_journal : (entries : List Fact)
       → IfSome input (λ bytes. IsJournalWithin MAX_ENTRIES bytes entries)

@@ -1,6 +1,4 @@
-use Rattle.flute_journal.proofs.Common.{◌≡◌, length, rules, Err, sym, ap, ◌∙◌, subst, err_from_is_err_and, ReadsNext, file_framing}
-use Rattle.flute_journal.proofs.ReadsUpTo.{fault_here}
-use Rattle.flute_journal.proofs.Records.{too_many_records, record_stops, no_record}
+use Rattle.flute_journal.proofs.{Common.{◌≡◌, length, rules, Err, sym, ap, ◌∙◌, subst, err_from_is_err_and, ReadsNext, file_framing}, ReadsUpTo.{fault_here}, Records.{too_many_records, record_stops, no_record}}
 use Rattle.flute_journal.proofs.datagram_reader.read_fields.Goals as goal
 
 pub returns-then-is_empty-clause-reads : goal.returns-then-is_empty-clause-reads

@@ -1,5 +1,4 @@
-use Rattle.flute_journal.proofs.Common.{Err, sym, ap, ◌∙◌, subst, err_from_is_err_and, ReadsFrom, file_framing}
-use Rattle.flute_journal.proofs.{Framed.{reads_header}, Framings.{file_sound}}
+use Rattle.flute_journal.proofs.{Common.{Err, sym, ap, ◌∙◌, subst, err_from_is_err_and, ReadsFrom, file_framing}, Framed.{reads_header}, Framings.{file_sound}}
 use Rattle.flute_journal.specs.declared.reader_state.ReaderState.TheVariants.{Header}
 use Rattle.flute_journal.proofs.datagram_reader.read_first.Goals as goal
 

@@ -1,7 +1,4 @@
-use Rattle.flute_journal.proofs.Common.{Err, IsFactIn, ReadsNext, journal_framing, Some, StaysWithin, [], ap, entry_in, err_from_is_err_and, next_fault, subst, sym, ◌∙◌, ◌∷◌, ◌≡◌}
-use Rattle.flute_journal.proofs.ReadsUpTo.{fault_here}
-use Rattle.flute_journal.proofs.Parts.{one_byte, kind_wrong, too_many}
-use Rattle.flute_journal.proofs.Bodies.{end_ends, end_stops, body_stops, body_ends}
+use Rattle.flute_journal.proofs.{Common.{Err, IsFactIn, ReadsNext, journal_framing, Some, StaysWithin, [], ap, entry_in, err_from_is_err_and, next_fault, subst, sym, ◌∙◌, ◌∷◌, ◌≡◌}, ReadsUpTo.{fault_here}, Parts.{one_byte, kind_wrong, too_many}, Bodies.{end_ends, end_stops, body_stops, body_ends}}
 use Rattle.flute_journal.specs.declared.fault.ReadFault.TheVariants as faults
 use Rattle.flute_journal.proofs.entry_fields.read_entry.Goals as goal
 

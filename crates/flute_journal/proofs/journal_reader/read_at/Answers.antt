@@ -1,5 +1,4 @@
-use Rattle.flute_journal.proofs.{Common.{ap, sym, ◌∙◌}, Calls.{gives_at}}
-use Rattle.flute_journal.proofs.journal_reader.read_at.Goals.{in-Items+then-before-max_entries+in-Ok-None, in-Items+else-before-max_entries, in_default}
+use Rattle.flute_journal.proofs.{Common.{ap, sym, ◌∙◌}, Calls.{gives_at}, journal_reader.read_at.Goals.{in-Items+then-before-max_entries+in-Ok-None, in-Items+else-before-max_entries, in_default}}
 use Rattle.flute_journal.proofs.journal_reader.read_at.Goals as goal
 
 pub returns-clause-gives : goal.returns-clause-gives

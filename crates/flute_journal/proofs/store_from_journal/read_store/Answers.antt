@@ -1,5 +1,4 @@
-use Rattle.flute_journal.proofs.Common.{◌≡◌, List, rules, ap, ◌∙◌, subst, Err, err_from_is_err_and, Fact, is_open, IsLoadFault, Read, ReadsPart}
-use Rattle.flute_journal.proofs.Loading.{loaded_all, loaded-given, loaded-fits, loaded-full, loaded-stops, loaded-read, fault-part, refused-part}
+use Rattle.flute_journal.proofs.{Common.{◌≡◌, List, rules, ap, ◌∙◌, subst, Err, err_from_is_err_and, Fact, is_open, IsLoadFault, Read, ReadsPart}, Loading.{loaded_all, loaded-given, loaded-fits, loaded-full, loaded-stops, loaded-read, fault-part, refused-part}}
 use Rattle.flute_journal.proofs.store_from_journal.read_store.Goals as goal
 
 pub returns-in_err-fact-clause-fault : goal.returns-in_err-fact-clause-fault
