@@ -2,37 +2,29 @@
 pub use Rattle.std.proofs.Common.{Bool, Err, IfErr, IfSome, IsTrue, List, MatchBool, None, Ok, OnOk, Option, Result, Some, [], add-one, ap, append-nil, append_assoc, arith, bytes_eq, drop, drop-cons, drop-drop, drop-set-lt, drop_at, eqb, false, flat_map, get_or, if◌then◌else◌, inl, inr, is_eq, is_lt, is_some, le_refl, leb, length, length-append, length-drop, length-set, length-take, length-take-le, lit<, ltb, not, refl, rules, slice_get, slice_range, slice_set, subst, suc, sym, take, take-append-drop, take_all, take_at, true, zero, ℕ, ◌%◌, ◌&&◌, ◌*◌, ◌++◌, ◌+◌, ◌-◌, ◌/◌, ◌<◌, ◌^◌, ◌∙◌, ◌∷◌, ◌≡◌, ◌≢◌, ◌≤◌, ◌⊎◌}
 pub use Rattle.flute_journal.specs.Advances.{AreNew, GoOnAt, GoesOnAt, StopAt, StopsIn}
 pub use Rattle.flute_journal.specs.Eithers.{either_behaviour}
-pub use Rattle.flute_journal.specs.Faults.{Before, Check, bytes_checks, cut, end_checks, entry_checks, first_fault, header_fault, id_checks, id_in, in_order, info_checks, info_in, is_after, is_key, is_kind, is_name, is_object, is_version, key_in, key_size, named_in, next_fault, object_in, opening_fault, rest_checks, version_fault, version_in}
-pub use Rattle.flute_journal.specs.Format.{body, end, entry, entry_in, without_end, without_end_in, header, header_in, id_bytes, info_bytes, key_bytes, fact_key, kind, magic, name_bytes, object_bytes, rest_bytes, sender_bytes, sender_size, spelling, spelling_in, counted_bytes, version_bytes, version_number}
-pub use Rattle.flute_journal.specs.Input.{Fails, FailsIf, ReadsUpTo, IsFaultOf, IsFaultUpTo, IsWithin, Reads, StaysWithin, left_by, or_failed}
-pub use Rattle.flute_journal.specs.Journal.{AreEntries, Collects, HasRoom, IsFactIn, IsJournal, IsJournalWithin, IsKeyIn, Journal, JournalIn, OldJournal, Stops, before, behind, in_header, last_of}
-pub use Rattle.flute_parts.specs.Ranges.{IsByte, IsFact, IsId, IsInfo, IsKey, IsSymbol}
+pub use Rattle.flute_journal.specs.declared.{all_streams.MergedJournal.{MergedJournal}, either.Either.TheVariants.{First, Second}, either.Either.{Either}, entry_fields.Before.{Before}, fault.LoadFault.TheVariants.{Full, Read}, fault.LoadFault.{LoadFault}}
+pub use Rattle.flute_journal.specs.declared.{fault.ReadFault.{ReadFault}, format.EntryHead.{EntryHead}, format.Kind.{Kind}, format.version.Version.TheVariants.{One, Two}, format.version.Version.{Version}, journal_stream.LentStream.{LentStream}}
+pub use Rattle.flute_journal.specs.declared.{reader_state.ReaderState.TheVariants.{Ended, Failed, Header, Items}, reader_state.ReaderState.{ReaderState}, streams_fault.InputFault.{InputFault}, streams_fault.StreamsFault.TheVariants.{Input, Write}, streams_fault.StreamsFault.{StreamsFault}}
+pub use Rattle.flute_journal.specs.Faults.{Check, bytes_checks, cut, end_checks, entry_checks, first_fault, header_fault, id_checks, id_in, in_order, info_checks, info_in, is_after, is_key, is_kind, is_name, is_object, is_version, key_in, key_size, named_in, next_fault, object_in, opening_fault, rest_checks, version_fault, version_in}
+pub use Rattle.flute_journal.specs.Format.{body, counted_bytes, end, entry, entry_in, fact_key, header, header_in, id_bytes, info_bytes, key_bytes, kind, magic, name_bytes, object_bytes, rest_bytes, sender_bytes, sender_size, spelling, spelling_in, version_bytes, version_number, without_end, without_end_in}
+pub use Rattle.flute_journal.specs.Input.{Fails, FailsIf, IsFaultOf, IsFaultUpTo, IsWithin, Reads, ReadsUpTo, StaysWithin, left_by, or_failed}
+pub use Rattle.flute_journal.specs.Framing.{AreItems, Framing, Gives, GivesEnd, GivesFault, GivesItem, HasFault, IsAtFault, IsPart, IsWhole, ReadsFrom, ReadsNext, Sofar, Stops, behind, count_at, end_bytes, fault_from, in_header, in_item, in_opening, is_open, next_bytes, opening, or_else, place_at, read_of, state_after, state_at, told_at, up_to_end}
+pub use Rattle.flute_journal.specs.Journal.{Collects, HasRoom, IsFactIn, IsJournal, IsJournalWithin, IsKeyIn, Journal, JournalIn, OldJournal, before, journal_framing, last_of}
 pub use Rattle.flute_journal.specs.JournalStreams.{FailsBy, FailsSince, IsJournalOfAll, ReadAt, ReadWhole, SameLoans, journal_behaviour, lent, lent_behaviour, room, unread_of}
 pub use Rattle.flute_journal.specs.JournalWriters.{PutsBytes, Written}
 pub use Rattle.flute_journal.specs.Leads.{IsBelowNext, Leads, NoneBefore, StandsAt, lower_next, lower_of}
 pub use Rattle.flute_journal.specs.Lowest.{IsLowest, IsNotBefore, Lowest}
 pub use Rattle.flute_journal.specs.Merges.{EndsBehind, FirstFails, KeepsUp, MergeGives, Merged, NamesFault, ReadsBehind, SecondFails, StopsShort, written_up_to}
 pub use Rattle.flute_journal.specs.Numbers.{in_bytes, number_at}
-pub use Rattle.flute_journal.specs.Parsing.{BodyIn, BodyIs, HeadIn, HeadIs, IsBody, IsOfBytes, Parses, RestIs, StopsReading, SymbolIs, at_place, body_fault, byte_of, bytes_fault, cut_fault, end_fault, head_bytes, head_key, head_rest, head_size, rest_fault, rest_size}
+pub use Rattle.flute_journal.specs.Parsing.{BodyIn, BodyIs, HeadIn, HeadIs, IsBody, IsOfBytes, Parses, ReadsEnd, RestIs, StopsReading, SymbolIs, at_place, body_fault, byte_of, bytes_fault, cut_fault, end_fault, head_bytes, head_key, head_rest, head_size, rest_fault, rest_size}
 pub use Rattle.flute_journal.specs.Readers.{limit_of, source_of, state_of}
-pub use Rattle.flute_journal.specs.Reading.{count_at, last_at, version_at, Gives, GivesEnd, GivesEntry, GivesFault, IsAtFault, IsPart, ReadsEnd, ReadsFrom, ReadsNext, end_bytes, fault_from, in_entry, in_opening, is_open, next_bytes, opening, or_else, position, state_after}
-pub use Rattle.flute_journal.specs.Records.{AreDatagrams, FileStops, GivesFileFault, GivesOfFile, GivesRecord, HasFileFault, IsDatagram, IsFileFault, IsFileOf, IsFileWithin, ReadsFileFrom, ReadsRecord, file_fault_from, file_header, file_state_after, given, in_record, record_checks, record_fault, record_of}
-pub use Rattle.flute_journal.specs.SoFar.{Sofar, read_of, state_at}
+pub use Rattle.flute_journal.specs.Records.{IsDatagram, IsFileFault, IsFileOf, IsFileWithin, file_framing, file_header, record_checks, record_fault, record_of}
 pub use Rattle.flute_journal.specs.Stores.{BeginsOver, BeginsWith, FailsToLoad, IsJournalOf, IsLoadFault, refused}
 pub use Rattle.flute_journal.specs.StreamMerges.{AppendsNoJournal, AppendsPartOf, BeginWith, CanGoOn, Each, EachSince, FailAs, GaveBefore, IsCounted, IsWithinLimits, MergedAll, NamesInput, NoneFails, OneFails, ReadsAhead, all_of}
 pub use Rattle.flute_journal.specs.Streams.{Advances, Behaviour, Continues, Gave, GoesOn, Stopped, StopsAt, fact_in, heads, most_of, option_list, place_of}
-pub use Rattle.flute_journal.specs.Whole.{HasFault, ReadsPart, StopsAfter}
-pub use Rattle.flute_journal.specs.declared.{datagram_reader.FileState.{FileState}, datagram_reader.FileState.TheVariants.{Records}, either.Either.{Either}, either.Either.TheVariants.{First, Second}, fault.LoadFault.{LoadFault}, fault.LoadFault.TheVariants.{Full, Read}, fault.ReadFault.{ReadFault}}
-pub use Rattle.flute_journal.specs.declared.{format.EntryHead.{EntryHead}, format.Kind.{Kind}, format.version.Version.{Version}, format.version.Version.TheVariants.{One, Two}, journal_stream.LentStream.{LentStream}, all_streams.MergedJournal.{MergedJournal}, journal_reader.ReaderState.{ReaderState}, journal_reader.ReaderState.TheVariants.{Ended, Entries, Failed, Header}, streams_fault.InputFault.{InputFault}}
-pub use Rattle.flute_journal.specs.declared.{streams_fault.StreamsFault.{StreamsFault}, streams_fault.StreamsFault.TheVariants.{Input, Write}}
-pub use Rattle.flute_parts.proofs.Public.{alone, alone-at, alone-elsewhere, AppendsPart-first}
-pub use Rattle.flute_parts.proofs.Public.{AppendsPart-second, Below-from_Same, fact_at-after}
-pub use Rattle.flute_parts.proofs.Public.{fact_at-append, fact_at-cons, fact_at-elsewhere}
-pub use Rattle.flute_parts.proofs.Public.{fact_at-here, fact_at-nil, joined, joined-apart}
-pub use Rattle.flute_parts.proofs.Public.{joined-assoc, joined-comm, joined-none, joined-same}
-pub use Rattle.flute_parts.proofs.Public.{Over-below, rising_unique, Same-append, Same-itself}
-pub use Rattle.flute_parts.proofs.Public.{Same-members, Same-sym, Same-trans, Same-twice}
-pub use Rattle.flute_parts.proofs.Public.{StandAfter-before, Writes-behind}
+pub use Rattle.flute_journal.specs.Whole.{ReadsPart, StopsAfter}
+pub use Rattle.flute_parts.specs.Ranges.{IsByte, IsFact, IsId, IsInfo, IsKey, IsSymbol}
+pub use Rattle.flute_parts.proofs.Public.{alone, alone-at, alone-elsewhere, AppendsPart-first, AppendsPart-second, Below-from_Same, fact_at-after, fact_at-append, fact_at-cons, fact_at-elsewhere, fact_at-here, fact_at-nil, joined, joined-apart, joined-assoc, joined-comm, joined-none, joined-same, Over-below, rising_unique, Same-append, Same-itself, Same-members, Same-sym, Same-trans, Same-twice, StandAfter-before, Writes-behind}
 pub use Rattle.flute_parts.specs.Addresses.{address, fact_of, info_address, symbol_address}
 pub use Rattle.flute_parts.specs.BigEndian.{big_endian}
 pub use Rattle.flute_parts.specs.Devices.{AppendsPart, times_failed}

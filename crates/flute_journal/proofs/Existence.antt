@@ -1,6 +1,5 @@
 -- What stands where bytes have no fault: they are a journal, or stop at one.
-use Rattle.flute_journal.proofs.Common.{Address, AllByRecursion, Bool, Fact, HasRoom, Info, InfoConflict, InfoFault, IsByte, IsFact, IsFactIn, IsId, IsJournalWithin, IsKey, IsKeyIn, IsRising, IsSymbol, IsTrue, Key, Kind, List, None, One, Option, ReadFault, Some, Stops, Symbol, SymbolConflict, Two, Version, [], address, ap, append_assoc, arith, at_place, before, behind, big_endian, body, body_fault, byte_of, bytes_eq, bytes_eq-Decides, cases_Bool, drop, drop-drop, end, end_checks, entry_checks, entry_in, eqb, eqb-false, eqb-true, false, first_fault, flat_map_more, without_end_in, header_fault, header_in, id_bytes, id_in, if◌then◌else◌, in_bytes, in_header, info_bytes, info_checks, info_fault, info_in, inl, inr, is_after, is_key, is_kind, is_name, is_version, key_bytes, key_in, fact_key, key_size, kind, last_of, leb, leb-false, leb-true, length, length-append, length-drop, length-take, length-take-le, ltb, ltb-false, ltb-true, magic, named_in, next_fault, none-some, not, number_at, opening_fault, pow-le-pow_right, refl, rest_bytes, rest_fault, subst, suc, sym, counted_bytes, take, take-append-drop, take_all, true, version_bytes, version_fault, version_in, zero, ℕ, ◌&&◌, ◌++◌, ◌<◌, ◌^◌, ◌∙◌, ◌∷◌, ◌≡◌, ◌≤◌, ◌⊎◌}
-use Rattle.flute_journal.proofs.{Each.{all_more, all_split}, Numbers.{octets-drop, number-below, octets-take, spelled, spelled_pair}, MergeRising.{Rises, rising-rises, rises-rising}, Parts.{entry_least, body_comes, key_spelled, info_spelled}}
+use Rattle.flute_journal.proofs.{Common.{Address, AllByRecursion, Bool, Fact, HasRoom, Info, InfoConflict, InfoFault, IsByte, IsFact, IsId, IsKey, IsKeyIn, IsRising, IsSymbol, IsTrue, Key, Kind, List, None, One, Option, ReadFault, Some, journal_framing, Symbol, SymbolConflict, Two, Version, [], address, ap, append_assoc, arith, at_place, big_endian, body, body_fault, byte_of, bytes_eq, bytes_eq-Decides, cases_Bool, drop, drop-drop, end_checks, entry_checks, eqb, eqb-false, eqb-true, false, first_fault, header_fault, header_in, id_bytes, id_in, if◌then◌else◌, in_bytes, info_bytes, info_checks, info_fault, info_in, inl, inr, is_after, is_key, is_kind, is_name, is_version, key_bytes, key_in, fact_key, key_size, kind, last_of, leb, leb-false, leb-true, length, length-drop, length-take, length-take-le, ltb, ltb-false, ltb-true, magic, named_in, next_fault, none-some, not, number_at, opening_fault, pow-le-pow_right, refl, rest_bytes, rest_fault, subst, suc, sym, counted_bytes, take, take-append-drop, take_all, true, version_bytes, version_fault, version_in, zero, ℕ, ◌&&◌, ◌++◌, ◌<◌, ◌^◌, ◌∙◌, ◌∷◌, ◌≡◌, ◌≤◌}, Numbers.{octets-drop, number-below, octets-take, spelled, spelled_pair}, MergeRising.{Rises, rising-rises, rises-rising}, Decisions.{Next, at_end, at_item}, Parts.{body_comes, key_spelled, info_spelled}}
 use Rattle.std.proofs.Common.{◌||◌}
 use Rattle.flute_journal.specs.Format.{sender_size}
 use Rattle.flute_journal.specs.declared.format.Kind.TheVariants as kinds
@@ -146,10 +145,6 @@ rest_found last kinds.SymbolConflict key r kv oct e =
 
 -- Behind entries.
 
-pub data Next (limit count : ℕ) (v : Version) (last : Option Address) (bytes : List ℕ) : Type 0 where
-  at_end : bytes ≡ end count → Next limit count v last bytes
-  at_entry : (f : Fact) (more : List ℕ) → bytes ≡ entry_in v f ++ more → IsFactIn v f → is_after last (address f) ≡ true → count < limit → Next limit count v last bytes
-
 kind_at : (n : ℕ) → 1 ≤ n → n ≤ 4 → (k : Kind) × (n ≡ byte_of k)
 kind_at zero p q = absurd (omega (arith, p))
 kind_at (suc zero) p q = (kinds.Info, refl)
@@ -159,7 +154,7 @@ kind_at (suc (suc (suc (suc zero)))) p q = (kinds.SymbolConflict, refl)
 kind_at (suc (suc (suc (suc (suc n))))) p q = absurd (omega (arith, q))
 
 end_found : (limit count : ℕ) (v : Version) (last : Option Address) (b : ℕ) (rest : List ℕ) → b ≡ 255 → AllByRecursion IsByte rest → first_fault (end_checks count rest) ≡ None
-    → Next limit count v last (b ∷ rest)
+    → Next journal_framing limit (at_place v count last) (b ∷ rest)
 end_found limit count v last b rest is oct e =
     let a = first-none _ _ _ e in
     let c = first-none _ _ _ a.1 in
@@ -170,7 +165,7 @@ end_found limit count v last b rest is oct e =
     at_end (ap (λ x. x ∷ rest) is ∙ ap (λ (x : List ℕ). 255 ∷ x) (sym (spelled 8 rest len oct) ∙ ap (in_bytes 8) told))
 
 entry_found : (limit count : ℕ) (v : Version) (last : Option Address) (k : Kind) (rest : List ℕ) → count < limit → AllByRecursion IsByte rest → body_fault v last k rest ≡ None
-    → Next limit count v last (byte_of k ∷ rest)
+    → Next journal_framing limit (at_place v count last) (byte_of k ∷ rest)
 entry_found limit count v last k rest few oct e =
     let n = key_size v in
     let a = first-none _ _ _ e in
@@ -186,19 +181,19 @@ entry_found limit count v last k rest few oct e =
     ∙ ap (λ (x : List ℕ). key_bytes v key ++ x) r.bytes_are
     ∙ ap (λ (x : Key). key_bytes v x ++ (rest_bytes r.fact ++ r.more)) (sym r.key_is)
     ∙ sym (append_assoc (key_bytes v (fact_key r.fact)) (rest_bytes r.fact) r.more) in
-    at_entry r.fact r.more (ap (λ x. x ∷ rest) (sym r.kind_is) ∙ ap (λ (x : List ℕ). kind r.fact ∷ x) bytes)
+    at_item r.fact r.more (ap (λ x. x ∷ rest) (sym r.kind_is) ∙ ap (λ (x : List ℕ). kind r.fact ∷ x) bytes) (omega arith)
     (r.valid, subst (λ (x : Key). HasRoom v x.session) (sym r.key_is) valid.1) r.in_order few
 
 kind_found : (limit count : ℕ) (v : Version) (last : Option Address) (b : ℕ) (rest : List ℕ) → is_kind b ≡ true → AllByRecursion IsByte rest
-    → first_fault (entry_checks (at_place v count last) limit b rest) ≡ None → next_fault (at_place v count last) limit (b ∷ rest) ≡ None → Next limit count v last (b ∷ rest)
+    → first_fault (entry_checks (at_place v count last) limit b rest) ≡ None → next_fault (at_place v count last) limit (b ∷ rest) ≡ None → Next journal_framing limit (at_place v count last) (b ∷ rest)
 kind_found limit count v last b rest e oct h whole =
     let p = both (leb 1 b) (leb b 4) e in
     let k = kind_at b (leb-true 1 b p.0) (leb-true b 4 p.1) in
     let few : count < limit = leb-false limit count (first-none _ _ _ h).0 in
     let none : body_fault v last k.0 rest ≡ None = grind (arith, body_comes) in
-    subst (λ x. Next limit count v last (x ∷ rest)) (sym k.1) (entry_found limit count v last k.0 rest few oct none)
+    subst (λ x. Next journal_framing limit (at_place v count last) (x ∷ rest)) (sym k.1) (entry_found limit count v last k.0 rest few oct none)
 
-pub next_found : (limit count : ℕ) (v : Version) (last : Option Address) (bytes : List ℕ) → AllByRecursion IsByte bytes → next_fault (at_place v count last) limit bytes ≡ None → Next limit count v last bytes
+pub next_found : (limit count : ℕ) (v : Version) (last : Option Address) (bytes : List ℕ) → AllByRecursion IsByte bytes → next_fault (at_place v count last) limit bytes ≡ None → Next journal_framing limit (at_place v count last) bytes
 next_found limit count v last [] oct e = absurd (none-some _ (sym e))
 next_found limit count v last (b ∷ rest) oct e = elim (cases_Bool (eqb b 255)) [
   | inl t ↦ end_found limit count v last b rest (eqb-true b 255 t) oct.1 (taken (eqb b 255) _ _ t e)
@@ -254,55 +249,3 @@ rises_more b (e ∷ es) f p v = (p.0, rises_more (Some (address e)) es f p.1 v)
 -- one entry more, in order and within the bound
 pub rising_more : (es : List Fact) (f : Fact) → IsRising es → is_after (last_of None es) (address f) ≡ true → IsRising (es ++ f ∷ [])
 rising_more es f r o = rises-rising (es ++ f ∷ []) (rises_more None es f (rising-rises es r) o)
-
--- a journal within the bound, or bytes that stop
-abbrev pub Decided : ℕ → List ℕ → Type 0
-Decided limit bytes = ((es : List Fact) × IsJournalWithin limit bytes es) ⊎ ((es : List Fact) × ((f : ReadFault) × Stops bytes limit es f))
-
--- the bytes begin with these entries
-record Begins (v : Version) (limit : ℕ) (bytes : List ℕ) (es : List Fact) (rest : List ℕ) : Type 0 where
-  octets : AllByRecursion IsByte rest
-  valid : AllByRecursion (IsFactIn v) es
-  rising : IsRising es
-  few : length es ≤ limit
-  whole : bytes ≡ without_end_in v es ++ rest
-
--- what is decided of the bytes behind one entry more
-abbrev Again : Version → ℕ → List ℕ → List Fact → List ℕ → Type 0
-Again v limit bytes es rest = (f : Fact) (more : List ℕ) → length more < length rest → Begins v limit bytes (es ++ f ∷ []) more → Decided limit bytes
-
-goes_on : (v : Version) (limit : ℕ) (bytes : List ℕ) (es : List Fact) (rest : List ℕ) → Again v limit bytes es rest → Begins v limit bytes es rest
-    → Next limit (length es) v (last_of None es) rest → Decided limit bytes
-goes_on v limit bytes es rest again b (at_end is) =
-    inl (es, record { are_entries = record { version = v; valid = b.valid; rising = b.rising; few = b.few }; bytes_are = b.whole ∙ ap (λ (x : List ℕ). without_end_in v es ++ x) is })
-goes_on v limit bytes es rest again b (at_entry f more is p o few) =
-    again f more (omega (arith, entry_least v f p, length-append (entry_in v f) more, ap length is)) (record {
-      octets = (all_split IsByte (entry_in v f) more (subst (AllByRecursion IsByte) is b.octets)).1;
-      valid = all_more (IsFactIn v) es f b.valid p;
-      rising = rising_more es f b.rising o;
-      few = omega (arith, few, length-append es (f ∷ []));
-      whole = b.whole ∙ ap (λ (x : List ℕ). without_end_in v es ++ x) is
-          ∙ sym (append_assoc (without_end_in v es) (entry_in v f) more)
-          ∙ ap (λ (x : List ℕ). x ++ more) (flat_map_more (entry_in v) (header_in v) es f);
-    })
-
-stops_or : (v : Version) (limit : ℕ) (bytes : List ℕ) (es : List Fact) (rest : List ℕ) → Again v limit bytes es rest → Begins v limit bytes es rest
-    → (o : Option ReadFault) → next_fault (before v es) limit rest ≡ o → Decided limit bytes
-stops_or v limit bytes es rest again b (Some f) h =
-    inr (es, (f, behind (record { are_entries = record { version = v; valid = b.valid; rising = b.rising; few = b.few }; rest = rest; whole = b.whole; first = h })))
-stops_or v limit bytes es rest again b None h = goes_on v limit bytes es rest again b (next_found limit (length es) v (last_of None es) rest b.octets h)
-
-decides : (v : Version) (fuel limit : ℕ) (bytes : List ℕ) (es : List Fact) (rest : List ℕ) → length rest ≤ fuel → Begins v limit bytes es rest → Decided limit bytes
-decides v zero limit bytes es rest le b =
-    stops_or v limit bytes es rest (λ f more few b'. absurd (omega (arith, few, le))) b (next_fault (before v es) limit rest) refl
-decides v (suc fuel) limit bytes es rest le b =
-    stops_or v limit bytes es rest (λ f more few b'. decides v fuel limit bytes (es ++ f ∷ []) more (omega (arith, few, le)) b') b (next_fault (before v es) limit rest) refl
-
-from_header : (limit : ℕ) (bytes : List ℕ) → AllByRecursion IsByte bytes → (o : Option ReadFault) → header_fault bytes ≡ o → Decided limit bytes
-from_header limit bytes oct (Some f) e = inr ([], (f, in_header refl e))
-from_header limit bytes oct None e =
-    decides (version_in bytes) (length (drop 6 bytes)) limit bytes [] (drop 6 bytes) (omega arith)
-    (record { octets = octets-drop 6 bytes oct; valid = tt; rising = tt; few = omega arith; whole = header_is bytes e })
-
-pub decided : (bytes : List ℕ) (limit : ℕ) → AllByRecursion IsByte bytes → Decided limit bytes
-decided bytes limit oct = from_header limit bytes oct (header_fault bytes) refl

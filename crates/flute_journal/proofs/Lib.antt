@@ -7,6 +7,10 @@ mod ReadsUpTo
 mod Parts
 mod Written
 mod Decoded
+mod Framed
+mod SoFar
+mod Decisions
+mod Framings
 mod Calls
 mod Bodies
 mod Passes

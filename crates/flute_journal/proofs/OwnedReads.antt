@@ -1,5 +1,5 @@
 -- A journal that is read on with its source is a stream that goes on.
-use Rattle.flute_journal.proofs.{Common.{◌≡◌, ℕ, List, length, Option, Some, Ok, Err, Bool, ap, ◌∙◌, subst, arith, Fact, ReadFault, FailsIf, is_open, Gives, Behaviour, option_list, GoesOn, StopsAt, room, FailsBy}, JournalReads.{gives_on, stops_on, never, fewer}}
+use Rattle.flute_journal.proofs.{Common.{◌≡◌, ℕ, List, length, Option, Some, Ok, Err, Bool, ap, ◌∙◌, subst, arith, Fact, ReadFault, FailsIf, is_open, Gives, journal_framing, Behaviour, option_list, GoesOn, StopsAt, room, FailsBy}, JournalReads.{gives_on, stops_on, never, fewer}}
 use Rattle.flute_journal.specs.declared.fault.LoadFault.TheVariants as load
 use Rattle.flute_journal.specs.{declared.owned_journal_stream.OwnedJournalStream.{OwnedJournalStream}, OwnedStreams.{owned_behaviour}}
 
@@ -8,7 +8,7 @@ module _ {R : Type 0} (unread : R → Option (List ℕ)) (failures : R → ℕ) 
   b = owned_behaviour unread failures
 
   pub owned_goes_on : t.max_entries ≡ s.max_entries → FailsIf {T = Option Fact} (is_open s.state) (failures s.source) (failures t.source) (Ok t.held)
-      → Gives s.max_entries s.state t.state (unread s.source) (unread t.source) (Ok t.held) → GoesOn b s t
+      → Gives journal_framing s.max_entries s.state t.state (unread s.source) (unread t.source) (Ok t.held) → GoesOn b s t
   owned_goes_on limit h g = record {
     gave = λ start F p.
         let r = gives_on start.max_entries s.max_entries (unread start.source) (unread s.source) (unread t.source) s.state t.state F s.held t.held p.same_limit p.read g in
@@ -30,7 +30,7 @@ module _ {R : Type 0} (unread : R → Option (List ℕ)) (failures : R → ℕ) 
   }
 
   pub owned_stops : (f : ReadFault) → FailsIf {T = Option Fact} (is_open s.state) (failures s.source) (failures t.source) (Err f)
-      → Gives s.max_entries s.state t.state (unread s.source) (unread t.source) (Err f) → StopsAt b s t (load.Read f)
+      → Gives journal_framing s.max_entries s.state t.state (unread s.source) (unread t.source) (Err f) → StopsAt b s t (load.Read f)
   owned_stops f h g = λ start F p.
       let r = stops_on start.max_entries s.max_entries (unread start.source) (unread s.source) (unread t.source) s.state t.state F s.held f p.same_limit p.read g in
       let failed : FailsBy (failures s.source) (failures t.source) (Some (load.Read f)) =

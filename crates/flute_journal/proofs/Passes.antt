@@ -1,9 +1,7 @@
 -- What was spelled has no fault, and where bytes that begin like a journal stop.
-use Rattle.flute_journal.proofs.Common.{Address, AllByRecursion, Before, Below, Fact, Info, InfoConflict, Information, IsFact, IsFactIn, IsInfo, IsRising, IsSymbol, JournalIn, Kind, List, None, Option, ReadFault, Same, Same-append, Same-itself, Same-twice, Some, Stops, Symbol, SymbolConflict, Version, [], address, ap, append_assoc, arith, at_place, before, behind, byte_of, bytes_fault, end, entry_in, flat_map, without_end_in, header_fault, header_in, id_bytes, in_bytes, in_header, info_address, info_bytes, info_in, is_after, key_bytes, fact_key, last_of, length, length-append, next_fault, none-some, refl, rest_bytes, rest_fault, same_Some, spelling_in, subst, sym, symbol_address, counted_bytes, true, ℕ, ◌++◌, ◌<◌, ◌^◌, ◌∙◌, ◌∷◌, ◌≡◌, ◌≤◌}
-use Rattle.flute_journal.proofs.{Sequences.{one_stop, stop_at_bound}, MergeBytes.{without_end-both, journal_parts}, Each.{all_split}, Numbers.{number-in_bytes}, MergeRising.{Rises, rising-rises}, Entries.{length_fits, entry_injective, not_end, header-injective}}
+use Rattle.flute_journal.proofs.{Common.{Address, AllByRecursion, Before, Below, Fact, Info, InfoConflict, Information, IsFact, IsFactIn, IsInfo, IsRising, IsSymbol, JournalIn, Kind, List, None, Option, ReadFault, Same, Same-append, Same-itself, Same-twice, Some, Stops, journal_framing, Symbol, SymbolConflict, Version, [], address, ap, append_assoc, arith, at_place, before, behind, byte_of, bytes_fault, end, entry_in, flat_map, without_end_in, header_fault, header_in, id_bytes, in_bytes, in_header, info_address, info_bytes, info_in, is_after, key_bytes, fact_key, last_of, length, length-append, next_fault, none-some, refl, rest_bytes, rest_fault, same_Some, spelling_in, subst, sym, symbol_address, counted_bytes, true, ℕ, ◌++◌, ◌<◌, ◌^◌, ◌∙◌, ◌∷◌, ◌≡◌, ◌≤◌}, Sequences.{one_stop, stop_at_bound}, MergeBytes.{without_end-both, journal_parts}, Each.{all_split}, Numbers.{number-in_bytes}, MergeRising.{Rises, rising-rises}, Entries.{length_fits, entry_injective, not_end, header-injective}, Parts.{id_comes, order_passes, symbol_comes, entry_comes, too_many, end_counts, header_passes, key_valid, first-pass, cut-passes, info_passes, length_passes}}
 use Rattle.flute_journal.specs.declared.format.Kind.TheVariants as kinds
 use Rattle.flute_journal.specs.declared.fault.ReadFault.TheVariants as faults
-use Rattle.flute_journal.proofs.Parts.{id_comes, order_passes, symbol_comes, entry_comes, too_many, end_counts, header_passes, key_valid, first-pass, cut-passes, info_passes, length_passes}
 
 info_reads : (i : Information) → IsInfo i → info_in (info_bytes i) ≡ i
 info_reads i p = grind (arith, number-in_bytes, length_fits)
@@ -61,12 +59,12 @@ not_in_header v bytes es rest f e h =
 
 -- a journal's bytes stop only with more entries than the bound
 pub beyond : (v : Version) (limit : ℕ) (es fs : List Fact) (bytes : List ℕ) (f : ReadFault) → AllByRecursion (IsFactIn v) es → IsRising es → length es < 2 ^ 64
-    → bytes ≡ spelling_in v es → Stops bytes limit fs f → (f ≡ faults.TooMany) × (limit < length es)
+    → bytes ≡ spelling_in v es → Stops journal_framing bytes limit fs f → (f ≡ faults.TooMany) × (limit < length es)
 beyond v limit es fs bytes f p q small e (in_header none h) = absurd (not_in_header v bytes es (end (length es)) f e h)
 beyond v limit es fs bytes f p q small e (behind s) =
-    let w = s.are_entries.version in
+    let w = s.are_items.told in
     let n = length es in
-    let b = without_end-both w v fs es s.rest (end n) s.are_entries.valid p (λ x y. not_end w x (in_bytes 8 n) y) (sym s.whole ∙ e) in
+    let b = without_end-both w v fs es s.rest (end n) s.are_items.valid p (λ x y. not_end w x (in_bytes 8 n) y) (sym s.whole ∙ e) in
     stop_at_bound (entry_in w) (IsFactIn w) (entry_injective w) (λ l r. next_fault (before w l) limit r) limit fs es s.rest (end n) f
     (pass w limit es (subst (λ (z : Version). AllByRecursion (IsFactIn z) es) (sym b.0) p) q) (λ x y many. entry-too_many limit (before w fs) w x y many) b.1
     (end-passes limit n w (last_of None es) small) s.first
@@ -85,17 +83,17 @@ without_end-below v w bytes F es rest journal p e =
     record { each = λ a. moved.each a ∙ low.each a ∙ sym (j.collects.same.each a) }
 
 -- bytes stop at one fault, behind one list of entries
-pub stops_one : (bytes : List ℕ) (limit : ℕ) (es fs : List Fact) (f g : ReadFault) → Stops bytes limit es f → Stops bytes limit fs g → (es ≡ fs) × (f ≡ g)
+pub stops_one : (bytes : List ℕ) (limit : ℕ) (es fs : List Fact) (f g : ReadFault) → Stops journal_framing bytes limit es f → Stops journal_framing bytes limit fs g → (es ≡ fs) × (f ≡ g)
 stops_one bytes limit es fs f g (in_header a h) (in_header b k) = (a ∙ sym b, same_Some f g (sym h ∙ k))
-stops_one bytes limit es fs f g (in_header a h) (behind s) = absurd (not_in_header s.are_entries.version bytes fs s.rest f s.whole h)
-stops_one bytes limit es fs f g (behind s) (in_header b k) = absurd (not_in_header s.are_entries.version bytes es s.rest g s.whole k)
+stops_one bytes limit es fs f g (in_header a h) (behind s) = absurd (not_in_header s.are_items.told bytes fs s.rest f s.whole h)
+stops_one bytes limit es fs f g (behind s) (in_header b k) = absurd (not_in_header s.are_items.told bytes es s.rest g s.whole k)
 stops_one bytes limit es fs f g (behind s) (behind t) =
-    let v = s.are_entries.version in
-    let w = t.are_entries.version in
+    let v = s.are_items.told in
+    let w = t.are_items.told in
     let h = header-injective v w (flat_map (entry_in v) es ++ s.rest) (flat_map (entry_in w) fs ++ t.rest)
     (sym (append_assoc (header_in v) (flat_map (entry_in v) es) s.rest) ∙ sym s.whole ∙ t.whole ∙ append_assoc (header_in w) (flat_map (entry_in w) fs) t.rest) in
-    let valid = subst (λ (z : Version). AllByRecursion (IsFactIn z) fs) (sym h.0) t.are_entries.valid in
+    let valid = subst (λ (z : Version). AllByRecursion (IsFactIn z) fs) (sym h.0) t.are_items.valid in
     one_stop (entry_in v) (IsFactIn v) (entry_injective v) (λ l r. next_fault (before v l) limit r) es fs s.rest t.rest f g
-    (pass_all v limit es s.are_entries.valid s.are_entries.rising s.are_entries.few) (pass_all v limit fs valid t.are_entries.rising t.are_entries.few)
-    s.are_entries.valid valid (subst (λ (z : Version). flat_map (entry_in v) es ++ s.rest ≡ flat_map (entry_in z) fs ++ t.rest) (sym h.0) h.1) s.first
+    (pass_all v limit es s.are_items.valid s.are_items.in_order s.are_items.few) (pass_all v limit fs valid t.are_items.in_order t.are_items.few)
+    s.are_items.valid valid (subst (λ (z : Version). flat_map (entry_in v) es ++ s.rest ≡ flat_map (entry_in z) fs ++ t.rest) (sym h.0) h.1) s.first
     (subst (λ (z : Version). next_fault (before z fs) limit t.rest ≡ Some g) (sym h.0) t.first)

@@ -1,8 +1,7 @@
 -- The records of a datagram file.
-use Rattle.flute_journal.proofs.Common.{◌≡◌, ℕ, ◌+◌, ◌^◌, ◌<◌, ◌≤◌, Bool, leb, List, [], ◌∷◌, ◌++◌, length, take, drop, Option, Some, None, Result, Ok, Err, inl, inr, refl, sym, ap, ◌∙◌, subst, append_assoc, arith, le-leb, lt-leb, nil_from_length, take_at, drop_at, length-append, append-nil, flat_map_more, flat_map, AllByRecursion, Consumes, IsAtEnd, Consumes-trans, Consumes-nil, IfSome, big_endian, ReadFault, FileState, Records, in_bytes, first_fault, cut, opening_fault, ReadsUpTo, IsFaultOf, IsFaultUpTo, IsWithin, StaysWithin, or_failed, IsByte, cut_fault, or_else, file_header, record_of, IsDatagram, AreDatagrams, FileStops, HasFileFault, ReadsRecord, record_checks, record_fault, given, file_fault_from, GivesRecord, GivesFileFault, IsFileWithin, length-bytes_high_first}
-use Rattle.flute_journal.proofs.{Parts.{first-pass, first-stop, cut-passes, nothing_left, within-short}, Each.{all_more}, Numbers.{in_bytes-injective}, ReadsUpTo.{fault-behind, fault_up_to}, Existence.{opening_is}}
+use Rattle.flute_journal.proofs.{Common.{◌≡◌, ℕ, ◌^◌, ◌<◌, ◌≤◌, Bool, true, IsTrue, leb, List, [], ◌∷◌, ◌++◌, length, take, drop, Option, Some, None, Result, Ok, Err, sym, ap, ◌∙◌, append_assoc, arith, le-leb, lt-leb, nil_from_length, take_at, drop_at, length-append, AllByRecursion, Consumes, Consumes-trans, big_endian, ReadFault, in_bytes, first_fault, cut, ReadsUpTo, IsFaultOf, IsFaultUpTo, IsWithin, StaysWithin, or_failed, IsByte, cut_fault, record_of, IsDatagram, file_framing, ReadsNext, record_checks, record_fault, length-bytes_high_first}, Parts.{first-pass, first-stop, cut-passes, nothing_left, within-short}, Numbers.{in_bytes-injective}, ReadsUpTo.{fault-behind, fault_up_to}}
 use Rattle.flute_journal.specs.declared.fault.ReadFault.TheVariants as faults
-use Rattle.flute_journal.specs.{declared.datagram_reader.FileState.TheVariants.{Header, Ended, Failed}, Input.{Advances}, Records.{in_header, behind, file_opening, GivesNone}, FilesSoFar.{file_stage_at, file_read_of, FileSofar}}
+use Rattle.flute_journal.specs.{Input.{Advances}, Records.{file_framing}}
 
 -- a byte follows as many records as there may be
 pub too_many_records : (limit count : ℕ) (front r : List ℕ) → 0 < length front → limit ≤ count → record_fault limit count (front ++ r) ≡ Some faults.TooMany
@@ -47,92 +46,13 @@ record_ends n u v w front (Err f) is small took a = (front ++ a.0, Consumes-tran
 
 -- a record was read whole
 pub record_read : (limit count n : ℕ) (u v w : Option (List ℕ)) (front d : List ℕ) → count < limit → in_bytes 2 n ≡ front → n < 2 ^ 16
-    → Consumes u v front → length d ≡ n → AllByRecursion IsByte d → Consumes v w d → IsDatagram d × (count < limit) × Consumes u w (record_of d)
+    → Consumes u v front → length d ≡ n → AllByRecursion IsByte d → Consumes v w d → IsDatagram d × IsTrue true × (count < limit) × Consumes u w (record_of d)
 record_read limit count n u v w front d few spells small took size octs rest = grind (arith, Consumes-trans)
-
--- A file that is read record by record.
-
-given_is : (ds : List (List ℕ)) → given (file_stage_at ds) ≡ length ds
-given_is [] = refl
-given_is (d ∷ ds) = refl
-
-state_more : (ds : List (List ℕ)) (d : List ℕ) → Records (length ds + 1) ≡ file_stage_at (ds ++ d ∷ [])
-state_more [] d = refl
-state_more (e ∷ ds) d = ap Records (let n : length (e ∷ ds) + 1 ≡ length (e ∷ (ds ++ d ∷ [])) = omega (arith, length-append ds (d ∷ [])) in n)
-
-read_more : (ds : List (List ℕ)) (d : List ℕ) → file_read_of ds ++ (file_opening (file_stage_at ds) ++ record_of d) ≡ file_read_of (ds ++ d ∷ [])
-read_more [] d = flat_map_more record_of file_header [] d
-read_more (e ∷ ds) d = flat_map_more record_of file_header (e ∷ ds) d
-
-pub datagrams_more : (limit : ℕ) (ds : List (List ℕ)) (d : List ℕ) → AreDatagrams limit ds → IsDatagram d → length ds < limit → AreDatagrams limit (ds ++ d ∷ [])
-datagrams_more limit ds d a v few = record { valid = all_more IsDatagram ds d a.valid v; few = omega (arith, few, length-append ds (d ∷ [])) }
-
-pub file_sofar_none : (limit : ℕ) (u : Option (List ℕ)) → FileSofar limit u u Header []
-file_sofar_none limit u = grind (arith, Consumes-nil)
-
-pub file_sofar_next : (limit : ℕ) (u v w : Option (List ℕ)) (old new : FileState) (ds : List (List ℕ)) (d : List ℕ) → FileSofar limit u v old ds
-    → GivesRecord limit old new v w d → FileSofar limit u w new (ds ++ d ∷ [])
-file_sofar_next limit u v w old new ds d s h = grind (arith, datagrams_more, given_is, state_more, read_more, Consumes-trans)
-
-file_whole : (limit : ℕ) (u w : Option (List ℕ)) (ds : List (List ℕ)) → AreDatagrams limit ds → Consumes u w (file_header ++ flat_map record_of ds) → IsAtEnd w
-    → IfSome u (λ bytes. IsFileWithin limit bytes ds)
-file_whole limit None w ds a took ended = tt
-file_whole limit (Some x) None ds a took ended = absurd took
-file_whole limit (Some x) (Some z) ds a took ended = grind (arith, append-nil)
-
-not_ended : (ds : List (List ℕ)) → file_stage_at ds ≡ Ended → ⊥
-not_ended [] e = cc
-not_ended (d ∷ ds) e = cc
-
-read_all : (ds : List (List ℕ)) → file_read_of ds ++ file_opening (file_stage_at ds) ≡ file_header ++ flat_map record_of ds
-read_all [] = sym (append-nil file_header)
-read_all (d ∷ ds) = append-nil (file_header ++ flat_map record_of (d ∷ ds))
-
-pub file_sofar_end : (limit : ℕ) (u v w : Option (List ℕ)) (old new : FileState) (ds : List (List ℕ)) → FileSofar limit u v old ds → GivesNone old new v w
-    → IfSome u (λ bytes. IsFileWithin limit bytes ds)
-file_sofar_end limit u v w old new ds s h = grind (arith, not_ended, file_whole, read_all, Consumes-trans)
-
-not_failed : (ds : List (List ℕ)) (f : ReadFault) → file_stage_at ds ≡ Failed f → ⊥
-not_failed [] f e = cc
-not_failed (d ∷ ds) f e = cc
-
-from_header : (limit : ℕ) (y : List ℕ) (f : ReadFault) (o : Option ReadFault) → opening_fault file_header y ≡ o → or_else o (record_fault limit 0 (drop 6 y)) ≡ Some f
-    → (datagrams : List (List ℕ)) × FileStops y limit datagrams f
-from_header limit y f (Some g) e h = ([], in_header refl (e ∙ h))
-from_header limit y f None e h = grind (arith, opening_is)
-
-stops_at : (limit : ℕ) (x y : List ℕ) (ds : List (List ℕ)) (f : ReadFault) → AreDatagrams limit ds → x ≡ file_read_of ds ++ y → file_fault_from (file_stage_at ds) limit y ≡ Some f
-    → (datagrams : List (List ℕ)) × FileStops x limit datagrams f
-stops_at limit x y [] f a took h = subst (λ (z : List ℕ). (datagrams : List (List ℕ)) × FileStops z limit datagrams f) (sym took) (from_header limit y f (opening_fault file_header y) refl h)
-stops_at limit x y (d ∷ ds) f a took h =
-    (d ∷ ds, behind (record { are_datagrams = a; rest = y; whole = took ∙ append_assoc file_header (flat_map record_of (d ∷ ds)) y; first = h }))
-
-known_stops : (limit : ℕ) (u v : Option (List ℕ)) (ds : List (List ℕ)) (f : ReadFault) → AreDatagrams limit ds → Consumes u v (file_read_of ds)
-    → IfSome v (λ y. file_fault_from (file_stage_at ds) limit y ≡ Some f) → IfSome u (λ x. (datagrams : List (List ℕ)) × FileStops x limit datagrams f)
-known_stops limit None v ds f a took h = tt
-known_stops limit (Some x) None ds f a took h = absurd took
-known_stops limit (Some x) (Some y) ds f a took h = stops_at limit x y ds f a took h
-
-fault_at : (limit : ℕ) (u v w : Option (List ℕ)) (last : List ℕ) (ds : List (List ℕ)) (f : ReadFault) → AreDatagrams limit ds → Consumes u v (file_read_of ds)
-    → IsFaultUpTo last (file_fault_from (file_stage_at ds) limit) v w f → HasFileFault limit u f
-fault_at limit u v w last ds faults.Read a took h = tt
-fault_at limit u v w last ds faults.OutOfMemory a took h = tt
-fault_at limit u v w last ds f a took h = known_stops limit u v ds f a took h
-
-pub file_sofar_fault : (limit : ℕ) (u v w : Option (List ℕ)) (old new : FileState) (ds : List (List ℕ)) (f : ReadFault) → FileSofar limit u v old ds
-    → GivesFileFault limit old new v w f → HasFileFault limit u f
-file_sofar_fault limit u v w old new ds f s h = elim h.found [
-  | inl p ↦ absurd (not_failed ds f (sym s.state_is ∙ p.0))
-  | inr p ↦ fault_at limit u v w (file_opening old) ds f s.are_datagrams s.read (subst (λ (x : FileState). IsFaultUpTo (file_opening old) (file_fault_from x limit) v w f) s.state_is p.1)
-]
 
 -- no record: the end of the input, or a source that failed
 pub no_record : (limit count : ℕ) (failed : Bool) (u v : Option (List ℕ)) (front : List ℕ) → ReadsUpTo u v 2 failed front → length front ≡ 0
-    → ReadsRecord limit count u v (or_failed failed (Ok None))
+    → ReadsNext file_framing limit count u v (or_failed failed (Ok None))
 no_record limit count failed u v front a none = grind (arith, nil_from_length)
-
--- a file before its first record, behind one more and at its end
-pub ruleset files_so_far = (file_sofar_none, file_sofar_next, file_sofar_end)
 
 -- what was read of a record
 pub ruleset record_reads = (length_ends, record_ends, record_read)

@@ -15,6 +15,7 @@ use Rattle.flute_parts.specs.declared.address.Address.{Address}
 use Rattle.flute_journal.specs.declared.fault.ReadFault.{ReadFault}
 use Rattle.flute_journal.specs.declared.fault.ReadFault.TheVariants as faults
 use Rattle.flute_journal.specs.Numbers.{number_at}
+use Rattle.flute_journal.specs.declared.entry_fields.Before.{Before}
 use Rattle.flute_journal.specs.declared.format.version.Version.{Version}
 use Rattle.flute_journal.specs.declared.format.version.Version.TheVariants.{One, Two}
 use Rattle.flute_journal.specs.Format.{magic, version_bytes, sender_size}
@@ -95,13 +96,6 @@ id_in bytes = record { sbn = number_at 0 2 bytes; esi = number_at 2 2 bytes }
 
 abbrev pub info_in : List ℕ → Information
 info_in bytes = information (number_at 0 6 bytes) (number_at 6 2 bytes) (number_at 8 4 bytes)
-
--- what is before an entry: the version of the journal, how many entries,
--- and the address of the last
-pub record Before : Type 0 where
-  pub version : Version
-  pub count : ℕ
-  pub last : Option Address
 
 abbrev pub is_after : Option Address → Address → Bool
 is_after None address = true

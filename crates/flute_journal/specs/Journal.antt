@@ -1,5 +1,5 @@
 -- Which bytes are the journal of which facts, and where other bytes stop being one.
-use Rattle.std.specs.Prelude.{◌≡◌, ℕ, ◌<◌, ◌≤◌, ◌^◌, List, [], ◌∷◌, ◌++◌, length, Option, Some, None}
+use Rattle.std.specs.Prelude.{◌≡◌, ℕ, ◌+◌, ◌<◌, ◌^◌, List, [], ◌∷◌, length, Option, Some, None, ⊤}
 use Rattle.std.specs.List.{AllByRecursion}
 use Rattle.flute_parts.specs.Session.{Session}
 use Rattle.flute_parts.specs.declared.key.Key.{Key}
@@ -8,11 +8,12 @@ use Rattle.flute_parts.specs.declared.fact.Fact.{Fact}
 use Rattle.flute_parts.specs.Addresses.{address}
 use Rattle.flute_parts.specs.Facts.{Same, IsRising}
 use Rattle.flute_parts.specs.Ranges.{IsFact, IsKey}
-use Rattle.flute_journal.specs.declared.fault.ReadFault.{ReadFault}
+use Rattle.flute_journal.specs.declared.entry_fields.Before.{Before}
 use Rattle.flute_journal.specs.declared.format.version.Version.{Version}
 use Rattle.flute_journal.specs.declared.format.version.Version.TheVariants.{One, Two}
-use Rattle.flute_journal.specs.Format.{sender_size, fact_key, without_end_in, spelling_in, spelling}
-use Rattle.flute_journal.specs.Faults.{Before, header_fault, next_fault}
+use Rattle.flute_journal.specs.Format.{sender_size, fact_key, header_in, entry_in, end, spelling_in, spelling}
+use Rattle.flute_journal.specs.Faults.{is_after, header_fault, version_in, next_fault}
+use Rattle.flute_journal.specs.Framing.{Framing, IsWhole}
 
 -- entries of this version have room for the sender: in version 1 it is 0
 abbrev pub HasRoom : Version → Session → Type 0
@@ -52,18 +53,6 @@ JournalIn Two bytes facts = Journal bytes facts
 abbrev pub IsJournal : List ℕ → List Fact → Type 0
 IsJournal bytes facts = (version : Version) × JournalIn version bytes facts
 
--- at most so many entries, as a journal may begin with them: those of one version
-pub record AreEntries (limit : ℕ) (entries : List Fact) : Type 0 where
-  pub version : Version
-  pub valid : AllByRecursion (IsFactIn version) entries
-  pub rising : IsRising entries
-  pub few : length entries ≤ limit
-
--- the bytes are a journal of these entries, at most so many
-pub record IsJournalWithin (limit : ℕ) (bytes : List ℕ) (entries : List Fact) : Type 0 where
-  pub are_entries : AreEntries limit entries
-  pub bytes_are : bytes ≡ spelling_in are_entries.version entries
-
 abbrev pub last_of : Option Address → List Fact → Option Address
 last_of last [] = last
 last_of last (f ∷ fs) = last_of (Some (address f)) fs
@@ -73,15 +62,30 @@ abbrev pub before : Version → List Fact → Before
 before version entries =
     record { version = version; count = length entries; last = last_of None entries }
 
--- whole entries stand behind the header, and then bytes at fault
-pub record StopsBehind (bytes : List ℕ) (limit : ℕ) (entries : List Fact)
-    (fault : ReadFault) : Type 0 where
-  pub are_entries : AreEntries limit entries
-  pub rest : List ℕ
-  pub whole : bytes ≡ without_end_in are_entries.version entries ++ rest
-  pub first : next_fault (before are_entries.version entries) limit rest ≡ Some fault
+-- the same behind one entry more
+abbrev pub after : Before → Fact → Before
+after place f =
+    record { version = place.version; count = place.count + 1; last = Some (address f) }
 
--- the first field at fault has this fault, and these are the entries that end before it
-pub data Stops (bytes : List ℕ) (limit : ℕ) (entries : List Fact) (fault : ReadFault) : Type 0 where
-  in_header : entries ≡ [] → header_fault bytes ≡ Some fault → Stops bytes limit entries fault
-  behind : StopsBehind bytes limit entries fault → Stops bytes limit entries fault
+-- a journal as a framed file of entries, whose header tells its version
+abbrev pub journal_framing : Framing Fact Before Version
+journal_framing = record {
+  header = header_in;
+  item = entry_in;
+  end = end;
+  IsItem = IsFactIn;
+  AreInOrder = IsRising;
+  place_behind = before;
+  next = after;
+  told = λ place. place.version;
+  count = λ place. place.count;
+  may_follow = λ place f. is_after place.last (address f);
+  header_fault = header_fault;
+  told_in = version_in;
+  next_fault = next_fault;
+  IsFault = λ f. ⊤;
+}
+
+-- the bytes are a journal of these entries, at most so many
+abbrev pub IsJournalWithin : ℕ → List ℕ → List Fact → Type 0
+IsJournalWithin = IsWhole journal_framing

@@ -6,39 +6,39 @@ use Rattle.flute_parts.specs.declared.fact.Fact.{Fact}
 use Rattle.flute_journal.specs.declared.fault.ReadFault.{ReadFault}
 use Rattle.flute_journal.specs.declared.fault.LoadFault.{LoadFault}
 use Rattle.flute_journal.specs.declared.fault.LoadFault.TheVariants.{Read, Full, OutOfMemory}
-use Rattle.flute_journal.specs.declared.journal_reader.ReaderState.{ReaderState}
-use Rattle.flute_journal.specs.declared.journal_reader.ReaderState.TheVariants.{Header, Entries, Ended, Failed}
+use Rattle.flute_journal.specs.declared.entry_fields.Before.{Before}
+use Rattle.flute_journal.specs.declared.reader_state.ReaderState.{ReaderState}
+use Rattle.flute_journal.specs.declared.reader_state.ReaderState.TheVariants.{Header, Items, Ended, Failed}
 use Rattle.flute_journal.specs.declared.journal_stream.JournalStream.{JournalStream}
 use Rattle.flute_journal.specs.declared.journal_stream.LentStream.{LentStream}
 use Rattle.flute_journal.specs.declared.format.version.Version.{Version}
 use Rattle.flute_journal.specs.Format.{spelling_in}
 use Rattle.flute_journal.specs.Input.{Fails}
-use Rattle.flute_journal.specs.Journal.{IsFactIn, AreEntries, IsJournalWithin}
+use Rattle.flute_journal.specs.Journal.{IsFactIn, IsJournalWithin, journal_framing}
 use Rattle.flute_journal.specs.Readers.{source_of, limit_of, state_of}
-use Rattle.flute_journal.specs.SoFar.{Sofar}
+use Rattle.flute_journal.specs.Framing.{AreItems, HasFault, Sofar}
 use Rattle.flute_journal.specs.Stores.{BeginsWith}
-use Rattle.flute_journal.specs.Whole.{HasFault}
 use Rattle.flute_journal.specs.Merges.{ReadsBehind}
 use Rattle.flute_journal.specs.Streams.{Behaviour, option_list}
 
 -- a journal of these entries was read to its end
 pub record ReadWhole (limit : ℕ) (first now : Option (List ℕ)) (entries : List Fact) : Type 0 where
-  pub are_entries : AreEntries limit entries
+  pub are_items : AreItems journal_framing limit entries
   pub whole : IfSome first (λ bytes. IsJournalWithin limit bytes entries)
   pub read : ReadsBehind first now entries
 
 -- by where its reader is: these entries were given, and one more is held
-abbrev pub ReadAt : ℕ → Option (List ℕ) → Option (List ℕ) → ReaderState → List Fact → Option Fact
-    → Type 0
+abbrev pub ReadAt : ℕ → Option (List ℕ) → Option (List ℕ) → ReaderState Before → List Fact
+    → Option Fact → Type 0
 ReadAt limit first now Ended entries held = ReadWhole limit first now entries × (held ≡ None)
 ReadAt limit first now (Failed fault) entries held = ⊥
 ReadAt limit first now state entries held =
-    Sofar limit first now state (entries ++ option_list held)
+    Sofar journal_framing limit first now state (entries ++ option_list held)
 
 -- as many entries as may still be read
-abbrev pub room : ℕ → ReaderState → ℕ
+abbrev pub room : ℕ → ReaderState Before → ℕ
 room limit Header = limit
-room limit (Entries version count last) = limit - count
+room limit (Items place) = limit - place.count
 room limit Ended = 0
 room limit (Failed fault) = 0
 
@@ -86,7 +86,8 @@ module _ {R : Type 0} (unread : R → Option (List ℕ)) (failures : R → ℕ) 
     tells = λ s F. IfSome (unread_of s) (λ bytes. IsJournalWithin (limit_of s.reader) bytes F);
     knows = λ s F. IsJournalOfAll (unread_of s) F;
     begins = λ s F. IfSome (unread_of s) (λ bytes. BeginsWith (limit_of s.reader) bytes F);
-    stops = λ s fault. StopsReading (HasFault (limit_of s.reader) (unread_of s)) fault;
+    stops = λ s fault.
+        StopsReading (HasFault journal_framing (limit_of s.reader) (unread_of s)) fault;
     passes = PassesSince;
     reads = λ start now F. ReadsBehind (unread_of start) (unread_of now) F;
     fails = FailsSince;

@@ -1,18 +1,17 @@
 pub mod Numbers
 pub mod Format
 pub mod Faults
+pub mod Framing
 pub mod Journal
 pub mod Lent
 pub mod Input
 pub mod Parsing
-pub mod Reading
 pub mod Writing
 pub mod Records
 pub mod DatagramReaders
 pub mod Examples
 pub mod Readers
 pub mod Whole
-pub mod SoFar
 pub mod Stores
 pub mod Merges
 pub mod RecordExamples
@@ -35,7 +34,6 @@ pub mod OwnedStreams
 pub mod OrFulls
 pub mod Besides
 pub mod Replacing
-pub mod FilesSoFar
 pub mod Sessions
 pub mod ChosenStreams
 pub mod SessionExamples

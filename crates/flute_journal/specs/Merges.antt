@@ -8,8 +8,8 @@ use Rattle.flute_journal.specs.declared.two_streams.MergeFault.TheVariants.{Firs
 use Rattle.flute_journal.specs.declared.format.version.Version.{Version}
 use Rattle.flute_journal.specs.Format.{header, entry_in, without_end_in, without_end, spelling}
 use Rattle.flute_journal.specs.Input.{Fails, IsWithin}
-use Rattle.flute_journal.specs.Journal.{IsFactIn, Collects, Journal, IsJournal, IsJournalWithin}
-use Rattle.flute_journal.specs.Whole.{HasFault}
+use Rattle.flute_journal.specs.Journal.{IsFactIn, Collects, Journal, IsJournal, IsJournalWithin, journal_framing}
+use Rattle.flute_journal.specs.Framing.{HasFault}
 
 -- both inputs are journals of at most so many entries, and the journal of both was appended,
 -- which has n entries
@@ -79,8 +79,8 @@ pub record KeepsUp (first first_left second second_left old new : Option (List �
 
 -- the fault that is told of an input is that of its bytes, if it is one of theirs
 abbrev pub NamesFault : ℕ → Option (List ℕ) → Option (List ℕ) → MergeFault → Type 0
-NamesFault limit first second (First f) = HasFault limit first f
-NamesFault limit first second (Second f) = HasFault limit second f
+NamesFault limit first second (First f) = HasFault journal_framing limit first f
+NamesFault limit first second (Second f) = HasFault journal_framing limit second f
 NamesFault limit first second Write = ⊤
 
 -- how often each device failed in a merge that gave this: a source only if its input is at fault

@@ -3,10 +3,11 @@
 use Rattle.std.specs.Prelude.{◌≡◌, ℕ, ◌+◌, List, length, Option, None, IfSome}
 use Rattle.flute_parts.specs.declared.fact.Fact.{Fact}
 use Rattle.flute_journal.specs.declared.owned_journal_stream.OwnedJournalStream.{OwnedJournalStream}
-use Rattle.flute_journal.specs.declared.journal_reader.ReaderState.{ReaderState}
-use Rattle.flute_journal.specs.Journal.{IsJournalWithin}
+use Rattle.flute_journal.specs.declared.entry_fields.Before.{Before}
+use Rattle.flute_journal.specs.declared.reader_state.ReaderState.{ReaderState}
+use Rattle.flute_journal.specs.Journal.{IsJournalWithin, journal_framing}
 use Rattle.flute_journal.specs.Stores.{BeginsWith}
-use Rattle.flute_journal.specs.Whole.{HasFault}
+use Rattle.flute_journal.specs.Framing.{HasFault}
 use Rattle.flute_journal.specs.Merges.{ReadsBehind}
 use Rattle.flute_journal.specs.Streams.{Behaviour, option_list}
 use Rattle.flute_journal.specs.JournalStreams.{ReadAt, room, StopsReading, FailsBy, IsJournalOfAll}
@@ -16,7 +17,7 @@ abbrev pub owned_limit : {R : Type 0} → OwnedJournalStream R → ℕ
 owned_limit s = s.max_entries
 
 -- where its reader is
-abbrev pub owned_state : {R : Type 0} → OwnedJournalStream R → ReaderState
+abbrev pub owned_state : {R : Type 0} → OwnedJournalStream R → ReaderState Before
 owned_state s = s.state
 
 -- the entry that it holds
@@ -39,7 +40,8 @@ module _ {R : Type 0} (unread : R → Option (List ℕ)) (failures : R → ℕ) 
     tells = λ s F. IfSome (unread s.source) (λ bytes. IsJournalWithin s.max_entries bytes F);
     knows = λ s F. IsJournalOfAll (unread s.source) F;
     begins = λ s F. IfSome (unread s.source) (λ bytes. BeginsWith s.max_entries bytes F);
-    stops = λ s fault. StopsReading (HasFault s.max_entries (unread s.source)) fault;
+    stops = λ s fault.
+        StopsReading (HasFault journal_framing s.max_entries (unread s.source)) fault;
     passes = OwnedPasses;
     reads = λ start now F. ReadsBehind (unread start.source) (unread now.source) F;
     fails = λ start now fault. FailsBy (failures start.source) (failures now.source) fault;

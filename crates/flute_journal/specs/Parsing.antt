@@ -1,10 +1,12 @@
 -- What the bytes of an entry up to those of its symbol say.
-use Rattle.std.specs.Prelude.{◌≡◌, ℕ, ◌+◌, ◌<◌, ◌^◌, IsTrue, List, [], ◌∷◌, ◌++◌, length, Option, Some, ⊤, Result, MatchResult}
+use Rattle.std.specs.Prelude.{◌≡◌, ℕ, ◌+◌, ◌<◌, ◌^◌, IsTrue, List, [], ◌∷◌, ◌++◌, length, Option, Some, ⊤, Result, Ok, Err, MatchResult}
+use Rattle.std.specs.Io.KnownBytes.{Consumes, IsAtEnd}
 use Rattle.flute_parts.specs.Addresses.{address, symbol_address}
 use Rattle.flute_parts.specs.declared.key.Key.{Key}
 use Rattle.flute_parts.specs.declared.symbol_id.SymbolId.{SymbolId}
 use Rattle.flute_parts.specs.declared.address.Address.{Address}
 use Rattle.flute_parts.specs.declared.fact.Fact.{Fact}
+use Rattle.flute_journal.specs.declared.entry_fields.Before.{Before}
 use Rattle.flute_journal.specs.declared.format.version.Version.{Version}
 use Rattle.flute_journal.specs.declared.format.Kind.{Kind}
 use Rattle.flute_journal.specs.declared.format.Kind.TheVariants as kinds
@@ -13,8 +15,9 @@ use Rattle.flute_journal.specs.declared.format.EntryHead.TheVariants.{Whole, Sym
 use Rattle.flute_journal.specs.declared.fault.ReadFault.{ReadFault}
 use Rattle.flute_journal.specs.declared.fault.ReadFault.TheVariants as faults
 use Rattle.flute_journal.specs.Numbers.{in_bytes}
+use Rattle.flute_journal.specs.Input.{IsFaultUpTo}
 use Rattle.flute_journal.specs.Format.{key_bytes, id_bytes, rest_bytes, fact_key, kind}
-use Rattle.flute_journal.specs.Faults.{Before, is_after, key_size, first_fault, cut, bytes_checks, rest_checks, body_checks, end_checks}
+use Rattle.flute_journal.specs.Faults.{is_after, key_size, first_fault, cut, bytes_checks, rest_checks, body_checks, end_checks}
 use Rattle.flute_journal.specs.Journal.{IsFactIn, HasRoom}
 use Rattle.flute_parts.specs.Ranges.{IsKey, IsId, IsFact}
 
@@ -120,3 +123,9 @@ pub record StopsReading (n : ℕ) (fault : List ℕ → Option ReadFault) (front
 abbrev pub Parses : {T : Type 0} → ℕ → (T → Type 0) → (List ℕ → Option ReadFault) → List ℕ
     → Result T ReadFault → Type 0
 Parses n IsIt fault bytes result = MatchResult result IsIt (StopsReading n fault bytes)
+
+-- the number of entries was read and nothing stands behind it; or the bytes are at fault
+abbrev pub ReadsEnd : {T : Type 0} → ℕ → Option (List ℕ) → Option (List ℕ) → Result T ReadFault
+    → Type 0
+ReadsEnd count old new (Ok x) = Consumes old new (in_bytes 8 count) × IsAtEnd new
+ReadsEnd count old new (Err f) = IsFaultUpTo (in_bytes 8 count) (end_fault count) old new f

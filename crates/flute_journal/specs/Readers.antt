@@ -1,7 +1,8 @@
 -- What a reader is made of, for the contracts of its calls.
 use Rattle.std.specs.Prelude.{ℕ}
 use Rattle.std.specs.Borrow.{MutBor}
-use Rattle.flute_journal.specs.declared.journal_reader.ReaderState.{ReaderState}
+use Rattle.flute_journal.specs.declared.entry_fields.Before.{Before}
+use Rattle.flute_journal.specs.declared.reader_state.ReaderState.{ReaderState}
 use Rattle.flute_journal.specs.declared.journal_reader.JournalReader.{JournalReader}
 
 -- the source that it reads
@@ -13,5 +14,5 @@ abbrev pub limit_of : {R : Type 0} → JournalReader R → ℕ
 limit_of reader = reader.max_entries
 
 -- where it is in the journal
-abbrev pub state_of : {R : Type 0} → JournalReader R → ReaderState
+abbrev pub state_of : {R : Type 0} → JournalReader R → ReaderState Before
 state_of reader = reader.state

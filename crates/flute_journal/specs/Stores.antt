@@ -9,7 +9,8 @@ use Rattle.flute_journal.specs.declared.fault.LoadFault.{LoadFault}
 use Rattle.flute_journal.specs.declared.fault.LoadFault.TheVariants.{Read, Full, OutOfMemory}
 use Rattle.flute_journal.specs.Format.{without_end_in}
 use Rattle.flute_journal.specs.Input.{Fails}
-use Rattle.flute_journal.specs.Journal.{AreEntries, IsJournalWithin}
+use Rattle.flute_journal.specs.Framing.{AreItems}
+use Rattle.flute_journal.specs.Journal.{IsJournalWithin, journal_framing}
 use Rattle.flute_journal.specs.Whole.{StopsAfter}
 
 -- the bytes are a journal of the values of these facts, with at most so many entries
@@ -19,9 +20,9 @@ IsJournalOf limit bytes facts =
 
 -- the bytes begin as a journal with these entries does, at most so many
 pub record BeginsWith (limit : ℕ) (bytes : List ℕ) (entries : List Fact) : Type 0 where
-  pub are_entries : AreEntries limit entries
+  pub are_items : AreItems journal_framing limit entries
   pub rest : List ℕ
-  pub whole : bytes ≡ without_end_in are_entries.version entries ++ rest
+  pub whole : bytes ≡ without_end_in are_items.told entries ++ rest
 
 -- the bytes begin with entries that pass the limits of a store
 abbrev pub BeginsOver : ℕ → ℕ → ℕ → ℕ → List ℕ → Type 0

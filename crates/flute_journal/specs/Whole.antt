@@ -1,27 +1,22 @@
 -- A journal that is read whole, or up to a fault.
-use Rattle.std.specs.Prelude.{◌≡◌, ℕ, ◌≤◌, ◌⊎◌, List, [], ◌++◌, length, Option, ⊤, IfSome}
+use Rattle.std.specs.Prelude.{◌≡◌, ℕ, ◌≤◌, ◌⊎◌, List, [], ◌++◌, length, Option, IfSome}
 use Rattle.std.specs.Io.KnownBytes.{Consumes}
 use Rattle.flute_parts.specs.declared.fact.Fact.{Fact}
 use Rattle.flute_journal.specs.declared.fault.ReadFault.{ReadFault}
 use Rattle.flute_journal.specs.declared.fault.ReadFault.TheVariants as faults
 use Rattle.flute_journal.specs.Format.{header, entry_in, without_end_in}
 use Rattle.flute_journal.specs.Input.{IsWithin}
-use Rattle.flute_journal.specs.Journal.{IsFactIn, AreEntries, IsJournalWithin, Stops}
-
--- the bytes that were left stop at this fault, if it is one of theirs
-abbrev pub HasFault : ℕ → Option (List ℕ) → ReadFault → Type 0
-HasFault limit old faults.Read = ⊤
-HasFault limit old faults.OutOfMemory = ⊤
-HasFault limit old f = IfSome old (λ bytes. (entries : List Fact) × Stops bytes limit entries f)
+use Rattle.flute_journal.specs.Journal.{IsFactIn, IsJournalWithin, journal_framing}
+use Rattle.flute_journal.specs.Framing.{AreItems, Stops}
 
 -- of a journal these entries were read, at most so many, and of what follows no byte behind
 -- one more; or no more bytes than the header has
 pub data ReadsPart (limit : ℕ) (old new : Option (List ℕ)) (entries : List Fact) : Type 0 where
   in_header : entries ≡ [] → (part : List ℕ) → Consumes old new part → length part ≤ length header
       → ReadsPart limit old new entries
-  behind : (a : AreEntries limit entries) → (more : List ℕ)
-      → Consumes old new (without_end_in a.version entries ++ more)
-      → IsWithin (entry_in a.version) (IsFactIn a.version) more → ReadsPart limit old new entries
+  behind : (a : AreItems journal_framing limit entries) → (more : List ℕ)
+      → Consumes old new (without_end_in a.told entries ++ more)
+      → IsWithin (entry_in a.told) (IsFactIn a.told) more → ReadsPart limit old new entries
 
 -- Reading stopped behind these entries: they are those before the fault of the bytes. Where the
 -- source failed, the bytes that were read are cut behind them, or are the whole journal of them;
@@ -29,6 +24,7 @@ pub data ReadsPart (limit : ℕ) (old new : Option (List ℕ)) (entries : List F
 abbrev pub StopsAfter : ℕ → List Fact → Option (List ℕ) → Option (List ℕ) → ReadFault → Type 0
 StopsAfter limit entries old new faults.Read =
     (part : List ℕ) × Consumes old new part
-    × (Stops part limit entries faults.Cut ⊎ IsJournalWithin limit part entries)
+    × (Stops journal_framing part limit entries faults.Cut ⊎ IsJournalWithin limit part entries)
 StopsAfter limit entries old new faults.OutOfMemory = ReadsPart limit old new entries
-StopsAfter limit entries old new f = IfSome old (λ bytes. Stops bytes limit entries f)
+StopsAfter limit entries old new f =
+    IfSome old (λ bytes. Stops journal_framing bytes limit entries f)

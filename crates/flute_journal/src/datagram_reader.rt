@@ -7,15 +7,18 @@ ghost use Rattle.flute_journal.specs.Input.{Advances, Fails, FailsIf, Reads, Sta
 ghost use Rattle.flute_parts.specs.Ranges.{IsByte};
 ghost use Rattle.flute_journal.specs.Faults.{opening_fault};
 ghost use Rattle.flute_journal.specs.Parsing.{cut_fault};
-ghost use Rattle.flute_journal.specs.Records.{file_header, record_of, is_file_open, GivesOfFile, IsDatagram, IsFileFault, ReadsFileFrom, ReadsRecord, file_state_after};
+ghost use Rattle.flute_journal.specs.Records.{file_header, record_of, IsDatagram, IsFileFault, file_framing};
+ghost use Rattle.flute_journal.specs.Framing.{is_open, Gives, ReadsFrom, ReadsNext, state_after};
 ghost use Rattle.flute_journal.specs.DatagramReaders.{datagrams_source_of, records_limit_of, file_stage_of};
 ghost use Rattle.flute_journal.specs.declared.fault.ReadFault.TheVariants.{OutOfMemory};
+ghost use Rattle.flute_journal.specs.declared.reader_state.ReaderState.TheVariants as ReaderState;
 
 use crate::fault::ReadFault;
 use crate::format::check_opening;
 use crate::format::number::length_in;
 use crate::input::{read_exact, read_up_to};
 use crate::lent::take_record;
+use crate::reader_state::ReaderState;
 use flute_parts::Source;
 use flute_wire::Datagram;
 use std::alloc::Global;
@@ -23,25 +26,12 @@ use std::alloc::Global;
 /// The bytes of the header: `FLDG`, and the version.
 pub const FILE_HEADER: [u8; 6] = *b"FLDG\x00\x01";
 
-/// Where a reader stands.
-#[derive(Clone, Copy, Debug)]
-pub enum FileState {
-    /// Before the header.
-    Header,
-    /// Behind so many whole records.
-    Records { count: u64 },
-    /// At the end of the input.
-    Ended,
-    /// At a fault, for good.
-    Failed(ReadFault),
-}
-
 /// A datagram file that is read record by record. It never reads past what it has given.
 #[derive(Debug, Drop)]
 pub struct DatagramReader<'a, R> {
     source: &'a mut R,
     max_records: u64,
-    state: FileState,
+    state: ReaderState<u64>,
 }
 
 impl<'a, R: Source> DatagramReader<'a, R> {
@@ -51,12 +41,12 @@ impl<'a, R: Source> DatagramReader<'a, R> {
         ensures source { (datagrams_source_of result).ghost_name ≡ source.entry.ghost_name }
         ensures unread { (datagrams_source_of result).now ≡ source.old }
         ensures limit { records_limit_of result ≡ max_records }
-        ensures state { file_stage_of result ≡ FileState.Header }
+        ensures state { file_stage_of result ≡ ReaderState.Header }
     {
         DatagramReader {
             source,
             max_records,
-            state: FileState::Header,
+            state: ReaderState::Header,
         }
     }
 
@@ -83,11 +73,11 @@ impl<'a, R: Source> DatagramReader<'a, R> {
         ensures source { (datagrams_source_of self.new).ghost_name
             ≡ (datagrams_source_of self.old).ghost_name }
         ensures limit { records_limit_of self.new ≡ records_limit_of self.old }
-        ensures gives { GivesOfFile (records_limit_of self.old) (file_stage_of self.old)
+        ensures gives { Gives file_framing (records_limit_of self.old) (file_stage_of self.old)
             (file_stage_of self.new)
             (R.unread (datagrams_source_of self.old).now)
             (R.unread (datagrams_source_of self.new).now) result }
-        ensures failures { FailsIf (is_file_open (file_stage_of self.old))
+        ensures failures { FailsIf (is_open (file_stage_of self.old))
             (R.failures (datagrams_source_of self.old).now)
             (R.failures (datagrams_source_of self.new).now) result }
     {
@@ -108,19 +98,19 @@ impl<'a, R: Source> DatagramReader<'a, R> {
         ensures source { (datagrams_source_of self.new).ghost_name
             ≡ (datagrams_source_of self.old).ghost_name }
         ensures limit { records_limit_of self.new ≡ records_limit_of self.old }
-        ensures gives { GivesOfFile (records_limit_of self.old) (file_stage_of self.old)
+        ensures gives { Gives file_framing (records_limit_of self.old) (file_stage_of self.old)
             (file_stage_of self.new)
             (R.unread (datagrams_source_of self.old).now)
             (R.unread (datagrams_source_of self.new).now) result }
-        ensures failures { FailsIf (is_file_open (file_stage_of self.old))
+        ensures failures { FailsIf (is_open (file_stage_of self.old))
             (R.failures (datagrams_source_of self.old).now)
             (R.failures (datagrams_source_of self.new).now) result }
     {
         let (count, given) = match self.state {
-            FileState::Ended => return Ok(None),
-            FileState::Failed(fault) => return Err(fault),
-            FileState::Header => (0, read_first(alloc, self.source, self.max_records)),
-            FileState::Records { count } => (
+            ReaderState::Ended => return Ok(None),
+            ReaderState::Failed(fault) => return Err(fault),
+            ReaderState::Header => (0, read_first(alloc, self.source, self.max_records)),
+            ReaderState::Items(count) => (
                 count,
                 read_record(alloc, self.source, self.max_records, count, spare),
             ),
@@ -137,7 +127,7 @@ fn read_first<R: Source>(
     source: &mut R,
     max_records: u64,
 ) -> Result<Option<Datagram>, ReadFault>
-    ensures reads { ReadsFileFrom max_records FileState.Header (R.unread source.old)
+    ensures reads { ReadsFrom file_framing tt max_records ReaderState.Header (R.unread source.old)
         (R.unread source.new) result }
     ensures faults { IfErr result IsFileFault }
     ensures failures { Fails (R.failures source.old) (R.failures source.new) result }
@@ -171,7 +161,7 @@ fn read_record<R: Source>(
     count: u64,
     spare: Vec<u8>,
 ) -> Result<Option<Datagram>, ReadFault>
-    ensures reads { ReadsRecord max_records count (R.unread source.old)
+    ensures reads { ReadsNext file_framing max_records count (R.unread source.old)
         (R.unread source.new) result }
     ensures within { StaysWithin record_of IsDatagram (R.unread source.old)
         (R.unread source.new) result }
@@ -196,7 +186,7 @@ fn read_fields<R: Source>(
     max_records: u64,
     count: u64,
 ) -> Result<Option<Datagram>, ReadFault>
-    ensures reads { ReadsRecord max_records count (R.unread source.old)
+    ensures reads { ReadsNext file_framing max_records count (R.unread source.old)
         (R.unread source.new) result }
     ensures within { StaysWithin record_of IsDatagram (R.unread source.old)
         (R.unread source.new) result }
@@ -237,13 +227,13 @@ fn read_datagram<R: Source>(
 }
 
 // Where a reader stands behind what it gave, if so many records stood before.
-fn state_after(count: u64, given: &Result<Option<Datagram>, ReadFault>) -> FileState
+fn state_after(count: u64, given: &Result<Option<Datagram>, ReadFault>) -> ReaderState<u64>
     requires { IfOk given.now (λ o. IfSome o (λ _. count + 1 < 2 ^ 64)) }
-    ensures { result ≡ file_state_after count given.now }
+    ensures { result ≡ state_after file_framing count given.now }
 {
     match given {
-        Ok(Some(_)) => FileState::Records { count: count + 1 },
-        Ok(None) => FileState::Ended,
-        Err(fault) => FileState::Failed(*fault),
+        Ok(Some(_)) => ReaderState::Items(count + 1),
+        Ok(None) => ReaderState::Ended,
+        Err(fault) => ReaderState::Failed(*fault),
     }
 }

@@ -6,10 +6,10 @@ ghost use Rattle.flute_journal.specs.Input.{Advances, Fails, Reads, StaysWithin}
 ghost use Rattle.flute_journal.specs.Numbers.{in_bytes};
 ghost use Rattle.flute_journal.specs.Format.{header_in, body, entry_in};
 ghost use Rattle.flute_journal.specs.Faults.{header_fault};
-ghost use Rattle.flute_journal.specs.Journal.{IsFactIn};
+ghost use Rattle.flute_journal.specs.Journal.{IsFactIn, journal_framing};
+ghost use Rattle.flute_journal.specs.Framing.{ReadsNext};
 ghost use Rattle.flute_parts.specs.Ranges.{IsByte};
-ghost use Rattle.flute_journal.specs.Parsing.{at_place, head_size, head_bytes, HeadIn, BodyIn, IsBody, body_fault, cut_fault, end_fault};
-ghost use Rattle.flute_journal.specs.Reading.{ReadsNext, ReadsEnd};
+ghost use Rattle.flute_journal.specs.Parsing.{head_size, head_bytes, HeadIn, BodyIn, IsBody, body_fault, cut_fault, end_fault, ReadsEnd};
 ghost use Rattle.flute_journal.specs.declared.fault.ReadFault.TheVariants.{OutOfMemory};
 
 use crate::fault::ReadFault;
@@ -17,6 +17,17 @@ use crate::format::{END, EntryHead, Kind, LONGEST, Version, check_end, check_hea
 use crate::input::{read_exact, read_up_to};
 use flute_parts::{Address, Bytes, Fact, Source};
 use std::alloc::Global;
+
+/// What stands before the next entry of a journal.
+#[derive(Clone, Copy, Debug)]
+pub struct Before {
+    /// The version of the journal.
+    pub version: Version,
+    /// How many entries.
+    pub count: u64,
+    /// The address of the last.
+    pub last: Option<Address>,
+}
 
 /// Reads the magic number and the version.
 #[inline(never)]
@@ -32,21 +43,19 @@ pub fn read_header<R: Source>(source: &mut R) -> Result<Version, ReadFault>
     read.or_failed(check_header(read.bytes))
 }
 
-/// Reads the next entry or the end of a journal of this version, field by field, after so many
-/// entries, of which the last is at `last`. The journal may have at most `max_entries`.
+/// Reads the next entry or the end of a journal, field by field. The journal may have at most
+/// `max_entries`.
 #[inline(never)]
 pub fn read_entry<R: Source>(
     alloc: Global,
     source: &mut R,
     max_entries: u64,
-    version: Version,
-    count: u64,
-    last: Option<Address>,
+    before: &Before,
 ) -> Result<Option<Fact>, ReadFault>
-    ensures reads { ReadsNext max_entries (at_place version count last) (R.unread source.old)
+    ensures reads { ReadsNext journal_framing max_entries before.now (R.unread source.old)
         (R.unread source.new) result }
-    ensures within { StaysWithin (entry_in version) (IsFactIn version) (R.unread source.old)
-        (R.unread source.new) result }
+    ensures within { StaysWithin (entry_in before.now.version) (IsFactIn before.now.version)
+        (R.unread source.old) (R.unread source.new) result }
     ensures failures { Fails (R.failures source.old) (R.failures source.new) result }
 {
     let mut buffer = [0; 1];
@@ -55,16 +64,16 @@ pub fn read_entry<R: Source>(
         return Err(read.shortage());
     };
     if byte == END {
-        read_end(source, count)?;
+        read_end(source, before.count)?;
         return Ok(None);
     }
     let Some(kind) = Kind::from_byte(byte) else {
         return Err(ReadFault::Kind);
     };
-    if count >= max_entries {
+    if before.count >= max_entries {
         return Err(ReadFault::TooMany);
     }
-    let fact = read_body(alloc, source, version, kind, last)?;
+    let fact = read_body(alloc, source, before.version, kind, before.last)?;
     Ok(Some(fact))
 }
 

@@ -2,41 +2,23 @@
 ghost use Rattle.std.specs.Prelude.{◌≡◌, ℕ, ◌+◌, ◌<◌, ◌^◌, IfOk, IfSome, Some, None};
 ghost use Rattle.flute_journal.specs.Input.{Fails, FailsIf};
 ghost use Rattle.flute_journal.specs.Readers.{source_of, limit_of, state_of};
-ghost use Rattle.flute_journal.specs.Reading.{Gives, is_open, state_after};
+ghost use Rattle.flute_journal.specs.Journal.{journal_framing};
+ghost use Rattle.flute_journal.specs.Framing.{Gives, is_open, state_after};
+ghost use Rattle.flute_journal.specs.declared.reader_state.ReaderState.TheVariants as ReaderState;
 
-use crate::entry_fields::{read_entry, read_header};
+use crate::entry_fields::{Before, read_entry, read_header};
 use crate::fault::ReadFault;
-use crate::format::Version;
 use crate::lent::take_entry;
-use flute_parts::{Address, Fact, Source};
+use crate::reader_state::ReaderState;
+use flute_parts::{Fact, Source};
 use std::alloc::Global;
-
-/// Where a reader stands.
-#[derive(Clone, Copy, Debug)]
-pub enum ReaderState {
-    /// Before the header.
-    Header,
-    /// Behind whole entries.
-    Entries {
-        /// The version of the journal.
-        version: Version,
-        /// How many there are.
-        count: u64,
-        /// The address of the last.
-        last: Option<Address>,
-    },
-    /// Behind the end.
-    Ended,
-    /// At a fault, for good.
-    Failed(ReadFault),
-}
 
 /// A journal that is read entry by entry. It never reads past what it has given.
 #[derive(Debug, Drop)]
 pub struct JournalReader<'a, R> {
     source: &'a mut R,
     max_entries: u64,
-    state: ReaderState,
+    state: ReaderState<Before>,
 }
 
 impl<'a, R: Source> JournalReader<'a, R> {
@@ -86,8 +68,9 @@ impl<'a, R: Source> JournalReader<'a, R> {
     pub fn next(&mut self, alloc: Global) -> Result<Option<Fact>, ReadFault>
         ensures source { (source_of self.new).ghost_name ≡ (source_of self.old).ghost_name }
         ensures limit { limit_of self.new ≡ limit_of self.old }
-        ensures gives { Gives (limit_of self.old) (state_of self.old) (state_of self.new)
-            (R.unread (source_of self.old).now) (R.unread (source_of self.new).now) result }
+        ensures gives { Gives journal_framing (limit_of self.old) (state_of self.old)
+            (state_of self.new) (R.unread (source_of self.old).now)
+            (R.unread (source_of self.new).now) result }
         ensures failures { FailsIf (is_open (state_of self.old))
             (R.failures (source_of self.old).now) (R.failures (source_of self.new).now) result }
     {
@@ -102,8 +85,9 @@ impl<'a, R: Source> JournalReader<'a, R> {
     pub fn next_with(&mut self, alloc: Global, spare: Vec<u8>) -> Result<Option<Fact>, ReadFault>
         ensures source { (source_of self.new).ghost_name ≡ (source_of self.old).ghost_name }
         ensures limit { limit_of self.new ≡ limit_of self.old }
-        ensures gives { Gives (limit_of self.old) (state_of self.old) (state_of self.new)
-            (R.unread (source_of self.old).now) (R.unread (source_of self.new).now) result }
+        ensures gives { Gives journal_framing (limit_of self.old) (state_of self.old)
+            (state_of self.new) (R.unread (source_of self.old).now)
+            (R.unread (source_of self.new).now) result }
         ensures failures { FailsIf (is_open (state_of self.old))
             (R.failures (source_of self.old).now) (R.failures (source_of self.new).now) result }
     {
@@ -112,31 +96,26 @@ impl<'a, R: Source> JournalReader<'a, R> {
 }
 
 // The next entry of a journal whose reader stands there, and where it stands behind it.
-#[tactic(auto, using(crate::proofs::Calls::gives, crate::proofs::Calls::reads_entries))]
+#[tactic(auto, using(crate::proofs::Calls::gives_entries, crate::proofs::Calls::reads_entries))]
 #[inline(always)]
 pub(crate) fn read_at<R: Source>(
     alloc: Global,
     source: &mut R,
     max_entries: u64,
-    state: &mut ReaderState,
+    state: &mut ReaderState<Before>,
     spare: Vec<u8>,
 ) -> Result<Option<Fact>, ReadFault>
-    ensures gives { Gives max_entries state.old state.new
+    ensures gives { Gives journal_framing max_entries state.old state.new
         (R.unread source.old) (R.unread source.new) result }
     ensures failures { FailsIf (is_open state.old)
         (R.failures source.old) (R.failures source.new) result }
 {
-    if let ReaderState::Entries {
-        version,
-        count,
-        last,
-    } = state
-    {
-        if *count < max_entries {
-            match take_entry(source, *version, last, spare) {
+    if let ReaderState::Items(before) = state {
+        if before.count < max_entries {
+            match take_entry(source, before.version, &before.last, spare) {
                 Ok(Some(fact)) => {
-                    *count += 1;
-                    *last = Some(fact.address());
+                    before.count += 1;
+                    before.last = Some(fact.address());
                     return Ok(Some(fact));
                 }
                 Ok(None) => {}
@@ -151,30 +130,27 @@ pub(crate) fn read_at<R: Source>(
 }
 
 // The same, but what stands there is read field by field.
-#[tactic(auto, using(crate::proofs::Calls::gives, crate::proofs::Calls::reads_entries))]
+#[tactic(auto, using(crate::proofs::Calls::gives_entries, crate::proofs::Calls::reads_entries))]
 #[inline(never)]
 fn read_fields<R: Source>(
     alloc: Global,
     source: &mut R,
     max_entries: u64,
-    state: &mut ReaderState,
+    state: &mut ReaderState<Before>,
 ) -> Result<Option<Fact>, ReadFault>
-    ensures gives { Gives max_entries state.old state.new
+    ensures gives { Gives journal_framing max_entries state.old state.new
         (R.unread source.old) (R.unread source.new) result }
     ensures failures { FailsIf (is_open state.old)
         (R.failures source.old) (R.failures source.new) result }
 {
-    match *state {
+    match &*state {
         ReaderState::Ended => Ok(None),
-        ReaderState::Failed(fault) => Err(fault),
+        ReaderState::Failed(fault) => Err(*fault),
         ReaderState::Header => read_first(alloc, source, max_entries, state),
-        ReaderState::Entries {
-            version,
-            count,
-            last,
-        } => {
-            let given = read_entry(alloc, source, max_entries, version, count, last);
-            *state = state_after(version, count, &given);
+        ReaderState::Items(before) => {
+            let given = read_entry(alloc, source, max_entries, before);
+            let behind = state_after(before, &given);
+            *state = behind;
             given
         }
     }
@@ -187,16 +163,21 @@ fn read_first<R: Source>(
     alloc: Global,
     source: &mut R,
     max_entries: u64,
-    state: &mut ReaderState,
+    state: &mut ReaderState<Before>,
 ) -> Result<Option<Fact>, ReadFault>
-    ensures gives { Gives max_entries ReaderState.Header state.new (R.unread source.old)
-        (R.unread source.new) result }
+    ensures gives { Gives journal_framing max_entries ReaderState.Header state.new
+        (R.unread source.old) (R.unread source.new) result }
     ensures failures { Fails (R.failures source.old) (R.failures source.new) result }
 {
     match read_header(source) {
         Ok(version) => {
-            let given = read_entry(alloc, source, max_entries, version, 0, None);
-            *state = state_after(version, 0, &given);
+            let before = Before {
+                version,
+                count: 0,
+                last: None,
+            };
+            let given = read_entry(alloc, source, max_entries, &before);
+            *state = state_after(&before, &given);
             given
         }
         Err(fault) => {
@@ -206,17 +187,17 @@ fn read_first<R: Source>(
     }
 }
 
-// Where a reader stands behind what it gave, if so many entries of this version stood before.
-fn state_after(version: Version, count: u64, given: &Result<Option<Fact>, ReadFault>) -> ReaderState
-    requires { IfOk given.now (λ o. IfSome o (λ _. count + 1 < 2 ^ 64)) }
-    ensures { result ≡ state_after version count given.now }
+// Where a reader stands behind what it gave, and what stood before that.
+fn state_after(before: &Before, given: &Result<Option<Fact>, ReadFault>) -> ReaderState<Before>
+    requires { IfOk given.now (λ o. IfSome o (λ _. before.now.count + 1 < 2 ^ 64)) }
+    ensures { result ≡ state_after journal_framing before.now given.now }
 {
     match given {
-        Ok(Some(fact)) => ReaderState::Entries {
-            version,
-            count: count + 1,
+        Ok(Some(fact)) => ReaderState::Items(Before {
+            version: before.version,
+            count: before.count + 1,
             last: Some(fact.address()),
-        },
+        }),
         Ok(None) => ReaderState::Ended,
         Err(fault) => ReaderState::Failed(*fault),
     }

@@ -3,7 +3,7 @@ ghost use Rattle.std.specs.Prelude.{◌≡◌, None};
 ghost use Rattle.flute_journal.specs.Readers.{source_of, limit_of, state_of};
 ghost use Rattle.flute_journal.specs.Streams.{IsNew};
 ghost use Rattle.flute_journal.specs.JournalStreams.{journal_behaviour, lent_behaviour};
-ghost use Rattle.flute_journal.specs.declared.journal_reader.ReaderState.TheVariants as ReaderState;
+ghost use Rattle.flute_journal.specs.declared.reader_state.ReaderState.TheVariants as ReaderState;
 
 use crate::fault::LoadFault;
 use crate::journal_reader::JournalReader;

@@ -6,17 +6,17 @@ ghost use Rattle.flute_parts.specs.Facts.{Same, Below, IsRising};
 ghost use Rattle.flute_parts.specs.declared.fact.Fact.{Fact};
 ghost use Rattle.flute_journal.specs.declared.fault.ReadFault.{ReadFault as Fault};
 ghost use Rattle.flute_journal.specs.Format.{entry_in, spelling_in};
-ghost use Rattle.flute_journal.specs.Journal.{IsFactIn, Collects, JournalIn, IsJournal, Stops, IsJournalWithin};
+ghost use Rattle.flute_journal.specs.Journal.{IsFactIn, Collects, JournalIn, IsJournal, IsJournalWithin, journal_framing};
+ghost use Rattle.flute_journal.specs.Framing.{Stops, HasFault, GivesItem, GivesEnd, GivesFault, Sofar};
 ghost use Rattle.flute_parts.specs.Ranges.{IsByte, IsFact};
 ghost use Rattle.flute_journal.specs.declared.format.version.Version.{Version};
 ghost use Rattle.flute_journal.specs.declared.format.version.Version.TheVariants.{One, Two};
 ghost use Rattle.flute_journal.specs.StreamMerges.{Each, all_of};
 ghost use Rattle.flute_journal.specs.Stores.{BeginsWith, IsJournalOf};
 ghost use Rattle.flute_journal.specs.declared.fault.ReadFault.TheVariants as faults;
-ghost use Rattle.flute_journal.specs.Records.{IsFileOf, IsFileWithin, FileStops, GivesRecord, GivesNone, GivesFileFault, HasFileFault};
-ghost use Rattle.flute_journal.specs.FilesSoFar.{FileSofar};
-ghost use Rattle.flute_journal.specs.declared.datagram_reader.FileState.{FileState};
-ghost use Rattle.flute_journal.specs.declared.datagram_reader.FileState.TheVariants as FileStages;
+ghost use Rattle.flute_journal.specs.Records.{IsFileOf, IsFileWithin, file_framing};
+ghost use Rattle.flute_journal.specs.declared.reader_state.ReaderState.{ReaderState};
+ghost use Rattle.flute_journal.specs.declared.reader_state.ReaderState.TheVariants as states;
 
 /// What an entry spells is read in one way, whatever follows it, in each version.
 #[tactic(auto, using(crate::proofs::Entries::entry_injective))]
@@ -73,7 +73,7 @@ pub fn a_journal_within_a_bound_is_one()
 /// A journal stops only if it has more entries than the bound.
 pub fn a_journal_stops_at_the_bound()
     ensures { (bs : List ℕ) (F es : List Fact) (limit : ℕ) (f : Fault) → IsJournal bs F
-        → Stops bs limit es f
+        → Stops journal_framing bs limit es f
         → (f ≡ faults.TooMany) × ((all : List Fact) × IsJournalWithin (length all) bs all
         × (limit < length all)) }
 {}
@@ -81,13 +81,13 @@ pub fn a_journal_stops_at_the_bound()
 /// Bytes aren't both a journal within the bound and at fault.
 pub fn a_journal_has_no_fault()
     ensures { (bs : List ℕ) (limit : ℕ) (es fs : List Fact) (f : Fault) → limit < 2 ^ 64
-        → IsJournalWithin limit bs es → Stops bs limit fs f → ⊥ }
+        → IsJournalWithin limit bs es → Stops journal_framing bs limit fs f → ⊥ }
 {}
 
 /// Bytes have one first fault, after one list of entries.
 pub fn bytes_stop_once()
-    ensures { (bs : List ℕ) (limit : ℕ) (es fs : List Fact) (f g : Fault) → Stops bs limit es f
-        → Stops bs limit fs g → (es ≡ fs) × (f ≡ g) }
+    ensures { (bs : List ℕ) (limit : ℕ) (es fs : List Fact) (f g : Fault)
+        → Stops journal_framing bs limit es f → Stops journal_framing bs limit fs g → (es ≡ fs) × (f ≡ g) }
 {}
 
 /// The entries that a journal begins with tell nothing more than its facts.
@@ -107,7 +107,7 @@ pub fn rising_facts_have_one_spelling()
 pub fn bytes_are_a_journal_or_stop()
     ensures { (bs : List ℕ) (limit : ℕ) → AllByRecursion IsByte bs
         → ((es : List Fact) × IsJournalWithin limit bs es)
-        ⊎ ((es : List Fact) × ((f : Fault) × Stops bs limit es f)) }
+        ⊎ ((es : List Fact) × ((f : Fault) × Stops journal_framing bs limit es f)) }
 {}
 
 /// A datagram file is the file of one list of datagrams.
@@ -119,43 +119,45 @@ pub fn a_file_has_one_reading()
 /// Bytes aren't both a datagram file within the bound and at fault.
 pub fn a_file_has_no_fault()
     ensures { (bs : List ℕ) (limit : ℕ) (ds es : List (List ℕ)) (f : Fault)
-        → IsFileWithin limit bs ds → FileStops bs limit es f → ⊥ }
+        → IsFileWithin limit bs ds → Stops file_framing bs limit es f → ⊥ }
 {}
 
 /// Bytes are a datagram file within the bound, or they stop at a fault.
 pub fn bytes_are_a_file_or_stop()
     ensures { (bs : List ℕ) (limit : ℕ) → AllByRecursion IsByte bs
         → ((ds : List (List ℕ)) × IsFileWithin limit bs ds)
-        ⊎ ((ds : List (List ℕ)) × ((f : Fault) × FileStops bs limit ds f)) }
+        ⊎ ((ds : List (List ℕ)) × ((f : Fault) × Stops file_framing bs limit ds f)) }
 {}
 
 /// Bytes have one first fault, after one list of datagrams.
 pub fn a_file_stops_once()
     ensures { (bs : List ℕ) (limit : ℕ) (ds es : List (List ℕ)) (f g : Fault)
-        → FileStops bs limit ds f → FileStops bs limit es g → (ds ≡ es) × (f ≡ g) }
+        → Stops file_framing bs limit ds f → Stops file_framing bs limit es g
+        → (ds ≡ es) × (f ≡ g) }
 {}
 
 /// A datagram file stops only if it has more records than the bound.
 pub fn a_file_stops_at_the_bound()
     ensures { (bs : List ℕ) (limit : ℕ) (ds es : List (List ℕ)) (f : Fault) → IsFileOf bs ds
-        → FileStops bs limit es f
+        → Stops file_framing bs limit es f
         → (f ≡ faults.TooMany) × (limit < length ds) }
 {}
 
 /// A datagram file is told by what its reader gives record by record: after these records it
 /// is where they end; at the end the file was that of all of them, and at a fault the file has
 /// this fault.
-#[tactic(auto, using(crate::proofs::Records::files_so_far))]
 pub fn a_file_is_read_record_by_record()
-    ensures begins { (limit : ℕ) (first : Option (List ℕ)) → FileSofar limit first first
-        FileStages.Header [] }
-    ensures goes_on { (limit : ℕ) (first now next : Option (List ℕ)) (old new : FileState)
-        (ds : List (List ℕ)) (d : List ℕ) → FileSofar limit first now old ds
-        → GivesRecord limit old new now next d → FileSofar limit first next new (ds ++ d ∷ []) }
-    ensures ends { (limit : ℕ) (first now next : Option (List ℕ)) (old new : FileState)
-        (ds : List (List ℕ)) → FileSofar limit first now old ds
-        → GivesNone old new now next → IfSome first (λ bytes. IsFileWithin limit bytes ds) }
-    ensures stops { (limit : ℕ) (first now next : Option (List ℕ)) (old new : FileState)
-        (ds : List (List ℕ)) (f : Fault) → FileSofar limit first now old ds
-        → GivesFileFault limit old new now next f → HasFileFault limit first f }
+    ensures begins { (limit : ℕ) (first : Option (List ℕ)) → Sofar file_framing limit first first
+        states.Header [] }
+    ensures goes_on { (limit : ℕ) (first now next : Option (List ℕ)) (old new : ReaderState ℕ)
+        (ds : List (List ℕ)) (d : List ℕ) → Sofar file_framing limit first now old ds
+        → GivesItem file_framing limit old new now next d
+        → Sofar file_framing limit first next new (ds ++ d ∷ []) }
+    ensures ends { (limit : ℕ) (first now next : Option (List ℕ)) (old new : ReaderState ℕ)
+        (ds : List (List ℕ)) → Sofar file_framing limit first now old ds
+        → GivesEnd file_framing old new now next
+        → IfSome first (λ bytes. IsFileWithin limit bytes ds) }
+    ensures stops { (limit : ℕ) (first now next : Option (List ℕ)) (old new : ReaderState ℕ)
+        (ds : List (List ℕ)) (f : Fault) → Sofar file_framing limit first now old ds
+        → GivesFault file_framing limit old new now next f → HasFault file_framing limit first f }
 {}

@@ -39,6 +39,7 @@ mod lent;
 mod lowest;
 mod or_full;
 mod owned_journal_stream;
+mod reader_state;
 mod replaced;
 mod sessions;
 mod stopped;

@@ -2,11 +2,13 @@
 ghost use Rattle.std.specs.Prelude.{◌≡◌, None};
 ghost use Rattle.flute_journal.specs.Streams.{IsNew};
 ghost use Rattle.flute_journal.specs.OwnedStreams.{owned_limit, owned_state, held_of, owned_behaviour};
-ghost use Rattle.flute_journal.specs.declared.journal_reader.ReaderState.TheVariants as ReaderState;
+ghost use Rattle.flute_journal.specs.declared.reader_state.ReaderState.TheVariants as ReaderState;
 
+use crate::entry_fields::Before;
 use crate::fault::LoadFault;
-use crate::journal_reader::{ReaderState, read_at};
+use crate::journal_reader::read_at;
 use crate::journal_stream::spare_of;
+use crate::reader_state::ReaderState;
 use crate::stream::Stream;
 use flute_parts::{Fact, FactRef, Source};
 use std::alloc::Global;
@@ -16,7 +18,7 @@ use std::alloc::Global;
 pub struct OwnedJournalStream<R> {
     pub source: R,
     max_entries: u64,
-    state: ReaderState,
+    state: ReaderState<Before>,
     held: Option<Fact>,
 }
 

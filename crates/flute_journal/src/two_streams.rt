@@ -8,7 +8,7 @@ ghost use Rattle.flute_journal.specs.Eithers.{either_behaviour};
 ghost use Rattle.flute_journal.specs.JournalStreams.{lent_behaviour, SameLoans};
 ghost use Rattle.flute_journal.specs.StreamMerges.{MergedAll, AppendsPartOf, ReadsAhead, NamesInput, CanGoOn, FailAs, streams_sink_failed};
 ghost use Rattle.flute_journal.specs.Pairs.{fault_at, IsOfReading, IsFaultOfTwo};
-ghost use Rattle.flute_journal.specs.declared.journal_reader.ReaderState.TheVariants as ReaderState;
+ghost use Rattle.flute_journal.specs.declared.reader_state.ReaderState.TheVariants as ReaderState;
 ghost use Rattle.flute_journal.specs.declared.either.Either.TheVariants.{First as Left, Second as Right};
 
 use crate::all_streams::{MergedJournal, merge_all};

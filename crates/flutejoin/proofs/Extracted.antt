@@ -5,7 +5,7 @@ use Rattle.std.specs.Io.KnownBytes.{Appends}
 use Rattle.std.proofs.KnownBytes.{Consumes-whole}
 use Rattle.std.proofs.lemmas.Option.{none-some}
 use Rattle.flute_parts.specs.Addresses.{info_address}
-use Rattle.flute_parts.specs.Devices.{AppendsPart}
+use Rattle.flute_parts.specs.Devices.{AppendsPart, times_failed}
 use Rattle.flute_parts.specs.Facts.{IsRising, Same}
 use Rattle.flute_parts.specs.Tally.{Counts}
 use Rattle.flute_parts.specs.declared.fact.Fact.{Fact}
@@ -15,16 +15,15 @@ use Rattle.flute_parts.proofs.Public.{fact_at-nil, Same-itself}
 use Rattle.flute_parts.specs.Limits.{Over}
 use Rattle.flute_store.proofs.Public.{gaps-same, object-same, Whole-same}
 use Rattle.flute_journal.specs.Format.{spelling_in}
-use Rattle.flute_journal.specs.Journal.{IsJournalWithin}
-use Rattle.flute_parts.specs.Devices.{times_failed}
-use Rattle.flute_journal.specs.Reading.{Gives, GivesEntry, GivesEnd, GivesFault}
-use Rattle.flute_journal.specs.SoFar.{Sofar}
+use Rattle.flute_journal.specs.Journal.{IsJournalWithin, journal_framing}
+use Rattle.flute_journal.specs.Framing.{Gives, GivesItem, GivesEnd, GivesFault, Sofar}
 use Rattle.flute_journal.specs.Stores.{BeginsWith, FailsToLoad}
 use Rattle.flute_journal.specs.declared.fault.LoadFault.{LoadFault}
 use Rattle.flute_journal.specs.declared.fault.LoadFault.TheVariants as load
 use Rattle.flute_journal.specs.declared.fault.ReadFault.{ReadFault}
-use Rattle.flute_journal.specs.declared.journal_reader.ReaderState.{ReaderState}
-use Rattle.flute_journal.proofs.Public.{Loaded, loaded-over, side-from, sofar-next, sofar-stops}
+use Rattle.flute_journal.specs.declared.reader_state.ReaderState.{ReaderState}
+use Rattle.flute_journal.specs.declared.entry_fields.Before.{Before}
+use Rattle.flute_journal.proofs.Public.{Loaded, loaded-over, whole-at, side-from, journal_sound, sofar-next, sofar-stops}
 use Rattle.flutejoin.specs.Extract.{OfJournal, AnswersFrom, Extracts, FirstWritten, WritesFirst, SinkFails}
 use Rattle.flutejoin.specs.ObjectWriters.{WroteFirst, WritesNothing, TellsUntouched, FailedBy, Stands, PassesAll}
 use Rattle.flutejoin.specs.Show.{FailsToRead}
@@ -38,62 +37,60 @@ use Rattle.flutejoin.proofs.ObjectWriters.{wrote-some}
 use Rattle.flutejoin.proofs.Shown.{fails_same}
 
 -- these entries were read, counted and passed, and nothing else
-pub record Passing (input left : Option (List ℕ)) (state : ReaderState) (tally : Tally 64 4096 1048576) (writer : ObjectWriter) (start now : Option (List ℕ)) : Type 0 where
+pub record Passing (input left : Option (List ℕ)) (state : ReaderState Before) (tally : Tally 64 4096 1048576) (writer : ObjectWriter) (start now : Option (List ℕ)) : Type 0 where
   pub entries : List Fact
-  pub sofar : Sofar MAX_ENTRIES input left state entries
+  pub sofar : Sofar journal_framing MAX_ENTRIES input left state entries
   pub counts : Counts 64 4096 1048576 entries tally
   pub stands : Stands entries writer start now
 
-begins_at : (u v : Option (List ℕ)) (state : ReaderState) (es : List Fact) → Sofar MAX_ENTRIES u v state es → (es ≡ []) ⊎ IfSome u (λ bytes. BeginsWith MAX_ENTRIES bytes es)
+begins_at : (u v : Option (List ℕ)) (state : ReaderState Before) (es : List Fact) → Sofar journal_framing MAX_ENTRIES u v state es → (es ≡ []) ⊎ IfSome u (λ bytes. BeginsWith MAX_ENTRIES bytes es)
 begins_at u v state [] s = inl refl
 begins_at None v state (e ∷ es) s = inr tt
 begins_at (Some x) None state (e ∷ es) s = absurd s.read
-begins_at (Some x) (Some z) state (e ∷ es) s = inr (record { are_entries = s.are_entries; rest = z; whole = s.read })
+begins_at (Some x) (Some z) state (e ∷ es) s = inr (record { are_items = s.are_items; rest = z; whole = s.read })
 
-module _ {u v w : Option (List ℕ)} {from to : ReaderState} {tally : Tally 64 4096 1048576} {writer : ObjectWriter} {s t : Option (List ℕ)} (p : Passing u v from tally writer s t) where
-  pub passing-next : (f : Fact) (next : Tally 64 4096 1048576) (new : ObjectWriter) (t' : Option (List ℕ)) → GivesEntry MAX_ENTRIES from to v w f
+module _ {u v w : Option (List ℕ)} {from to : ReaderState Before} {tally : Tally 64 4096 1048576} {writer : ObjectWriter} {s t : Option (List ℕ)} (p : Passing u v from tally writer s t) where
+  pub passing-next : (f : Fact) (next : Tally 64 4096 1048576) (new : ObjectWriter) (t' : Option (List ℕ)) → GivesItem journal_framing MAX_ENTRIES from to v w f
       → ((F : List Fact) → IsRising (F ++ f ∷ []) → Counts 64 4096 1048576 F tally → Counts 64 4096 1048576 (F ++ f ∷ []) next)
       → ((P : List Fact) → IsRising (P ++ f ∷ []) → Stands P writer s t → Stands (P ++ f ∷ []) new s t') → Passing u w to next new s t'
   passing-next f next new t' g counts stands =
-      let more = sofar-next MAX_ENTRIES u v w from to p.entries f p.sofar g in
+      let more = sofar-next journal_sound MAX_ENTRIES u v w from to p.entries f p.sofar g in
       record {
         entries = p.entries ++ f ∷ [];
         sofar = more;
-        counts = counts p.entries more.are_entries.rising p.counts;
-        stands = stands p.entries more.are_entries.rising p.stands;
+        counts = counts p.entries more.are_items.in_order p.counts;
+        stands = stands p.entries more.are_items.in_order p.stands;
       }
 
-  pub passing-fault : (f : ReadFault) → GivesFault MAX_ENTRIES from to v w f → PassesAll u w writer s t (Err (load.Read f))
+  pub passing-fault : (f : ReadFault) → GivesFault journal_framing MAX_ENTRIES from to v w f → PassesAll u w writer s t (Err (load.Read f))
   passing-fault f g = record {
     entries = p.entries;
-    rising = p.sofar.are_entries.rising;
+    rising = p.sofar.are_items.in_order;
     begins = begins_at u v from p.entries p.sofar;
     stands = p.stands;
     ended = (p.entries, p.counts.within, (sofar-stops MAX_ENTRIES u v w from to p.entries f p.sofar g).0);
   }
 
-  pub passing-full : (f : Fact) → GivesEntry MAX_ENTRIES from to v w f
+  pub passing-full : (f : Fact) → GivesItem journal_framing MAX_ENTRIES from to v w f
       → ((F : List Fact) → IsRising (F ++ f ∷ []) → Counts 64 4096 1048576 F tally → Over (F ++ f ∷ []) 64 4096 1048576) → PassesAll u w writer s t (Err load.Full)
   passing-full f g over =
-      let more = sofar-next MAX_ENTRIES u v w from to p.entries f p.sofar g in
+      let more = sofar-next journal_sound MAX_ENTRIES u v w from to p.entries f p.sofar g in
       let loaded : Loaded 64 4096 1048576 MAX_ENTRIES u v from p.entries = record { entries = p.entries; sofar = p.sofar; same = Same-itself p.entries; fits = p.counts.within } in
       record {
         entries = p.entries;
-        rising = p.sofar.are_entries.rising;
+        rising = p.sofar.are_items.in_order;
         begins = begins_at u v from p.entries p.sofar;
         stands = p.stands;
-        ended = loaded-over 64 4096 1048576 MAX_ENTRIES u v w from to p.entries f loaded g (over p.entries more.are_entries.rising p.counts);
+        ended = loaded-over 64 4096 1048576 MAX_ENTRIES u v w from to p.entries f loaded g (over p.entries more.are_items.in_order p.counts);
       }
 
-  pub passing-end : GivesEnd from to v w → PassesAll u w writer s t (Ok tt)
+  pub passing-end : GivesEnd journal_framing from to v w → PassesAll u w writer s t (Ok tt)
   passing-end g =
-      let end = side-from MAX_ENTRIES u v w from to p.entries None p.sofar g in
-      let journal =
-      Consumes-whole u w (spelling_in end.are_entries.version p.entries) (λ bytes. IsJournalWithin MAX_ENTRIES bytes p.entries) end.read end.at_end
-      (record { are_entries = end.are_entries; bytes_are = refl }) in
+      let end = side-from journal_sound MAX_ENTRIES u v w from to p.entries None p.sofar g in
+      let journal = whole-at journal_sound MAX_ENTRIES u w p.entries end in
       record {
         entries = p.entries;
-        rising = p.sofar.are_entries.rising;
+        rising = p.sofar.are_items.in_order;
         begins = begins_at u v from p.entries p.sofar;
         stands = p.stands;
         ended = (journal, end.at_end, p.counts.within);
@@ -101,11 +98,11 @@ module _ {u v w : Option (List ℕ)} {from to : ReaderState} {tally : Tally 64 4
 
 -- What a reader gave.
 
-pub given-fault : (limit bound : ℕ) (v w : Option (List ℕ)) (old new : ReaderState) (f : ReadFault) → bound ≡ limit → GivesFault bound old new v w f → GivesFault limit old new v w f
-given-fault limit bound v w old new f e h = subst (λ n. GivesFault n old new v w f) e h
+pub given-fault : (limit bound : ℕ) (v w : Option (List ℕ)) (old new : ReaderState Before) (f : ReadFault) → bound ≡ limit → GivesFault journal_framing bound old new v w f → GivesFault journal_framing limit old new v w f
+given-fault limit bound v w old new f e h = subst (λ n. GivesFault journal_framing n old new v w f) e h
 
-pub given-end : (bound : ℕ) (v w : Option (List ℕ)) (old new : ReaderState) (given : Option Fact) → given ≡ None → Gives bound old new v w (Ok given) → GivesEnd old new v w
-given-end bound v w old new given e h = subst (λ (o : Option Fact). Gives bound old new v w (Ok o)) e h
+pub given-end : (bound : ℕ) (v w : Option (List ℕ)) (old new : ReaderState Before) (given : Option Fact) → given ≡ None → Gives journal_framing bound old new v w (Ok given) → GivesEnd journal_framing old new v w
+given-end bound v w old new given e h = subst (λ (o : Option Fact). Gives journal_framing bound old new v w (Ok o)) e h
 
 -- What the command answers.
 

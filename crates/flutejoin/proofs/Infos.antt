@@ -4,7 +4,7 @@ use Rattle.std.specs.Prelude.{slice_get, ◌⊎◌, IfSome}
 use Rattle.std.specs.Io.KnownBytes.{Appends}
 use Rattle.flute_parts.specs.declared.fact.Fact.{Fact}
 use Rattle.flute_journal.specs.Format.{spelling}
-use Rattle.flute_journal.specs.Journal.{IsJournalWithin, Collects}
+use Rattle.flute_journal.specs.Journal.{IsJournalWithin, Collects, journal_framing}
 use Rattle.flute_journal.specs.JournalWriters.{Written}
 use Rattle.flute_journal.specs.Readers.{source_of, limit_of}
 use Rattle.flute_journal.specs.Stores.{BeginsWith}
@@ -14,7 +14,7 @@ use Rattle.flute_journal.specs.FactStreams.{fact_behaviour}
 use Rattle.flute_journal.specs.FirstFaults.{FirstFault}
 use Rattle.flute_journal.specs.JournalStreams.{journal_behaviour}
 use Rattle.flute_journal.specs.StreamMerges.{all_of, Each, IsWithinLimits, MergedAll}
-use Rattle.flute_journal.specs.Whole.{HasFault}
+use Rattle.flute_journal.specs.Framing.{HasFault}
 use Rattle.flute_journal.specs.Withins.{within_behaviour}
 use Rattle.flute_journal.specs.declared.either.Either.{Either}
 use Rattle.flute_journal.specs.declared.either.Either.TheVariants.{First, Second}
@@ -109,7 +109,7 @@ module _ {R : Type 0} (unread : R → Option (List ℕ)) (failures : R → ℕ) 
     -- The fault is that of the journal.
 
     journal_stops : (fault : LoadFault) → limit_of j.stream.reader ≡ MAX_ENTRIES → journals.stops j fault → InfoFails bytes_of (option_list f.next) (of_load 1 fault)
-    journal_stops (load.Read r) limit (inl h) = (refl, subst (λ n. HasFault n bytes_of r) limit h)
+    journal_stops (load.Read r) limit (inl h) = (refl, subst (λ n. HasFault journal_framing n bytes_of r) limit h)
     journal_stops load.Full limit (inl h) = absurd h
     journal_stops load.OutOfMemory limit (inl h) = absurd h
     journal_stops (load.Read r) limit (inr h) = let e = h.0 in absurd cc

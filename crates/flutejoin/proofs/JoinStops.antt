@@ -14,7 +14,7 @@ use Rattle.flute_parts.proofs.Public.{rising_unique, Same-members, Same-sym, Sam
 use Rattle.flute_journal.specs.Format.{spelling, spelling_in}
 use Rattle.flute_journal.specs.declared.format.version.Version.{Version}
 use Rattle.flute_journal.proofs.Public.{journal_parts}
-use Rattle.flute_journal.specs.Journal.{Journal, Collects}
+use Rattle.flute_journal.specs.Journal.{Journal, Collects, journal_framing}
 use Rattle.flute_journal.specs.JournalWriters.{Written}
 use Rattle.flute_journal.specs.Kinds.{HasKind}
 use Rattle.flute_journal.specs.Sessions.{chosen}
@@ -24,7 +24,7 @@ use Rattle.flute_journal.specs.Streams.{Behaviour, IsNew, option_list}
 use Rattle.flute_journal.specs.FirstFaults.{FirstFault, TellBefore}
 use Rattle.flute_journal.specs.Replacing.{replaced}
 use Rattle.flute_journal.specs.StreamMerges.{all_of, IsWithinLimits, MergedAll, NoneFails, AppendsNoJournal}
-use Rattle.flute_journal.specs.Whole.{HasFault}
+use Rattle.flute_journal.specs.Framing.{HasFault}
 use Rattle.flute_journal.specs.declared.beside.Beside.{Beside}
 use Rattle.flute_journal.specs.declared.either.Either.{Either}
 use Rattle.flute_journal.specs.declared.either.Either.TheVariants.{First, Second}
@@ -128,8 +128,8 @@ module _ (choice : Choice) {R : Type 0} (unread : R → Option (List ℕ)) (fail
 
     journal_stops : (x : JoinInput R) (fault : LoadFault) → IsReady unread failures x None → IsInspected unread choice x None bytes → (joins choice unread failures b).stops (First x) fault → JoinToFails choice contents (of_load (n + 1) fault)
     journal_stops x (load.Read f) ready inspected (inl h) =
-        let P : Option (List ℕ) → Type 0 = λ o. HasFault x.stream.stream.max_entries o f in
-        let Q : ℕ → Type 0 = λ m. HasFault m (Some bytes) f in
+        let P : Option (List ℕ) → Type 0 = λ o. HasFault journal_framing x.stream.stream.max_entries o f in
+        let Q : ℕ → Type 0 = λ m. HasFault journal_framing m (Some bytes) f in
         elim (read_or_not f) [
           | inl is ↦ of_source (n + 1) (ap (Input (n + 1)) is) (inr (known, first_at (TellsWithin choice) (HasKind kinds.Journal) contents n bytes here before inspected.0))
           | inr other ↦ of_inputs (inr (known, first_at (TellsWithin choice) (IsJournalAt f) contents n bytes here before (inspected.0, subst Q (ready refl).2 (subst P inspected.1 h), other)))

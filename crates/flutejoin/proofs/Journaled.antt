@@ -6,14 +6,14 @@ use Rattle.std.proofs.Math.ListN.{set, length-set}
 use Rattle.std.proofs.lemmas.List.{set-get_or}
 use Rattle.flute_parts.specs.declared.fact.Fact.{Fact}
 use Rattle.flute_parts.specs.Facts.{Same, Below}
-use Rattle.flute_parts.proofs.Public.{Below-from_Same, Below-trans, Same-append, Same-itself}
-use Rattle.flute_parts.proofs.Public.{Same-sym, Same-trans}
+use Rattle.flute_parts.proofs.Public.{Below-from_Same, Below-trans, Same-append, Same-itself, Same-sym, Same-trans}
 use Rattle.flute_journal.specs.declared.fault.ReadFault.{ReadFault}
 use Rattle.flute_journal.specs.declared.fault.ReadFault.TheVariants as read
 use Rattle.flute_journal.specs.declared.fault.LoadFault.{LoadFault}
 use Rattle.flute_journal.specs.declared.fault.LoadFault.TheVariants as load
 use Rattle.flute_journal.proofs.Public.{written_journal}
-use Rattle.flute_journal.specs.Journal.{Journal, IsJournal, IsJournalWithin, Stops}
+use Rattle.flute_journal.specs.Journal.{Journal, IsJournal, IsJournalWithin, journal_framing}
+use Rattle.flute_journal.specs.Framing.{Stops}
 use Rattle.flute_journal.specs.Whole.{StopsAfter}
 use Rattle.flute_journal.specs.Stores.{FailsToLoad, IsJournalOf, IsLoadFault}
 use Rattle.flutejoin.specs.declared.steps.Step.TheVariants.{Load, Reopen}
@@ -70,7 +70,7 @@ loaded_refused limit before now i old content loaded bs F fault h journal same b
 
 -- what a reader of known bytes that does not fail answers: want of memory, or the fault of the bytes
 abbrev TellsFault : Capacity → List ℕ → ReadFault → Type 0
-TellsFault limit bs f = (fault_of_read f ≡ OutOfMemory) ⊎ ((fault_of_read f ≡ step.Journal f) × ((es : List Fact) × Stops bs MAX_ENTRIES es f × ¬ IsOver es limit))
+TellsFault limit bs f = (fault_of_read f ≡ OutOfMemory) ⊎ ((fault_of_read f ≡ step.Journal f) × ((es : List Fact) × Stops journal_framing bs MAX_ENTRIES es f × ¬ IsOver es limit))
 
 tells_fault : (limit : Capacity) (bs : List ℕ) (left : Option (List ℕ)) (es : List Fact) (f : ReadFault) → ¬ IsOver es limit → StopsAfter MAX_ENTRIES es (Some bs) left f → f ≢ read.Read
     → TellsFault limit bs f

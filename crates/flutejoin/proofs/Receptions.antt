@@ -6,16 +6,13 @@ use Rattle.flute_parts.specs.declared.fact.Fact.{Fact}
 use Rattle.flute_parts.specs.declared.fact.Fact.TheVariants.{Info, InfoConflict, Symbol, SymbolConflict}
 use Rattle.flute_parts.specs.Addresses.{symbol_address}
 use Rattle.flute_parts.specs.Facts.{fact_at, Same, SameMembers, Below}
-use Rattle.flute_parts.proofs.Public.{Below-from_Same, Below-trans, fact_at-append, joined}
-use Rattle.flute_parts.proofs.Public.{joined-none, Over-below, rising_unique, Same-append}
-use Rattle.flute_parts.proofs.Public.{Same-itself, Same-members, Same-swap, Same-sym, Same-trans}
-use Rattle.flute_parts.proofs.Public.{Same-twice}
+use Rattle.flute_parts.proofs.Public.{Below-from_Same, Below-trans, fact_at-append, joined, joined-none, Over-below, rising_unique, Same-append, Same-itself, Same-members, Same-swap, Same-sym, Same-trans, Same-twice}
 use Rattle.flute_store.specs.Held.{HasCell}
 use Rattle.flute_journal.specs.declared.fault.ReadFault.{ReadFault}
 use Rattle.flute_journal.specs.Format.{spelling}
-use Rattle.flute_journal.specs.Journal.{Journal, IsJournal, IsJournalWithin, Stops}
-use Rattle.flute_journal.proofs.Public.{beyond, facts_of, journal_parts, parts_journal}
-use Rattle.flute_journal.proofs.Public.{same_journal, without_end-below}
+use Rattle.flute_journal.specs.Journal.{Journal, IsJournal, IsJournalWithin, journal_framing}
+use Rattle.flute_journal.specs.Framing.{Stops}
+use Rattle.flute_journal.proofs.Public.{beyond, facts_of, journal_parts, parts_journal, same_journal, without_end-below}
 use Rattle.flutejoin.specs.Held.{Capacity, IsOver}
 use Rattle.flute_journal.specs.Stores.{BeginsWith, IsJournalOf}
 use Rattle.flutejoin.specs.Outcome.{IsLonger}
@@ -65,14 +62,14 @@ Journal-only bs cs F G same j k =
 
 pub IsJournal-from_within : (bs : List ℕ) (entries : List Fact) → IsJournalWithin MAX_ENTRIES bs entries → IsJournal bs entries
 IsJournal-from_within bs entries j =
-    let v = j.are_entries.version in (
+    let v = j.are_items.told in (
       v,
       parts_journal v bs entries (record {
         entries = entries;
-        collects = record { valid = facts_of v entries j.are_entries.valid; rising = j.are_entries.rising; same = Same-itself entries };
-        small = omega (arith, j.are_entries.few);
+        collects = record { valid = facts_of v entries j.are_items.valid; rising = j.are_items.in_order; same = Same-itself entries };
+        small = omega (arith, j.are_items.few);
         bytes_are = j.bytes_are;
-        valid = j.are_entries.valid;
+        valid = j.are_items.valid;
       }),
     )
 
@@ -83,13 +80,13 @@ Same-read_of_joined held joined others bs is journal members =
     (Same-from_journals bs is.0 joined (IsJournal-from_within bs is.0 is.1) journal) (Same-members joined others members))
 
 -- bytes are no journal and at fault too
-pub never_both : (bs : List ℕ) (entries es : List Fact) (f : ReadFault) → IsJournalWithin MAX_ENTRIES bs entries → Stops bs MAX_ENTRIES es f → ⊥
+pub never_both : (bs : List ℕ) (entries es : List Fact) (f : ReadFault) → IsJournalWithin MAX_ENTRIES bs entries → Stops journal_framing bs MAX_ENTRIES es f → ⊥
 never_both bs entries es f j stops =
-    let b = beyond j.are_entries.version MAX_ENTRIES entries es bs f j.are_entries.valid j.are_entries.rising (omega (arith, j.are_entries.few)) j.bytes_are stops in
-    omega (arith, b.1, j.are_entries.few)
+    let b = beyond j.are_items.told MAX_ENTRIES entries es bs f j.are_items.valid j.are_items.in_order (omega (arith, j.are_items.few)) j.bytes_are stops in
+    omega (arith, b.1, j.are_items.few)
 
 -- a journal stops its reader behind too many entries alone
-pub too_many : (bs : List ℕ) (F es : List Fact) (f : ReadFault) → IsJournal bs F → Stops bs MAX_ENTRIES es f → (f ≡ ReadFault.TooMany) × IsLonger F MAX_ENTRIES
+pub too_many : (bs : List ℕ) (F es : List Fact) (f : ReadFault) → IsJournal bs F → Stops journal_framing bs MAX_ENTRIES es f → (f ≡ ReadFault.TooMany) × IsLonger F MAX_ENTRIES
 too_many bs F es f (v, journal) stops =
     let j = journal_parts v bs F journal in
     let b = beyond v MAX_ENTRIES j.entries es bs f j.valid j.collects.rising j.small j.bytes_are stops in
@@ -101,10 +98,10 @@ IsLonger-same F G limit same h = record { entries = h.entries; rising = h.rising
 
 pub not_longer : (F entries : List Fact) (bs : List ℕ) → IsJournalWithin MAX_ENTRIES bs entries → Same F entries → IsLonger F MAX_ENTRIES → ⊥
 not_longer F entries bs j same h =
-    let e = rising_unique h.entries entries h.rising j.are_entries.rising (Same-trans h.entries F entries (Same-sym F h.entries h.same) same) in
+    let e = rising_unique h.entries entries h.rising j.are_items.in_order (Same-trans h.entries F entries (Same-sym F h.entries h.same) same) in
     let n : length h.entries ≡ length entries = ap length e in
-    omega (arith, h.many, n, j.are_entries.few)
+    omega (arith, h.many, n, j.are_items.few)
 
 -- the entries that a journal begins with tell nothing more than it
 pub begins_below : (bs : List ℕ) (F es : List Fact) → IsJournal bs F → BeginsWith MAX_ENTRIES bs es → Below es F
-begins_below bs F es (v, j) begins = without_end-below v begins.are_entries.version bs F es begins.rest j begins.are_entries.valid begins.whole
+begins_below bs F es (v, j) begins = without_end-below v begins.are_items.told bs F es begins.rest j begins.are_items.valid begins.whole

@@ -9,23 +9,22 @@ use Rattle.flute_parts.proofs.Public.{AppendsPart-second}
 use Rattle.flute_parts.specs.declared.fact.Fact.{Fact}
 use Rattle.flute_journal.specs.declared.fault.ReadFault.{ReadFault}
 use Rattle.flute_journal.specs.declared.fault.ReadFault.TheVariants as faults
-use Rattle.flute_journal.specs.declared.journal_reader.ReaderState.{ReaderState}
+use Rattle.flute_journal.specs.declared.reader_state.ReaderState.{ReaderState}
+use Rattle.flute_journal.specs.declared.entry_fields.Before.{Before}
 use Rattle.flute_journal.specs.Format.{spelling_in}
 use Rattle.flute_journal.specs.Input.{Fails, FailsIf}
-use Rattle.flute_journal.specs.Journal.{IsJournalWithin}
-use Rattle.flute_journal.specs.Reading.{is_open, GivesEntry, GivesEnd, GivesFault, Gives}
-use Rattle.flute_journal.specs.SoFar.{Sofar}
-use Rattle.flute_journal.proofs.Public.{AtEnd, open_behind, read_some, side-from, sofar-next}
-use Rattle.flute_journal.proofs.Public.{sofar-stops}
+use Rattle.flute_journal.specs.Journal.{IsJournalWithin, journal_framing}
+use Rattle.flute_journal.specs.Framing.{is_open, GivesItem, GivesEnd, GivesFault, Gives, Sofar}
+use Rattle.flute_journal.proofs.Public.{whole-at, open_behind, read_some, side-from, journal_sound, sofar-next, sofar-stops}
 use Rattle.flutejoin.specs.Lines.{fact_line, entries_line}
 use Rattle.flutejoin.specs.Show.{entry_lines, FailsToRead, ShowsAll, ShowsUntil, ShowsPart, of_entries, of_journal}
 use Rattle.flutejoin.specs.declared.command_fault.CommandFault.TheVariants.{Input}
 use Rattle.flutejoin.specs.declared.limits.TheConstants.{MAX_ENTRIES}
 
 -- these entries were read, and their lines written, and nothing else
-pub record Shown (first now : Option (List ℕ)) (state : ReaderState) (old new : Option (List ℕ)) (count : ℕ) : Type 0 where
+pub record Shown (first now : Option (List ℕ)) (state : ReaderState Before) (old new : Option (List ℕ)) (count : ℕ) : Type 0 where
   pub entries : List Fact
-  pub sofar : Sofar MAX_ENTRIES first now state entries
+  pub sofar : Sofar journal_framing MAX_ENTRIES first now state entries
   pub counted : count ≡ length entries
   pub written : Appends old new (entry_lines entries)
 
@@ -33,70 +32,63 @@ pub record Shown (first now : Option (List ℕ)) (state : ReaderState) (old new 
 line_more : (es : List Fact) (f : Fact) → entry_lines es ++ fact_line f ≡ entry_lines (es ++ f ∷ [])
 line_more es f = flat_map_more fact_line [] es f
 
-pub shown-next : (u v w : Option (List ℕ)) (from to : ReaderState) (s t t' : Option (List ℕ)) (count : ℕ) (f : Fact) → Shown u v from s t count
-    → GivesEntry MAX_ENTRIES from to v w f → Appends t t' (fact_line f) → Shown u w to s t' (count + 1)
+pub shown-next : (u v w : Option (List ℕ)) (from to : ReaderState Before) (s t t' : Option (List ℕ)) (count : ℕ) (f : Fact) → Shown u v from s t count
+    → GivesItem journal_framing MAX_ENTRIES from to v w f → Appends t t' (fact_line f) → Shown u w to s t' (count + 1)
 shown-next u v w from to s t t' count f h g line = record {
   entries = h.entries ++ f ∷ [];
-  sofar = sofar-next MAX_ENTRIES u v w from to h.entries f h.sofar g;
+  sofar = sofar-next journal_sound MAX_ENTRIES u v w from to h.entries f h.sofar g;
   counted = omega (arith, h.counted, length-append h.entries (f ∷ []));
   written = subst (λ (x : List ℕ). Appends s t' x) (line_more h.entries f) (Appends-trans s t t' (entry_lines h.entries) (fact_line f) h.written line);
 }
 
 -- a line was written in part
-pub shown-part : (u v w : Option (List ℕ)) (from to : ReaderState) (s t t' : Option (List ℕ)) (count : ℕ) (f : Fact) → Shown u v from s t count
-    → GivesEntry MAX_ENTRIES from to v w f → AppendsPart t t' (fact_line f) → ShowsPart u w s t'
+pub shown-part : (u v w : Option (List ℕ)) (from to : ReaderState Before) (s t t' : Option (List ℕ)) (count : ℕ) (f : Fact) → Shown u v from s t count
+    → GivesItem journal_framing MAX_ENTRIES from to v w f → AppendsPart t t' (fact_line f) → ShowsPart u w s t'
 shown-part u v w from to s t t' count f h g part =
-    let all = sofar-next MAX_ENTRIES u v w from to h.entries f h.sofar g in
-    of_entries (h.entries ++ f ∷ []) all.are_entries (subst (Consumes u w) (read_some all.are_entries.version h.entries f) all.read)
+    let all = sofar-next journal_sound MAX_ENTRIES u v w from to h.entries f h.sofar g in
+    of_entries (h.entries ++ f ∷ []) all.are_items (subst (Consumes u w) (read_some journal_framing all.are_items.told h.entries f) all.read)
     (subst (λ (x : List ℕ). AppendsPart s t' x) (line_more h.entries f) (AppendsPart-second s t t' (entry_lines h.entries) (fact_line f) h.written part))
 
 -- The fault behind the entries.
 
-pub shown-fault : (u v w : Option (List ℕ)) (from to : ReaderState) (s t : Option (List ℕ)) (count : ℕ) (f : ReadFault) → Shown u v from s t count
-    → GivesFault MAX_ENTRIES from to v w f → ShowsUntil u w s t f
+pub shown-fault : (u v w : Option (List ℕ)) (from to : ReaderState Before) (s t : Option (List ℕ)) (count : ℕ) (f : ReadFault) → Shown u v from s t count
+    → GivesFault journal_framing MAX_ENTRIES from to v w f → ShowsUntil u w s t f
 shown-fault u v w from to s t count f h g = record {
   entries = h.entries;
-  are_entries = h.sofar.are_entries;
+  are_items = h.sofar.are_items;
   stops = (sofar-stops MAX_ENTRIES u v w from to h.entries f h.sofar g).0;
   written = h.written;
 }
 
 -- The end behind the entries.
 
-journal_at : (u w : Option (List ℕ)) (es : List Fact) → AtEnd MAX_ENTRIES u w es → IfSome u (λ x. IsJournalWithin MAX_ENTRIES x es)
-journal_at None w es a = tt
-journal_at (Some x) None es a = absurd a.read
-journal_at (Some x) (Some y) es a =
-    let v = a.are_entries.version in
-    record { are_entries = a.are_entries; bytes_are = a.read ∙ ap (λ (z : List ℕ). spelling_in v es ++ z) a.at_end ∙ append-nil (spelling_in v es) }
+pub whole : (u v w : Option (List ℕ)) (from to : ReaderState Before) (es : List Fact) → Sofar journal_framing MAX_ENTRIES u v from es → GivesEnd journal_framing from to v w → IfSome u (λ x. IsJournalWithin MAX_ENTRIES x es)
+whole u v w from to es h g = whole-at journal_sound MAX_ENTRIES u w es (side-from journal_sound MAX_ENTRIES u v w from to es None h g)
 
-pub whole : (u v w : Option (List ℕ)) (from to : ReaderState) (es : List Fact) → Sofar MAX_ENTRIES u v from es → GivesEnd from to v w → IfSome u (λ x. IsJournalWithin MAX_ENTRIES x es)
-whole u v w from to es h g = journal_at u w es (side-from MAX_ENTRIES u v w from to es None h g)
-
-pub shown-all : (u v w : Option (List ℕ)) (from to : ReaderState) (s t t' : Option (List ℕ)) (count : ℕ) → Shown u v from s t count
-    → GivesEnd from to v w → Appends t t' (entries_line count) → ShowsAll u s t'
+pub shown-all : (u v w : Option (List ℕ)) (from to : ReaderState Before) (s t t' : Option (List ℕ)) (count : ℕ) → Shown u v from s t count
+    → GivesEnd journal_framing from to v w → Appends t t' (entries_line count) → ShowsAll u s t'
 shown-all u v w from to s t t' count h g line = record {
   entries = h.entries;
   journal = whole u v w from to h.entries h.sofar g;
   written = Appends-trans s t t' (entry_lines h.entries) (entries_line (length h.entries)) h.written (subst (λ n. Appends t t' (entries_line n)) h.counted line);
 }
 
-pub shown-cut : (u v w : Option (List ℕ)) (from to : ReaderState) (s t t' : Option (List ℕ)) (count : ℕ) → Shown u v from s t count
-    → GivesEnd from to v w → AppendsPart t t' (entries_line count) → ShowsPart u w s t'
+pub shown-cut : (u v w : Option (List ℕ)) (from to : ReaderState Before) (s t t' : Option (List ℕ)) (count : ℕ) → Shown u v from s t count
+    → GivesEnd journal_framing from to v w → AppendsPart t t' (entries_line count) → ShowsPart u w s t'
 shown-cut u v w from to s t t' count h g part =
     of_journal h.entries (whole u v w from to h.entries h.sofar g)
     (AppendsPart-second s t t' (entry_lines h.entries) (entries_line (length h.entries)) h.written (subst (λ n. AppendsPart t t' (entries_line n)) h.counted part))
 
 -- What a call of the reader gave, and a write did.
 
-pub entry_given : (limit : ℕ) (from to : ReaderState) (v w : Option (List ℕ)) (r : Result (Option Fact) ReadFault) (f : Fact) → Gives limit from to v w r → limit ≡ MAX_ENTRIES → r ≡ Ok (Some f) → GivesEntry MAX_ENTRIES from to v w f
-entry_given limit from to v w r f h l e = subst (λ n. Gives n from to v w (Ok (Some f))) l (subst (λ (x : Result (Option Fact) ReadFault). Gives limit from to v w x) e h)
+pub entry_given : (limit : ℕ) (from to : ReaderState Before) (v w : Option (List ℕ)) (r : Result (Option Fact) ReadFault) (f : Fact) → Gives journal_framing limit from to v w r → limit ≡ MAX_ENTRIES → r ≡ Ok (Some f) → GivesItem journal_framing MAX_ENTRIES from to v w f
+entry_given limit from to v w r f h l e = subst (λ n. Gives journal_framing n from to v w (Ok (Some f))) l (subst (λ (x : Result (Option Fact) ReadFault). Gives journal_framing limit from to v w x) e h)
 
-pub end_given : (limit : ℕ) (from to : ReaderState) (v w : Option (List ℕ)) (r : Result (Option Fact) ReadFault) → Gives limit from to v w r → r ≡ Ok None → GivesEnd from to v w
-end_given limit from to v w r h e = subst (λ (x : Result (Option Fact) ReadFault). Gives limit from to v w x) e h
+pub end_given : (limit : ℕ) (from to : ReaderState Before) (v w : Option (List ℕ)) (r : Result (Option Fact) ReadFault) → Gives journal_framing limit from to v w r → r ≡ Ok None → GivesEnd journal_framing from to v w
+end_given limit from to v w r h e = subst (λ (x : Result (Option Fact) ReadFault). Gives journal_framing limit from to v w x) e h
 
-pub fault_given : (limit : ℕ) (from to : ReaderState) (v w : Option (List ℕ)) (r : Result (Option Fact) ReadFault) (f : ReadFault) → Gives limit from to v w r → limit ≡ MAX_ENTRIES → r ≡ Err f → GivesFault MAX_ENTRIES from to v w f
-fault_given limit from to v w r f h l e = subst (λ n. Gives n from to v w (Err f)) l (subst (λ (x : Result (Option Fact) ReadFault). Gives limit from to v w x) e h)
+pub fault_given : (limit : ℕ) (from to : ReaderState Before) (v w : Option (List ℕ)) (r : Result (Option Fact) ReadFault) (f : ReadFault) → Gives journal_framing limit from to v w r → limit ≡ MAX_ENTRIES → r ≡ Err f → GivesFault journal_framing MAX_ENTRIES from to v w f
+fault_given limit from to v w r f h l e = subst (λ n. Gives journal_framing n from to v w (Err f)) l (subst (λ (x : Result (Option Fact) ReadFault). Gives journal_framing limit from to v w x) e h)
 
 pub no_read_failure : (r : Result (Option Fact) ReadFault) (o : Option Fact) (b : Bool) (n m k : ℕ) → r ≡ Ok o → FailsIf b m n r → m ≡ k → n ≡ k
 no_read_failure (Ok x) o true n m k e h i = omega (arith, h, i)
@@ -108,8 +100,8 @@ fails_same T X faults.Read n m h = h
 fails_same T X f n m h = h
 
 -- a fault that the reader met now
-pub read_failures : (T : Type 0) (u v : Option (List ℕ)) (state : ReaderState) (es : List Fact) (r : Result (Option Fact) ReadFault) (f : ReadFault) (number n m k : ℕ)
-    → Sofar MAX_ENTRIES u v state es → r ≡ Err f → FailsIf (is_open state) m n r → m ≡ k → FailsToRead {T = T} k n (Err (Input number f))
+pub read_failures : (T : Type 0) (u v : Option (List ℕ)) (state : ReaderState Before) (es : List Fact) (r : Result (Option Fact) ReadFault) (f : ReadFault) (number n m k : ℕ)
+    → Sofar journal_framing MAX_ENTRIES u v state es → r ≡ Err f → FailsIf (is_open state) m n r → m ≡ k → FailsToRead {T = T} k n (Err (Input number f))
 read_failures T u v state es r f number n m k h is fails e =
     let P : Bool → Type 0 = λ b. FailsIf b m n r in
     let now : Fails m n r = subst P (open_behind MAX_ENTRIES u v state es h) fails in

@@ -1,8 +1,8 @@
 -- What is written of a journal to which a fact is added.
 use Rattle.std.specs.Prelude.{◌≡◌, ℕ, ◌⊎◌, List, ◌++◌, Option, IfSome}
 use Rattle.flute_parts.specs.declared.fact.Fact.{Fact}
-use Rattle.flute_journal.specs.Journal.{IsJournalWithin}
-use Rattle.flute_journal.specs.Whole.{HasFault}
+use Rattle.flute_journal.specs.Journal.{IsJournalWithin, journal_framing}
+use Rattle.flute_journal.specs.Framing.{HasFault}
 use Rattle.flutejoin.specs.declared.command_fault.CommandFault.{CommandFault}
 use Rattle.flutejoin.specs.declared.command_fault.CommandFault.TheVariants.{Input, Full, CannotWrite}
 use Rattle.flutejoin.specs.declared.limits.TheConstants.{MAX_ENTRIES}
@@ -31,7 +31,8 @@ IsWithinWith bytes facts =
 -- why facts were not added: the fault of the journal; the limits of a store, over which it is alone
 -- or with them; or the sink, if neither is
 abbrev pub InfoFails : Option (List ℕ) → List Fact → CommandFault → Type 0
-InfoFails input facts (Input told fault) = (told ≡ 1) × HasFault MAX_ENTRIES input fault
+InfoFails input facts (Input told fault) =
+    (told ≡ 1) × HasFault journal_framing MAX_ENTRIES input fault
 InfoFails input facts Full = IfSome input (λ bytes. BeginsOverShelf bytes ⊎ IsOverWith bytes facts)
 InfoFails input facts CannotWrite = IfSome input (λ bytes. IsWithinWith bytes facts)
 InfoFails input facts _ = ⊥

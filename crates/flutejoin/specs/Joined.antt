@@ -4,12 +4,12 @@ use Rattle.std.specs.List.{flat_map, count_by, AllByRecursion}
 use Rattle.flute_parts.specs.Facts.{Same}
 use Rattle.flute_parts.specs.declared.fact.Fact.{Fact}
 use Rattle.flute_wire.specs.Reading.{facts}
-use Rattle.flute_journal.specs.Journal.{IsJournalWithin}
+use Rattle.flute_journal.specs.Journal.{IsJournalWithin, journal_framing}
 use Rattle.flute_journal.specs.Sessions.{listed_tsis, chosen}
 use Rattle.flute_journal.specs.declared.sessions.Sessions.{Sessions}
 use Rattle.flute_journal.specs.Stores.{BeginsWith}
-use Rattle.flute_journal.specs.Records.{IsFileWithin, HasFileFault}
-use Rattle.flute_journal.specs.Whole.{HasFault}
+use Rattle.flute_journal.specs.Records.{IsFileWithin, file_framing}
+use Rattle.flute_journal.specs.Framing.{HasFault}
 use Rattle.flute_journal.specs.declared.fault.ReadFault.{ReadFault}
 use Rattle.flute_journal.specs.declared.fault.ReadFault.TheVariants.{Read}
 use Rattle.flutejoin.specs.Shelves.{IsOverShelf}
@@ -110,11 +110,11 @@ TellOver choice inputs =
 -- a journal, or a datagram file, with this fault; memory may run out at any entry or record
 abbrev pub IsJournalAt : ReadFault → List ℕ → Type 0
 IsJournalAt fault bytes =
-    HasKind Journal bytes × HasFault MAX_ENTRIES (Some bytes) fault × (fault ≢ Read)
+    HasKind Journal bytes × HasFault journal_framing MAX_ENTRIES (Some bytes) fault × (fault ≢ Read)
 
 abbrev pub IsFileAt : ReadFault → List ℕ → Type 0
 IsFileAt fault bytes =
-    HasKind Datagrams bytes × HasFileFault MAX_ENTRIES (Some bytes) fault × (fault ≢ Read)
+    HasKind Datagrams bytes × HasFault file_framing MAX_ENTRIES (Some bytes) fault × (fault ≢ Read)
 
 -- why inputs were not joined: the first that is of no known kind, or a datagram file at fault; else
 -- the first that is a journal at fault, or over the limits alone; else all are over them together
@@ -166,6 +166,7 @@ pub record HoldsDatagrams (choice : Choice) (file : HeldFile)
 
 -- why a datagram file was not held
 abbrev pub FileFails : ℕ → Option (List ℕ) → CommandFault → Type 0
-FileFails number input (Input told fault) = (told ≡ number) × HasFileFault MAX_ENTRIES input fault
+FileFails number input (Input told fault) =
+    (told ≡ number) × HasFault file_framing MAX_ENTRIES input fault
 FileFails number input OutOfMemory = ⊤
 FileFails number input _ = ⊥

@@ -2,7 +2,8 @@
 use Rattle.std.specs.Prelude.{◌≡◌, ℕ, zero, suc, ◌⊎◌, List, Option, ⊤, Result, Err}
 use Rattle.flute_parts.specs.declared.fact.Fact.{Fact}
 use Rattle.flute_journal.specs.Input.{Fails}
-use Rattle.flute_journal.specs.Whole.{HasFault}
+use Rattle.flute_journal.specs.Framing.{HasFault}
+use Rattle.flute_journal.specs.Journal.{journal_framing}
 use Rattle.flutejoin.specs.declared.limits.TheConstants.{MAX_ENTRIES}
 use Rattle.flutejoin.specs.declared.command_fault.CommandFault.{CommandFault}
 use Rattle.flutejoin.specs.declared.command_fault.CommandFault.TheVariants.{Input, CannotWrite}
@@ -10,8 +11,8 @@ use Rattle.flutejoin.specs.declared.command_fault.CommandFault.TheVariants.{Inpu
 -- the input with this number has this fault
 abbrev pub MergeFails : Option (List ℕ) → Option (List ℕ) → CommandFault → Type 0
 MergeFails first second (Input number fault) =
-    ((number ≡ 1) × HasFault MAX_ENTRIES first fault)
-    ⊎ ((number ≡ 2) × HasFault MAX_ENTRIES second fault)
+    ((number ≡ 1) × HasFault journal_framing MAX_ENTRIES first fault)
+    ⊎ ((number ≡ 2) × HasFault journal_framing MAX_ENTRIES second fault)
 MergeFails first second CannotWrite = ⊤
 MergeFails first second _ = ⊥
 

@@ -6,7 +6,8 @@ use Rattle.flute_parts.specs.Facts.{Same, IsRising}
 use Rattle.flute_wire.specs.Reading.{facts}
 use Rattle.flute_store.specs.Held.{HasCell}
 use Rattle.flute_journal.specs.declared.fault.ReadFault.{ReadFault}
-use Rattle.flute_journal.specs.Journal.{Stops}
+use Rattle.flute_journal.specs.Framing.{Stops}
+use Rattle.flute_journal.specs.Journal.{journal_framing}
 use Rattle.flute_journal.specs.Stores.{BeginsOver}
 use Rattle.flutejoin.specs.declared.steps.Step.{Step}
 use Rattle.flutejoin.specs.declared.steps.Step.TheVariants.{Take, Load, Add, Merge, Reopen}
@@ -55,7 +56,8 @@ pub record IsDone (capacity : Capacity) (before : Held) (step : Step) (now : Hel
 -- or at a `Reopen`
 abbrev pub IsReadFault : Capacity → List (List Fact) → Step → ReadFault → Type 0
 IsReadFault capacity held (Load replica journal) fault =
-    (entries : List Fact) × Stops journal MAX_ENTRIES entries fault × ¬ IsOver entries capacity
+    (entries : List Fact) × Stops journal_framing journal MAX_ENTRIES entries fault
+    × ¬ IsOver entries capacity
 IsReadFault capacity held (Reopen replica) fault =
     (fault ≡ ReadFault.TooMany) × IsLonger (held_by held replica) MAX_ENTRIES
 IsReadFault capacity held (Take replica sender datagram) fault = ⊥

@@ -1,6 +1,7 @@
 //! Datagram files, read and written.
 ghost use Rattle.std.specs.Prelude.{◌≡◌, ℕ, IfOk, IfErr, IfSome};
-ghost use Rattle.flute_journal.specs.Records.{IsFileWithin, HasFileFault};
+ghost use Rattle.flute_journal.specs.Records.{IsFileWithin, file_framing};
+ghost use Rattle.flute_journal.specs.Framing.{HasFault};
 
 use super::*;
 use flute_parts::{Info, MemorySink, MemorySource, Source};
@@ -16,7 +17,7 @@ fn datagrams_of<R: Source>(
 ) -> Result<Vec<Datagram>, ReadFault>
     ensures read { IfOk result (λ v. IfSome (R.unread source.old)
         (λ bs. IsFileWithin max_records bs v.items)) }
-    ensures fault { IfErr result (HasFileFault max_records (R.unread source.old)) }
+    ensures fault { IfErr result (HasFault file_framing max_records (R.unread source.old)) }
 {
     let mut reader = DatagramReader::new(source, max_records);
     let mut datagrams = Vec::new(alloc);

@@ -1,4 +1,4 @@
-use Rattle.flute_journal.proofs.{Common.{◌≡◌, length, rules, Err, sym, ap, ◌∙◌, subst, err_from_is_err_and, ReadsRecord}, ReadsUpTo.{fault_here}, Records.{too_many_records, record_stops, no_record}}
+use Rattle.flute_journal.proofs.{Common.{◌≡◌, length, rules, Err, sym, ap, ◌∙◌, subst, err_from_is_err_and, ReadsNext, file_framing}, ReadsUpTo.{fault_here}, Records.{too_many_records, record_stops, no_record}}
 use Rattle.flute_journal.proofs.datagram_reader.read_fields.Goals as goal
 
 pub returns-then-is_empty-clause-reads : goal.returns-then-is_empty-clause-reads
@@ -14,6 +14,6 @@ returns-in_err-datagram-clause-reads g c =
     let front = c.read_up_to-read.result.bytes.now in
     let two : length front ≡ 2 = search rules in
     let e = err_from_is_err_and c.from_residual.result c.from_residual.ensures.1 in
-    subst (ReadsRecord c.args.max_records c.args.count (g.R.Source.unread c.args.source.now) (g.R.Source.unread c.read_datagram.new.source)) (sym (e.1 ∙ ap Err e.2))
+    subst (ReadsNext file_framing c.args.max_records c.args.count (g.R.Source.unread c.args.source.now) (g.R.Source.unread c.read_datagram.new.source)) (sym (e.1 ∙ ap Err e.2))
     (record_stops c.args.max_records c.args.count c.length_in.result (g.R.Source.unread c.args.source.now) (g.R.Source.unread c.read_up_to-read.new.source) _ front _
     c.if-count-max_records.false two c.length_in.ensures.value c.read_up_to-read.ensures.filled.read c.in_err-datagram.ensures.reads)

@@ -1,4 +1,4 @@
-use Rattle.flute_journal.proofs.{Common.{Err, Failed, Header, Two, refl}, Calls.{reads_header, reads_first, gives}}
+use Rattle.flute_journal.proofs.{Common.{Err, Failed, Header, Two, journal_framing, refl}, Framed.{reads_header, reads_first, gives}, Framings.{journal_sound}, Calls.{any_fault}}
 use Rattle.flute_journal.proofs.journal_reader.read_first.Goals as goal
 
 pub returns-in-Ok-clause-gives : goal.returns-in-Ok-clause-gives
@@ -6,10 +6,11 @@ returns-in-Ok-clause-gives g c =
     let limit = c.args.max_entries in
     let version = c.in-Ok.version in
     let read = c.read_entry-given.ensures in
-    gives limit version Header _ _ _ _ refl c.state_after.ensures (reads_first limit version _ _ _ _ c.in-Ok.ensures.reads.1 read.reads read.within)
+    gives journal_framing limit version Header _ _ _ _ refl c.state_after.ensures
+    (reads_first journal_sound limit version _ _ _ _ c.in-Ok.ensures.reads.1 read.reads read.within (any_fault c.read_entry-given.result))
 
 pub returns-in-Err-clause-gives : goal.returns-in-Err-clause-gives
 returns-in-Err-clause-gives g c =
     let f = c.in-Err.fault in
-    gives c.args.max_entries Two Header (Failed f) _ _ (Err f) refl refl
-    (reads_header c.args.max_entries _ _ f c.in-Err.ensures.reads c.in-Err.ensures.memory c.read_header.ensures.advances)
+    gives journal_framing c.args.max_entries Two Header (Failed f) _ _ (Err f) refl refl
+    (reads_header journal_sound c.args.max_entries Two _ _ f c.in-Err.ensures.reads c.in-Err.ensures.memory tt c.read_header.ensures.advances)

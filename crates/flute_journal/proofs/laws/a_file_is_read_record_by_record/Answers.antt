@@ -1,5 +1,14 @@
-use Rattle.flute_journal.proofs.Records.{file_sofar_fault}
+use Rattle.flute_journal.proofs.{Common.{None}, SoFar.{sofar-none, sofar-next, sofar-fault, side-from, whole-at}, Framings.{file_sound}}
 use Rattle.flute_journal.proofs.laws.a_file_is_read_record_by_record.Goals as goal
 
+pub returns-clause-begins : goal.returns-clause-begins
+returns-clause-begins c = sofar-none file_sound tt
+
+pub returns-clause-goes_on : goal.returns-clause-goes_on
+returns-clause-goes_on c = sofar-next file_sound
+
+pub returns-clause-ends : goal.returns-clause-ends
+returns-clause-ends c limit u v w old new ds s h = whole-at file_sound limit u w ds (side-from file_sound limit u v w old new ds None s h)
+
 pub returns-clause-stops : goal.returns-clause-stops
-returns-clause-stops c = file_sofar_fault
+returns-clause-stops c = sofar-fault file_sound

@@ -4,12 +4,12 @@ use Rattle.flute_journal.proofs.laws.a_journal_within_a_bound_is_one.Goals as go
 pub returns : goal.returns
 returns c bs limit F small h =
     let es = h.0 in
-    let a = h.1.are_entries in
-    let v = a.version in (
+    let a = h.1.are_items in
+    let v = a.told in (
       v,
       parts_journal v bs F (record {
         entries = es;
-        collects = record { valid = facts_of v es a.valid; rising = a.rising; same = h.2 };
+        collects = record { valid = facts_of v es a.valid; rising = a.in_order; same = h.2 };
         small = omega (arith, small, a.few);
         bytes_are = h.1.bytes_are;
         valid = a.valid;

@@ -1,5 +1,5 @@
-use Rattle.flute_journal.proofs.Files.{file_decided}
+use Rattle.flute_journal.proofs.{Decisions.{decided}, Framings.{file_sound}, Files.{record_found}}
 use Rattle.flute_journal.proofs.laws.bytes_are_a_file_or_stop.Goals as goal
 
 pub returns : goal.returns
-returns c = file_decided
+returns c = decided file_sound record_found

@@ -1,5 +1,5 @@
-use Rattle.flute_journal.proofs.Existence.{decided}
+use Rattle.flute_journal.proofs.{Decisions.{decided}, Framings.{journal_sound}, Existence.{next_found}}
 use Rattle.flute_journal.proofs.laws.bytes_are_a_journal_or_stop.Goals as goal
 
 pub returns : goal.returns
-returns c = decided
+returns c = decided journal_sound (λ limit before rest. next_found limit before.count before.version before.last rest)

@@ -1,9 +1,11 @@
 use Rattle.std.proofs.Common.{[], Err, refl, sym, ap, ◌∙◌, subst, arith}
 use Rattle.std.proofs.lemmas.Result.{err_from_is_err_and}
-use Rattle.flute_journal.specs.Reading.{is_open}
-use Rattle.flute_journal.specs.SoFar.{Sofar}
-use Rattle.flute_journal.specs.declared.journal_reader.ReaderState.{ReaderState}
-use Rattle.flute_journal.proofs.Public.{given-entry, loaded-read, sofar-none}
+use Rattle.flute_journal.specs.Framing.{is_open, Sofar}
+use Rattle.flute_journal.specs.Journal.{journal_framing}
+use Rattle.flute_journal.specs.declared.reader_state.ReaderState.{ReaderState}
+use Rattle.flute_journal.specs.declared.entry_fields.Before.{Before}
+use Rattle.flute_journal.specs.declared.format.version.Version.TheVariants.{Two}
+use Rattle.flute_journal.proofs.Public.{given-entry, loaded-read, sofar-none, journal_sound}
 use Rattle.flutejoin.specs.declared.limits.TheConstants.{MAX_ENTRIES}
 use Rattle.flutejoin.proofs.Extracted.{passing-next, passing-fault, passing-full, passing-end, given-fault, given-end}
 use Rattle.flutejoin.proofs.extract.read_into.Goals as goal
@@ -14,7 +16,7 @@ loop-fact-init g c =
     record {
       passing = record {
         entries = [];
-        sofar = subst (λ (state : ReaderState). Sofar MAX_ENTRIES u u state []) (sym c.requires.new) (sofar-none MAX_ENTRIES u);
+        sofar = subst (λ (state : ReaderState Before). Sofar journal_framing MAX_ENTRIES u u state []) (sym c.requires.new) (sofar-none journal_sound Two MAX_ENTRIES u);
         counts = c.new-tally.ensures;
         stands = c.requires.none (g.W.Sink.written c.args.sink.now);
       };

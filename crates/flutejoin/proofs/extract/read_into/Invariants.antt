@@ -1,7 +1,8 @@
 -- The entries so far passed.
 use Rattle.std.proofs.Common.{◌≡◌, ◌+◌, ◌-◌}
 use Rattle.flute_parts.specs.Devices.{times_failed}
-use Rattle.flute_journal.specs.Reading.{count_at}
+use Rattle.flute_journal.specs.Framing.{count_at}
+use Rattle.flute_journal.specs.Journal.{journal_framing}
 use Rattle.flutejoin.specs.ObjectWriters.{WritesNothing}
 use Rattle.flutejoin.specs.declared.limits.TheConstants.{MAX_ENTRIES}
 use Rattle.flutejoin.proofs.Extracted.{Passing}
@@ -19,4 +20,4 @@ invariant-loop-fact g l = record {
 }
 
 abbrev pub decreases-loop-fact : goal.decreases-loop-fact
-decreases-loop-fact g l = MAX_ENTRIES - count_at l.reader.state
+decreases-loop-fact g l = MAX_ENTRIES - count_at journal_framing l.reader.state

@@ -1,11 +1,12 @@
 -- The datagrams so far are those of the records that were read.
 use Rattle.std.proofs.Common.{◌≡◌, ◌-◌, length}
-use Rattle.flute_journal.specs.FilesSoFar.{FileSofar}
+use Rattle.flute_journal.specs.Framing.{Sofar}
+use Rattle.flute_journal.specs.Records.{file_framing}
 use Rattle.flute_journal_tests.proofs.tests.datagram_files.datagrams_of.Given as goal
 
 abbrev pub invariant-loop-datagrams : goal.invariant-loop-datagrams
 invariant-loop-datagrams g l =
-    FileSofar l.max_records (g.R.Source.unread l.fn.source) (g.R.Source.unread l.reader.source.now) l.reader.state l.datagrams.items
+    Sofar file_framing l.max_records (g.R.Source.unread l.fn.source) (g.R.Source.unread l.reader.source.now) l.reader.state l.datagrams.items
     × (l.reader.max_records ≡ l.max_records)
 
 abbrev pub decreases-loop-datagrams : goal.decreases-loop-datagrams
