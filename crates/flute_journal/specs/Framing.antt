@@ -8,27 +8,27 @@ use Rattle.flute_journal.specs.declared.reader_state.ReaderState.{ReaderState}
 use Rattle.flute_journal.specs.declared.reader_state.ReaderState.TheVariants.{Header, Items, Ended, Failed}
 use Rattle.flute_journal.specs.Input.{IsFaultUpTo, IsWithin}
 
--- Files of items V whose header tells T. The place behind whole items is P.
+-- Files of items V, whose header tells T. P is the place after whole items.
 pub record Framing (V P T : Type 0) : Type 1 where
   -- the six bytes of the header
   pub header : T → List ℕ
   -- the bytes of an item with its frame
   pub item : T → V → List ℕ
-  -- what stands behind so many items
+  -- what follows so many items
   pub end : ℕ → List ℕ
   -- an item that has such bytes
   pub IsItem : T → V → Type 0
   -- these may be the items of one file
   pub AreInOrder : List V → Type 0
-  -- the place behind these items
+  -- the place after these items
   pub place_behind : T → List V → P
-  -- the place behind one item more
+  -- the place after one item more
   pub next : P → V → P
   -- what the header of this place told
   pub told : P → T
   -- how many items are before it
   pub count : P → ℕ
-  -- whether the item may stand there
+  -- whether the item may be next there
   pub may_follow : P → V → Bool
   -- the first fault of the header of these bytes
   pub header_fault : List ℕ → Option ReadFault
@@ -69,7 +69,7 @@ module _ {V P T : Type 0} (framing : Framing V P T) where
     pub are_items : AreItems limit items
     pub bytes_are : bytes ≡ up_to_end are_items.told items ++ framing.end (length items)
 
-  -- whole items stand behind the header, and then bytes at fault
+  -- whole items follow the header, and then bytes at fault
   pub record StopsBehind (bytes : List ℕ) (limit : ℕ) (items : List V)
       (fault : ReadFault) : Type 0 where
     pub are_items : AreItems limit items
@@ -111,7 +111,7 @@ module _ {V P T : Type 0} (framing : Framing V P T) where
   count_at (Items place) = framing.count place
   count_at _ = 0
 
-  -- where the next item stands, if a header that is still to be read tells this
+  -- the place of the next item, if a header that is still to be read tells this
   abbrev pub place_at : T → ReaderState P → P
   place_at told (Items place) = place
   place_at told _ = framing.place_behind told []
@@ -120,12 +120,12 @@ module _ {V P T : Type 0} (framing : Framing V P T) where
   abbrev pub told_at : T → ReaderState P → T
   told_at told state = framing.told (place_at told state)
 
-  -- what stands before the next item
+  -- what is before the next item
   abbrev pub opening : T → ReaderState P → List ℕ
   opening told Header = framing.header told
   opening told _ = []
 
-  -- the next item, behind that
+  -- that, and the next item
   abbrev pub next_bytes : T → ReaderState P → V → List ℕ
   next_bytes told state x = opening told state ++ framing.item (told_at told state) x
 
@@ -159,8 +159,8 @@ module _ {V P T : Type 0} (framing : Framing V P T) where
     pub bytes : ((old ≡ Ended) × Keeps left after)
         ⊎ (IsTrue (is_open old) × Consumes left after (end_bytes told old) × IsAtEnd after)
 
--- What a failed call has read: no more bytes than stand before the next item, or all these
--- and nothing behind a whole item.
+-- What a failed call has read: no more bytes than are before the next item, or all these and
+-- nothing after a whole item.
 pub data IsPart {V P T : Type 0} (framing : Framing V P T) (told : T) (old : ReaderState P)
     (part : List ℕ) : Type 0 where
   in_opening : length part ≤ length (opening framing told old) → IsPart framing told old part
@@ -205,7 +205,7 @@ module _ {V P T : Type 0} (framing : Framing V P T) where
       Consumes left after (end_bytes framing told old) × IsAtEnd after
   ReadsFrom told limit old left after (Err f) = IsAtFault told limit old left after f
 
-  -- where a reader stands behind what it gave at a place
+  -- the state of a reader that gave this at a place
   abbrev pub state_after : P → Result (Option V) ReadFault → ReaderState P
   state_after place (Ok (Some x)) = Items (framing.next place x)
   state_after place (Ok None) = Ended
@@ -213,12 +213,12 @@ module _ {V P T : Type 0} (framing : Framing V P T) where
 
   -- What was read so far.
 
-  -- where a reader stands behind these items
+  -- the state of a reader that gave these items
   abbrev pub state_at : T → List V → ReaderState P
   state_at told [] = Header
   state_at told (x ∷ xs) = Items (framing.place_behind told (x ∷ xs))
 
-  -- what was read up to the next item, without what stands before it
+  -- what was read of the file then: nothing before the first item
   abbrev pub read_of : T → List V → List ℕ
   read_of told [] = []
   read_of told (x ∷ xs) = up_to_end framing told (x ∷ xs)

@@ -26,8 +26,8 @@ IsKeyIn version key = IsKey key × HasRoom version key.session
 abbrev pub IsFactIn : Version → Fact → Type 0
 IsFactIn version f = IsFact f × HasRoom version (fact_key f).session
 
--- the entries of a journal of these facts: one for each address, in rising order, with what
--- the facts come to there
+-- the entries of a journal of these facts: one for each address, in rising order, with the
+-- value of the facts there
 pub record Collects (facts entries : List Fact) : Type 0 where
   pub valid : AllByRecursion IsFact entries
   pub rising : IsRising entries
@@ -57,12 +57,12 @@ abbrev pub last_of : Option Address → List Fact → Option Address
 last_of last [] = last
 last_of last (f ∷ fs) = last_of (Some (address f)) fs
 
--- what stands behind these entries has them before it
+-- the place after these entries
 abbrev pub before : Version → List Fact → Before
 before version entries =
     record { version = version; count = length entries; last = last_of None entries }
 
--- the same behind one entry more
+-- the place after one entry more
 abbrev pub after : Before → Fact → Before
 after place f =
     record { version = place.version; count = place.count + 1; last = Some (address f) }

@@ -27,14 +27,14 @@ byte_of kinds.InfoConflict = 2
 byte_of kinds.Symbol = 3
 byte_of kinds.SymbolConflict = 4
 
--- how many bytes stand behind the key, up to those of a symbol
+-- how many bytes follow the key, up to those of a symbol
 abbrev pub rest_size : Kind → ℕ
 rest_size kinds.Info = 12
 rest_size kinds.InfoConflict = 0
 rest_size kinds.Symbol = 6
 rest_size kinds.SymbolConflict = 4
 
--- and how many behind the kind
+-- and how many follow the kind
 abbrev pub head_size : Version → Kind → ℕ
 head_size version k = key_size version + rest_size k
 
@@ -45,7 +45,7 @@ abbrev pub head_key : EntryHead → Key
 head_key (Whole f) = fact_key f
 head_key (Symbol key id n) = key
 
--- what stands behind the key
+-- what follows the key
 abbrev pub head_rest : EntryHead → List ℕ
 head_rest (Whole f) = rest_bytes f
 head_rest (Symbol key id n) = id_bytes id ++ in_bytes 2 n
@@ -77,7 +77,7 @@ abbrev pub HeadIs : Option Address → Kind → EntryHead → Type 0
 HeadIs last k (Whole f) = BodyIs last k f
 HeadIs last k (Symbol key id n) = SymbolIs last k key id n
 
--- what was read behind a key
+-- what was read after a key
 abbrev pub RestIs : Option Address → Kind → Key → List ℕ → EntryHead → Type 0
 RestIs last k key bytes x = HeadIs last k x × (head_key x ≡ key) × (head_rest x ≡ bytes)
 
@@ -124,7 +124,7 @@ abbrev pub Parses : {T : Type 0} → ℕ → (T → Type 0) → (List ℕ → Op
     → Result T ReadFault → Type 0
 Parses n IsIt fault bytes result = MatchResult result IsIt (StopsReading n fault bytes)
 
--- the number of entries was read and nothing stands behind it; or the bytes are at fault
+-- the number of entries was read and nothing follows it; or the bytes are at fault
 abbrev pub ReadsEnd : {T : Type 0} → ℕ → Option (List ℕ) → Option (List ℕ) → Result T ReadFault
     → Type 0
 ReadsEnd count old new (Ok x) = Consumes old new (in_bytes 8 count) × IsAtEnd new

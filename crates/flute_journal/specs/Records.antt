@@ -34,7 +34,7 @@ record_checks limit count bytes =
     ∷ cut (big_endian (take 2 bytes)) (drop 2 bytes)
     ∷ []
 
--- the fault of what stands behind so many records: of the next record, if a byte follows
+-- the fault of what follows so many records: of the next record, if a byte follows
 abbrev pub record_fault : ℕ → ℕ → List ℕ → Option ReadFault
 record_fault limit count [] = None
 record_fault limit count (byte ∷ bytes) = first_fault (record_checks limit count (byte ∷ bytes))

@@ -9,7 +9,7 @@ use Rattle.flute_journal.specs.Input.{IsWithin}
 use Rattle.flute_journal.specs.Journal.{IsFactIn, IsJournalWithin, journal_framing}
 use Rattle.flute_journal.specs.Framing.{AreItems, Stops}
 
--- of a journal these entries were read, at most so many, and of what follows no byte behind
+-- of a journal these entries were read, at most so many, and of what follows no byte after
 -- one more; or no more bytes than the header has
 pub data ReadsPart (limit : ℕ) (old new : Option (List ℕ)) (entries : List Fact) : Type 0 where
   in_header : entries ≡ [] → (part : List ℕ) → Consumes old new part → length part ≤ length header
@@ -18,9 +18,9 @@ pub data ReadsPart (limit : ℕ) (old new : Option (List ℕ)) (entries : List F
       → Consumes old new (without_end_in a.told entries ++ more)
       → IsWithin (entry_in a.told) (IsFactIn a.told) more → ReadsPart limit old new entries
 
--- Reading stopped behind these entries: they are those before the fault of the bytes. Where the
--- source failed, the bytes that were read are cut behind them, or are the whole journal of them;
--- where memory ran out, they were read.
+-- Reading stopped after these entries: they are those before the fault of the bytes. If the source
+-- failed, the bytes that were read are cut after them, or are the whole journal of them; if memory
+-- ran out, they were read.
 abbrev pub StopsAfter : ℕ → List Fact → Option (List ℕ) → Option (List ℕ) → ReadFault → Type 0
 StopsAfter limit entries old new faults.Read =
     (part : List ℕ) × Consumes old new part

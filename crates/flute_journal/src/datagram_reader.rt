@@ -53,20 +53,20 @@ impl<'a, R: Source> DatagramReader<'a, R> {
     /// The next datagram, of 0 to 65,535 bytes, whatever they say. None once the input ends between
     /// two records, and from then on.
     ///
-    /// A record behind the first that lies whole in the source's buffer is looked at there; any
+    /// A record after the first that lies whole in the source's buffer is looked at there; any
     /// other is read field by field. The bytes of the datagram are the only memory that is taken.
     ///
     /// # Errors
     ///
     /// - `Magic` and `Version` of the header;
-    /// - `TooMany` where a byte follows `max_records` records;
-    /// - `Cut` where the input ends within the header or a record;
-    /// - `Read` where the source fails in this call, and `OutOfMemory` where there is no
-    ///   memory for a datagram.
+    /// - `TooMany` if a byte follows `max_records` records;
+    /// - `Cut` if the input ends within the header or a record;
+    /// - `Read` if the source fails in this call, and `OutOfMemory` if there is no memory for a
+    ///   datagram.
     ///
-    /// What came whole before the source failed is looked at first: `Read` stands where the fault
-    /// would be `Cut` if the input ended there, or where it would end between two records. Nothing
-    /// behind the header and one record was read.
+    /// What came whole before the source failed is looked at first: `Read` is told if the fault
+    /// would be `Cut` with the input ended there, or if it would end between two records. Nothing
+    /// after the header and one record was read.
     ///
     /// Each later call answers the same fault, and reads nothing.
     pub fn next(&mut self, alloc: Global) -> Result<Option<Datagram>, ReadFault>
@@ -151,7 +151,7 @@ fn read_header<R: Source>(source: &mut R) -> Result<(), ReadFault>
     read.or_failed(check_opening(&FILE_HEADER, read.bytes))
 }
 
-// Reads the next record behind so many, if a byte follows. A file may have `max_records`. The bytes
+// Reads the next record after so many, if a byte follows. A file may have `max_records`. The bytes
 // of a datagram that is looked at in the source's buffer are put into the memory of `spare`.
 #[inline(always)]
 fn read_record<R: Source>(
@@ -226,7 +226,7 @@ fn read_datagram<R: Source>(
     Ok(datagram)
 }
 
-// Where a reader stands behind what it gave, if so many records stood before.
+// The state of a reader that gave this after so many records.
 fn state_after(count: u64, given: &Result<Option<Datagram>, ReadFault>) -> ReaderState<u64>
     requires { IfOk given.now (λ o. IfSome o (λ _. count + 1 < 2 ^ 64)) }
     ensures { result ≡ state_after file_framing count given.now }

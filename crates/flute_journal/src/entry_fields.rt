@@ -18,7 +18,7 @@ use crate::input::{read_exact, read_up_to};
 use flute_parts::{Address, Bytes, Fact, Source};
 use std::alloc::Global;
 
-/// What stands before the next entry of a journal.
+/// What is before the next entry of a journal.
 #[derive(Clone, Copy, Debug)]
 pub struct Before {
     /// The version of the journal.

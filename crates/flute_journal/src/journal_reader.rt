@@ -39,30 +39,30 @@ impl<'a, R: Source> JournalReader<'a, R> {
 
     /// The next entry. None once the end was read and nothing follows it, and from then on.
     ///
-    /// The entry of a symbol, behind the first entry, is looked at in the source's buffer where it
-    /// lies whole there; any other is read field by field. No byte past it is taken. The bytes of a
+    /// The entry of a symbol, after the first entry, is looked at in the source's buffer if it lies
+    /// whole there; any other is read field by field. No byte past it is taken. The bytes of a
     /// symbol are the only memory that is asked for.
     ///
     /// # Errors
     ///
-    /// The first fault of what stands there, in the order of the fields:
+    /// The first fault of the bytes, in the order of the fields:
     ///
     /// - `Magic` and `Version` of the header;
-    /// - `Kind` of the first byte of an entry, and `TooMany` where that is a kind and `max_entries`
+    /// - `Kind` of the first byte of an entry, and `TooMany` if that is a kind and `max_entries`
     ///   entries were given;
-    /// - `Key` where the tag or the number of the object is out of range;
-    /// - `Order` where the address is not above that of the entry before;
-    /// - `Information` where transmission information is not valid, `EmptySymbol` where a
-    ///   symbol has no byte;
-    /// - `Count` where the number at the end is not that of the entries given, `Trailing` where
-    ///   a byte follows it;
-    /// - `Cut` where the input ends within a field;
-    /// - `Read` where the source fails in this call, and `OutOfMemory` where there is no
-    ///   memory for a symbol.
+    /// - `Key` if the tag or the number of the object is out of range;
+    /// - `Order` if the address is not above that of the entry before;
+    /// - `Information` if transmission information is not valid, `EmptySymbol` if a symbol has no
+    ///   byte;
+    /// - `Count` if the number at the end is not that of the entries given, `Trailing` if a byte
+    ///   follows it;
+    /// - `Cut` if the input ends within a field;
+    /// - `Read` if the source fails in this call, and `OutOfMemory` if there is no memory for a
+    ///   symbol.
     ///
-    /// The fields that came whole before the source failed are looked at first: `Read` stands
-    /// where the fault would be `Cut` if the input ended there, or where the end was read and the
-    /// source fails behind it.
+    /// The fields that came whole before the source failed are looked at first: `Read` is told
+    /// if the fault would be `Cut` with the input ended there, or if the source fails after the
+    /// end was read.
     ///
     /// Each later call answers the same fault, and reads nothing.
     pub fn next(&mut self, alloc: Global) -> Result<Option<Fact>, ReadFault>
@@ -95,7 +95,7 @@ impl<'a, R: Source> JournalReader<'a, R> {
     }
 }
 
-// The next entry of a journal whose reader stands there, and where it stands behind it.
+// The next entry of a journal whose reader has this state, and its state afterwards.
 #[tactic(auto, using(crate::proofs::Calls::gives_entries, crate::proofs::Calls::reads_entries))]
 #[inline(always)]
 pub(crate) fn read_at<R: Source>(
@@ -129,7 +129,7 @@ pub(crate) fn read_at<R: Source>(
     read_fields(alloc, source, max_entries, state)
 }
 
-// The same, but what stands there is read field by field.
+// The same, but the bytes are read field by field.
 #[tactic(auto, using(crate::proofs::Calls::gives_entries, crate::proofs::Calls::reads_entries))]
 #[inline(never)]
 fn read_fields<R: Source>(
@@ -156,8 +156,8 @@ fn read_fields<R: Source>(
     }
 }
 
-// Reads the header, and then the first entry or the end, and puts into `state` where the reader
-// stands then.
+// Reads the header, and then the first entry or the end, and puts the state of the reader
+// afterwards into `state`.
 #[inline(never)]
 fn read_first<R: Source>(
     alloc: Global,
@@ -187,7 +187,7 @@ fn read_first<R: Source>(
     }
 }
 
-// Where a reader stands behind what it gave, and what stood before that.
+// The state of a reader that gave this after `before`.
 fn state_after(before: &Before, given: &Result<Option<Fact>, ReadFault>) -> ReaderState<Before>
     requires { IfOk given.now (λ o. IfSome o (λ _. before.now.count + 1 < 2 ^ 64)) }
     ensures { result ≡ state_after journal_framing before.now given.now }

@@ -1,16 +1,16 @@
-//! Where a reader of a framed file stands.
+//! The state of a reader of a framed file.
 
 use crate::fault::ReadFault;
 
-/// Where a reader stands in a file of a header and items. Behind whole items it keeps a place.
+/// What a reader of a header and items reads next. After whole items it keeps their place.
 #[derive(Clone, Copy, Debug)]
 pub enum ReaderState<P> {
-    /// Before the header.
+    /// The header.
     Header,
-    /// Behind whole items.
+    /// What follows whole items.
     Items(P),
-    /// Behind the end.
+    /// Nothing, since the end was read.
     Ended,
-    /// At a fault, for good.
+    /// Nothing, since a fault was met.
     Failed(ReadFault),
 }

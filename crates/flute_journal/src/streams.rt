@@ -15,7 +15,7 @@ pub trait Streams {
 
     ghost streams: { Self → List Self.Stream };
 
-    // The references that they are behind.
+    // The references by which they are lent.
     ghost names: { Self → List GName };
 
     /// How many there are.
