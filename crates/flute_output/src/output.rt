@@ -169,6 +169,12 @@ pub fn write_file<F: Folder + Drop>(folder: F, bytes: &[u8]) -> (Result<(), Outp
     ensures any_moment { result.0 ≢ Err OutputFault.Create
         → Leads (λ old new. IsEitherAlways (whole (created old) bytes.now) new)
         (F.entries folder) (F.entries result.1) }
+    // The file beside OUT is left only if removing it failed too.
+    ensures gone_ok { OnOk result.0 (Leads (λ old new. new.beside ≡ None)
+        (F.entries folder) (F.entries result.1)) }
+    ensures gone { result.0 ≡ Err OutputFault.Write
+        → F.failures result.1 ≡ F.failures folder + 1
+        → Leads (λ old new. new.beside ≡ None) (F.entries folder) (F.entries result.1) }
     ensures cause { OnErr result.0 (F.failures folder < F.failures result.1) }
     ensures quiet { OnOk result.0 (F.failures result.1 ≡ F.failures folder) }
 {

@@ -25,9 +25,9 @@ use Rattle.flute_journal.specs.declared.journal_stream.JournalStream.{JournalStr
 use Rattle.flute_journal.specs.declared.all_streams.MergedJournal.{MergedJournal}
 use Rattle.flute_journal.specs.declared.streams_fault.InputFault.{InputFault}
 use Rattle.flute_journal.specs.declared.within.Within.{Within}
-use Rattle.flutejoin.specs.declared.command_fault.CommandFault.TheVariants.{Full}
+use Rattle.flutejoin.specs.declared.command_fault.CommandFault.TheVariants.{Full, CannotWrite}
 use Rattle.flutejoin.specs.declared.limits.TheConstants.{MAX_ENTRIES}
-use Rattle.flutejoin.specs.Info.{AddsFacts, IsOverWith, InfoFails}
+use Rattle.flutejoin.specs.Info.{AddsFacts, IsOverWith, IsWithinWith, InfoFails}
 use Rattle.flutejoin.specs.Outputs.{WritesJournal}
 use Rattle.flutejoin.specs.Shelves.{IsOverShelf, BeginsOverShelf}
 use Rattle.flutejoin.specs.Status.{of_load}
@@ -96,6 +96,15 @@ module _ {R : Type 0} (unread : R → Option (List ℕ)) (failures : R → ℕ) 
         let L : Bool → Type 0 = λ c. IsWithinLimits 64 4096 1048576 (all_of m.told) c in
         let over : IsOverShelf (t.entries ++ option_list f.next) = subst (λ (l : List Fact). IsOverShelf l) t.all (subst L out m.limits) in
         if_some bytes_of P Q (λ bytes is. inr (t.entries, is, over)) t.tells
+
+    pub within_with : (joined : MergedJournal) (w w' : Option (List ℕ)) → limit_of j.stream.reader ≡ MAX_ENTRIES → joined.within ≡ true → MergedAll both inputs 64 4096 1048576 joined w w'
+        → InfoFails bytes_of (option_list f.next) CannotWrite
+    within_with joined w w' limit within m =
+        let t = two m.told limit m.tell in
+        let P : List ℕ → Type 0 = λ bytes. IsJournalWithin MAX_ENTRIES bytes t.entries in
+        let L : Bool → Type 0 = λ c. IsWithinLimits 64 4096 1048576 (all_of m.told) c in
+        let fits : ¬ IsOverShelf (t.entries ++ option_list f.next) = subst (λ (l : List Fact). ¬ IsOverShelf l) t.all (subst L within m.limits) in
+        if_some bytes_of P (λ bytes. IsWithinWith bytes (option_list f.next)) (λ bytes is. (t.entries, is, fits)) t.tells
 
     -- The fault is that of the journal.
 

@@ -1,6 +1,6 @@
 -- How a join of inputs ends.
 use Rattle.std.proofs.Common.{◌≡◌, ℕ, zero, suc, ◌+◌, ◌^◌, ◌≤◌, ◌<◌, Bool, true, false, if◌then◌else◌, List, [], ◌∷◌, ◌++◌, length, take, Option, Some, None, Result, Ok, Err, inl, inr, refl, sym, ap, ◌∙◌, subst, arith}
-use Rattle.std.specs.Prelude.{slice_get, ◌⊎◌, ⊤, IfSome, is_ok}
+use Rattle.std.specs.Prelude.{slice_get, ◌⊎◌, IfSome, is_ok}
 use Rattle.std.specs.Result.{is_err}
 use Rattle.std.specs.List.{flat_map, AllByRecursion}
 use Rattle.std.specs.Io.KnownBytes.{Appends}
@@ -42,7 +42,7 @@ use Rattle.flutejoin.specs.declared.command_fault.CommandFault.TheVariants.{Inpu
 use Rattle.flutejoin.specs.declared.held_file.HeldFile.{HeldFile}
 use Rattle.flutejoin.specs.JoinInputs.{JoinInput, failures_of, NoneFailed, OneFailed}
 use Rattle.flutejoin.specs.Joined.{Choice, content_facts, TellsWithin, FirstInput, HasKnownKind, IsOverAlone, IsJournalAt, IsFileAt, JoinFails, HoldsAll, FileFails}
-use Rattle.flutejoin.specs.Joining.{JoinsTo, AllTell, JoinToFails, of_inputs, of_device, of_sink, NamesOneOf, InspectionFails, of_kind, of_file, SomeInspectionFails, IsInspected, AreReady, AreInspected, IsReady, JoinsInspected, IsHeldStream, IsStreamOf, SumsUp}
+use Rattle.flutejoin.specs.Joining.{JoinsTo, AllTell, JoinToFails, of_inputs, of_source, of_sink, NamesOneOf, InspectionFails, of_kind, of_file, SomeInspectionFails, IsInspected, AreReady, AreInspected, IsReady, JoinsInspected, IsHeldStream, IsStreamOf, SumsUp}
 use Rattle.flutejoin.specs.Shelves.{IsOverShelf}
 use Rattle.flutejoin.specs.Status.{of_load}
 use Rattle.flutejoin.proofs.Firsts.{at_place, first_at, first_with}
@@ -121,7 +121,7 @@ module _ (choice : Choice) {R : Type 0} (unread : R → Option (List ℕ)) (fail
   told_before (x ∷ xs) (Some f ∷ fs) [] contents (suc n) h l t = elim h [ ]
   told_before (x ∷ xs) (Some f ∷ fs) (Some s ∷ os) [] (suc n) h l t = elim l [ ]
 
-  module _ (contents : List (List ℕ)) (n : ℕ) (bytes : List ℕ) (here : slice_get contents n ≡ Some bytes) (known : AllByRecursion HasKnownKind contents) (all : AllByRecursion HasKnownKind (take n contents))
+  module _ (contents : List (List ℕ)) (n : ℕ) (bytes : List ℕ) (here : slice_get contents n ≡ Some bytes) (known : AllByRecursion HasKnownKind contents)
       (before : AllByRecursion (TellsWithin choice) (take n contents)) where
     over_alone : (IsOverAlone choice) bytes → JoinToFails choice contents Full
     over_alone h = of_inputs (known, inl (n + 1, first_at (TellsWithin choice) (IsOverAlone choice) contents n bytes here before h))
@@ -131,7 +131,7 @@ module _ (choice : Choice) {R : Type 0} (unread : R → Option (List ℕ)) (fail
         let P : Option (List ℕ) → Type 0 = λ o. HasFault x.stream.stream.max_entries o f in
         let Q : ℕ → Type 0 = λ m. HasFault m (Some bytes) f in
         elim (read_or_not f) [
-          | inl is ↦ of_device (n + 1) (ap (Input (n + 1)) is) (first_at HasKnownKind (λ bs. ⊤) contents n bytes here all tt)
+          | inl is ↦ of_source (n + 1) (ap (Input (n + 1)) is) (inr (known, first_at (TellsWithin choice) (HasKind kinds.Journal) contents n bytes here before inspected.0))
           | inr other ↦ of_inputs (inr (known, first_at (TellsWithin choice) (IsJournalAt f) contents n bytes here before (inspected.0, subst Q (ready refl).2 (subst P inspected.1 h), other)))
         ]
     journal_stops x load.Full ready inspected (inl h) = absurd h
@@ -170,13 +170,8 @@ module _ (choice : Choice) {R : Type 0} (unread : R → Option (List ℕ)) (fail
       let known = all_known choice unread failures b xs fs contents l in
       let within = slice_get_within xs n p.input p.own in
       let here = at_place contents n (omega (arith, within, inspected.as_many)) in
-      one_stops contents n here.0 here.1 known (taken_known n contents known) (told_before xs fs os contents n h l fault.before) p.input p.file p.other fault.stopped.new first.fault p.ready p.stream
+      one_stops contents n here.0 here.1 known (told_before xs fs os contents n h l fault.before) p.input p.file p.other fault.stopped.new first.fault p.ready p.stream
       (inspected.each n p.input p.file here.0 p.own p.held here.1) p.is fault.stopped.stop.stops
-    where
-      taken_known : (n : ℕ) (cs : List (List ℕ)) → AllByRecursion HasKnownKind cs → AllByRecursion HasKnownKind (take n cs)
-      taken_known zero cs all = tt
-      taken_known (suc n) [] all = tt
-      taken_known (suc n) (c ∷ cs) all = (all.0, taken_known n cs all.1)
 
   pub first_within : (xs : List (JoinInput R)) (fs : List (Option HeldFile)) (os : List (Option (OrFull S))) (now : List (Either (JoinInput R) (Beside (JoinInput R) (OrFull S)))) (first : InputFault) → Stands choice unread failures b xs fs os
       → FirstFault (joins choice unread failures b) (replaced xs os) now first → first.number < length xs
@@ -323,7 +318,7 @@ file_not_held : {choice : Choice} (P : List ℕ → Type 0) (inputs : List (List
     → JoinToFails choice inputs fault
 file_not_held {choice} P inputs number first (Input told f) kind h =
     elim (read_or_not f) [
-      | inl is ↦ of_device number (ap (λ m. Input m f) h.0 ∙ ap (Input number) is) (first_with HasKnownKind P (λ bytes. ⊤) number inputs first tt)
+      | inl is ↦ of_source number (ap (λ m. Input m f) h.0 ∙ ap (Input number) is) (inl (first_with HasKnownKind P (HasKind kinds.Datagrams) number inputs first kind))
       | inr other ↦
           let Q : CommandFault → Type 0 = λ g. JoinFails choice inputs g in
           of_inputs (subst Q (sym (ap (λ m. Input m f) h.0)) (inl (first_with HasKnownKind P (IsFileAt f) number inputs first (kind, h.1, other))))

@@ -12,13 +12,13 @@ use Rattle.flutejoin.specs.declared.command_fault.CommandFault.{CommandFault}
 use Rattle.flutejoin.specs.declared.command_fault.CommandFault.TheVariants.{Input, UnknownKind, Full, OutOfMemory}
 use Rattle.flutejoin.specs.declared.join_counts.JoinCounts.{JoinCounts}
 use Rattle.flutejoin.specs.Joined.{Choice, Joins, JoinFails, content_facts}
-use Rattle.flutejoin.specs.Joining.{JoinsTo, JoinToFails, of_inputs, of_device, of_sink}
+use Rattle.flutejoin.specs.Joining.{JoinsTo, JoinToFails, of_inputs, of_source, of_sink}
 use Rattle.flutejoin.specs.Memory.{in_memory}
 
 -- the choice of all datagrams
 module _ {choice : Choice} where
   pub memory_fails : (inputs : List (List ℕ)) (fault : CommandFault) → JoinToFails choice inputs fault → JoinFails choice inputs (in_memory fault)
-  memory_fails inputs fault (of_device number is first) = let P : CommandFault → Type 0 = λ f. JoinFails choice inputs (in_memory f) in subst P (sym is) tt
+  memory_fails inputs fault (of_source number is first) = let P : CommandFault → Type 0 = λ f. JoinFails choice inputs (in_memory f) in subst P (sym is) tt
   memory_fails inputs fault (of_sink is all) = let P : CommandFault → Type 0 = λ f. JoinFails choice inputs (in_memory f) in subst P (sym is) tt
   memory_fails inputs (UnknownKind number) (of_inputs h) = h
   memory_fails inputs (Input number f) (of_inputs h) = read f h

@@ -1,5 +1,5 @@
 -- What is written of a journal to which a fact is added.
-use Rattle.std.specs.Prelude.{◌≡◌, ℕ, ◌⊎◌, List, ◌++◌, Option, IfSome, ⊤}
+use Rattle.std.specs.Prelude.{◌≡◌, ℕ, ◌⊎◌, List, ◌++◌, Option, IfSome}
 use Rattle.flute_parts.specs.declared.fact.Fact.{Fact}
 use Rattle.flute_journal.specs.Journal.{IsJournalWithin}
 use Rattle.flute_journal.specs.Whole.{HasFault}
@@ -22,10 +22,16 @@ IsOverWith bytes facts =
     (entries : List Fact) × IsJournalWithin MAX_ENTRIES bytes entries
     × IsOverShelf (entries ++ facts)
 
+-- it is a journal that is within them
+abbrev pub IsWithinWith : List ℕ → List Fact → Type 0
+IsWithinWith bytes facts =
+    (entries : List Fact) × IsJournalWithin MAX_ENTRIES bytes entries
+    × ¬ IsOverShelf (entries ++ facts)
+
 -- why facts were not added: the fault of the journal; the limits of a store, over which it is alone
--- or with them; or the sink
+-- or with them; or the sink, if neither is
 abbrev pub InfoFails : Option (List ℕ) → List Fact → CommandFault → Type 0
 InfoFails input facts (Input told fault) = (told ≡ 1) × HasFault MAX_ENTRIES input fault
 InfoFails input facts Full = IfSome input (λ bytes. BeginsOverShelf bytes ⊎ IsOverWith bytes facts)
-InfoFails input facts CannotWrite = ⊤
+InfoFails input facts CannotWrite = IfSome input (λ bytes. IsWithinWith bytes facts)
 InfoFails input facts _ = ⊥

@@ -57,13 +57,21 @@ pub record AllTell (choice : Choice) (inputs : List (List ℕ)) : Type 0 where
   pub alone : AllByRecursion (TellsWithin choice) inputs
   pub together : ¬ IsOverShelf (flat_map (content_facts choice) told)
 
+-- the source failed of the input with this number: of a datagram file, if all inputs before it are
+-- known; of a journal, if all inputs are, and those before it tell facts within the limits
+abbrev pub ReadFailsAt : Choice → List (List ℕ) → ℕ → Type 0
+ReadFailsAt choice inputs number =
+    FirstInput HasKnownKind (HasKind kinds.Datagrams) number inputs
+    ⊎ (AllByRecursion HasKnownKind inputs
+    × FirstInput (TellsWithin choice) (HasKind kinds.Journal) number inputs)
+
 -- why inputs were not joined: as those in memory; or a device failed, the sink only if all
 -- the inputs could be joined
 pub data JoinToFails (choice : Choice) (inputs : List (List ℕ))
     (fault : CommandFault) : Type 0 where
   of_inputs : JoinFails choice inputs fault → JoinToFails choice inputs fault
-  of_device : (number : ℕ) → fault ≡ Input number Read
-      → FirstInput HasKnownKind (λ bytes. ⊤) number inputs → JoinToFails choice inputs fault
+  of_source : (number : ℕ) → fault ≡ Input number Read → ReadFailsAt choice inputs number
+      → JoinToFails choice inputs fault
   of_sink : fault ≡ CannotWrite → AllTell choice inputs → JoinToFails choice inputs fault
 
 -- What the parts of a join answer.
