@@ -2,7 +2,6 @@
 use Rattle.std.proofs.Common.{◌≡◌, ℕ, ◌+◌, Bool, true, false, List, [], ◌∷◌, ◌++◌, length, Option, Some, None, Result, Ok, Err, inl, inr, refl, sym, ◌∙◌, subst, append-nil, arith}
 use Rattle.std.specs.Prelude.{◌⊎◌, IfSome, IfErr}
 use Rattle.std.specs.Io.KnownBytes.{Appends}
-use Rattle.std.proofs.KnownBytes.{Consumes-whole}
 use Rattle.std.proofs.lemmas.Option.{none-some}
 use Rattle.flute_parts.specs.Addresses.{info_address}
 use Rattle.flute_parts.specs.Devices.{AppendsPart, times_failed}
@@ -14,8 +13,7 @@ use Rattle.flute_parts.specs.declared.tally.Tally.{Tally}
 use Rattle.flute_parts.proofs.Public.{fact_at-nil, Same-itself}
 use Rattle.flute_parts.specs.Limits.{Over}
 use Rattle.flute_store.proofs.Public.{gaps-same, object-same, Whole-same}
-use Rattle.flute_journal.specs.Format.{spelling_in}
-use Rattle.flute_journal.specs.Journal.{IsJournalWithin, journal_framing}
+use Rattle.flute_journal.specs.Journal.{journal_framing}
 use Rattle.flute_journal.specs.Framing.{Gives, GivesItem, GivesEnd, GivesFault, Sofar}
 use Rattle.flute_journal.specs.Stores.{BeginsWith, FailsToLoad}
 use Rattle.flute_journal.specs.declared.fault.LoadFault.{LoadFault}

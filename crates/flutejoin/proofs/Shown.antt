@@ -1,9 +1,9 @@
 -- A journal whose entries are printed as they are read.
-use Rattle.std.proofs.Common.{◌≡◌, ℕ, ◌+◌, Bool, true, false, List, [], ◌∷◌, ◌++◌, length, Option, Some, None, Result, Ok, Err, ap, ◌∙◌, subst, arith}
+use Rattle.std.proofs.Common.{◌≡◌, ℕ, ◌+◌, Bool, true, false, List, [], ◌∷◌, ◌++◌, length, Option, Some, None, Result, Ok, Err, subst, arith}
 use Rattle.std.specs.Prelude.{IfSome}
 use Rattle.std.specs.Io.KnownBytes.{Appends, Consumes}
 use Rattle.std.proofs.KnownBytes.{Appends-trans}
-use Rattle.std.proofs.lemmas.List.{length-append, append-nil, flat_map_more}
+use Rattle.std.proofs.lemmas.List.{length-append, flat_map_more}
 use Rattle.flute_parts.specs.Devices.{AppendsPart}
 use Rattle.flute_parts.proofs.Public.{AppendsPart-second}
 use Rattle.flute_parts.specs.declared.fact.Fact.{Fact}
@@ -11,7 +11,6 @@ use Rattle.flute_journal.specs.declared.fault.ReadFault.{ReadFault}
 use Rattle.flute_journal.specs.declared.fault.ReadFault.TheVariants as faults
 use Rattle.flute_journal.specs.declared.reader_state.ReaderState.{ReaderState}
 use Rattle.flute_journal.specs.declared.entry_fields.Before.{Before}
-use Rattle.flute_journal.specs.Format.{spelling_in}
 use Rattle.flute_journal.specs.Input.{Fails, FailsIf}
 use Rattle.flute_journal.specs.Journal.{IsJournalWithin, journal_framing}
 use Rattle.flute_journal.specs.Framing.{is_open, GivesItem, GivesEnd, GivesFault, Gives, Sofar}
