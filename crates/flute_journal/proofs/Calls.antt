@@ -7,16 +7,24 @@ pub any_fault : {X : Type 0} (r : Result X ReadFault) → IfErr r (λ f. ⊤)
 any_fault (Ok x) = tt
 any_fault (Err f) = tt
 
-pub reads_entries : (limit : ℕ) (before : Before) (u v : Option (List ℕ)) (r : Result (Option Fact) ReadFault) → ReadsNext journal_framing limit before u v r
-    → StaysWithin (entry_in before.version) (IsFactIn before.version) u v r → ReadsFrom journal_framing before.version limit (Items before) u v r
-reads_entries limit before u v r h w = reads_on journal_framing limit before.version before u v r h w (any_fault r)
+pub reads_entries : (limit : ℕ) (before : Before) (u v : Option (List ℕ))
+    (r : Result (Option Fact) ReadFault) → ReadsNext journal_framing limit before u v r
+    → StaysWithin (entry_in before.version) (IsFactIn before.version) u v r
+    → ReadsFrom journal_framing before.version limit (Items before) u v r
+reads_entries limit before u v r h w =
+    reads_on journal_framing limit before.version before u v r h w (any_fault r)
 
-pub gives_entries : (limit : ℕ) (told : Version) (old new : ReaderState Before) (u v : Option (List ℕ)) (r : Result (Option Fact) ReadFault) → is_open old ≡ true
-    → new ≡ state_after journal_framing (place_at journal_framing told old) r → ReadsFrom journal_framing told limit old u v r → Gives journal_framing limit old new u v r
-gives_entries limit told old new u v r opened e h = gives journal_framing limit told old new u v r opened e h
+pub gives_entries : (limit : ℕ) (told : Version) (old new : ReaderState Before)
+    (u v : Option (List ℕ)) (r : Result (Option Fact) ReadFault) → is_open old ≡ true
+    → new ≡ state_after journal_framing (place_at journal_framing told old) r
+    → ReadsFrom journal_framing told limit old u v r → Gives journal_framing limit old new u v r
+gives_entries limit told old new u v r opened e h =
+    gives journal_framing limit told old new u v r opened e h
 
 -- the same of a state and bytes that are known by equations
-pub gives_at : (limit : ℕ) (at old new : ReaderState Before) (x u v : Option (List ℕ)) (r : Result (Option Fact) ReadFault) → at ≡ old → x ≡ u
+pub gives_at : (limit : ℕ) (at old new : ReaderState Before) (x u v : Option (List ℕ))
+    (r : Result (Option Fact) ReadFault) → at ≡ old → x ≡ u
     → Gives journal_framing limit at new x v r → Gives journal_framing limit old new u v r
 gives_at limit at old new x u v r is same g =
-    subst (λ (z : Option (List ℕ)). Gives journal_framing limit old new z v r) same (subst (λ (s : ReaderState Before). Gives journal_framing limit s new x v r) is g)
+    subst (λ (z : Option (List ℕ)). Gives journal_framing limit old new z v r) same
+    (subst (λ (s : ReaderState Before). Gives journal_framing limit s new x v r) is g)

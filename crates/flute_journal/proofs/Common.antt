@@ -1,4 +1,4 @@
--- The words that most proofs on journals cite, passed on from one place. Declares nothing.
+-- The words that most proofs on journals cite, passed on from one place, and one of their own.
 pub use Rattle.std.proofs.Common.{Bool, Err, IfErr, IfSome, IsTrue, List, MatchBool, None, Ok, OnOk, Option, Result, Some, [], add-one, ap, append-nil, append_assoc, arith, bytes_eq, drop, drop-cons, drop-drop, drop-set-lt, drop_at, eqb, false, flat_map, get_or, if◌then◌else◌, inl, inr, is_eq, is_lt, is_some, le_refl, leb, length, length-append, length-drop, length-set, length-take, length-take-le, lit<, ltb, not, refl, rules, slice_get, slice_range, slice_set, subst, suc, sym, take, take-append-drop, take_all, take_at, true, zero, ℕ, ◌%◌, ◌&&◌, ◌*◌, ◌++◌, ◌+◌, ◌-◌, ◌/◌, ◌<◌, ◌^◌, ◌∙◌, ◌∷◌, ◌≡◌, ◌≢◌, ◌≤◌, ◌⊎◌}
 pub use Rattle.flute_journal.specs.Advances.{AreNew, GoOnAt, GoesOnAt, StopAt, StopsIn}
 pub use Rattle.flute_journal.specs.Eithers.{either_behaviour}
@@ -8,15 +8,15 @@ pub use Rattle.flute_journal.specs.declared.{reader_state.ReaderState.TheVariant
 pub use Rattle.flute_journal.specs.Faults.{Check, bytes_checks, cut, end_checks, entry_checks, first_fault, header_fault, id_checks, id_in, in_order, info_checks, info_in, is_after, is_key, is_kind, is_name, is_object, is_version, key_in, key_size, named_in, next_fault, object_in, opening_fault, rest_checks, version_fault, version_in}
 pub use Rattle.flute_journal.specs.Format.{body, counted_bytes, end, entry, entry_in, fact_key, header, header_in, id_bytes, info_bytes, key_bytes, kind, magic, name_bytes, object_bytes, rest_bytes, sender_bytes, sender_size, spelling, spelling_in, version_bytes, version_number, without_end, without_end_in}
 pub use Rattle.flute_journal.specs.Input.{Fails, FailsIf, IsFaultOf, IsFaultUpTo, IsWithin, Reads, ReadsUpTo, StaysWithin, left_by, or_failed}
-pub use Rattle.flute_journal.specs.Framing.{AreItems, Framing, Gives, GivesEnd, GivesFault, GivesItem, HasFault, IsAtFault, IsPart, IsWhole, ReadsFrom, ReadsNext, Sofar, Stops, behind, count_at, end_bytes, fault_from, in_header, in_item, in_opening, is_open, next_bytes, opening, or_else, place_at, read_of, state_after, state_at, told_at, up_to_end}
+pub use Rattle.flute_journal.specs.Framing.{AreItems, Framing, Gives, GivesEnd, GivesFault, GivesItem, HasFault, IsAtFault, IsPart, IsWhole, ReadsFrom, ReadsNext, Sofar, Stops, after_items, count_at, end_bytes, fault_from, in_header, in_item, in_opening, is_open, next_bytes, opening, or_else, place_at, read_of, state_after, state_at, told_at, up_to_end}
 pub use Rattle.flute_journal.specs.Journal.{Collects, HasRoom, IsFactIn, IsJournal, IsJournalWithin, IsKeyIn, Journal, JournalIn, OldJournal, before, journal_framing, last_of}
 pub use Rattle.flute_journal.specs.JournalStreams.{FailsBy, FailsSince, IsJournalOfAll, ReadAt, ReadWhole, SameLoans, journal_behaviour, lent, lent_behaviour, room, unread_of}
 pub use Rattle.flute_journal.specs.JournalWriters.{PutsBytes, Written}
 pub use Rattle.flute_journal.specs.Leads.{IsBelowNext, Leads, NoneBefore, StandsAt, lower_next, lower_of}
 pub use Rattle.flute_journal.specs.Lowest.{IsLowest, IsNotBefore, Lowest}
-pub use Rattle.flute_journal.specs.Merges.{EndsBehind, FirstFails, KeepsUp, MergeGives, Merged, NamesFault, ReadsBehind, SecondFails, StopsShort, written_up_to}
+pub use Rattle.flute_journal.specs.Merges.{EndsAfter, FirstFails, KeepsUp, MergeGives, Merged, NamesFault, ReadsEntries, SecondFails, StopsShort, written_up_to}
 pub use Rattle.flute_journal.specs.Numbers.{in_bytes, number_at}
-pub use Rattle.flute_journal.specs.Parsing.{BodyIn, BodyIs, HeadIn, HeadIs, IsBody, IsOfBytes, Parses, ReadsEnd, RestIs, StopsReading, SymbolIs, at_place, body_fault, byte_of, bytes_fault, cut_fault, end_fault, head_bytes, head_key, head_rest, head_size, rest_fault, rest_size}
+pub use Rattle.flute_journal.specs.Parsing.{BodyIn, BodyIs, HeadIn, HeadIs, IsBody, IsOfBytes, Parses, ReadsEnd, RestIs, StopsReading, SymbolIs, body_fault, byte_of, bytes_fault, cut_fault, end_fault, head_bytes, head_key, head_rest, head_size, rest_fault, rest_size}
 pub use Rattle.flute_journal.specs.Readers.{limit_of, source_of, state_of}
 pub use Rattle.flute_journal.specs.Records.{IsDatagram, IsFileFault, IsFileOf, IsFileWithin, file_framing, file_header, record_checks, record_fault, record_of}
 pub use Rattle.flute_journal.specs.Stores.{BeginsOver, BeginsWith, FailsToLoad, IsJournalOf, IsLoadFault, refused}
@@ -54,3 +54,6 @@ pub use Rattle.std.proofs.lemmas.Slice.Eq.{bytes_eq-Decides}
 pub use Rattle.std.specs.Io.KnownBytes.{Appends, Consumes, IsAtEnd, Keeps}
 pub use Rattle.std.specs.List.{AllByRecursion, IsSplitAt}
 pub use Rattle.std.specs.declared.{cmp.Ordering.{Ordering}, cmp.Ordering.TheVariants.{Equal, Greater, Less}}
+
+abbrev pub at_place : Version → ℕ → Option Address → Before
+at_place version count last = record { version = version; count = count; last = last }

@@ -19,25 +19,35 @@ left_faults : (f : ReadFault) → IsFileFault f → IsFileFault (left_by f)
 left_faults faults.Cut h = tt
 left_faults f h = h
 
-pub opening_told : {T : Type 0} (o : List ℕ) (failed : Bool) (front : List ℕ) (r : Result T ReadFault) (P : List ℕ → Type 0) → Parses 6 (λ _. P front) (opening_fault o) front r
+pub opening_told : {T : Type 0} (o : List ℕ) (failed : Bool) (front : List ℕ)
+    (r : Result T ReadFault) (P : List ℕ → Type 0)
+    → Parses 6 (λ _. P front) (opening_fault o) front r
     → IfErr (or_failed failed r) IsFileFault
 opening_told o true front (Ok x) P p = tt
 opening_told o false front (Ok x) P p = tt
 opening_told o true front (Err f) P p = left_faults f (opening_stops o front f p)
 opening_told o false front (Err f) P p = opening_stops o front f p
 
-pub reads_record : (limit count : ℕ) (u v : Option (List ℕ)) (r : Result (Option (List ℕ)) ReadFault) → ReadsNext file_framing limit count u v r → StaysWithin record_of IsDatagram u v r
+pub reads_record : (limit count : ℕ) (u v : Option (List ℕ))
+    (r : Result (Option (List ℕ)) ReadFault) → ReadsNext file_framing limit count u v r
+    → StaysWithin record_of IsDatagram u v r
     → IfErr r IsFileFault → ReadsFrom file_framing tt limit (Items count) u v r
 reads_record limit count u v r h w k = reads_on file_framing limit tt count u v r h w k
 
-pub reads_file_first : (limit : ℕ) (u v w : Option (List ℕ)) (r : Result (Option (List ℕ)) ReadFault) → Consumes u v file_header → ReadsNext file_framing limit 0 v w r
-    → StaysWithin record_of IsDatagram v w r → IfErr r IsFileFault → ReadsFrom file_framing tt limit Header u w r
+pub reads_file_first : (limit : ℕ) (u v w : Option (List ℕ))
+    (r : Result (Option (List ℕ)) ReadFault) → Consumes u v file_header
+    → ReadsNext file_framing limit 0 v w r
+    → StaysWithin record_of IsDatagram v w r → IfErr r IsFileFault
+    → ReadsFrom file_framing tt limit Header u w r
 reads_file_first limit u v w r took h s k = reads_first file_sound limit tt u v w r took h s k
 
 -- what a reader gives from a state that is known by an equation
-pub gives_of_file_at : (limit count : ℕ) (at old new : ReaderState ℕ) (u v w : Option (List ℕ)) (r s : Result (Option (List ℕ)) ReadFault) → old ≡ at → is_open at ≡ true
-    → count ≡ place_at file_framing tt at → r ≡ s → v ≡ w → new ≡ state_after file_framing count r → ReadsFrom file_framing tt limit at u w s → Gives file_framing limit old new u v r
-gives_of_file_at limit count at old new u v w r s is opened counted gave left behind h = grind (arith, gives)
+pub gives_of_file_at : (limit count : ℕ) (at old new : ReaderState ℕ) (u v w : Option (List ℕ))
+    (r s : Result (Option (List ℕ)) ReadFault) → old ≡ at → is_open at ≡ true
+    → count ≡ place_at file_framing tt at → r ≡ s → v ≡ w → new ≡ state_after file_framing count r
+    → ReadsFrom file_framing tt limit at u w s → Gives file_framing limit old new u v r
+gives_of_file_at limit count at old new u v w r s is opened counted gave left behind h =
+    grind (arith, gives)
 
 -- what a reader of datagrams gives, of the record that it read
 pub ruleset gives_next = (gives_of_file_at, reads_record)

@@ -2,11 +2,13 @@
 use Rattle.flute_journal.proofs.{Common.{◌≡◌, List, [], ◌∷◌, ◌++◌, Option, Some, None, refl, sym, length-append, Address, address, Fact, Version, at_place, before, last_of, journal_framing, file_framing, file_header}, Framed.{IsSound}, Parts.{header_passes, version-told}, Existence.{header_is, opening_is, rising_more}, Files.{file_header_passes}}
 use Rattle.flute_journal.specs.Journal.{after}
 
-last_more : (b : Option Address) (es : List Fact) (f : Fact) → last_of b (es ++ f ∷ []) ≡ Some (address f)
+last_more : (b : Option Address) (es : List Fact) (f : Fact)
+    → last_of b (es ++ f ∷ []) ≡ Some (address f)
 last_more b [] f = refl
 last_more b (e ∷ es) f = last_more (Some (address e)) es f
 
-after_is : (v : Version) (es : List Fact) (f : Fact) → after (before v es) f ≡ before v (es ++ f ∷ [])
+after_is : (v : Version) (es : List Fact) (f : Fact)
+    → after (before v es) f ≡ before v (es ++ f ∷ [])
 after_is v es f = λ i. at_place v (sym (length-append es (f ∷ [])) i) (sym (last_more None es f) i)
 
 pub journal_sound : IsSound journal_framing

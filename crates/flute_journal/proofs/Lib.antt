@@ -27,6 +27,7 @@ mod MergeBytes
 mod Pairs
 mod BesideFacts
 mod Replacements
+mod Loans
 mod JournalReads
 mod OwnedReads
 mod GoingOn

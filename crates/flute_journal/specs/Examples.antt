@@ -170,8 +170,8 @@ header-cut = (refl, refl)
 
 -- What may follow entries.
 
-abbrev fault_behind : List Fact → List ℕ → Option ReadFault
-fault_behind entries bytes = next_fault (before One entries) 16777216 bytes
+abbrev fault_after : List Fact → List ℕ → Option ReadFault
+fault_after entries bytes = next_fault (before One entries) 16777216 bytes
 
 -- the same in version 2
 abbrev fault_in_two : List Fact → List ℕ → Option ReadFault
@@ -199,63 +199,63 @@ cut-in-sender : (fault_in_two [] (2 ∷ replicate 15 0) ≡ Some faults.Cut)
 unfolding sender_size
 cut-in-sender = (refl, refl)
 
-goes-on : (fault_behind [] (1 ∷ k ++ info_rest ++ 3 ∷ k) ≡ None)
-    × (fault_behind (info ∷ []) (3 ∷ k ++ hell_rest ++ 3 ∷ []) ≡ None)
-    × (fault_behind (info ∷ hell ∷ letter_o ∷ []) (end_bytes 3) ≡ None)
+goes-on : (fault_after [] (1 ∷ k ++ info_rest ++ 3 ∷ k) ≡ None)
+    × (fault_after (info ∷ []) (3 ∷ k ++ hell_rest ++ 3 ∷ []) ≡ None)
+    × (fault_after (info ∷ hell ∷ letter_o ∷ []) (end_bytes 3) ≡ None)
 unfolding sender_size
 goes-on = (refl, refl, refl)
 
 -- two entries that are swapped, or one that is there twice
 out-of-order :
-    (fault_behind (info ∷ letter_o ∷ []) (3 ∷ k ++ hell_rest ++ end_bytes 3) ≡ Some faults.Order)
-    × (fault_behind (info ∷ hell ∷ letter_o ∷ []) (3 ∷ k ++ letter_o_rest ++ end_bytes 4)
+    (fault_after (info ∷ letter_o ∷ []) (3 ∷ k ++ hell_rest ++ end_bytes 3) ≡ Some faults.Order)
+    × (fault_after (info ∷ hell ∷ letter_o ∷ []) (3 ∷ k ++ letter_o_rest ++ end_bytes 4)
     ≡ Some faults.Order)
 unfolding sender_size
 out-of-order = (refl, refl)
 
 -- information after information of one object: told before it is looked at
-second-information : (fault_behind (info ∷ []) (2 ∷ k ++ end_bytes 2) ≡ Some faults.Order)
-    × (fault_behind (info ∷ []) (1 ∷ k ++ 0 ∷ 0 ∷ 0 ∷ 0 ∷ 0 ∷ 5 ∷ 0 ∷ 4 ∷ 0 ∷ 0 ∷ 0 ∷ 0 ∷ [])
+second-information : (fault_after (info ∷ []) (2 ∷ k ++ end_bytes 2) ≡ Some faults.Order)
+    × (fault_after (info ∷ []) (1 ∷ k ++ 0 ∷ 0 ∷ 0 ∷ 0 ∷ 0 ∷ 5 ∷ 0 ∷ 4 ∷ 0 ∷ 0 ∷ 0 ∷ 0 ∷ [])
     ≡ Some faults.Order)
 unfolding sender_size
 second-information = (refl, refl)
 
-end-count : fault_behind (info ∷ hell ∷ letter_o ∷ []) (end_bytes 4) ≡ Some faults.Count
+end-count : fault_after (info ∷ hell ∷ letter_o ∷ []) (end_bytes 4) ≡ Some faults.Count
 unfolding sender_size
 end-count = refl
 
-end-trailing : fault_behind (info ∷ hell ∷ letter_o ∷ []) (end_bytes 3 ++ 0 ∷ [])
+end-trailing : fault_after (info ∷ hell ∷ letter_o ∷ []) (end_bytes 3 ++ 0 ∷ [])
     ≡ Some faults.Trailing
 unfolding sender_size
 end-trailing = refl
 
 -- a kind that is none is told before the bound is looked at
-no-kind : (fault_behind [] (5 ∷ k ++ info_rest) ≡ Some faults.Kind)
+no-kind : (fault_after [] (5 ∷ k ++ info_rest) ≡ Some faults.Kind)
     × (next_fault (before One []) 0 (5 ∷ []) ≡ Some faults.Kind)
 unfolding sender_size
 no-kind = (refl, refl)
 
 -- a tag that is none, a file 0, and an FDT Instance of more than 20 bits; but a file of 112 bits
 no-key :
-    (fault_behind [] (1 ∷ 0 ∷ 0 ∷ 0 ∷ 0 ∷ 0 ∷ 7 ∷ 2 ∷ replicate 13 0 ++ 1 ∷ info_rest)
+    (fault_after [] (1 ∷ 0 ∷ 0 ∷ 0 ∷ 0 ∷ 0 ∷ 7 ∷ 2 ∷ replicate 13 0 ++ 1 ∷ info_rest)
     ≡ Some faults.Key)
-    × (fault_behind [] (1 ∷ 0 ∷ 0 ∷ 0 ∷ 0 ∷ 0 ∷ 7 ∷ 1 ∷ replicate 14 0 ++ info_rest)
+    × (fault_after [] (1 ∷ 0 ∷ 0 ∷ 0 ∷ 0 ∷ 0 ∷ 7 ∷ 1 ∷ replicate 14 0 ++ info_rest)
     ≡ Some faults.Key)
-    × (fault_behind [] (2 ∷ 0 ∷ 0 ∷ 0 ∷ 0 ∷ 0 ∷ 7 ∷ 0 ∷ replicate 11 0 ++ 0x10 ∷ 0 ∷ 0 ∷ [])
+    × (fault_after [] (2 ∷ 0 ∷ 0 ∷ 0 ∷ 0 ∷ 0 ∷ 7 ∷ 0 ∷ replicate 11 0 ++ 0x10 ∷ 0 ∷ 0 ∷ [])
     ≡ Some faults.Key)
 unfolding sender_size
 no-key = (refl, refl, refl)
 
-greatest-key : fault_behind [] (2 ∷ 0 ∷ 0 ∷ 0 ∷ 0 ∷ 0 ∷ 7 ∷ 1 ∷ replicate 14 0xFF) ≡ None
+greatest-key : fault_after [] (2 ∷ 0 ∷ 0 ∷ 0 ∷ 0 ∷ 0 ∷ 7 ∷ 1 ∷ replicate 14 0xFF) ≡ None
 unfolding sender_size
 greatest-key = refl
 
-no-information : fault_behind [] (1 ∷ k ++ 0 ∷ 0 ∷ 0 ∷ 0 ∷ 0 ∷ 5 ∷ 0 ∷ 0 ∷ 0 ∷ 0 ∷ 0 ∷ 2 ∷ [])
+no-information : fault_after [] (1 ∷ k ++ 0 ∷ 0 ∷ 0 ∷ 0 ∷ 0 ∷ 5 ∷ 0 ∷ 0 ∷ 0 ∷ 0 ∷ 0 ∷ 2 ∷ [])
     ≡ Some (faults.Information SymbolLength)
 unfolding sender_size
 no-information = refl
 
-no-symbol : fault_behind (info ∷ hell ∷ []) (3 ∷ k ++ 0 ∷ 0 ∷ 0 ∷ 1 ∷ 0 ∷ 0 ∷ 0x6F ∷ end_bytes 3)
+no-symbol : fault_after (info ∷ hell ∷ []) (3 ∷ k ++ 0 ∷ 0 ∷ 0 ∷ 1 ∷ 0 ∷ 0 ∷ 0x6F ∷ end_bytes 3)
     ≡ Some faults.EmptySymbol
 unfolding sender_size
 no-symbol = refl
@@ -271,11 +271,11 @@ too-many = (refl, refl, refl, refl)
 
 -- an input that ends before an entry, after its kind, within its key, within its rest,
 -- or within the end
-cut-short : (fault_behind (info ∷ []) [] ≡ Some faults.Cut)
-    × (fault_behind (info ∷ []) (3 ∷ []) ≡ Some faults.Cut)
-    × (fault_behind (info ∷ []) (3 ∷ 0 ∷ 0 ∷ []) ≡ Some faults.Cut)
-    × (fault_behind [] (1 ∷ k ++ 0 ∷ []) ≡ Some faults.Cut)
-    × (fault_behind [] (3 ∷ k ++ 0 ∷ 0 ∷ 0 ∷ 0 ∷ 0xFF ∷ 0xFF ∷ 0x61 ∷ []) ≡ Some faults.Cut)
-    × (fault_behind [] (0xFF ∷ 0 ∷ 0 ∷ []) ≡ Some faults.Cut)
+cut-short : (fault_after (info ∷ []) [] ≡ Some faults.Cut)
+    × (fault_after (info ∷ []) (3 ∷ []) ≡ Some faults.Cut)
+    × (fault_after (info ∷ []) (3 ∷ 0 ∷ 0 ∷ []) ≡ Some faults.Cut)
+    × (fault_after [] (1 ∷ k ++ 0 ∷ []) ≡ Some faults.Cut)
+    × (fault_after [] (3 ∷ k ++ 0 ∷ 0 ∷ 0 ∷ 0 ∷ 0xFF ∷ 0xFF ∷ 0x61 ∷ []) ≡ Some faults.Cut)
+    × (fault_after [] (0xFF ∷ 0 ∷ 0 ∷ []) ≡ Some faults.Cut)
 unfolding sender_size
 cut-short = (refl, refl, refl, refl, refl, refl)

@@ -21,7 +21,7 @@ pub record Framing (V P T : Type 0) : Type 1 where
   -- these may be the items of one file
   pub AreInOrder : List V → Type 0
   -- the place after these items
-  pub place_behind : T → List V → P
+  pub place_after : T → List V → P
   -- the place after one item more
   pub next : P → V → P
   -- what the header of this place told
@@ -70,20 +70,21 @@ module _ {V P T : Type 0} (framing : Framing V P T) where
     pub bytes_are : bytes ≡ up_to_end are_items.told items ++ framing.end (length items)
 
   -- whole items follow the header, and then bytes at fault
-  pub record StopsBehind (bytes : List ℕ) (limit : ℕ) (items : List V)
+  pub record StopsAfterItems (bytes : List ℕ) (limit : ℕ) (items : List V)
       (fault : ReadFault) : Type 0 where
     pub are_items : AreItems limit items
     pub rest : List ℕ
     pub whole : bytes ≡ up_to_end are_items.told items ++ rest
     pub first :
-        framing.next_fault (framing.place_behind are_items.told items) limit rest ≡ Some fault
+        framing.next_fault (framing.place_after are_items.told items) limit rest ≡ Some fault
 
 -- the first field at fault has this fault, and these are the items that end before it
 pub data Stops {V P T : Type 0} (framing : Framing V P T) (bytes : List ℕ) (limit : ℕ)
     (items : List V) (fault : ReadFault) : Type 0 where
   in_header : items ≡ [] → framing.header_fault bytes ≡ Some fault
       → Stops framing bytes limit items fault
-  behind : StopsBehind framing bytes limit items fault → Stops framing bytes limit items fault
+  after_items : StopsAfterItems framing bytes limit items fault
+      → Stops framing bytes limit items fault
 
 -- What the calls of a reader give.
 
@@ -114,7 +115,7 @@ module _ {V P T : Type 0} (framing : Framing V P T) where
   -- the place of the next item, if a header that is still to be read tells this
   abbrev pub place_at : T → ReaderState P → P
   place_at told (Items place) = place
-  place_at told _ = framing.place_behind told []
+  place_at told _ = framing.place_after told []
 
   -- what its header tells
   abbrev pub told_at : T → ReaderState P → T
@@ -137,7 +138,7 @@ module _ {V P T : Type 0} (framing : Framing V P T) where
   abbrev pub fault_from : ReaderState P → ℕ → List ℕ → Option ReadFault
   fault_from Header limit bytes =
       or_else (framing.header_fault bytes)
-      (framing.next_fault (framing.place_behind (framing.told_in bytes) []) limit (drop 6 bytes))
+      (framing.next_fault (framing.place_after (framing.told_in bytes) []) limit (drop 6 bytes))
   fault_from state limit bytes =
       framing.next_fault (place_at (framing.told_in bytes) state) limit bytes
 
@@ -216,7 +217,7 @@ module _ {V P T : Type 0} (framing : Framing V P T) where
   -- the state of a reader that gave these items
   abbrev pub state_at : T → List V → ReaderState P
   state_at told [] = Header
-  state_at told (x ∷ xs) = Items (framing.place_behind told (x ∷ xs))
+  state_at told (x ∷ xs) = Items (framing.place_after told (x ∷ xs))
 
   -- what was read of the file then: nothing before the first item
   abbrev pub read_of : T → List V → List ℕ

@@ -18,14 +18,15 @@ use Rattle.flute_journal.specs.Journal.{IsFactIn, IsJournalWithin, journal_frami
 use Rattle.flute_journal.specs.Readers.{source_of, limit_of, state_of}
 use Rattle.flute_journal.specs.Framing.{AreItems, HasFault, Sofar}
 use Rattle.flute_journal.specs.Stores.{BeginsWith}
-use Rattle.flute_journal.specs.Merges.{ReadsBehind}
+use Rattle.flute_journal.specs.Loans.{lent_as}
+use Rattle.flute_journal.specs.Merges.{ReadsEntries}
 use Rattle.flute_journal.specs.Streams.{Behaviour, option_list}
 
 -- a journal of these entries was read to its end
 pub record ReadWhole (limit : ℕ) (first now : Option (List ℕ)) (entries : List Fact) : Type 0 where
   pub are_items : AreItems journal_framing limit entries
   pub whole : IfSome first (λ bytes. IsJournalWithin limit bytes entries)
-  pub read : ReadsBehind first now entries
+  pub read : ReadsEntries first now entries
 
 -- by where its reader is: these entries were given, and one more is held
 abbrev pub ReadAt : ℕ → Option (List ℕ) → Option (List ℕ) → ReaderState Before → List Fact
@@ -89,7 +90,7 @@ module _ {R : Type 0} (unread : R → Option (List ℕ)) (failures : R → ℕ) 
     stops = λ s fault.
         StopsReading (HasFault journal_framing (limit_of s.reader) (unread_of s)) fault;
     passes = PassesSince;
-    reads = λ start now F. ReadsBehind (unread_of start) (unread_of now) F;
+    reads = λ start now F. ReadsEntries (unread_of start) (unread_of now) F;
     fails = FailsSince;
   }
 
@@ -102,18 +103,6 @@ pub record SameLoans {R : Type 0} (start now : LentStream R) : Type 0 where
   pub same_reader : now.reader.ghost_name ≡ start.reader.ghost_name
   pub same_held : now.held.ghost_name ≡ start.held.ghost_name
 
-module _ {R : Type 0} (unread : R → Option (List ℕ)) (failures : R → ℕ) where
-  abbrev pub lent_behaviour : Behaviour (LentStream R)
-  lent_behaviour =
-      let b = journal_behaviour unread failures in
-      record {
-        held = λ s. s.held.now;
-        most = λ s. b.most (lent s);
-        tells = λ s F. b.tells (lent s) F;
-        knows = λ s F. b.knows (lent s) F;
-        begins = λ s F. b.begins (lent s) F;
-        stops = λ s fault. b.stops (lent s) fault;
-        passes = λ start now F. b.passes (lent start) (lent now) F × SameLoans start now;
-        reads = λ start now F. b.reads (lent start) (lent now) F;
-        fails = λ start now fault. b.fails (lent start) (lent now) fault × SameLoans start now;
-      }
+abbrev pub lent_behaviour : {R : Type 0} → (R → Option (List ℕ)) → (R → ℕ)
+    → Behaviour (LentStream R)
+lent_behaviour unread failures = lent_as lent SameLoans (journal_behaviour unread failures)

@@ -17,6 +17,7 @@ pub mod Merges
 pub mod RecordExamples
 pub mod Streams
 pub mod Eithers
+pub mod Loans
 pub mod JournalStreams
 pub mod Advances
 pub mod Lowest

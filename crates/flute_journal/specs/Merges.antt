@@ -50,18 +50,18 @@ AppendedUpTo fault bytes entries = bytes ≡ written_up_to entries
 
 -- the bytes are no more than a header's, or these whole entries and then no byte
 -- after one entry more
-pub data EndsBehind (version : Version) (entries : List Fact) (bytes : List ℕ) : Type 0 where
-  in_header : entries ≡ [] → length bytes ≤ length header → EndsBehind version entries bytes
-  behind : (part : List ℕ) → bytes ≡ without_end_in version entries ++ part
-      → IsWithin (entry_in version) (IsFactIn version) part → EndsBehind version entries bytes
+pub data EndsAfter (version : Version) (entries : List Fact) (bytes : List ℕ) : Type 0 where
+  in_header : entries ≡ [] → length bytes ≤ length header → EndsAfter version entries bytes
+  after_entries : (part : List ℕ) → bytes ≡ without_end_in version entries ++ part
+      → IsWithin (entry_in version) (IsFactIn version) part → EndsAfter version entries bytes
 
 -- of an input these whole entries were read, and at most one more
-pub record ReadsBehind (input left : Option (List ℕ)) (entries : List Fact) : Type 0 where
+pub record ReadsEntries (input left : Option (List ℕ)) (entries : List Fact) : Type 0 where
   pub version : Version
   pub valid : AllByRecursion (IsFactIn version) entries
   pub bytes : List ℕ
   pub read : Consumes input left bytes
-  pub ends : EndsBehind version entries bytes
+  pub ends : EndsAfter version entries bytes
 
 -- What was read, and what was appended: whole entries of both inputs and at most one more of each,
 -- and all that the whole entries tell.
@@ -69,8 +69,8 @@ pub record KeepsUp (first first_left second second_left old new : Option (List �
     (fault : MergeFault) : Type 0 where
   pub first_entries : List Fact
   pub second_entries : List Fact
-  pub first_read : ReadsBehind first first_left first_entries
-  pub second_read : ReadsBehind second second_left second_entries
+  pub first_read : ReadsEntries first first_left first_entries
+  pub second_read : ReadsEntries second second_left second_entries
   pub entries : List Fact
   pub collects : Collects (first_entries ++ second_entries) entries
   pub bytes : List ℕ

@@ -8,7 +8,7 @@ use Rattle.flute_journal.specs.declared.reader_state.ReaderState.{ReaderState}
 use Rattle.flute_journal.specs.Journal.{IsJournalWithin, journal_framing}
 use Rattle.flute_journal.specs.Stores.{BeginsWith}
 use Rattle.flute_journal.specs.Framing.{HasFault}
-use Rattle.flute_journal.specs.Merges.{ReadsBehind}
+use Rattle.flute_journal.specs.Merges.{ReadsEntries}
 use Rattle.flute_journal.specs.Streams.{Behaviour, option_list}
 use Rattle.flute_journal.specs.JournalStreams.{ReadAt, room, StopsReading, FailsBy, IsJournalOfAll}
 
@@ -43,6 +43,6 @@ module _ {R : Type 0} (unread : R → Option (List ℕ)) (failures : R → ℕ) 
     stops = λ s fault.
         StopsReading (HasFault journal_framing s.max_entries (unread s.source)) fault;
     passes = OwnedPasses;
-    reads = λ start now F. ReadsBehind (unread start.source) (unread now.source) F;
+    reads = λ start now F. ReadsEntries (unread start.source) (unread now.source) F;
     fails = λ start now fault. FailsBy (failures start.source) (failures now.source) fault;
   }

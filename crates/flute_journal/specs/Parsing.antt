@@ -6,7 +6,6 @@ use Rattle.flute_parts.specs.declared.key.Key.{Key}
 use Rattle.flute_parts.specs.declared.symbol_id.SymbolId.{SymbolId}
 use Rattle.flute_parts.specs.declared.address.Address.{Address}
 use Rattle.flute_parts.specs.declared.fact.Fact.{Fact}
-use Rattle.flute_journal.specs.declared.entry_fields.Before.{Before}
 use Rattle.flute_journal.specs.declared.format.version.Version.{Version}
 use Rattle.flute_journal.specs.declared.format.Kind.{Kind}
 use Rattle.flute_journal.specs.declared.format.Kind.TheVariants as kinds
@@ -37,9 +36,6 @@ rest_size kinds.SymbolConflict = 4
 -- and how many follow the kind
 abbrev pub head_size : Version → Kind → ℕ
 head_size version k = key_size version + rest_size k
-
-abbrev pub at_place : Version → ℕ → Option Address → Before
-at_place version count last = record { version = version; count = count; last = last }
 
 abbrev pub head_key : EntryHead → Key
 head_key (Whole f) = fact_key f

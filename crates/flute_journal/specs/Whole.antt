@@ -14,7 +14,7 @@ use Rattle.flute_journal.specs.Framing.{AreItems, Stops}
 pub data ReadsPart (limit : ℕ) (old new : Option (List ℕ)) (entries : List Fact) : Type 0 where
   in_header : entries ≡ [] → (part : List ℕ) → Consumes old new part → length part ≤ length header
       → ReadsPart limit old new entries
-  behind : (a : AreItems journal_framing limit entries) → (more : List ℕ)
+  after_entries : (a : AreItems journal_framing limit entries) → (more : List ℕ)
       → Consumes old new (without_end_in a.told entries ++ more)
       → IsWithin (entry_in a.told) (IsFactIn a.told) more → ReadsPart limit old new entries
 

@@ -149,8 +149,8 @@ fn read_fields<R: Source>(
         ReaderState::Header => read_first(alloc, source, max_entries, state),
         ReaderState::Items(before) => {
             let given = read_entry(alloc, source, max_entries, before);
-            let behind = state_after(before, &given);
-            *state = behind;
+            let next = state_after(before, &given);
+            *state = next;
             given
         }
     }

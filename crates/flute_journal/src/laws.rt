@@ -87,7 +87,8 @@ pub fn a_journal_has_no_fault()
 /// Bytes have one first fault, after one list of entries.
 pub fn bytes_stop_once()
     ensures { (bs : List ℕ) (limit : ℕ) (es fs : List Fact) (f g : Fault)
-        → Stops journal_framing bs limit es f → Stops journal_framing bs limit fs g → (es ≡ fs) × (f ≡ g) }
+        → Stops journal_framing bs limit es f → Stops journal_framing bs limit fs g
+        → (es ≡ fs) × (f ≡ g) }
 {}
 
 /// The entries that a journal begins with tell nothing more than its facts.

@@ -74,4 +74,4 @@ pub use streams::{Pair, Slice, Streams};
 pub use streams_fault::{InputFault, StreamsFault};
 pub use two_streams::{MergeFault, merge_streams, merge_two};
 pub use walk_stream::WalkStream;
-pub use within::Within;
+pub use within::{LentWithin, Within};

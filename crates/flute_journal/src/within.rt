@@ -1,11 +1,11 @@
 //! A stream whose facts are counted against the limits of a store.
-ghost use Rattle.std.specs.Prelude.{◌≡◌, ◌++◌, true, false, List};
+ghost use Rattle.std.specs.Prelude.{◌≡◌, ◌++◌, true, false, List, OnOk, IfErr};
 ghost use Rattle.flute_parts.specs.declared.fact.Fact.{Fact};
 ghost use Rattle.flute_parts.specs.Facts.{IsRising};
 ghost use Rattle.flute_parts.specs.Limits.{Over};
 ghost use Rattle.flute_parts.specs.Tally.{Counts};
-ghost use Rattle.flute_journal.specs.Streams.{IsNew, fact_in, option_list};
-ghost use Rattle.flute_journal.specs.Withins.{within_behaviour};
+ghost use Rattle.flute_journal.specs.Streams.{GoesOn, IsNew, StopsAt, fact_in, option_list};
+ghost use Rattle.flute_journal.specs.Withins.{counted, lent_within_behaviour, within_behaviour};
 
 use crate::fault::LoadFault;
 use crate::stream::Stream;
@@ -51,12 +51,51 @@ impl<const SESSIONS: u32, const OBJECTS: u32, const SYMBOLS: u32, S: Stream> Str
 
     #[inline(always)]
     fn advance(&mut self, alloc: Global) -> Result<(), LoadFault> {
-        self.stream.advance(alloc)?;
-        if count_held(&mut self.tally, &self.stream.head()) {
-            Ok(())
-        } else {
-            Err(LoadFault::Full)
-        }
+        advance_counted(&mut self.stream, &mut self.tally, alloc)
+    }
+}
+
+/// A stream that is lent, and counted as [`Within`] counts one that it holds.
+#[derive(Debug, Drop)]
+pub struct LentWithin<'a, const SESSIONS: u32, const OBJECTS: u32, const SYMBOLS: u32, S> {
+    pub stream: &'a mut S,
+    pub tally: Tally<SESSIONS, OBJECTS, SYMBOLS>,
+}
+
+impl<'a, const SESSIONS: u32, const OBJECTS: u32, const SYMBOLS: u32, S: Stream> Stream
+    for LentWithin<'a, SESSIONS, OBJECTS, SYMBOLS, S> {
+    ghost behaviour = { lent_within_behaviour SESSIONS OBJECTS SYMBOLS S.behaviour };
+
+    #[inline(always)]
+    fn head(&self) -> Option<FactRef<'_>> {
+        self.stream.head()
+    }
+
+    #[inline(always)]
+    fn advance(&mut self, alloc: Global) -> Result<(), LoadFault> {
+        advance_counted(self.stream, &mut self.tally, alloc)
+    }
+}
+
+// Advances a stream, and counts what it then holds.
+#[inline(always)]
+fn advance_counted<const SESSIONS: u32, const OBJECTS: u32, const SYMBOLS: u32, S: Stream>(
+    stream: &mut S,
+    tally: &mut Tally<SESSIONS, OBJECTS, SYMBOLS>,
+    alloc: Global,
+) -> Result<(), LoadFault>
+    ensures goes_on { OnOk result
+        (GoesOn (within_behaviour SESSIONS OBJECTS SYMBOLS S.behaviour)
+        (counted stream.old tally.old) (counted stream.new tally.new)) }
+    ensures stops { IfErr result
+        (StopsAt (within_behaviour SESSIONS OBJECTS SYMBOLS S.behaviour)
+        (counted stream.old tally.old) (counted stream.new tally.new)) }
+{
+    stream.advance(alloc)?;
+    if count_held(tally, &stream.head()) {
+        Ok(())
+    } else {
+        Err(LoadFault::Full)
     }
 }
 

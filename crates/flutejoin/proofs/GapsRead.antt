@@ -26,27 +26,36 @@ use Rattle.flutejoin.specs.declared.listing.Listing.{Listing}
 use Rattle.flutejoin.proofs.Shown.{whole}
 
 -- these entries were read, counted and listed, and nothing else
-pub record ListsRead (first now : Option (List ℕ)) (state : ReaderState Before) (tally : Tally 64 4096 1048576) (listing : Listing) : Type 0 where
+pub record ListsRead (first now : Option (List ℕ)) (state : ReaderState Before)
+    (tally : Tally 64 4096 1048576) (listing : Listing) : Type 0 where
   pub entries : List Fact
   pub sofar : Sofar journal_framing MAX_ENTRIES first now state entries
   pub counts : Counts 64 4096 1048576 entries tally
   pub lists : Lists entries listing
 
-pub none_read : (u v : Option (List ℕ)) (state : ReaderState Before) (tally : Tally 64 4096 1048576) (listing : Listing) → v ≡ u → state ≡ Header → Counts 64 4096 1048576 [] tally → Lists [] listing
+pub none_read : (u v : Option (List ℕ)) (state : ReaderState Before) (tally : Tally 64 4096 1048576)
+    (listing : Listing) → v ≡ u → state ≡ Header → Counts 64 4096 1048576 [] tally
+    → Lists [] listing
     → ListsRead u v state tally listing
 none_read u v state tally listing e is c l = record {
   entries = [];
-  sofar = subst (λ (x : Option (List ℕ)). Sofar journal_framing MAX_ENTRIES u x state []) (sym e) (subst (λ (x : ReaderState Before). Sofar journal_framing MAX_ENTRIES u u x []) (sym is) (sofar-none journal_sound Two MAX_ENTRIES u));
+  sofar = subst (λ (x : Option (List ℕ)). Sofar journal_framing MAX_ENTRIES u x state []) (sym e)
+      (subst (λ (x : ReaderState Before). Sofar journal_framing MAX_ENTRIES u u x []) (sym is)
+      (sofar-none journal_sound Two MAX_ENTRIES u));
   counts = c;
   lists = l;
 }
 
-module _ (u v w : Option (List ℕ)) (from to : ReaderState Before) (tally : Tally 64 4096 1048576) (listing : Listing) (h : ListsRead u v from tally listing) where
+module _ (u v w : Option (List ℕ)) (from to : ReaderState Before) (tally : Tally 64 4096 1048576)
+    (listing : Listing) (h : ListsRead u v from tally listing) where
   module _ (f : Fact) (g : GivesItem journal_framing MAX_ENTRIES from to v w f) where
     pub entry_rises : IsRising (h.entries ++ f ∷ [])
-    entry_rises = (sofar-next journal_sound MAX_ENTRIES u v w from to h.entries f h.sofar g).are_items.in_order
+    entry_rises = (sofar-next journal_sound MAX_ENTRIES u v w from to h.entries f h.sofar
+        g).are_items.in_order
 
-    pub one_more_read : (tally' : Tally 64 4096 1048576) (listing' : Listing) → Counts 64 4096 1048576 (h.entries ++ f ∷ []) tally' → Lists (h.entries ++ f ∷ []) listing' → ListsRead u w to tally' listing'
+    pub one_more_read : (tally' : Tally 64 4096 1048576) (listing' : Listing)
+        → Counts 64 4096 1048576 (h.entries ++ f ∷ []) tally' → Lists (h.entries ++ f ∷ []) listing'
+        → ListsRead u w to tally' listing'
     one_more_read tally' listing' c l = record {
       entries = h.entries ++ f ∷ [];
       sofar = sofar-next journal_sound MAX_ENTRIES u v w from to h.entries f h.sofar g;
@@ -56,16 +65,28 @@ module _ (u v w : Option (List ℕ)) (from to : ReaderState Before) (tally : Tal
 
     pub full_read : Over (h.entries ++ f ∷ []) 64 4096 1048576 → IfSome u BeginsOverShelf
     full_read over =
-        loaded-over 64 4096 1048576 MAX_ENTRIES u v w from to h.entries f (record { entries = h.entries; sofar = h.sofar; same = Same-itself h.entries; fits = h.counts.within }) g over
+        loaded-over 64 4096 1048576 MAX_ENTRIES u v w from to h.entries f
+        (record {
+          entries = h.entries;
+          sofar = h.sofar;
+          same = Same-itself h.entries;
+          fits =
+              h.counts.within;
+        }) g over
 
-  pub fault_read : (f : ReadFault) → GivesFault journal_framing MAX_ENTRIES from to v w f → LoadFails 1 u w (Input 1 f)
-  fault_read f g = (refl, (h.entries, h.counts.within, (sofar-stops MAX_ENTRIES u v w from to h.entries f h.sofar g).0))
+  pub fault_read : (f : ReadFault) → GivesFault journal_framing MAX_ENTRIES from to v w f
+      → LoadFails 1 u w (Input 1 f)
+  fault_read f g = (
+    refl,
+    (h.entries, h.counts.within, (sofar-stops MAX_ENTRIES u v w from to h.entries f h.sofar g).0),
+  )
 
   module _ (g : GivesEnd journal_framing from to v w) where
     pub end_read : IsAtEnd w
     end_read = (side-from journal_sound MAX_ENTRIES u v w from to h.entries None h.sofar g).at_end
 
-    pub all_read : (lines : List ℕ) → AreListed h.entries lines → ListsJournal u (λ all. lines ≡ all)
+    pub all_read : (lines : List ℕ) → AreListed h.entries lines
+        → ListsJournal u (λ all. lines ≡ all)
     all_read lines l = record {
       entries = h.entries;
       journal = whole u v w from to h.entries h.sofar g;
@@ -77,10 +98,17 @@ module _ (u v w : Option (List ℕ)) (from to : ReaderState Before) (tally : Tal
   read_rises = h.sofar.are_items.in_order
 
 -- P holds of the lines, if it does of these
-pub of_lines : (u : Option (List ℕ)) (lines : List ℕ) (P : List ℕ → Type 0) → ListsJournal u (λ all. lines ≡ all) → P lines → ListsJournal u P
+pub of_lines : (u : Option (List ℕ)) (lines : List ℕ) (P : List ℕ → Type 0)
+    → ListsJournal u (λ all. lines ≡ all) → P lines → ListsJournal u P
 of_lines u lines P h p = record {
   entries = h.entries;
   journal = h.journal;
   within = h.within;
-  lines = record { keys = h.lines.keys; rising = h.lines.rising; held = h.lines.held; lines = subst P h.lines.lines p };
+  lines = record {
+    keys = h.lines.keys;
+    rising = h.lines.rising;
+    held = h.lines.held;
+    lines =
+        subst P h.lines.lines p;
+  };
 }

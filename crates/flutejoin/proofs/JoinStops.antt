@@ -51,7 +51,13 @@ use Rattle.flutejoin.proofs.JoinStreams.{joins, Stands, Inspects, place, stands,
 
 -- nothing was appended
 pub nothing_appended : (w : Option (List ℕ)) → AppendsNoJournal w w
-nothing_appended w = record { bytes = []; appended = Appends-nil w; no_journal = λ facts (v, journal). let j = journal_parts v [] facts journal in some v j.entries j.bytes_are }
+nothing_appended w =
+    record {
+      bytes = [];
+      appended = Appends-nil w;
+      no_journal = λ facts (v, journal). let j =
+          journal_parts v [] facts journal in some v j.entries j.bytes_are;
+    }
   where
     some : (v : Version) (es : List Fact) → [] ≡ spelling_in v es → ⊥
     some v es e = let n = ap length e in cc
@@ -61,12 +67,16 @@ read_or_not Read = inl refl
 read_or_not f = inr (λ e. cc)
 
 -- the streams of the first files
-pub record StreamsSoFar {S : Type 0} (b : Behaviour S) (files : List (Option HeldFile)) (others : List (Option (OrFull S))) (k : ℕ) : Type 0 where
+pub record StreamsSoFar {S : Type 0} (b : Behaviour S) (files : List (Option HeldFile))
+    (others : List (Option (OrFull S))) (k : ℕ) : Type 0 where
   pub as_many : length others ≡ k
   pub few : k ≤ length files
-  pub each : (j : ℕ) (f : Option HeldFile) (o : Option (OrFull S)) → slice_get files j ≡ Some f → slice_get others j ≡ Some o → IsStreamOf b f o
+  pub each : (j : ℕ) (f : Option HeldFile) (o : Option (OrFull S)) → slice_get files j ≡ Some f
+      → slice_get others j ≡ Some o → IsStreamOf b f o
 
-pub one_more : {S : Type 0} (b : Behaviour S) (files : List (Option HeldFile)) (others new : List (Option (OrFull S))) (k : ℕ) (f : Option HeldFile) (o : Option (OrFull S)) → StreamsSoFar b files others k → slice_get files k ≡ Some f
+pub one_more : {S : Type 0} (b : Behaviour S) (files : List (Option HeldFile))
+    (others new : List (Option (OrFull S))) (k : ℕ) (f : Option HeldFile) (o : Option (OrFull S))
+    → StreamsSoFar b files others k → slice_get files k ≡ Some f
     → IsStreamOf b f o → new ≡ others ++ o ∷ [] → StreamsSoFar b files new (k + 1)
 one_more b files others new k f o h at one e = record {
   as_many = ap length e ∙ length-append others (o ∷ []) ∙ ap (λ n. n + 1) h.as_many;
@@ -77,18 +87,27 @@ one_more b files others new k f o h at one e = record {
         | inl same ↦
             let P : ℕ → Type 0 = λ i. slice_get files i ≡ Some g in
             let Q : ℕ → Type 0 = λ i. slice_get (others ++ o ∷ []) i ≡ Some p in
-            rw (← one_is files k f g at (subst P same was), ← last_is others o p (subst Q (same ∙ sym h.as_many) here)) one
-        | inr differs ↦ h.each j g p was (last_or_before others o p j here (λ same. differs (same ∙ h.as_many)))
+            rw (
+              ← one_is files k f g at (subst P same was),
+              ← last_is others o p
+                  (subst Q (same ∙ sym h.as_many) here),
+            ) one
+        | inr differs ↦ h.each j g p was
+            (last_or_before others o p j here (λ same. differs (same ∙ h.as_many)))
       ];
 }
 
-pub pushed : {X T E : Type 0} (r : Result T E) (new old : List X) (x : X) → is_err r ≡ false → new ≡ (if is_ok r then old ++ x ∷ [] else old) → new ≡ old ++ x ∷ []
+pub pushed : {X T E : Type 0} (r : Result T E) (new old : List X) (x : X) → is_err r ≡ false
+    → new ≡ (if is_ok r then old ++ x ∷ [] else old) → new ≡ old ++ x ∷ []
 pushed (Ok t) new old x e h = h
 pushed (Err f) new old x e h = absurd cc
 
 -- the stream of what a file tells, in memory
-pub held_stream : {S : Type 0} (held : S → Option Fact) (rest : S → List Fact) (file : HeldFile) (s : S) → file.fits ≡ true → ¬ IsOverShelf file.told.store → IsNew (listed_behaviour held rest (λ _. Unit {0})) s
-    → rest s ≡ file.told.store → length (rest s) ≤ 2 ^ 40 → IsHeldStream (listed_behaviour held rest (λ _. Unit {0})) file s
+pub held_stream : {S : Type 0} (held : S → Option Fact) (rest : S → List Fact) (file : HeldFile)
+    (s : S) → file.fits ≡ true → ¬ IsOverShelf file.told.store
+    → IsNew (listed_behaviour held rest (λ _. Unit {0})) s
+    → rest s ≡ file.told.store → length (rest s) ≤ 2 ^ 40
+    → IsHeldStream (listed_behaviour held rest (λ _. Unit {0})) file s
 held_stream held rest file s fits within new is few = record {
   fits = fits;
   within = within;
@@ -99,16 +118,24 @@ held_stream held rest file s fits within new is few = record {
   fails = λ now fault e. let d : Some fault ≡ None = e in cc;
 }
 
-module _ (choice : Choice) {R : Type 0} (unread : R → Option (List ℕ)) (failures : R → ℕ) {S : Type 0} (b : Behaviour S) where
-  told_before : (xs : List (JoinInput R)) (fs : List (Option HeldFile)) (os : List (Option (OrFull S))) (contents : List (List ℕ)) (n : ℕ) → Stands choice unread failures b xs fs os → Inspects choice unread failures b xs fs contents
-      → TellBefore (joins choice unread failures b) n (replaced xs os) → AllByRecursion (TellsWithin choice) (take n contents)
+module _ (choice : Choice) {R : Type 0} (unread : R → Option (List ℕ)) (failures : R → ℕ)
+    {S : Type 0} (b : Behaviour S) where
+  told_before : (xs : List (JoinInput R)) (fs : List (Option HeldFile))
+      (os : List (Option (OrFull S))) (contents : List (List ℕ)) (n : ℕ)
+      → Stands choice unread failures b xs fs os → Inspects choice unread failures b xs fs contents
+      → TellBefore (joins choice unread failures b) n (replaced xs os)
+      → AllByRecursion (TellsWithin choice) (take n contents)
   told_before xs fs os contents zero h l t = tt
   told_before [] [] [] [] (suc n) h l t = tt
   told_before (x ∷ xs) (None ∷ fs) (None ∷ os) (bytes ∷ contents) (suc n) h l t =
-      let one = tells_one choice unread failures b x None None bytes (First x) t.0.0 refl h.0.0 h.0.1 l.0 t.0.1 in
+      let one =
+      tells_one choice unread failures b x None None bytes (First x) t.0.0 refl h.0.0 h.0.1 l.0
+      t.0.1 in
       ((one.told, one.tells, one.within), told_before xs fs os contents n h.1 l.1 t.1)
   told_before (x ∷ xs) (Some f ∷ fs) (Some s ∷ os) (bytes ∷ contents) (suc n) h l t =
-      let one = tells_one choice unread failures b x (Some f) (Some s) bytes (Second (record { stream = s; beside = x })) t.0.0 refl h.0.0 h.0.1 l.0 t.0.1 in
+      let one =
+      tells_one choice unread failures b x (Some f) (Some s) bytes
+      (Second (record { stream = s; beside = x })) t.0.0 refl h.0.0 h.0.1 l.0 t.0.1 in
       ((one.told, one.tells, one.within), told_before xs fs os contents n h.1 l.1 t.1)
   told_before (x ∷ xs) (None ∷ fs) (Some s ∷ os) contents (suc n) h l t = absurd h.0.1
   told_before (x ∷ xs) (Some f ∷ fs) (None ∷ os) contents (suc n) h l t = absurd h.0.1
@@ -121,48 +148,91 @@ module _ (choice : Choice) {R : Type 0} (unread : R → Option (List ℕ)) (fail
   told_before (x ∷ xs) (Some f ∷ fs) [] contents (suc n) h l t = elim h [ ]
   told_before (x ∷ xs) (Some f ∷ fs) (Some s ∷ os) [] (suc n) h l t = elim l [ ]
 
-  module _ (contents : List (List ℕ)) (n : ℕ) (bytes : List ℕ) (here : slice_get contents n ≡ Some bytes) (known : AllByRecursion HasKnownKind contents)
+  module _ (contents : List (List ℕ)) (n : ℕ) (bytes : List ℕ)
+      (here : slice_get contents n ≡ Some bytes) (known : AllByRecursion HasKnownKind contents)
       (before : AllByRecursion (TellsWithin choice) (take n contents)) where
     over_alone : (IsOverAlone choice) bytes → JoinToFails choice contents Full
-    over_alone h = of_inputs (known, inl (n + 1, first_at (TellsWithin choice) (IsOverAlone choice) contents n bytes here before h))
+    over_alone h =
+        of_inputs (
+          known,
+          inl (
+            n + 1,
+            first_at (TellsWithin choice) (IsOverAlone choice) contents n bytes here before h,
+          ),
+        )
 
-    journal_stops : (x : JoinInput R) (fault : LoadFault) → IsReady unread failures x None → IsInspected unread choice x None bytes → (joins choice unread failures b).stops (First x) fault → JoinToFails choice contents (of_load (n + 1) fault)
+    journal_stops : (x : JoinInput R) (fault : LoadFault) → IsReady unread failures x None
+        → IsInspected unread choice x None bytes
+        → (joins choice unread failures b).stops (First x) fault
+        → JoinToFails choice contents (of_load (n + 1) fault)
     journal_stops x (load.Read f) ready inspected (inl h) =
-        let P : Option (List ℕ) → Type 0 = λ o. HasFault journal_framing x.stream.stream.max_entries o f in
+        let P : Option (List ℕ) → Type 0 =
+        λ o. HasFault journal_framing x.stream.stream.max_entries o f in
         let Q : ℕ → Type 0 = λ m. HasFault journal_framing m (Some bytes) f in
         elim (read_or_not f) [
-          | inl is ↦ of_source (n + 1) (ap (Input (n + 1)) is) (inr (known, first_at (TellsWithin choice) (HasKind kinds.Journal) contents n bytes here before inspected.0))
-          | inr other ↦ of_inputs (inr (known, first_at (TellsWithin choice) (IsJournalAt f) contents n bytes here before (inspected.0, subst Q (ready refl).2 (subst P inspected.1 h), other)))
+          | inl is ↦ of_source (n + 1) (ap (Input (n + 1)) is)
+              (inr (
+                known,
+                first_at (TellsWithin choice) (HasKind kinds.Journal) contents n bytes
+                    here before inspected.0,
+              ))
+          | inr other ↦ of_inputs
+              (inr (
+                known,
+                first_at (TellsWithin choice) (IsJournalAt f) contents n bytes here
+                    before (inspected.0, subst Q (ready refl).2 (subst P inspected.1 h), other),
+              ))
         ]
     journal_stops x load.Full ready inspected (inl h) = absurd h
     journal_stops x load.OutOfMemory ready inspected (inl h) = absurd h
     journal_stops x (load.Read f) ready inspected (inr h) = let e = h.0 in absurd cc
     journal_stops x load.Full ready inspected (inr h) =
-        let P : Option (List ℕ) → Type 0 = λ o. IfSome o (λ bs. BeginsWith x.stream.stream.max_entries bs h.1.1.0) in
+        let P : Option (List ℕ) → Type 0 =
+        λ o. IfSome o (λ bs. BeginsWith x.stream.stream.max_entries bs h.1.1.0) in
         let Q : ℕ → Type 0 = λ m. BeginsWith m bytes h.1.1.0 in
-        let is : h.1.0 ≡ chosen choice.tsis h.1.1.0 = h.1.1.2 ∙ ap (λ tsis. chosen tsis h.1.1.0) inspected.2 in
-        over_alone (inl (inspected.0, h.1.1.0, subst Q (ready refl).2 (subst P inspected.1 h.1.1.1), subst IsOverShelf is h.1.2))
+        let is : h.1.0 ≡ chosen choice.tsis h.1.1.0 =
+        h.1.1.2 ∙ ap (λ tsis. chosen tsis h.1.1.0) inspected.2 in
+        over_alone (inl (
+          inspected.0,
+          h.1.1.0,
+          subst Q (ready refl).2 (subst P inspected.1 h.1.1.1),
+          subst IsOverShelf is h.1.2,
+        ))
     journal_stops x load.OutOfMemory ready inspected (inr h) = let e = h.0 in absurd cc
 
-    file_stops : (x : JoinInput R) (file : HeldFile) (s : OrFull S) (fault : LoadFault) → IsStreamOf b (Some file) (Some s) → IsInspected unread choice x (Some file) bytes → (joins choice unread failures b).stops (Second (record { stream = s; beside = x })) fault
+    file_stops : (x : JoinInput R) (file : HeldFile) (s : OrFull S) (fault : LoadFault)
+        → IsStreamOf b (Some file) (Some s) → IsInspected unread choice x (Some file) bytes
+        → (joins choice unread failures b).stops (Second (record { stream = s; beside = x })) fault
         → JoinToFails choice contents (of_load (n + 1) fault)
     file_stops x file (orfull.Stream s) fault stream inspected h = absurd (stream.stops fault h)
     file_stops x file orfull.Full fault stream inspected h =
         let P : Bool → Type 0 = λ c. HoldsAll choice c file.told inspected.0 in
-        subst (λ f. JoinToFails choice contents (of_load (n + 1) f)) (sym h) (over_alone (inr (inspected.0, inspected.1, subst P stream inspected.2.holds)))
+        subst (λ f. JoinToFails choice contents (of_load (n + 1) f)) (sym h)
+        (over_alone (inr (inspected.0, inspected.1, subst P stream inspected.2.holds)))
 
-    one_stops : (x : JoinInput R) (f : Option HeldFile) (o : Option (OrFull S)) (s : Either (JoinInput R) (Beside (JoinInput R) (OrFull S))) (fault : LoadFault) → IsReady unread failures x f → IsStreamOf b f o → IsInspected unread choice x f bytes
-        → replaced (x ∷ []) (o ∷ []) ≡ s ∷ [] → (joins choice unread failures b).stops s fault → JoinToFails choice contents (of_load (n + 1) fault)
-    one_stops x None None s fault ready stream inspected e h = let is : First x ≡ s = cc in journal_stops x fault ready inspected (subst (λ t. (joins choice unread failures b).stops t fault) (sym is) h)
+    one_stops : (x : JoinInput R) (f : Option HeldFile) (o : Option (OrFull S))
+        (s : Either (JoinInput R) (Beside (JoinInput R) (OrFull S))) (fault : LoadFault)
+        → IsReady unread failures x f → IsStreamOf b f o → IsInspected unread choice x f bytes
+        → replaced (x ∷ []) (o ∷ []) ≡ s ∷ [] → (joins choice unread failures b).stops s fault
+        → JoinToFails choice contents (of_load (n + 1) fault)
+    one_stops x None None s fault ready stream inspected e h = let is : First x ≡ s = cc in
+        journal_stops x fault ready inspected
+        (subst (λ t. (joins choice unread failures b).stops t fault) (sym is) h)
     one_stops x (Some file) (Some t) s fault ready stream inspected e h =
         let is : Second (record { stream = t; beside = x }) ≡ s = cc in
-        file_stops x file t fault stream inspected (subst (λ u. (joins choice unread failures b).stops u fault) (sym is) h)
+        file_stops x file t fault stream inspected
+        (subst (λ u. (joins choice unread failures b).stops u fault) (sym is) h)
     one_stops x None (Some t) s fault ready stream inspected e h = absurd stream
     one_stops x (Some file) None s fault ready stream inspected e h = absurd stream
 
   -- the first fault is told as that of its input
-  pub first_fails : (xs : List (JoinInput R)) (fs : List (Option HeldFile)) (os : List (Option (OrFull S))) (contents : List (List ℕ)) (now : List (Either (JoinInput R) (Beside (JoinInput R) (OrFull S)))) (first : InputFault)
-      → Stands choice unread failures b xs fs os → length fs ≡ length xs → AreInspected unread choice xs fs contents → FirstFault (joins choice unread failures b) (replaced xs os) now first → JoinToFails choice contents (of_load (first.number + 1) first.fault)
+  pub first_fails : (xs : List (JoinInput R)) (fs : List (Option HeldFile))
+      (os : List (Option (OrFull S))) (contents : List (List ℕ))
+      (now : List (Either (JoinInput R) (Beside (JoinInput R) (OrFull S)))) (first : InputFault)
+      → Stands choice unread failures b xs fs os → length fs ≡ length xs
+      → AreInspected unread choice xs fs contents
+      → FirstFault (joins choice unread failures b) (replaced xs os) now first
+      → JoinToFails choice contents (of_load (first.number + 1) first.fault)
   first_fails xs fs os contents now first h many inspected fault =
       let n = first.number in
       let p = place choice unread failures b xs fs os n fault.stopped.new h fault.stopped.was in
@@ -170,56 +240,93 @@ module _ (choice : Choice) {R : Type 0} (unread : R → Option (List ℕ)) (fail
       let known = all_known choice unread failures b xs fs contents l in
       let within = slice_get_within xs n p.input p.own in
       let here = at_place contents n (omega (arith, within, inspected.as_many)) in
-      one_stops contents n here.0 here.1 known (told_before xs fs os contents n h l fault.before) p.input p.file p.other fault.stopped.new first.fault p.ready p.stream
+      one_stops contents n here.0 here.1 known (told_before xs fs os contents n h l fault.before)
+      p.input p.file p.other fault.stopped.new first.fault p.ready p.stream
       (inspected.each n p.input p.file here.0 p.own p.held here.1) p.is fault.stopped.stop.stops
 
-  pub first_within : (xs : List (JoinInput R)) (fs : List (Option HeldFile)) (os : List (Option (OrFull S))) (now : List (Either (JoinInput R) (Beside (JoinInput R) (OrFull S)))) (first : InputFault) → Stands choice unread failures b xs fs os
-      → FirstFault (joins choice unread failures b) (replaced xs os) now first → first.number < length xs
+  pub first_within : (xs : List (JoinInput R)) (fs : List (Option HeldFile))
+      (os : List (Option (OrFull S)))
+      (now : List (Either (JoinInput R) (Beside (JoinInput R) (OrFull S)))) (first : InputFault)
+      → Stands choice unread failures b xs fs os
+      → FirstFault (joins choice unread failures b) (replaced xs os) now first
+      → first.number < length xs
   first_within xs fs os now first h fault =
-      let p = place choice unread failures b xs fs os first.number fault.stopped.new h fault.stopped.was in
+      let p = place choice unread failures b xs fs os first.number fault.stopped.new h
+      fault.stopped.was in
       slice_get_within xs first.number p.input p.own
 
   -- What has failed.
 
   -- the first reference of a replaced place
-  record Own (xs : List (JoinInput R)) (n : ℕ) (s : Either (JoinInput R) (Beside (JoinInput R) (OrFull S))) : Type 0 where
+  record Own (xs : List (JoinInput R)) (n : ℕ)
+      (s : Either (JoinInput R) (Beside (JoinInput R) (OrFull S))) : Type 0 where
     pub input : JoinInput R
     pub other : Option (OrFull S)
     pub own : slice_get xs n ≡ Some input
     pub is : replaced (input ∷ []) (other ∷ []) ≡ s ∷ []
 
-  own_at : (xs : List (JoinInput R)) (os : List (Option (OrFull S))) (n : ℕ) (s : Either (JoinInput R) (Beside (JoinInput R) (OrFull S))) → slice_get (replaced xs os) n ≡ Some s → Own xs n s
+  own_at : (xs : List (JoinInput R)) (os : List (Option (OrFull S))) (n : ℕ)
+      (s : Either (JoinInput R) (Beside (JoinInput R) (OrFull S)))
+      → slice_get (replaced xs os) n ≡ Some s → Own xs n s
   own_at [] os n s e = let d : None ≡ Some s = e in absurd cc
   own_at (x ∷ xs) [] n s e = let d : None ≡ Some s = e in absurd cc
-  own_at (x ∷ xs) (None ∷ os) zero s e = record { input = x; other = None; own = refl; is = let i : First x ≡ s = cc in ap (λ t. t ∷ []) i }
-  own_at (x ∷ xs) (Some t ∷ os) zero s e = record { input = x; other = Some t; own = refl; is = let i : Second (record { stream = t; beside = x }) ≡ s = cc in ap (λ u. u ∷ []) i }
-  own_at (x ∷ xs) (None ∷ os) (suc n) s e = let r = own_at xs os n s e in record { input = r.input; other = r.other; own = r.own; is = r.is }
-  own_at (x ∷ xs) (Some t ∷ os) (suc n) s e = let r = own_at xs os n s e in record { input = r.input; other = r.other; own = r.own; is = r.is }
+  own_at (x ∷ xs) (None ∷ os) zero s e =
+      record {
+        input = x;
+        other = None;
+        own = refl;
+        is = let i : First x ≡ s = cc in
+            ap (λ t. t ∷ []) i;
+      }
+  own_at (x ∷ xs) (Some t ∷ os) zero s e =
+      record {
+        input = x;
+        other = Some t;
+        own = refl;
+        is =
+            let i : Second (record { stream = t; beside = x }) ≡ s = cc in ap (λ u. u ∷ []) i;
+      }
+  own_at (x ∷ xs) (None ∷ os) (suc n) s e = let r = own_at xs os n s e in
+      record { input = r.input; other = r.other; own = r.own; is = r.is }
+  own_at (x ∷ xs) (Some t ∷ os) (suc n) s e = let r = own_at xs os n s e in
+      record { input = r.input; other = r.other; own = r.own; is = r.is }
 
-  failed_once : (x y : JoinInput R) (f : Option HeldFile) (o p : Option (OrFull S)) (s t : Either (JoinInput R) (Beside (JoinInput R) (OrFull S))) → replaced (x ∷ []) (o ∷ []) ≡ s ∷ [] → replaced (y ∷ []) (p ∷ []) ≡ t ∷ [] → IsStreamOf b f o
-      → (joins choice unread failures b).fails s t (Some (load.Read Read)) → failures_of failures y ≡ failures_of failures x + 1
-  failed_once x y f o p s t e d stream h = go f o p stream (subst (λ v. (joins choice unread failures b).fails v t (Some (load.Read Read))) (own_is x o s e) h)
+  failed_once : (x y : JoinInput R) (f : Option HeldFile) (o p : Option (OrFull S))
+      (s t : Either (JoinInput R) (Beside (JoinInput R) (OrFull S)))
+      → replaced (x ∷ []) (o ∷ []) ≡ s ∷ [] → replaced (y ∷ []) (p ∷ []) ≡ t ∷ [] → IsStreamOf b f o
+      → (joins choice unread failures b).fails s t (Some (load.Read Read))
+      → failures_of failures y ≡ failures_of failures x + 1
+  failed_once x y f o p s t e d stream h =
+      go f o p stream (subst
+      (λ v. (joins choice unread failures b).fails v t (Some (load.Read Read))) (own_is x o s e) h)
     where
       head_is : {X : Type 0} (u v : X) → u ∷ [] ≡ v ∷ [] → u ≡ v
       head_is u v same = cc
 
-      chosen : JoinInput R → Option (OrFull S) → Either (JoinInput R) (Beside (JoinInput R) (OrFull S))
+      chosen : JoinInput R → Option (OrFull S)
+          → Either (JoinInput R) (Beside (JoinInput R) (OrFull S))
       chosen z None = First z
       chosen z (Some u) = Second (record { stream = u; beside = z })
 
-      chosen_is : (z : JoinInput R) (q : Option (OrFull S)) → replaced (z ∷ []) (q ∷ []) ≡ chosen z q ∷ []
+      chosen_is : (z : JoinInput R) (q : Option (OrFull S))
+          → replaced (z ∷ []) (q ∷ []) ≡ chosen z q ∷ []
       chosen_is z None = refl
       chosen_is z (Some u) = refl
 
-      own_is : (z : JoinInput R) (q : Option (OrFull S)) (v : Either (JoinInput R) (Beside (JoinInput R) (OrFull S))) → replaced (z ∷ []) (q ∷ []) ≡ v ∷ [] → v ≡ chosen z q
+      own_is : (z : JoinInput R) (q : Option (OrFull S))
+          (v : Either (JoinInput R) (Beside (JoinInput R) (OrFull S)))
+          → replaced (z ∷ []) (q ∷ []) ≡ v ∷ [] → v ≡ chosen z q
       own_is z q v same = head_is v (chosen z q) (sym same ∙ chosen_is z q)
 
-      one : (q r : Option (OrFull S)) (g : Option HeldFile) → IsStreamOf b g q → (joins choice unread failures b).fails (chosen x q) (chosen y r) (Some (load.Read Read)) → failures_of failures y ≡ failures_of failures x + 1
+      one : (q r : Option (OrFull S)) (g : Option HeldFile) → IsStreamOf b g q
+          → (joins choice unread failures b).fails (chosen x q) (chosen y r) (Some (load.Read Read))
+          → failures_of failures y ≡ failures_of failures x + 1
       one None None g i (inl k) = k
       one None None g i (inr k) = let e = k.0 in absurd cc
       one None (Some u) g i k = absurd k
       one (Some u) None g i k = absurd k
-      one (Some (orfull.Stream u)) (Some (orfull.Stream v)) (Some file) i k = absurd (i.fails v (load.Read Read) k.0)
+      one (Some (orfull.Stream u)) (Some (orfull.Stream v)) (Some file) i k =
+          absurd (i.fails v (load.Read Read) k.0)
       one (Some (orfull.Stream u)) (Some (orfull.Stream v)) None i k = absurd i
       one (Some (orfull.Stream u)) (Some orfull.Full) g i k = absurd k.0
       one (Some orfull.Full) (Some (orfull.Stream v)) g i k = absurd k.0
@@ -229,11 +336,19 @@ module _ (choice : Choice) {R : Type 0} (unread : R → Option (List ℕ)) (fail
           neither (inl e) = cc
           neither (inr e) = cc
 
-      go : (g : Option HeldFile) (q r : Option (OrFull S)) → IsStreamOf b g o → (joins choice unread failures b).fails (chosen x o) t (Some (load.Read Read)) → failures_of failures y ≡ failures_of failures x + 1
-      go g q r i k = one o p g i (subst (λ v. (joins choice unread failures b).fails (chosen x o) v (Some (load.Read Read))) (own_is y p t d) k)
+      go : (g : Option HeldFile) (q r : Option (OrFull S)) → IsStreamOf b g o
+          → (joins choice unread failures b).fails (chosen x o) t (Some (load.Read Read))
+          → failures_of failures y ≡ failures_of failures x + 1
+      go g q r i k =
+          one o p g i (subst (λ v. (joins choice unread failures b).fails (chosen x o) v
+          (Some (load.Read Read))) (own_is y p t d) k)
 
-  pub read_failed : (xs ys : List (JoinInput R)) (fs : List (Option HeldFile)) (os ps : List (Option (OrFull S))) (first : InputFault) → Stands choice unread failures b xs fs os
-      → FirstFault (joins choice unread failures b) (replaced xs os) (replaced ys ps) first → (number : ℕ) → of_load (first.number + 1) first.fault ≡ Input number Read → OneFailed failures number xs ys
+  pub read_failed : (xs ys : List (JoinInput R)) (fs : List (Option HeldFile))
+      (os ps : List (Option (OrFull S))) (first : InputFault)
+      → Stands choice unread failures b xs fs os
+      → FirstFault (joins choice unread failures b) (replaced xs os) (replaced ys ps) first
+      → (number : ℕ) → of_load (first.number + 1) first.fault ≡ Input number Read
+      → OneFailed failures number xs ys
   read_failed xs ys fs os ps first h fault number e =
       let n = first.number in
       let p = place choice unread failures b xs fs os n fault.stopped.new h fault.stopped.was in
@@ -246,63 +361,92 @@ module _ (choice : Choice) {R : Type 0} (unread : R → Option (List ℕ)) (fail
         after = q.input;
         was = p.own;
         is = q.own;
-        failed = failed_once p.input q.input p.file p.other q.other fault.stopped.new fault.stopped.stop.stream p.is q.is p.stream
-            (subst (λ f. (joins choice unread failures b).fails fault.stopped.new fault.stopped.stop.stream (Some f)) told.0 fault.stopped.stop.fails);
+        failed =
+            failed_once p.input q.input p.file p.other q.other fault.stopped.new
+            fault.stopped.stop.stream p.is q.is p.stream
+            (subst (λ f. (joins choice unread failures b).fails fault.stopped.new
+            fault.stopped.stop.stream (Some f)) told.0 fault.stopped.stop.fails);
       }
     where
-      told_read : (f : LoadFault) (m number : ℕ) → of_load m f ≡ Input number Read → (f ≡ load.Read Read) × (number ≡ m)
+      told_read : (f : LoadFault) (m number : ℕ) → of_load m f ≡ Input number Read
+          → (f ≡ load.Read Read) × (number ≡ m)
       told_read (load.Read f) m number e = (let same : f ≡ Read = cc in ap load.Read same, cc)
       told_read load.Full m number e = absurd cc
       told_read load.OutOfMemory m number e = absurd cc
 
-  none_at : (xs ys : List (JoinInput R)) (os ps : List (Option (OrFull S))) → length ys ≡ length xs → length os ≡ length xs → length ps ≡ length xs → NoneFails (joins choice unread failures b) (replaced xs os) (replaced ys ps)
-      → (k : ℕ) (x y : JoinInput R) → slice_get xs k ≡ Some x → slice_get ys k ≡ Some y → failures_of failures y ≡ failures_of failures x
+  none_at : (xs ys : List (JoinInput R)) (os ps : List (Option (OrFull S))) → length ys ≡ length xs
+      → length os ≡ length xs → length ps ≡ length xs
+      → NoneFails (joins choice unread failures b) (replaced xs os) (replaced ys ps)
+      → (k : ℕ) (x y : JoinInput R) → slice_get xs k ≡ Some x → slice_get ys k ≡ Some y
+      → failures_of failures y ≡ failures_of failures x
   none_at [] ys os ps e d c h k x y was is = let w : None ≡ Some x = was in absurd cc
   none_at (z ∷ xs) [] os ps e d c h k x y was is = absurd (omega (arith, e))
   none_at (z ∷ xs) (w ∷ ys) [] ps e d c h k x y was is = absurd (omega (arith, d))
   none_at (z ∷ xs) (w ∷ ys) (o ∷ os) [] e d c h k x y was is = absurd (omega (arith, c))
   none_at (z ∷ xs) (w ∷ ys) (None ∷ os) (None ∷ ps) e d c h zero x y was is =
-      let a : z ≡ x = cc in let f : w ≡ y = cc in ap (failures_of failures) (sym f) ∙ kept h.0 ∙ ap (failures_of failures) a
+      let a : z ≡ x = cc in let f : w ≡ y = cc in
+      ap (failures_of failures) (sym f) ∙ kept h.0 ∙ ap (failures_of failures) a
     where
-      kept : (joins choice unread failures b).fails (First z) (First w) None → failures_of failures w ≡ failures_of failures z
+      kept : (joins choice unread failures b).fails (First z) (First w) None
+          → failures_of failures w ≡ failures_of failures z
       kept (inl q) = q
       kept (inr q) = let e = q.0 in absurd cc
   none_at (z ∷ xs) (w ∷ ys) (Some s ∷ os) (Some t ∷ ps) e d c h zero x y was is =
       let a : z ≡ x = cc in let f : w ≡ y = cc in ap (failures_of failures) (sym f ∙ h.0.1 ∙ a)
   none_at (z ∷ xs) (w ∷ ys) (None ∷ os) (Some t ∷ ps) e d c h k x y was is = absurd h.0
   none_at (z ∷ xs) (w ∷ ys) (Some s ∷ os) (None ∷ ps) e d c h k x y was is = absurd h.0
-  none_at (z ∷ xs) (w ∷ ys) (None ∷ os) (None ∷ ps) e d c h (suc k) x y was is = none_at xs ys os ps (omega (arith, e)) (omega (arith, d)) (omega (arith, c)) h.1 k x y was is
-  none_at (z ∷ xs) (w ∷ ys) (Some s ∷ os) (Some t ∷ ps) e d c h (suc k) x y was is = none_at xs ys os ps (omega (arith, e)) (omega (arith, d)) (omega (arith, c)) h.1 k x y was is
+  none_at (z ∷ xs) (w ∷ ys) (None ∷ os) (None ∷ ps) e d c h (suc k) x y was is =
+      none_at xs ys os ps (omega (arith, e)) (omega (arith, d)) (omega (arith, c)) h.1 k x y was is
+  none_at (z ∷ xs) (w ∷ ys) (Some s ∷ os) (Some t ∷ ps) e d c h (suc k) x y was is =
+      none_at xs ys os ps (omega (arith, e)) (omega (arith, d)) (omega (arith, c)) h.1 k x y was is
 
-  pub none_failed : (xs ys : List (JoinInput R)) (os ps : List (Option (OrFull S))) → length ys ≡ length xs → length os ≡ length xs → length ps ≡ length xs → NoneFails (joins choice unread failures b) (replaced xs os) (replaced ys ps)
+  pub none_failed : (xs ys : List (JoinInput R)) (os ps : List (Option (OrFull S)))
+      → length ys ≡ length xs → length os ≡ length xs → length ps ≡ length xs
+      → NoneFails (joins choice unread failures b) (replaced xs os) (replaced ys ps)
       → NoneFailed failures xs ys
   none_failed xs ys os ps e d c h = record { as_many = e; each = none_at xs ys os ps e d c h }
 
   -- What was joined.
 
-  limits_same : (F G : List Fact) (within : Bool) → Same F G → IsWithinLimits 64 4096 1048576 F within → IsWithinLimits 64 4096 1048576 G within
+  limits_same : (F G : List Fact) (within : Bool) → Same F G
+      → IsWithinLimits 64 4096 1048576 F within → IsWithinLimits 64 4096 1048576 G within
   limits_same F G true same h = λ over. h (over_same G F (Same-sym F G same) over)
   limits_same F G false same h = over_same F G same h
 
-  pub joins_inspected : (xs : List (JoinInput R)) (fs : List (Option HeldFile)) (os : List (Option (OrFull S))) (contents : List (List ℕ)) (joined : MergedJournal) (w w' : Option (List ℕ)) → Stands choice unread failures b xs fs os → length fs ≡ length xs
-      → AreInspected unread choice xs fs contents → MergedAll (joins choice unread failures b) (replaced xs os) 64 4096 1048576 joined w w' → JoinsInspected choice contents fs joined w w'
+  pub joins_inspected : (xs : List (JoinInput R)) (fs : List (Option HeldFile))
+      (os : List (Option (OrFull S))) (contents : List (List ℕ)) (joined : MergedJournal)
+      (w w' : Option (List ℕ)) → Stands choice unread failures b xs fs os → length fs ≡ length xs
+      → AreInspected unread choice xs fs contents
+      → MergedAll (joins choice unread failures b) (replaced xs os) 64 4096 1048576 joined w w'
+      → JoinsInspected choice contents fs joined w w'
   joins_inspected xs fs os contents joined w w' h many inspected m =
-      let t = tells_each choice unread failures b xs fs os contents m.told h (looks choice unread failures b xs fs contents many inspected) m.tell in
+      let t = tells_each choice unread failures b xs fs os contents m.told h
+      (looks choice unread failures b xs fs contents many inspected) m.tell in
       record {
         told = t.told;
         tell = t.tell;
         alone = t.alone;
         entries = m.entries;
-        collects = record { valid = m.collects.valid; rising = m.collects.rising; same = Same-trans (flat_map (content_facts choice) t.told) (all_of m.told) m.entries (Same-sym (all_of m.told) (flat_map (content_facts choice) t.told) t.same) m.collects.same };
+        collects = record {
+          valid = m.collects.valid;
+          rising = m.collects.rising;
+          same =
+              Same-trans (flat_map (content_facts choice) t.told) (all_of m.told) m.entries
+              (Same-sym (all_of m.told) (flat_map (content_facts choice) t.told) t.same)
+              m.collects.same;
+        };
         count = m.count;
-        limits = limits_same (all_of m.told) (flat_map (content_facts choice) t.told) joined.within t.same m.limits;
+        limits =
+            limits_same (all_of m.told) (flat_map (content_facts choice) t.told) joined.within
+            t.same m.limits;
         written = m.written;
         datagrams = t.datagrams;
         refused = t.refused;
       }
 
 -- the number is that of an input
-pub names_one : (count n : ℕ) (fault : LoadFault) → n < count → NamesOneOf count (of_load (n + 1) fault)
+pub names_one : (count n : ℕ) (fault : LoadFault) → n < count
+    → NamesOneOf count (of_load (n + 1) fault)
 names_one count n (load.Read f) within = (omega arith, omega (arith, within))
 names_one count n load.Full within = tt
 names_one count n load.OutOfMemory within = tt
@@ -314,40 +458,64 @@ no_sink n load.OutOfMemory e = cc
 
 -- What the whole join comes to.
 
-file_not_held : {choice : Choice} (P : List ℕ → Type 0) (inputs : List (List ℕ)) (number : ℕ) (first : FirstInput HasKnownKind P number inputs) (fault : CommandFault) → HasKind kinds.Datagrams first.bytes → FileFails number (Some first.bytes) fault
+file_not_held : {choice : Choice} (P : List ℕ → Type 0) (inputs : List (List ℕ)) (number : ℕ)
+    (first : FirstInput HasKnownKind P number inputs) (fault : CommandFault)
+    → HasKind kinds.Datagrams first.bytes → FileFails number (Some first.bytes) fault
     → JoinToFails choice inputs fault
 file_not_held {choice} P inputs number first (Input told f) kind h =
     elim (read_or_not f) [
-      | inl is ↦ of_source number (ap (λ m. Input m f) h.0 ∙ ap (Input number) is) (inl (first_with HasKnownKind P (HasKind kinds.Datagrams) number inputs first kind))
+      | inl is ↦ of_source number (ap (λ m. Input m f) h.0 ∙ ap (Input number) is)
+          (inl (first_with HasKnownKind P (HasKind kinds.Datagrams) number inputs first kind))
       | inr other ↦
           let Q : CommandFault → Type 0 = λ g. JoinFails choice inputs g in
-          of_inputs (subst Q (sym (ap (λ m. Input m f) h.0)) (inl (first_with HasKnownKind P (IsFileAt f) number inputs first (kind, h.1, other))))
+          of_inputs (subst Q (sym (ap (λ m. Input m f) h.0))
+          (inl (first_with HasKnownKind P (IsFileAt f) number inputs first (kind, h.1, other))))
     ]
 file_not_held {choice} P inputs number first OutOfMemory kind h = of_inputs tt
 file_not_held {choice} P inputs number first fault kind h = absurd h
 
-pub not_inspected : {choice : Choice} (inputs : List (List ℕ)) (fault : CommandFault) → SomeInspectionFails inputs fault → JoinToFails choice inputs fault
-not_inspected {choice} inputs fault (inr memory) = let P : CommandFault → Type 0 = λ g. JoinToFails choice inputs g in subst P (sym memory) (of_inputs tt)
+pub not_inspected : {choice : Choice} (inputs : List (List ℕ)) (fault : CommandFault)
+    → SomeInspectionFails inputs fault → JoinToFails choice inputs fault
+not_inspected {choice} inputs fault (inr memory) = let P : CommandFault → Type 0 =
+    λ g. JoinToFails choice inputs g in subst P (sym memory) (of_inputs tt)
 not_inspected {choice} inputs fault (inl h) = go h.1.here
   where
     go : InspectionFails h.0 h.1.bytes fault → JoinToFails choice inputs fault
     go (of_kind is neither) =
         let P : CommandFault → Type 0 = λ g. JoinToFails choice inputs g in
-        subst P (sym is) (of_inputs (first_with HasKnownKind (λ bytes. InspectionFails h.0 bytes fault) (λ bytes. Rattle.flute_journal.specs.Kinds.IsNeither bytes) h.0 inputs h.1 neither))
-    go (of_file kind fails) = file_not_held (λ bytes. InspectionFails h.0 bytes fault) inputs h.0 h.1 fault kind fails
+        subst P (sym is) (of_inputs
+        (first_with HasKnownKind (λ bytes. InspectionFails h.0 bytes fault)
+        (λ bytes. Rattle.flute_journal.specs.Kinds.IsNeither bytes) h.0 inputs h.1 neither))
+    go (of_file kind fails) =
+        file_not_held (λ bytes. InspectionFails h.0 bytes fault) inputs h.0 h.1 fault kind fails
 
-others_too : (F entries : List Fact) (w w' : Option (List ℕ)) → Collects F entries → Appends w w' (spelling entries) → (others : List Fact) → SameMembers F others → (bytes : List ℕ) → Journal bytes others → Appends w w' bytes
+others_too : (F entries : List Fact) (w w' : Option (List ℕ)) → Collects F entries
+    → Appends w w' (spelling entries) → (others : List Fact) → SameMembers F others
+    → (bytes : List ℕ) → Journal bytes others → Appends w w' bytes
 others_too F entries w w' c a others m bytes j =
-    let same : Same j.0 entries = Same-trans j.0 others entries (Same-sym others j.0 j.1.same) (Same-trans others F entries (Same-sym F others (Same-members F others m)) c.same) in
+    let same : Same j.0 entries =
+    Same-trans j.0 others entries (Same-sym others j.0 j.1.same)
+    (Same-trans others F entries (Same-sym F others (Same-members F others m)) c.same) in
     let one : j.0 ≡ entries = rising_unique j.0 entries j.1.rising c.rising same in
     subst (Appends w w') (sym (j.3 ∙ ap spelling one)) a
 
-pub joins_to : {choice : Choice} (inputs : List (List ℕ)) (fs : List (Option HeldFile)) (joined : MergedJournal) (datagrams refused others : ℕ) (w w' : Option (List ℕ)) → JoinsInspected choice inputs fs joined w w' → joined.within ≡ true → joined.cut ≡ false
-    → datagrams ≡ Rattle.std.specs.Prelude.sum_by Rattle.flutejoin.specs.Joining.datagrams_of fs → refused ≡ Rattle.std.specs.Prelude.sum_by Rattle.flutejoin.specs.Joining.refused_of fs
-    → JoinsTo choice inputs (record { datagrams = datagrams; refused = refused; others = others; entries = joined.entries }) w w'
+pub joins_to : {choice : Choice} (inputs : List (List ℕ)) (fs : List (Option HeldFile))
+    (joined : MergedJournal) (datagrams refused others : ℕ) (w w' : Option (List ℕ))
+    → JoinsInspected choice inputs fs joined w w' → joined.within ≡ true → joined.cut ≡ false
+    → datagrams ≡ Rattle.std.specs.Prelude.sum_by Rattle.flutejoin.specs.Joining.datagrams_of fs
+    → refused ≡ Rattle.std.specs.Prelude.sum_by Rattle.flutejoin.specs.Joining.refused_of fs
+    → JoinsTo choice inputs
+    (record {
+      datagrams = datagrams;
+      refused = refused;
+      others = others;
+      entries =
+          joined.entries;
+    }) w w'
 joins_to {choice} inputs fs joined datagrams refused others w w' h within whole d r =
     let P : Bool → Type 0 = λ c. Written c w w' (spelling h.entries) in
-    let Q : Bool → Type 0 = λ c. IsWithinLimits 64 4096 1048576 (flat_map (content_facts choice) h.told) c in
+    let Q : Bool → Type 0 =
+    λ c. IsWithinLimits 64 4096 1048576 (flat_map (content_facts choice) h.told) c in
     let appended = subst P whole h.written in
     record {
       told = h.told;
@@ -359,49 +527,78 @@ joins_to {choice} inputs fs joined datagrams refused others w w' h within whole 
       datagrams = d ∙ h.datagrams;
       refused = r ∙ h.refused;
       appended = appended;
-      as_others = others_too (flat_map (content_facts choice) h.told) h.entries w w' h.collects appended;
+      as_others =
+          others_too (flat_map (content_facts choice) h.told) h.entries w w' h.collects appended;
     }
 
-all_known_of : {choice : Choice} (inputs : List (List ℕ)) (fs : List (Option HeldFile)) (joined : MergedJournal) (w w' : Option (List ℕ)) → JoinsInspected choice inputs fs joined w w' → joined.within ≡ true → AllTell choice inputs
+all_known_of : {choice : Choice} (inputs : List (List ℕ)) (fs : List (Option HeldFile))
+    (joined : MergedJournal) (w w' : Option (List ℕ)) → JoinsInspected choice inputs fs joined w w'
+    → joined.within ≡ true → AllTell choice inputs
 all_known_of {choice} inputs fs joined w w' h within =
-    let Q : Bool → Type 0 = λ c. IsWithinLimits 64 4096 1048576 (flat_map (content_facts choice) h.told) c in
+    let Q : Bool → Type 0 =
+    λ c. IsWithinLimits 64 4096 1048576 (flat_map (content_facts choice) h.told) c in
     record { told = h.told; tell = h.tell; alone = h.alone; together = subst Q within h.limits }
 
-pub not_written : {choice : Choice} (inputs : List (List ℕ)) (fs : List (Option HeldFile)) (joined : MergedJournal) (w w' : Option (List ℕ)) → JoinsInspected choice inputs fs joined w w' → joined.within ≡ true → JoinToFails choice inputs CannotWrite
-not_written {choice} inputs fs joined w w' h within = of_sink refl (all_known_of inputs fs joined w w' h within)
+pub not_written : {choice : Choice} (inputs : List (List ℕ)) (fs : List (Option HeldFile))
+    (joined : MergedJournal) (w w' : Option (List ℕ)) → JoinsInspected choice inputs fs joined w w'
+    → joined.within ≡ true → JoinToFails choice inputs CannotWrite
+not_written {choice} inputs fs joined w w' h within =
+    of_sink refl (all_known_of inputs fs joined w w' h within)
 
-pub over_together : {choice : Choice} (inputs : List (List ℕ)) (fs : List (Option HeldFile)) (joined : MergedJournal) (w w' : Option (List ℕ)) → AllByRecursion HasKnownKind inputs → JoinsInspected choice inputs fs joined w w' → joined.within ≡ false → JoinToFails choice inputs Full
+pub over_together : {choice : Choice} (inputs : List (List ℕ)) (fs : List (Option HeldFile))
+    (joined : MergedJournal) (w w' : Option (List ℕ)) → AllByRecursion HasKnownKind inputs
+    → JoinsInspected choice inputs fs joined w w' → joined.within ≡ false
+    → JoinToFails choice inputs Full
 over_together {choice} inputs fs joined w w' known h over =
-    let Q : Bool → Type 0 = λ c. IsWithinLimits 64 4096 1048576 (flat_map (content_facts choice) h.told) c in
+    let Q : Bool → Type 0 =
+    λ c. IsWithinLimits 64 4096 1048576 (flat_map (content_facts choice) h.told) c in
     of_inputs (known, inr (h.alone, (h.told, h.tell, subst Q over h.limits)))
 
 -- inputs that were inspected are known
-pub known_of : {choice : Choice} {R : Type 0} (unread : R → Option (List ℕ)) (failures : R → ℕ) (xs : List (JoinInput R)) (fs : List (Option HeldFile)) (inputs : List (List ℕ)) → length fs ≡ length xs → AreInspected unread choice xs fs inputs → AllByRecursion HasKnownKind inputs
+pub known_of : {choice : Choice} {R : Type 0} (unread : R → Option (List ℕ)) (failures : R → ℕ)
+    (xs : List (JoinInput R)) (fs : List (Option HeldFile)) (inputs : List (List ℕ))
+    → length fs ≡ length xs → AreInspected unread choice xs fs inputs
+    → AllByRecursion HasKnownKind inputs
 known_of {choice} {R} unread failures xs fs inputs many h =
-    all_known choice unread failures (listed_behaviour {S = List Fact} (λ s. None) (λ s. s) (λ _. Unit {0})) xs fs inputs (looks choice unread failures (listed_behaviour {S = List Fact} (λ s. None) (λ s. s) (λ _. Unit {0})) xs fs inputs many h)
+    all_known choice unread failures
+    (listed_behaviour {S = List Fact} (λ s. None) (λ s. s) (λ _. Unit {0})) xs fs inputs
+    (looks choice unread failures
+    (listed_behaviour {S = List Fact} (λ s. None) (λ s. s) (λ _. Unit {0})) xs fs inputs many h)
 
 -- all files have their streams
-pub stands_of : (choice : Choice) {R S : Type 0} (unread : R → Option (List ℕ)) (failures : R → ℕ) {b : Behaviour S} {files : List (Option HeldFile)} {others : List (Option (OrFull S))} {k : ℕ} (xs : List (JoinInput R)) (ys : List (Option (OrFull S)))
-    → StreamsSoFar b files others k → length files ≤ k → AreReady unread failures xs files → ys ≡ others → Stands choice unread failures b xs files ys
+pub stands_of : (choice : Choice) {R S : Type 0} (unread : R → Option (List ℕ)) (failures : R → ℕ)
+    {b : Behaviour S} {files : List (Option HeldFile)} {others : List (Option (OrFull S))} {k : ℕ}
+    (xs : List (JoinInput R)) (ys : List (Option (OrFull S)))
+    → StreamsSoFar b files others k → length files ≤ k → AreReady unread failures xs files
+    → ys ≡ others → Stands choice unread failures b xs files ys
 stands_of choice unread failures {b} {files} {others} xs ys h past ready e =
-    subst (Stands choice unread failures b xs files) (sym e) (stands choice unread failures b xs files others ready.as_many (omega (arith, h.as_many, h.few, past)) ready.each h.each)
+    subst (Stands choice unread failures b xs files) (sym e)
+    (stands choice unread failures b xs files others ready.as_many
+    (omega (arith, h.as_many, h.few, past)) ready.each h.each)
 
-pub others_many : {S : Type 0} {b : Behaviour S} {files : List (Option HeldFile)} {others : List (Option (OrFull S))} {k : ℕ} (ys : List (Option (OrFull S))) → StreamsSoFar b files others k → length files ≤ k → ys ≡ others → length ys ≡ length files
+pub others_many : {S : Type 0} {b : Behaviour S} {files : List (Option HeldFile)}
+    {others : List (Option (OrFull S))} {k : ℕ} (ys : List (Option (OrFull S)))
+    → StreamsSoFar b files others k → length files ≤ k → ys ≡ others → length ys ≡ length files
 others_many ys h past e = ap length e ∙ omega (arith, h.as_many, h.few, past)
 
 -- Two passes, one after the other.
 
-pub none_failed_more : {R : Type 0} (failures : R → ℕ) (xs ys zs : List (JoinInput R)) → NoneFailed failures xs ys → NoneFailed failures ys zs → NoneFailed failures xs zs
+pub none_failed_more : {R : Type 0} (failures : R → ℕ) (xs ys zs : List (JoinInput R))
+    → NoneFailed failures xs ys → NoneFailed failures ys zs → NoneFailed failures xs zs
 none_failed_more failures xs ys zs h k = record {
   as_many = k.as_many ∙ h.as_many;
   each = λ j x z was is.
-      let y = at_place ys j (let within = slice_get_within xs j x was in omega (arith, within, h.as_many)) in
+      let y = at_place ys j
+      (let within = slice_get_within xs j x was in omega (arith, within, h.as_many)) in
       k.each j y.0 z y.1 is ∙ h.each j x y.0 was y.1;
 }
 
-pub one_failed_more : {R : Type 0} (failures : R → ℕ) (number : ℕ) (xs ys zs : List (JoinInput R)) → NoneFailed failures xs ys → OneFailed failures number ys zs → OneFailed failures number xs zs
+pub one_failed_more : {R : Type 0} (failures : R → ℕ) (number : ℕ) (xs ys zs : List (JoinInput R))
+    → NoneFailed failures xs ys → OneFailed failures number ys zs → OneFailed failures number xs zs
 one_failed_more failures number xs ys zs h k =
-    let x = at_place xs k.place (let within = slice_get_within ys k.place k.before k.was in omega (arith, within, h.as_many)) in
+    let x = at_place xs k.place
+    (let within = slice_get_within ys k.place k.before k.was in
+    omega (arith, within, h.as_many)) in
     record {
       place = k.place;
       number_is = k.number_is;

@@ -14,14 +14,15 @@ use Rattle.flute_journal.specs.declared.entry_fields.Before.{Before}
 use Rattle.flute_journal.specs.Input.{Fails, FailsIf}
 use Rattle.flute_journal.specs.Journal.{IsJournalWithin, journal_framing}
 use Rattle.flute_journal.specs.Framing.{is_open, GivesItem, GivesEnd, GivesFault, Gives, Sofar}
-use Rattle.flute_journal.proofs.Public.{whole-at, open_behind, read_some, side-from, journal_sound, sofar-next, sofar-stops}
+use Rattle.flute_journal.proofs.Public.{whole-at, open_after, read_some, side-from, journal_sound, sofar-next, sofar-stops}
 use Rattle.flutejoin.specs.Lines.{fact_line, entries_line}
 use Rattle.flutejoin.specs.Show.{entry_lines, FailsToRead, ShowsAll, ShowsUntil, ShowsPart, of_entries, of_journal}
 use Rattle.flutejoin.specs.declared.command_fault.CommandFault.TheVariants.{Input}
 use Rattle.flutejoin.specs.declared.limits.TheConstants.{MAX_ENTRIES}
 
 -- these entries were read, and their lines written, and nothing else
-pub record Shown (first now : Option (List ℕ)) (state : ReaderState Before) (old new : Option (List ℕ)) (count : ℕ) : Type 0 where
+pub record Shown (first now : Option (List ℕ)) (state : ReaderState Before)
+    (old new : Option (List ℕ)) (count : ℕ) : Type 0 where
   pub entries : List Fact
   pub sofar : Sofar journal_framing MAX_ENTRIES first now state entries
   pub counted : count ≡ length entries
@@ -31,26 +32,35 @@ pub record Shown (first now : Option (List ℕ)) (state : ReaderState Before) (o
 line_more : (es : List Fact) (f : Fact) → entry_lines es ++ fact_line f ≡ entry_lines (es ++ f ∷ [])
 line_more es f = flat_map_more fact_line [] es f
 
-pub shown-next : (u v w : Option (List ℕ)) (from to : ReaderState Before) (s t t' : Option (List ℕ)) (count : ℕ) (f : Fact) → Shown u v from s t count
-    → GivesItem journal_framing MAX_ENTRIES from to v w f → Appends t t' (fact_line f) → Shown u w to s t' (count + 1)
+pub shown-next : (u v w : Option (List ℕ)) (from to : ReaderState Before) (s t t' : Option (List ℕ))
+    (count : ℕ) (f : Fact) → Shown u v from s t count
+    → GivesItem journal_framing MAX_ENTRIES from to v w f → Appends t t' (fact_line f)
+    → Shown u w to s t' (count + 1)
 shown-next u v w from to s t t' count f h g line = record {
   entries = h.entries ++ f ∷ [];
   sofar = sofar-next journal_sound MAX_ENTRIES u v w from to h.entries f h.sofar g;
   counted = omega (arith, h.counted, length-append h.entries (f ∷ []));
-  written = subst (λ (x : List ℕ). Appends s t' x) (line_more h.entries f) (Appends-trans s t t' (entry_lines h.entries) (fact_line f) h.written line);
+  written =
+      subst (λ (x : List ℕ). Appends s t' x) (line_more h.entries f)
+      (Appends-trans s t t' (entry_lines h.entries) (fact_line f) h.written line);
 }
 
 -- a line was written in part
-pub shown-part : (u v w : Option (List ℕ)) (from to : ReaderState Before) (s t t' : Option (List ℕ)) (count : ℕ) (f : Fact) → Shown u v from s t count
-    → GivesItem journal_framing MAX_ENTRIES from to v w f → AppendsPart t t' (fact_line f) → ShowsPart u w s t'
+pub shown-part : (u v w : Option (List ℕ)) (from to : ReaderState Before) (s t t' : Option (List ℕ))
+    (count : ℕ) (f : Fact) → Shown u v from s t count
+    → GivesItem journal_framing MAX_ENTRIES from to v w f → AppendsPart t t' (fact_line f)
+    → ShowsPart u w s t'
 shown-part u v w from to s t t' count f h g part =
     let all = sofar-next journal_sound MAX_ENTRIES u v w from to h.entries f h.sofar g in
-    of_entries (h.entries ++ f ∷ []) all.are_items (subst (Consumes u w) (read_some journal_framing all.are_items.told h.entries f) all.read)
-    (subst (λ (x : List ℕ). AppendsPart s t' x) (line_more h.entries f) (AppendsPart-second s t t' (entry_lines h.entries) (fact_line f) h.written part))
+    of_entries (h.entries ++ f ∷ []) all.are_items
+    (subst (Consumes u w) (read_some journal_framing all.are_items.told h.entries f) all.read)
+    (subst (λ (x : List ℕ). AppendsPart s t' x) (line_more h.entries f)
+    (AppendsPart-second s t t' (entry_lines h.entries) (fact_line f) h.written part))
 
 -- The fault behind the entries.
 
-pub shown-fault : (u v w : Option (List ℕ)) (from to : ReaderState Before) (s t : Option (List ℕ)) (count : ℕ) (f : ReadFault) → Shown u v from s t count
+pub shown-fault : (u v w : Option (List ℕ)) (from to : ReaderState Before) (s t : Option (List ℕ))
+    (count : ℕ) (f : ReadFault) → Shown u v from s t count
     → GivesFault journal_framing MAX_ENTRIES from to v w f → ShowsUntil u w s t f
 shown-fault u v w from to s t count f h g = record {
   entries = h.entries;
@@ -61,49 +71,74 @@ shown-fault u v w from to s t count f h g = record {
 
 -- The end behind the entries.
 
-pub whole : (u v w : Option (List ℕ)) (from to : ReaderState Before) (es : List Fact) → Sofar journal_framing MAX_ENTRIES u v from es → GivesEnd journal_framing from to v w → IfSome u (λ x. IsJournalWithin MAX_ENTRIES x es)
-whole u v w from to es h g = whole-at journal_sound MAX_ENTRIES u w es (side-from journal_sound MAX_ENTRIES u v w from to es None h g)
+pub whole : (u v w : Option (List ℕ)) (from to : ReaderState Before) (es : List Fact)
+    → Sofar journal_framing MAX_ENTRIES u v from es → GivesEnd journal_framing from to v w
+    → IfSome u (λ x. IsJournalWithin MAX_ENTRIES x es)
+whole u v w from to es h g =
+    whole-at journal_sound MAX_ENTRIES u w es
+    (side-from journal_sound MAX_ENTRIES u v w from to es None h g)
 
-pub shown-all : (u v w : Option (List ℕ)) (from to : ReaderState Before) (s t t' : Option (List ℕ)) (count : ℕ) → Shown u v from s t count
+pub shown-all : (u v w : Option (List ℕ)) (from to : ReaderState Before) (s t t' : Option (List ℕ))
+    (count : ℕ) → Shown u v from s t count
     → GivesEnd journal_framing from to v w → Appends t t' (entries_line count) → ShowsAll u s t'
 shown-all u v w from to s t t' count h g line = record {
   entries = h.entries;
   journal = whole u v w from to h.entries h.sofar g;
-  written = Appends-trans s t t' (entry_lines h.entries) (entries_line (length h.entries)) h.written (subst (λ n. Appends t t' (entries_line n)) h.counted line);
+  written =
+      Appends-trans s t t' (entry_lines h.entries) (entries_line (length h.entries)) h.written
+      (subst (λ n. Appends t t' (entries_line n)) h.counted line);
 }
 
-pub shown-cut : (u v w : Option (List ℕ)) (from to : ReaderState Before) (s t t' : Option (List ℕ)) (count : ℕ) → Shown u v from s t count
-    → GivesEnd journal_framing from to v w → AppendsPart t t' (entries_line count) → ShowsPart u w s t'
+pub shown-cut : (u v w : Option (List ℕ)) (from to : ReaderState Before) (s t t' : Option (List ℕ))
+    (count : ℕ) → Shown u v from s t count
+    → GivesEnd journal_framing from to v w → AppendsPart t t' (entries_line count)
+    → ShowsPart u w s t'
 shown-cut u v w from to s t t' count h g part =
     of_journal h.entries (whole u v w from to h.entries h.sofar g)
-    (AppendsPart-second s t t' (entry_lines h.entries) (entries_line (length h.entries)) h.written (subst (λ n. AppendsPart t t' (entries_line n)) h.counted part))
+    (AppendsPart-second s t t' (entry_lines h.entries) (entries_line (length h.entries)) h.written
+    (subst (λ n. AppendsPart t t' (entries_line n)) h.counted part))
 
 -- What a call of the reader gave, and a write did.
 
-pub entry_given : (limit : ℕ) (from to : ReaderState Before) (v w : Option (List ℕ)) (r : Result (Option Fact) ReadFault) (f : Fact) → Gives journal_framing limit from to v w r → limit ≡ MAX_ENTRIES → r ≡ Ok (Some f) → GivesItem journal_framing MAX_ENTRIES from to v w f
-entry_given limit from to v w r f h l e = subst (λ n. Gives journal_framing n from to v w (Ok (Some f))) l (subst (λ (x : Result (Option Fact) ReadFault). Gives journal_framing limit from to v w x) e h)
+pub entry_given : (limit : ℕ) (from to : ReaderState Before) (v w : Option (List ℕ))
+    (r : Result (Option Fact) ReadFault) (f : Fact) → Gives journal_framing limit from to v w r
+    → limit ≡ MAX_ENTRIES → r ≡ Ok (Some f) → GivesItem journal_framing MAX_ENTRIES from to v w f
+entry_given limit from to v w r f h l e =
+    subst (λ n. Gives journal_framing n from to v w (Ok (Some f))) l
+    (subst (λ (x : Result (Option Fact) ReadFault). Gives journal_framing limit from to v w x) e h)
 
-pub end_given : (limit : ℕ) (from to : ReaderState Before) (v w : Option (List ℕ)) (r : Result (Option Fact) ReadFault) → Gives journal_framing limit from to v w r → r ≡ Ok None → GivesEnd journal_framing from to v w
-end_given limit from to v w r h e = subst (λ (x : Result (Option Fact) ReadFault). Gives journal_framing limit from to v w x) e h
+pub end_given : (limit : ℕ) (from to : ReaderState Before) (v w : Option (List ℕ))
+    (r : Result (Option Fact) ReadFault) → Gives journal_framing limit from to v w r → r ≡ Ok None
+    → GivesEnd journal_framing from to v w
+end_given limit from to v w r h e =
+    subst (λ (x : Result (Option Fact) ReadFault). Gives journal_framing limit from to v w x) e h
 
-pub fault_given : (limit : ℕ) (from to : ReaderState Before) (v w : Option (List ℕ)) (r : Result (Option Fact) ReadFault) (f : ReadFault) → Gives journal_framing limit from to v w r → limit ≡ MAX_ENTRIES → r ≡ Err f → GivesFault journal_framing MAX_ENTRIES from to v w f
-fault_given limit from to v w r f h l e = subst (λ n. Gives journal_framing n from to v w (Err f)) l (subst (λ (x : Result (Option Fact) ReadFault). Gives journal_framing limit from to v w x) e h)
+pub fault_given : (limit : ℕ) (from to : ReaderState Before) (v w : Option (List ℕ))
+    (r : Result (Option Fact) ReadFault) (f : ReadFault) → Gives journal_framing limit from to v w r
+    → limit ≡ MAX_ENTRIES → r ≡ Err f → GivesFault journal_framing MAX_ENTRIES from to v w f
+fault_given limit from to v w r f h l e =
+    subst (λ n. Gives journal_framing n from to v w (Err f)) l
+    (subst (λ (x : Result (Option Fact) ReadFault). Gives journal_framing limit from to v w x) e h)
 
-pub no_read_failure : (r : Result (Option Fact) ReadFault) (o : Option Fact) (b : Bool) (n m k : ℕ) → r ≡ Ok o → FailsIf b m n r → m ≡ k → n ≡ k
+pub no_read_failure : (r : Result (Option Fact) ReadFault) (o : Option Fact) (b : Bool) (n m k : ℕ)
+    → r ≡ Ok o → FailsIf b m n r → m ≡ k → n ≡ k
 no_read_failure (Ok x) o true n m k e h i = omega (arith, h, i)
 no_read_failure (Ok x) o false n m k e h i = omega (arith, h, i)
 no_read_failure (Err x) o b n m k e h i = absurd cc
 
-pub fails_same : (T X : Type 0) (f : ReadFault) (n m : ℕ) → Fails {T = T} n m (Err f) → Fails {T = X} n m (Err f)
+pub fails_same : (T X : Type 0) (f : ReadFault) (n m : ℕ) → Fails {T = T} n m (Err f)
+    → Fails {T = X} n m (Err f)
 fails_same T X faults.Read n m h = h
 fails_same T X f n m h = h
 
 -- a fault that the reader met now
-pub read_failures : (T : Type 0) (u v : Option (List ℕ)) (state : ReaderState Before) (es : List Fact) (r : Result (Option Fact) ReadFault) (f : ReadFault) (number n m k : ℕ)
-    → Sofar journal_framing MAX_ENTRIES u v state es → r ≡ Err f → FailsIf (is_open state) m n r → m ≡ k → FailsToRead {T = T} k n (Err (Input number f))
+pub read_failures : (T : Type 0) (u v : Option (List ℕ)) (state : ReaderState Before)
+    (es : List Fact) (r : Result (Option Fact) ReadFault) (f : ReadFault) (number n m k : ℕ)
+    → Sofar journal_framing MAX_ENTRIES u v state es → r ≡ Err f → FailsIf (is_open state) m n r
+    → m ≡ k → FailsToRead {T = T} k n (Err (Input number f))
 read_failures T u v state es r f number n m k h is fails e =
     let P : Bool → Type 0 = λ b. FailsIf b m n r in
-    let now : Fails m n r = subst P (open_behind MAX_ENTRIES u v state es h) fails in
+    let now : Fails m n r = subst P (open_after MAX_ENTRIES u v state es h) fails in
     let Q : Result (Option Fact) ReadFault → Type 0 = λ x. Fails m n x in
     let N : ℕ → Type 0 = λ i. Fails {T = T} i n (Err f) in
     subst N e (fails_same (Option Fact) T f m n (subst Q is now))

@@ -7,10 +7,12 @@ returns-in-Ok-clause-gives g c =
     let version = c.in-Ok.version in
     let read = c.read_entry-given.ensures in
     gives journal_framing limit version Header _ _ _ _ refl c.state_after.ensures
-    (reads_first journal_sound limit version _ _ _ _ c.in-Ok.ensures.reads.1 read.reads read.within (any_fault c.read_entry-given.result))
+    (reads_first journal_sound limit version _ _ _ _ c.in-Ok.ensures.reads.1 read.reads read.within
+    (any_fault c.read_entry-given.result))
 
 pub returns-in-Err-clause-gives : goal.returns-in-Err-clause-gives
 returns-in-Err-clause-gives g c =
     let f = c.in-Err.fault in
     gives journal_framing c.args.max_entries Two Header (Failed f) _ _ (Err f) refl refl
-    (reads_header journal_sound c.args.max_entries Two _ _ f c.in-Err.ensures.reads c.in-Err.ensures.memory tt c.read_header.ensures.advances)
+    (reads_header journal_sound c.args.max_entries Two _ _ f c.in-Err.ensures.reads
+    c.in-Err.ensures.memory tt c.read_header.ensures.advances)

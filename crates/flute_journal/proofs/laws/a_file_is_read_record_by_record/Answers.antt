@@ -8,7 +8,8 @@ pub returns-clause-goes_on : goal.returns-clause-goes_on
 returns-clause-goes_on c = sofar-next file_sound
 
 pub returns-clause-ends : goal.returns-clause-ends
-returns-clause-ends c limit u v w old new ds s h = whole-at file_sound limit u w ds (side-from file_sound limit u v w old new ds None s h)
+returns-clause-ends c limit u v w old new ds s h =
+    whole-at file_sound limit u w ds (side-from file_sound limit u v w old new ds None s h)
 
 pub returns-clause-stops : goal.returns-clause-stops
 returns-clause-stops c = sofar-fault file_sound

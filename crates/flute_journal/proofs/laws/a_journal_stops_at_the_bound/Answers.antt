@@ -5,5 +5,15 @@ pub returns : goal.returns
 returns c bs F es limit f (v, journal) s =
     let j = journal_parts v bs F journal in
     let all = j.entries in
-    let b = beyond v limit all es bs f j.valid j.collects.rising j.small j.bytes_are s in
-    (b.0, (all, record { are_items = record { told = v; valid = j.valid; in_order = j.collects.rising; few = omega arith }; bytes_are = j.bytes_are }, b.1))
+    let b = beyond v limit all es bs f j.valid j.collects.rising j.small j.bytes_are s in (
+      b.0,
+      (
+        all,
+        record {
+          are_items =
+              record { told = v; valid = j.valid; in_order = j.collects.rising; few = omega arith };
+          bytes_are = j.bytes_are;
+        },
+        b.1,
+      ),
+    )

@@ -16,7 +16,8 @@ loop-fact-init g c =
     record {
       passing = record {
         entries = [];
-        sofar = subst (λ (state : ReaderState Before). Sofar journal_framing MAX_ENTRIES u u state []) (sym c.requires.new) (sofar-none journal_sound Two MAX_ENTRIES u);
+        sofar = subst (λ (state : ReaderState Before). Sofar journal_framing MAX_ENTRIES u u state
+            []) (sym c.requires.new) (sofar-none journal_sound Two MAX_ENTRIES u);
         counts = c.new-tally.ensures;
         stands = c.requires.none (g.W.Sink.written c.args.sink.now);
       };
@@ -32,12 +33,16 @@ pub returns-in_err-fact-clause-passed : goal.returns-in_err-fact-clause-passed
 returns-in_err-fact-clause-passed g c =
     let e = err_from_is_err_and c.from_residual.result c.from_residual.ensures.1 in
     let f = c.in_err-fact.field-0.0 in
-    rw (e.1 ∙ ap Err e.2) (passing-fault c.loop-fact.invariant.passing f (given-fault MAX_ENTRIES _ _ _ _ _ f c.loop-fact.invariant.limit c.in_err-fact.ensures.gives))
+    rw (e.1 ∙ ap Err e.2)
+    (passing-fault c.loop-fact.invariant.passing f
+    (given-fault MAX_ENTRIES _ _ _ _ _ f c.loop-fact.invariant.limit
+    c.in_err-fact.ensures.gives))
 
 pub returns-then-not-count-clause-passed : goal.returns-then-not-count-clause-passed
 returns-then-not-count-clause-passed g c =
     passing-full c.loop-fact.invariant.passing c.in-Some.fact
-    (given-entry _ _ _ _ _ _ _ c.in-Some.fact c.loop-fact.invariant.limit c.in-Some.is c.in_ok-fact.ensures.gives)
+    (given-entry _ _ _ _ _ _ _ c.in-Some.fact c.loop-fact.invariant.limit c.in-Some.is
+    c.in_ok-fact.ensures.gives)
     (λ F r k. c.count.ensures.over F c.in-Some.fact (sym c.address.ensures) r k c.if-not-count.true)
 
 pub loop-fact-preserved : goal.loop-fact-preserved
@@ -45,12 +50,16 @@ loop-fact-preserved g c =
     let i = c.loop-fact.invariant in
     record {
       passing =
-          passing-next i.passing c.in-Some.fact _ _ _ (given-entry _ _ _ _ _ _ _ c.in-Some.fact i.limit c.in-Some.is c.in_ok-fact.ensures.gives)
-          (λ F r k. c.count.ensures.within F c.in-Some.fact (sym c.address.ensures) r k c.if-not-count.false) (λ P r h. c.pass.ensures.passed P _ r h);
+          passing-next i.passing c.in-Some.fact _ _ _
+          (given-entry _ _ _ _ _ _ _ c.in-Some.fact i.limit c.in-Some.is
+          c.in_ok-fact.ensures.gives)
+          (λ F r k. c.count.ensures.within F c.in-Some.fact (sym c.address.ensures) r k
+          c.if-not-count.false) (λ P r h. c.pass.ensures.passed P _ r h);
       limit = c.next_with.ensures.limit ∙ i.limit;
       source = c.next_with.ensures.source ∙ i.source;
       key = c.pass.ensures.key ∙ i.key;
-      reads = loaded-read (is_open c.loop-fact.reader.state) _ _ _ i.reads c.in_ok-fact.ensures.failures;
+      reads = loaded-read (is_open c.loop-fact.reader.state) _ _ _ i.reads
+          c.in_ok-fact.ensures.failures;
       untouched = λ u. let x = c.pass.ensures.untouched u in x.1 ∙ i.untouched x.0;
       writes = let e = c.pass.ensures.failures in let w = i.writes in omega (arith, e, w);
     }

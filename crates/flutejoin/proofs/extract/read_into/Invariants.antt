@@ -10,7 +10,9 @@ use Rattle.flutejoin.proofs.extract.read_into.Given as goal
 
 abbrev pub invariant-loop-fact : goal.invariant-loop-fact
 invariant-loop-fact g l = record {
-  passing : Passing (g.R.Source.unread l.fn.reader.source.now) (g.R.Source.unread l.reader.source.now) l.reader.state l.tally l.writer (g.W.Sink.written l.fn.sink) (g.W.Sink.written l.sink);
+  passing : Passing (g.R.Source.unread l.fn.reader.source.now)
+      (g.R.Source.unread l.reader.source.now) l.reader.state l.tally l.writer
+      (g.W.Sink.written l.fn.sink) (g.W.Sink.written l.sink);
   limit : l.reader.max_entries ≡ MAX_ENTRIES;
   source : l.reader.source.ghost_name ≡ l.fn.reader.source.ghost_name;
   key : l.writer.key ≡ l.fn.writer.key;

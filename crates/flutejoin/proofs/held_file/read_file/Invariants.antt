@@ -7,7 +7,9 @@ use Rattle.flutejoin.proofs.held_file.read_file.Given as goal
 
 abbrev pub invariant-loop-file : goal.invariant-loop-file
 invariant-loop-file g l = record {
-  so_far : (datagrams : List (List ℕ)) × Sofar file_framing l.reader.max_records (g.R.Source.unread l.fn.source) (g.R.Source.unread l.reader.source.now) l.reader.state datagrams
+  so_far : (datagrams : List (List ℕ)) × Sofar file_framing l.reader.max_records
+      (g.R.Source.unread l.fn.source) (g.R.Source.unread l.reader.source.now) l.reader.state
+      datagrams
       × HoldsDatagrams (choice_of l.fn.sender l.fn.sessions) l.file datagrams;
   limit : l.reader.max_records ≡ 16777216;
   same_source : l.reader.source.ghost_name ≡ l.initial.reader.source.ghost_name;

@@ -14,9 +14,13 @@ returns-in_err-datagram-clause-fault g c =
     let u = g.R.Source.unread c.args.source.now in
     let v = g.R.Source.unread c.loop-datagrams.reader.source.now in
     let w = g.R.Source.unread c.next.new.self.source.now in
-    let gave : GivesFault file_framing limit old new v w f = subst (λ n. GivesFault file_framing n old new v w f) c.loop-datagrams.invariant.1 c.in_err-datagram.ensures.gives in
+    let gave : GivesFault file_framing limit old new v w f =
+    subst (λ n. GivesFault file_framing n old new v w f) c.loop-datagrams.invariant.1
+    c.in_err-datagram.ensures.gives in
     let e = err_from_is_err_and c.from_residual.result c.from_residual.ensures.1 in
-    rw (e.1 ∙ ap Err e.2) (sofar-fault file_sound limit u v w old new c.loop-datagrams.datagrams.items f c.loop-datagrams.invariant.0 gave)
+    rw (e.1 ∙ ap Err e.2)
+    (sofar-fault file_sound limit u v w old new c.loop-datagrams.datagrams.items f
+    c.loop-datagrams.invariant.0 gave)
 
 pub loop-datagrams-preserved : goal.loop-datagrams-preserved
 loop-datagrams-preserved g c =
@@ -28,7 +32,12 @@ loop-datagrams-preserved g c =
     let u = g.R.Source.unread c.args.source.now in
     let v = g.R.Source.unread c.loop-datagrams.reader.source.now in
     let w = g.R.Source.unread c.next.new.self.source.now in
-    let gave : GivesItem file_framing c.loop-datagrams.reader.max_records old new v w d = rw c.in-Some.is at c.in_ok-datagram.ensures.gives in
-    let gave' : GivesItem file_framing limit old new v w d = subst (λ n. GivesItem file_framing n old new v w d) c.loop-datagrams.invariant.1 gave in
-    let grown : c.push.new.self.items ≡ ds ++ d ∷ [] = grind arith in
-    (subst (Sofar file_framing limit u w new) (sym grown) (sofar-next file_sound limit u v w old new ds d c.loop-datagrams.invariant.0 gave'), c.next.ensures.limit ∙ c.loop-datagrams.invariant.1)
+    let gave : GivesItem file_framing c.loop-datagrams.reader.max_records old new v w d =
+    rw c.in-Some.is at c.in_ok-datagram.ensures.gives in
+    let gave' : GivesItem file_framing limit old new v w d =
+    subst (λ n. GivesItem file_framing n old new v w d) c.loop-datagrams.invariant.1 gave in
+    let grown : c.push.new.self.items ≡ ds ++ d ∷ [] = grind arith in (
+      subst (Sofar file_framing limit u w new) (sym grown)
+          (sofar-next file_sound limit u v w old new ds d c.loop-datagrams.invariant.0 gave'),
+      c.next.ensures.limit ∙ c.loop-datagrams.invariant.1,
+    )

@@ -6,7 +6,8 @@ use Rattle.flute_journal_tests.proofs.tests.datagram_files.datagrams_of.Given as
 
 abbrev pub invariant-loop-datagrams : goal.invariant-loop-datagrams
 invariant-loop-datagrams g l =
-    Sofar file_framing l.max_records (g.R.Source.unread l.fn.source) (g.R.Source.unread l.reader.source.now) l.reader.state l.datagrams.items
+    Sofar file_framing l.max_records (g.R.Source.unread l.fn.source)
+    (g.R.Source.unread l.reader.source.now) l.reader.state l.datagrams.items
     × (l.reader.max_records ≡ l.max_records)
 
 abbrev pub decreases-loop-datagrams : goal.decreases-loop-datagrams
