@@ -1,7 +1,9 @@
 -- Two entries of a folder: the name OUT, and the file beside it whose bytes are to become OUT's.
-use Rattle.std.specs.Prelude.{◌≡◌, ◌⊎◌, ℕ, Bool, true, false, List, [], ◌∷◌, ◌++◌, Option, Some, None, is_some, IsSome, option_map, Contains, ⊤}
+use Rattle.std.specs.Prelude.{◌≡◌, ◌⊎◌, ℕ, Bool, true, false, List, [], ◌∷◌, ◌++◌, Option, Some, None, IsSome, option_map, Contains, ⊤}
 use Rattle.flute_output.specs.declared.folder.Name.{Name}
 use Rattle.flute_output.specs.declared.folder.Name.TheVariants.{Out, Beside}
+use Rattle.flute_output.specs.declared.output.FinishFault.{FinishFault}
+use Rattle.flute_output.specs.declared.output.FinishFault.TheVariants.{Work, Write, NotOnDisk}
 
 -- the bytes of a file, and whether the disk has all of them
 pub record Stored : Type 0 where
@@ -26,6 +28,8 @@ pub record Entries : Type 0 where
   pub found : Option Stored
   -- what OUT has been since then and is no more, the oldest first
   pub past : List (Option Stored)
+  -- whether the disk has told that it has the name OUT as it is
+  pub named : Bool
 
 -- R of what was and what is, if the folder tells; it tells always or never
 abbrev pub Leads : (Entries → Entries → Type 0) → Option Entries → Option Entries → Type 0
@@ -61,11 +65,15 @@ synced e = record e { beside = option_map safe e.beside }
 
 -- the file beside OUT is named OUT, in one step
 abbrev pub put_in_place : Entries → Entries
-put_in_place e = record e { out = e.beside; beside = None; past = e.past ++ e.out ∷ [] }
+put_in_place e = record e { out = e.beside; beside = None; past = e.past ++ e.out ∷ []; named = false }
+
+-- the disk has both names as they are
+abbrev pub names_synced : Entries → Entries
+names_synced e = record e { named = true }
 
 -- one of the two entries is removed
 abbrev pub removes : Name → Entries → Entries
-removes Out e = record e { out = None; past = e.past ++ e.out ∷ [] }
+removes Out e = record e { out = None; past = e.past ++ e.out ∷ []; named = false }
 removes Beside e = record e { beside = None; waiting = [] }
 
 abbrev pub file_bytes : Option Stored → List ℕ
@@ -76,15 +84,24 @@ file_bytes (Some s) = s.bytes
 abbrev pub taken : Entries → List ℕ
 taken e = file_bytes e.beside ++ e.waiting
 
--- what OUT is to become: these bytes, which the disk has first if OUT was there
-abbrev pub whole : Entries → List ℕ → Stored
-whole e bytes = record { bytes = bytes; on_disk = is_some e.found }
+-- what OUT is to become: a file of these bytes, all of which the disk has
+abbrev pub whole : List ℕ → Stored
+whole bytes = record { bytes = bytes; on_disk = true }
+
+-- what OUT was when the file beside it was made
+abbrev pub found_in : Entries → Option Stored
+found_in e = e.found
+
+-- whether the disk has told that it has the name OUT as it is
+abbrev pub named_in : Entries → Bool
+named_in e = e.named
 
 -- OUT is what it was, and was nothing else in between
 pub record OutStays (old new : Entries) : Type 0 where
   pub out : new.out ≡ old.out
   pub found : new.found ≡ old.found
   pub past : new.past ≡ old.past
+  pub named : new.named ≡ old.named
 
 -- OUT is what it was when the file beside it was made, and has been nothing else since
 abbrev pub IsUntouched : Entries → Type 0
@@ -100,6 +117,7 @@ pub record OutIsAsFound (old new : Entries) : Type 0 where
   pub out : new.out ≡ old.found
   pub found : new.found ≡ old.found
   pub past : new.past ≡ []
+  pub named : new.named ≡ old.named
 
 -- OUT went from what it was when the file beside it was made to this file, and has been
 -- nothing else since
@@ -119,11 +137,38 @@ abbrev pub Survives : Option Stored → Option (List ℕ) → Type 0
 Survives None left = left ≡ None
 Survives (Some s) left = s.on_disk ≡ true → left ≡ Some s.bytes
 
--- At any moment since, OUT was what was found or this file. And if it was found, with all its bytes
--- on the disk, then a lost power at any of these moments left the one or the other, whole:
+-- what the name OUT may be on the disk, if it was what was found when the file beside it was made:
+-- what OUT is, if the disk has told so; else also what it has been since
+abbrev pub IsNamed : Bool → Entries → Option Stored → Type 0
+IsNamed true e file = file ≡ e.out
+IsNamed false e file = (file ≡ e.found) ⊎ WasOut e file
+
+-- whatever a lost power leaves of OUT now is a file of these bytes
+abbrev pub Lasts : List ℕ → Entries → Type 0
+Lasts bytes e = (file : Option Stored) (left : Option (List ℕ)) → IsNamed e.named e file → Survives file left → left ≡ Some bytes
+
+-- the disk has all bytes of the file, if there is one
+abbrev pub IsSafe : Option Stored → Type 0
+IsSafe None = ⊤
+IsSafe (Some s) = s.on_disk ≡ true
+
+-- At any moment since, OUT was what was found or this file. And if the disk had what was found, its
+-- name and its bytes, then a lost power at any of these moments left the one or the other, whole:
 -- the disk may still have the name as it was found.
-pub record IsEitherAlways (file : Stored) (e : Entries) : Type 0 where
+pub record IsEitherAlways (file : Stored) (old e : Entries) : Type 0 where
   pub stopped : (seen : Option Stored) → WasOut e seen → (seen ≡ e.found) ⊎ (seen ≡ Some file)
-  pub lost_power : (s : Stored) → e.found ≡ Some s → s.on_disk ≡ true
+  pub lost_power : old.named ≡ true → IsSafe e.found
       → (seen : Option Stored) (left : Option (List ℕ)) → (seen ≡ e.found) ⊎ WasOut e seen
-      → Survives seen left → (left ≡ Some s.bytes) ⊎ (left ≡ Some file.bytes)
+      → Survives seen left → (left ≡ option_map (λ s. s.bytes) e.found) ⊎ (left ≡ Some file.bytes)
+
+-- what a fault of finishing says of OUT
+abbrev pub Ends : {E : Type 0} → FinishFault E → Entries → Entries → Type 0
+Ends (Work fault) old new = OutIsAsFound old new
+Ends Write old new = OutIsAsFound old new
+Ends NotOnDisk old new = OutBecomes (whole (taken old)) old new
+
+-- P of the fault of the work, if it was that
+abbrev pub IfWork : {E : Type 0} → FinishFault E → (E → Type 0) → Type 0
+IfWork (Work fault) P = P fault
+IfWork Write P = ⊤
+IfWork NotOnDisk P = ⊤

@@ -18,4 +18,5 @@ memory_entries folder = record {
   waiting = folder.waiting.items;
   found = option_map stored folder.found;
   past = map stored_files folder.past.items;
+  named = folder.named;
 }

@@ -3,6 +3,7 @@ ghost use Rattle.std.specs.Prelude.{◌≡◌, ◌+◌, None, if◌then◌else�
 
 use crate::file_id::FileId;
 use crate::folder::{Folder, Name};
+use crate::found::is_standard_output;
 use crate::neighbours::Neighbours;
 use crate::target::Target;
 use flute_parts::{DeviceFault, Failures};
@@ -13,9 +14,6 @@ use std::rt::Files;
 
 /// How many bytes are written at once.
 const BUFFER: usize = 131_072;
-
-/// What is standard output, whatever it was started with.
-const STANDARD_OUTPUT: &str = "/proc/self/fd/1";
 
 /// Why an output cannot be made.
 #[derive(Clone, Copy, Debug, PartialEq, Eq)]
@@ -40,14 +38,16 @@ enum Place {
 /// The folder of an output in the file system. It tells contracts nothing of its files.
 ///
 /// An output that is no regular file takes its bytes itself: there is then no file beside
-/// it, and what it took is not taken back. Of its calls `sync`, `put_in_place` and
-/// `remove` then do nothing.
+/// it, and what it took is not taken back. Of its calls `sync`, `put_in_place`, `sync_names`
+/// and `remove` then do nothing.
 #[derive(Drop)]
 pub struct DiskFolder<'a, R: Files<File = File> + Print> {
     rt: &'a R,
     place: Place,
     inputs: &'a [FileId],
     writer: BufWriter<Target<'a, R>>,
+    /// The folder that OUT is in, once the file beside OUT is made.
+    folder: Option<File>,
     failures: Failures,
 }
 
@@ -72,6 +72,7 @@ impl<'a, R: Files<File = File> + Print> DiskFolder<'a, R> {
             place,
             inputs,
             writer,
+            folder: None,
             failures: Failures::none(),
         })
     }
@@ -93,12 +94,17 @@ impl<'a, R: Files<File = File> + Print> DiskFolder<'a, R> {
         }
     }
 
-    // The open file, if there is one.
-    fn opened(&self) -> io::Result<Target<'a, R>> {
+    // What takes the bytes, open, and the folder of a file, which is opened before that is made: it
+    // then needs only to be brought to the disk.
+    fn open(&self) -> io::Result<(Option<File>, Target<'a, R>)> {
         match &self.place {
-            Place::Beside(names) => Ok(Target::File(names.create(self.rt, self.inputs)?)),
-            Place::Direct(path) => Ok(Target::File(fs::create(self.rt, path)?)),
-            Place::StandardOutput => Ok(Target::StandardOutput(io::writer(self.rt))),
+            Place::Beside(names) => {
+                let folder = names.folder(self.rt)?;
+                let file = names.create(self.rt, self.inputs)?;
+                Ok((folder, Target::File(file)))
+            }
+            Place::Direct(path) => Ok((None, Target::File(fs::create(self.rt, path)?))),
+            Place::StandardOutput => Ok((None, Target::StandardOutput(io::writer(self.rt)))),
         }
     }
 
@@ -123,8 +129,9 @@ impl<R: Files<File = File> + Print> Folder for DiskFolder<'_, R> {
     ghost failures = { λ f. f.failures.count };
 
     fn create(&mut self) -> Result<(), DeviceFault> {
-        let opened = self.opened();
-        let target = self.count(opened)?;
+        let opened = self.open();
+        let (folder, target) = self.count(opened)?;
+        self.folder = folder;
         *self.writer.get_mut() = target;
         Ok(())
     }
@@ -144,13 +151,6 @@ impl<R: Files<File = File> + Print> Folder for DiskFolder<'_, R> {
         self.count(flushed)
     }
 
-    fn has_out(&self) -> bool {
-        match &self.place {
-            Place::Beside(names) => names.has_out(),
-            Place::Direct(_) | Place::StandardOutput => true,
-        }
-    }
-
     fn sync(&mut self) -> Result<(), DeviceFault> {
         let synced = match (&self.place, self.writer.get_ref()) {
             (Place::Beside(_), Target::File(file)) => file.sync_all(),
@@ -167,6 +167,14 @@ impl<R: Files<File = File> + Print> Folder for DiskFolder<'_, R> {
         self.count(put)
     }
 
+    fn sync_names(&mut self) -> Result<(), DeviceFault> {
+        let synced = match &self.folder {
+            Some(folder) => sync_folder(folder),
+            None => Ok(()),
+        };
+        self.count(synced)
+    }
+
     fn remove(&mut self, name: Name) -> Result<(), DeviceFault> {
         let removed = match (&self.place, self.writer.get_ref(), name) {
             (Place::Beside(names), Target::File(file), Name::Beside) => {
@@ -176,6 +184,18 @@ impl<R: Files<File = File> + Print> Folder for DiskFolder<'_, R> {
             _ => Ok(()),
         };
         self.count(removed)
+    }
+}
+
+// Waits until the disk has the names in a folder. A file system without such a call for folders
+// answers that it is no valid one.
+fn sync_folder(folder: &File) -> io::Result<()> {
+    match folder.sync_all() {
+        Err(error) => match error.kind() {
+            ErrorKind::InvalidInput | ErrorKind::Unsupported => Ok(()),
+            _ => Err(error),
+        },
+        Ok(()) => Ok(()),
     }
 }
 
@@ -193,10 +213,9 @@ fn place_of<R: Files>(rt: &R, alloc: Global, path: &str) -> io::Result<Place> {
         }
         found => found?,
     };
-    let standard_output = fs::metadata(rt, STANDARD_OUTPUT);
     if found.is_dir() {
         Err(ErrorKind::IsADirectory.into())
-    } else if standard_output.is_ok_and(|output| FileId::of(&output) == FileId::of(&found)) {
+    } else if is_standard_output(rt, &found) {
         Ok(Place::StandardOutput)
     } else {
         file_or_device(rt, alloc, path, &found)

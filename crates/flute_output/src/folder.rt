@@ -1,6 +1,6 @@
 //! What an output asks of the folder that OUT is in.
-ghost use Rattle.std.specs.Prelude.{◌≡◌, ℕ, ◌+◌, ◌<◌, ◌≤◌, length, take, IfOk, OnOk, OnErr, IfSome, MatchResult, Option, if◌then◌else◌, is_ok, is_some, true};
-ghost use Rattle.flute_output.specs.Entries.{Entries, Leads, Does, OutStays, created, takes, flushed, synced, put_in_place, removes};
+ghost use Rattle.std.specs.Prelude.{◌≡◌, ℕ, ◌+◌, ◌<◌, ◌≤◌, length, take, IfOk, OnOk, OnErr, Option, if◌then◌else◌, is_ok};
+ghost use Rattle.flute_output.specs.Entries.{Entries, Leads, Does, OutStays, created, takes, flushed, synced, put_in_place, names_synced, removes};
 
 use flute_parts::DeviceFault;
 
@@ -58,10 +58,6 @@ pub trait Folder {
         ensures failures { failures self.new
             ≡ failures self.old + (if is_ok result then 0 else 1) };
 
-    /// Whether OUT is there.
-    fn has_out(&self) -> bool
-        ensures { IfSome (entries self.now) (λ e. result ≡ is_some e.out) };
-
     /// Waits until the disk has all of the file beside OUT.
     ///
     /// # Errors
@@ -81,6 +77,18 @@ pub trait Folder {
     fn put_in_place(&mut self) -> Result<(), DeviceFault>
         ensures put { OnOk result (Does put_in_place (entries self.old) (entries self.new)) }
         ensures refused { OnErr result (Leads OutStays (entries self.old) (entries self.new)) }
+        ensures failures { failures self.new
+            ≡ failures self.old + (if is_ok result then 0 else 1) };
+
+    /// Waits until the disk has both names as they are. A folder of a file system that has no such
+    /// call, or that may not be read, is as if it had.
+    ///
+    /// # Errors
+    ///
+    /// `DeviceFault` if the disk failed. Which of them it has is then not known.
+    fn sync_names(&mut self) -> Result<(), DeviceFault>
+        ensures synced { OnOk result (Does names_synced (entries self.old) (entries self.new)) }
+        ensures refused { OnErr result (Does (λ same. same) (entries self.old) (entries self.new)) }
         ensures failures { failures self.new
             ≡ failures self.old + (if is_ok result then 0 else 1) };
 

@@ -19,6 +19,7 @@
 mod disk_folder;
 mod file_id;
 mod folder;
+mod found;
 mod memory_folder;
 mod neighbours;
 mod output;
@@ -28,6 +29,7 @@ mod target;
 pub use disk_folder::{DiskFolder, OpenFault};
 pub use file_id::FileId;
 pub use folder::{Folder, Name};
+pub use found::Found;
 pub use memory_folder::MemoryFolder;
-pub use output::{Output, OutputFault, write_file};
+pub use output::{FinishFault, Output, OutputFault, write_file};
 pub use streams::take_standard_streams;

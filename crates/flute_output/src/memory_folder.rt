@@ -23,6 +23,7 @@ pub struct MemoryFolder {
     waiting: Vec<u8>,
     found: Option<StoredFile>,
     past: Vec<Option<StoredFile>>,
+    named: bool,
     good: usize,
     failures: Failures,
 }
@@ -33,8 +34,8 @@ impl MemoryFolder {
     ghost use Rattle.flute_output.specs.Entries.{removes};
     ghost use Rattle.flute_output.specs.Memory.{memory_entries};
 
-    /// A folder where OUT has these bytes, all of them on the disk, or is not there. After `good`
-    /// calls each call fails; before that only if it finds no memory, or no file beside OUT.
+    /// A folder where OUT has these bytes, or is not there, and the disk has all of that. After
+    /// `good` calls each call fails; before that only if it finds no memory, or no file beside OUT.
     pub fn new(alloc: Global, out: Option<Vec<u8>>, good: usize) -> MemoryFolder
         ensures { memory_entries result ≡ record {
           out = option_map (λ v. record { bytes = v.items; on_disk = true }) out;
@@ -42,6 +43,7 @@ impl MemoryFolder {
           waiting = [];
           found = None;
           past = [];
+          named = true;
         } }
     {
         MemoryFolder {
@@ -54,6 +56,7 @@ impl MemoryFolder {
             waiting: Vec::new(alloc),
             found: None,
             past: Vec::new(alloc),
+            named: true,
             good,
             failures: Failures::none(),
         }
@@ -107,7 +110,10 @@ impl MemoryFolder {
         ensures failures { self.new.failures.count ≡ self.old.failures.count }
     {
         match self.past.push(self.out.take()) {
-            Ok(()) => true,
+            Ok(()) => {
+                self.named = false;
+                true
+            }
             Err(failed) => {
                 self.out = failed.value;
                 false
@@ -175,10 +181,6 @@ impl Folder for MemoryFolder {
         }
     }
 
-    fn has_out(&self) -> bool {
-        self.out.is_some()
-    }
-
     fn sync(&mut self) -> Result<(), DeviceFault> {
         self.turn()?;
         match &mut self.beside {
@@ -198,6 +200,12 @@ impl Folder for MemoryFolder {
         } else {
             Err(self.fail())
         }
+    }
+
+    fn sync_names(&mut self) -> Result<(), DeviceFault> {
+        self.turn()?;
+        self.named = true;
+        Ok(())
     }
 
     fn remove(&mut self, name: Name) -> Result<(), DeviceFault> {

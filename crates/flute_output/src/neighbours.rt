@@ -11,6 +11,9 @@ use std::rt::Files;
 /// What the name of the file beside OUT has after OUT's.
 const SUFFIX: &str = ".partial";
 
+/// The folder of a path that names none.
+const HERE: &str = ".";
+
 /// The most links that are followed, as the system does.
 const MAX_LINKS: u32 = 40;
 
@@ -65,6 +68,23 @@ impl Neighbours {
         match fs::symlink_metadata(rt, &self.out) {
             Ok(named) => FileId::of(&named) == FileId::of(found),
             Err(_) => false,
+        }
+    }
+
+    /// The folder of both names, open, or `None` if it may not be read.
+    ///
+    /// # Errors
+    ///
+    /// Those of the system.
+    pub fn folder<R: Files<File = File>>(&self, rt: &R) -> io::Result<Option<File>> {
+        let opened = match self.out.parent() {
+            Some(folder) if !folder.as_str().is_empty() => fs::open(rt, folder),
+            _ => fs::open(rt, HERE),
+        };
+        match opened {
+            Ok(folder) => Ok(Some(folder)),
+            Err(error) if error.kind() == ErrorKind::PermissionDenied => Ok(None),
+            Err(error) => Err(error),
         }
     }
 
@@ -188,7 +208,7 @@ fn lock(file: &File) -> io::Result<()> {
 // Where the path leads to, without symbolic links at its end.
 fn without_links<R: Files>(rt: &R, alloc: Global, path: &str) -> io::Result<PathBuf> {
     let mut path = PathBuf::from_str(alloc, path)?;
-    for _ in 0..MAX_LINKS {
+    for _ in 0..=MAX_LINKS {
         match linked(rt, alloc, &path)? {
             Some(next) => path = next,
             None => return Ok(path),

@@ -1,6 +1,7 @@
 //! An output that becomes OUT whole or not at all.
-ghost use Rattle.std.specs.Prelude.{◌≡◌, ◌≢◌, ℕ, ◌+◌, ◌<◌, ◌≤◌, take, IfOk, IfSome, IfErr, OnOk, OnErr, Ok, Err, option_map, is_ok, None, if◌then◌else◌};
-ghost use Rattle.flute_output.specs.Entries.{Leads, Does, OutStays, OutIsAsFound, OutBecomes, IsEitherAlways, IsWriting, created, takes, taken, whole};
+ghost use Rattle.std.specs.Prelude.{◌≡◌, ◌≢◌, ℕ, ◌+◌, ◌<◌, ◌≤◌, length, take, IfOk, IfSome, IfErr, OnOk, OnErr, Ok, Err, option_map, is_ok, None, if◌then◌else◌};
+ghost use Rattle.flute_output.specs.Entries.{Leads, Does, OutStays, OutIsAsFound, OutBecomes, Lasts, Ends, IfWork, IsEitherAlways, IsWriting, created, takes, taken, whole, found_in, named_in};
+ghost use Rattle.std.specs.Io.KnownBytes.{WriteAppends};
 
 use crate::folder::{Folder, Name};
 use flute_parts::{DeviceFault, Sink};
@@ -26,13 +27,28 @@ impl<F: Folder + Drop> Model for Output<F> {
     ghost invariant = { λ o. IfSome (F.entries o.folder) IsWriting };
 }
 
+/// Why an output was not finished.
+#[derive(Debug, PartialEq, Eq, Drop)]
+pub enum FinishFault<E> {
+    /// The work that wrote it failed so. OUT is as before.
+    Work(E),
+    /// The device did not take the bytes, or the file could not be put in place. OUT is as before.
+    Write,
+    /// OUT is the new file, but the disk did not tell that it has this name: a lost power may
+    /// leave what OUT was.
+    NotOnDisk,
+}
+
 /// Why a file was not written.
 #[derive(Clone, Copy, Debug, PartialEq, Eq)]
 pub enum OutputFault {
-    /// The file beside OUT could not be made.
+    /// The file beside OUT could not be made. OUT is as before.
     Create,
-    /// The device did not take the bytes, or the file could not be put in place.
+    /// The device did not take the bytes, or the file could not be put in place. OUT is as before.
     Write,
+    /// OUT is the new file, but the disk did not tell that it has this name: a lost power may
+    /// leave what OUT was.
+    NotOnDisk,
 }
 
 impl<F: Folder + Drop> Output<F> {
@@ -55,28 +71,28 @@ impl<F: Folder + Drop> Output<F> {
     }
 
     /// Ends an output after the work that wrote it. If that was done, the file beside OUT is
-    /// flushed, brought to the disk if OUT was there before, and named OUT. If it failed, or one
-    /// of these steps does, the file beside OUT is removed.
+    /// flushed, brought to the disk, and named OUT, and that name is brought to the disk. If the
+    /// work failed, or a step before the last does, the file beside OUT is removed.
     ///
     /// It gives the folder back. OUT is then what was written, or exactly what it was; and at each
     /// moment in between it was one of the two.
     ///
     /// # Errors
     ///
-    /// The fault of the work; or else `DeviceFault`, if a step failed. OUT is as before. The
-    /// file beside it is gone, unless the folder failed to remove it.
-    pub fn finish<T: Drop, E: From<DeviceFault> + Drop>(
-        self,
-        done: Result<T, E>,
-    ) -> (Result<T, E>, F)
+    /// `Work` with the fault of the work; or else `Write` if a step failed that comes before the
+    /// name, and `NotOnDisk` if the last one did. The file beside OUT is gone, unless the folder
+    /// failed to remove it.
+    pub fn finish<T: Drop, E: Drop>(self, done: Result<T, E>) -> (Result<T, FinishFault<E>>, F)
         ensures done { IfOk result.0 (λ x. done ≡ Ok x) }
-        ensures fault { IfErr done (λ e. result.0 ≡ Err e) }
-        ensures why { OnOk done (IfErr result.0 (λ e. (why : _) × E.from_gives why e)) }
-        ensures kept { OnOk result.0 (Leads (λ old new. OutBecomes (whole old (taken old)) old new)
+        ensures fault { IfErr done (λ e. result.0 ≡ Err (FinishFault.Work e)) }
+        ensures work { IfErr result.0 (λ f. IfWork f (λ e. done ≡ Err e)) }
+        ensures kept { OnOk result.0 (Leads (λ old new. OutBecomes (whole (taken old)) old new)
             (F.entries self) (F.entries result.1)) }
-        ensures dropped { OnErr result.0 (Leads OutIsAsFound
+        ensures lasts { OnOk result.0 (Leads (λ old new. Lasts (taken old) new)
             (F.entries self) (F.entries result.1)) }
-        ensures any_moment { Leads (λ old new. IsEitherAlways (whole old (taken old)) new)
+        ensures dropped { IfErr result.0 (λ f. Leads (Ends f)
+            (F.entries self) (F.entries result.1)) }
+        ensures any_moment { Leads (λ old new. IsEitherAlways (whole (taken old)) old new)
             (F.entries self) (F.entries result.1) }
 
         // The file beside OUT is left only if removing it failed, and a step fails only if the
@@ -91,15 +107,21 @@ impl<F: Folder + Drop> Output<F> {
         ensures counted { F.failures self ≤ F.failures result.1 }
     {
         let Output { mut folder } = self;
-        let ended = match done {
+        let fault = match done {
             Ok(value) => match keep(&mut folder) {
-                Ok(()) => return (Ok(value), folder),
-                Err(fault) => Err(E::from(fault)),
+                Ok(()) => {
+                    let on_disk = match folder.sync_names() {
+                        Ok(()) => Ok(value),
+                        Err(_) => Err(FinishFault::NotOnDisk),
+                    };
+                    return (on_disk, folder);
+                }
+                Err(_) => FinishFault::Write,
             },
-            Err(fault) => Err(fault),
+            Err(fault) => FinishFault::Work(fault),
         };
         let _ = folder.remove(Name::Beside);
-        (ended, folder)
+        (Err(fault), folder)
     }
 }
 
@@ -108,16 +130,27 @@ impl<F: Folder + Drop> Sink for Output<F> {
 
     ghost written = { λ o. option_map taken (F.entries o) };
 
-    fn write(&mut self, bytes: &[u8]) -> Result<usize, DeviceFault> {
+    fn write(&mut self, bytes: &[u8]) -> Result<usize, DeviceFault>
+        ensures bound { IfOk result (λ n. n ≤ length bytes.now) }
+        ensures progress { 0 < length bytes.now → IfOk result (λ n. 0 < n) }
+        ensures bytes { WriteAppends (option_map taken (F.entries self.old))
+            (option_map taken (F.entries self.new)) result bytes.now }
+        ensures failures { F.failures self.new
+            ≡ F.failures self.old + (if is_ok result then 0 else 1) }
+        ensures found { option_map found_in (F.entries self.new)
+            ≡ option_map found_in (F.entries self.old) }
+        ensures named { option_map named_in (F.entries self.new)
+            ≡ option_map named_in (F.entries self.old) }
+    {
         self.folder.write(bytes)
     }
 }
 
-// Puts the file beside OUT in its place. The disk has it first if OUT is there, so that a lost
-// power leaves one of the two.
+// Puts the file beside OUT in its place once the disk has it, so that a lost power leaves one of
+// the two.
 fn keep<F: Folder>(folder: &mut F) -> Result<(), DeviceFault>
     requires { IfSome (F.entries folder.old) IsWriting }
-    ensures kept { OnOk result (Leads (λ old new. OutBecomes (whole old (taken old)) old new)
+    ensures kept { OnOk result (Leads (λ old new. OutBecomes (whole (taken old)) old new)
         (F.entries folder.old) (F.entries folder.new)) }
     ensures gone { OnOk result (Leads (λ old new. new.beside ≡ None)
         (F.entries folder.old) (F.entries folder.new)) }
@@ -127,19 +160,16 @@ fn keep<F: Folder>(folder: &mut F) -> Result<(), DeviceFault>
         ≡ F.failures folder.old + (if is_ok result then 0 else 1) }
 {
     folder.flush()?;
-    if folder.has_out() {
-        folder.sync()?;
-    }
+    folder.sync()?;
     folder.put_in_place()
 }
 
 // Takes all the bytes for the file beside OUT, or after a failure some of them.
-fn take_all<F: Folder>(folder: &mut F, bytes: &[u8]) -> Result<(), OutputFault>
+fn take_all<F: Folder>(folder: &mut F, bytes: &[u8]) -> Result<(), DeviceFault>
     ensures taken { OnOk result (Does (takes bytes.now)
         (F.entries folder.old) (F.entries folder.new)) }
     ensures part { Leads (λ old new. (n : ℕ) × (new ≡ takes (take n bytes.now) old))
         (F.entries folder.old) (F.entries folder.new) }
-    ensures fault { IfErr result (λ e. e ≡ OutputFault.Write) }
     ensures failures { F.failures folder.new
         ≡ F.failures folder.old + (if is_ok result then 0 else 1) }
 {
@@ -155,24 +185,30 @@ fn take_all<F: Folder>(folder: &mut F, bytes: &[u8]) -> Result<(), OutputFault>
 ///
 /// # Errors
 ///
-/// `Create` if the file beside OUT could not be made, and `Write` if a later step failed. OUT
-/// is as before. The file beside it is gone, unless the folder failed to remove it.
+/// `Create` if the file beside OUT could not be made, `NotOnDisk` if the disk did not tell that it
+/// has the name OUT, and `Write` if a step between failed. The file beside OUT is gone, unless the
+/// folder failed to remove it.
 pub fn write_file<F: Folder + Drop>(folder: F, bytes: &[u8]) -> (Result<(), OutputFault>, F)
     ensures written { OnOk result.0
-        (Leads (λ old new. OutBecomes (whole (created old) bytes.now) (created old) new)
+        (Leads (λ old new. OutBecomes (whole bytes.now) (created old) new)
+        (F.entries folder) (F.entries result.1)) }
+    ensures lasts { OnOk result.0 (Leads (λ old new. Lasts bytes.now new)
         (F.entries folder) (F.entries result.1)) }
     ensures refused { result.0 ≡ Err OutputFault.Create
         → Leads OutStays (F.entries folder) (F.entries result.1) }
     ensures stopped { result.0 ≡ Err OutputFault.Write
         → Leads (λ old new. OutIsAsFound (created old) new)
         (F.entries folder) (F.entries result.1) }
+    ensures not_on_disk { result.0 ≡ Err OutputFault.NotOnDisk
+        → Leads (λ old new. OutBecomes (whole bytes.now) (created old) new)
+        (F.entries folder) (F.entries result.1) }
     ensures any_moment { result.0 ≢ Err OutputFault.Create
-        → Leads (λ old new. IsEitherAlways (whole (created old) bytes.now) new)
+        → Leads (λ old new. IsEitherAlways (whole bytes.now) (created old) new)
         (F.entries folder) (F.entries result.1) }
     // The file beside OUT is left only if removing it failed too.
     ensures gone_ok { OnOk result.0 (Leads (λ old new. new.beside ≡ None)
         (F.entries folder) (F.entries result.1)) }
-    ensures gone { result.0 ≡ Err OutputFault.Write
+    ensures gone { result.0 ≢ Err OutputFault.Create
         → F.failures result.1 ≡ F.failures folder + 1
         → Leads (λ old new. new.beside ≡ None) (F.entries folder) (F.entries result.1) }
     ensures cause { OnErr result.0 (F.failures folder < F.failures result.1) }
@@ -181,18 +217,12 @@ pub fn write_file<F: Folder + Drop>(folder: F, bytes: &[u8]) -> (Result<(), Outp
     match Output::create(folder) {
         Ok(mut output) => {
             let done = take_all(&mut output.folder, bytes);
-            output.finish(done)
+            match output.finish(done) {
+                (Ok(()), folder) => (Ok(()), folder),
+                (Err(FinishFault::NotOnDisk), folder) => (Err(OutputFault::NotOnDisk), folder),
+                (Err(_), folder) => (Err(OutputFault::Write), folder),
+            }
         }
         Err(folder) => (Err(OutputFault::Create), folder),
-    }
-}
-
-impl From<DeviceFault> for OutputFault {
-    ghost use Rattle.flute_output.specs.declared.output.OutputFault.TheVariants.{Write};
-
-    ghost from_gives = { λ why fault. fault ≡ Write };
-
-    fn from(_why: DeviceFault) -> OutputFault {
-        OutputFault::Write
     }
 }

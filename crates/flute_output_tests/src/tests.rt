@@ -1,7 +1,7 @@
 //! Each public call once, over a folder in memory. Worked examples are in `trials/output`.
 
-use flute_output::{Folder, MemoryFolder, Name, Output, OutputFault, write_file};
-use flute_parts::Sink;
+use flute_output::{FinishFault, Folder, MemoryFolder, Name, Output, write_file};
+use flute_parts::{DeviceFault, Sink};
 use std::test::Fail;
 
 const NEW: &[u8] = b"what is written";
@@ -24,10 +24,10 @@ fn a_fault_of_the_work_drops_the_output(rt: HostRuntime) -> Result<(), Fail> {
         return Err("not made".into());
     };
     assert!(rt; output.write_all(NEW).is_ok());
-    let fault: Result<u64, OutputFault> = Err(OutputFault::Create);
+    let fault: Result<u64, DeviceFault> = Err(DeviceFault);
     let (done, folder) = output.finish(fault);
-    assert!(rt; done.is_err());
-    assert!(rt; !folder.has_out());
+    assert_eq!(rt; done, Err(FinishFault::Work(DeviceFault)));
+    assert!(rt; folder.out().is_none());
     Ok(())
 }
 
@@ -39,5 +39,6 @@ fn a_folder_in_memory(rt: HostRuntime) {
     assert!(rt; folder.flush().is_ok());
     assert!(rt; folder.sync().is_ok());
     assert!(rt; folder.put_in_place().is_ok());
+    assert!(rt; folder.sync_names().is_ok());
     assert!(rt; folder.remove(Name::Out).is_ok());
 }
