@@ -1,10 +1,12 @@
 -- A stream goes on to its next fact of the sessions that are taken.
-use Rattle.flute_journal.proofs.Common.{◌≡◌, Bool, true, false, not, false≢true, List, [], ◌∷◌, ◌++◌, Option, Some, None, refl, sym, ap, ◌∙◌, subst, append-nil, length, arith, ◌+◌, ◌≤◌, ◌<◌, cases_Bool, address, IsRising, StandAfter, Fact, LoadFault, Behaviour, Continues, Gave, option_list, GoesOn, Stopped, StopsAt}
-use Rattle.std.specs.Prelude.{filter}
+use Rattle.flute_journal.proofs.Common.{◌≡◌, ℕ, Bool, true, false, not, false≢true, append_assoc, List, [], ◌∷◌, ◌++◌, Option, Some, None, refl, sym, ap, ◌∙◌, subst, append-nil, length, arith, ◌+◌, ◌-◌, ◌^◌, ◌≤◌, ◌<◌, cases_Bool, address, IsRising, StandAfter, Fact, LoadFault, Behaviour, Continues, Gave, option_list, GoesOn, Stopped, StopsAt}
+use Rattle.std.specs.Prelude.{cond, filter, min}
 use Rattle.std.proofs.Common.{inl, inr}
 use Rattle.std.proofs.lemmas.List.Elements.{filter-append}
+use Rattle.std.proofs.lemmas.List.Sums.{sum_by-append}
+use Rattle.std.proofs.Math.Nat.{min-eq_left}
 use Rattle.flute_parts.specs.declared.address.Address.{Address}
-use Rattle.flute_journal.specs.{declared.chosen.Chosen.{Chosen}, declared.sessions.Sessions.{Sessions}, Sessions.{listed_tsis, is_chosen, chosen}, ChosenStreams.{is_passed_over, OfAll, chosen_behaviour}}
+use Rattle.flute_journal.specs.{declared.chosen.Chosen.{Chosen}, declared.sessions.Sessions.{Sessions}, Sessions.{listed_tsis, is_chosen, chosen, others_in}, ChosenStreams.{is_passed_over, OfAll, CountsOthers, chosen_behaviour}}
 
 module _ (p : Fact → Bool) where
   after_filter : (a : Address) (facts : List Fact) → StandAfter a facts → StandAfter a (filter p facts)
@@ -37,6 +39,18 @@ module _ (s : Sessions) where
     | inr t ↦ rw t refl
   ]
 
+  -- none of it is of another session, or it is
+  held_counts : (held : Option Fact) → is_passed_over s held ≡ false → others_in (listed_tsis s) (option_list held) ≡ 0
+  held_counts None e = refl
+  held_counts (Some f) e = rw e refl
+
+  other_counts : (held : Option Fact) → is_passed_over s held ≡ true → others_in (listed_tsis s) (option_list held) ≡ 1
+  other_counts None e = absurd (false≢true e)
+  other_counts (Some f) e = rw e refl
+
+  others_both : (xs ys : List Fact) → others_in (listed_tsis s) (xs ++ ys) ≡ others_in (listed_tsis s) xs + others_in (listed_tsis s) ys
+  others_both xs ys = sum_by-append (λ f. cond (not (is_chosen (listed_tsis s) f)) 1 0) xs ys
+
   and_held : (all facts : List Fact) (held : Option Fact) → facts ≡ chosen (listed_tsis s) all → is_passed_over s held ≡ false → facts ++ option_list held ≡ chosen (listed_tsis s) (all ++ option_list held)
   and_held all facts held e h = ap (λ l. l ++ option_list held) e ∙ ap (λ l. chosen (listed_tsis s) all ++ l) (sym (held_chosen held h)) ∙ sym (filter-append (is_chosen (listed_tsis s)) all (option_list held))
 
@@ -50,22 +64,47 @@ module _ (s : Sessions) where
 
     -- it let go of what it held, and of others behind it
     pub record PassesOthers (old now : S) : Type 0 where
-      pub gave : (start : S) (all : List Fact) → b.passes start old all → GaveOf start now (chosen (listed_tsis s) (all ++ option_list (b.held old)))
+      pub passed : List Fact
+      pub others : chosen (listed_tsis s) passed ≡ []
+      pub gave : (start : S) (all : List Fact) → b.passes start old all → Gave b start now ((all ++ option_list (b.held old)) ++ passed)
       pub fewer : b.most now + length (option_list (b.held old)) ≤ b.most old
 
-    pub passes_first : (old now : S) → GoesOn b old now → PassesOthers old now
-    passes_first old now h = record {
-      gave = λ start all p. (all ++ option_list (b.held old), h.gave start all p, refl);
-      fewer = h.fewer;
+    -- so it is, and these others were counted
+    pub record CountsPassed (old now : S) (before counted : ℕ) : Type 0 where
+      pub passes : PassesOthers old now
+      pub counts : before + others_in (listed_tsis s) passes.passed < 2 ^ 64 → counted ≡ before + others_in (listed_tsis s) passes.passed
+
+    pub counts_first : (old now : S) (before : ℕ) → GoesOn b old now → CountsPassed old now before before
+    counts_first old now before h = record {
+      passes = record {
+        passed = [];
+        others = refl;
+        gave = λ start all p. subst (Gave b start now) (sym (append-nil (all ++ option_list (b.held old)))) (h.gave start all p);
+        fewer = h.fewer;
+      };
+      counts = λ small. omega arith;
     }
 
-    pub passes_other : (old now next : S) → PassesOthers old now → is_passed_over s (b.held now) ≡ true → GoesOn b now next → PassesOthers old next
-    passes_other old now next h o g = record {
-      gave = λ start all p.
-          let q = h.gave start all p in
-          (q.0 ++ option_list (b.held now), g.gave start q.0 q.1.passes, and_other q.0 _ (b.held now) q.2 o);
-      fewer = omega (arith, h.fewer, g.fewer);
-    }
+    pub counts_other : (old now next : S) (before counted more : ℕ) → CountsPassed old now before counted → is_passed_over s (b.held now) ≡ true → GoesOn b now next → more ≡ min (counted + 1) (2 ^ 64 - 1)
+        → CountsPassed old next before more
+    counts_other old now next before counted more h o g m =
+        let passed = h.passes.passed in
+        let given : List Fact → List Fact = λ all. all ++ option_list (b.held old) in
+        record {
+          passes = record {
+            passed = passed ++ option_list (b.held now);
+            others = sym (and_other passed [] (b.held now) (sym h.passes.others) o);
+            gave = λ start all p.
+                subst (Gave b start next) (append_assoc (given all) passed (option_list (b.held now))) (g.gave start (given all ++ passed) (h.passes.gave start all p).passes);
+            fewer = omega (arith, h.passes.fewer, g.fewer);
+          };
+          counts = λ small.
+              let one = others_both passed (option_list (b.held now)) in
+              let other = other_counts (b.held now) o in
+              let was = h.counts (omega (arith, one, other, small)) in
+              let least = min-eq_left {n = counted + 1} {m = 2 ^ 64 - 1} (omega (arith, one, other, small, was)) in
+              omega (arith, one, other, was, m, least);
+        }
 
     -- one fact fewer is left
     pub passed_fewer : (now next : S) → is_passed_over s (b.held now) ≡ true → GoesOn b now next → b.most next < b.most now
@@ -86,8 +125,8 @@ module _ (s : Sessions) where
       of_start : (So : List Fact → Type 0) (facts : List Fact) → OfAll s So facts → OfAll start.sessions So facts
       of_start So facts a = subst (λ z. OfAll z So facts) as_start a
 
-      passed : OfAll s (b.passes start.stream x.stream) F
-      passed = subst (λ z. OfAll z (b.passes start.stream x.stream) F) (sym as_start) p.passes
+      passed : OfAll s (λ all. b.passes start.stream x.stream all × CountsOthers start x all) F
+      passed = subst (λ z. OfAll z (λ all. b.passes start.stream x.stream all × CountsOthers start x all) F) (sym as_start) p.passes
 
       not_over : (held : Option Fact) → is_passed_over s held ≡ false → is_passed_over start.sessions held ≡ false
       not_over held e = subst (λ z. is_passed_over z held ≡ false) as_start e
@@ -101,8 +140,29 @@ module _ (s : Sessions) where
       given_is : given ≡ chosen (listed_tsis s) (passed.0 ++ option_list (b.held x.stream))
       given_is = and_held passed.0 F (b.held x.stream) passed.2 was_held
 
-      gave_given : PassesOthers b x.stream t.stream → GaveOf b start.stream t.stream given
-      gave_given h = subst (λ l. GaveOf b start.stream t.stream l) (sym given_is) (h.gave start.stream passed.0 passed.1)
+      abbrev gave_given : (now : S) → PassesOthers b x.stream now → GaveOf b start.stream now given
+      gave_given now h =
+          let all = passed.0 ++ option_list (b.held x.stream) in (
+            all ++ h.passed,
+            h.gave start.stream passed.0 passed.1.0,
+            given_is ∙ sym (append-nil (chosen (listed_tsis s) all)) ∙ ap (λ l. chosen (listed_tsis s) all ++ l) (sym h.others) ∙ sym (filter-append (is_chosen (listed_tsis s)) all h.passed),
+          )
+
+      -- all that it let go of is counted
+      counted_given : (h : CountsPassed b x.stream t.stream x.others t.others) → CountsOthers start t ((passed.0 ++ option_list (b.held x.stream)) ++ h.passes.passed)
+      counted_given h =
+          let all = passed.0 ++ option_list (b.held x.stream) in
+          let P : Sessions → Type 0 =
+          λ z. start.others + others_in (listed_tsis z) (all ++ h.passes.passed) < 2 ^ 64 → t.others ≡ start.others + others_in (listed_tsis z) (all ++ h.passes.passed) in
+          let Q : Sessions → Type 0 = λ z. start.others + others_in (listed_tsis z) passed.0 < 2 ^ 64 → x.others ≡ start.others + others_in (listed_tsis z) passed.0 in
+          let before = subst Q (sym as_start) passed.1.1 in
+          let e = others_both all h.passes.passed in
+          let d = others_both passed.0 (option_list (b.held x.stream)) in
+          let n = held_counts (b.held x.stream) was_held in
+          subst P as_start (λ small.
+          let old = before (omega (arith, e, d, n, small)) in
+          let new = h.counts (omega (arith, e, d, n, small, old)) in
+          omega (arith, e, d, n, old, new))
 
       continues : (all K facts : List Fact) (held : Option Fact) → facts ≡ chosen (listed_tsis s) all → OfAll s (λ l. Continues l all held) K → Continues K facts held
       continues all K facts held e k = record {
@@ -112,19 +172,21 @@ module _ (s : Sessions) where
         ended = λ n. ap (chosen (listed_tsis s)) (k.1.ended n);
       }
 
-      goes : PassesOthers b x.stream t.stream → is_passed_over s (b.held t.stream) ≡ false → Gave w start t given
+      goes : CountsPassed b x.stream t.stream x.others t.others → is_passed_over s (b.held t.stream) ≡ false → Gave w start t given
       goes h o =
-          let q = gave_given h in
+          let q = gave_given t.stream h.passes in
+          let counts = counted_given h in
           let held = b.held t.stream in
           let e = and_held q.0 given held q.2 o in
           record {
-            passes = record { sessions = same ∙ as_start; passes = of_start (b.passes start.stream t.stream) given (q.0, q.1.passes, q.2); holds = not_over held o };
+            passes = record { sessions = same ∙ as_start; passes = of_start (λ all. b.passes start.stream t.stream all × CountsOthers start t all) given (q.0, (q.1.passes, counts), q.2); holds = not_over held o };
             reads = of_start (b.reads start.stream t.stream) given (q.0, q.1.reads, q.2);
             reads_held = of_start (b.reads start.stream t.stream) (given ++ option_list held) (q.0 ++ option_list held, q.1.reads_held, e);
             fails = q.1.fails;
             rising = subst IsRising (sym e) (rising_filter (is_chosen (listed_tsis s)) (q.0 ++ option_list held) q.1.rising);
             sized = q.1.sized;
             ended = λ n. of_start (b.tells start.stream) given (q.0, q.1.ended n, q.2);
+            ends = λ n. of_start (λ all. b.ends start.stream t.stream all × CountsOthers start t all) given (q.0, (q.1.ends n, counts), q.2);
             begins = of_start (b.begins start.stream) (given ++ option_list held) (q.0 ++ option_list held, q.1.begins, e);
             known = λ K k.
                 let j = subst (λ z. OfAll z (b.knows start.stream) K) (sym as_start) k in
@@ -133,12 +195,12 @@ module _ (s : Sessions) where
 
       stops_first : (fault : LoadFault) → StopsAt b x.stream t.stream fault → Stopped w start t given fault
       stops_first fault h =
-          let q = h start.stream passed.0 passed.1 in
+          let q = h start.stream passed.0 passed.1.0 in
           record { reads = of_start (b.reads start.stream t.stream) given (passed.0 ++ option_list (b.held x.stream), q.reads, given_is); fails = q.fails; stops = q.stops }
 
       stops_later : (now : S) (fault : LoadFault) → PassesOthers b x.stream now → is_passed_over s (b.held now) ≡ true → StopsAt b now t.stream fault → Stopped w start t given fault
       stops_later now fault h o g =
-          let r = subst (λ l. GaveOf b start.stream now l) (sym given_is) (h.gave start.stream passed.0 passed.1) in
+          let r = gave_given now h in
           let q = g start.stream r.0 r.1.passes in
           record {
             reads = of_start (b.reads start.stream t.stream) given (r.0 ++ option_list (b.held now), q.reads, and_other r.0 given (b.held now) r.2 o);
@@ -146,14 +208,14 @@ module _ (s : Sessions) where
             stops = q.stops;
           }
 
-    pub chosen_goes_on : PassesOthers b x.stream t.stream → is_passed_over s (b.held t.stream) ≡ false → GoesOn w x t
-    chosen_goes_on h o = record { gave = λ start F p. goes start F p h o; fewer = h.fewer }
+    pub chosen_goes_on : CountsPassed b x.stream t.stream x.others t.others → is_passed_over s (b.held t.stream) ≡ false → GoesOn w x t
+    chosen_goes_on h o = record { gave = λ start F p. goes start F p h o; fewer = h.passes.fewer }
 
     pub chosen_stops : (fault : LoadFault) → StopsAt b x.stream t.stream fault → StopsAt w x t fault
     chosen_stops fault h = λ start F p. stops_first start F p fault h
 
-    pub chosen_stops_later : (now : S) (fault : LoadFault) → PassesOthers b x.stream now → is_passed_over s (b.held now) ≡ true → StopsAt b now t.stream fault → StopsAt w x t fault
-    chosen_stops_later now fault h o g = λ start F p. stops_later start F p now fault h o g
+    pub chosen_stops_later : (now : S) (fault : LoadFault) (counted : ℕ) → CountsPassed b x.stream now x.others counted → is_passed_over s (b.held now) ≡ true → StopsAt b now t.stream fault → StopsAt w x t fault
+    chosen_stops_later now fault counted h o g = λ start F p. stops_later start F p now fault h.passes o g
 
 -- what was answered of a stream's head, of what it holds
 pub answered : (s z : Sessions) (head held : Option Fact) (result is : Bool) → head ≡ held → result ≡ is_passed_over z head → z ≡ s → result ≡ is → is_passed_over s held ≡ is

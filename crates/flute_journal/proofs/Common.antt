@@ -7,20 +7,23 @@ pub use Rattle.flute_journal.specs.declared.{fault.ReadFault.{ReadFault}, format
 pub use Rattle.flute_journal.specs.declared.{reader_state.ReaderState.TheVariants.{Ended, Failed, Header, Items}, reader_state.ReaderState.{ReaderState}, streams_fault.InputFault.{InputFault}, streams_fault.StreamsFault.TheVariants.{Input, Write}, streams_fault.StreamsFault.{StreamsFault}}
 pub use Rattle.flute_journal.specs.Faults.{Check, bytes_checks, cut, end_checks, entry_checks, first_fault, header_fault, id_checks, id_in, in_order, info_checks, info_in, is_after, is_key, is_kind, is_name, is_object, is_version, key_in, key_size, named_in, next_fault, object_in, opening_fault, rest_checks, version_fault, version_in}
 pub use Rattle.flute_journal.specs.Format.{body, counted_bytes, end, entry, entry_in, fact_key, header, header_in, id_bytes, info_bytes, key_bytes, kind, magic, name_bytes, object_bytes, rest_bytes, sender_bytes, sender_size, spelling, spelling_in, version_bytes, version_number, without_end, without_end_in}
-pub use Rattle.flute_journal.specs.Input.{Fails, FailsIf, IsFaultOf, IsFaultUpTo, IsWithin, Reads, ReadsUpTo, StaysWithin, left_by, or_failed}
-pub use Rattle.flute_journal.specs.Framing.{AreItems, Framing, Gives, GivesEnd, GivesFault, GivesItem, HasFault, IsAtFault, IsPart, IsWhole, ReadsFrom, ReadsNext, Sofar, Stops, after_items, count_at, end_bytes, fault_from, in_header, in_item, in_opening, is_open, next_bytes, opening, or_else, place_at, read_of, state_after, state_at, told_at, up_to_end}
-pub use Rattle.flute_journal.specs.Journal.{Collects, HasRoom, IsFactIn, IsJournal, IsJournalWithin, IsKeyIn, Journal, JournalIn, OldJournal, before, journal_framing, last_of}
+pub use Rattle.flute_journal.specs.Input.{AsksMemory, Fails, FailsIf, IsFaultOf, IsFaultUpTo, IsSettled, IsWithin, Reads, ReadsUpTo, StaysWithin, left_by, or_failed}
+pub use Rattle.flute_journal.specs.Framing.{AsksForItem, Framing, Gives, GivesEnd, GivesFault, GivesItem, HasFault, IsAtFault, IsPart, MayRunOut, ReadsFrom, ReadsNext, Sofar, Stops, after_items, count_at, end_bytes, fault_from, in_header, in_item, in_opening, is_open, next_bytes, opening, or_else, place_at, read_of, state_after, state_at, told_at}
+pub use Rattle.flute_journal.specs.Frame.{AreItems, IsWhole, up_to_end}
+pub use Rattle.flute_journal.specs.Journal.{Collects, HasRoom, IsFactIn, IsJournal, IsJournalWithin, IsKeyIn, Journal, JournalIn, OldJournal, journal_frame}
+pub use Rattle.flute_journal.specs.JournalFraming.{before, journal_framing, last_of}
 pub use Rattle.flute_journal.specs.JournalStreams.{FailsBy, FailsSince, IsJournalOfAll, ReadAt, ReadWhole, SameLoans, journal_behaviour, lent, lent_behaviour, room, unread_of}
-pub use Rattle.flute_journal.specs.JournalWriters.{PutsBytes, Written}
+pub use Rattle.flute_journal.specs.JournalWriters.{PutsBytes, PutsJournal, WritesJournal, Written}
 pub use Rattle.flute_journal.specs.Leads.{IsBelowNext, Leads, NoneBefore, StandsAt, lower_next, lower_of}
 pub use Rattle.flute_journal.specs.Lowest.{IsLowest, IsNotBefore, Lowest}
-pub use Rattle.flute_journal.specs.Merges.{EndsAfter, FirstFails, KeepsUp, MergeGives, Merged, NamesFault, ReadsEntries, SecondFails, StopsShort, written_up_to}
+pub use Rattle.flute_journal.specs.Merges.{EndsAfter, FirstFails, IsCutAfter, cut_end, cut_entry, cut_header, KeepsUp, MergeGives, Merged, NamesFault, ReadsEntries, SecondFails, StopsShort, written_up_to}
 pub use Rattle.flute_journal.specs.Numbers.{in_bytes, number_at}
 pub use Rattle.flute_journal.specs.Parsing.{BodyIn, BodyIs, HeadIn, HeadIs, IsBody, IsOfBytes, Parses, ReadsEnd, RestIs, StopsReading, SymbolIs, body_fault, byte_of, bytes_fault, cut_fault, end_fault, head_bytes, head_key, head_rest, head_size, rest_fault, rest_size}
 pub use Rattle.flute_journal.specs.Readers.{limit_of, source_of, state_of}
-pub use Rattle.flute_journal.specs.Records.{IsDatagram, IsFileFault, IsFileOf, IsFileWithin, file_framing, file_header, record_checks, record_fault, record_of}
-pub use Rattle.flute_journal.specs.Stores.{BeginsOver, BeginsWith, FailsToLoad, IsJournalOf, IsLoadFault, refused}
-pub use Rattle.flute_journal.specs.StreamMerges.{AppendsNoJournal, AppendsPartOf, BeginWith, CanGoOn, Each, EachSince, FailAs, GaveBefore, IsCounted, IsWithinLimits, MergedAll, NamesInput, NoneFails, OneFails, ReadsAhead, all_of}
+pub use Rattle.flute_journal.specs.Records.{IsDatagram, IsFileOf, IsFileWithin, file_frame, file_header, record_of}
+pub use Rattle.flute_journal.specs.FileFraming.{IsFileFault, file_framing, record_checks, record_fault}
+pub use Rattle.flute_journal.specs.Stores.{BeginsOver, BeginsWith, FailsToLoad, IsJournalOf, IsLoadFault, ReadsNoMore, refused}
+pub use Rattle.flute_journal.specs.StreamMerges.{AppendsNoJournal, AppendsPartOf, BeginWith, CanGoOn, Each, EachSince, EndsMerged, FailAs, GaveBefore, IsCounted, IsWithinLimits, MergedAll, NamesInput, NoneFails, OneFails, ReadsAhead, all_of}
 pub use Rattle.flute_journal.specs.Streams.{Advances, Behaviour, Continues, Gave, GoesOn, Stopped, StopsAt, fact_in, heads, most_of, option_list, place_of}
 pub use Rattle.flute_journal.specs.Whole.{ReadsPart, StopsAfter}
 pub use Rattle.flute_parts.specs.Ranges.{IsByte, IsFact, IsId, IsInfo, IsKey, IsSymbol}
@@ -29,7 +32,7 @@ pub use Rattle.flute_parts.specs.Addresses.{address, fact_of, info_address, symb
 pub use Rattle.flute_parts.specs.BigEndian.{big_endian}
 pub use Rattle.flute_parts.specs.Devices.{AppendsPart, times_failed}
 pub use Rattle.flute_parts.specs.Equality.{address_itself, address_same, fact_same}
-pub use Rattle.flute_parts.specs.Facts.{Below, IsRising, Same, SameMembers, StandAfter, conflict_at, conflict_in, fact_at, same_fact}
+pub use Rattle.flute_parts.specs.Facts.{Below, IsRising, Same, StandAfter, conflict_at, conflict_in, fact_at, same_fact}
 pub use Rattle.flute_parts.specs.Information.{Information, info_fault}
 pub use Rattle.flute_parts.specs.Limits.{Over, more_objects, more_sessions, more_symbols}
 pub use Rattle.flute_parts.specs.ObjectName.{IsObjectName, instance_of, toi_of}

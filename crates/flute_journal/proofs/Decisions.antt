@@ -4,15 +4,15 @@ use Rattle.flute_journal.proofs.{Common.{◌≡◌, ℕ, zero, suc, ◌<◌, ◌
 -- what stands at a place where the bytes have no fault: the end, or an item
 pub data Next {V P T : Type 0} (framing : Framing V P T) (limit : ℕ) (place : P) (rest : List ℕ) :
     Type 0 where
-  at_end : rest ≡ framing.end (framing.count place) → Next framing limit place rest
-  at_item : (x : V) (more : List ℕ) → rest ≡ framing.item (framing.told place) x ++ more
-      → 0 < length (framing.item (framing.told place) x) → framing.IsItem (framing.told place) x
+  at_end : rest ≡ framing.frame.end (framing.count place) → Next framing limit place rest
+  at_item : (x : V) (more : List ℕ) → rest ≡ framing.frame.item (framing.told place) x ++ more
+      → 0 < length (framing.frame.item (framing.told place) x) → framing.frame.IsItem (framing.told place) x
       → IsTrue (framing.may_follow place x) → framing.count place < limit
       → Next framing limit place rest
 
 abbrev pub Decided : {V P T : Type 0} → Framing V P T → ℕ → List ℕ → Type 0
 Decided {V} framing limit bytes =
-    ((xs : List V) × IsWhole framing limit bytes xs) ⊎
+    ((xs : List V) × IsWhole framing.frame limit bytes xs) ⊎
     ((xs : List V) × ((f : ReadFault) × Stops framing bytes limit xs f))
 
 module _ {V P T : Type 0} {framing : Framing V P T} (sound : IsSound framing)
@@ -21,8 +21,8 @@ module _ {V P T : Type 0} {framing : Framing V P T} (sound : IsSound framing)
   -- the bytes begin with these items
   record Begins (limit : ℕ) (bytes : List ℕ) (xs : List V) (rest : List ℕ) : Type 0 where
     octets : AllByRecursion IsByte rest
-    are_items : AreItems framing limit xs
-    whole : bytes ≡ up_to_end framing are_items.told xs ++ rest
+    are_items : AreItems framing.frame limit xs
+    whole : bytes ≡ up_to_end framing.frame are_items.told xs ++ rest
 
   -- what is decided of the bytes behind more items
   abbrev Again : ℕ → List ℕ → List ℕ → Type 0
@@ -41,7 +41,7 @@ module _ {V P T : Type 0} {framing : Framing V P T} (sound : IsSound framing)
         record {
           are_items = b.are_items;
           bytes_are =
-              b.whole ∙ ap (λ (l : List ℕ). up_to_end framing t xs ++ l) (e ∙ ap framing.end count);
+              b.whole ∙ ap (λ (l : List ℕ). up_to_end framing.frame t xs ++ l) (e ∙ ap framing.frame.end count);
         },
       )
   goes_on limit bytes xs rest again b place is (at_item x more e some valid follows few) =
@@ -49,31 +49,31 @@ module _ {V P T : Type 0} {framing : Framing V P T} (sound : IsSound framing)
       let t = a.told in
       let told : framing.told place ≡ t = ap framing.told is ∙ sound.told_is t xs in
       let count : framing.count place ≡ length xs = ap framing.count is ∙ sound.counted t xs in
-      let here : rest ≡ framing.item t x ++ more =
-      e ∙ ap (λ (z : T). framing.item z x ++ more) told in
+      let here : rest ≡ framing.frame.item t x ++ more =
+      e ∙ ap (λ (z : T). framing.frame.item z x ++ more) told in
       again (xs ++ x ∷ []) more
       (omega (
         arith,
         some,
-        length-append (framing.item (framing.told place) x) more,
+        length-append (framing.frame.item (framing.told place) x) more,
         ap length
             e,
       )) (record {
-        octets = (all_split IsByte (framing.item t x) more
+        octets = (all_split IsByte (framing.frame.item t x) more
             (subst (AllByRecursion IsByte) here b.octets)).1;
         are_items = record {
           told = t;
-          valid = all_more (framing.IsItem t) xs x a.valid
-              (subst (λ (z : T). framing.IsItem z x) told valid);
+          valid = all_more (framing.frame.IsItem t) xs x a.valid
+              (subst (λ (z : T). framing.frame.IsItem z x) told valid);
           in_order =
               sound.more_in_order t xs x a.in_order
               (subst (λ (z : P). IsTrue (framing.may_follow z x)) is follows);
           few = omega (arith, few, count, length-append xs (x ∷ []));
         };
-        whole = b.whole ∙ ap (λ (l : List ℕ). up_to_end framing t xs ++ l) here
-            ∙ sym (append_assoc (up_to_end framing t xs) (framing.item t x) more)
+        whole = b.whole ∙ ap (λ (l : List ℕ). up_to_end framing.frame t xs ++ l) here
+            ∙ sym (append_assoc (up_to_end framing.frame t xs) (framing.frame.item t x) more)
             ∙ ap (λ (l : List ℕ). l ++ more)
-            (flat_map_more (framing.item t) (framing.header t) xs x);
+            (flat_map_more (framing.frame.item t) (framing.frame.header t) xs x);
       })
 
   stops_or : (limit : ℕ) (bytes : List ℕ) (xs : List V) (rest : List ℕ) → Again limit bytes rest
@@ -116,7 +116,7 @@ module _ {V P T : Type 0} {framing : Framing V P T} (sound : IsSound framing)
               omega arith;
         };
         whole = sound.header_is bytes e ∙ ap (λ (l : List ℕ). l ++ drop 6 bytes)
-            (sym (append-nil (framing.header t)));
+            (sym (append-nil (framing.frame.header t)));
       })
 
   pub decided : (bytes : List ℕ) (limit : ℕ) → AllByRecursion IsByte bytes

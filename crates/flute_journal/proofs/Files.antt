@@ -1,5 +1,5 @@
 -- Bytes are the datagram file of one list of datagrams, or they stop at one fault.
-use Rattle.flute_journal.proofs.{Common.{length-bytes_high_first, none-some, same_Some, ◌≡◌, ℕ, ◌^◌, ◌<◌, ◌≤◌, List, [], ◌∷◌, ◌++◌, length, take, drop, Some, None, refl, sym, ap, ◌∙◌, subst, append_assoc, arith, flat_map, AllByRecursion, bytes_eq, leb-false, ltb-false, length-append, length-take-le, drop_at, take-append-drop, append-nil, big_endian, ReadFault, in_bytes, opening_fault, IsByte, file_header, record_of, IsDatagram, AreItems, file_framing, IsFileOf, IsFileWithin, Stops, record_fault}, Sequences.{begins, one_stop, stop_at_bound}, Each.{all_split}, Entries.{counted-injective}, Numbers.{number-in_bytes, number-below, octets-take, octets-drop, spelled}, Parts.{opening_comes, first-pass, cut-passes}, Existence.{first-none}, Decisions.{Next, at_end, at_item}, Records.{record_comes, too_many_records}}
+use Rattle.flute_journal.proofs.{Common.{length-bytes_high_first, none-some, same_Some, ◌≡◌, ℕ, ◌^◌, ◌<◌, ◌≤◌, List, [], ◌∷◌, ◌++◌, length, take, drop, Some, None, refl, sym, ap, ◌∙◌, subst, append_assoc, arith, flat_map, AllByRecursion, bytes_eq, leb-false, ltb-false, length-append, length-take-le, drop_at, take-append-drop, append-nil, big_endian, ReadFault, in_bytes, opening_fault, IsByte, file_header, record_of, IsDatagram, AreItems, file_framing, IsFileOf, IsFileWithin, Stops, record_fault, file_frame}, Sequences.{begins, one_stop, stop_at_bound}, Each.{all_split}, Entries.{counted-injective}, Numbers.{number-in_bytes, number-below, octets-take, octets-drop, spelled}, Parts.{opening_comes, first-pass, cut-passes}, Existence.{first-none}, Decisions.{Next, at_end, at_item}, Records.{record_comes, too_many_records}}
 use Rattle.flute_journal.specs.declared.fault.ReadFault.TheVariants as faults
 use Rattle.flute_journal.specs.Framing.{in_header, after_items}
 
@@ -64,7 +64,7 @@ pass limit ds v front x xs r e few =
     record_passes limit (length front) x r
     (all_split IsDatagram front (x ∷ xs) (subst (AllByRecursion IsDatagram) e v)).1.0 few
 
-pass_all : (limit : ℕ) (ds : List (List ℕ)) → AreItems file_framing limit ds
+pass_all : (limit : ℕ) (ds : List (List ℕ)) → AreItems file_frame limit ds
     → (front : List (List ℕ)) (x : List ℕ) (xs : List (List ℕ)) (r : List ℕ) → ds ≡ front ++ x ∷ xs
     → record_fault limit (length front) (record_of x ++ r) ≡ None
 pass_all limit ds a front x xs r e =

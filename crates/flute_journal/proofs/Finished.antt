@@ -1,5 +1,5 @@
 -- Streams that are read to their ends, one after another.
-use Rattle.flute_journal.proofs.Common.{Advances, AllByRecursion, AppendsNoJournal, AppendsPart, Behaviour, Bool, CanGoOn, Err, Fact, FactRef, FailAs, Gave, GaveBefore, Input, InputFault, IsFact, MergedJournal, List, LoadFault, NamesInput, None, Ok, OneFails, Option, Some, StreamsFault, Written, [], ap, arith, err_from_is_err_and, fact_in, false, is_some, length, length-set, option_list, refl, same_Some, set, slice_get, spelling, subst, suc, sym, true, zero, ℕ, ◌+◌, ◌<◌, ◌∙◌, ◌∷◌, ◌≡◌, ◌≢◌, ◌≤◌}
+use Rattle.flute_journal.proofs.Common.{Advances, AppendsNoJournal, AppendsPart, Behaviour, Bool, CanGoOn, Err, Fact, FactRef, FailAs, Gave, GaveBefore, Input, InputFault, MergedJournal, List, LoadFault, NamesInput, None, Ok, OneFails, Option, PutsJournal, Some, StreamsFault, Written, [], ap, arith, err_from_is_err_and, fact_in, false, is_some, length, length-set, option_list, refl, same_Some, set, slice_get, subst, suc, sym, true, zero, ℕ, ◌+◌, ◌<◌, ◌∙◌, ◌∷◌, ◌≡◌, ◌≢◌, ◌≤◌}
 use Rattle.flute_journal.proofs.{MergeBytes.{no_whole_end}, LeadFacts.{set_here, set_elsewhere}}
 use Rattle.flute_journal.specs.FirstFaults.{IsStopOf, HasStopped, TellBefore}
 
@@ -136,10 +136,10 @@ module _ {S : Type 0} (b : Behaviour S) where
   gave_of fault i old now e g = subst (CanGoOn b old now) e g
 
 -- where the sink failed, what was appended is no journal
-pub cut_journal : (u v : Option (List ℕ)) (entries : List Fact) (failed : Bool) → AllByRecursion IsFact entries → failed ≡ true → Written failed u v (spelling entries) → AppendsNoJournal u v
-cut_journal u v entries failed valid e w =
-    let part : AppendsPart u v (spelling entries) = subst (λ (b : Bool). Written b u v (spelling entries)) e w in
-    record { bytes = part.part; appended = part.appended; no_journal = no_whole_end entries part.part part.rest valid part.cut (sym part.whole) }
+pub cut_journal : (u v : Option (List ℕ)) (facts : List Fact) (count : ℕ) (cut : Bool) → cut ≡ true → PutsJournal cut u v facts count → AppendsNoJournal u v
+cut_journal u v facts count cut e p =
+    let part : AppendsPart u v p.bytes = subst (λ (b : Bool). Written b u v p.bytes) e p.appended in
+    record { bytes = part.part; appended = part.appended; no_journal = no_whole_end p.journal.0 part.part part.rest p.journal.1.valid part.cut (sym part.whole ∙ p.journal.3) }
 
 -- a stream that stopped as it was read on
 pub ruleset reads_on = (others_on, err_from_is_err_and, read_stops)

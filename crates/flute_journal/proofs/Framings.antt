@@ -1,6 +1,6 @@
 -- Journals and datagram files are framed files.
 use Rattle.flute_journal.proofs.{Common.{◌≡◌, List, [], ◌∷◌, ◌++◌, Option, Some, None, refl, sym, length-append, Address, address, Fact, Version, at_place, before, last_of, journal_framing, file_framing, file_header}, Framed.{IsSound}, Parts.{header_passes, version-told}, Existence.{header_is, opening_is, rising_more}, Files.{file_header_passes}}
-use Rattle.flute_journal.specs.Journal.{after}
+use Rattle.flute_journal.specs.JournalFraming.{after}
 
 last_more : (b : Option Address) (es : List Fact) (f : Fact)
     → last_of b (es ++ f ∷ []) ≡ Some (address f)

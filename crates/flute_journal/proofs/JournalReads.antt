@@ -1,5 +1,5 @@
 -- A journal that is read on is a stream that goes on.
-use Rattle.flute_journal.proofs.{Common.{AreItems, journal_framing, BeginsWith, Behaviour, Bool, Consumes, Consumes-kept, Continues, Ended, Items, Err, Fact, Failed, FailsIf, FailsSince, Gives, GivesEnd, GivesFault, GoesOn, HasFault, Header, IfSome, IsFactIn, IsJournalOfAll, IsJournalWithin, IsRising, IsSized, IsTrue, Keeps, LentStream, List, LoadFault, None, Ok, Option, ReadAt, ReadFault, ReadWhole, ReadsEntries, SameLoans, Sofar, Some, ReaderState, Before, StopsAt, [], ap, append-nil, arith, count_at, end, false, without_end_in, inl, inr, is_open, journal_behaviour, length, limit_of, option_list, refl, room, source_of, spelling_in, state_of, subst, sym, true, unread_of, ℕ, ◌++◌, ◌+◌, ◌-◌, ◌∙◌, ◌∷◌, ◌≡◌, ◌≤◌}, Whole.{ahead-sofar, reads-side, reads-sofar, reads-fault}, SoFar.{AtEnd, whole-at, side-from, open_after, sofar-fault, read_some}, Framings.{journal_sound}, Framed.{one_given}, Each.{all_split}, Bodies.{fact_sized}, MergeBytes.{spelling-injective}}
+use Rattle.flute_journal.proofs.{Common.{AreItems, journal_framing, BeginsWith, Behaviour, Bool, Consumes, Consumes-kept, Continues, Ended, Items, Err, Fact, Failed, FailsIf, FailsSince, Gives, GivesEnd, GivesFault, GoesOn, HasFault, Header, IfSome, IsFactIn, IsJournalOfAll, IsJournalWithin, IsRising, IsSized, IsTrue, Keeps, LentStream, List, LoadFault, None, Ok, Option, ReadAt, ReadFault, ReadWhole, ReadsEntries, SameLoans, Sofar, Some, ReaderState, Before, StopsAt, [], ap, append-nil, arith, count_at, end, false, without_end_in, inl, inr, is_open, journal_behaviour, length, limit_of, option_list, refl, room, source_of, spelling_in, state_of, subst, sym, true, unread_of, ℕ, ◌++◌, ◌+◌, ◌-◌, ◌∙◌, ◌∷◌, ◌≡◌, ◌≤◌, journal_frame}, Whole.{ahead-sofar, reads-side, reads-sofar, reads-fault}, SoFar.{AtEnd, whole-at, side-from, open_after, sofar-fault, read_some}, Framings.{journal_sound}, Framed.{one_given}, Each.{all_split}, Bodies.{fact_sized}, MergeBytes.{spelling-injective}}
 use Rattle.flute_journal.specs.declared.fault.LoadFault.TheVariants as load
 use Rattle.flute_journal.specs.declared.journal_stream.JournalStream.{JournalStream}
 
@@ -126,7 +126,7 @@ known_of limit u w state F None r K k =
     }
 
 begins_read : (limit : ℕ) (u w : Option (List ℕ)) (es : List Fact)
-    → (a : AreItems journal_framing limit es) → Consumes u w (without_end_in a.told es)
+    → (a : AreItems journal_frame limit es) → Consumes u w (without_end_in a.told es)
     → IfSome u (λ bytes. BeginsWith limit bytes es)
 begins_read limit None w es a h = tt
 begins_read limit (Some x) None es a h = absurd h
@@ -259,6 +259,7 @@ module _ {R : Type 0} (unread : R → Option (List ℕ)) (failures : R → ℕ) 
           rising = r.rising;
           sized = r.sized;
           ended = r.ended;
+          ends = r.ended;
           begins = r.begins;
           known = r.known;
         };

@@ -12,6 +12,7 @@ mod SoFar
 mod Decisions
 mod Framings
 mod Calls
+mod Seen
 mod Bodies
 mod Passes
 mod Existence

@@ -1,5 +1,5 @@
 -- A store that is read entry by entry.
-use Rattle.flute_journal.proofs.{Common.{AreItems, journal_framing, BeginsOver, Below-from_Same, Bool, Consumes, Consumes-whole, Err, Fact, FailsIf, FailsToLoad, Gives, GivesItem, GivesFault, Header, IfSome, IsAtEnd, IsJournalOf, IsLoadFault, List, MatchBool, None, Ok, Option, Over, Over-below, Read, ReadFault, ReadsPart, Same, Same-append, Same-itself, Same-sym, Same-trans, Sofar, Some, Two, ReaderState, Before, [], append-nil, arith, count_at, end, err_from_is_err_and, without_end_in, file_framing, is_open, more_objects, more_sessions, more_symbols, refl, refused, session, spelling_in, subst, sym, ℕ, ◌++◌, ◌∙◌, ◌∷◌, ◌≡◌}, MergeBytes.{within_nil}, SoFar.{AtEnd, read_some, side-from, open_after, sofar-none, sofar-next}, Framings.{journal_sound}, Whole.{sofar-stops}}
+use Rattle.flute_journal.proofs.{Common.{AreItems, journal_framing, BeginsOver, Below-from_Same, Bool, Consumes, Consumes-whole, Err, Fact, FailsIf, FailsToLoad, Gives, GivesItem, GivesFault, Header, IfSome, IsAtEnd, IsJournalOf, IsLoadFault, List, MatchBool, None, Ok, Option, Over, Over-below, Read, ReadFault, ReadsNoMore, Same, Same-append, Same-itself, Same-sym, Same-trans, Sofar, Some, Two, ReaderState, Before, [], append-nil, arith, count_at, end, err_from_is_err_and, without_end_in, is_open, more_objects, more_sessions, more_symbols, refl, refused, session, spelling_in, subst, sym, ℕ, ◌++◌, ◌∙◌, ◌∷◌, ◌≡◌, journal_frame}, MergeBytes.{within_nil}, SoFar.{AtEnd, read_some, side-from, open_after, sofar-none, sofar-next}, Framings.{journal_sound}, Whole.{sofar-stops}}
 use Rattle.flute_join.specs.declared.refusal.JoinRefusal.{JoinRefusal}
 use Rattle.flute_join.specs.declared.refusal.JoinRefusal.TheVariants as join
 use Rattle.flute_journal.specs.Whole.{after_entries}
@@ -60,7 +60,7 @@ pub loaded-fits : (s o y limit : ℕ) (u v : Option (List ℕ)) (state : ReaderS
 loaded-fits s o y limit u v state F l over = l.fits (over-same F l.entries s o y l.same over)
 
 begins-over : (s o y limit : ℕ) (u w : Option (List ℕ)) (es : List Fact) (f : Fact)
-    → (a : AreItems journal_framing limit (es ++ f ∷ []))
+    → (a : AreItems journal_frame limit (es ++ f ∷ []))
     → Consumes u w (without_end_in a.told (es ++ f ∷ []))
     → Over (es ++ f ∷ []) s o y → IfSome u (BeginsOver s o y limit)
 begins-over s o y limit None w es f a h over = tt
@@ -163,7 +163,7 @@ loaded-stops s o y limit bound u v w old new F f l b h = (
 pub fault-part : (s o y limit bound : ℕ) (u v w : Option (List ℕ)) (old new : ReaderState Before)
     (F : List Fact) (f : ReadFault) → Loaded s o y limit u v old F
     → bound ≡ limit → GivesFault journal_framing bound old new v w f
-    → (entries : List Fact) × ReadsPart limit u w entries
+    → ReadsNoMore s o y limit u w (Read f)
 fault-part s o y limit bound u v w old new F f l b h = (
   l.entries,
   (sofar-stops limit u v w old new l.entries f l.sofar
@@ -173,8 +173,22 @@ fault-part s o y limit bound u v w old new F f l b h = (
 pub refused-part : (s o y limit bound : ℕ) (u v w : Option (List ℕ)) (old new : ReaderState Before)
     (F : List Fact) (given : Option Fact) (f : Fact) → Loaded s o y limit u v old F
     → bound ≡ limit → given ≡ Some f → Gives journal_framing bound old new v w (Ok given)
-    → (entries : List Fact) × ReadsPart limit u w entries
-refused-part s o y limit bound u v w old new F given f l b e h =
+    → (why : JoinRefusal) → (why ≡ join.Full → Over (F ++ f ∷ []) s o y)
+    → ReadsNoMore s o y limit u w (refused why)
+refused-part s o y limit bound u v w old new F given f l b e h join.Full full =
+    let es = l.entries ++ f ∷ [] in
+    let next =
+    sofar-next journal_sound limit u v w old new l.entries f l.sofar
+    (given-entry limit bound v w old new given f b e h) in
+    record {
+      within = l.entries;
+      last = f;
+      are_items = next.are_items;
+      read = subst (Consumes u w) (read_some journal_framing next.are_items.told l.entries f) next.read;
+      none_over = l.fits;
+      over = over-same (F ++ f ∷ []) es s o y (one_more F l.entries f l.same) (full refl);
+    }
+refused-part s o y limit bound u v w old new F given f l b e h join.OutOfMemory full =
     let es = l.entries ++ f ∷ [] in
     let next =
     sofar-next journal_sound limit u v w old new l.entries f l.sofar

@@ -16,6 +16,7 @@ module _ {S L : Type 0} (whole : L → S) (Same : L → L → Type 0) (b : Behav
           rising = g.rising;
           sized = g.sized;
           ended = g.ended;
+          ends = g.ends;
           begins = g.begins;
           known = g.known;
         };

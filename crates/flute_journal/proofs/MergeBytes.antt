@@ -12,10 +12,6 @@ without_end_in-snoc v es f = flat_map_more (entry_in v) (header_in v) es f
 pub without_end-snoc : (es : List Fact) (f : Fact) → without_end es ++ entry f ≡ without_end (es ++ f ∷ [])
 without_end-snoc es f = without_end_in-snoc Two es f
 
-pub written-begins : (es : List Fact) (part : List ℕ) → (rest : List ℕ) × (without_end es ++ part ≡ written_up_to es ++ rest)
-written-begins [] part = (header ++ part, refl)
-written-begins (e ∷ es) part = (part, refl)
-
 pub written-snoc : (es : List Fact) (f : Fact) → without_end (es ++ f ∷ []) ≡ written_up_to (es ++ f ∷ [])
 written-snoc [] f = refl
 written-snoc (e ∷ es) f = refl

@@ -27,6 +27,7 @@ module _ {R : Type 0} (unread : R → Option (List ℕ)) (failures : R → ℕ) 
             rising = r.rising;
             sized = r.sized;
             ended = r.ended;
+            ends = r.ended;
             begins = r.begins;
             known = r.known;
           };

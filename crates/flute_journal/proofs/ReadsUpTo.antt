@@ -1,13 +1,55 @@
 -- Faults of bytes of which a front was read.
-use Rattle.flute_journal.proofs.Common.{◌≡◌, ℕ, ◌+◌, ◌≤◌, Bool, true, false, List, [], ◌++◌, length, Option, Some, None, Result, Ok, Err, inl, inr, refl, sym, ap, ◌∙◌, subst, append_assoc, arith, length-append, append-nil, IfSome, IfErr, Consumes, Consumes-trans, ReadFault, Fails, ReadsUpTo, IsFaultOf, IsFaultUpTo, Reads, times_failed, left_by, or_failed, IsOfBytes, StopsReading, Parses}
+use Rattle.flute_journal.proofs.Common.{◌≡◌, ℕ, ◌+◌, ◌≤◌, Bool, true, false, List, [], ◌++◌, length, Option, Some, None, Result, Ok, Err, inl, inr, refl, sym, ap, ◌∙◌, subst, append_assoc, arith, length-append, append-nil, IfSome, IfErr, Consumes, Consumes-trans, ReadFault, Fails, ReadsUpTo, IsFaultOf, IsFaultUpTo, Reads, times_failed, left_by, or_failed, IsOfBytes, StopsReading, Parses, AsksMemory, IsSettled, Consumes-nil, cut, cut_fault, first_fault, ◌∷◌}
 use Rattle.flute_journal.specs.declared.fault.ReadFault.TheVariants as faults
 
 -- what stands behind what was read has the fault of the whole
 pub fault-behind : (u v w : Option (List ℕ)) (front : List ℕ) (whole part : List ℕ → Option ReadFault) (f : ReadFault)
     → Consumes u v front → ((r : List ℕ) → whole (front ++ r) ≡ part r) → IsFaultOf part v w f → IsFaultOf whole u w f
 fault-behind u v w front whole part faults.Read took e h = (front ++ h.0, Consumes-trans u v w front h.0 took h.1, e h.0 ∙ h.2)
-fault-behind u v w front whole part faults.OutOfMemory took e h = grind (arith, Consumes-trans)
+fault-behind u v w front whole part faults.OutOfMemory took e h = record {
+  read = front ++ h.read;
+  seen = h.seen;
+  consumed = Consumes-trans u v w front h.read took h.consumed;
+  follows = h.follows;
+  settled = λ more.
+      let all = h.read ++ h.seen in
+      let one = ap (λ (l : List ℕ). l ++ more) (append_assoc front h.read h.seen) ∙ append_assoc front all more in
+      subst (λ (o : Option ReadFault). IfSome o (λ f. f ≡ faults.Cut)) (sym (ap whole one ∙ e (all ++ more))) (h.settled more);
+}
 fault-behind u v w front whole part f took e h = grind (arith)
+
+-- memory is asked for before the bytes that are so many are read
+
+cut_only : (b : Bool) → IfSome (first_fault ((b, faults.Cut) ∷ [])) (λ f. f ≡ faults.Cut)
+cut_only true = refl
+cut_only false = tt
+
+follows_nil : (u : Option (List ℕ)) → IfSome u (λ bytes. (rest : List ℕ) × (bytes ≡ [] ++ rest))
+follows_nil None = tt
+follows_nil (Some x) = (x, refl)
+
+pub asks_first : (fault : List ℕ → Option ReadFault) (u v : Option (List ℕ)) → v ≡ u → IsSettled fault [] → AsksMemory fault u v
+asks_first fault u v same h =
+    subst (λ (x : Option (List ℕ)). AsksMemory fault u x) (sym same) (record { read = []; seen = []; consumed = Consumes-nil u; follows = follows_nil u; settled = h })
+
+pub asks_bytes : (n : ℕ) (u : Option (List ℕ)) → AsksMemory (cut_fault n) u u
+asks_bytes n u = asks_first (cut_fault n) u u refl (λ more. cut_only (cut n more).0)
+
+-- and once the next was seen, and has no fault
+pub asks_seen : (fault : List ℕ → Option ReadFault) (u v : Option (List ℕ)) (x : List ℕ) → v ≡ u → IfSome u (λ bytes. (rest : List ℕ) × (bytes ≡ x ++ rest)) → ((r : List ℕ) → fault (x ++ r) ≡ None)
+    → AsksMemory fault u v
+asks_seen fault u v x same begins none =
+    subst (λ (y : Option (List ℕ)). AsksMemory fault u y) (sym same) (record {
+      read = [];
+      seen = x;
+      consumed = Consumes-nil u;
+      follows = begins;
+      settled = λ more. subst (λ (o : Option ReadFault). IfSome o (λ f. f ≡ faults.Cut)) (sym (none more)) tt;
+    })
+
+-- it was asked for if it ran out
+pub asked : (last : List ℕ) (fault : List ℕ → Option ReadFault) (u v : Option (List ℕ)) (f : ReadFault) → IsFaultUpTo last fault u v f → f ≡ faults.OutOfMemory → AsksMemory fault u v
+asked last fault u v f h e = subst (IsFaultUpTo last fault u v) e h
 
 -- the same where the source may fail behind the last bytes
 pub fault_up_to-behind : (u v w : Option (List ℕ)) (front last : List ℕ) (whole part : List ℕ → Option ReadFault) (f : ReadFault)

@@ -1,7 +1,7 @@
 -- The records of a datagram file.
-use Rattle.flute_journal.proofs.{Common.{◌≡◌, ℕ, ◌^◌, ◌<◌, ◌≤◌, Bool, true, IsTrue, leb, List, [], ◌∷◌, ◌++◌, length, take, drop, Option, Some, None, Result, Ok, Err, sym, ap, ◌∙◌, append_assoc, arith, le-leb, lt-leb, nil_from_length, take_at, drop_at, length-append, AllByRecursion, Consumes, Consumes-trans, big_endian, ReadFault, in_bytes, first_fault, cut, ReadsUpTo, IsFaultOf, IsFaultUpTo, IsWithin, StaysWithin, or_failed, IsByte, cut_fault, record_of, IsDatagram, file_framing, ReadsNext, record_checks, record_fault, length-bytes_high_first}, Parts.{first-pass, first-stop, cut-passes, nothing_left, within-short}, Numbers.{in_bytes-injective}, ReadsUpTo.{fault-behind, fault_up_to}}
+use Rattle.flute_journal.proofs.{Common.{◌≡◌, ℕ, ◌^◌, ◌<◌, ◌≤◌, Bool, true, false, IsTrue, leb, List, [], ◌∷◌, ◌++◌, length, take, drop, Option, Some, None, Result, Ok, Err, sym, ap, ◌∙◌, append_assoc, arith, le-leb, lt-leb, nil_from_length, take_at, drop_at, length-append, refl, subst, IfSome, IsSettled, AllByRecursion, Consumes, Consumes-trans, big_endian, ReadFault, in_bytes, first_fault, cut, ReadsUpTo, IsFaultOf, IsFaultUpTo, IsWithin, StaysWithin, or_failed, IsByte, cut_fault, record_of, IsDatagram, file_framing, ReadsNext, record_checks, record_fault, length-bytes_high_first}, Parts.{first-pass, first-stop, cut-passes, nothing_left, within-short}, Numbers.{in_bytes-injective}, ReadsUpTo.{asks_first, fault-behind, fault_up_to}}
 use Rattle.flute_journal.specs.declared.fault.ReadFault.TheVariants as faults
-use Rattle.flute_journal.specs.{Input.{Advances}, Records.{file_framing}}
+use Rattle.flute_journal.specs.{Input.{Advances}, FileFraming.{file_framing}, Lent.{TakesRecord}}
 
 -- a byte follows as many records as there may be
 pub too_many_records : (limit count : ℕ) (front r : List ℕ) → 0 < length front → limit ≤ count
@@ -27,6 +27,34 @@ pub record_comes : (limit count n : ℕ) (front r : List ℕ) → count < limit 
 record_comes limit count n [] r few len is = absurd (omega (arith, len))
 record_comes limit count n (b ∷ bs) r few len is =
     record_checked limit count (b ∷ bs) r few len ∙ ap (λ k. cut_fault k r) (sym is)
+
+-- a record within the bound has no fault but that it is cut
+
+cuts_only : (a b : Bool) → IfSome (first_fault ((a, faults.Cut) ∷ (b, faults.Cut) ∷ [])) (λ f. f ≡ faults.Cut)
+cuts_only true b = refl
+cuts_only false true = refl
+cuts_only false false = tt
+
+record_settled : (limit count : ℕ) → count < limit → IsSettled (record_fault limit count) []
+record_settled limit count few [] = tt
+record_settled limit count few (b ∷ bs) =
+    let whole = b ∷ bs in
+    let n = big_endian (take 2 whole) in
+    subst (λ (o : Option ReadFault). IfSome o (λ f. f ≡ faults.Cut))
+    (sym (first-pass (leb limit count, faults.TooMany)
+    (cut 2 whole ∷ cut n (drop 2 whole) ∷ []) (lt-leb limit count few)))
+    (cuts_only (cut 2 whole).0 (cut n (drop 2 whole)).0)
+
+-- it was taken from where it was seen, or there was no memory for it
+pub record_taken : (limit count : ℕ) (u v : Option (List ℕ))
+    (r : Result (Option (List ℕ)) ReadFault) → count < limit → TakesRecord u v r
+    → (r ≡ Ok None → ⊥) → ReadsNext file_framing limit count u v r
+record_taken limit count u v (Ok (Some d)) few h some = (h.0, refl, few, h.1)
+record_taken limit count u v (Ok None) few h some = absurd (some refl)
+record_taken limit count u v (Err f) few h some =
+    let P : ReadFault → Type 0 = λ g. ReadsNext file_framing limit count u v (Err g) in
+    subst P (sym h.0)
+    (asks_first (record_fault limit count) u v h.1 (record_settled limit count few))
 
 -- the bytes of a record could not be read
 pub record_stops : (limit count n : ℕ) (u v w : Option (List ℕ)) (front : List ℕ) (f : ReadFault)

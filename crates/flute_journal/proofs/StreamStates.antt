@@ -1,8 +1,8 @@
 -- Where a merge of streams stands between two turns, and how it ends.
-use Rattle.flute_journal.proofs.Common.{Address, AllByRecursion, Appends, Appends-nil, Appends-trans, AppendsPart, AppendsPartOf, AreNew, Behaviour, Below-from_Same, Bool, CanGoOn, Collects, Counts, EachSince, Fact, GoOnAt, Input, InputFault, IsCounted, IsFact, IsRising, IsSized, IsTrue, IsWithinLimits, Journal, List, Lowest, MergedAll, NamesInput, None, NoneFails, OneFails, Option, Over, Over-below, PutsBytes, ReadsAhead, Same, Same-append, Same-itself, Same-members, Same-sym, Same-trans, SameMembers, Some, StopsIn, StreamsFault, Tally, Write, Written, [], address, address_same, all_of, ap, append_assoc, arith, cases_Bool, end, entry, fact_at, fact_at-elsewhere, fact_at-nil, false, without_end, header, heads, inl, inr, is_after, last_of, length, length-append, most_of, none-some, refl, rising_unique, rules, same_address, spelling, subst, sym, true, written_up_to, ℕ, ◌++◌, ◌+◌, ◌<◌, ◌^◌, ◌∙◌, ◌∷◌, ◌≡◌, ◌≤◌}
-use Rattle.flute_journal.proofs.{Passes.{Below-more}, Existence.{rises_more}, Each.{all_append, all_more}, MergeBytes.{without_end-snoc, written-begins, written-snoc}, MergeRising.{last_of-snoc, rising-rises, rises-rising}, WrittenSoFar.{put_first, written-more, written-whole, written-part}}
+use Rattle.flute_journal.proofs.Common.{Address, AllByRecursion, Appends, Appends-nil, Appends-trans, AppendsPart, AppendsPartOf, AreNew, Behaviour, Below-from_Same, Bool, CanGoOn, Collects, Counts, EachSince, EndsMerged, Fact, GoOnAt, Input, InputFault, IsCounted, IsCutAfter, IsFact, IsRising, IsSized, IsTrue, IsWithinLimits, Journal, List, Lowest, NamesInput, None, NoneFails, OneFails, Option, Over, Over-below, PutsBytes, ReadsAhead, Same, Same-append, Same-itself, Same-sym, Same-trans, Some, StopsIn, StreamsFault, Tally, Write, Written, [], address, address_same, all_of, ap, append_assoc, arith, cases_Bool, cut_end, cut_entry, cut_header, end, entry, fact_at, fact_at-elsewhere, fact_at-nil, false, without_end, header, heads, inl, inr, is_after, last_of, length, length-append, most_of, none-some, refl, rising_unique, rules, same_address, spelling, subst, sym, true, written_up_to, ℕ, ◌++◌, ◌+◌, ◌<◌, ◌^◌, ◌∙◌, ◌∷◌, ◌≡◌, ◌≤◌}
+use Rattle.flute_journal.proofs.{Passes.{Below-more}, Existence.{rises_more}, Each.{all_append, all_more}, MergeBytes.{without_end-snoc, written-snoc}, MergeRising.{last_of-snoc, rising-rises, rises-rising}, WrittenSoFar.{put_first, written-more, written-whole, written-part}}
 use Rattle.flute_journal.proofs.StreamTurns.{Run, starts, nows, givens, givens_at, Went, Stays, Turned, turn, new_runs, new_starts, new_nows, new_givens, new_stays, went_stays, given_same, given_length, fewer_all, taken_at, taken_same, taken_some, lowest-sized}
-use Rattle.flute_journal.proofs.StreamStops.{reads_now, none_fails, StoppedAll, stopped_all, short_header, short_entry, short_end, told_whole}
+use Rattle.flute_journal.proofs.StreamStops.{reads_now, none_fails, ended_whole, StoppedAll, stopped_all, short_header, short_entry, short_end, told_whole}
 
 -- what holds of the addresses of all facts holds where one stands
 named_all : (P : Address → Type 0) (fs : List Fact) (a : Address) (g : Fact) → AllByRecursion (λ f. P (address f)) fs → fact_at fs a ≡ Some g → P a
@@ -35,7 +35,7 @@ module _ {S : Type 0} (b : Behaviour S) where
 
   -- where a write failed, behind these entries
   at_write : (patient : Bool) (old now : List S) (w w' : Option (List ℕ)) (read : List (List Fact)) (entries : List Fact) (bytes : List ℕ) → AppendsPartOf b old w w' → EachSince b.reads old now read
-      → Collects (all_of read) entries → Appends w w' bytes → (rest : List ℕ) × (bytes ≡ written_up_to entries ++ rest) → Stopping patient old now w w' Write
+      → Collects (all_of read) entries → Appends w w' bytes → IsCutAfter entries bytes → Stopping patient old now w w' Write
   at_write patient old now w w' read entries bytes short reads c a begins = search rules
 
   -- and where an input stopped
@@ -106,7 +106,7 @@ module _ {S : Type 0} (b : Behaviour S) where
       let Q : List S → Type 0 = λ l. Stopping patient (starts t.next) l w w' Write × NoneFails b (starts t.next) l in
       subst P (t.starts_are ∙ new_starts b old) (subst Q t.nows_are (
         at_write patient (starts t.next) (nows t.next) w w' (givens t.next) [] a.part (short_header b (starts t.next) w w' a.part a.rest a.appended (sym a.whole)) (reads_now b None t.next s)
-            (subst (λ (l : List Fact). Collects l []) (sym e) none_collects) a.appended (a.part, refl),
+            (subst (λ (l : List Fact). Collects l []) (sym e) none_collects) a.appended (cut_header refl (a.rest, a.cut, sym a.whole)),
         none_fails b None t.next s,
       ))
 
@@ -137,7 +137,7 @@ module _ {S : Type 0} (b : Behaviour S) where
     moved : (P : List S → List S → Type 0) → P (starts state.runs) (nows state.runs) → P old now
     moved P h = subst (λ l. P l now) state.starts_are (subst (P (starts state.runs)) state.nows_are h)
 
-    stopped_here : (patient : Bool) (w'' : Option (List ℕ)) (bytes : List ℕ) → Appends w w'' bytes → (rest : List ℕ) × (bytes ≡ written_up_to state.joined ++ rest) → AppendsPartOf b (starts state.runs) w w''
+    stopped_here : (patient : Bool) (w'' : Option (List ℕ)) (bytes : List ℕ) → Appends w w'' bytes → IsCutAfter state.joined bytes → AppendsPartOf b (starts state.runs) w w''
         → Stopping patient old now w w'' Write
     stopped_here patient w'' bytes a begins short = grind (arith, moved, at_write, starts, nows, givens, reads_now, stays)
 
@@ -196,7 +196,7 @@ module _ {S : Type 0} (b : Behaviour S) where
         stop_entry patient w'' good a =
             let bs : List ℕ = without_end state.joined ++ a.part in
             let appended : Appends w w'' bs = Appends-trans w w' w'' (without_end state.joined) a.part (whole_yet good) a.appended in
-            stopped_here patient w'' bs appended (written-begins state.joined a.part)
+            stopped_here patient w'' bs appended (cut_entry g valid a.part (a.rest, a.cut, sym a.whole) refl)
             (short_entry b last state.runs state.joined g w w'' bs a.rest state.went low.first collects_next appended
             (append_assoc (without_end state.joined) a.part a.rest ∙ ap (λ (l : List ℕ). without_end state.joined ++ l) (sym a.whole) ∙ without_end-snoc state.joined g))
 
@@ -224,36 +224,40 @@ module _ {S : Type 0} (b : Behaviour S) where
       stop_end patient w'' good a =
           let bs : List ℕ = without_end state.joined ++ a.part in
           let appended : Appends w w'' bs = Appends-trans w w' w'' (without_end state.joined) a.part (whole_yet good) a.appended in
-          stopped_here patient w'' bs appended (written-begins state.joined a.part)
+          stopped_here patient w'' bs appended (cut_end a.part (a.rest, a.cut, sym a.whole ∙ ap end state.count_is) refl)
           (short_end b last state.runs state.joined w w'' bs a.rest state.went none_left state.collects appended a.cut
           (append_assoc (without_end state.joined) a.part a.rest ∙ ap (λ (l : List ℕ). without_end state.joined ++ l) (sym a.whole) ∙ ap (λ n. without_end state.joined ++ end n) state.count_is))
 
       whole : (next : Bool) (w'' : Option (List ℕ)) → PutsBytes failed next w' w'' (end count) → Written next w w'' (spelling state.joined)
       whole next w'' a = subst (λ n. Written next w w'' (without_end state.joined ++ end n)) state.count_is (written-more failed next w w' w'' (without_end state.joined) (end count) state.written a)
 
-      -- the journal of other facts with the same members is the one that was written
-      others_too : (next : Bool) (w'' : Option (List ℕ)) → PutsBytes failed next w' w'' (end count) → (others : List Fact) → SameMembers (all_of (givens state.runs)) others → (bytes : List ℕ) → Journal bytes others
+      -- the journal of other facts with the same value at each address is the one that was written
+      others_too : (next : Bool) (w'' : Option (List ℕ)) → PutsBytes failed next w' w'' (end count) → (others : List Fact) → Same (all_of (givens state.runs)) others → (bytes : List ℕ) → Journal bytes others
           → Written next w w'' bytes
       others_too next w'' a others m bytes j =
           let given = all_of (givens state.runs) in
-          let same : Same j.0 state.joined = grind (arith, Same-trans, Same-sym, Same-members) in
+          let same : Same j.0 state.joined = grind (arith, Same-trans, Same-sym) in
           let one : j.0 ≡ state.joined = rising_unique j.0 state.joined j.1.rising state.collects.rising same in
           subst (Written next w w'') (sym (j.3 ∙ ap spelling one)) (whole next w'' a)
 
   pub finished : (s o y : ℕ) (tally : Tally s o y) (within next : Bool) {failed : Bool} {old now : List S} {w w' : Option (List ℕ)} {count : ℕ}
       → (state : State failed (IsCounted s o y tally within) old now w w' count) → (w'' : Option (List ℕ)) → most_of b old < 2 ^ 64 → heads b now ≡ [] → PutsBytes failed next w' w'' (end count)
-      → MergedAll b old s o y (record { entries = count; within = within; cut = next }) w w''
+      → EndsMerged b old now s o y (record { entries = count; within = within; cut = next }) w w''
   finished s o y tally within next {failed} {old} {now} {w} {w'} {count} state w'' few none a =
-      subst (λ (l : List S). MergedAll b l s o y (record { entries = count; within = within; cut = next }) w w'') state.starts_are (record {
-        told = givens state.runs;
-        tell = told_whole b (last_of None state.joined) state.runs state.went (none_left state none);
-        entries = state.joined;
-        collects = state.collects;
-        few = omega (arith, few, state.count_is, few-joined state);
-        count = state.count_is;
-        limits = within_same s o y tally within (all_of (givens state.runs)) state.joined state.collects.same state.also;
-        written = whole state none next w'' a;
-        as_others = others_too state none next w'' a;
+      moved state (λ (l m : List S). EndsMerged b l m s o y (record { entries = count; within = within; cut = next }) w w'') (record {
+        merged = record {
+          told = givens state.runs;
+          tell = told_whole b (last_of None state.joined) state.runs state.went (none_left state none);
+          limits = within_same s o y tally within (all_of (givens state.runs)) state.joined state.collects.same state.also;
+          puts = record {
+            bytes = spelling state.joined;
+            journal = (state.joined, state.collects, omega (arith, few, state.count_is, few-joined state), refl);
+            entries = state.count_is;
+            appended = whole state none next w'' a;
+          };
+          as_others = others_too state none next w'' a;
+        };
+        ends = ended_whole b (last_of None state.joined) state.runs state.went (none_left state none);
       })
 
 -- the first state, and the one behind a turn

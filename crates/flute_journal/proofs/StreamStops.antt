@@ -135,6 +135,13 @@ module _ {S : Type 0} (b : Behaviour S) where
       let n = none_held (b.held r.now) (heads b (nows runs)) e in
       (w.0.gave.ended n.0, told_whole place runs w.1 n.1)
 
+  -- and ended with it
+  pub ended_whole : (place : Option Address) (runs : List (Run S)) → AllByRecursion (Went b place) runs → heads b (nows runs) ≡ [] → EachSince b.ends (starts runs) (nows runs) (givens runs)
+  ended_whole place [] w e = tt
+  ended_whole place (r ∷ runs) w e =
+      let n = none_held (b.held r.now) (heads b (nows runs)) e in
+      (w.0.gave.ends n.0, ended_whole place runs w.1 n.1)
+
   rest_some : (x y : List ℕ) (n : ℕ) → x ++ (y ++ end n) ≡ [] → ⊥
   rest_some x y n e =
       let l = ap length e in

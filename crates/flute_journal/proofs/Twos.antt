@@ -1,7 +1,7 @@
 -- What a merge of two streams of journals comes to, said of the journals.
-use Rattle.flute_journal.proofs.Common.{AppendsPartOf, BeginWith, Behaviour, Collects, Each, EachSince, Either, Err, Fact, FailAs, First, FirstFails, Input, MergedJournal, Journal, KeepsUp, LentStream, List, LoadFault, MergeGives, Merged, MergedAll, NamesFault, NamesInput, None, OneFails, Option, Read, ReadFault, ReadsAhead, Same, Same-append, Same-sym, Same-trans, Second, SecondFails, Some, StopsShort, StreamsFault, Write, [], all_of, ap, append-nil, arith, either_behaviour, false, joined, lent, lent_behaviour, limit_of, rules, slice_get, source_of, subst, suc, sym, or_failed, unread_of, written_up_to, zero, ℕ, ◌++◌, ◌∙◌, ◌∷◌, ◌≡◌}
+use Rattle.flute_journal.proofs.Common.{AppendsPartOf, BeginWith, Behaviour, Collects, Each, EachSince, Either, Err, Fact, FailAs, First, FirstFails, Input, MergedJournal, Journal, KeepsUp, LentStream, List, LoadFault, MergeGives, Merged, MergedAll, NamesFault, NamesInput, None, OneFails, Option, PutsJournal, Read, ReadFault, ReadsAhead, Same, Same-append, Same-sym, Same-trans, Second, SecondFails, Some, StopsShort, StreamsFault, Write, WritesJournal, [], all_of, ap, append-nil, arith, either_behaviour, false, joined, lent, lent_behaviour, limit_of, rules, slice_get, source_of, subst, suc, sym, or_failed, unread_of, written_up_to, zero, ℕ, ◌++◌, ◌∙◌, ◌∷◌, ◌≡◌}
 use Rattle.flute_journal.specs.{declared.two_streams.MergeFault.{MergeFault}, Merges.{AppendedUpTo}, Pairs.{fault_at, IsFaultAt, IsFaultOfTwo, IsOfReading}}
-use Rattle.flute_journal.proofs.{MergeBytes.{journal_parts}, WrittenSoFar.{written-whole}}
+use Rattle.flute_journal.proofs.MergeBytes.{journal_parts}
 
 -- journals of both inputs and of all their facts have entries that come to the same
 same_entries : (es fs ws F G : List Fact) → Same F es → Same G fs → Same (F ++ G) ws → Same (es ++ fs) ws
@@ -52,7 +52,15 @@ module _ {A B : Type 0} (ua : A → Option (List ℕ)) (fa : A → ℕ) (ub : B 
 
     pub merged_two : (x o y : ℕ) (joined : MergedJournal) (w w' : Option (List ℕ)) → limit_of t.reader.now ≡ limit_of s.reader.now → joined.cut ≡ false → MergedAll both inputs x o y joined w w'
         → Merged (limit_of s.reader.now) joined.entries u v w w'
-    merged_two x o y joined w w' same done m = search (rules, each_two, written-whole)
+    merged_two x o y joined w w' same done m =
+        let t = each_two both.tells m.told m.tell in
+        record {
+          first_entries = t.first;
+          second_entries = t.second;
+          first_is = search rules;
+          second_is = search rules;
+          writes = subst (λ F. WritesJournal w w' F joined.entries) t.all (subst (λ c. PutsJournal c w w' (all_of m.told) joined.entries) done m.puts);
+        }
 
     since_two : (P : Either (LentStream A) (LentStream B) → Either (LentStream A) (LentStream B) → List Fact → Type 0) (or_failed : List (List Fact)) → EachSince P inputs after or_failed
         → Two (P (First s) (First s')) (P (Second t) (Second t')) or_failed

@@ -1,5 +1,5 @@
 -- A journal that is read entry by entry.
-use Rattle.flute_journal.proofs.{Common.{Address, AllByRecursion, AreItems, Consumes, Consumes-trans, EndsAfter, Fact, GivesFault, IsFactIn, IsFaultUpTo, IsPart, IsRising, List, None, Option, ReadFault, ReaderState, Before, ReadsEntries, ReadsPart, Some, Sofar, StopsAfter, Version, [], ap, append-nil, append_assoc, arith, end, end_bytes, entry_in, fault_from, header_in, in_item, in_opening, inl, inr, journal_framing, last_of, length, nil_from_length, none-some, read_of, refl, same_Some, spelling_in, state_at, subst, sym, without_end_in, ℕ, ◌++◌, ◌∙◌, ◌∷◌, ◌≡◌}, SoFar.{FaultAfter, Side, found_now, read_some, stops_at, stops_by}, Framings.{journal_sound}, Parts.{entry_within-short}, Each.{all_split}, MergeBytes.{without_end_in-snoc, within_entry, within_end, within_nil, without_end-of_spelling}, MergeRising.{Rises-second, Rises, rising-rises}}
+use Rattle.flute_journal.proofs.{Common.{Address, AllByRecursion, AreItems, Consumes, Consumes-trans, EndsAfter, Fact, GivesFault, IsFactIn, IsFaultUpTo, IsPart, IsRising, List, None, Option, ReadFault, ReaderState, Before, ReadsEntries, ReadsPart, Some, Sofar, StopsAfter, Version, [], ap, append-nil, append_assoc, arith, end, end_bytes, entry_in, fault_from, header_in, in_item, in_opening, inl, inr, journal_framing, last_of, length, nil_from_length, none-some, read_of, refl, same_Some, spelling_in, state_at, subst, sym, without_end_in, ℕ, ◌++◌, ◌∙◌, ◌∷◌, ◌≡◌, journal_frame}, SoFar.{FaultAfter, Side, found_now, read_some, stops_at, stops_by}, Framings.{journal_sound}, Parts.{entry_within-short}, Each.{all_split}, MergeBytes.{without_end_in-snoc, within_entry, within_end, within_nil, without_end-of_spelling}, MergeRising.{Rises-second, Rises, rising-rises}}
 use Rattle.flute_journal.specs.{Whole.{in_header as part_in_header, after_entries as part_after}, Merges.{in_header, after_entries}}
 use Rattle.flute_journal.specs.declared.fault.ReadFault.TheVariants as faults
 
@@ -12,7 +12,7 @@ all_read v (e ∷ es) = refl
 
 -- what was read where a fault was found
 part_at : (limit : ℕ) (u x w : Option (List ℕ)) (es : List Fact) (part : List ℕ)
-    (a : AreItems journal_framing limit es) → Consumes u x (read_of journal_framing a.told es)
+    (a : AreItems journal_frame limit es) → Consumes u x (read_of journal_framing a.told es)
     → Consumes x w part → IsPart journal_framing a.told (state_at journal_framing a.told es) part
     → ReadsPart limit u w es
 part_at limit u x w [] part a took more (in_opening short) =
@@ -37,7 +37,7 @@ reads_part limit u x w es f i =
 
 -- the source failed behind these entries
 broken_at : (limit : ℕ) (u x w : Option (List ℕ)) (es : List Fact)
-    (a : AreItems journal_framing limit es) → Consumes u x (read_of journal_framing a.told es)
+    (a : AreItems journal_frame limit es) → Consumes u x (read_of journal_framing a.told es)
     → IsFaultUpTo (end_bytes journal_framing a.told (state_at journal_framing a.told es))
     (fault_from journal_framing (state_at journal_framing a.told es) limit) x w faults.Read
     → StopsAfter limit es u w faults.Read

@@ -22,6 +22,7 @@ module _ (s o y : ℕ) {S : Type 0} (b : Behaviour S) where
             rising = g.rising;
             sized = g.sized;
             ended = λ e. (g.ended e, within_end G (b.held t.stream) t.tally e c);
+            ends = g.ends;
             begins = g.begins;
             known = λ K k. g.known K k.0;
           };

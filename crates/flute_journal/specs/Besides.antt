@@ -20,4 +20,5 @@ module _ {A S : Type 0} (b : Behaviour S) where
     passes = kept_beside b.passes;
     reads = λ start now F. b.reads start.stream now.stream F;
     fails = kept_beside b.fails;
+    ends = λ start now F. b.ends start.stream now.stream F;
   }

@@ -36,4 +36,5 @@ module _ {A B : Type 0} (a : Behaviour A) (b : Behaviour B) where
     passes = both a.passes b.passes;
     reads = both a.reads b.reads;
     fails = both a.fails b.fails;
+    ends = both a.ends b.ends;
   }

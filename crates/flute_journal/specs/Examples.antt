@@ -15,7 +15,7 @@ use Rattle.flute_journal.specs.declared.fault.ReadFault.TheVariants as faults
 use Rattle.flute_journal.specs.declared.format.version.Version.TheVariants.{One, Two}
 use Rattle.flute_journal.specs.Format.{sender_size, header, header_in, key_bytes, spelling_in, spelling}
 use Rattle.flute_journal.specs.Faults.{header_fault, version_in, next_fault}
-use Rattle.flute_journal.specs.Journal.{before}
+use Rattle.flute_journal.specs.JournalFraming.{before}
 
 -- file 1 of session 7, of 5 bytes in symbols of 4 bytes and blocks of at most 2 symbols
 abbrev key : Key

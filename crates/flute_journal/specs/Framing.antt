@@ -1,25 +1,16 @@
--- Framed files: a header, and then items, each in a frame that tells where it ends.
+-- How framed files are read, and which fault bytes have that are none.
 use Rattle.std.specs.Prelude.{◌≡◌, ℕ, ◌<◌, ◌≤◌, ◌⊎◌, Bool, true, false, IsTrue, List, [], ◌∷◌, ◌++◌, length, drop, Option, Some, None, ⊤, IfSome, Result, Ok, Err}
-use Rattle.std.specs.List.{flat_map, AllByRecursion}
 use Rattle.std.specs.Io.KnownBytes.{Consumes, Keeps, IsAtEnd}
 use Rattle.flute_journal.specs.declared.fault.ReadFault.{ReadFault}
 use Rattle.flute_journal.specs.declared.fault.ReadFault.TheVariants as faults
 use Rattle.flute_journal.specs.declared.reader_state.ReaderState.{ReaderState}
 use Rattle.flute_journal.specs.declared.reader_state.ReaderState.TheVariants.{Header, Items, Ended, Failed}
-use Rattle.flute_journal.specs.Input.{IsFaultUpTo, IsWithin}
+use Rattle.flute_journal.specs.Frame.{Frame, AreItems, up_to_end}
+use Rattle.flute_journal.specs.Input.{AsksMemory, IsFaultUpTo, IsSettled, IsWithin}
 
--- Files of items V, whose header tells T. P is the place after whole items.
+-- The reading of framed files, item by item. P is the place after whole items.
 pub record Framing (V P T : Type 0) : Type 1 where
-  -- the six bytes of the header
-  pub header : T → List ℕ
-  -- the bytes of an item with its frame
-  pub item : T → V → List ℕ
-  -- what follows so many items
-  pub end : ℕ → List ℕ
-  -- an item that has such bytes
-  pub IsItem : T → V → Type 0
-  -- these may be the items of one file
-  pub AreInOrder : List V → Type 0
+  pub frame : Frame V T
   -- the place after these items
   pub place_after : T → List V → P
   -- the place after one item more
@@ -50,31 +41,15 @@ is_open (Items place) = true
 is_open Ended = false
 is_open (Failed f) = false
 
--- Which bytes are such a file, and where others stop being one.
+-- Where other bytes stop being such a file.
 
 module _ {V P T : Type 0} (framing : Framing V P T) where
-  -- the header and whole items, without the end
-  abbrev pub up_to_end : T → List V → List ℕ
-  up_to_end told items = framing.header told ++ flat_map (framing.item told) items
-
-  -- at most so many items, as a file may begin with them
-  pub record AreItems (limit : ℕ) (items : List V) : Type 0 where
-    pub told : T
-    pub valid : AllByRecursion (framing.IsItem told) items
-    pub in_order : framing.AreInOrder items
-    pub few : length items ≤ limit
-
-  -- the bytes are the file of these items, at most so many
-  pub record IsWhole (limit : ℕ) (bytes : List ℕ) (items : List V) : Type 0 where
-    pub are_items : AreItems limit items
-    pub bytes_are : bytes ≡ up_to_end are_items.told items ++ framing.end (length items)
-
   -- whole items follow the header, and then bytes at fault
   pub record StopsAfterItems (bytes : List ℕ) (limit : ℕ) (items : List V)
       (fault : ReadFault) : Type 0 where
-    pub are_items : AreItems limit items
+    pub are_items : AreItems framing.frame limit items
     pub rest : List ℕ
-    pub whole : bytes ≡ up_to_end are_items.told items ++ rest
+    pub whole : bytes ≡ up_to_end framing.frame are_items.told items ++ rest
     pub first :
         framing.next_fault (framing.place_after are_items.told items) limit rest ≡ Some fault
 
@@ -89,10 +64,22 @@ pub data Stops {V P T : Type 0} (framing : Framing V P T) (bytes : List ℕ) (li
 -- What the calls of a reader give.
 
 module _ {V P T : Type 0} (framing : Framing V P T) where
-  -- the bytes that were left stop at this fault, if it is one of theirs
+  -- whole items follow the header, and then so much of the next that it has no fault but that
+  -- it may be cut
+  pub record MayRunOut (bytes : List ℕ) (limit : ℕ) (items : List V) : Type 0 where
+    pub are_items : AreItems framing.frame limit items
+    pub seen : List ℕ
+    pub rest : List ℕ
+    pub whole : bytes ≡ up_to_end framing.frame are_items.told items ++ (seen ++ rest)
+    pub settled :
+        IsSettled (framing.next_fault (framing.place_after are_items.told items) limit) seen
+
+  -- the bytes that were left stop at this fault, if it is one of theirs; memory runs out only
+  -- where no other fault is certain
   abbrev pub HasFault : ℕ → Option (List ℕ) → ReadFault → Type 0
   HasFault limit old faults.Read = ⊤
-  HasFault limit old faults.OutOfMemory = ⊤
+  HasFault limit old faults.OutOfMemory =
+      IfSome old (λ bytes. (items : List V) × MayRunOut bytes limit items)
   HasFault limit old f =
       IfSome old (λ bytes. (items : List V) × Stops framing bytes limit items f)
 
@@ -100,12 +87,12 @@ module _ {V P T : Type 0} (framing : Framing V P T) where
   abbrev pub ReadsNext : ℕ → P → Option (List ℕ) → Option (List ℕ)
       → Result (Option V) ReadFault → Type 0
   ReadsNext limit place old new (Ok (Some x)) =
-      framing.IsItem (framing.told place) x × IsTrue (framing.may_follow place x)
-      × (framing.count place < limit) × Consumes old new (framing.item (framing.told place) x)
+      framing.frame.IsItem (framing.told place) x × IsTrue (framing.may_follow place x)
+      × (framing.count place < limit) × Consumes old new (framing.frame.item (framing.told place) x)
   ReadsNext limit place old new (Ok None) =
-      Consumes old new (framing.end (framing.count place)) × IsAtEnd new
+      Consumes old new (framing.frame.end (framing.count place)) × IsAtEnd new
   ReadsNext limit place old new (Err f) =
-      IsFaultUpTo (framing.end (framing.count place)) (framing.next_fault place limit) old new f
+      IsFaultUpTo (framing.frame.end (framing.count place)) (framing.next_fault place limit) old new f
 
   -- how many items were given
   abbrev pub count_at : ReaderState P → ℕ
@@ -123,16 +110,16 @@ module _ {V P T : Type 0} (framing : Framing V P T) where
 
   -- what is before the next item
   abbrev pub opening : T → ReaderState P → List ℕ
-  opening told Header = framing.header told
+  opening told Header = framing.frame.header told
   opening told _ = []
 
   -- that, and the next item
   abbrev pub next_bytes : T → ReaderState P → V → List ℕ
-  next_bytes told state x = opening told state ++ framing.item (told_at told state) x
+  next_bytes told state x = opening told state ++ framing.frame.item (told_at told state) x
 
   -- or the end
   abbrev pub end_bytes : T → ReaderState P → List ℕ
-  end_bytes told state = opening told state ++ framing.end (framing.count (place_at told state))
+  end_bytes told state = opening told state ++ framing.frame.end (framing.count (place_at told state))
 
   -- the fault of the bytes that are left, up to the next item
   abbrev pub fault_from : ReaderState P → ℕ → List ℕ → Option ReadFault
@@ -147,7 +134,7 @@ module _ {V P T : Type 0} (framing : Framing V P T) where
       (x : V) : Type 0 where
     pub told : T
     pub open_before : IsTrue (is_open old)
-    pub valid : framing.IsItem (told_at told old) x
+    pub valid : framing.frame.IsItem (told_at told old) x
     pub in_order : IsTrue (framing.may_follow (place_at told old) x)
     pub within : framing.count (place_at told old) < limit
     pub goes_on : new ≡ Items (framing.next (place_at told old) x)
@@ -166,16 +153,23 @@ pub data IsPart {V P T : Type 0} (framing : Framing V P T) (told : T) (old : Rea
     (part : List ℕ) : Type 0 where
   in_opening : length part ≤ length (opening framing told old) → IsPart framing told old part
   in_item : (more : List ℕ) → part ≡ opening framing told old ++ more
-      → IsWithin (framing.item (told_at framing told old))
-      (framing.IsItem (told_at framing told old)) more
+      → IsWithin (framing.frame.item (told_at framing told old))
+      (framing.frame.IsItem (told_at framing told old)) more
       → IsPart framing told old part
 
 module _ {V P T : Type 0} (framing : Framing V P T) where
+  -- memory was asked for the next item, behind what was before it
+  abbrev pub AsksForItem : T → ℕ → ReaderState P → Option (List ℕ) → Option (List ℕ) → Type 0
+  AsksForItem told limit old left after =
+      (behind : Option (List ℕ)) × Consumes left behind (opening framing told old)
+      × AsksMemory (framing.next_fault (place_at framing told old) limit) behind after
+
   -- the bytes that were left have this fault, if a header that was still to be read told this
   pub record IsAtFault (told : T) (limit : ℕ) (old : ReaderState P) (left after : Option (List ℕ))
       (f : ReadFault) : Type 0 where
     pub fault : IsFaultUpTo (end_bytes framing told old) (fault_from framing old limit) left after f
     pub possible : framing.IsFault f
+    pub asks : f ≡ faults.OutOfMemory → AsksForItem told limit old left after
     pub part : List ℕ
     pub read : Consumes left after part
     pub is_part : IsPart framing told old part
@@ -198,7 +192,7 @@ module _ {V P T : Type 0} (framing : Framing V P T) where
   abbrev pub ReadsFrom : T → ℕ → ReaderState P → Option (List ℕ) → Option (List ℕ)
       → Result (Option V) ReadFault → Type 0
   ReadsFrom told limit old left after (Ok (Some x)) =
-      framing.IsItem (told_at framing told old) x
+      framing.frame.IsItem (told_at framing told old) x
       × IsTrue (framing.may_follow (place_at framing told old) x)
       × (framing.count (place_at framing told old) < limit)
       × Consumes left after (next_bytes framing told old x)
@@ -222,11 +216,11 @@ module _ {V P T : Type 0} (framing : Framing V P T) where
   -- what was read of the file then: nothing before the first item
   abbrev pub read_of : T → List V → List ℕ
   read_of told [] = []
-  read_of told (x ∷ xs) = up_to_end framing told (x ∷ xs)
+  read_of told (x ∷ xs) = up_to_end framing.frame told (x ∷ xs)
 
   -- these items were read, and nothing else
   pub record Sofar (limit : ℕ) (first now : Option (List ℕ)) (state : ReaderState P)
       (items : List V) : Type 0 where
-    pub are_items : AreItems framing limit items
+    pub are_items : AreItems framing.frame limit items
     pub state_is : state ≡ state_at are_items.told items
     pub read : Consumes first now (read_of are_items.told items)

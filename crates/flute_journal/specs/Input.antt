@@ -52,14 +52,27 @@ Fails old new (Err f) = (new ≡ old) ⊎ (new ≡ old + 1)
 abbrev pub FailsIf : {T : Type 0} → Bool → ℕ → ℕ → Result T ReadFault → Type 0
 FailsIf reads old new result = MatchBool reads (Fails old new result) (new ≡ old)
 
--- It is the first fault of the bytes that were left. A source may fail, and memory run out,
--- at any field: the bytes that were read until then have no fault but that they end too early.
+-- whatever follows these bytes, they have no fault but that they end too early
+abbrev pub IsSettled : (List ℕ → Option ReadFault) → List ℕ → Type 0
+IsSettled fault bytes = (more : List ℕ) → IfSome (fault (bytes ++ more)) (λ f. f ≡ faults.Cut)
+
+-- memory is asked for once the bytes that were read, and others that were seen behind them,
+-- are settled
+pub record AsksMemory (fault : List ℕ → Option ReadFault) (old new : Option (List ℕ)) : Type 0 where
+  pub read : List ℕ
+  pub seen : List ℕ
+  pub consumed : Consumes old new read
+  pub follows : IfSome new (λ bytes. (rest : List ℕ) × (bytes ≡ seen ++ rest))
+  pub settled : IsSettled fault (read ++ seen)
+
+-- It is the first fault of the bytes that were left. A source may fail at any field: the bytes
+-- that were read until then have no fault but that they end too early. Memory may run out where it
+-- is asked for.
 abbrev pub IsFaultOf : (List ℕ → Option ReadFault) → Option (List ℕ) → Option (List ℕ) → ReadFault
     → Type 0
 IsFaultOf fault old new faults.Read =
     (part : List ℕ) × Consumes old new part × (fault part ≡ Some faults.Cut)
-IsFaultOf fault old new faults.OutOfMemory =
-    (part : List ℕ) × Consumes old new part × IfSome (fault part) (λ f. f ≡ faults.Cut)
+IsFaultOf fault old new faults.OutOfMemory = AsksMemory fault old new
 IsFaultOf fault old new f = IfSome old (λ bytes. fault bytes ≡ Some f)
 
 -- the same if the source may also fail after these bytes, which nothing may follow

@@ -1,19 +1,15 @@
--- Which bytes are the journal of which facts, and where other bytes stop being one.
-use Rattle.std.specs.Prelude.{◌≡◌, ℕ, ◌+◌, ◌<◌, ◌^◌, List, [], ◌∷◌, length, Option, Some, None, ⊤}
+-- Which bytes are the journal of which facts.
+use Rattle.std.specs.Prelude.{◌≡◌, ℕ, ◌<◌, ◌^◌, List, length}
 use Rattle.std.specs.List.{AllByRecursion}
 use Rattle.flute_parts.specs.Session.{Session}
 use Rattle.flute_parts.specs.declared.key.Key.{Key}
-use Rattle.flute_parts.specs.declared.address.Address.{Address}
 use Rattle.flute_parts.specs.declared.fact.Fact.{Fact}
-use Rattle.flute_parts.specs.Addresses.{address}
 use Rattle.flute_parts.specs.Facts.{Same, IsRising}
 use Rattle.flute_parts.specs.Ranges.{IsFact, IsKey}
-use Rattle.flute_journal.specs.declared.entry_fields.Before.{Before}
 use Rattle.flute_journal.specs.declared.format.version.Version.{Version}
 use Rattle.flute_journal.specs.declared.format.version.Version.TheVariants.{One, Two}
 use Rattle.flute_journal.specs.Format.{sender_size, fact_key, header_in, entry_in, end, spelling_in, spelling}
-use Rattle.flute_journal.specs.Faults.{is_after, header_fault, version_in, next_fault}
-use Rattle.flute_journal.specs.Framing.{Framing, IsWhole}
+use Rattle.flute_journal.specs.Frame.{Frame, IsWhole}
 
 -- entries of this version have room for the sender: in version 1 it is 0
 abbrev pub HasRoom : Version → Session → Type 0
@@ -53,39 +49,16 @@ JournalIn Two bytes facts = Journal bytes facts
 abbrev pub IsJournal : List ℕ → List Fact → Type 0
 IsJournal bytes facts = (version : Version) × JournalIn version bytes facts
 
-abbrev pub last_of : Option Address → List Fact → Option Address
-last_of last [] = last
-last_of last (f ∷ fs) = last_of (Some (address f)) fs
-
--- the place after these entries
-abbrev pub before : Version → List Fact → Before
-before version entries =
-    record { version = version; count = length entries; last = last_of None entries }
-
--- the place after one entry more
-abbrev pub after : Before → Fact → Before
-after place f =
-    record { version = place.version; count = place.count + 1; last = Some (address f) }
-
 -- a journal as a framed file of entries, whose header tells its version
-abbrev pub journal_framing : Framing Fact Before Version
-journal_framing = record {
+abbrev pub journal_frame : Frame Fact Version
+journal_frame = record {
   header = header_in;
   item = entry_in;
   end = end;
   IsItem = IsFactIn;
   AreInOrder = IsRising;
-  place_after = before;
-  next = after;
-  told = λ place. place.version;
-  count = λ place. place.count;
-  may_follow = λ place f. is_after place.last (address f);
-  header_fault = header_fault;
-  told_in = version_in;
-  next_fault = next_fault;
-  IsFault = λ f. ⊤;
 }
 
 -- the bytes are a journal of these entries, at most so many
 abbrev pub IsJournalWithin : ℕ → List ℕ → List Fact → Type 0
-IsJournalWithin = IsWhole journal_framing
+IsJournalWithin = IsWhole journal_frame

@@ -14,9 +14,11 @@ use Rattle.flute_journal.specs.declared.journal_stream.LentStream.{LentStream}
 use Rattle.flute_journal.specs.declared.format.version.Version.{Version}
 use Rattle.flute_journal.specs.Format.{spelling_in}
 use Rattle.flute_journal.specs.Input.{Fails}
-use Rattle.flute_journal.specs.Journal.{IsFactIn, IsJournalWithin, journal_framing}
+use Rattle.flute_journal.specs.Journal.{IsFactIn, IsJournalWithin, journal_frame}
+use Rattle.flute_journal.specs.JournalFraming.{journal_framing}
 use Rattle.flute_journal.specs.Readers.{source_of, limit_of, state_of}
-use Rattle.flute_journal.specs.Framing.{AreItems, HasFault, Sofar}
+use Rattle.flute_journal.specs.Framing.{HasFault, Sofar}
+use Rattle.flute_journal.specs.Frame.{AreItems}
 use Rattle.flute_journal.specs.Stores.{BeginsWith}
 use Rattle.flute_journal.specs.Loans.{lent_as}
 use Rattle.flute_journal.specs.Merges.{ReadsEntries}
@@ -24,7 +26,7 @@ use Rattle.flute_journal.specs.Streams.{Behaviour, option_list}
 
 -- a journal of these entries was read to its end
 pub record ReadWhole (limit : ℕ) (first now : Option (List ℕ)) (entries : List Fact) : Type 0 where
-  pub are_items : AreItems journal_framing limit entries
+  pub are_items : AreItems journal_frame limit entries
   pub whole : IfSome first (λ bytes. IsJournalWithin limit bytes entries)
   pub read : ReadsEntries first now entries
 
@@ -92,6 +94,8 @@ module _ {R : Type 0} (unread : R → Option (List ℕ)) (failures : R → ℕ) 
     passes = PassesSince;
     reads = λ start now F. ReadsEntries (unread_of start) (unread_of now) F;
     fails = FailsSince;
+    ends = λ start now F.
+        IfSome (unread_of start) (λ bytes. IsJournalWithin (limit_of start.reader) bytes F);
   }
 
 -- a journal whose reader and held entry are lent

@@ -1,13 +1,27 @@
 -- What is written of a journal, by a writer that goes on after a failure.
-use Rattle.std.specs.Prelude.{◌≡◌, ℕ, ◌+◌, Bool, true, false, List, [], Option}
+use Rattle.std.specs.Prelude.{◌≡◌, ℕ, ◌+◌, Bool, true, false, List, [], length, Option}
 use Rattle.std.specs.Io.KnownBytes.{Appends}
+use Rattle.flute_parts.specs.declared.fact.Fact.{Fact}
 use Rattle.flute_parts.specs.Devices.{AppendsPart, times_failed}
+use Rattle.flute_journal.specs.Journal.{Journal}
 use Rattle.flute_journal.specs.declared.journal_writer.JournalWriter.{JournalWriter}
 
 -- all the bytes were appended; or, if the sink has failed, a part of them
 abbrev pub Written : Bool → Option (List ℕ) → Option (List ℕ) → List ℕ → Type 0
 Written false old new bytes = Appends old new bytes
 Written true old new bytes = AppendsPart old new bytes
+
+-- the journal of these facts was appended, which has so many entries; or, if it is cut, a part of it
+pub record PutsJournal (cut : Bool) (old new : Option (List ℕ)) (facts : List Fact)
+    (count : ℕ) : Type 0 where
+  pub bytes : List ℕ
+  pub journal : Journal bytes facts
+  pub entries : count ≡ length journal.0
+  pub appended : Written cut old new bytes
+
+-- the journal of these facts was appended, which has so many entries
+abbrev pub WritesJournal : Option (List ℕ) → Option (List ℕ) → List Fact → ℕ → Type 0
+WritesJournal old new facts count = PutsJournal false old new facts count
 
 -- so it is with these bytes, if the sink had not failed before, and else nothing was appended
 abbrev pub PutsBytes : Bool → Bool → Option (List ℕ) → Option (List ℕ) → List ℕ → Type 0

@@ -1,5 +1,5 @@
 -- Entries and records that lie whole in memory.
-use Rattle.std.specs.Prelude.{◌≡◌, ℕ, ◌+◌, ◌≤◌, IsTrue, List, length, take, Option, Some, None, Result, Ok, Err}
+use Rattle.std.specs.Prelude.{◌≡◌, ℕ, ◌+◌, ◌≤◌, ◌++◌, IfSome, IsTrue, List, length, take, Option, Some, None, Result, Ok, Err}
 use Rattle.std.specs.Io.KnownBytes.{Consumes}
 use Rattle.flute_parts.specs.Addresses.{address}
 use Rattle.flute_parts.specs.declared.address.Address.{Address}
@@ -21,13 +21,22 @@ pub record BeginsWithEntry (version : Version) (last : Option Address) (bytes : 
   pub within : size ≤ length bytes
   pub spelled : take size bytes ≡ entry_in version f
 
--- the entry of a fact was taken, or nothing
+-- the bytes that were left begin with the entry of some fact that is in order after the last
+pub record HasEntry (version : Version) (last : Option Address) (left : Option (List ℕ)) : Type 0
+  where
+    pub fact : Fact
+    pub valid : IsFactIn version fact
+    pub in_order : IsTrue (is_after last (address fact))
+    pub begins : IfSome left (λ bytes. (rest : List ℕ) × (bytes ≡ entry_in version fact ++ rest))
+
+-- the entry of a fact was taken, or nothing: there was no memory for it
 abbrev pub TakesEntry : Version → Option Address → Option (List ℕ) → Option (List ℕ)
     → Result (Option Fact) ReadFault → Type 0
 TakesEntry version last old new (Ok (Some f)) =
     IsFactIn version f × IsTrue (is_after last (address f)) × Consumes old new (entry_in version f)
 TakesEntry version last old new (Ok None) = new ≡ old
-TakesEntry version last old new (Err f) = (f ≡ OutOfMemory) × (new ≡ old)
+TakesEntry version last old new (Err f) =
+    (f ≡ OutOfMemory) × (new ≡ old) × HasEntry version last old
 
 -- the bytes begin with the record of this datagram
 pub record BeginsWithRecord (bytes datagram : List ℕ) : Type 0 where

@@ -1,13 +1,16 @@
 pub mod Numbers
 pub mod Format
 pub mod Faults
+pub mod Frame
 pub mod Framing
 pub mod Journal
+pub mod JournalFraming
 pub mod Lent
 pub mod Input
 pub mod Parsing
 pub mod Writing
 pub mod Records
+pub mod FileFraming
 pub mod DatagramReaders
 pub mod Examples
 pub mod Readers

@@ -22,4 +22,5 @@ module _ {S : Type 0} (held : S → Option Fact) (rest : S → List Fact) (is_so
     passes = PassesListed;
     reads = λ start now F. (more : List Fact) × (rest start ≡ F ++ more);
     fails = λ start now fault. fault ≡ None;
+    ends = λ start now F. F ≡ rest start;
   }

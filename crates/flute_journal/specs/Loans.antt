@@ -13,4 +13,5 @@ lent_as whole Same b = record {
   passes = λ start now F. b.passes (whole start) (whole now) F × Same start now;
   reads = λ start now F. b.reads (whole start) (whole now) F;
   fails = λ start now fault. b.fails (whole start) (whole now) fault × Same start now;
+  ends = λ start now F. b.ends (whole start) (whole now) F;
 }

@@ -1,14 +1,17 @@
 -- The outcome of a merge of two journals.
-use Rattle.std.specs.Prelude.{◌≡◌, ◌≢◌, ℕ, ◌<◌, ◌≤◌, ◌^◌, List, [], ◌∷◌, ◌++◌, length, Option, Some, ⊤, IfSome, Result, Ok, Err}
+use Rattle.std.specs.Prelude.{◌≡◌, ◌≢◌, ℕ, ◌≤◌, List, [], ◌∷◌, ◌++◌, length, Option, Some, ⊤, IfSome, Result, Ok, Err}
 use Rattle.std.specs.List.{AllByRecursion}
 use Rattle.std.specs.Io.KnownBytes.{Appends, Consumes}
 use Rattle.flute_parts.specs.declared.fact.Fact.{Fact}
+use Rattle.flute_parts.specs.Ranges.{IsFact}
 use Rattle.flute_journal.specs.declared.two_streams.MergeFault.{MergeFault}
 use Rattle.flute_journal.specs.declared.two_streams.MergeFault.TheVariants.{First, Second, Write}
 use Rattle.flute_journal.specs.declared.format.version.Version.{Version}
-use Rattle.flute_journal.specs.Format.{header, entry_in, without_end_in, without_end, spelling}
+use Rattle.flute_journal.specs.Format.{header, entry, entry_in, end, without_end_in, without_end}
 use Rattle.flute_journal.specs.Input.{Fails, IsWithin}
-use Rattle.flute_journal.specs.Journal.{IsFactIn, Collects, Journal, IsJournal, IsJournalWithin, journal_framing}
+use Rattle.flute_journal.specs.Journal.{IsFactIn, Collects, Journal, IsJournal, IsJournalWithin}
+use Rattle.flute_journal.specs.JournalFraming.{journal_framing}
+use Rattle.flute_journal.specs.JournalWriters.{WritesJournal}
 use Rattle.flute_journal.specs.Framing.{HasFault}
 
 -- both inputs are journals of at most so many entries, and the journal of both was appended,
@@ -18,11 +21,7 @@ pub record Merged (limit n : ℕ) (first second old new : Option (List ℕ)) : T
   pub second_entries : List Fact
   pub first_is : IfSome first (λ xs. IsJournalWithin limit xs first_entries)
   pub second_is : IfSome second (λ ys. IsJournalWithin limit ys second_entries)
-  pub entries : List Fact
-  pub collects : Collects (first_entries ++ second_entries) entries
-  pub few : length entries < 2 ^ 64
-  pub count : n ≡ length entries
-  pub appended : Appends old new (spelling entries)
+  pub writes : WritesJournal old new (first_entries ++ second_entries) n
 
 -- the bytes go on, and are then the others
 abbrev pub IsProperPrefix : List ℕ → List ℕ → Type 0
@@ -42,10 +41,19 @@ abbrev pub written_up_to : List Fact → List ℕ
 written_up_to [] = []
 written_up_to (f ∷ fs) = without_end (f ∷ fs)
 
--- The bytes begin with what is written up to these entries, and are no more than that if
--- an input was at fault.
+-- these entries are whole in the bytes, and what follows of the next entry or of the end is not;
+-- or not even the header is
+pub data IsCutAfter (entries : List Fact) (bytes : List ℕ) : Type 0 where
+  cut_header : entries ≡ [] → IsProperPrefix bytes header → IsCutAfter entries bytes
+  cut_entry : (next : Fact) → IsFact next → (part : List ℕ) → IsProperPrefix part (entry next)
+      → bytes ≡ without_end entries ++ part → IsCutAfter entries bytes
+  cut_end : (part : List ℕ) → IsProperPrefix part (end (length entries))
+      → bytes ≡ without_end entries ++ part → IsCutAfter entries bytes
+
+-- these are the entries that the bytes have whole: nothing follows them if an input was at fault,
+-- and if the sink failed it did so before all of what follows was written
 abbrev pub AppendedUpTo : MergeFault → List ℕ → List Fact → Type 0
-AppendedUpTo Write bytes entries = (rest : List ℕ) × (bytes ≡ written_up_to entries ++ rest)
+AppendedUpTo Write bytes entries = IsCutAfter entries bytes
 AppendedUpTo fault bytes entries = bytes ≡ written_up_to entries
 
 -- the bytes are no more than a header's, or these whole entries and then no byte

@@ -38,4 +38,5 @@ module _ {S : Type 0} (b : Behaviour S) where
     passes = of_both b.passes (λ F. F ≡ []);
     reads = of_both b.reads (λ F. F ≡ []);
     fails = of_both b.fails (λ fault. (fault ≡ None) ⊎ (fault ≡ Some load.Full));
+    ends = of_both b.ends (λ F. ⊥);
   }

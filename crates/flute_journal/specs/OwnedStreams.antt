@@ -5,7 +5,8 @@ use Rattle.flute_parts.specs.declared.fact.Fact.{Fact}
 use Rattle.flute_journal.specs.declared.owned_journal_stream.OwnedJournalStream.{OwnedJournalStream}
 use Rattle.flute_journal.specs.declared.entry_fields.Before.{Before}
 use Rattle.flute_journal.specs.declared.reader_state.ReaderState.{ReaderState}
-use Rattle.flute_journal.specs.Journal.{IsJournalWithin, journal_framing}
+use Rattle.flute_journal.specs.Journal.{IsJournalWithin}
+use Rattle.flute_journal.specs.JournalFraming.{journal_framing}
 use Rattle.flute_journal.specs.Stores.{BeginsWith}
 use Rattle.flute_journal.specs.Framing.{HasFault}
 use Rattle.flute_journal.specs.Merges.{ReadsEntries}
@@ -45,4 +46,6 @@ module _ {R : Type 0} (unread : R → Option (List ℕ)) (failures : R → ℕ) 
     passes = OwnedPasses;
     reads = λ start now F. ReadsEntries (unread start.source) (unread now.source) F;
     fails = λ start now fault. FailsBy (failures start.source) (failures now.source) fault;
+    ends = λ start now F.
+        IfSome (unread start.source) (λ bytes. IsJournalWithin start.max_entries bytes F);
   }

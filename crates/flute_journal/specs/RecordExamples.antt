@@ -2,7 +2,8 @@
 use Rattle.std.specs.Prelude.{◌≡◌, [], ◌∷◌, ◌++◌, flat_map, Some, None, refl}
 use Rattle.flute_journal.specs.declared.fault.ReadFault.TheVariants.{Magic, Version, Cut, TooMany}
 use Rattle.flute_journal.specs.Faults.{opening_fault}
-use Rattle.flute_journal.specs.Records.{file_header, record_of, record_fault}
+use Rattle.flute_journal.specs.Records.{file_header, record_of}
+use Rattle.flute_journal.specs.FileFraming.{record_fault}
 
 -- no datagram, and one of one byte before one of none
 pub no_datagram :

@@ -4,7 +4,7 @@ use Rattle.flute_parts.specs.Session.{session}
 use Rattle.flute_parts.specs.declared.fact.Fact.{Fact}
 use Rattle.flute_parts.specs.declared.fact.Fact.TheVariants.{InfoConflict}
 use Rattle.flute_parts.specs.declared.object_key.ObjectName.TheVariants.{File}
-use Rattle.flute_journal.specs.Sessions.{chosen}
+use Rattle.flute_journal.specs.Sessions.{chosen, others_in}
 
 -- a fact of a session, by its sender and its Transport Session Identifier
 abbrev pub of_session : ℕ → ℕ → Fact
@@ -25,3 +25,9 @@ both_are_taken = refl
 
 pub none_is_taken : chosen (9 ∷ []) three ≡ []
 none_is_taken = refl
+
+pub no_others : others_in [] three ≡ 0
+no_others = refl
+
+pub one_other : others_in (7 ∷ []) three ≡ 1
+one_other = refl

@@ -1,6 +1,6 @@
 -- The sessions that are taken.
-use Rattle.std.specs.Prelude.{ℕ, List, Bool, ◌||◌, take, filter, nat_eq, length}
-use Rattle.std.specs.List.{list_any}
+use Rattle.std.specs.Prelude.{ℕ, List, Bool, ◌||◌, not, take, filter, nat_eq, length}
+use Rattle.std.specs.List.{count_by, list_any}
 use Rattle.flute_parts.specs.Addresses.{address}
 use Rattle.flute_parts.specs.declared.fact.Fact.{Fact}
 use Rattle.flute_journal.specs.declared.sessions.Sessions.{Sessions}
@@ -20,3 +20,7 @@ is_chosen tsis fact = takes tsis (address fact).key.session.tsi
 -- the facts of the sessions that are taken: of those whose identifiers are listed, or of all
 abbrev pub chosen : List ℕ → List Fact → List Fact
 chosen tsis facts = filter (is_chosen tsis) facts
+
+-- how many facts are of other sessions
+abbrev pub others_in : List ℕ → List Fact → ℕ
+others_in tsis facts = count_by (λ f. not (is_chosen tsis f)) facts

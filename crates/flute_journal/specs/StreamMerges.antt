@@ -1,19 +1,18 @@
 -- The outcome of a merge of streams.
-use Rattle.std.specs.Prelude.{◌≡◌, ℕ, zero, suc, Bool, true, false, ◌<◌, ◌^◌, List, [], ◌∷◌, ◌++◌, length, Option, Some, None, ⊤, Result, Err, slice_get}
+use Rattle.std.specs.Prelude.{◌≡◌, ℕ, zero, suc, Bool, true, false, List, [], ◌∷◌, ◌++◌, Option, Some, None, ⊤, Result, Err, slice_get}
 use Rattle.std.specs.Io.KnownBytes.{Appends}
 use Rattle.flute_parts.specs.declared.fact.Fact.{Fact}
 use Rattle.flute_parts.specs.declared.tally.Tally.{Tally}
-use Rattle.flute_parts.specs.Facts.{SameMembers}
+use Rattle.flute_parts.specs.Facts.{Same}
 use Rattle.flute_parts.specs.Limits.{Over}
 use Rattle.flute_parts.specs.Tally.{Counts}
 use Rattle.flute_journal.specs.declared.fault.LoadFault.{LoadFault}
 use Rattle.flute_journal.specs.declared.all_streams.MergedJournal.{MergedJournal}
 use Rattle.flute_journal.specs.declared.streams_fault.StreamsFault.{StreamsFault}
 use Rattle.flute_journal.specs.declared.streams_fault.StreamsFault.TheVariants.{Input, Write}
-use Rattle.flute_journal.specs.Format.{spelling}
 use Rattle.flute_journal.specs.Journal.{Collects, Journal, IsJournal}
-use Rattle.flute_journal.specs.JournalWriters.{Written}
-use Rattle.flute_journal.specs.Merges.{IsProperPrefix, written_up_to}
+use Rattle.flute_journal.specs.JournalWriters.{PutsJournal, Written}
+use Rattle.flute_journal.specs.Merges.{IsCutAfter, IsProperPrefix, written_up_to}
 use Rattle.flute_journal.specs.Streams.{Behaviour, Gave}
 
 -- all the facts of lists of facts
@@ -50,9 +49,10 @@ EachSince P [] [] [] = Unit {0}
 EachSince P (s ∷ old) (t ∷ new) (F ∷ given) = P s t F × EachSince P old new given
 EachSince P _ _ _ = ⊥
 
--- what bytes of a merge that stopped begin with: they are no more than that if an input stopped
+-- these are the entries that the bytes of a merge that stopped have whole: nothing follows them
+-- if an input stopped
 abbrev pub BeginWith : StreamsFault → List ℕ → List Fact → Type 0
-BeginWith Write bytes entries = (rest : List ℕ) × (bytes ≡ written_up_to entries ++ rest)
+BeginWith Write bytes entries = IsCutAfter entries bytes
 BeginWith (Input fault) bytes entries = bytes ≡ written_up_to entries
 
 -- what was appended is the journal of nothing, in any version
@@ -92,20 +92,22 @@ module _ {S : Type 0} (b : Behaviour S) where
 
   -- Each input tells some facts. The journal of all of them was appended, or a part of it,
   -- with so many entries, and it was told whether they are within the limits of a store.
-  -- Whatever other facts have the same members, in any order, however often and however grouped:
-  -- that is their journal too.
+  -- Whatever other facts have the same value at each address, as what joins wrote of any groups
+  -- of them: that is their journal too.
   pub record MergedAll (inputs : List S) (s o y : ℕ) (joined : MergedJournal)
       (old new : Option (List ℕ)) : Type 0 where
     pub told : List (List Fact)
     pub tell : Each b.tells inputs told
-    pub entries : List Fact
-    pub collects : Collects (all_of told) entries
-    pub few : length entries < 2 ^ 64
-    pub count : joined.entries ≡ length entries
     pub limits : IsWithinLimits s o y (all_of told) joined.within
-    pub written : Written joined.cut old new (spelling entries)
-    pub as_others : (others : List Fact) → SameMembers (all_of told) others → (bytes : List ℕ)
+    pub puts : PutsJournal joined.cut old new (all_of told) joined.entries
+    pub as_others : (others : List Fact) → Same (all_of told) others → (bytes : List ℕ)
         → Journal bytes others → Written joined.cut old new bytes
+
+  -- so it is, and each input ended once it had given what it tells
+  pub record EndsMerged (inputs now : List S) (s o y : ℕ) (joined : MergedJournal)
+      (old new : Option (List ℕ)) : Type 0 where
+    pub merged : MergedAll inputs s o y joined old new
+    pub ends : EachSince b.ends inputs now merged.told
 
   -- What was appended is the journal of nothing, in any version. If all the facts of each input
   -- are known, it is a first part of the journal of all of them, and not all of it.

@@ -29,6 +29,8 @@ pub record Behaviour (S : Type 0) : Type 1 where
   pub reads : S → S → List Fact → Type 0
   -- since then its device failed as often as this fault tells
   pub fails : S → S → Option LoadFault → Type 0
+  -- since then it gave these facts and ended
+  pub ends : S → S → List Fact → Type 0
 
 abbrev pub fact_in : Option FactRef → Option Fact
 fact_in None = None
@@ -60,6 +62,7 @@ module _ {S : Type 0} (b : Behaviour S) where
     pub rising : IsRising (F ++ option_list (b.held now))
     pub sized : IfSome (b.held now) IsSized
     pub ended : b.held now ≡ None → b.tells start F
+    pub ends : b.held now ≡ None → b.ends start now F
     pub begins : b.begins start (F ++ option_list (b.held now))
     pub known : (K : List Fact) → b.knows start K
         → Continues K (F ++ option_list (b.held now)) (b.held now)

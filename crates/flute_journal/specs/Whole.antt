@@ -6,15 +6,17 @@ use Rattle.flute_journal.specs.declared.fault.ReadFault.{ReadFault}
 use Rattle.flute_journal.specs.declared.fault.ReadFault.TheVariants as faults
 use Rattle.flute_journal.specs.Format.{header, entry_in, without_end_in}
 use Rattle.flute_journal.specs.Input.{IsWithin}
-use Rattle.flute_journal.specs.Journal.{IsFactIn, IsJournalWithin, journal_framing}
-use Rattle.flute_journal.specs.Framing.{AreItems, Stops}
+use Rattle.flute_journal.specs.Journal.{IsFactIn, IsJournalWithin, journal_frame}
+use Rattle.flute_journal.specs.JournalFraming.{journal_framing}
+use Rattle.flute_journal.specs.Framing.{Stops}
+use Rattle.flute_journal.specs.Frame.{AreItems}
 
 -- of a journal these entries were read, at most so many, and of what follows no byte after
 -- one more; or no more bytes than the header has
 pub data ReadsPart (limit : ℕ) (old new : Option (List ℕ)) (entries : List Fact) : Type 0 where
   in_header : entries ≡ [] → (part : List ℕ) → Consumes old new part → length part ≤ length header
       → ReadsPart limit old new entries
-  after_entries : (a : AreItems journal_framing limit entries) → (more : List ℕ)
+  after_entries : (a : AreItems journal_frame limit entries) → (more : List ℕ)
       → Consumes old new (without_end_in a.told entries ++ more)
       → IsWithin (entry_in a.told) (IsFactIn a.told) more → ReadsPart limit old new entries
 

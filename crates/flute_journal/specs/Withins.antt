@@ -37,6 +37,7 @@ module _ (s o y : ℕ) {S : Type 0} (b : Behaviour S) where
     fails =
         λ start now fault. b.fails start.stream now.stream fault
         ⊎ ((fault ≡ Some Full) × b.fails start.stream now.stream None);
+    ends = λ start now F. b.ends start.stream now.stream F;
   }
 
 -- a stream that is lent and counted, as one that is held

@@ -8,7 +8,7 @@ ghost use Rattle.flute_parts.specs.Devices.{times_failed};
 ghost use Rattle.flute_journal.specs.Streams.{most_of};
 ghost use Rattle.flute_journal.specs.Advances.{AreNew};
 ghost use Rattle.flute_journal.specs.FirstFaults.{FirstFault};
-ghost use Rattle.flute_journal.specs.StreamMerges.{MergedAll, AppendsPartOf, ReadsAhead, NamesInput, CanGoOn, FailAs, NoneFails, AppendsNoJournal, IsCounted, streams_sink_failed};
+ghost use Rattle.flute_journal.specs.StreamMerges.{MergedAll, AppendsPartOf, ReadsAhead, NamesInput, CanGoOn, FailAs, NoneFails, AppendsNoJournal, EndsMerged, IsCounted, streams_sink_failed};
 
 use crate::advance::advance_at;
 use crate::journal_writer::JournalWriter;
@@ -108,6 +108,9 @@ pub fn join_streams<
     ensures failures { IfOk result
         (λ _. NoneFails G.Stream.behaviour (G.streams streams.old) (G.streams streams.new)) }
     ensures over { IfOk result (λ joined. joined.within ≡ false → joined.cut ≡ true) }
+    ensures ended { IfOk result (λ joined. EndsMerged G.Stream.behaviour
+        (G.streams streams.old) (G.streams streams.new) SESSIONS OBJECTS SYMBOLS joined
+        (W.written sink.old) (W.written sink.new)) }
     ensures sink_failures { IfOk result (λ joined. joined.within ≡ true
         → W.failures sink.new ≡ W.failures sink.old + times_failed joined.cut) }
     ensures sink_fails { W.failures sink.new ≤ W.failures sink.old + 1 }
@@ -143,6 +146,9 @@ fn merge_into<const SESSIONS: u32, const OBJECTS: u32, const SYMBOLS: u32, G: St
     ensures over { IfOk result
         (λ joined. patient ≡ true → joined.within ≡ false → joined.cut ≡ true) }
     ensures cut { IfOk result (λ joined. joined.cut ≡ true → AppendsNoJournal
+        (W.written writer.old.sink.now) (W.written writer.new.sink.now)) }
+    ensures ended { IfOk result (λ joined. EndsMerged G.Stream.behaviour
+        (G.streams streams.old) (G.streams streams.new) SESSIONS OBJECTS SYMBOLS joined
         (W.written writer.old.sink.now) (W.written writer.new.sink.now)) }
     ensures short { IfErr result (λ _. AppendsPartOf G.Stream.behaviour (G.streams streams.old)
         (W.written writer.old.sink.now) (W.written writer.new.sink.now)) }

@@ -25,6 +25,7 @@ impl<S: Stream> Chosen<S> {
         requires { IsNew S.behaviour stream }
         ensures stream { result.stream ≡ stream }
         ensures sessions { result.sessions ≡ sessions }
+        ensures others { result.others ≡ 0 }
         ensures new { IsNew (chosen_behaviour S.behaviour) result }
         ensures most { (chosen_behaviour S.behaviour).most result ≡ S.behaviour.most stream }
     {

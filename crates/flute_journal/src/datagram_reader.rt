@@ -7,7 +7,8 @@ ghost use Rattle.flute_journal.specs.Input.{Advances, Fails, FailsIf, Reads, Sta
 ghost use Rattle.flute_parts.specs.Ranges.{IsByte};
 ghost use Rattle.flute_journal.specs.Faults.{opening_fault};
 ghost use Rattle.flute_journal.specs.Parsing.{cut_fault};
-ghost use Rattle.flute_journal.specs.Records.{file_header, record_of, IsDatagram, IsFileFault, file_framing};
+ghost use Rattle.flute_journal.specs.Records.{file_header, record_of, IsDatagram};
+ghost use Rattle.flute_journal.specs.FileFraming.{IsFileFault, file_framing};
 ghost use Rattle.flute_journal.specs.Framing.{is_open, Gives, ReadsFrom, ReadsNext, state_after};
 ghost use Rattle.flute_journal.specs.DatagramReaders.{datagrams_source_of, records_limit_of, file_stage_of};
 ghost use Rattle.flute_journal.specs.declared.fault.ReadFault.TheVariants.{OutOfMemory};

@@ -6,7 +6,8 @@ ghost use Rattle.flute_journal.specs.Input.{Advances, Fails, Reads, StaysWithin}
 ghost use Rattle.flute_journal.specs.Numbers.{in_bytes};
 ghost use Rattle.flute_journal.specs.Format.{header_in, body, entry_in};
 ghost use Rattle.flute_journal.specs.Faults.{header_fault};
-ghost use Rattle.flute_journal.specs.Journal.{IsFactIn, journal_framing};
+ghost use Rattle.flute_journal.specs.Journal.{IsFactIn};
+ghost use Rattle.flute_journal.specs.JournalFraming.{journal_framing};
 ghost use Rattle.flute_journal.specs.Framing.{ReadsNext};
 ghost use Rattle.flute_parts.specs.Ranges.{IsByte};
 ghost use Rattle.flute_journal.specs.Parsing.{head_size, head_bytes, HeadIn, BodyIn, IsBody, body_fault, cut_fault, end_fault, ReadsEnd};

@@ -4,7 +4,7 @@ ghost use Rattle.std.specs.List.{AllByRecursion};
 ghost use Rattle.flute_journal.specs.Input.{Advances, Fails, Fills, ReadsUpTo, Reads, shortage, or_failed};
 ghost use Rattle.flute_parts.specs.Devices.{times_failed};
 ghost use Rattle.flute_parts.specs.Ranges.{IsByte};
-ghost use Rattle.flute_journal.specs.Records.{IsFileFault};
+ghost use Rattle.flute_journal.specs.FileFraming.{IsFileFault};
 ghost use Rattle.flute_journal.specs.Parsing.{cut_fault};
 ghost use Rattle.flute_journal.specs.declared.fault.ReadFault.TheVariants.{Read};
 
@@ -111,7 +111,8 @@ fn fill_up_to<R: Source>(source: &mut R, buffer: &mut [u8]) -> (usize, bool)
     (filled, false)
 }
 
-/// Reads so many bytes, into memory of their own.
+/// Reads so many bytes, into memory of their own, which is asked for before anything is read.
+#[tactic(auto, using(crate::proofs::ReadsUpTo::asks_bytes))]
 pub fn read_exact<R: Source>(
     alloc: Global,
     source: &mut R,

@@ -2,7 +2,7 @@
 ghost use Rattle.std.specs.Prelude.{◌≡◌, ℕ, ◌+◌, ◌<◌, ◌^◌, IfOk, IfSome, Some, None};
 ghost use Rattle.flute_journal.specs.Input.{Fails, FailsIf};
 ghost use Rattle.flute_journal.specs.Readers.{source_of, limit_of, state_of};
-ghost use Rattle.flute_journal.specs.Journal.{journal_framing};
+ghost use Rattle.flute_journal.specs.JournalFraming.{journal_framing};
 ghost use Rattle.flute_journal.specs.Framing.{Gives, is_open, state_after};
 ghost use Rattle.flute_journal.specs.declared.reader_state.ReaderState.TheVariants as ReaderState;
 
@@ -96,7 +96,7 @@ impl<'a, R: Source> JournalReader<'a, R> {
 }
 
 // The next entry of a journal whose reader has this state, and its state afterwards.
-#[tactic(auto, using(crate::proofs::Calls::gives_entries, crate::proofs::Calls::reads_entries))]
+#[tactic(auto, using(crate::proofs::Calls::gives_entries, crate::proofs::Calls::entry_wanted))]
 #[inline(always)]
 pub(crate) fn read_at<R: Source>(
     alloc: Global,

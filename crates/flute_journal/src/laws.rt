@@ -6,7 +6,8 @@ ghost use Rattle.flute_parts.specs.Facts.{Same, Below, IsRising};
 ghost use Rattle.flute_parts.specs.declared.fact.Fact.{Fact};
 ghost use Rattle.flute_journal.specs.declared.fault.ReadFault.{ReadFault as Fault};
 ghost use Rattle.flute_journal.specs.Format.{entry_in, spelling_in};
-ghost use Rattle.flute_journal.specs.Journal.{IsFactIn, Collects, JournalIn, IsJournal, IsJournalWithin, journal_framing};
+ghost use Rattle.flute_journal.specs.Journal.{IsFactIn, Collects, JournalIn, IsJournal, IsJournalWithin};
+ghost use Rattle.flute_journal.specs.JournalFraming.{journal_framing};
 ghost use Rattle.flute_journal.specs.Framing.{Stops, HasFault, GivesItem, GivesEnd, GivesFault, Sofar};
 ghost use Rattle.flute_parts.specs.Ranges.{IsByte, IsFact};
 ghost use Rattle.flute_journal.specs.declared.format.version.Version.{Version};
@@ -14,7 +15,8 @@ ghost use Rattle.flute_journal.specs.declared.format.version.Version.TheVariants
 ghost use Rattle.flute_journal.specs.StreamMerges.{Each, all_of};
 ghost use Rattle.flute_journal.specs.Stores.{BeginsWith, IsJournalOf};
 ghost use Rattle.flute_journal.specs.declared.fault.ReadFault.TheVariants as faults;
-ghost use Rattle.flute_journal.specs.Records.{IsFileOf, IsFileWithin, file_framing};
+ghost use Rattle.flute_journal.specs.Records.{IsFileOf, IsFileWithin};
+ghost use Rattle.flute_journal.specs.FileFraming.{file_framing};
 ghost use Rattle.flute_journal.specs.declared.reader_state.ReaderState.{ReaderState};
 ghost use Rattle.flute_journal.specs.declared.reader_state.ReaderState.TheVariants as states;
 

@@ -1,10 +1,8 @@
 //! A journal as a store.
-ghost use Rattle.std.specs.Prelude.{List, IfOk, IfErr, IfSome};
+ghost use Rattle.std.specs.Prelude.{IfOk, IfErr, IfSome};
 ghost use Rattle.std.specs.Io.KnownBytes.{IsAtEnd};
 ghost use Rattle.flute_parts.specs.Limits.{Over};
-ghost use Rattle.flute_journal.specs.Stores.{FailsToLoad, IsJournalOf, IsLoadFault};
-ghost use Rattle.flute_journal.specs.Whole.{ReadsPart};
-ghost use Rattle.flute_parts.specs.declared.fact.Fact.{Fact};
+ghost use Rattle.flute_journal.specs.Stores.{FailsToLoad, IsJournalOf, IsLoadFault, ReadsNoMore};
 
 use crate::fault::LoadFault;
 use crate::journal_reader::JournalReader;
@@ -40,8 +38,8 @@ pub fn read_store<const SESSIONS: u32, const OBJECTS: u32, const SYMBOLS: u32, R
     ensures within { IfOk result (λ store. ¬ Over store SESSIONS OBJECTS SYMBOLS) }
     ensures fault { IfErr result (IsLoadFault SESSIONS OBJECTS SYMBOLS max_entries
         (R.unread source.old) (R.unread source.new)) }
-    ensures reads { IfErr result (λ _. (entries : List Fact)
-        × ReadsPart max_entries (R.unread source.old) (R.unread source.new) entries) }
+    ensures reads { IfErr result (ReadsNoMore SESSIONS OBJECTS SYMBOLS max_entries
+        (R.unread source.old) (R.unread source.new)) }
     ensures failures { FailsToLoad (R.failures source.old) (R.failures source.new) result }
 {
     let mut store = Store::new(alloc);

@@ -1,6 +1,7 @@
 //! Datagram files, read and written.
 ghost use Rattle.std.specs.Prelude.{◌≡◌, ℕ, IfOk, IfErr, IfSome};
-ghost use Rattle.flute_journal.specs.Records.{IsFileWithin, file_framing};
+ghost use Rattle.flute_journal.specs.Records.{IsFileWithin};
+ghost use Rattle.flute_journal.specs.FileFraming.{file_framing};
 ghost use Rattle.flute_journal.specs.Framing.{HasFault};
 
 use super::*;

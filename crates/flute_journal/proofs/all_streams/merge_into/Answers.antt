@@ -72,15 +72,18 @@ pub returns-then-stops-3-clause-failures : goal.returns-then-stops-3-clause-fail
 returns-then-stops-3-clause-failures g c = no_failure g.G.Stream.Stream.behaviour c.loop-fact.invariant.state
 
 pub returns-clause-merged : goal.returns-clause-merged
-returns-clause-merged g c = finished g.G.Stream.Stream.behaviour g.row.SESSIONS g.row.OBJECTS g.row.SYMBOLS c.loop-fact.tally c.loop-fact.within c.end.new.self.failed c.loop-fact.invariant.state _ c.requires.few c.in_default-lowest.ensures.lowest c.end.ensures.puts
+returns-clause-merged g c = (finished g.G.Stream.Stream.behaviour g.row.SESSIONS g.row.OBJECTS g.row.SYMBOLS c.loop-fact.tally c.loop-fact.within c.end.new.self.failed c.loop-fact.invariant.state _ c.requires.few c.in_default-lowest.ensures.lowest c.end.ensures.puts).merged
+
+pub returns-clause-ended : goal.returns-clause-ended
+returns-clause-ended g c = finished g.G.Stream.Stream.behaviour g.row.SESSIONS g.row.OBJECTS g.row.SYMBOLS c.loop-fact.tally c.loop-fact.within c.end.new.self.failed c.loop-fact.invariant.state _ c.requires.few c.in_default-lowest.ensures.lowest c.end.ensures.puts
 
 pub returns-clause-failures : goal.returns-clause-failures
 returns-clause-failures g c = no_failure g.G.Stream.Stream.behaviour c.loop-fact.invariant.state
 
 pub returns-clause-cut : goal.returns-clause-cut
 returns-clause-cut g c = λ e.
-    let m = finished g.G.Stream.Stream.behaviour g.row.SESSIONS g.row.OBJECTS g.row.SYMBOLS c.loop-fact.tally c.loop-fact.within c.end.new.self.failed c.loop-fact.invariant.state _ c.requires.few c.in_default-lowest.ensures.lowest c.end.ensures.puts in
-    cut_journal _ _ m.entries c.end.new.self.failed m.collects.valid e m.written
+    let m = (finished g.G.Stream.Stream.behaviour g.row.SESSIONS g.row.OBJECTS g.row.SYMBOLS c.loop-fact.tally c.loop-fact.within c.end.new.self.failed c.loop-fact.invariant.state _ c.requires.few c.in_default-lowest.ensures.lowest c.end.ensures.puts).merged in
+    cut_journal _ _ _ _ c.end.new.self.failed e m.puts
 
 -- the end was left out
 
@@ -89,6 +92,11 @@ some_end n e = cc
 
 pub returns-then-not-within-clause-merged : goal.returns-then-not-within-clause-merged
 returns-then-not-within-clause-merged g c =
+    (finished g.G.Stream.Stream.behaviour g.row.SESSIONS g.row.OBJECTS g.row.SYMBOLS c.loop-fact.tally c.loop-fact.within true c.loop-fact.invariant.state _ c.requires.few c.in_default-lowest.ensures.lowest
+    (left_out c.loop-fact.writer.failed _ (end c.loop-fact.entries) (some_end c.loop-fact.entries))).merged
+
+pub returns-then-not-within-clause-ended : goal.returns-then-not-within-clause-ended
+returns-then-not-within-clause-ended g c =
     finished g.G.Stream.Stream.behaviour g.row.SESSIONS g.row.OBJECTS g.row.SYMBOLS c.loop-fact.tally c.loop-fact.within true c.loop-fact.invariant.state _ c.requires.few c.in_default-lowest.ensures.lowest
     (left_out c.loop-fact.writer.failed _ (end c.loop-fact.entries) (some_end c.loop-fact.entries))
 
@@ -97,6 +105,6 @@ returns-then-not-within-clause-failures g c = no_failure g.G.Stream.Stream.behav
 
 pub returns-then-not-within-clause-cut : goal.returns-then-not-within-clause-cut
 returns-then-not-within-clause-cut g c = λ e.
-    let m = finished g.G.Stream.Stream.behaviour g.row.SESSIONS g.row.OBJECTS g.row.SYMBOLS c.loop-fact.tally c.loop-fact.within true c.loop-fact.invariant.state _ c.requires.few c.in_default-lowest.ensures.lowest
-    (left_out c.loop-fact.writer.failed _ (end c.loop-fact.entries) (some_end c.loop-fact.entries)) in
-    cut_journal _ _ m.entries true m.collects.valid e m.written
+    let m = (finished g.G.Stream.Stream.behaviour g.row.SESSIONS g.row.OBJECTS g.row.SYMBOLS c.loop-fact.tally c.loop-fact.within true c.loop-fact.invariant.state _ c.requires.few c.in_default-lowest.ensures.lowest
+    (left_out c.loop-fact.writer.failed _ (end c.loop-fact.entries) (some_end c.loop-fact.entries))).merged in
+    cut_journal _ _ _ _ true e m.puts

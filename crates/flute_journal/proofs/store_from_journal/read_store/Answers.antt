@@ -1,4 +1,4 @@
-use Rattle.flute_journal.proofs.{Common.{◌≡◌, List, rules, ap, ◌∙◌, subst, Err, err_from_is_err_and, Fact, is_open, IsLoadFault, Read, ReadsPart}, Loading.{loaded_all, loaded-given, loaded-fits, loaded-full, loaded-stops, loaded-read, fault-part, refused-part}}
+use Rattle.flute_journal.proofs.{Common.{◌≡◌, rules, ap, ◌∙◌, subst, Err, err_from_is_err_and, is_open, IsLoadFault, Read, ReadsNoMore, refused}, Loading.{loaded_all, loaded-given, loaded-fits, loaded-full, loaded-stops, loaded-read, fault-part, refused-part}}
 use Rattle.flute_journal.proofs.store_from_journal.read_store.Goals as goal
 
 pub returns-in_err-fact-clause-fault : goal.returns-in_err-fact-clause-fault
@@ -14,18 +14,20 @@ returns-in_err-fact-clause-fault g c =
 pub returns-in_err-fact-clause-reads : goal.returns-in_err-fact-clause-reads
 returns-in_err-fact-clause-reads g c =
     let e = err_from_is_err_and c.from_residual.result c.from_residual.ensures.1 in
+    let f = c.in_err-fact.field-0.0 in
     let read = fault-part _ _ _ _ _ _ _ _ _ _ _ _ c.loop-store.invariant.0 c.loop-store.invariant.1 c.in_err-fact.ensures.gives in
-    let reads : (x : g.row.R.Denot) → c.next.new.self.source.now ≡ x → (entries : List Fact) × ReadsPart c.args.max_entries (g.R.Source.unread c.args.source.now) (g.R.Source.unread x) entries =
-    λ x same. subst (λ (z : g.row.R.Denot). (entries : List Fact) × ReadsPart c.args.max_entries (g.R.Source.unread c.args.source.now) (g.R.Source.unread z) entries) same read in
-    rw e.1 (reads _ (search rules))
+    let reads : (x : g.row.R.Denot) → c.next.new.self.source.now ≡ x → ReadsNoMore g.row.SESSIONS g.row.OBJECTS g.row.SYMBOLS c.args.max_entries (g.R.Source.unread c.args.source.now) (g.R.Source.unread x) (Read f) =
+    λ x same. subst (λ (z : g.row.R.Denot). ReadsNoMore g.row.SESSIONS g.row.OBJECTS g.row.SYMBOLS c.args.max_entries (g.R.Source.unread c.args.source.now) (g.R.Source.unread z) (Read f)) same read in
+    rw (e.1 ∙ ap Err e.2) (reads _ (search rules))
 
 pub returns-in_err-put-clause-reads : goal.returns-in_err-put-clause-reads
 returns-in_err-put-clause-reads g c =
     let e = err_from_is_err_and c.from_residual-in_err-put.result c.from_residual-in_err-put.ensures.1 in
-    let read = refused-part _ _ _ _ _ _ _ _ _ _ _ _ _ c.loop-store.invariant.0 c.loop-store.invariant.1 c.in-Some.is c.in_ok-fact.ensures.gives in
-    let reads : (x : g.row.R.Denot) → c.next.new.self.source.now ≡ x → (entries : List Fact) × ReadsPart c.args.max_entries (g.R.Source.unread c.args.source.now) (g.R.Source.unread x) entries =
-    λ x same. subst (λ (z : g.row.R.Denot). (entries : List Fact) × ReadsPart c.args.max_entries (g.R.Source.unread c.args.source.now) (g.R.Source.unread z) entries) same read in
-    rw e.1 (reads _ (search rules))
+    let why = c.in_err-put.field-0.0 in
+    let read = refused-part _ _ _ _ _ _ _ _ _ _ _ _ _ c.loop-store.invariant.0 c.loop-store.invariant.1 c.in-Some.is c.in_ok-fact.ensures.gives why (λ full. c.in_err-put.ensures.full.0 (ap Err full)) in
+    let reads : (x : g.row.R.Denot) → c.next.new.self.source.now ≡ x → ReadsNoMore g.row.SESSIONS g.row.OBJECTS g.row.SYMBOLS c.args.max_entries (g.R.Source.unread c.args.source.now) (g.R.Source.unread x) (refused why) =
+    λ x same. subst (λ (z : g.row.R.Denot). ReadsNoMore g.row.SESSIONS g.row.OBJECTS g.row.SYMBOLS c.args.max_entries (g.R.Source.unread c.args.source.now) (g.R.Source.unread z) (refused why)) same read in
+    rw (e.1 ∙ ap Err e.2) (reads _ (search rules))
 
 pub returns-in_err-put-clause-fault : goal.returns-in_err-put-clause-fault
 returns-in_err-put-clause-fault g c =

@@ -1,9 +1,11 @@
--- What was passed over since the call is of other sessions.
-use Rattle.flute_journal.proofs.{Common.{◌≡◌}, ChosenFacts.{PassesOthers}}
+-- What was passed over since the call is of other sessions, and was counted.
+use Rattle.flute_journal.proofs.{Common.{◌≡◌}, ChosenFacts.{CountsPassed}}
 use Rattle.flute_journal.proofs.chosen.ChosenStream.advance.Given as goal
 
 abbrev pub invariant-loop-alloc : goal.invariant-loop-alloc
-invariant-loop-alloc g l = (l.self.sessions ≡ l.fn.self.sessions) × PassesOthers l.fn.self.sessions g.S.Stream.behaviour l.fn.self.stream l.self.stream
+invariant-loop-alloc g l =
+    (l.self.sessions ≡ l.fn.self.sessions)
+    × CountsPassed l.fn.self.sessions g.S.Stream.behaviour l.fn.self.stream l.self.stream l.fn.self.others l.self.others
 
 abbrev pub decreases-loop-alloc : goal.decreases-loop-alloc
 decreases-loop-alloc g l = g.S.Stream.behaviour.most l.self.stream

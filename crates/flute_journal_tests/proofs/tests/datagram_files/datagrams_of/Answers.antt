@@ -1,7 +1,7 @@
 use Rattle.std.proofs.Common.{◌≡◌, [], ◌∷◌, ◌++◌, sym, ap, ◌∙◌, subst, arith, Err}
 use Rattle.std.proofs.lemmas.Result.{err_from_is_err_and}
 use Rattle.flute_journal.specs.Framing.{GivesItem, GivesFault, Sofar}
-use Rattle.flute_journal.specs.Records.{file_framing}
+use Rattle.flute_journal.specs.FileFraming.{file_framing}
 use Rattle.flute_journal.proofs.Public.{sofar-fault, file_sound, sofar-next}
 use Rattle.flute_journal_tests.proofs.tests.datagram_files.datagrams_of.Goals as goal
 

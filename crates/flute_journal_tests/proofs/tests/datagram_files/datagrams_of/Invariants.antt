@@ -1,7 +1,7 @@
 -- The datagrams so far are those of the records that were read.
 use Rattle.std.proofs.Common.{◌≡◌, ◌-◌, length}
 use Rattle.flute_journal.specs.Framing.{Sofar}
-use Rattle.flute_journal.specs.Records.{file_framing}
+use Rattle.flute_journal.specs.FileFraming.{file_framing}
 use Rattle.flute_journal_tests.proofs.tests.datagram_files.datagrams_of.Given as goal
 
 abbrev pub invariant-loop-datagrams : goal.invariant-loop-datagrams
