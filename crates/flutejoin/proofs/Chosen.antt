@@ -7,6 +7,7 @@ use Rattle.flute_parts.specs.declared.symbol_id.SymbolId.{SymbolId}
 use Rattle.flute_wire.specs.Content.{Content}
 use Rattle.flute_wire.specs.Facts.{key_of, info_facts, symbol_facts, facts_of}
 use Rattle.flute_journal.specs.Sessions.{takes, is_chosen, chosen}
+use Rattle.flutejoin.specs.Joined.{is_other_packet}
 
 module _ (tsis : List ℕ) where
   pub all_chosen : (facts : List Fact) → nat_eq (length tsis) 0 ≡ true → chosen tsis facts ≡ facts
@@ -42,3 +43,12 @@ taken_if false e = absurd cc
 pub passed_if : (b : Bool) → not b ≡ true → b ≡ false
 passed_if true e = absurd cc
 passed_if false e = refl
+
+-- of a datagram, by the packet that it spells
+pub none_other : (tsis : List ℕ) (o : Option Content) → nat_eq (length tsis) 0 ≡ true → false ≡ is_other_packet tsis o
+none_other tsis None e = refl
+none_other tsis (Some content) e = rw e refl
+
+pub refused_no_other : (tsis : List ℕ) (o : Option Content) → ((p : Content) → o ≡ Some p → ⊥) → false ≡ is_other_packet tsis o
+refused_no_other tsis None e = refl
+refused_no_other tsis (Some content) e = absurd (e content refl)

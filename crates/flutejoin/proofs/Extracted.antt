@@ -13,7 +13,7 @@ use Rattle.flute_parts.specs.declared.tally.Tally.{Tally}
 use Rattle.flute_parts.proofs.Public.{fact_at-nil, Same-itself}
 use Rattle.flute_parts.specs.Limits.{Over}
 use Rattle.flute_store.proofs.Public.{gaps-same, object-same, Whole-same}
-use Rattle.flute_journal.specs.Journal.{journal_framing}
+use Rattle.flute_journal.specs.JournalFraming.{journal_framing}
 use Rattle.flute_journal.specs.Framing.{Gives, GivesItem, GivesEnd, GivesFault, Sofar}
 use Rattle.flute_journal.specs.Stores.{BeginsWith, FailsToLoad}
 use Rattle.flute_journal.specs.declared.fault.LoadFault.{LoadFault}

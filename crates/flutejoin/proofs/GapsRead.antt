@@ -1,5 +1,5 @@
 -- A journal whose objects are listed as it is read.
-use Rattle.std.proofs.Common.{◌≡◌, ℕ, List, [], ◌∷◌, ◌++◌, Option, None, refl, sym, subst}
+use Rattle.std.proofs.Common.{◌≡◌, ℕ, List, [], ◌∷◌, ◌++◌, Option, None, inl, inr, refl, sym, subst}
 use Rattle.std.specs.Prelude.{IfSome}
 use Rattle.std.specs.Io.KnownBytes.{IsAtEnd}
 use Rattle.flute_parts.specs.Facts.{IsRising}
@@ -13,10 +13,10 @@ use Rattle.flute_journal.specs.declared.reader_state.ReaderState.{ReaderState}
 use Rattle.flute_journal.specs.declared.entry_fields.Before.{Before}
 use Rattle.flute_journal.specs.declared.reader_state.ReaderState.TheVariants.{Header}
 use Rattle.flute_journal.specs.Framing.{GivesItem, GivesEnd, GivesFault, Sofar}
-use Rattle.flute_journal.specs.Journal.{journal_framing}
+use Rattle.flute_journal.specs.JournalFraming.{journal_framing}
 use Rattle.flute_journal.specs.declared.format.version.Version.TheVariants.{Two}
 use Rattle.flute_journal.proofs.Public.{loaded-over, side-from, journal_sound, sofar-next, sofar-none, sofar-stops}
-use Rattle.flutejoin.specs.Gaps.{ListsJournal}
+use Rattle.flutejoin.specs.Gaps.{ListsJournal, ReadsWithin}
 use Rattle.flutejoin.specs.Load.{LoadFails}
 use Rattle.flutejoin.specs.Listing.{AreListed, Lists}
 use Rattle.flutejoin.specs.Shelves.{BeginsOverShelf}
@@ -63,6 +63,18 @@ module _ (u v w : Option (List ℕ)) (from to : ReaderState Before) (tally : Tal
       lists = l;
     }
 
+    -- an entry more was read, within the limits
+    pub within_read : (tally' : Tally 64 4096 1048576)
+        → Counts 64 4096 1048576 (h.entries ++ f ∷ []) tally' → ReadsWithin u w
+    within_read tally' c =
+        let all = sofar-next journal_sound MAX_ENTRIES u v w from to h.entries f h.sofar g in
+        record {
+          entries = h.entries ++ f ∷ [];
+          are_items = all.are_items;
+          within = c.within;
+          read = inl all.read;
+        }
+
     pub full_read : Over (h.entries ++ f ∷ []) 64 4096 1048576 → IfSome u BeginsOverShelf
     full_read over =
         loaded-over 64 4096 1048576 MAX_ENTRIES u v w from to h.entries f
@@ -84,6 +96,14 @@ module _ (u v w : Option (List ℕ)) (from to : ReaderState Before) (tally : Tal
   module _ (g : GivesEnd journal_framing from to v w) where
     pub end_read : IsAtEnd w
     end_read = (side-from journal_sound MAX_ENTRIES u v w from to h.entries None h.sofar g).at_end
+
+    pub whole_read : ReadsWithin u w
+    whole_read = record {
+      entries = h.entries;
+      are_items = h.sofar.are_items;
+      within = h.counts.within;
+      read = inr (whole u v w from to h.entries h.sofar g, end_read);
+    }
 
     pub all_read : (lines : List ℕ) → AreListed h.entries lines
         → ListsJournal u (λ all. lines ≡ all)

@@ -12,7 +12,7 @@ use Rattle.flute_store.proofs.Public.{gaps-same, object-same, Whole-same}
 use Rattle.flute_journal.specs.Format.{spelling}
 use Rattle.flute_journal.specs.Journal.{Journal}
 use Rattle.flute_parts.proofs.Public.{rising_unique, Same-members, Same-sym, Same-trans}
-use Rattle.flutejoin.specs.Outputs.{WritesJournal}
+use Rattle.flute_journal.specs.JournalWriters.{WritesJournal}
 use Rattle.flutejoin.proofs.Receptions.{Journal-of_same, Journal-only}
 use Rattle.flute_parts.specs.Facts.{Same, SameMembers, IsRising}
 use Rattle.flutejoin.specs.declared.steps.Step.{Step}

@@ -4,6 +4,7 @@ use Rattle.std.specs.Prelude.{OnOk, Option, Some, MatchResult}
 use Rattle.flute_journal.specs.declared.fault.ReadFault.{ReadFault}
 use Rattle.flute_journal.specs.Input.{FailsIf}
 use Rattle.std.specs.List.{flat_map}
+use Rattle.std.proofs.lemmas.Bool.{false≢true}
 use Rattle.std.proofs.lemmas.List.{length-append}
 use Rattle.std.proofs.lemmas.List.Sums.{sum_by_push}
 use Rattle.std.proofs.lemmas.Grind.{flat_map-append}
@@ -15,7 +16,7 @@ use Rattle.flutejoin.specs.declared.command_fault.CommandFault.{CommandFault}
 use Rattle.flutejoin.specs.declared.command_fault.CommandFault.TheVariants.{Full, Input}
 use Rattle.flutejoin.specs.declared.joined.Joined.{Joined}
 use Rattle.flutejoin.specs.declared.held_file.HeldFile.{HeldFile}
-use Rattle.flutejoin.specs.Joined.{Choice, facts_by, TakesDatagram, TakesDatagrams, StoreFails, HoldsAll, HoldsDatagrams}
+use Rattle.flutejoin.specs.Joined.{Choice, facts_by, is_of_others, TakesDatagram, TakesDatagrams, StoreFails, HoldsAll, HoldsDatagrams}
 use Rattle.flutejoin.specs.Refused.{is_refused}
 use Rattle.flutejoin.specs.Shelves.{IsOverShelf}
 use Rattle.flutejoin.proofs.Receptions.{Below-left}
@@ -63,19 +64,23 @@ module _ (choice : Choice) where
   held_as : (b c : Bool) (told : Joined) (ds : List (List ℕ)) → b ≡ c → HoldsAll choice b told ds → HoldsAll choice c told ds
   held_as b c told ds e h = subst (λ x. HoldsAll choice x told ds) e h
 
-  pub holds_none : (file : HeldFile) → file.told.store ≡ [] → file.told.datagrams ≡ 0 → file.told.refused ≡ 0 → file.fits ≡ true → HoldsDatagrams choice file []
-  holds_none file store datagrams refused fits = record {
+  pub holds_none : (file : HeldFile) → file.told.store ≡ [] → file.told.datagrams ≡ 0 → file.told.refused ≡ 0 → file.others ≡ 0 → file.fits ≡ true → HoldsDatagrams choice file []
+  holds_none file store datagrams refused others fits = record {
     few = omega (arith, datagrams);
     few_refused = omega (arith, datagrams, refused);
+    few_others = omega (arith, datagrams, others);
+    others = λ e. others;
     holds = holding file.fits true file.told [] fits (record { content = rw store (Same-itself []); count = omega (arith, datagrams); refused = omega (arith, refused) });
   }
 
   -- a datagram more was taken
-  pub holds_more : (old new : HeldFile) (ds : List (List ℕ)) (d : List ℕ) → old.fits ≡ true → new.fits ≡ true → TakesDatagram (facts_by choice d) old.told d new.told → HoldsDatagrams choice old ds
-      → HoldsDatagrams choice new (ds ++ d ∷ [])
-  holds_more old new ds d fits still one h = record {
+  pub holds_more : (old new : HeldFile) (ds : List (List ℕ)) (d : List ℕ) → old.fits ≡ true → new.fits ≡ true → TakesDatagram (facts_by choice d) old.told d new.told
+      → new.others ≡ old.others + cond (is_of_others choice d) 1 0 → HoldsDatagrams choice old ds → HoldsDatagrams choice new (ds ++ d ∷ [])
+  holds_more old new ds d fits still one count h = record {
     few = omega (arith, one.datagrams, h.few, length-append ds (d ∷ []));
     few_refused = fewer (is_refused d) one.refused;
+    few_others = fewer_others (is_of_others choice d) count;
+    others = λ e. count ∙ ap (λ n. n + cond (is_of_others choice d) 1 0) (h.others fits) ∙ sym (sum_by_push (λ x. cond (is_of_others choice x) 1 0) ds d);
     holds = holding new.fits true new.told (ds ++ d ∷ []) still (takes_more none old.told new.told ds d (held_as old.fits true old.told ds fits h.holds) one);
   }
     where
@@ -83,12 +88,18 @@ module _ (choice : Choice) where
       fewer true e = omega (arith, e, one.datagrams, h.few_refused)
       fewer false e = omega (arith, e, one.datagrams, h.few_refused)
 
+      fewer_others : (b : Bool) → new.others ≡ old.others + cond b 1 0 → new.others ≤ new.told.datagrams
+      fewer_others true e = omega (arith, e, one.datagrams, h.few_others)
+      fewer_others false e = omega (arith, e, one.datagrams, h.few_others)
+
   -- it found no room
   pub holds_over : (old new : HeldFile) (ds : List (List ℕ)) (d : List ℕ) (told : List Fact) (fault : CommandFault) → old.fits ≡ true → new.fits ≡ false → facts_by choice d ≡ told → StoreFails (old.told.store ++ told) fault → fault ≡ Full
-      → (new.told.datagrams ≡ old.told.datagrams) × (new.told.refused ≡ old.told.refused) → HoldsDatagrams choice old ds → HoldsDatagrams choice new (ds ++ d ∷ [])
-  holds_over old new ds d told fault fits over e fails full counts h = record {
+      → (new.told.datagrams ≡ old.told.datagrams) × (new.told.refused ≡ old.told.refused) → new.others ≡ old.others → HoldsDatagrams choice old ds → HoldsDatagrams choice new (ds ++ d ∷ [])
+  holds_over old new ds d told fault fits over e fails full counts same h = record {
     few = omega (arith, counts.0, h.few, length-append ds (d ∷ []));
     few_refused = omega (arith, counts.0, counts.1, h.few_refused);
+    few_others = omega (arith, counts.0, same, h.few_others);
+    others = λ fitting. absurd (false≢true (sym over ∙ fitting));
     holds = holding new.fits false new.told (ds ++ d ∷ []) over (over_with old.told ds d (held_as old.fits true old.told ds fits h.holds) (subst (λ F. IsOverShelf (old.told.store ++ F)) (sym e) (store_over _ fault fails full)));
   }
 
@@ -97,25 +108,30 @@ module _ (choice : Choice) where
   holds_past file ds d fits h = record {
     few = omega (arith, h.few, length-append ds (d ∷ []));
     few_refused = h.few_refused;
+    few_others = h.few_others;
+    others = λ fitting. absurd (false≢true (sym fits ∙ fitting));
     holds = holding file.fits false file.told (ds ++ d ∷ []) fits (over_more ds d (held_as file.fits false file.told ds fits h.holds));
   }
 
   -- a datagram of another session was counted
   pub holds_passed : (old new : HeldFile) (ds : List (List ℕ)) (d : List ℕ) → old.fits ≡ true → new.fits ≡ true → facts_by choice d ≡ [] → is_refused d ≡ false → new.told ≡ record { store = old.told.store; datagrams = old.told.datagrams + 1; refused = old.told.refused }
-      → HoldsDatagrams choice old ds → HoldsDatagrams choice new (ds ++ d ∷ [])
-  holds_passed old new ds d fits still none kept is h =
+      → new.others ≡ old.others + 1 → is_of_others choice d ≡ true → HoldsDatagrams choice old ds → HoldsDatagrams choice new (ds ++ d ∷ [])
+  holds_passed old new ds d fits still none kept is count other h =
       holds_more old new ds d fits still
       (record {
         content = rw (none, is, append-nil old.told.store) (Same-itself old.told.store);
         datagrams = ap (λ t. t.datagrams) is;
         refused = rw kept (ap (λ t. t.refused) is);
-      }) h
+      })
+      (rw other count) h
 
   -- what a taken datagram comes to
-  pub holds_taken : (r : Result (Unit {0}) CommandFault) (old new : HeldFile) (d : List ℕ) (told : List Fact) → old.fits ≡ true → new.fits ≡ true → facts_by choice d ≡ told → OnOk r (TakesDatagram told old.told d new.told)
-      → OnOk r ((ds : List (List ℕ)) → HoldsDatagrams choice old ds → HoldsDatagrams choice new (ds ++ d ∷ []))
-  holds_taken (Ok t) old new d told fits still e h = λ ds holds. holds_more old new ds d fits still (subst (λ F. TakesDatagram F old.told d new.told) (sym e) h) holds
-  holds_taken (Err f) old new d told fits still e h = tt
+  pub holds_taken : (r : Result (Unit {0}) CommandFault) (old new : HeldFile) (d : List ℕ) (told : List Fact) → old.fits ≡ true → new.fits ≡ true → facts_by choice d ≡ told → new.others ≡ old.others → is_of_others choice d ≡ false
+      → OnOk r (TakesDatagram told old.told d new.told) → OnOk r ((ds : List (List ℕ)) → HoldsDatagrams choice old ds → HoldsDatagrams choice new (ds ++ d ∷ []))
+  holds_taken (Ok t) old new d told fits still e same taken h = λ ds holds.
+      holds_more old new ds d fits still (subst (λ F. TakesDatagram F old.told d new.told) (sym e) h)
+      (rw taken (omega (arith, same))) holds
+  holds_taken (Err f) old new d told fits still e same taken h = tt
 
 -- A record that was read as the input with this number.
 

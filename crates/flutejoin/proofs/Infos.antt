@@ -1,11 +1,10 @@
 -- What a join of a journal and of facts that are added to it comes to.
 use Rattle.std.proofs.Common.{◌≡◌, ℕ, zero, suc, ◌+◌, Bool, true, false, List, [], ◌∷◌, ◌++◌, Option, Some, None, inl, inr, refl, sym, ap, ◌∙◌, subst, append-nil}
 use Rattle.std.specs.Prelude.{slice_get, ◌⊎◌, IfErr, IfOk, IfSome, Result, Ok, Err}
-use Rattle.std.specs.Io.KnownBytes.{Appends}
 use Rattle.flute_parts.specs.declared.fact.Fact.{Fact}
-use Rattle.flute_journal.specs.Format.{spelling}
-use Rattle.flute_journal.specs.Journal.{IsJournalWithin, Collects, journal_framing}
-use Rattle.flute_journal.specs.JournalWriters.{Written}
+use Rattle.flute_journal.specs.Journal.{IsJournalWithin}
+use Rattle.flute_journal.specs.JournalFraming.{journal_framing}
+use Rattle.flute_journal.specs.JournalWriters.{PutsJournal, WritesJournal}
 use Rattle.flute_journal.specs.Readers.{source_of, limit_of}
 use Rattle.flute_journal.specs.Stores.{BeginsWith}
 use Rattle.flute_journal.specs.Streams.{Behaviour, option_list}
@@ -25,7 +24,6 @@ use Rattle.flute_journal.specs.declared.within.LentWithin.{LentWithin}
 use Rattle.flutejoin.specs.declared.command_fault.CommandFault.TheVariants.{Full, CannotWrite}
 use Rattle.flutejoin.specs.declared.limits.TheConstants.{MAX_ENTRIES}
 use Rattle.flutejoin.specs.Info.{AddsFacts, IsOverWith, IsWithinWith, InfoFails, OfCounted, OneOf, counted_behaviour}
-use Rattle.flutejoin.specs.Outputs.{WritesJournal}
 use Rattle.flutejoin.specs.Shelves.{IsOverShelf, BeginsOverShelf}
 use Rattle.flutejoin.specs.Status.{of_load}
 
@@ -116,11 +114,6 @@ module _ {R : Type 0} (unread : R → Option (List ℕ)) (failures : R → ℕ) 
     }
     two (F ∷ G ∷ H ∷ told) limit h = absurd h.1.1
 
-    written_whole : (cut : Bool) (w w' : Option (List ℕ)) (bytes : List ℕ) → cut ≡ false
-        → Written cut w w' bytes → Appends w w' bytes
-    written_whole false w w' bytes e h = h
-    written_whole true w w' bytes e h = absurd cc
-
     pub adds_facts : (joined : MergedJournal) (w w' : Option (List ℕ))
         → limit_of j.stream.now.reader.now ≡ MAX_ENTRIES → joined.cut ≡ false
         → MergedAll both inputs 64 4096 1048576 joined w w'
@@ -131,17 +124,9 @@ module _ {R : Type 0} (unread : R → Option (List ℕ)) (failures : R → ℕ) 
         let Q : List ℕ → Type 0 =
         λ bytes. (entries : List Fact) × IsJournalWithin MAX_ENTRIES bytes entries ×
         WritesJournal w w' (entries ++ option_list f.next) joined.entries in
-        let writes : WritesJournal w w' (t.entries ++ option_list f.next) joined.entries = record {
-          bytes = spelling m.entries;
-          journal = (
-            m.entries,
-            subst (λ (l : List Fact). Collects l m.entries) t.all m.collects,
-            m.few,
-            refl,
-          );
-          entries = m.count;
-          appended = written_whole joined.cut w w' (spelling m.entries) whole m.written;
-        } in
+        let writes : WritesJournal w w' (t.entries ++ option_list f.next) joined.entries =
+        subst (λ (l : List Fact). WritesJournal w w' l joined.entries) t.all
+        (subst (λ (c : Bool). PutsJournal c w w' (all_of m.told) joined.entries) whole m.puts) in
         if_some bytes_of P Q (λ bytes is. (t.entries, is, writes)) t.tells
 
     pub over_with : (joined : MergedJournal) (w w' : Option (List ℕ))

@@ -16,8 +16,8 @@ use Rattle.flutejoin.specs.declared.command_fault.CommandFault.TheVariants.{Inpu
 use Rattle.flutejoin.specs.declared.held_file.HeldFile.{HeldFile}
 use Rattle.flutejoin.specs.declared.inspecting.Inspected.{Inspected}
 use Rattle.flutejoin.specs.JoinInputs.{JoinInput, IsInput, AreInputs, failures_of, NoneFailed, OneFailed}
-use Rattle.flutejoin.specs.Joined.{Choice, HasKnownKind}
-use Rattle.flutejoin.specs.Joining.{NamesOnly, NamesOneOf, InspectionFails, of_kind, SomeInspectionFails, datagrams_of, refused_of, IsFew, SumsUp, IsInspected, AreInspected, IsReady, AreReady}
+use Rattle.flutejoin.specs.Joined.{Choice, HasKnownKind, IsOfAKind, WantsMemory}
+use Rattle.flutejoin.specs.Joining.{NamesOnly, NamesOneOf, InspectionFails, of_kind, SomeInspectionFails, datagrams_of, refused_of, passed_of, IsFew, SumsUp, IsInspected, AreInspected, IsReady, AreReady}
 use Rattle.flutejoin.specs.Show.{FailsToRead}
 use Rattle.flutejoin.proofs.DriveSteps.{slice_get-set_other, slice_get-set_same}
 use Rattle.flutejoin.proofs.RunSteps.{some_same}
@@ -50,6 +50,10 @@ pub is_known : (choice : Choice) {R : Type 0} (unread : R → Option (List ℕ))
 is_known choice unread input None bytes h = inl h.0
 is_known choice unread input (Some file) bytes h = inr (h.0, h.1)
 
+pub of_a_kind : (bytes : List ℕ) → HasKnownKind bytes → IsOfAKind bytes
+of_a_kind bytes (inl journal) = inl journal
+of_a_kind bytes (inr file) = inr (ap (take 4) file.1.bytes_are)
+
 module _ (choice : Choice) {R : Type 0} (unread : R → Option (List ℕ)) (failures : R → ℕ) where
   -- the first inputs were inspected, and the others are as they were
   pub record InspectedSoFar (start now : List (JoinInput R)) (inspected : Inspected) (k : ℕ) : Type 0 where
@@ -62,18 +66,20 @@ module _ (choice : Choice) {R : Type 0} (unread : R → Option (List ℕ)) (fail
     pub sums : SumsUp inspected
     pub few : inspected.datagrams ≤ k * 16777216
     pub few_refused : inspected.refused ≤ inspected.datagrams
+    pub few_others : inspected.others ≤ inspected.datagrams
     pub none_failed : NoneFailed failures start now
 
-  pub inspected_none : (start : List (JoinInput R)) (inspected : Inspected) → inspected.files.items ≡ [] → inspected.datagrams ≡ 0 → inspected.refused ≡ 0 → InspectedSoFar start start inspected 0
-  inspected_none start inspected none datagrams refused = record {
+  pub inspected_none : (start : List (JoinInput R)) (inspected : Inspected) → inspected.files.items ≡ [] → inspected.datagrams ≡ 0 → inspected.refused ≡ 0 → inspected.others ≡ 0 → InspectedSoFar start start inspected 0
+  inspected_none start inspected none datagrams refused others = record {
     as_many = refl;
     files = ap length none;
     later = λ j past. refl;
     ready = λ j input file is its. absurd (nothing j file its);
     looks = λ contents h j input file bytes is its here. absurd (nothing j file its);
-    sums = record { datagrams = datagrams ∙ sym (ap (sum_by datagrams_of) none); refused = refused ∙ sym (ap (sum_by refused_of) none) };
+    sums = record { datagrams = datagrams ∙ sym (ap (sum_by datagrams_of) none); refused = refused ∙ sym (ap (sum_by refused_of) none); others = others ∙ sym (ap (sum_by passed_of) none) };
     few = omega (arith, datagrams);
     few_refused = omega (arith, datagrams, refused);
+    few_others = omega (arith, datagrams, others);
     none_failed = record { as_many = refl; each = λ j before after was is. ap (failures_of failures) (one_is start j after before is was) };
   }
     where
@@ -91,9 +97,9 @@ module _ (choice : Choice) {R : Type 0} (unread : R → Option (List ℕ)) (fail
         (here.0, here.1, inputs.each k one here.0 was here.1)
 
     pub inspected_more : (new : JoinInput R) (file : Option HeldFile) (after : Inspected) → after.files.items ≡ inspected.files.items ++ file ∷ [] → after.datagrams ≡ inspected.datagrams + datagrams_of file
-        → after.refused ≡ inspected.refused + refused_of file → IsFew file → IsReady unread failures new file → ((bytes : List ℕ) → IsInput unread one bytes → IsInspected unread choice new file bytes)
+        → after.refused ≡ inspected.refused + refused_of file → after.others ≡ inspected.others + passed_of file → IsFew file → IsReady unread failures new file → ((bytes : List ℕ) → IsInput unread one bytes → IsInspected unread choice new file bytes)
         → failures_of failures new ≡ failures_of failures one → InspectedSoFar start (set now k new) after (k + 1)
-    inspected_more new file after files datagrams refused few ready looks failed =
+    inspected_more new file after files datagrams refused others few ready looks failed =
         let within = slice_get_within now k one at in
         let size = length-append inspected.files.items (file ∷ []) in
         let stays : (j : ℕ) → j ≢ k → slice_get (set now k new) j ≡ slice_get now j = λ j differs. slice_get-set_other now k j new differs in
@@ -127,9 +133,11 @@ module _ (choice : Choice) {R : Type 0} (unread : R → Option (List ℕ)) (fail
           sums = record {
             datagrams = datagrams ∙ ap (λ n. n + datagrams_of file) h.sums.datagrams ∙ sym (ap (sum_by datagrams_of) files ∙ sum_by_push datagrams_of inspected.files.items file);
             refused = refused ∙ ap (λ n. n + refused_of file) h.sums.refused ∙ sym (ap (sum_by refused_of) files ∙ sum_by_push refused_of inspected.files.items file);
+            others = others ∙ ap (λ n. n + passed_of file) h.sums.others ∙ sym (ap (sum_by passed_of) files ∙ sum_by_push passed_of inspected.files.items file);
           };
           few = omega (arith, datagrams, few.0, h.few);
           few_refused = omega (arith, datagrams, refused, few.1, h.few_refused);
+          few_others = omega (arith, datagrams, others, few.2, h.few_others);
           none_failed = record {
             as_many = length-set now k new ∙ h.none_failed.as_many;
             each = λ j before input is it.
@@ -156,6 +164,13 @@ module _ (choice : Choice) {R : Type 0} (unread : R → Option (List ℕ)) (fail
     inspect_fails fault fails contents inputs =
         let own = is_input contents inputs in
         inl (k + 1, first_at HasKnownKind (λ bytes. InspectionFails (k + 1) bytes fault) contents k own.0 own.1 (known_before contents inputs) (fails own.0 own.2))
+
+    -- memory is asked for what this input tells
+    pub inspect_wants : (new : JoinInput R) (file : Option HeldFile) → ((bytes : List ℕ) → IsInput unread one bytes → IsInspected unread choice new file bytes) → (contents : List (List ℕ)) → AreInputs unread start contents
+        → WantsMemory contents
+    inspect_wants new file looks contents inputs =
+        let own = is_input contents inputs in
+        (k + 1, first_at HasKnownKind IsOfAKind contents k own.0 own.1 (known_before contents inputs) (of_a_kind own.0 (is_known choice unread new file own.0 (looks own.0 own.2))))
 
     pub inspect_names : (fault : CommandFault) → NamesOnly (k + 1) fault → NamesOneOf (length start) fault
     inspect_names (Input number f) e = let within = slice_get_within start k one was in (omega (arith, e), omega (arith, e, within))

@@ -1,29 +1,29 @@
 -- How a join of inputs ends.
-use Rattle.std.proofs.Common.{◌≡◌, ℕ, zero, suc, ◌+◌, ◌^◌, ◌≤◌, ◌<◌, Bool, true, false, if◌then◌else◌, List, [], ◌∷◌, ◌++◌, length, take, Option, Some, None, Result, Ok, Err, inl, inr, refl, sym, ap, ◌∙◌, subst, arith}
-use Rattle.std.specs.Prelude.{slice_get, ◌⊎◌, IfSome, is_ok}
+use Rattle.std.proofs.Common.{◌≡◌, ℕ, zero, suc, ◌+◌, ◌-◌, ◌*◌, ◌^◌, ◌≤◌, ◌<◌, Bool, true, false, if◌then◌else◌, List, [], ◌∷◌, ◌++◌, length, take, Option, Some, None, Result, Ok, Err, inl, inr, refl, sym, ap, ◌∙◌, subst, arith}
+use Rattle.std.specs.Prelude.{min, not, sum_by, slice_get, ◌⊎◌, IfSome, is_ok}
 use Rattle.std.specs.Result.{is_err}
 use Rattle.std.specs.List.{flat_map, AllByRecursion}
-use Rattle.std.specs.Io.KnownBytes.{Appends}
 use Rattle.std.proofs.KnownBytes.{Appends-nil}
 use Rattle.std.proofs.lemmas.Bool.{cases_eq}
 use Rattle.std.proofs.lemmas.List.{length-append}
+use Rattle.std.proofs.lemmas.List.Sums.{count_by-le-length, sum_by-cons}
 use Rattle.std.proofs.lemmas.Option.{slice_get_within}
-use Rattle.flute_parts.specs.Facts.{Same, SameMembers}
+use Rattle.flute_parts.specs.Facts.{Same}
 use Rattle.flute_parts.specs.declared.fact.Fact.{Fact}
-use Rattle.flute_parts.proofs.Public.{rising_unique, Same-members, Same-sym, Same-trans}
-use Rattle.flute_journal.specs.Format.{spelling, spelling_in}
+use Rattle.flute_parts.proofs.Public.{Same-sym, Same-trans}
+use Rattle.flute_journal.specs.Format.{spelling_in}
 use Rattle.flute_journal.specs.declared.format.version.Version.{Version}
 use Rattle.flute_journal.proofs.Public.{journal_parts}
-use Rattle.flute_journal.specs.Journal.{Journal, Collects, journal_framing}
-use Rattle.flute_journal.specs.JournalWriters.{Written}
+use Rattle.flute_journal.specs.JournalFraming.{journal_framing}
+use Rattle.flute_journal.specs.JournalWriters.{PutsJournal}
 use Rattle.flute_journal.specs.Kinds.{HasKind}
-use Rattle.flute_journal.specs.Sessions.{chosen}
+use Rattle.flute_journal.specs.Sessions.{is_chosen, chosen}
 use Rattle.flute_journal.specs.Listed.{listed_behaviour}
 use Rattle.flute_journal.specs.Stores.{BeginsWith}
 use Rattle.flute_journal.specs.Streams.{Behaviour, IsNew, option_list}
 use Rattle.flute_journal.specs.FirstFaults.{FirstFault, TellBefore}
 use Rattle.flute_journal.specs.Replacing.{replaced}
-use Rattle.flute_journal.specs.StreamMerges.{all_of, IsWithinLimits, MergedAll, NoneFails, AppendsNoJournal}
+use Rattle.flute_journal.specs.StreamMerges.{all_of, IsWithinLimits, EndsMerged, NoneFails, AppendsNoJournal}
 use Rattle.flute_journal.specs.Framing.{HasFault}
 use Rattle.flute_journal.specs.declared.beside.Beside.{Beside}
 use Rattle.flute_journal.specs.declared.either.Either.{Either}
@@ -40,14 +40,14 @@ use Rattle.flute_journal.specs.declared.streams_fault.InputFault.{InputFault}
 use Rattle.flutejoin.specs.declared.command_fault.CommandFault.{CommandFault}
 use Rattle.flutejoin.specs.declared.command_fault.CommandFault.TheVariants.{Input, Full, OutOfMemory, CannotWrite}
 use Rattle.flutejoin.specs.declared.held_file.HeldFile.{HeldFile}
-use Rattle.flutejoin.specs.JoinInputs.{JoinInput, failures_of, NoneFailed, OneFailed}
-use Rattle.flutejoin.specs.Joined.{Choice, content_facts, TellsWithin, FirstInput, HasKnownKind, IsOverAlone, IsJournalAt, IsFileAt, JoinFails, HoldsAll, FileFails}
-use Rattle.flutejoin.specs.Joining.{JoinsTo, AllTell, JoinToFails, of_inputs, of_source, of_sink, NamesOneOf, InspectionFails, of_kind, of_file, SomeInspectionFails, IsInspected, AreReady, AreInspected, IsReady, JoinsInspected, IsHeldStream, IsStreamOf, SumsUp}
+use Rattle.flutejoin.specs.JoinInputs.{JoinInput, passed_over, failures_of, NoneFailed, OneFailed}
+use Rattle.flutejoin.specs.Joined.{Choice, InputContent, of_journal, of_file, content_facts, content_others, is_of_others, Tells, TellAll, TellsWithin, FirstInput, HasKnownKind, IsOfAKind, WantsMemory, IsOverAlone, IsJournalAt, IsFileAt, JoinFails, HoldsAll, FileFails}
+use Rattle.flutejoin.specs.Joining.{passed_of, JoinsTo, AllTell, JoinToFails, of_inputs, of_source, of_sink, NamesOneOf, InspectionFails, of_kind, of_file, SomeInspectionFails, IsInspected, AreReady, AreInspected, IsReady, JoinsInspected, IsHeldStream, IsStreamOf, SumsUp}
 use Rattle.flutejoin.specs.Shelves.{IsOverShelf}
 use Rattle.flutejoin.specs.Status.{of_load}
 use Rattle.flutejoin.proofs.Firsts.{at_place, first_at, first_with}
-use Rattle.flutejoin.proofs.Inspections.{last_or_before, last_is, one_is}
-use Rattle.flutejoin.proofs.JoinStreams.{joins, Stands, Inspects, place, stands, looks, all_known, tells_one, tells_each, over_same}
+use Rattle.flutejoin.proofs.Inspections.{last_or_before, last_is, of_a_kind, one_is}
+use Rattle.flutejoin.proofs.JoinStreams.{joins, Stands, Inspects, place, stands, looks, all_known, tells_one, tells_each, all_ended, passed_all, over_same}
 
 -- nothing was appended
 pub nothing_appended : (w : Option (List ℕ)) → AppendsNoJournal w w
@@ -118,6 +118,26 @@ held_stream held rest file s fits within new is few = record {
   fails = λ now fault e. let d : Some fault ≡ None = e in cc;
 }
 
+-- an input tells no more than so much, of whatever sessions
+others_few : (choice : Choice) (inputs : List (List ℕ)) (told : List InputContent)
+    → TellAll inputs told → sum_by (content_others choice) told ≤ length inputs * 16777216
+unfolding TellAll
+others_few choice [] [] h = omega arith
+others_few choice [] (x ∷ told) h = elim h [ ]
+others_few choice (bytes ∷ inputs) [] h = elim h [ ]
+others_few choice (bytes ∷ inputs) (x ∷ told) h =
+    let rest = others_few choice inputs told h.1 in
+    let all = sum_by-cons (content_others choice) x told in
+    omega (arith, one x h.0, rest, all)
+  where
+    one : (x : InputContent) → Tells bytes x → content_others choice x ≤ 16777216
+    one (of_journal entries) k =
+        let few = count_by-le-length (λ f. not (is_chosen choice.tsis f)) entries in
+        omega (arith, few, k.are_items.few)
+    one (of_file datagrams) k =
+        let few = count_by-le-length (is_of_others choice) datagrams in
+        omega (arith, few, k.are_items.few)
+
 module _ (choice : Choice) {R : Type 0} (unread : R → Option (List ℕ)) (failures : R → ℕ)
     {S : Type 0} (b : Behaviour S) where
   told_before : (xs : List (JoinInput R)) (fs : List (Option HeldFile))
@@ -180,7 +200,7 @@ module _ (choice : Choice) {R : Type 0} (unread : R → Option (List ℕ)) (fail
               (inr (
                 known,
                 first_at (TellsWithin choice) (IsJournalAt f) contents n bytes here
-                    before (inspected.0, subst Q (ready refl).2 (subst P inspected.1 h), other),
+                    before (inspected.0, subst Q (ready.1 refl).2 (subst P inspected.1 h), other),
               ))
         ]
     journal_stops x load.Full ready inspected (inl h) = absurd h
@@ -195,7 +215,7 @@ module _ (choice : Choice) {R : Type 0} (unread : R → Option (List ℕ)) (fail
         over_alone (inl (
           inspected.0,
           h.1.1.0,
-          subst Q (ready refl).2 (subst P inspected.1 h.1.1.1),
+          subst Q (ready.1 refl).2 (subst P inspected.1 h.1.1.1),
           subst IsOverShelf is h.1.2,
         ))
     journal_stops x load.OutOfMemory ready inspected (inr h) = let e = h.0 in absurd cc
@@ -254,6 +274,50 @@ module _ (choice : Choice) {R : Type 0} (unread : R → Option (List ℕ)) (fail
       let p = place choice unread failures b xs fs os first.number fault.stopped.new h
       fault.stopped.was in
       slice_get_within xs first.number p.input p.own
+
+  -- no stream tells want of memory but as a fault of reading
+  wants_nothing : (x : JoinInput R) (f : Option HeldFile) (o : Option (OrFull S))
+      (s : Either (JoinInput R) (Beside (JoinInput R) (OrFull S))) → IsStreamOf b f o
+      → replaced (x ∷ []) (o ∷ []) ≡ s ∷ [] → (joins choice unread failures b).stops s load.OutOfMemory
+      → ⊥
+  wants_nothing x None None s stream e h =
+      let is : First x ≡ s = cc in
+      of_own (subst (λ t. (joins choice unread failures b).stops t load.OutOfMemory) (sym is) h)
+    where
+      of_own : (joins choice unread failures b).stops (First x) load.OutOfMemory → ⊥
+      of_own (inl k) = k
+      of_own (inr k) = let d : load.OutOfMemory ≡ load.Full = k.0 in cc
+  wants_nothing x (Some file) (Some t) s stream e h =
+      let is : Second (record { stream = t; beside = x }) ≡ s = cc in
+      of_file_stream t stream
+      (subst (λ u. (joins choice unread failures b).stops u load.OutOfMemory) (sym is) h)
+    where
+      of_file_stream : (u : OrFull S) → IsStreamOf b (Some file) (Some u)
+          → (joins choice unread failures b).stops (Second (record { stream = u; beside = x }))
+          load.OutOfMemory
+          → ⊥
+      of_file_stream (orfull.Stream v) held k = held.stops load.OutOfMemory k
+      of_file_stream orfull.Full held k = cc
+  wants_nothing x None (Some t) s stream e h = absurd stream
+  wants_nothing x (Some file) None s stream e h = absurd stream
+
+  pub first_wants_nothing : (xs : List (JoinInput R)) (fs : List (Option HeldFile))
+      (os : List (Option (OrFull S)))
+      (now : List (Either (JoinInput R) (Beside (JoinInput R) (OrFull S)))) (first : InputFault)
+      (number : ℕ) → Stands choice unread failures b xs fs os
+      → FirstFault (joins choice unread failures b) (replaced xs os) now first
+      → of_load number first.fault ≡ OutOfMemory → ⊥
+  first_wants_nothing xs fs os now first number h fault e =
+      let p = place choice unread failures b xs fs os first.number fault.stopped.new h
+      fault.stopped.was in
+      wants_nothing p.input p.file p.other fault.stopped.new p.stream p.is
+      (subst (λ f. (joins choice unread failures b).stops fault.stopped.new f) (wanted first.fault e)
+      fault.stopped.stop.stops)
+    where
+      wanted : (f : LoadFault) → of_load number f ≡ OutOfMemory → f ≡ load.OutOfMemory
+      wanted (load.Read f) k = absurd cc
+      wanted load.Full k = absurd cc
+      wanted load.OutOfMemory k = refl
 
   -- What has failed.
 
@@ -414,34 +478,51 @@ module _ (choice : Choice) {R : Type 0} (unread : R → Option (List ℕ)) (fail
   limits_same F G false same h = over_same F G same h
 
   pub joins_inspected : (xs : List (JoinInput R)) (fs : List (Option HeldFile))
-      (os : List (Option (OrFull S))) (contents : List (List ℕ)) (joined : MergedJournal)
-      (w w' : Option (List ℕ)) → Stands choice unread failures b xs fs os → length fs ≡ length xs
-      → AreInspected unread choice xs fs contents
-      → MergedAll (joins choice unread failures b) (replaced xs os) 64 4096 1048576 joined w w'
-      → JoinsInspected choice contents fs joined w w'
-  joins_inspected xs fs os contents joined w w' h many inspected m =
-      let t = tells_each choice unread failures b xs fs os contents m.told h
-      (looks choice unread failures b xs fs contents many inspected) m.tell in
+      (os : List (Option (OrFull S))) (ys : List (JoinInput R)) (ps : List (Option (OrFull S)))
+      (contents : List (List ℕ)) (joined : MergedJournal) (w w' : Option (List ℕ))
+      → Stands choice unread failures b xs fs os → length fs ≡ length xs → length xs ≤ 64
+      → length ps ≡ length ys → AreInspected unread choice xs fs contents
+      → NoneFails (joins choice unread failures b) (replaced xs os) (replaced ys ps)
+      → EndsMerged (joins choice unread failures b) (replaced xs os) (replaced ys ps) 64 4096
+      1048576 joined w w'
+      → JoinsInspected choice contents fs (sum_by passed_over ys) joined w w'
+  joins_inspected xs fs os ys ps contents joined w w' h many few same_many inspected fails ended =
+      let m = ended.merged in
+      let t = tells_each choice unread failures b xs fs os (replaced ys ps) contents m.told h
+      (looks choice unread failures b xs fs contents many inspected)
+      (all_ended choice unread failures b (replaced xs os) (replaced ys ps) m.told m.tell ended.ends
+      fails) in
       record {
         told = t.told;
         tell = t.tell;
         alone = t.alone;
-        entries = m.entries;
-        collects = record {
-          valid = m.collects.valid;
-          rising = m.collects.rising;
-          same =
-              Same-trans (flat_map (content_facts choice) t.told) (all_of m.told) m.entries
-              (Same-sym (all_of m.told) (flat_map (content_facts choice) t.told) t.same)
-              m.collects.same;
+        puts = record {
+          bytes = m.puts.bytes;
+          journal = (
+            m.puts.journal.0,
+            record {
+              valid = m.puts.journal.1.valid;
+              rising = m.puts.journal.1.rising;
+              same =
+                  Same-trans (flat_map (content_facts choice) t.told) (all_of m.told)
+                  m.puts.journal.0
+                  (Same-sym (all_of m.told) (flat_map (content_facts choice) t.told) t.same)
+                  m.puts.journal.1.same;
+            },
+            m.puts.journal.2,
+            m.puts.journal.3,
+          );
+          entries = m.puts.entries;
+          appended = m.puts.appended;
         };
-        count = m.count;
         limits =
             limits_same (all_of m.told) (flat_map (content_facts choice) t.told) joined.within
             t.same m.limits;
-        written = m.written;
         datagrams = t.datagrams;
         refused = t.refused;
+        others = let passed = passed_all choice unread failures b ys ps same_many in
+            omega (arith, passed, t.others);
+        few = omega (arith, others_few choice contents t.told t.tell, few, inspected.as_many);
       }
 
 -- the number is that of an input
@@ -471,13 +552,14 @@ file_not_held {choice} P inputs number first (Input told f) kind h =
           of_inputs (subst Q (sym (ap (λ m. Input m f) h.0))
           (inl (first_with HasKnownKind P (IsFileAt f) number inputs first (kind, h.1, other))))
     ]
-file_not_held {choice} P inputs number first OutOfMemory kind h = of_inputs tt
+file_not_held {choice} P inputs number first OutOfMemory kind h =
+    of_inputs (number, first_with HasKnownKind P IsOfAKind number inputs first (inr kind))
 file_not_held {choice} P inputs number first fault kind h = absurd h
 
 pub not_inspected : {choice : Choice} (inputs : List (List ℕ)) (fault : CommandFault)
     → SomeInspectionFails inputs fault → JoinToFails choice inputs fault
 not_inspected {choice} inputs fault (inr memory) = let P : CommandFault → Type 0 =
-    λ g. JoinToFails choice inputs g in subst P (sym memory) (of_inputs tt)
+    λ g. JoinToFails choice inputs g in subst P (sym memory.0) (of_inputs memory.1)
 not_inspected {choice} inputs fault (inl h) = go h.1.here
   where
     go : InspectionFails h.0 h.1.bytes fault → JoinToFails choice inputs fault
@@ -489,21 +571,12 @@ not_inspected {choice} inputs fault (inl h) = go h.1.here
     go (of_file kind fails) =
         file_not_held (λ bytes. InspectionFails h.0 bytes fault) inputs h.0 h.1 fault kind fails
 
-others_too : (F entries : List Fact) (w w' : Option (List ℕ)) → Collects F entries
-    → Appends w w' (spelling entries) → (others : List Fact) → SameMembers F others
-    → (bytes : List ℕ) → Journal bytes others → Appends w w' bytes
-others_too F entries w w' c a others m bytes j =
-    let same : Same j.0 entries =
-    Same-trans j.0 others entries (Same-sym others j.0 j.1.same)
-    (Same-trans others F entries (Same-sym F others (Same-members F others m)) c.same) in
-    let one : j.0 ≡ entries = rising_unique j.0 entries j.1.rising c.rising same in
-    subst (Appends w w') (sym (j.3 ∙ ap spelling one)) a
-
 pub joins_to : {choice : Choice} (inputs : List (List ℕ)) (fs : List (Option HeldFile))
-    (joined : MergedJournal) (datagrams refused others : ℕ) (w w' : Option (List ℕ))
-    → JoinsInspected choice inputs fs joined w w' → joined.within ≡ true → joined.cut ≡ false
+    (joined : MergedJournal) (datagrams refused others passed of_files : ℕ)
+    (w w' : Option (List ℕ)) → JoinsInspected choice inputs fs passed joined w w' → joined.within ≡ true → joined.cut ≡ false
     → datagrams ≡ Rattle.std.specs.Prelude.sum_by Rattle.flutejoin.specs.Joining.datagrams_of fs
     → refused ≡ Rattle.std.specs.Prelude.sum_by Rattle.flutejoin.specs.Joining.refused_of fs
+    → of_files ≡ sum_by passed_of fs → others ≡ min (of_files + passed) (2 ^ 64 - 1)
     → JoinsTo choice inputs
     (record {
       datagrams = datagrams;
@@ -512,44 +585,43 @@ pub joins_to : {choice : Choice} (inputs : List (List ℕ)) (fs : List (Option H
       entries =
           joined.entries;
     }) w w'
-joins_to {choice} inputs fs joined datagrams refused others w w' h within whole d r =
-    let P : Bool → Type 0 = λ c. Written c w w' (spelling h.entries) in
+joins_to {choice} inputs fs joined datagrams refused others passed of_files w w' h within whole d r o s
+    =
+    let F = flat_map (content_facts choice) h.told in
+    let P : Bool → Type 0 = λ c. PutsJournal c w w' F joined.entries in
     let Q : Bool → Type 0 =
     λ c. IsWithinLimits 64 4096 1048576 (flat_map (content_facts choice) h.told) c in
-    let appended = subst P whole h.written in
     record {
       told = h.told;
       tell = h.tell;
-      entries = h.entries;
-      collects = h.collects;
       within = subst Q within h.limits;
-      count = h.count;
+      writes = subst P whole h.puts;
       datagrams = d ∙ h.datagrams;
       refused = r ∙ h.refused;
-      appended = appended;
-      as_others =
-          others_too (flat_map (content_facts choice) h.told) h.entries w w' h.collects appended;
+      others = omega (arith, o, s, h.others, h.few);
     }
 
 all_known_of : {choice : Choice} (inputs : List (List ℕ)) (fs : List (Option HeldFile))
-    (joined : MergedJournal) (w w' : Option (List ℕ)) → JoinsInspected choice inputs fs joined w w'
-    → joined.within ≡ true → AllTell choice inputs
-all_known_of {choice} inputs fs joined w w' h within =
+    (passed : ℕ) (joined : MergedJournal) (w w' : Option (List ℕ))
+    → JoinsInspected choice inputs fs passed joined w w' → joined.within ≡ true
+    → AllTell choice inputs
+all_known_of {choice} inputs fs passed joined w w' h within =
     let Q : Bool → Type 0 =
     λ c. IsWithinLimits 64 4096 1048576 (flat_map (content_facts choice) h.told) c in
     record { told = h.told; tell = h.tell; alone = h.alone; together = subst Q within h.limits }
 
 pub not_written : {choice : Choice} (inputs : List (List ℕ)) (fs : List (Option HeldFile))
-    (joined : MergedJournal) (w w' : Option (List ℕ)) → JoinsInspected choice inputs fs joined w w'
-    → joined.within ≡ true → JoinToFails choice inputs CannotWrite
-not_written {choice} inputs fs joined w w' h within =
-    of_sink refl (all_known_of inputs fs joined w w' h within)
+    (passed : ℕ) (joined : MergedJournal) (w w' : Option (List ℕ))
+    → JoinsInspected choice inputs fs passed joined w w' → joined.within ≡ true
+    → JoinToFails choice inputs CannotWrite
+not_written {choice} inputs fs passed joined w w' h within =
+    of_sink refl (all_known_of inputs fs passed joined w w' h within)
 
 pub over_together : {choice : Choice} (inputs : List (List ℕ)) (fs : List (Option HeldFile))
-    (joined : MergedJournal) (w w' : Option (List ℕ)) → AllByRecursion HasKnownKind inputs
-    → JoinsInspected choice inputs fs joined w w' → joined.within ≡ false
-    → JoinToFails choice inputs Full
-over_together {choice} inputs fs joined w w' known h over =
+    (passed : ℕ) (joined : MergedJournal) (w w' : Option (List ℕ))
+    → AllByRecursion HasKnownKind inputs → JoinsInspected choice inputs fs passed joined w w'
+    → joined.within ≡ false → JoinToFails choice inputs Full
+over_together {choice} inputs fs passed joined w w' known h over =
     let Q : Bool → Type 0 =
     λ c. IsWithinLimits 64 4096 1048576 (flat_map (content_facts choice) h.told) c in
     of_inputs (known, inr (h.alone, (h.told, h.tell, subst Q over h.limits)))
@@ -564,6 +636,23 @@ known_of {choice} {R} unread failures xs fs inputs many h =
     (listed_behaviour {S = List Fact} (λ s. None) (λ s. s) (λ _. Unit {0})) xs fs inputs
     (looks choice unread failures
     (listed_behaviour {S = List Fact} (λ s. None) (λ s. s) (λ _. Unit {0})) xs fs inputs many h)
+
+-- some input is of a kind, and none is before it
+pub some_wants : (inputs : List (List ℕ)) → 1 ≤ length inputs → AllByRecursion HasKnownKind inputs
+    → WantsMemory inputs
+some_wants [] many known = absurd (omega (arith, many))
+some_wants (bytes ∷ inputs) many known = (
+  1,
+  record {
+    before = [];
+    bytes = bytes;
+    after = inputs;
+    split = refl;
+    number_is = refl;
+    earlier = tt;
+    here = of_a_kind bytes known.0;
+  },
+)
 
 -- all files have their streams
 pub stands_of : (choice : Choice) {R S : Type 0} (unread : R → Option (List ℕ)) (failures : R → ℕ)

@@ -12,7 +12,8 @@ use Rattle.flute_journal.specs.declared.fault.ReadFault.TheVariants as read
 use Rattle.flute_journal.specs.declared.fault.LoadFault.{LoadFault}
 use Rattle.flute_journal.specs.declared.fault.LoadFault.TheVariants as load
 use Rattle.flute_journal.proofs.Public.{written_journal}
-use Rattle.flute_journal.specs.Journal.{Journal, IsJournal, IsJournalWithin, journal_framing}
+use Rattle.flute_journal.specs.Journal.{Journal, IsJournal, IsJournalWithin}
+use Rattle.flute_journal.specs.JournalFraming.{journal_framing}
 use Rattle.flute_journal.specs.Framing.{Stops}
 use Rattle.flute_journal.specs.Whole.{StopsAfter}
 use Rattle.flute_journal.specs.Stores.{FailsToLoad, IsJournalOf, IsLoadFault}

@@ -1,4 +1,5 @@
 mod Encoded
+mod Sent
 mod Senders
 mod WrittenPieces
 mod Shown
@@ -28,9 +29,15 @@ mod Replacing
 mod JoinStreams
 mod JoinStops
 mod Begun
+mod JoinTrees
 mod MemoryFacts
 mod Infos
 mod Extracted
 mod ObjectFacts
 mod ObjectWriters
 pub mod Chosen
+mod CommandWords
+mod JoinLines
+mod LineFaults
+mod Options
+mod SessionLists

@@ -5,12 +5,13 @@ use Rattle.flute_parts.specs.declared.address.Address.{Address}
 use Rattle.flute_parts.specs.declared.fact.Fact.{Fact}
 use Rattle.flute_parts.specs.declared.fact.Fact.TheVariants.{Info, InfoConflict, Symbol, SymbolConflict}
 use Rattle.flute_parts.specs.Addresses.{symbol_address}
-use Rattle.flute_parts.specs.Facts.{fact_at, Same, SameMembers, Below}
-use Rattle.flute_parts.proofs.Public.{Below-from_Same, Below-trans, fact_at-append, joined, joined-none, Over-below, rising_unique, Same-append, Same-itself, Same-members, Same-swap, Same-sym, Same-trans, Same-twice}
+use Rattle.flute_parts.specs.Facts.{fact_at, Same, Below}
+use Rattle.flute_parts.proofs.Public.{Below-from_Same, Below-trans, fact_at-append, joined, joined-none, Over-below, rising_unique, Same-append, Same-itself, Same-swap, Same-sym, Same-trans, Same-twice}
 use Rattle.flute_store.specs.Held.{HasCell}
 use Rattle.flute_journal.specs.declared.fault.ReadFault.{ReadFault}
 use Rattle.flute_journal.specs.Format.{spelling}
-use Rattle.flute_journal.specs.Journal.{Journal, IsJournal, IsJournalWithin, journal_framing}
+use Rattle.flute_journal.specs.Journal.{Journal, IsJournal, IsJournalWithin}
+use Rattle.flute_journal.specs.JournalFraming.{journal_framing}
 use Rattle.flute_journal.specs.Framing.{Stops}
 use Rattle.flute_journal.proofs.Public.{beyond, facts_of, journal_parts, parts_journal, same_journal, without_end-below}
 use Rattle.flutejoin.specs.Held.{Capacity, IsOver}
@@ -97,14 +98,13 @@ IsJournal-from_within bs entries j =
       }),
     )
 
--- what is read of the journal of facts comes to the same as others with the same members
+-- what is read of the journal of facts comes to the same as others that do
 pub Same-read_of_joined : (held joined others : List Fact) (bs : List ℕ)
-    → IsJournalOf MAX_ENTRIES bs held → IsJournal bs joined → SameMembers joined others
+    → IsJournalOf MAX_ENTRIES bs held → IsJournal bs joined → Same joined others
     → Same held others
-Same-read_of_joined held joined others bs is journal members =
+Same-read_of_joined held joined others bs is journal same =
     Same-trans held is.0 others is.2 (Same-trans is.0 joined others
-    (Same-from_journals bs is.0 joined (IsJournal-from_within bs is.0 is.1) journal)
-    (Same-members joined others members))
+    (Same-from_journals bs is.0 joined (IsJournal-from_within bs is.0 is.1) journal) same)
 
 -- bytes are no journal and at fault too
 pub never_both : (bs : List ℕ) (entries es : List Fact) (f : ReadFault)

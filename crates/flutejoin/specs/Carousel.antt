@@ -1,5 +1,5 @@
 -- What the command `carousel` makes of an object.
-use Rattle.std.specs.Prelude.{◌≡◌, ℕ, List, length, flat_map, Some, None, ⊤}
+use Rattle.std.specs.Prelude.{◌≡◌, ℕ, List, length, flat_map, Some, None}
 use Rattle.std.specs.List.{AllZip}
 use Rattle.flute_parts.specs.Information.{Information, information, info_fault}
 use Rattle.flute_parts.specs.declared.key.Key.{Key}
@@ -23,11 +23,14 @@ pub record SendsObject (key : Key) (symbol block : ℕ) (content : List ℕ)
   pub told : flat_map (facts key.session.sender) datagrams
       ≡ facts_sent key (info_of symbol block content) content
 
--- the numbers are no information, or the first packet that is not written has this fault
+-- the numbers are no information, or the first packet that is not written has this fault; memory
+-- is asked for where neither is
 abbrev pub SendFails : Key → ℕ → ℕ → List ℕ → CommandFault → Type 0
 SendFails key symbol block content (BadInformation fault) =
     info_fault (info_of symbol block content) ≡ Some fault
 SendFails key symbol block content (CannotSend fault) =
     carousel_fault key (info_of symbol block content) content ≡ Some (Write fault)
-SendFails key symbol block content OutOfMemory = ⊤
+SendFails key symbol block content OutOfMemory =
+    (info_fault (info_of symbol block content) ≡ None)
+    × (carousel_fault key (info_of symbol block content) content ≡ None)
 SendFails key symbol block content _ = ⊥

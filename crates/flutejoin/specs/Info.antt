@@ -9,12 +9,13 @@ use Rattle.flute_journal.specs.Eithers.{either_behaviour}
 use Rattle.flute_journal.specs.FactStreams.{fact_behaviour}
 use Rattle.flute_journal.specs.Streams.{Behaviour}
 use Rattle.flute_journal.specs.Withins.{lent_within_behaviour}
-use Rattle.flute_journal.specs.Journal.{IsJournalWithin, journal_framing}
+use Rattle.flute_journal.specs.Journal.{IsJournalWithin}
+use Rattle.flute_journal.specs.JournalFraming.{journal_framing}
 use Rattle.flute_journal.specs.Framing.{HasFault}
 use Rattle.flutejoin.specs.declared.command_fault.CommandFault.{CommandFault}
 use Rattle.flutejoin.specs.declared.command_fault.CommandFault.TheVariants.{Input, Full, CannotWrite}
 use Rattle.flutejoin.specs.declared.limits.TheConstants.{MAX_ENTRIES}
-use Rattle.flutejoin.specs.Outputs.{WritesJournal}
+use Rattle.flute_journal.specs.JournalWriters.{WritesJournal}
 use Rattle.flutejoin.specs.Shelves.{IsOverShelf, BeginsOverShelf}
 
 -- the bytes are a journal of some entries, and the journal of them and of these facts was written,

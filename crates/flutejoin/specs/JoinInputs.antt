@@ -26,6 +26,10 @@ front_of input = take (peeked input).first.count (peeked input).first.bytes
 abbrev pub source_in : {R : Type 0} → JoinInput R → MutBor R
 source_in input = (peeked input).source
 
+-- how much of a journal was passed over
+abbrev pub passed_over : {R : Type 0} → JoinInput R → ℕ
+passed_over input = input.stream.others
+
 module _ {R : Type 0} (unread : R → Option (List ℕ)) where
   -- what a source has left: of the bytes that were read ahead, and after them
   abbrev pub left : PeekedSource R → Option (List ℕ)

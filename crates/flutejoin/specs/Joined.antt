@@ -1,14 +1,17 @@
 -- What the inputs of several stations tell together.
-use Rattle.std.specs.Prelude.{◌≡◌, ◌≢◌, ℕ, ◌+◌, List, [], ◌∷◌, ◌++◌, ◌≤◌, length, Option, Some, Bool, true, false, if◌then◌else◌, ⊤, ◌⊎◌}
+use Rattle.std.specs.Prelude.{◌≡◌, ◌≢◌, ℕ, ◌+◌, List, [], ◌∷◌, ◌++◌, ◌≤◌, length, Option, Some, None, Bool, true, false, if◌then◌else◌, not, ⊤, ◌⊎◌}
 use Rattle.std.specs.List.{flat_map, count_by, AllByRecursion}
 use Rattle.flute_parts.specs.Facts.{Same}
 use Rattle.flute_parts.specs.declared.fact.Fact.{Fact}
-use Rattle.flute_wire.specs.Reading.{facts}
-use Rattle.flute_journal.specs.Journal.{IsJournalWithin, journal_framing}
-use Rattle.flute_journal.specs.Sessions.{listed_tsis, chosen}
+use Rattle.flute_wire.specs.Content.{Content}
+use Rattle.flute_wire.specs.Reading.{packet, facts}
+use Rattle.flute_journal.specs.Journal.{IsJournalWithin}
+use Rattle.flute_journal.specs.JournalFraming.{journal_framing}
+use Rattle.flute_journal.specs.Sessions.{listed_tsis, takes, chosen, others_in}
 use Rattle.flute_journal.specs.declared.sessions.Sessions.{Sessions}
 use Rattle.flute_journal.specs.Stores.{BeginsWith}
-use Rattle.flute_journal.specs.Records.{IsFileWithin, file_framing}
+use Rattle.flute_journal.specs.Records.{IsFileWithin}
+use Rattle.flute_journal.specs.FileFraming.{file_framing}
 use Rattle.flute_journal.specs.Framing.{HasFault}
 use Rattle.flute_journal.specs.declared.fault.ReadFault.{ReadFault}
 use Rattle.flute_journal.specs.declared.fault.ReadFault.TheVariants.{Read}
@@ -53,6 +56,20 @@ content_facts choice (of_file datagrams) = flat_map (facts_by choice) datagrams
 abbrev pub content_datagrams : InputContent → List (List ℕ)
 content_datagrams (of_journal entries) = []
 content_datagrams (of_file datagrams) = datagrams
+
+-- it is a packet of a session that is not taken
+abbrev pub is_other_packet : List ℕ → Option Content → Bool
+is_other_packet tsis None = false
+is_other_packet tsis (Some content) = not (takes tsis content.tsi)
+
+-- the datagram is one; of a refused one it is not known
+abbrev pub is_of_others : Choice → List ℕ → Bool
+is_of_others choice datagram = is_other_packet choice.tsis (packet datagram)
+
+-- how much of an input is of sessions that are not taken: entries of a journal, packets of a file
+abbrev pub content_others : Choice → InputContent → ℕ
+content_others choice (of_journal entries) = others_in choice.tsis entries
+content_others choice (of_file datagrams) = count_by (is_of_others choice) datagrams
 
 -- the input is the journal of these facts, or the file of these datagrams
 abbrev pub Tells : List ℕ → InputContent → Type 0
@@ -116,6 +133,14 @@ abbrev pub IsFileAt : ReadFault → List ℕ → Type 0
 IsFileAt fault bytes =
     HasKind Datagrams bytes × HasFault file_framing MAX_ENTRIES (Some bytes) fault × (fault ≢ Read)
 
+-- a journal or a datagram file by its first bytes
+abbrev pub IsOfAKind : List ℕ → Type 0
+IsOfAKind bytes = HasKind Journal bytes ⊎ HasKind Datagrams bytes
+
+-- memory is asked for what an input tells, if it is of a kind and all before it are known
+abbrev pub WantsMemory : List (List ℕ) → Type 0
+WantsMemory inputs = (number : ℕ) × FirstInput HasKnownKind IsOfAKind number inputs
+
 -- why inputs were not joined: the first that is of no known kind, or a datagram file at fault; else
 -- the first that is a journal at fault, or over the limits alone; else all are over them together
 abbrev pub JoinFails : Choice → List (List ℕ) → CommandFault → Type 0
@@ -128,7 +153,7 @@ JoinFails choice inputs Full =
     AllByRecursion HasKnownKind inputs
     × (((number : ℕ) × FirstInput (TellsWithin choice) (IsOverAlone choice) number inputs)
     ⊎ (AllByRecursion (TellsWithin choice) inputs × TellOver choice inputs))
-JoinFails choice inputs OutOfMemory = ⊤
+JoinFails choice inputs OutOfMemory = WantsMemory inputs
 JoinFails choice inputs _ = ⊥
 
 -- What the parts of a join answer.
@@ -162,6 +187,8 @@ pub record HoldsDatagrams (choice : Choice) (file : HeldFile)
     (datagrams : List (List ℕ)) : Type 0 where
   pub few : file.told.datagrams ≤ length datagrams
   pub few_refused : file.told.refused ≤ file.told.datagrams
+  pub few_others : file.others ≤ file.told.datagrams
+  pub others : file.fits ≡ true → file.others ≡ count_by (is_of_others choice) datagrams
   pub holds : HoldsAll choice file.fits file.told datagrams
 
 -- why a datagram file was not held

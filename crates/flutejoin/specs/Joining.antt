@@ -1,12 +1,8 @@
 -- What a join of inputs writes and answers.
-use Rattle.std.specs.Prelude.{◌≡◌, ℕ, ◌^◌, ◌≤◌, true, false, List, length, slice_get, Option, Some, None, ⊤, ◌⊎◌}
+use Rattle.std.specs.Prelude.{◌≡◌, ℕ, ◌+◌, ◌^◌, ◌<◌, ◌≤◌, true, false, List, length, slice_get, Option, Some, None, ⊤, ◌⊎◌}
 use Rattle.std.specs.List.{flat_map, count_by, sum_by, AllByRecursion}
-use Rattle.std.specs.Io.KnownBytes.{Appends}
-use Rattle.flute_parts.specs.Facts.{SameMembers}
 use Rattle.flute_parts.specs.declared.fact.Fact.{Fact}
-use Rattle.flute_journal.specs.Format.{spelling}
-use Rattle.flute_journal.specs.Journal.{Journal, Collects}
-use Rattle.flute_journal.specs.JournalWriters.{Written}
+use Rattle.flute_journal.specs.JournalWriters.{PutsJournal, WritesJournal}
 use Rattle.flute_journal.specs.Kinds.{HasKind, IsNeither}
 use Rattle.flute_journal.specs.Records.{IsFileWithin}
 use Rattle.flute_journal.specs.Sessions.{listed_tsis}
@@ -23,7 +19,7 @@ use Rattle.flute_journal.specs.declared.fault.ReadFault.TheVariants.{Read}
 use Rattle.flute_journal.specs.declared.kind.Kind.TheVariants as kinds
 use Rattle.flute_journal.specs.declared.all_streams.MergedJournal.{MergedJournal}
 use Rattle.flutejoin.specs.JoinInputs.{JoinInput, peeked, left, input_behaviour}
-use Rattle.flutejoin.specs.Joined.{Choice, InputContent, content_facts, content_datagrams, TellAll, TellsWithin, FirstInput, HasKnownKind, JoinFails, HoldsDatagrams, FileFails}
+use Rattle.flutejoin.specs.Joined.{Choice, InputContent, content_facts, content_datagrams, content_others, TellAll, TellsWithin, FirstInput, HasKnownKind, JoinFails, WantsMemory, HoldsDatagrams, FileFails}
 use Rattle.flutejoin.specs.Refused.{is_refused}
 use Rattle.flutejoin.specs.Shelves.{IsOverShelf}
 use Rattle.flutejoin.specs.declared.command_fault.CommandFault.{CommandFault}
@@ -34,21 +30,15 @@ use Rattle.flutejoin.specs.declared.limits.TheConstants.{MAX_ENTRIES}
 use Rattle.flutejoin.specs.declared.inspecting.Inspected.{Inspected}
 
 -- Each input tells some facts. The journal of all of them was appended, and the numbers are right.
--- Whatever other facts have the same members, in any order, however often and however grouped:
--- that is their journal too.
 pub record JoinsTo (choice : Choice) (inputs : List (List ℕ)) (counts : JoinCounts)
     (old new : Option (List ℕ)) : Type 0 where
   pub told : List InputContent
   pub tell : TellAll inputs told
-  pub entries : List Fact
-  pub collects : Collects (flat_map (content_facts choice) told) entries
   pub within : ¬ IsOverShelf (flat_map (content_facts choice) told)
-  pub count : counts.entries ≡ length entries
+  pub writes : WritesJournal old new (flat_map (content_facts choice) told) counts.entries
   pub datagrams : counts.datagrams ≡ length (flat_map content_datagrams told)
   pub refused : counts.refused ≡ count_by is_refused (flat_map content_datagrams told)
-  pub appended : Appends old new (spelling entries)
-  pub as_others : (others : List Fact) → SameMembers (flat_map (content_facts choice) told) others
-      → (bytes : List ℕ) → Journal bytes others → Appends old new bytes
+  pub others : counts.others ≡ sum_by (content_others choice) told
 
 -- each tells facts within the limits of a store, and so do all together
 pub record AllTell (choice : Choice) (inputs : List (List ℕ)) : Type 0 where
@@ -95,14 +85,14 @@ pub data InspectionFails (number : ℕ) (bytes : List ℕ) (fault : CommandFault
   of_file : HasKind kinds.Datagrams bytes → FileFails number (Some bytes) fault
       → InspectionFails number bytes fault
 
--- so it is with an input, and those before it are known; or there was no memory
+-- so it is with an input, and those before it are known; or there was no memory for what was found
 abbrev pub SomeInspectionFails : List (List ℕ) → CommandFault → Type 0
 SomeInspectionFails inputs fault =
     ((number : ℕ)
     × FirstInput HasKnownKind (λ bytes. InspectionFails number bytes fault) number inputs)
-    ⊎ (fault ≡ OutOfMemory)
+    ⊎ ((fault ≡ OutOfMemory) × WantsMemory inputs)
 
--- how many datagrams a file has, and refused ones
+-- how many datagrams a file has, refused ones, and ones of sessions that are not taken
 abbrev pub datagrams_of : Option HeldFile → ℕ
 datagrams_of None = 0
 datagrams_of (Some file) = file.told.datagrams
@@ -111,14 +101,21 @@ abbrev pub refused_of : Option HeldFile → ℕ
 refused_of None = 0
 refused_of (Some file) = file.told.refused
 
--- a file has at most 16,777,216 datagrams, and no more are refused than there are
+abbrev pub passed_of : Option HeldFile → ℕ
+passed_of None = 0
+passed_of (Some file) = file.others
+
+-- a file has at most 16,777,216 datagrams, and no more are refused, or of others, than there are
 abbrev pub IsFew : Option HeldFile → Type 0
-IsFew file = (datagrams_of file ≤ MAX_ENTRIES) × (refused_of file ≤ datagrams_of file)
+IsFew file =
+    (datagrams_of file ≤ MAX_ENTRIES) × (refused_of file ≤ datagrams_of file)
+    × (passed_of file ≤ datagrams_of file)
 
 -- the numbers are those of all the files
 pub record SumsUp (inspected : Inspected) : Type 0 where
   pub datagrams : inspected.datagrams ≡ sum_by datagrams_of inspected.files.items
   pub refused : inspected.refused ≡ sum_by refused_of inspected.files.items
+  pub others : inspected.others ≡ sum_by passed_of inspected.files.items
 
 module _ {R : Type 0} (unread : R → Option (List ℕ)) where
   -- an input was inspected: a datagram file is held, and a journal is still to be read
@@ -138,13 +135,15 @@ module _ {R : Type 0} (unread : R → Option (List ℕ)) where
         → slice_get contents k ≡ Some bytes → IsInspected choice input file bytes
 
   module _ (failures : R → ℕ) where
-    -- of an input that is no datagram file, nothing was read as a journal
+    -- nothing was passed over, and of an input that is no datagram file nothing was read as a
+    -- journal
     abbrev pub IsReady : JoinInput R → Option HeldFile → Type 0
     IsReady input file =
-        file ≡ None
+        (input.stream.others ≡ 0)
+        × (file ≡ None
         → IsNew (input_behaviour unread failures) input
         × ((input_behaviour unread failures).most input ≡ MAX_ENTRIES)
-        × (input.stream.stream.max_entries ≡ MAX_ENTRIES)
+        × (input.stream.stream.max_entries ≡ MAX_ENTRIES))
 
     pub record AreReady (inputs : List (JoinInput R))
         (files : List (Option HeldFile)) : Type 0 where
@@ -152,20 +151,19 @@ module _ {R : Type 0} (unread : R → Option (List ℕ)) where
       pub each : (k : ℕ) (input : JoinInput R) (file : Option HeldFile)
           → slice_get inputs k ≡ Some input → slice_get files k ≡ Some file → IsReady input file
 
--- inputs that were inspected were joined
+-- inputs that were inspected were joined, and so many entries of journals were passed over
 pub record JoinsInspected (choice : Choice) (contents : List (List ℕ))
-    (files : List (Option HeldFile)) (joined : MergedJournal)
+    (files : List (Option HeldFile)) (passed : ℕ) (joined : MergedJournal)
     (old new : Option (List ℕ)) : Type 0 where
   pub told : List InputContent
   pub tell : TellAll contents told
   pub alone : AllByRecursion (TellsWithin choice) contents
-  pub entries : List Fact
-  pub collects : Collects (flat_map (content_facts choice) told) entries
-  pub count : joined.entries ≡ length entries
+  pub puts : PutsJournal joined.cut old new (flat_map (content_facts choice) told) joined.entries
   pub limits : IsWithinLimits 64 4096 1048576 (flat_map (content_facts choice) told) joined.within
-  pub written : Written joined.cut old new (spelling entries)
   pub datagrams : sum_by datagrams_of files ≡ length (flat_map content_datagrams told)
   pub refused : sum_by refused_of files ≡ count_by is_refused (flat_map content_datagrams told)
+  pub others : passed + sum_by passed_of files ≡ sum_by (content_others choice) told
+  pub few : sum_by (content_others choice) told < 2 ^ 64
 
 -- Streams of what was inspected.
 

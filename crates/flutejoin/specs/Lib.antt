@@ -27,8 +27,10 @@ pub mod Joined
 pub mod Begins
 pub mod JoinInputs
 pub mod Joining
+pub mod JoinTrees
 pub mod Sources
 pub mod Memory
 pub mod Info
 pub mod Listing
 pub mod Gaps
+pub mod CommandLine

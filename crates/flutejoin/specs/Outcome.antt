@@ -7,7 +7,7 @@ use Rattle.flute_wire.specs.Reading.{facts}
 use Rattle.flute_store.specs.Held.{HasCell}
 use Rattle.flute_journal.specs.declared.fault.ReadFault.{ReadFault}
 use Rattle.flute_journal.specs.Framing.{Stops}
-use Rattle.flute_journal.specs.Journal.{journal_framing}
+use Rattle.flute_journal.specs.JournalFraming.{journal_framing}
 use Rattle.flute_journal.specs.Stores.{BeginsOver}
 use Rattle.flutejoin.specs.declared.steps.Step.{Step}
 use Rattle.flutejoin.specs.declared.steps.Step.TheVariants.{Take, Load, Add, Merge, Reopen}

@@ -1,5 +1,5 @@
 -- What is written of a replica after a run.
-use Rattle.std.specs.Prelude.{◌≡◌, ◌<◌, ◌≤◌, ℕ, List, length, Option, ⊤, Result, Ok, Err}
+use Rattle.std.specs.Prelude.{◌≡◌, ◌<◌, ◌≤◌, ℕ, List, Option, ⊤, Result, Ok, Err}
 use Rattle.std.specs.Io.KnownBytes.{Appends}
 use Rattle.flute_parts.specs.declared.key.Key.{Key}
 use Rattle.flute_parts.specs.declared.fact.Fact.{Fact}
@@ -7,6 +7,7 @@ use Rattle.flute_parts.specs.Facts.{SameMembers}
 use Rattle.flute_parts.specs.Devices.{AppendsPart}
 use Rattle.flute_store.specs.Extract.{WritesWhole, TellsExtractFault}
 use Rattle.flute_journal.specs.Journal.{Journal}
+use Rattle.flute_journal.specs.JournalWriters.{WritesJournal}
 use Rattle.flutejoin.specs.declared.steps.Step.{Step}
 use Rattle.flute_store.specs.declared.extract.ExtractFault.TheVariants as extract
 use Rattle.flutejoin.specs.declared.outputs.OutputFault.{OutputFault}
@@ -14,13 +15,6 @@ use Rattle.flutejoin.specs.declared.outputs.OutputFault.TheVariants.{Run, NoRepl
 use Rattle.flutejoin.specs.Held.{Capacity}
 use Rattle.flutejoin.specs.Known.{Fits, known_by}
 use Rattle.flutejoin.specs.Runs.{IsRunRefused, StopsAtNeed}
-
--- the journal of these facts was written, of so many entries
-pub record WritesJournal (old new : Option (List ℕ)) (F : List Fact) (count : ℕ) : Type 0 where
-  pub bytes : List ℕ
-  pub journal : Journal bytes F
-  pub entries : count ≡ length journal.0
-  pub appended : Appends old new bytes
 
 module _ {W : Type 0} (written : W → Option (List ℕ)) (F : List Fact) (old new : W) where
   -- the journal of these facts was written, or after a failed write a first part of it, or nothing

@@ -1,5 +1,5 @@
 -- What the command `packet` answers and writes.
-use Rattle.std.specs.Prelude.{◌≡◌, ℕ, List, Option, Result, Ok, Err, ⊤}
+use Rattle.std.specs.Prelude.{◌≡◌, ℕ, ◌%◌, List, length, Option, Result, Ok, Err}
 use Rattle.std.specs.Io.KnownBytes.{Keeps}
 use Rattle.hex.specs.Hex.{decode_of}
 use Rattle.flute_parts.specs.Devices.{AppendsPart}
@@ -28,18 +28,19 @@ pub record HasRefusal (text : List ℕ) (P : List ℕ → Type 0) : Type 0 where
   pub hex : IsHexOf text datagram
   pub refused : P datagram
 
--- why it failed, and what was written: nothing, or after a failed write a first part of the lines
+-- why it failed, and what was written: nothing, or after a failed write a first part of the lines;
+-- memory is asked for the bytes of an even number of digits
 abbrev pub FailsWith : List ℕ → Option (List ℕ) → Option (List ℕ) → CommandFault → Type 0
 FailsWith text old new BadHex = ((bytes : List ℕ) → ¬ IsHexOf text bytes) × Keeps old new
 FailsWith text old new (Refused r) = HasRefusal text (λ d. Refuses d r) × Keeps old new
-FailsWith text old new OutOfMemory = Keeps old new
+FailsWith text old new OutOfMemory = (length text % 2 ≡ 0) × Keeps old new
 FailsWith text old new CannotWrite = HasLines text (AppendsPart old new)
 FailsWith text old new _ = ⊥
 
 -- why a text gave no bytes
 abbrev pub IsHexFault : List ℕ → CommandFault → Type 0
 IsHexFault text BadHex = (bytes : List ℕ) → ¬ IsHexOf text bytes
-IsHexFault text OutOfMemory = ⊤
+IsHexFault text OutOfMemory = length text % 2 ≡ 0
 IsHexFault text _ = ⊥
 
 -- a failed write is the one failure of a device that it answers

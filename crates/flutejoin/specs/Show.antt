@@ -7,8 +7,8 @@ use Rattle.flute_parts.specs.declared.fact.Fact.{Fact}
 use Rattle.flute_journal.specs.declared.fault.ReadFault.{ReadFault}
 use Rattle.flute_journal.specs.Format.{without_end_in}
 use Rattle.flute_journal.specs.Input.{Fails}
-use Rattle.flute_journal.specs.Framing.{AreItems}
-use Rattle.flute_journal.specs.Journal.{journal_framing, IsJournalWithin}
+use Rattle.flute_journal.specs.Frame.{AreItems}
+use Rattle.flute_journal.specs.Journal.{IsJournalWithin, journal_frame}
 use Rattle.flute_journal.specs.Whole.{StopsAfter}
 use Rattle.flutejoin.specs.declared.limits.TheConstants.{MAX_ENTRIES}
 use Rattle.flutejoin.specs.Lines.{fact_line, entries_line}
@@ -32,14 +32,14 @@ pub record ShowsAll (input old new : Option (List ℕ)) : Type 0 where
 -- the lines of the entries that were read before a fault were written, and no more
 pub record ShowsUntil (input left old new : Option (List ℕ)) (fault : ReadFault) : Type 0 where
   pub entries : List Fact
-  pub are_items : AreItems journal_framing MAX_ENTRIES entries
+  pub are_items : AreItems journal_frame MAX_ENTRIES entries
   pub stops : StopsAfter MAX_ENTRIES entries input left fault
   pub written : Appends old new (entry_lines entries)
 
 -- a first part of the lines was written, and not all: of the entries that were read,
 -- or of a whole journal
 pub data ShowsPart (input left old new : Option (List ℕ)) : Type 0 where
-  of_entries : (entries : List Fact) → (a : AreItems journal_framing MAX_ENTRIES entries)
+  of_entries : (entries : List Fact) → (a : AreItems journal_frame MAX_ENTRIES entries)
       → Consumes input left (without_end_in a.told entries)
       → AppendsPart old new (entry_lines entries)
       → ShowsPart input left old new

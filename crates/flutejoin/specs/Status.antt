@@ -1,7 +1,7 @@
 -- The program's status after a fault.
 use Rattle.std.specs.Prelude.{ℕ, ⊤, ◌≤◌, length}
 use Rattle.flutejoin.specs.declared.command_fault.CommandFault.{CommandFault}
-use Rattle.flutejoin.specs.declared.command_fault.CommandFault.TheVariants.{CommandLine, NotText, BadNumber, BadSource, BadKey, TooManyInputs, OutputIsInput, BadInformation, BadHex, Refused, CannotSend, TooLarge, CannotOpen, Input, UnknownKind, Full, NoObject, NoInformation, ConflictingInformation, NotWhole, OutOfMemory, CannotCreate, CannotWrite}
+use Rattle.flutejoin.specs.declared.command_fault.CommandFault.TheVariants.{CommandLine, NotText, BadNumber, BadSource, BadKey, TooManyInputs, OutputIsInput, OutputIsDatagrams, OutputIsJournal, BadInformation, BadHex, Refused, CannotSend, TooLarge, CannotOpen, Input, UnknownKind, Full, NoObject, NoInformation, ConflictingInformation, NotWhole, OutOfMemory, CannotCreate, CannotWrite, NotOnDisk}
 use Rattle.flutejoin.specs.declared.command_line.Line.{Line}
 use Rattle.flutejoin.specs.declared.command_line.Line.TheVariants.{Join}
 use Rattle.flute_journal.specs.declared.fault.ReadFault.{ReadFault}
@@ -26,6 +26,8 @@ exit_status BadSource = 2
 exit_status BadKey = 2
 exit_status TooManyInputs = 2
 exit_status OutputIsInput = 2
+exit_status OutputIsDatagrams = 2
+exit_status OutputIsJournal = 2
 exit_status (BadInformation fault) = 1
 exit_status (CannotSend fault) = 1
 exit_status (TooLarge number) = 1
@@ -42,6 +44,7 @@ exit_status (NotWhole sbn esi) = 1
 exit_status OutOfMemory = 3
 exit_status CannotCreate = 3
 exit_status CannotWrite = 3
+exit_status NotOnDisk = 3
 
 -- the faults of reading a command line
 abbrev pub IsLineFault : CommandFault → Type 0
@@ -62,7 +65,7 @@ of_blob number blobs.OutOfMemory = OutOfMemory
 
 -- no more inputs than are joined
 abbrev pub HasFewInputs : Line → Type 0
-HasFewInputs (Join out sender sessions inputs) = length inputs.items ≤ 64
+HasFewInputs (Join out force sender sessions inputs) = length inputs.items ≤ 64
 HasFewInputs _ = ⊤
 
 -- what the fault of a journal with this number, read into a store, is

@@ -1,7 +1,7 @@
 //! Sources that are joined as they are.
-ghost use Rattle.std.specs.Prelude.{◌≡◌, ◌≤◌, ◌+◌, List, ℕ, length, OnOk, IfOk, IfErr};
+ghost use Rattle.std.specs.Prelude.{◌≡◌, ◌≤◌, ◌+◌, ◌⊎◌, List, ℕ, length, OnOk, IfOk, IfErr};
 ghost use Rattle.flute_journal.specs.StreamMerges.{AppendsNoJournal};
-ghost use Rattle.flutejoin.specs.declared.command_fault.CommandFault.TheVariants.{CannotWrite};
+ghost use Rattle.flutejoin.specs.declared.command_fault.CommandFault.TheVariants.{OutOfMemory, CannotWrite};
 ghost use Rattle.flutejoin.specs.Joined.{choice_of};
 ghost use Rattle.flutejoin.specs.Joining.{JoinsTo, JoinToFails, NamesOneOf};
 ghost use Rattle.flutejoin.specs.Sources.{AreBegun};
@@ -42,9 +42,11 @@ pub fn join_sources<R: Source + Drop, W: Sink>(
         (λ counts. JoinsTo (choice_of sender sessions.now) contents counts
         (W.written sink.old) (W.written sink.new)) }
     ensures failed { (contents : List (List ℕ)) → AreBegun R.unread sources.items contents
-        → IfErr result (JoinToFails (choice_of sender sessions.now) contents) }
+        → IfErr result (λ fault. (fault ≡ OutOfMemory)
+        ⊎ JoinToFails (choice_of sender sessions.now) contents fault) }
     ensures short { IfErr result
         (λ _. AppendsNoJournal (W.written sink.old) (W.written sink.new)) }
+    ensures kept { IfErr result (λ fault. fault ≡ OutOfMemory → sink.new ≡ sink.old) }
     ensures names { IfErr result (NamesOneOf (length sources.items)) }
     ensures sink_failures { OnOk result (W.failures sink.new ≡ W.failures sink.old) }
     ensures write_failed { IfErr result

@@ -23,7 +23,7 @@ pub enum CommandFault {
     /// not within its range.
     #[error("bad number: --{0}")]
     BadNumber(&'static str),
-    /// The value of `--source` is not 32 or 8 hexadecimal digits.
+    /// The value of `--source` is neither 32 or 8 hexadecimal digits nor an address.
     #[error("bad source")]
     BadSource,
     /// The TOI is 0 and no FDT Instance is named, or it is another and one is.
@@ -32,9 +32,15 @@ pub enum CommandFault {
     /// `join` was given more than 64 inputs.
     #[error("too many inputs")]
     TooManyInputs,
-    /// The output has the same name as an input.
+    /// The output is an input.
     #[error("output is an input")]
     OutputIsInput,
+    /// The output is there, and begins as a datagram file.
+    #[error("output is a datagram file")]
+    OutputIsDatagrams,
+    /// The output is there, and begins as a journal, which the command does not write.
+    #[error("output is a journal")]
+    OutputIsJournal,
     /// Numbers are no transmission information.
     #[error("bad information: {0}")]
     BadInformation(InfoFault),
@@ -85,6 +91,10 @@ pub enum CommandFault {
     /// The output could not be written.
     #[error("cannot write")]
     CannotWrite,
+    /// The output was written, and the disk did not tell that it has its name: a lost power may
+    /// leave what was there before.
+    #[error("output may not be on the disk")]
+    NotOnDisk,
 }
 
 impl CommandFault {
@@ -104,10 +114,12 @@ impl CommandFault {
             CommandFault::CommandLine(_) | CommandFault::NotText => 2,
             CommandFault::BadNumber(_) | CommandFault::BadSource | CommandFault::BadKey => 2,
             CommandFault::TooManyInputs | CommandFault::OutputIsInput => 2,
+            CommandFault::OutputIsDatagrams | CommandFault::OutputIsJournal => 2,
             CommandFault::Input(_, ReadFault::Read | ReadFault::OutOfMemory) => 3,
             CommandFault::Input(..) | CommandFault::UnknownKind(_) => 1,
             CommandFault::CannotOpen(_) | CommandFault::CannotCreate => 3,
-            CommandFault::OutOfMemory | CommandFault::CannotWrite => 3,
+            CommandFault::OutOfMemory => 3,
+            CommandFault::CannotWrite | CommandFault::NotOnDisk => 3,
         }
     }
 }

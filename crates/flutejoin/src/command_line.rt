@@ -1,11 +1,18 @@
 //! The command line.
-ghost use Rattle.std.specs.Prelude.{IfOk, IfErr};
+ghost use Rattle.std.specs.Prelude.{◌≡◌, ◌≤◌, IfOk, IfErr, MatchResult, Some, codes, length};
+ghost use Rattle.clap.specs.Simple.{subcommand_rows_of};
+ghost use Rattle.flutejoin.specs.CommandLine.{HasSource, IsJoinFault, IsKeyFault, IsLine};
+ghost use Rattle.flutejoin.specs.CommandLine.{IsMergeFault, IsZero, carousel_options, found_rows};
+ghost use Rattle.flutejoin.specs.CommandLine.{IsFaultOf, IsLineOf, IsManyInputs, info_options};
+ghost use Rattle.flutejoin.specs.CommandLine.{key_options};
 ghost use Rattle.flutejoin.specs.Status.{HasFewInputs, IsLineFault};
 
 use crate::command_fault::CommandFault;
+use crate::key_numbers::KeyNumbers;
 use crate::limits::MAX_INPUTS;
-use crate::numbers::{key_numbers, number_below, sessions, source};
+use crate::numbers::{number_below, sessions, source};
 use crate::parser::command;
+use crate::words::{flag, text};
 use clap::ArgMatches;
 use clap::error::ErrorKind;
 use flute_journal::Sessions;
@@ -15,7 +22,8 @@ use std::alloc::Global;
 /// The word for standard output as an output, and for standard input as an input.
 const STANDARD: &str = "-";
 
-/// What the program is to do. Its texts are words of the command line.
+/// What the program is to do. Its texts are words of the command line. With `force`, `out` is
+/// written even if it is a file that the command does not overwrite otherwise.
 #[derive(Debug, Drop, PartialEq, Eq)]
 pub enum Line<'a> {
     /// Print what the datagram `hex` says.
@@ -33,12 +41,14 @@ pub enum Line<'a> {
     /// Write the object `key` of the journal `j` to the file `out`.
     Extract {
         out: &'a str,
+        force: bool,
         key: Key,
         j: &'a str,
     },
     /// Write the journal `j` with this information of the object `key` added to the file `out`.
     Info {
         out: &'a str,
+        force: bool,
         key: Key,
         length: u64,
         symbol: u16,
@@ -49,6 +59,7 @@ pub enum Line<'a> {
     /// into the journal `out`. The datagrams of the files are of this sender.
     Join {
         out: &'a str,
+        force: bool,
         sender: Sender,
         sessions: Sessions,
         inputs: Vec<&'a str>,
@@ -56,6 +67,7 @@ pub enum Line<'a> {
     /// Merge the journals `a` and `b` into the journal `out`.
     Merge {
         out: &'a str,
+        force: bool,
         a: &'a str,
         b: &'a str,
     },
@@ -63,6 +75,7 @@ pub enum Line<'a> {
     /// datagram file `out`.
     Carousel {
         out: &'a str,
+        force: bool,
         key: Key,
         symbol: u16,
         block: u32,
@@ -77,15 +90,24 @@ pub enum Line<'a> {
 /// `CommandLine` with the parser's text if that refuses the words, or if they ask for help or
 /// the version; `BadNumber` with the first option, in the order `--tsi`, `--toi`, `--fdt`,
 /// `--length`, `--symbol`, `--block`, that is not a number of its range, or with `--tsi` if
-/// `join` has it more than 64 times; `BadSource` if `--source` is not 32 or 8 hexadecimal
-/// digits; `BadKey` if `--fdt` does not go with `--toi`; `TooManyInputs` if `join` has more
-/// than 64 inputs; `OutputIsInput` if `merge` is to write one of its inputs; and `OutOfMemory`.
+/// `join` has it more than 64 times; `BadSource` if `--source` is neither 32 or 8 hexadecimal
+/// digits nor an address; `BadKey` if `--fdt` does not go with `--toi`; `TooManyInputs` if `join`
+/// has more than 64 inputs; `OutputIsInput` if `merge` is to write one of its inputs; and
+/// `OutOfMemory`.
 pub fn line_of(alloc: Global, words: &[String]) -> Result<Line<'_>, CommandFault>
     ensures few { IfOk result HasFewInputs }
     ensures fault { IfErr result IsLineFault }
 {
     let command = command(alloc).map_err(parser_fault)?;
     let matches = command.try_get_matches_from(words).map_err(parser_fault)?;
+    line_in(alloc, &matches)
+}
+
+// The line that is told by what the parser found.
+fn line_in<'a>(alloc: Global, matches: &ArgMatches<'a>) -> Result<Line<'a>, CommandFault>
+    ensures line { IfOk result (IsLineOf (subcommand_rows_of matches.now)) }
+    ensures fault { IfErr result (IsFaultOf (subcommand_rows_of matches.now)) }
+{
     match matches.subcommand() {
         Some(("packet", matches)) => Ok(Line::Packet {
             hex: text(matches, "HEX"),
@@ -98,7 +120,7 @@ pub fn line_of(alloc: Global, words: &[String]) -> Result<Line<'_>, CommandFault
         }),
         Some(("extract", matches)) => extract_of(matches),
         Some(("info", matches)) => info_of(matches),
-        Some(("join", matches)) => join_of(alloc, matches),
+        Some(("join", matches)) => join_line(alloc, matches),
         Some(("merge", matches)) => merge_of(matches),
         Some(("carousel", matches)) => carousel_of(matches),
         // The parser takes no line without a command, and no other command.
@@ -107,28 +129,36 @@ pub fn line_of(alloc: Global, words: &[String]) -> Result<Line<'_>, CommandFault
 }
 
 fn extract_of<'a>(matches: &ArgMatches<'a>) -> Result<Line<'a>, CommandFault>
-    ensures few { IfOk result HasFewInputs }
-    ensures fault { IfErr result IsLineFault }
+    ensures { let rows = found_rows matches.now in
+        MatchResult result (IsLine (codes "extract") rows)
+        (IsKeyFault (key_options rows) (HasSource rows) rows) }
 {
-    let numbers = key_numbers(matches)?;
+    let numbers = KeyNumbers::of(matches)?;
+    let sender = source(matches)?;
+    let key = numbers.key(sender)?;
     Ok(Line::Extract {
         out: text(matches, "OUT"),
-        key: numbers.key(source(matches)?)?,
+        force: flag(matches, "force"),
+        key,
         j: text(matches, "J"),
     })
 }
 
 fn info_of<'a>(matches: &ArgMatches<'a>) -> Result<Line<'a>, CommandFault>
-    ensures few { IfOk result HasFewInputs }
-    ensures fault { IfErr result IsLineFault }
+    ensures { let rows = found_rows matches.now in
+        MatchResult result (IsLine (codes "info") rows)
+        (IsKeyFault (info_options rows) (HasSource rows) rows) }
 {
-    let numbers = key_numbers(matches)?;
+    let numbers = KeyNumbers::of(matches)?;
     let length = number_below(matches, "length", 1 << 64)? as u64;
     let symbol = number_below(matches, "symbol", 1 << 16)? as u16;
     let block = number_below(matches, "block", 1 << 32)? as u32;
+    let sender = source(matches)?;
+    let key = numbers.key(sender)?;
     Ok(Line::Info {
         out: text(matches, "OUT"),
-        key: numbers.key(source(matches)?)?,
+        force: flag(matches, "force"),
+        key,
         length,
         symbol,
         block,
@@ -136,30 +166,44 @@ fn info_of<'a>(matches: &ArgMatches<'a>) -> Result<Line<'a>, CommandFault>
     })
 }
 
+// The line of a join, as `line_in` tells it.
+fn join_line<'a>(alloc: Global, matches: &ArgMatches<'a>) -> Result<Line<'a>, CommandFault>
+    ensures line { IfOk result (IsLine (codes "join") (found_rows matches.now)) }
+    ensures fault { IfErr result (IsFaultOf (Some (codes "join", found_rows matches.now))) }
+{
+    join_of(alloc, matches)
+}
+
 fn join_of<'a>(alloc: Global, matches: &ArgMatches<'a>) -> Result<Line<'a>, CommandFault>
-    ensures few { IfOk result HasFewInputs }
-    ensures fault { IfErr result IsLineFault }
+    ensures { let rows = found_rows matches.now in
+        MatchResult result (IsLine (codes "join") rows) (IsJoinFault rows) }
 {
     let sessions = sessions(matches)?;
     let sender = source(matches)?;
-    let inputs = matches.get_strs("INPUT").unwrap_or(&[]);
+    let inputs = inputs_of(alloc, matches.get_strs("INPUT").unwrap_or(&[]))?;
+    Ok(Line::Join {
+        out: text(matches, "OUT"),
+        force: flag(matches, "force"),
+        sender,
+        sessions,
+        inputs,
+    })
+}
+
+// The inputs of a join, at most 64.
+fn inputs_of<'a>(alloc: Global, inputs: &[&'a str]) -> Result<Vec<&'a str>, CommandFault>
+    ensures { MatchResult result (λ taken. (taken.items ≡ inputs.now) × (length taken.items ≤ 64))
+        (IsManyInputs (length inputs.now)) }
+{
     if inputs.len() > MAX_INPUTS {
         return Err(CommandFault::TooManyInputs);
     }
-    match inputs.to_vec(alloc) {
-        Ok(inputs) => Ok(Line::Join {
-            out: text(matches, "OUT"),
-            sender,
-            sessions,
-            inputs,
-        }),
-        Err(_) => Err(CommandFault::OutOfMemory),
-    }
+    inputs.to_vec(alloc).map_err(|_| CommandFault::OutOfMemory)
 }
 
 fn merge_of<'a>(matches: &ArgMatches<'a>) -> Result<Line<'a>, CommandFault>
-    ensures few { IfOk result HasFewInputs }
-    ensures fault { IfErr result IsLineFault }
+    ensures { let rows = found_rows matches.now in
+        MatchResult result (IsLine (codes "merge") rows) (IsMergeFault rows) }
 {
     let out = text(matches, "OUT");
     let a = text(matches, "A");
@@ -167,19 +211,23 @@ fn merge_of<'a>(matches: &ArgMatches<'a>) -> Result<Line<'a>, CommandFault>
     if out != STANDARD && (out == a || out == b) {
         return Err(CommandFault::OutputIsInput);
     }
-    Ok(Line::Merge { out, a, b })
+    let force = flag(matches, "force");
+    Ok(Line::Merge { out, force, a, b })
 }
 
 fn carousel_of<'a>(matches: &ArgMatches<'a>) -> Result<Line<'a>, CommandFault>
-    ensures few { IfOk result HasFewInputs }
-    ensures fault { IfErr result IsLineFault }
+    ensures { let rows = found_rows matches.now in
+        MatchResult result (IsLine (codes "carousel") rows)
+        (IsKeyFault (carousel_options rows) IsZero rows) }
 {
-    let numbers = key_numbers(matches)?;
+    let numbers = KeyNumbers::of(matches)?;
     let symbol = number_below(matches, "symbol", 1 << 16)? as u16;
     let block = number_below(matches, "block", 1 << 32)? as u32;
+    let key = numbers.key(Sender::new(0))?;
     Ok(Line::Carousel {
         out: text(matches, "OUT"),
-        key: numbers.key(Sender::new(0))?,
+        force: flag(matches, "force"),
+        key,
         symbol,
         block,
         file: text(matches, "FILE"),
@@ -193,9 +241,4 @@ fn parser_fault(error: clap::Error) -> CommandFault
         ErrorKind::OutOfMemory => CommandFault::OutOfMemory,
         _ => CommandFault::CommandLine(error),
     }
-}
-
-// The text of a required argument.
-fn text<'a>(matches: &ArgMatches<'a>, id: &str) -> &'a str {
-    matches.get_str(id).unwrap_or("")
 }

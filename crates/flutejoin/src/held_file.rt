@@ -5,7 +5,7 @@ ghost use Rattle.flutejoin.specs.declared.limits.TheConstants.{MAX_ENTRIES};
 ghost use Rattle.flutejoin.specs.declared.command_fault.CommandFault.TheVariants as faults;
 ghost use Rattle.flute_journal.specs.Sessions.{listed_tsis, chosen};
 ghost use Rattle.flute_wire.specs.Reading.{facts};
-ghost use Rattle.flutejoin.specs.Joined.{Choice, choice_of, HoldsDatagrams, FileFails};
+ghost use Rattle.flutejoin.specs.Joined.{Choice, choice_of, is_of_others, HoldsDatagrams, FileFails};
 ghost use Rattle.flutejoin.specs.Refused.{is_refused};
 ghost use Rattle.flutejoin.specs.Show.{FailsToRead};
 
@@ -53,6 +53,7 @@ impl HeldFile {
     ) -> Result<(), CommandFault>
         requires datagrams { self.now.told.datagrams + 1 < 2 ^ 64 }
         requires refused { self.now.told.refused ≤ self.now.told.datagrams }
+        requires others { self.now.others ≤ self.now.told.datagrams }
         ensures taken { OnOk result ((before : List (List ℕ))
             → HoldsDatagrams (choice_of sender sessions.now) self.old before
             → HoldsDatagrams (choice_of sender sessions.now) self.new
@@ -64,7 +65,7 @@ impl HeldFile {
         }
         if is_of_others(sessions, datagram) {
             self.told.datagrams += 1;
-            self.others = self.others.saturating_add(1);
+            self.others += 1;
             return Ok(());
         }
         match self.told.take(alloc, sender, datagram) {
@@ -82,6 +83,8 @@ fn is_of_others(sessions: &Sessions, datagram: &[u8]) -> bool
     ensures others { result ≡ true → (sender : ℕ)
         → chosen (listed_tsis sessions.now) (facts sender datagram.now) ≡ [] }
     ensures packet { result ≡ true → is_refused datagram.now ≡ false }
+    ensures exact { (sender : ℕ)
+        → result ≡ is_of_others (choice_of sender sessions.now) datagram.now }
     ensures taken { result ≡ false → (sender : ℕ)
         → chosen (listed_tsis sessions.now) (facts sender datagram.now)
         ≡ facts sender datagram.now }
@@ -116,6 +119,7 @@ pub(crate) fn read_file<R: Source>(
         × HoldsDatagrams (choice_of sender sessions.now) file datagrams)) }
     ensures datagrams { IfOk result (λ file. file.told.datagrams ≤ MAX_ENTRIES) }
     ensures refused { IfOk result (λ file. file.told.refused ≤ file.told.datagrams) }
+    ensures others { IfOk result (λ file. file.others ≤ file.told.datagrams) }
     ensures failed { IfErr result (FileFails number (R.unread source.old)) }
     ensures failures { FailsToRead (R.failures source.old) (R.failures source.new) result }
 {

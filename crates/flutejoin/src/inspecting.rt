@@ -6,7 +6,7 @@ ghost use Rattle.flutejoin.specs.declared.command_fault.CommandFault.TheVariants
 ghost use Rattle.flutejoin.specs.declared.limits.TheConstants.{MAX_ENTRIES};
 ghost use Rattle.flutejoin.specs.JoinInputs.{IsInput, AreInputs, peeked, front_of, input_behaviour, failures_of, NoneFailed, OneFailed};
 ghost use Rattle.flutejoin.specs.Joined.{choice_of};
-ghost use Rattle.flutejoin.specs.Joining.{NamesOnly, NamesOneOf, InspectionFails, SomeInspectionFails, datagrams_of, refused_of, IsFew, IsInspected, AreInspected, IsReady, AreReady, SumsUp};
+ghost use Rattle.flutejoin.specs.Joining.{NamesOnly, NamesOneOf, InspectionFails, SomeInspectionFails, datagrams_of, refused_of, passed_of, IsFew, IsInspected, AreInspected, IsReady, AreReady, SumsUp};
 ghost use Rattle.flutejoin.specs.Show.{FailsToRead};
 
 use crate::command_fault::CommandFault;
@@ -36,16 +36,18 @@ impl Inspected {
         requires few { IsFew file }
         requires datagrams { self.now.datagrams + MAX_ENTRIES < 2 ^ 64 }
         requires refused { self.now.refused ≤ self.now.datagrams }
+        requires others { self.now.others ≤ self.now.datagrams }
         ensures added { OnOk result (self.new.files.items ≡ self.old.files.items ++ file ∷ []) }
         ensures datagrams { OnOk result
             (self.new.datagrams ≡ self.old.datagrams + datagrams_of file) }
         ensures refused { OnOk result (self.new.refused ≡ self.old.refused + refused_of file) }
+        ensures others { OnOk result (self.new.others ≡ self.old.others + passed_of file) }
         ensures memory { IfErr result (λ fault. fault ≡ OutOfMemory) }
     {
         if let Some(file) = &file {
             self.datagrams += file.told.datagrams;
             self.refused += file.told.refused;
-            self.others = self.others.saturating_add(file.others);
+            self.others += file.others;
         }
         match self.files.push(file) {
             Ok(()) => Ok(()),
@@ -97,7 +99,7 @@ pub(crate) fn inspect_all<R: Source>(
 }
 
 // Inspects the kind of an input. Answers what it tells, if it is a datagram file; a journal is
-// then to be read from its first byte.
+// then to be read from its first byte, and nothing of it was passed over.
 fn inspect<R: Source>(
     alloc: Global,
     number: usize,
@@ -116,6 +118,7 @@ fn inspect<R: Source>(
     ensures failures { FailsToRead (failures_of R.failures input.old)
         (failures_of R.failures input.new) result }
 {
+    input.stream.others = 0;
     match kind_of(input.stream.stream.source.front()) {
         Some(Kind::Journal) => {
             restart(sessions, input);
@@ -139,12 +142,12 @@ fn inspect<R: Source>(
 fn restart<R: Source>(sessions: &Sessions, input: &mut JoinInput<'_, R>)
     ensures source { peeked input.new ≡ peeked input.old }
     ensures sessions { input.new.stream.sessions ≡ sessions.now }
+    ensures others { input.new.stream.others ≡ input.old.stream.others }
     ensures new { IsNew (input_behaviour R.unread R.failures) input.new }
     ensures most { (input_behaviour R.unread R.failures).most input.new ≡ MAX_ENTRIES }
     ensures limit { input.new.stream.stream.max_entries ≡ MAX_ENTRIES }
 {
     input.tally = Tally::new();
     input.stream.sessions = *sessions;
-    input.stream.others = 0;
     input.stream.stream.restart(MAX_ENTRIES);
 }

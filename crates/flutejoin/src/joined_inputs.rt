@@ -1,5 +1,5 @@
 //! The command `join`: inputs, joined as streams.
-ghost use Rattle.std.specs.Prelude.{◌≡◌, true, false, ◌≤◌, ◌<◌, ◌+◌, ◌^◌, List, ℕ, length, map, OnOk, IfOk, IfErr};
+ghost use Rattle.std.specs.Prelude.{◌≡◌, true, false, ◌≤◌, ◌<◌, ◌+◌, ◌-◌, ◌^◌, List, ℕ, length, map, min, sum_by, OnOk, IfOk, IfErr};
 ghost use Rattle.flute_journal.specs.declared.fault.ReadFault.TheVariants.{Read};
 ghost use Rattle.flute_journal.specs.Streams.{fact_in, most_of};
 ghost use Rattle.flute_journal.specs.Advances.{AreNew};
@@ -7,9 +7,9 @@ ghost use Rattle.flute_journal.specs.FirstFaults.{FirstFault};
 ghost use Rattle.flute_parts.specs.Devices.{times_failed};
 ghost use Rattle.flute_journal.specs.Listed.{listed_behaviour};
 ghost use Rattle.flute_journal.specs.Replacing.{replaced};
-ghost use Rattle.flute_journal.specs.StreamMerges.{MergedAll, AppendsNoJournal, NoneFails};
-ghost use Rattle.flutejoin.specs.declared.command_fault.CommandFault.TheVariants.{Input, CannotWrite};
-ghost use Rattle.flutejoin.specs.JoinInputs.{AreInputs, NoneFailed, OneFailed};
+ghost use Rattle.flute_journal.specs.StreamMerges.{MergedAll, EndsMerged, AppendsNoJournal, NoneFails};
+ghost use Rattle.flutejoin.specs.declared.command_fault.CommandFault.TheVariants.{Input, OutOfMemory, CannotWrite};
+ghost use Rattle.flutejoin.specs.JoinInputs.{AreInputs, passed_over, NoneFailed, OneFailed};
 ghost use Rattle.flutejoin.specs.Joined.{Choice, choice_of};
 ghost use Rattle.flutejoin.specs.Joining.{JoinsTo, JoinToFails, NamesOneOf, AreInspected, AreReady, JoinsInspected, IsStreamOf, joined_behaviour};
 
@@ -47,8 +47,9 @@ use std::alloc::Global;
 /// - then `Full` if all of them together do;
 /// - last, `CannotWrite` if the sink failed. The inputs are read to their ends all the same.
 ///
-/// `OutOfMemory`, or `Input` with it, if a request for memory was refused. What was written is
-/// then no journal. The inputs were read in part, and are of no further use.
+/// `OutOfMemory`, or `Input` with it, if a request for memory was refused; at `OutOfMemory` nothing
+/// was written yet. What was written is no journal after any fault. The inputs were read in part,
+/// and are of no further use.
 pub fn join_to<R: Source, W: Sink>(
     alloc: Global,
     sender: Sender,
@@ -65,6 +66,7 @@ pub fn join_to<R: Source, W: Sink>(
         → IfErr result (JoinToFails (choice_of sender sessions.now) contents) }
     ensures short { IfErr result
         (λ _. AppendsNoJournal (W.written sink.old) (W.written sink.new)) }
+    ensures kept { IfErr result (λ fault. fault ≡ OutOfMemory → sink.new ≡ sink.old) }
     ensures names { IfErr result (NamesOneOf (length inputs.old)) }
     ensures none_failed { OnOk result (NoneFailed R.failures inputs.old inputs.new) }
     ensures read_failed { IfErr result (λ fault. (number : ℕ) → fault ≡ Input number Read
@@ -90,7 +92,9 @@ pub fn join_to<R: Source, W: Sink>(
 }
 
 // How many entries and datagrams were of other sessions.
-fn others_of<R: Source>(of_files: u64, inputs: &[JoinInput<'_, R>]) -> u64 {
+fn others_of<R: Source>(of_files: u64, inputs: &[JoinInput<'_, R>]) -> u64
+    ensures { result ≡ min (of_files + sum_by passed_over inputs.now) (2 ^ 64 - 1) }
+{
     let mut others = of_files;
     for input in inputs {
         others = others.saturating_add(input.stream.others);
@@ -109,8 +113,8 @@ fn join_inspected<R: Source, W: Sink>(
     requires ready { AreReady R.unread R.failures inputs.old files.now }
     ensures joined { (choice : Choice) (contents : List (List ℕ))
         → AreInspected R.unread choice inputs.old files.now contents
-        → IfOk result (λ joined. JoinsInspected choice contents files.now joined
-        (W.written sink.old) (W.written sink.new)) }
+        → IfOk result (λ joined. JoinsInspected choice contents files.now
+        (sum_by passed_over inputs.new) joined (W.written sink.old) (W.written sink.new)) }
     ensures failed { (choice : Choice) (contents : List (List ℕ))
         → AreInspected R.unread choice inputs.old files.now contents
         → IfErr result (JoinToFails choice contents) }
@@ -119,6 +123,7 @@ fn join_inspected<R: Source, W: Sink>(
     ensures over { IfOk result (λ joined. joined.within ≡ false → joined.cut ≡ true) }
     ensures short { IfErr result
         (λ _. AppendsNoJournal (W.written sink.old) (W.written sink.new)) }
+    ensures kept { IfErr result (λ fault. fault ≡ OutOfMemory → sink.new ≡ sink.old) }
     ensures names { IfErr result (NamesOneOf (length inputs.old)) }
     ensures no_sink { IfErr result (λ fault. fault ≡ CannotWrite → ⊥) }
     ensures none_failed { OnOk result (NoneFailed R.failures inputs.old inputs.new) }
@@ -164,6 +169,10 @@ fn join_replaced<R: Source, S: Stream, W: Sink>(
         (replaced inputs.old others.old) < 2 ^ 64 }
     ensures merged { IfOk result (λ joined. MergedAll
         (joined_behaviour R.unread R.failures S.behaviour) (replaced inputs.old others.old)
+        64 4096 1048576 joined (W.written sink.old) (W.written sink.new)) }
+    ensures ended { IfOk result (λ joined. EndsMerged
+        (joined_behaviour R.unread R.failures S.behaviour)
+        (replaced inputs.old others.old) (replaced inputs.new others.new)
         64 4096 1048576 joined (W.written sink.old) (W.written sink.new)) }
     ensures cut { IfOk result (λ joined. joined.cut ≡ true
         → AppendsNoJournal (W.written sink.old) (W.written sink.new)) }

@@ -2,8 +2,7 @@
 ghost use Rattle.std.specs.Prelude.{◌≡◌, ◌≢◌, ◌+◌, IfOk, IfErr, OnOk};
 ghost use Rattle.std.specs.Io.KnownBytes.{Appends, IsAtEnd};
 ghost use Rattle.flutejoin.specs.declared.command_fault.CommandFault.TheVariants.{CannotWrite};
-ghost use Rattle.flutejoin.specs.Gaps.{ListsJournal, GapsFail};
-ghost use Rattle.flutejoin.specs.Load.{LoadFails};
+ghost use Rattle.flutejoin.specs.Gaps.{ListsJournal, ListingFails, GapsFail};
 ghost use Rattle.flutejoin.specs.Show.{FailsToRead};
 ghost use Rattle.flutejoin.specs.Packet.{write_failures};
 
@@ -51,7 +50,7 @@ fn lines_of<R: Source>(alloc: Global, source: &mut R) -> Result<Vec<u8>, Command
     ensures listed { IfOk result
         (λ lines. ListsJournal (R.unread source.old) (λ all. lines.items ≡ all)) }
     ensures end { OnOk result (IsAtEnd (R.unread source.new)) }
-    ensures failed { IfErr result (LoadFails 1 (R.unread source.old) (R.unread source.new)) }
+    ensures failed { IfErr result (ListingFails (R.unread source.old) (R.unread source.new)) }
     ensures failures { FailsToRead (R.failures source.old) (R.failures source.new) result }
 {
     let mut listing = Listing::new(alloc);

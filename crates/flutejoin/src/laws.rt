@@ -1,5 +1,5 @@
 //! Laws of replicas, each the contract of a function that does nothing.
-ghost use Rattle.std.specs.Prelude.{◌≡◌, ℕ, List};
+ghost use Rattle.std.specs.Prelude.{◌≡◌, ℕ, List, flat_map};
 ghost use Rattle.flute_parts.specs.Facts.{Same, SameMembers};
 ghost use Rattle.flute_parts.specs.Information.{Information};
 ghost use Rattle.flute_parts.specs.declared.fact.Fact.{Fact as Known};
@@ -12,8 +12,12 @@ ghost use Rattle.flutejoin.specs.Steps.{held_by};
 ghost use Rattle.flutejoin.specs.Known.{Fits, known_by};
 ghost use Rattle.flutejoin.specs.Runs.{IsRunDone};
 ghost use Rattle.flutejoin.specs.Laws.{GivenTheSame};
+ghost use Rattle.flutejoin.specs.Joined.{Choice, InputContent, TellAll, content_facts};
+ghost use Rattle.flutejoin.specs.JoinTrees.{Joined, Inputs, AreMade, bytes_of, leaf_facts};
 ghost use Rattle.flutejoin.specs.declared.limits.TheConstants.{MAX_ENTRIES};
 ghost use Rattle.flutejoin.specs.declared.steps.Step.{Step as Doing};
+
+use flute_journal::laws::a_file_has_one_reading;
 
 /// Replicas that were given the same facts have the same value at each address, whatever the order,
 /// the repeats, the merges and the journals between. So they have one journal, and the same whole
@@ -47,9 +51,33 @@ pub fn equal_journals_mean_one_content()
     ensures { (F G : List Known) (bs : List ℕ) → IsJournal bs F → IsJournal bs G → Same F G }
 {}
 
-/// What is read of the journal of some facts has the values of any facts with the same members.
+/// What is read of the journal of some facts has the values of any facts that come to the same.
 /// So `extract_to` writes the same of the journal of any inputs that tell these facts.
 pub fn a_journal_is_read_as_what_was_joined()
     ensures { (held joined others : List Known) (bs : List ℕ) → IsJournalOf MAX_ENTRIES bs held
-        → IsJournal bs joined → SameMembers joined others → Same held others }
+        → IsJournal bs joined → Same joined others → Same held others }
 {}
+
+/// Joins of inputs that tell the same write equal bytes, in whatever order, however often and in
+/// whatever groups it is told.
+///
+/// - `bytes`: so it is with two joins of any inputs.
+/// - `read`: what a join wrote is read as what its inputs told, conflicts of them as conflicts.
+/// - `trees`: so it is with joins of what joins wrote, to any depth, each of its own sender and
+///   sessions, if the facts of all that was joined in the first place come to the same.
+pub fn joins_of_the_same_write_the_same()
+    ensures bytes { (one two : Choice) (inputs others : List (List ℕ))
+        (told further : List InputContent) (bs cs : List ℕ)
+        → TellAll inputs told → TellAll others further
+        → Same (flat_map (content_facts one) told) (flat_map (content_facts two) further)
+        → Joined one inputs bs → Joined two others cs → bs ≡ cs }
+    ensures read { (choice : Choice) (inputs : List (List ℕ)) (told : List InputContent)
+        (bs : List ℕ) (held : List Known) → TellAll inputs told → Joined choice inputs bs
+        → IsJournal bs held → Same held (flat_map (content_facts choice) told) }
+    ensures trees { (one two : Choice) (inputs others : Inputs) (bs cs : List ℕ)
+        → AreMade inputs → AreMade others → Same (leaf_facts one inputs) (leaf_facts two others)
+        → Joined one (bytes_of inputs) bs → Joined two (bytes_of others) cs → bs ≡ cs }
+{
+    // By this the proof knows that a datagram file tells one thing.
+    a_file_has_one_reading();
+}

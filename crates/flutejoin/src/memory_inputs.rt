@@ -1,8 +1,8 @@
 //! Inputs in memory, joined into a store.
 ghost use Rattle.std.specs.Prelude.{◌≡◌, ◌≤◌, length, map, IfOk, IfErr};
-ghost use Rattle.flutejoin.specs.Joined.{everything, Joins, JoinFails};
+ghost use Rattle.flutejoin.specs.Joined.{everything, Joins};
 ghost use Rattle.flutejoin.specs.Joining.{JoinsTo};
-ghost use Rattle.flutejoin.specs.Memory.{in_memory};
+ghost use Rattle.flutejoin.specs.Memory.{in_memory, MemoryFails};
 
 use crate::begun_source::{BegunSource, join_sources};
 use crate::blob::Blob;
@@ -25,7 +25,7 @@ use std::alloc::Global;
 pub fn join_inputs(alloc: Global, sender: Sender, inputs: &[Blob]) -> Result<Joined, CommandFault>
     requires { length inputs.now ≤ 64 }
     ensures joined { IfOk result (Joins (everything sender) inputs.now) }
-    ensures failed { IfErr result (JoinFails (everything sender) inputs.now) }
+    ensures failed { IfErr result (MemoryFails (everything sender) inputs.now) }
 {
     // By these the proof knows that a journal that was written is read as what it tells.
     a_journal_has_one_content();
@@ -54,7 +54,7 @@ fn join_blobs(
     requires { length inputs.now ≤ 64 }
     ensures joined { IfOk result (λ counts. JoinsTo (everything sender) inputs.now counts
         (⟦<MemorySink as Sink>⟧.written sink.old) (⟦<MemorySink as Sink>⟧.written sink.new)) }
-    ensures failed { IfErr result (JoinFails (everything sender) inputs.now) }
+    ensures failed { IfErr result (MemoryFails (everything sender) inputs.now) }
 {
     let mut sources = Vec::new(alloc);
     for input in inputs {

@@ -1,61 +1,21 @@
-//! Numbers, senders and keys on the command line.
-ghost use Rattle.std.specs.Prelude.{◌<◌, IfOk, IfErr};
-ghost use Rattle.flutejoin.specs.Status.{IsLineFault};
+//! Numbers and senders on the command line.
+ghost use Rattle.std.specs.Prelude.{◌≡◌, ◌<◌, ◌^◌, ℕ, IfOk, IfSome, MatchResult, codes, false, true};
+ghost use Rattle.std.specs.Prelude.{is_some, map};
+ghost use Rattle.std.specs.Char.{is_ascii_digit};
+ghost use Rattle.std.specs.List.{list_all};
+ghost use Rattle.clap.specs.Walk.{first_of};
+ghost use Rattle.flute_journal.specs.Sessions.{listed_tsis};
+ghost use Rattle.flutejoin.specs.CommandLine.{AreNumbers, HasSessions, HasSource};
+ghost use Rattle.flutejoin.specs.CommandLine.{IsBadNumber, IsInstance};
+ghost use Rattle.flutejoin.specs.CommandLine.{IsNumber, are_sessions, found_rows, has_number};
+ghost use Rattle.flutejoin.specs.CommandLine.{is_below, number_in, words};
 
 use crate::command_fault::CommandFault;
-use crate::sender::sender_of;
+use crate::sender::sender_in;
+use crate::words::{text, word};
 use clap::ArgMatches;
 use flute_journal::Sessions;
-use flute_parts::{Key, ObjectKey, Sender, SessionKey};
-
-/// The numbers that name an object, each within its range.
-#[derive(Clone, Copy, Debug, Drop)]
-pub struct KeyNumbers {
-    tsi: u64,
-    toi: u128,
-    instance: Option<u32>,
-}
-
-impl KeyNumbers {
-    /// The object of this sender that they name.
-    ///
-    /// # Errors
-    ///
-    /// `BadKey` if the TOI is 0 and no FDT Instance is named, or is another and one is.
-    pub fn key(&self, sender: Sender) -> Result<Key, CommandFault>
-        ensures { IfErr result IsLineFault }
-    {
-        let Some(session) = SessionKey::new(sender, self.tsi) else {
-            return Err(CommandFault::BadNumber("tsi"));
-        };
-        let object = match self.instance {
-            Some(instance) if self.toi == 0 => ObjectKey::fdt(instance),
-            Some(_) => None,
-            None => ObjectKey::file(self.toi),
-        };
-        match object {
-            Some(object) => Ok(Key { session, object }),
-            None => Err(CommandFault::BadKey),
-        }
-    }
-}
-
-/// The numbers of `--tsi`, `--toi` and `--fdt`.
-///
-/// # Errors
-///
-/// `BadNumber` with the first of them, in this order, that is not a number of its range.
-pub fn key_numbers(matches: &ArgMatches<'_>) -> Result<KeyNumbers, CommandFault>
-    ensures { IfErr result IsLineFault }
-{
-    let tsi = number_below(matches, "tsi", 1 << 48)? as u64;
-    let toi = number_below(matches, "toi", 1 << 112)?;
-    let instance = match matches.get_str("fdt") {
-        Some(_) => Some(number_below(matches, "fdt", 1 << 20)? as u32),
-        None => None,
-    };
-    Ok(KeyNumbers { tsi, toi, instance })
-}
+use flute_parts::Sender;
 
 /// The sessions of `--tsi`, or all if it is left out.
 ///
@@ -63,14 +23,23 @@ pub fn key_numbers(matches: &ArgMatches<'_>) -> Result<KeyNumbers, CommandFault>
 ///
 /// `BadNumber` if one of its numbers is not below 2^48, or if there are more than 64.
 pub fn sessions(matches: &ArgMatches<'_>) -> Result<Sessions, CommandFault>
-    ensures { IfErr result IsLineFault }
+    ensures { let rows = found_rows matches.now in
+        MatchResult result (λ sessions. HasSessions rows (listed_tsis sessions))
+        (λ fault. IsBadNumber (codes "tsi") fault
+        × (are_sessions (words (codes "tsi") rows) ≡ false)) }
+{
+    sessions_of(matches.get_strs("tsi").unwrap_or(&[]))
+}
+
+// The sessions with these numbers.
+fn sessions_of(texts: &[&str]) -> Result<Sessions, CommandFault>
+    ensures { let tsis = map (λ text. text.now) texts.now in
+        MatchResult result (λ sessions. AreNumbers (2 ^ 48) tsis (listed_tsis sessions))
+        (λ fault. IsBadNumber (codes "tsi") fault × (are_sessions tsis ≡ false)) }
 {
     let mut sessions = Sessions::all();
-    for text in matches.get_strs("tsi").unwrap_or(&[]) {
-        let number = match decimal(text) {
-            Some(number) if number < 1 << 48 => number as u64,
-            _ => return Err(CommandFault::BadNumber("tsi")),
-        };
+    for text in texts {
+        let number = decimal_below(text, "tsi", 1 << 48)? as u64;
         if !sessions.add(number) {
             return Err(CommandFault::BadNumber("tsi"));
         }
@@ -82,13 +51,32 @@ pub fn sessions(matches: &ArgMatches<'_>) -> Result<Sessions, CommandFault>
 ///
 /// # Errors
 ///
-/// `BadSource` if it is not 32 or 8 hexadecimal digits.
+/// `BadSource` if it names no sender, as `sender_in` says.
 pub fn source(matches: &ArgMatches<'_>) -> Result<Sender, CommandFault>
-    ensures { IfErr result IsLineFault }
+    ensures { let rows = found_rows matches.now in MatchResult result (HasSource rows)
+        (λ fault. (fault ≡ CommandFault.BadSource) × ((sender : ℕ) → HasSource rows sender → ⊥)) }
 {
-    match matches.get_str("source") {
-        Some(text) => sender_of(text).ok_or(CommandFault::BadSource),
+    match word(matches, "source") {
+        Some(text) => sender_in(text).ok_or(CommandFault::BadSource),
         None => Ok(Sender::new(0)),
+    }
+}
+
+/// The number of `--fdt`, or none if it is left out.
+///
+/// # Errors
+///
+/// `BadNumber` if it is not a number below 2^20.
+pub fn instance(matches: &ArgMatches<'_>) -> Result<Option<u32>, CommandFault>
+    ensures number { let rows = found_rows matches.now in
+        MatchResult result (IsInstance rows) (λ fault. IsBadNumber (codes "fdt") fault
+        × (is_some (first_of (codes "fdt") rows) ≡ true)
+        × (has_number (codes "fdt") (2 ^ 20) rows ≡ false)) }
+    ensures range { IfOk result (λ instance. IfSome instance (λ number. number < 2 ^ 20)) }
+{
+    match word(matches, "fdt") {
+        Some(_) => Ok(Some(number_below(matches, "fdt", 1 << 20)? as u32)),
+        None => Ok(None),
     }
 }
 
@@ -102,19 +90,36 @@ pub fn number_below(
     name: &'static str,
     limit: u128,
 ) -> Result<u128, CommandFault>
-    ensures number { IfOk result (λ number. number < limit) }
-    ensures fault { IfErr result IsLineFault }
+    ensures { let rows = found_rows matches.now in
+        MatchResult result (IsNumber name.now limit rows)
+        (λ fault. IsBadNumber name.now fault × (has_number name.now limit rows ≡ false)) }
 {
-    match decimal(matches.get_str(name).unwrap_or("")) {
+    decimal_below(text(matches, name), name, limit)
+}
+
+// The number that a value of the option with this name spells, if it is below the limit.
+fn decimal_below(text: &str, name: &'static str, limit: u128) -> Result<u128, CommandFault>
+    ensures { MatchResult result (λ number. (number_in text.now ≡ Some number) × (number < limit))
+        (λ fault. IsBadNumber name.now fault × (is_below limit (number_in text.now) ≡ false)) }
+{
+    match decimal(text) {
         Some(number) if number < limit => Ok(number),
         _ => Err(CommandFault::BadNumber(name)),
     }
 }
 
 // The number that 1 to 39 decimal digits spell, if it is below 2^128.
-fn decimal(text: &str) -> Option<u128> {
-    if text.len() > 39 || !text.bytes().all(|byte| byte.is_ascii_digit()) {
+fn decimal(text: &str) -> Option<u128>
+    ensures { result ≡ number_in text.now }
+{
+    if text.len() > 39 || !has_digits_alone(text) {
         return None;
     }
     text.parse().ok()
+}
+
+fn has_digits_alone(text: &str) -> bool
+    ensures { result ≡ list_all is_ascii_digit text.now }
+{
+    text.bytes().all(|byte| byte.is_ascii_digit())
 }

@@ -57,6 +57,7 @@ const GAPS_HELP: &str = help_of!(
 Prints a line for each object: whole, partial, no information or conflicting information.
 Behind partial a line for each gap follows: gap BLOCK/FIRST-LAST, and whether these symbols are
 missing, conflicting or misfit.
+A line that begins with `source` is of a sender that is not ::, and `extract` takes it by --source.
 The journal may have as much as a store holds (flutejoin --help).",
     "gaps station1"
 );
@@ -64,6 +65,7 @@ The journal may have as much as a store holds (flutejoin --help).",
 const EXTRACT_HELP: &str = help_of!(
     "\
 Prints: bytes N. Of an object that is not whole nothing is written.
+At `no object` another sender, TSI or TOI may have it: `gaps` lists the objects that there are.
 The journal may have as much as a store holds (flutejoin --help).",
     "extract -o out --tsi 7 --toi 1 station1"
 );
@@ -96,6 +98,10 @@ const CAROUSEL_HELP: &str = help_of!(
 Prints: datagrams N. FILE has up to 4,294,967,295 bytes.",
     "carousel -o sent --tsi 7 --toi 1 --symbol 1000 --block 16 file"
 );
+
+const SOURCE_HELP: &str = "\
+The sender's address, as 10.0.0.1, 2001:db8::1 or its 8 or 32 hexadecimal digits; left out, it \
+is ::, and not 0.0.0.0";
 
 /// The program's command, with a subcommand for each of its commands.
 pub fn command<'a>(alloc: Global) -> Result<Command<'a>, clap::Error> {
@@ -149,6 +155,7 @@ fn extract_command<'a>(alloc: Global) -> Result<Command<'a>, clap::Error> {
         .about("Writes an object that a journal has whole to a file")
         .after_help(EXTRACT_HELP)
         .arg(output(alloc))?
+        .arg(force_all(alloc))?
         .arg(source(alloc))?
         .arg(session(alloc))?
         .arg(object(alloc))?
@@ -165,6 +172,7 @@ fn info_command<'a>(alloc: Global) -> Result<Command<'a>, clap::Error> {
         .about("Writes a journal with an object's transmission information added")
         .after_help(INFO_HELP)
         .arg(output(alloc))?
+        .arg(force(alloc))?
         .arg(source(alloc))?
         .arg(session(alloc))?
         .arg(object(alloc))?
@@ -189,6 +197,7 @@ fn join_command<'a>(alloc: Global) -> Result<Command<'a>, clap::Error> {
         .about("Joins what several journals and datagram files have into one journal")
         .after_help(JOIN_HELP)
         .arg(output(alloc))?
+        .arg(force(alloc))?
         .arg(source(alloc))?
         .arg(sessions)?
         .arg(inputs)?;
@@ -200,6 +209,7 @@ fn merge_command<'a>(alloc: Global) -> Result<Command<'a>, clap::Error> {
         .about("Merges two journals into one, entry by entry")
         .after_help(MERGE_HELP)
         .arg(output(alloc))?
+        .arg(force(alloc))?
         .arg(input(alloc, "A").help("A journal"))?
         .arg(input(alloc, "B").help("Another journal"))?;
     Ok(command)
@@ -210,6 +220,7 @@ fn carousel_command<'a>(alloc: Global) -> Result<Command<'a>, clap::Error> {
         .about("Writes the datagrams that send an object to a datagram file")
         .after_help(CAROUSEL_HELP)
         .arg(output(alloc))?
+        .arg(force_all(alloc))?
         .arg(session(alloc))?
         .arg(object(alloc))?
         .arg(instance(alloc))?
@@ -247,6 +258,23 @@ fn output<'a>(alloc: Global) -> Arg<'a> {
         .help("The file that is written; - is standard output")
 }
 
+// Of a command whose OUT may be a journal or its input.
+fn force<'a>(alloc: Global) -> Arg<'a> {
+    force_flag(alloc).help("Write OUT even if it is a datagram file")
+}
+
+// Of a command whose OUT may be none of these.
+fn force_all<'a>(alloc: Global) -> Arg<'a> {
+    force_flag(alloc).help("Write OUT even if it is a datagram file, a journal or the input")
+}
+
+fn force_flag<'a>(alloc: Global) -> Arg<'a> {
+    Arg::new(alloc, "force")
+        .short('f')
+        .long("force")
+        .action(ArgAction::SetTrue)
+}
+
 fn session<'a>(alloc: Global) -> Arg<'a> {
     number(alloc, "tsi")
         .required(true)
@@ -264,9 +292,7 @@ fn instance<'a>(alloc: Global) -> Arg<'a> {
 }
 
 fn source<'a>(alloc: Global) -> Arg<'a> {
-    value(alloc, "source", "HEX").help(
-        "The sender's address: 32 hexadecimal digits, or 8 for IPv4; left out, it is 32 zeros",
-    )
+    value(alloc, "source", "ADDRESS").help(SOURCE_HELP)
 }
 
 fn number<'a>(alloc: Global, name: &'a str) -> Arg<'a> {

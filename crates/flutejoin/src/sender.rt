@@ -1,5 +1,6 @@
 //! Senders on the command line, and in the lines that are printed.
-ghost use Rattle.std.specs.Prelude.{◌≡◌, ◌+◌, ◌≤◌, ◌++◌, length};
+ghost use Rattle.std.specs.Prelude.{◌≡◌, ◌+◌, ◌≤◌, ◌++◌, ℕ, MatchOption, length};
+ghost use Rattle.flutejoin.specs.CommandLine.{NamesSender};
 ghost use Rattle.flutejoin.specs.Lines.{source_words};
 ghost use Rattle.flutejoin.specs.Sender.{sender_named};
 
@@ -7,6 +8,7 @@ use crate::text::Text;
 use byteorder::{BigEndian, ByteOrder};
 use flute_parts::Sender;
 use hex::FromHex;
+use std::net::IpAddr;
 
 /// The sender that `text` names by its address: 32 hexadecimal digits are its 16 bytes, and 8 are
 /// the 4 bytes of an IPv4 address (as `Sender::v4` has it). None for any other text. It takes no
@@ -19,6 +21,23 @@ pub fn sender_of(text: &str) -> Option<Sender>
     }
     match <[u8; 4] as FromHex>::from_hex(text) {
         Ok(address) => Some(Sender::v4(BigEndian::read_u32(&address))),
+        Err(_) => None,
+    }
+}
+
+/// The sender that `text` names: by the digits of its address, as `sender_of` takes them, or else
+/// by the address as it is written, `10.0.0.1` or `2001:db8::1` (RFC 4291, section 2.2). None for
+/// any other text. It takes no memory.
+pub fn sender_in(text: &str) -> Option<Sender>
+    ensures { MatchOption result ((sender : ℕ) → NamesSender text.now sender → ⊥)
+        (NamesSender text.now) }
+{
+    if let Some(sender) = sender_of(text) {
+        return Some(sender);
+    }
+    match text.parse::<IpAddr>() {
+        Ok(IpAddr::V4(address)) => Some(Sender::v4(address.to_bits())),
+        Ok(IpAddr::V6(address)) => Some(Sender::new(address.to_bits())),
         Err(_) => None,
     }
 }

@@ -39,8 +39,9 @@ pub fn datagrams_of(
     match carousel(alloc, key, &info, content) {
         Ok(datagrams) => Ok(datagrams),
         Err(CarouselFault::Write(fault)) => Err(CommandFault::CannotSend(fault)),
+        Err(CarouselFault::OutOfMemory) => Err(CommandFault::OutOfMemory),
         // The transfer length is that of the content.
-        Err(CarouselFault::Length | CarouselFault::OutOfMemory) => Err(CommandFault::OutOfMemory),
+        Err(CarouselFault::Length) => unreachable!(),
     }
 }
 

@@ -23,6 +23,7 @@ impl Model for Text {
 
 impl Text {
     ghost use Rattle.std.specs.Prelude.{◌≡◌, ◌+◌, ◌≤◌, [], ◌++◌, length};
+    ghost use Rattle.flutejoin.specs.Lines.{count_line};
 
     /// A text of no bytes.
     pub fn new() -> Text
@@ -59,6 +60,18 @@ impl Text {
     {
         let mut digits = Buffer::new();
         self.push(digits.format(number));
+    }
+
+    /// Appends a line of a word of at most 20 bytes and a number.
+    pub fn push_count(&mut self, word: &str, count: u64)
+        requires { (length self.old + 62 ≤ 512) × (length word.now ≤ 20) }
+        ensures text { self.new ≡ self.old ++ count_line word.now count }
+        ensures len { length self.new ≤ length self.old + 62 }
+    {
+        self.push(word);
+        self.push(" ");
+        self.push_number(count);
+        self.push("\n");
     }
 
     /// The bytes.

@@ -1,7 +1,7 @@
 use Rattle.std.proofs.Common.{[], Err, refl, sym, ap, ◌∙◌, subst, arith}
 use Rattle.std.proofs.lemmas.Result.{err_from_is_err_and}
 use Rattle.flute_journal.specs.Framing.{is_open, Sofar}
-use Rattle.flute_journal.specs.Journal.{journal_framing}
+use Rattle.flute_journal.specs.JournalFraming.{journal_framing}
 use Rattle.flute_journal.specs.declared.reader_state.ReaderState.{ReaderState}
 use Rattle.flute_journal.specs.declared.entry_fields.Before.{Before}
 use Rattle.flute_journal.specs.declared.format.version.Version.TheVariants.{Two}

@@ -2,7 +2,7 @@
 use Rattle.std.proofs.Common.{rules, refl, Some, Ok, ap, ◌∙◌, subst, ◌∷◌, [], ◌++◌}
 use Rattle.std.proofs.lemmas.Result.{err_from_is_err_and}
 use Rattle.flute_journal.specs.Framing.{Gives, HasFault}
-use Rattle.flute_journal.specs.Records.{file_framing}
+use Rattle.flute_journal.specs.FileFraming.{file_framing}
 use Rattle.flutejoin.specs.Joined.{choice_of, HoldsDatagrams}
 use Rattle.flutejoin.proofs.Held.{read_some, read_err, none_failed}
 use Rattle.flutejoin.proofs.held_file.read_file.Goals as goal

@@ -1,7 +1,7 @@
 -- The records so far are held as what they tell.
 use Rattle.std.proofs.Common.{◌≡◌, ℕ, ◌-◌, List}
 use Rattle.flute_journal.specs.Framing.{Sofar, count_at}
-use Rattle.flute_journal.specs.Records.{file_framing}
+use Rattle.flute_journal.specs.FileFraming.{file_framing}
 use Rattle.flutejoin.specs.Joined.{choice_of, HoldsDatagrams}
 use Rattle.flutejoin.proofs.held_file.read_file.Given as goal
 

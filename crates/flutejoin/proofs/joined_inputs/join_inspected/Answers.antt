@@ -4,8 +4,9 @@ use Rattle.std.proofs.lemmas.Option.{slice_get-get_or}
 use Rattle.flute_journal.specs.Listed.{listed_behaviour}
 use Rattle.flute_journal.specs.Streams.{fact_in}
 use Rattle.flutejoin.specs.Joined.{everything}
+use Rattle.flutejoin.specs.Joining.{of_inputs}
 use Rattle.flutejoin.proofs.JoinStreams.{all_new, all_few}
-use Rattle.flutejoin.proofs.JoinStops.{nothing_appended, one_more, pushed, stands_of, others_many, joins_inspected, none_failed, first_fails, first_within, names_one, read_failed}
+use Rattle.flutejoin.proofs.JoinStops.{nothing_appended, one_more, pushed, stands_of, others_many, joins_inspected, none_failed, first_fails, first_within, first_wants_nothing, names_one, read_failed, known_of, some_wants}
 use Rattle.flutejoin.proofs.joined_inputs.join_inspected.Goals as goal
 
 pub returns-then-is_err-clause-short : goal.returns-then-is_err-clause-short
@@ -32,7 +33,9 @@ pub returns-in-Ok-clause-joined : goal.returns-in-Ok-clause-joined
 returns-in-Ok-clause-joined g c = λ sender contents inspected.
     let stands =
     stands_of sender g.R.Source.unread g.R.Source.failures c.args.inputs.now c.deref_mut.result.now c.loop-file.invariant (omega (arith, c.loop-file-test.false)) c.requires.ready c.deref_mut.ensures.value in
-    joins_inspected sender g.R.Source.unread g.R.Source.failures _ c.args.inputs.now c.args.files.now c.deref_mut.result.now contents c.in-Ok.joined _ _ stands c.requires.ready.as_many inspected c.in-Ok.ensures.merged
+    let many = others_many c.deref_mut.result.now c.loop-file.invariant (omega (arith, c.loop-file-test.false)) c.deref_mut.ensures.value ∙ c.requires.ready.as_many in
+    joins_inspected sender g.R.Source.unread g.R.Source.failures _ c.args.inputs.now c.args.files.now c.deref_mut.result.now c.join_replaced.new.inputs c.join_replaced.new.others contents c.in-Ok.joined _ _ stands c.requires.ready.as_many c.requires.few
+    (c.join_replaced.auto.others ∙ many ∙ sym c.join_replaced.auto.inputs) inspected c.in-Ok.ensures.failures c.in-Ok.ensures.ended
 
 pub returns-in-Ok-clause-none_failed : goal.returns-in-Ok-clause-none_failed
 returns-in-Ok-clause-none_failed g c =
@@ -65,3 +68,14 @@ returns-clause-read_failed g c = λ number e.
     let stands =
     stands_of (everything 0) g.R.Source.unread g.R.Source.failures c.args.inputs.now c.deref_mut.result.now c.loop-file.invariant (omega (arith, c.loop-file-test.false)) c.requires.ready c.deref_mut.ensures.value in
     read_failed (everything 0) g.R.Source.unread g.R.Source.failures _ c.args.inputs.now c.join_replaced.new.inputs c.args.files.now c.deref_mut.result.now c.join_replaced.new.others c.in-Err.fault stands c.in-Err.ensures.first number (sym c.load_fault.ensures ∙ e)
+
+pub returns-then-is_err-clause-failed : goal.returns-then-is_err-clause-failed
+returns-then-is_err-clause-failed g c = λ choice contents inspected.
+    of_inputs (some_wants contents (omega (arith, c.loop-file-test.true, c.requires.ready.as_many, inspected.as_many))
+    (known_of g.R.Source.unread g.R.Source.failures c.args.inputs.now c.args.files.now contents c.requires.ready.as_many inspected))
+
+pub returns-clause-kept : goal.returns-clause-kept
+returns-clause-kept g c = λ e.
+    let stands =
+    stands_of (everything 0) g.R.Source.unread g.R.Source.failures c.args.inputs.now c.deref_mut.result.now c.loop-file.invariant (omega (arith, c.loop-file-test.false)) c.requires.ready c.deref_mut.ensures.value in
+    absurd (first_wants_nothing (everything 0) g.R.Source.unread g.R.Source.failures _ c.args.inputs.now c.args.files.now c.deref_mut.result.now _ c.in-Err.fault _ stands c.in-Err.ensures.first (sym c.load_fault.ensures ∙ e))

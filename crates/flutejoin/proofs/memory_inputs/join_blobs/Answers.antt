@@ -1,6 +1,8 @@
 -- The first bytes of one input more.
-use Rattle.std.proofs.Common.{Some, sym, ap, ◌∙◌, subst, take, arith}
+use Rattle.std.proofs.Common.{◌≡◌, Some, sym, ap, ◌∙◌, subst, take, arith}
 use Rattle.std.proofs.lemmas.Option.{slice_get-get_or}
+use Rattle.std.specs.Prelude.{◌⊎◌}
+use Rattle.flutejoin.specs.declared.command_fault.CommandFault.TheVariants.{OutOfMemory}
 use Rattle.flutejoin.specs.Begins.{Begins}
 use Rattle.flutejoin.specs.Joining.{JoinToFails}
 use Rattle.flutejoin.proofs.Begun.{one_begun, all_begun}
@@ -21,4 +23,4 @@ returns-in-Err-clause-failed c =
     let begun = all_begun (λ s. Some s.unread.now) c.loop-input.invariant (omega (arith, c.loop-input-test.false)) in
     rw c.in_memory.ensures
     (memory_fails c.args.inputs.now c.in-Err.fault
-    (subst (λ tsis. JoinToFails (record { sender = c.args.sender; tsis = tsis }) c.args.inputs.now c.in-Err.fault) c.all.ensures (c.in-Err.ensures.failed c.args.inputs.now begun)))
+    (subst (λ tsis. (c.in-Err.fault ≡ OutOfMemory) ⊎ JoinToFails (record { sender = c.args.sender; tsis = tsis }) c.args.inputs.now c.in-Err.fault) c.all.ensures (c.in-Err.ensures.failed c.args.inputs.now begun)))

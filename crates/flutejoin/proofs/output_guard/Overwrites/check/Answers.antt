@@ -1,0 +1,12 @@
+-- What is neither of the kinds is none of them.
+use Rattle.flute_journal.specs.declared.kind.Kind.TheVariants.{Journal, Datagrams}
+use Rattle.flutejoin.proofs.output_guard.Overwrites.check.Goals as goal
+
+pub returns-in-None-clause-datagrams : goal.returns-in-None-clause-datagrams
+returns-in-None-clause-datagrams c = λ _ begins. absurd (c.in-None.ensures Datagrams begins)
+
+pub returns-in-None-kind_of-clause-datagrams : goal.returns-in-None-kind_of-clause-datagrams
+returns-in-None-kind_of-clause-datagrams c = λ _ begins. absurd (c.in-None-kind_of.ensures Datagrams begins)
+
+pub returns-in-None-kind_of-clause-journal : goal.returns-in-None-kind_of-clause-journal
+returns-in-None-kind_of-clause-journal c = λ _ begins. absurd (c.in-None-kind_of.ensures Journal begins)

@@ -1,0 +1,88 @@
+//! Which files that are there a command overwrites.
+ghost use Rattle.std.specs.Prelude.{◌≡◌, ◌≢◌, Err, is_ok, true, false, if◌then◌else◌};
+ghost use Rattle.flute_journal.specs.Kinds.{HasKind, IsNeither};
+ghost use Rattle.flute_journal.specs.declared.kind.Kind.TheVariants.{Journal, Datagrams};
+
+use crate::command_fault::CommandFault;
+use flute_journal::{Kind, kind_of};
+
+/// Which files that are there a command overwrites with its output.
+#[derive(Clone, Copy, Debug, PartialEq, Eq)]
+pub enum Overwrites {
+    /// Any file.
+    Any,
+    /// All but datagram files.
+    Journals,
+    /// All but datagram files, journals and the inputs of the command.
+    OtherFiles,
+}
+
+impl Overwrites {
+    /// Those of a command that writes a journal, with `--force` or without.
+    pub fn of_journal(force: bool) -> Overwrites
+        ensures { result ≡ (if force then Overwrites.Any else Overwrites.Journals) }
+    {
+        if force {
+            Overwrites::Any
+        } else {
+            Overwrites::Journals
+        }
+    }
+
+    /// Those of a command that writes something else, with `--force` or without.
+    pub fn of_other(force: bool) -> Overwrites
+        ensures { result ≡ (if force then Overwrites.Any else Overwrites.OtherFiles) }
+    {
+        if force {
+            Overwrites::Any
+        } else {
+            Overwrites::OtherFiles
+        }
+    }
+
+    /// Whether a file that begins with these bytes, four or all that it has, is overwritten.
+    ///
+    /// # Errors
+    ///
+    /// Why it is not: `OutputIsDatagrams` or `OutputIsJournal` by its first bytes, else
+    /// `OutputIsInput`.
+    pub fn check(self, first: &[u8], is_input: bool) -> Result<(), CommandFault>
+        ensures any { self ≡ Overwrites.Any → is_ok result ≡ true }
+        ensures datagrams { self ≢ Overwrites.Any → HasKind Datagrams first.now
+            → result ≡ Err CommandFault.OutputIsDatagrams }
+        ensures journal { self ≡ Overwrites.OtherFiles → HasKind Journal first.now
+            → result ≡ Err CommandFault.OutputIsJournal }
+        ensures input { self ≡ Overwrites.OtherFiles → IsNeither first.now → is_input ≡ true
+            → result ≡ Err CommandFault.OutputIsInput }
+        ensures journals { self ≡ Overwrites.Journals → ¬ HasKind Datagrams first.now
+            → is_ok result ≡ true }
+        ensures others { self ≡ Overwrites.OtherFiles → IsNeither first.now → is_input ≡ false
+            → is_ok result ≡ true }
+    {
+        match self {
+            Overwrites::Any => Ok(()),
+            Overwrites::Journals => match kind_of(first) {
+                Some(Kind::Datagrams) => Err(CommandFault::OutputIsDatagrams),
+                Some(Kind::Journal) => Ok(()),
+                None => Ok(()),
+            },
+            Overwrites::OtherFiles => match kind_of(first) {
+                Some(Kind::Datagrams) => Err(CommandFault::OutputIsDatagrams),
+                Some(Kind::Journal) => Err(CommandFault::OutputIsJournal),
+                None => check_input(is_input),
+            },
+        }
+    }
+}
+
+// An input is not overwritten.
+fn check_input(is_input: bool) -> Result<(), CommandFault>
+    ensures input { is_input ≡ true → result ≡ Err CommandFault.OutputIsInput }
+    ensures other { is_input ≡ false → is_ok result ≡ true }
+{
+    if is_input {
+        Err(CommandFault::OutputIsInput)
+    } else {
+        Ok(())
+    }
+}
