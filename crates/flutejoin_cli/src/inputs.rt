@@ -1,10 +1,9 @@
-//! The inputs of a command.
-ghost use Rattle.std.specs.Prelude.{◌≡◌, length, IfOk};
+//! The inputs of a command, in the file system.
+ghost use Rattle.std.specs.Prelude.{true};
 
 use flute_output::FileId;
 use flute_parts::BufferedSource;
-use flutejoin::{BegunSource, CommandFault, FirstBytes, at_input};
-use std::alloc::Global;
+use flutejoin_commands::{Inputs, NotOpened};
 use std::fs::{self, File, Metadata};
 use std::io::{self, BufReader, ErrorKind, Read};
 use std::rt::Stdin;
@@ -36,56 +35,61 @@ impl Read for Reader {
     }
 }
 
-/// An input that is open, and what is known of it.
+/// The files of the system, and standard input. A folder is no input.
 #[derive(Drop)]
-pub struct OpenInput {
-    pub source: Input,
-    /// How many bytes it has, if the system knows that. Of standard input
-    /// some may have been read.
-    pub size: Option<u64>,
-    /// Which file it is, if the system tells.
-    pub file: Option<FileId>,
+pub struct SystemInputs<'a> {
+    rt: &'a HostRuntime,
+    files: Vec<FileId>,
+    size: Option<u64>,
 }
 
-/// Opens the input with this number, from 1. A folder is none.
-pub fn open_input(rt: &HostRuntime, number: usize, path: &str) -> Result<OpenInput, CommandFault> {
-    let (reader, found) = reader_at(rt, path).map_err(|_| CommandFault::CannotOpen(number))?;
-    let reader = BufReader::with_capacity(rt.alloc(), BUFFER, reader).map_err(
-        |_| CommandFault::OutOfMemory,
-    )?;
-    Ok(OpenInput {
-        source: BufferedSource::new(reader),
-        size: if path == STANDARD {
-            None
-        } else {
-            found.as_ref().and_then(known_size)
-        },
-        file: found.as_ref().map(FileId::of),
-    })
-}
-
-/// Opens inputs, and reads the first bytes of each before the next is opened. The files among them
-/// are added to `files`.
-pub fn open_inputs(
-    rt: &HostRuntime,
-    paths: &[&str],
-    files: &mut Vec<FileId>,
-) -> Result<Vec<BegunSource<Input>>, CommandFault>
-    ensures { IfOk result (λ opened. length opened.items ≡ length paths.now) }
-{
-    let mut opened = Vec::new(rt.alloc());
-    for (k, path) in paths.iter().enumerate() {
-        let mut input = open_input(rt, k + 1, path)?;
-        if let Some(file) = input.file {
-            files.push(file).map_err(|_| CommandFault::OutOfMemory)?;
+impl<'a> SystemInputs<'a> {
+    /// None is open yet.
+    pub fn new(rt: &'a HostRuntime) -> SystemInputs<'a> {
+        SystemInputs {
+            rt,
+            files: Vec::new(rt.alloc()),
+            size: None,
         }
-        let first = at_input(k + 1, FirstBytes::read(&mut input.source))?;
-        let source = input.source;
-        opened
-            .push(BegunSource { first, source })
-            .map_err(|_| CommandFault::OutOfMemory)?;
     }
-    Ok(opened)
+
+    /// Which files the inputs are that were opened, so far as the system tells.
+    pub fn files(&self) -> &[FileId] {
+        &self.files
+    }
+
+    /// How many bytes the input has that was opened last, if the system knows that. Of standard
+    /// input some may have been read.
+    pub fn size(&self) -> Option<u64> {
+        self.size
+    }
+}
+
+impl Inputs for SystemInputs<'_> {
+    type Input = Input;
+
+    ghost opens = { λ _ _ _. true };
+
+    ghost refuses = { λ _ _. true };
+
+    fn open(&mut self, path: &str) -> Result<Input, NotOpened> {
+        let Ok((reader, found)) = reader_at(self.rt, path) else {
+            return Err(NotOpened::Refused);
+        };
+        let Ok(reader) = BufReader::with_capacity(self.rt.alloc(), BUFFER, reader) else {
+            return Err(NotOpened::OutOfMemory);
+        };
+        self.size = None;
+        if let Some(found) = found {
+            if path != STANDARD {
+                self.size = known_size(&found);
+            }
+            if self.files.push(FileId::of(&found)).is_err() {
+                return Err(NotOpened::OutOfMemory);
+            }
+        }
+        Ok(BufferedSource::new(reader))
+    }
 }
 
 fn reader_at(rt: &HostRuntime, path: &str) -> io::Result<(Reader, Option<Metadata>)> {

@@ -1,22 +1,26 @@
 //! The program `flutejoin`.
 #![tactic(auto)]
 
-ghost use Rattle.std.specs.Prelude.{◌≤◌, length};
+ghost use Rattle.std.specs.Prelude.{◌≡◌, ◌⊎◌, ◌≤◌, length, OnOk, IfErr};
+ghost use Rattle.std.specs.Process.{exit_status};
+ghost use Rattle.flutejoin.specs.Status.{exit_status as status_of};
+ghost use Rattle.flutejoin.specs.declared.command_fault.CommandFault.TheVariants.{CommandLine};
 
 mod inputs;
 mod outputs;
 
-use crate::inputs::{Input, OpenInput, open_input, open_inputs};
-use crate::outputs::{
-    Folder, Report, create_in, create_output, finish, folder_at, nothing, standard_output,
-};
+use crate::inputs::SystemInputs;
+use crate::outputs::{Place, guard, place_at, standard_output};
 use flute_journal::Sessions;
-use flute_output::{FileId, take_standard_streams};
-use flute_parts::{Info, Key, MemorySink, Sender, Sink, StdSink};
-use flute_wire::Datagrams;
+use flute_output::take_standard_streams;
+use flute_parts::{Info, Key, Sender};
 use flutejoin::{
-    Blob, CommandFault, Line, blob_fault, count_to, datagrams_of, extract_to, gaps_from, info_to,
-    is_too_large, join_sources, line_of, merge_to, packet_to, send_to, show_to,
+    Blob, CommandFault, Line, Overwrites, blob_fault, datagrams_of, is_too_large, line_of,
+};
+use flutejoin_commands::{
+    ExtractWork, InfoWork, JoinWork, MergeWork, SendWork, Work, carousel_into, extract_into,
+    gaps_on, info_into, join_into, merge_into, open_input, open_inputs, open_two, packet_on,
+    show_on, write_held, write_through,
 };
 use std::env;
 use std::io::{self, ErrorKind};
@@ -24,10 +28,19 @@ use std::process::ExitCode;
 
 fn main(rt: HostRuntime) -> ExitCode {
     take_standard_streams(&rt);
-    match run(&rt) {
+    end(&rt, run(&rt))
+}
+
+/// The status that the program ends with.
+fn end(rt: &HostRuntime, done: Result<(), CommandFault>) -> ExitCode
+    ensures success { OnOk done (exit_status result ≡ 0) }
+    ensures failed { IfErr done (λ fault. (exit_status result ≡ status_of fault)
+        ⊎ ((error : _) × (fault ≡ CommandLine error))) }
+{
+    match done {
         Ok(()) => ExitCode::SUCCESS,
-        Err(CommandFault::CommandLine(error)) => tell(&rt, &error),
-        Err(fault) => fail(&rt, &fault),
+        Err(CommandFault::CommandLine(error)) => tell(rt, &error),
+        Err(fault) => fail(rt, &fault),
     }
 }
 
@@ -37,12 +50,15 @@ fn run(rt: &HostRuntime) -> Result<(), CommandFault> {
         _ => CommandFault::NotText,
     })?;
     match line_of(rt.alloc(), words.as_slice())? {
-        Line::Packet { hex } => packet(rt, hex),
+        Line::Packet { hex } => packet_on(rt.alloc(), hex, &mut standard_output(rt)?),
         Line::Show { j } => show(rt, j),
         Line::Gaps { j } => gaps(rt, j),
-        Line::Extract { out, key, j } => extract(rt, out, &key, j),
+        Line::Extract { out, force, key, j } => {
+            extract(rt, out, Overwrites::of_other(force), key, j)
+        }
         Line::Info {
             out,
+            force,
             key,
             length,
             symbol,
@@ -50,25 +66,29 @@ fn run(rt: &HostRuntime) -> Result<(), CommandFault> {
             j,
         } => {
             let info = Info::new(length, symbol, block).map_err(CommandFault::BadInformation)?;
-            add_information(rt, out, key, info, j)
+            add_information(rt, out, Overwrites::of_journal(force), key, info, j)
         }
         Line::Join {
             out,
+            force,
             sender,
             sessions,
             inputs,
-        } => join(rt, out, sender, &sessions, inputs.as_slice()),
-        Line::Merge { out, a, b } => merge(rt, out, a, b),
+        } => {
+            let overwrites = Overwrites::of_journal(force);
+            join(rt, out, overwrites, sender, sessions, inputs.as_slice())
+        }
+        Line::Merge { out, force, a, b } => merge(rt, out, Overwrites::of_journal(force), a, b),
         Line::Carousel {
             out,
+            force,
             key,
             symbol,
             block,
             file,
         } => {
-            let (content, file) = whole_input(rt, 1, file)?;
-            let datagrams = datagrams_of(rt.alloc(), &key, symbol, block, content.as_slice())?;
-            send(rt, out, &file, &datagrams)
+            let overwrites = Overwrites::of_other(force);
+            carousel(rt, out, overwrites, &key, symbol, block, file)
         }
     }
 }
@@ -89,211 +109,155 @@ fn tell(rt: &HostRuntime, error: &clap::Error) -> ExitCode {
 }
 
 /// Tells the fault on standard error, and answers its status.
-fn fail(rt: &HostRuntime, fault: &CommandFault) -> ExitCode {
+fn fail(rt: &HostRuntime, fault: &CommandFault) -> ExitCode
+    ensures { exit_status result ≡ status_of fault.now }
+{
     let _ = rt.eprintln(fault);
     ExitCode::from(fault.status())
 }
 
-fn packet(rt: &HostRuntime, hex: &str) -> Result<(), CommandFault> {
-    let mut output = standard_output(rt)?;
-    packet_to(rt.alloc(), hex, &mut output)?;
-    output.flush().map_err(|_| CommandFault::CannotWrite)
-}
-
 fn show(rt: &HostRuntime, j: &str) -> Result<(), CommandFault> {
-    let mut input = open_input(rt, 1, j)?;
+    let mut source = open_input(&mut SystemInputs::new(rt), 1, j)?;
     let mut output = standard_output(rt)?;
-    let shown = show_to(rt.alloc(), &mut input.source, &mut output);
-    let flushed = output.flush().map_err(|_| CommandFault::CannotWrite);
-    shown.and(flushed)
+    show_on(rt.alloc(), &mut source, &mut output)
 }
 
 fn gaps(rt: &HostRuntime, j: &str) -> Result<(), CommandFault> {
-    let mut input = open_input(rt, 1, j)?;
+    let mut source = open_input(&mut SystemInputs::new(rt), 1, j)?;
     let mut output = standard_output(rt)?;
-    gaps_from(rt.alloc(), &mut input.source, &mut output)?;
-    output.flush().map_err(|_| CommandFault::CannotWrite)
+    gaps_on(rt.alloc(), &mut source, &mut output)
 }
 
-/// Writes the object to an output that is created once the input is open, and before it is read,
-/// if it becomes OUT whole or not at all.
-fn extract(rt: &HostRuntime, out: &str, key: &Key, j: &str) -> Result<(), CommandFault> {
-    let mut input = open_input(rt, 1, j)?;
-    let file = files_of(rt, &input)?;
-    match folder_at(rt, out, &file) {
-        Ok(folder) if folder.is_beside() => extract_in(rt, folder, key, &mut input.source),
-        Ok(folder) => extract_held(rt, folder, key, &mut input.source),
-        Err(fault) => extract_nowhere(rt, fault, key, &mut input.source),
+/// Nothing goes to a pipe or a device of an object that is not whole.
+fn extract(
+    rt: &HostRuntime,
+    out: &str,
+    overwrites: Overwrites,
+    key: Key,
+    j: &str,
+) -> Result<(), CommandFault> {
+    let alloc = rt.alloc();
+    let mut inputs = SystemInputs::new(rt);
+    let source = open_input(&mut inputs, 1, j)?;
+    guard(rt, out, inputs.files(), overwrites)?;
+    let mut work = ExtractWork { alloc, key, source };
+    match place_at(rt, out, inputs.files()) {
+        Place::File(folder, mut report) => extract_into(folder, work, &mut report).0,
+        Place::Through(mut output, mut report) => {
+            write_held(alloc, &mut output, work, &mut report)
+        }
+        Place::Nowhere(fault) => Err(work.without_output(fault)),
     }
 }
 
-/// Writes the object as it is read to an output that becomes OUT whole or not at all.
-fn extract_in(
-    rt: &HostRuntime,
-    folder: Folder<'_>,
-    key: &Key,
-    source: &mut Input,
-) -> Result<(), CommandFault> {
-    let mut output = match create_in(folder) {
-        Ok(output) => output,
-        Err(fault) => return extract_nowhere(rt, fault, key, source),
-    };
-    let extracted = extract_to(rt.alloc(), source, key, &mut output);
-    let (bytes, report) = finish(output, extracted)?;
-    tell_count(rt, report, "bytes", bytes)
-}
-
-/// Tells why there is no output, unless the input or the object has a fault, which is told first.
-fn extract_nowhere(
-    rt: &HostRuntime,
-    fault: CommandFault,
-    key: &Key,
-    source: &mut Input,
-) -> Result<(), CommandFault> {
-    extract_to(rt.alloc(), source, key, &mut nothing())?;
-    Err(fault)
-}
-
-/// Holds the object in memory before it opens an output that takes its bytes itself:
-/// nothing goes to a pipe or a device of an object that is not whole.
-fn extract_held(
-    rt: &HostRuntime,
-    folder: Folder<'_>,
-    key: &Key,
-    source: &mut Input,
-) -> Result<(), CommandFault> {
-    let mut held = MemorySink::new(rt.alloc());
-    let bytes = match extract_to(rt.alloc(), source, key, &mut held) {
-        Err(CommandFault::CannotWrite) => return Err(CommandFault::OutOfMemory),
-        extracted => extracted?,
-    };
-    let mut output = create_in(folder)?;
-    let written = match output.write_all(held.as_slice()) {
-        Ok(()) => Ok(bytes),
-        Err(_) => Err(CommandFault::CannotWrite),
-    };
-    let (bytes, report) = finish(output, written)?;
-    tell_count(rt, report, "bytes", bytes)
-}
-
-/// Creates the output once the input is open, and before it is read. If that cannot be,
-/// the input's fault is told first.
 fn add_information(
     rt: &HostRuntime,
     out: &str,
+    overwrites: Overwrites,
     key: Key,
     info: Info,
     j: &str,
 ) -> Result<(), CommandFault> {
-    let mut input = open_input(rt, 1, j)?;
-    let file = files_of(rt, &input)?;
-    let mut output = match create_output(rt, out, &file) {
-        Ok(output) => output,
-        Err(fault) => {
-            info_to(rt.alloc(), &mut input.source, key, info, &mut nothing())?;
-            return Err(fault);
-        }
+    let alloc = rt.alloc();
+    let mut inputs = SystemInputs::new(rt);
+    let source = open_input(&mut inputs, 1, j)?;
+    guard(rt, out, inputs.files(), overwrites)?;
+    let mut work = InfoWork {
+        alloc,
+        key,
+        info,
+        source,
     };
-    let added = info_to(rt.alloc(), &mut input.source, key, info, &mut output);
-    let (entries, report) = finish(output, added)?;
-    tell_count(rt, report, "entries", entries)
+    match place_at(rt, out, inputs.files()) {
+        Place::File(folder, mut report) => info_into(folder, work, &mut report).0,
+        Place::Through(mut output, mut report) => write_through(&mut output, work, &mut report),
+        Place::Nowhere(fault) => Err(work.without_output(fault)),
+    }
 }
 
-/// Creates the output once all inputs are open and their first bytes were read, and before they are
-/// read further. If that cannot be, a fault of the inputs is told first.
 fn join(
     rt: &HostRuntime,
     out: &str,
+    overwrites: Overwrites,
     sender: Sender,
-    sessions: &Sessions,
+    sessions: Sessions,
     paths: &[&str],
 ) -> Result<(), CommandFault>
     requires { length paths.now ≤ 64 }
 {
-    let mut files = Vec::new(rt.alloc());
-    let inputs = open_inputs(rt, paths, &mut files)?;
-    let mut output = match create_output(rt, out, &files) {
-        Ok(output) => output,
-        Err(fault) => {
-            join_sources(rt.alloc(), sender, sessions, inputs, &mut nothing())?;
-            return Err(fault);
-        }
+    let alloc = rt.alloc();
+    let mut inputs = SystemInputs::new(rt);
+    let opened = open_inputs(&mut inputs, alloc, paths)?;
+    guard(rt, out, inputs.files(), overwrites)?;
+    let mut work = JoinWork {
+        alloc,
+        sender,
+        sessions,
+        inputs: opened,
     };
-    let joined = join_sources(rt.alloc(), sender, sessions, inputs, &mut output);
-    let (counts, report) = finish(output, joined)?;
-    tell_count(rt, report, "datagrams", counts.datagrams)?;
-    tell_count(rt, report, "refused", counts.refused)?;
-    if !sessions.is_all() {
-        tell_count(rt, report, "others", counts.others)?;
-    }
-    tell_count(rt, report, "entries", counts.entries)
-}
-
-/// Creates the output once both inputs are open, and before they are read.
-fn merge(rt: &HostRuntime, out: &str, a: &str, b: &str) -> Result<(), CommandFault> {
-    let mut first = open_input(rt, 1, a)?;
-    let mut second = open_input(rt, 2, b)?;
-    let mut files = Vec::new(rt.alloc());
-    for file in [first.file, second.file] {
-        if let Some(file) = file {
-            files.push(file).map_err(|_| CommandFault::OutOfMemory)?;
-        }
-    }
-    let mut output = create_output(rt, out, &files)?;
-    let merged = merge_to(
-        rt.alloc(),
-        &mut first.source,
-        &mut second.source,
-        &mut output,
-    );
-    let (entries, report) = finish(output, merged)?;
-    tell_count(rt, report, "entries", entries)
-}
-
-/// All that an input has, and which file it is. One that is known to be too large is not read.
-fn whole_input(
-    rt: &HostRuntime,
-    number: usize,
-    path: &str,
-) -> Result<(Blob, Vec<FileId>), CommandFault> {
-    let mut input = open_input(rt, number, path)?;
-    let file = files_of(rt, &input)?;
-    if is_too_large(input.size) {
-        return Err(CommandFault::TooLarge(number));
-    }
-    match Blob::read(rt.alloc(), &mut input.source) {
-        Ok(content) => Ok((content, file)),
-        Err(fault) => Err(blob_fault(number, fault)),
+    match place_at(rt, out, inputs.files()) {
+        Place::File(folder, mut report) => join_into(folder, work, &mut report).0,
+        Place::Through(mut output, mut report) => write_through(&mut output, work, &mut report),
+        Place::Nowhere(fault) => Err(work.without_output(fault)),
     }
 }
 
-fn send(
+fn merge(
     rt: &HostRuntime,
     out: &str,
-    file: &[FileId],
-    datagrams: &Datagrams,
+    overwrites: Overwrites,
+    a: &str,
+    b: &str,
 ) -> Result<(), CommandFault> {
-    let mut output = create_output(rt, out, file)?;
-    let sent = send_to(datagrams, &mut output);
-    let (count, report) = finish(output, sent)?;
-    tell_count(rt, report, "datagrams", count)
-}
-
-/// Prints a line of a word and a number.
-fn tell_count(rt: &HostRuntime, report: Report, word: &str, count: u64) -> Result<(), CommandFault>
-    requires { length word.now ≤ 100 }
-{
-    match report {
-        Report::StandardOutput => count_to(word, count, &mut StdSink::new(rt.stdout())),
-        Report::StandardError => count_to(word, count, &mut StdSink::new(rt.stderr())),
+    let alloc = rt.alloc();
+    let mut inputs = SystemInputs::new(rt);
+    let (first, second) = open_two(&mut inputs, a, b)?;
+    guard(rt, out, inputs.files(), overwrites)?;
+    let mut work = MergeWork {
+        alloc,
+        first,
+        second,
+    };
+    match place_at(rt, out, inputs.files()) {
+        Place::File(folder, mut report) => merge_into(folder, work, &mut report).0,
+        Place::Through(mut output, mut report) => write_through(&mut output, work, &mut report),
+        Place::Nowhere(fault) => Err(work.without_output(fault)),
     }
 }
 
-/// Which file the input is, as a list.
-fn files_of(rt: &HostRuntime, input: &OpenInput) -> Result<Vec<FileId>, CommandFault> {
-    let mut files = Vec::new(rt.alloc());
-    if let Some(file) = input.file {
-        files.push(file).map_err(|_| CommandFault::OutOfMemory)?;
+/// A file that is known to be too large is not read.
+fn carousel(
+    rt: &HostRuntime,
+    out: &str,
+    overwrites: Overwrites,
+    key: &Key,
+    symbol: u16,
+    block: u32,
+    file: &str,
+) -> Result<(), CommandFault> {
+    let alloc = rt.alloc();
+    let mut inputs = SystemInputs::new(rt);
+    let mut source = open_input(&mut inputs, 1, file)?;
+    guard(rt, out, inputs.files(), overwrites)?;
+    if is_too_large(inputs.size()) {
+        return Err(CommandFault::TooLarge(1));
     }
-    Ok(files)
+    let content = match Blob::read(alloc, &mut source) {
+        Ok(content) => content,
+        Err(fault) => return Err(blob_fault(1, fault)),
+    };
+    let content = content.as_slice();
+    match place_at(rt, out, inputs.files()) {
+        Place::File(folder, mut report) => {
+            carousel_into(alloc, folder, key, symbol, block, content, &mut report).0
+        }
+        Place::Through(mut output, mut report) => {
+            let datagrams = datagrams_of(alloc, key, symbol, block, content)?;
+            write_through(&mut output, SendWork { datagrams }, &mut report)
+        }
+        Place::Nowhere(fault) => {
+            datagrams_of(alloc, key, symbol, block, content)?;
+            Err(fault)
+        }
+    }
 }

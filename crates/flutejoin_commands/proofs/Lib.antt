@@ -1,0 +1,4 @@
+pub mod Failing
+pub mod ObjectBytes
+pub mod Openings
+pub mod Since

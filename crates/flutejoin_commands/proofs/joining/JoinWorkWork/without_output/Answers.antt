@@ -1,0 +1,12 @@
+use Rattle.std.proofs.Common.{None}
+use Rattle.flutejoin_commands.specs.Works.{JoinsAll, JoinAllFails}
+use Rattle.flutejoin_commands.proofs.Failing.{first_fault}
+use Rattle.flutejoin_commands.proofs.joining.JoinWorkWork.without_output.Goals as goal
+
+pub returns-clause-first : goal.returns-clause-first
+returns-clause-first g c =
+    let w = c.args.self.now in
+    first_fault (JoinsAll g.R.Source.unread w.sender w.sessions w.inputs.items)
+    (JoinAllFails g.R.Source.unread w.sender w.sessions w.inputs.items)
+    None None c.write.result c.args.reason c.fault_or.result
+    c.write.ensures.written c.write.ensures.failed c.fault_or.ensures

@@ -1,0 +1,78 @@
+//! The command `info`.
+ghost use Rattle.std.specs.Prelude.{OnOk, IfErr};
+ghost use Rattle.flutejoin.specs.Lines.{entries_line};
+ghost use Rattle.flutejoin_commands.specs.Commands.{Succeeds, Fails, CouldBeDone, IsWholeAlways, devices, with_beside};
+ghost use Rattle.flutejoin_commands.specs.Works.{AddsInformation, AddFails};
+
+use crate::nothing::{Nothing, fault_or};
+use crate::output_command::write_into;
+use crate::work::Work;
+use flute_output::Folder;
+use flute_parts::{Info, Key, Sink, Source};
+use flutejoin::{CommandFault, Text, info_to};
+use std::alloc::Global;
+
+/// Adds the information of an object to a journal.
+#[derive(Drop)]
+pub struct InfoWork<R> {
+    pub alloc: Global,
+    pub key: Key,
+    pub info: Info,
+    pub source: R,
+}
+
+impl<R: Source + Drop> Work for InfoWork<R> {
+    type Answer = u64;
+
+    ghost writes = { λ w. AddsInformation (R.unread w.source) w.key w.info };
+
+    ghost fails = { λ w. AddFails (R.unread w.source) w.key w.info };
+
+    ghost tells = { λ _. entries_line };
+
+    ghost clears = { λ w. CouldBeDone (AddsInformation (R.unread w.source) w.key w.info) };
+
+    fn write<W: Sink>(&mut self, sink: &mut W) -> Result<u64, CommandFault> {
+        info_to(self.alloc, &mut self.source, self.key, self.info, sink)
+    }
+
+    fn without_output(&mut self, reason: CommandFault) -> CommandFault {
+        fault_or(self.write(&mut Nothing), reason)
+    }
+
+    fn lines(&self, entries: &u64) -> Text {
+        let mut lines = Text::new();
+        lines.push_count("entries", *entries);
+        lines
+    }
+}
+
+/// Leaves as OUT the journal of all that a journal tells and the information of an object, and in
+/// the report the number of its entries. OUT may be the journal.
+///
+/// # Errors
+///
+/// Those of [`info_to`], then `CannotCreate`, then `CannotWrite`, as [`write_into`] says.
+pub fn info_into<F: Folder + Drop, R: Source + Drop, P: Sink>(
+    folder: F,
+    work: InfoWork<R>,
+    report: &mut P,
+) -> (Result<(), CommandFault>, F)
+    ensures added { OnOk result.0 (Succeeds
+        (AddsInformation (R.unread work.source) work.key work.info) entries_line
+        (with_beside (devices (F.entries folder) (F.failures folder)
+        (P.written report.old) (P.failures report.old)))
+        (devices (F.entries result.1) (F.failures result.1)
+        (P.written report.new) (P.failures report.new))) }
+    ensures failed { IfErr result.0 (Fails
+        (AddsInformation (R.unread work.source) work.key work.info)
+        (AddFails (R.unread work.source) work.key work.info) entries_line
+        (CouldBeDone (AddsInformation (R.unread work.source) work.key work.info))
+        (devices (F.entries folder) (F.failures folder)
+        (P.written report.old) (P.failures report.old))
+        (devices (F.entries result.1) (F.failures result.1)
+        (P.written report.new) (P.failures report.new))) }
+    ensures any_moment { IsWholeAlways (F.entries folder) (F.entries result.1) }
+{
+    write_into(folder, work, report)
+}

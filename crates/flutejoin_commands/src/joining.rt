@@ -1,0 +1,89 @@
+//! The command `join`.
+ghost use Rattle.std.specs.Prelude.{◌≤◌, length, OnOk, IfErr};
+ghost use Rattle.flutejoin_commands.specs.Commands.{Succeeds, Fails, CouldBeDone, IsWholeAlways, devices, with_beside};
+ghost use Rattle.flutejoin_commands.specs.Works.{JoinsAll, JoinAllFails, join_lines};
+
+use crate::nothing::{Nothing, fault_or};
+use crate::output_command::write_into;
+use crate::work::Work;
+use flute_journal::Sessions;
+use flute_output::Folder;
+use flute_parts::{Sender, Sink, Source};
+use flutejoin::{BegunSource, CommandFault, JoinCounts, Text, join_sources};
+use std::alloc::Global;
+use std::mem;
+
+/// Joins what sources tell, of each of which the first bytes were read.
+#[derive(Drop)]
+pub struct JoinWork<R> {
+    pub alloc: Global,
+    pub sender: Sender,
+    pub sessions: Sessions,
+    pub inputs: Vec<BegunSource<R>>,
+    pub ghost few: { length inputs.items ≤ 64 },
+}
+
+impl<R: Source + Drop> Work for JoinWork<R> {
+    type Answer = JoinCounts;
+
+    ghost writes = { λ w. JoinsAll R.unread w.sender w.sessions w.inputs.items };
+
+    ghost fails = { λ w. JoinAllFails R.unread w.sender w.sessions w.inputs.items };
+
+    ghost tells = { λ w. join_lines w.sessions };
+
+    ghost clears = { λ w. CouldBeDone (JoinsAll R.unread w.sender w.sessions w.inputs.items) };
+
+    fn write<W: Sink>(&mut self, sink: &mut W) -> Result<JoinCounts, CommandFault> {
+        let inputs = mem::replace(&mut self.inputs, Vec::new(self.alloc));
+        join_sources(self.alloc, self.sender, &self.sessions, inputs, sink)
+    }
+
+    fn without_output(&mut self, reason: CommandFault) -> CommandFault {
+        fault_or(self.write(&mut Nothing), reason)
+    }
+
+    fn lines(&self, counts: &JoinCounts) -> Text {
+        let mut lines = Text::new();
+        lines.push_count("datagrams", counts.datagrams);
+        lines.push_count("refused", counts.refused);
+        if !self.sessions.is_all() {
+            lines.push_count("others", counts.others);
+        }
+        lines.push_count("entries", counts.entries);
+        lines
+    }
+}
+
+/// Leaves as OUT the journal of all that the inputs tell of the chosen sessions, and in the
+/// report its numbers. OUT may be one of the inputs.
+///
+/// # Errors
+///
+/// Those of [`join_sources`](flutejoin::join_sources), then `CannotCreate`, then `CannotWrite`, as
+/// [`write_into`] says.
+pub fn join_into<F: Folder + Drop, R: Source + Drop, P: Sink>(
+    folder: F,
+    work: JoinWork<R>,
+    report: &mut P,
+) -> (Result<(), CommandFault>, F)
+    ensures joined { OnOk result.0 (Succeeds
+        (JoinsAll R.unread work.sender work.sessions work.inputs.items)
+        (join_lines work.sessions)
+        (with_beside (devices (F.entries folder) (F.failures folder)
+        (P.written report.old) (P.failures report.old)))
+        (devices (F.entries result.1) (F.failures result.1)
+        (P.written report.new) (P.failures report.new))) }
+    ensures failed { IfErr result.0 (Fails
+        (JoinsAll R.unread work.sender work.sessions work.inputs.items)
+        (JoinAllFails R.unread work.sender work.sessions work.inputs.items)
+        (join_lines work.sessions)
+        (CouldBeDone (JoinsAll R.unread work.sender work.sessions work.inputs.items))
+        (devices (F.entries folder) (F.failures folder)
+        (P.written report.old) (P.failures report.old))
+        (devices (F.entries result.1) (F.failures result.1)
+        (P.written report.new) (P.failures report.new))) }
+    ensures any_moment { IsWholeAlways (F.entries folder) (F.entries result.1) }
+{
+    write_into(folder, work, report)
+}

@@ -1,0 +1,79 @@
+//! The command `merge`.
+ghost use Rattle.std.specs.Prelude.{OnOk, IfErr, ⊤};
+ghost use Rattle.flute_journal.specs.Merges.{Merged};
+ghost use Rattle.flutejoin.specs.Lines.{entries_line};
+ghost use Rattle.flutejoin.specs.Merge.{MergeFails};
+ghost use Rattle.flutejoin.specs.declared.limits.TheConstants.{MAX_ENTRIES};
+ghost use Rattle.flutejoin_commands.specs.Commands.{Succeeds, Fails, IsWholeAlways, devices, with_beside};
+
+use crate::output_command::write_into;
+use crate::work::Work;
+use flute_output::Folder;
+use flute_parts::{Sink, Source};
+use flutejoin::{CommandFault, Text, merge_to};
+use std::alloc::Global;
+
+/// Merges two journals.
+#[derive(Drop)]
+pub struct MergeWork<A, B> {
+    pub alloc: Global,
+    pub first: A,
+    pub second: B,
+}
+
+impl<A: Source + Drop, B: Source + Drop> Work for MergeWork<A, B> {
+    type Answer = u64;
+
+    ghost writes = { λ w n. Merged MAX_ENTRIES n (A.unread w.first) (B.unread w.second) };
+
+    ghost fails = { λ w. MergeFails (A.unread w.first) (B.unread w.second) };
+
+    ghost tells = { λ _. entries_line };
+
+    ghost clears = { λ _. ⊤ };
+
+    fn write<W: Sink>(&mut self, sink: &mut W) -> Result<u64, CommandFault> {
+        merge_to(self.alloc, &mut self.first, &mut self.second, sink)
+    }
+
+    // Its journals are not read then.
+    fn without_output(&mut self, reason: CommandFault) -> CommandFault {
+        reason
+    }
+
+    fn lines(&self, entries: &u64) -> Text {
+        let mut lines = Text::new();
+        lines.push_count("entries", *entries);
+        lines
+    }
+}
+
+/// Leaves as OUT the journal of all that two journals tell, and in the report the number of its
+/// entries. OUT may be one of the two.
+///
+/// # Errors
+///
+/// `CannotCreate` before the journals are read; then those of [`merge_to`], then `CannotWrite`, as
+/// [`write_into`] says.
+pub fn merge_into<F: Folder + Drop, A: Source + Drop, B: Source + Drop, P: Sink>(
+    folder: F,
+    work: MergeWork<A, B>,
+    report: &mut P,
+) -> (Result<(), CommandFault>, F)
+    ensures merged { OnOk result.0 (Succeeds
+        (λ n. Merged MAX_ENTRIES n (A.unread work.first) (B.unread work.second)) entries_line
+        (with_beside (devices (F.entries folder) (F.failures folder)
+        (P.written report.old) (P.failures report.old)))
+        (devices (F.entries result.1) (F.failures result.1)
+        (P.written report.new) (P.failures report.new))) }
+    ensures failed { IfErr result.0 (Fails
+        (λ n. Merged MAX_ENTRIES n (A.unread work.first) (B.unread work.second))
+        (MergeFails (A.unread work.first) (B.unread work.second)) entries_line ⊤
+        (devices (F.entries folder) (F.failures folder)
+        (P.written report.old) (P.failures report.old))
+        (devices (F.entries result.1) (F.failures result.1)
+        (P.written report.new) (P.failures report.new))) }
+    ensures any_moment { IsWholeAlways (F.entries folder) (F.entries result.1) }
+{
+    write_into(folder, work, report)
+}

@@ -1,0 +1,21 @@
+//! Where lines go.
+ghost use Rattle.std.specs.Prelude.{◌≡◌, ◌+◌, List, ℕ, Option, OnOk, if◌then◌else◌, is_ok};
+
+use flute_parts::{DeviceFault, Sink};
+
+/// A sink whose bytes may wait in memory until a flush hands them on.
+pub trait Report: Sink {
+    // The bytes that were handed on so far, if the report tells.
+    ghost handed_on: { Self → Option (List ℕ) };
+
+    /// Hands on the bytes that wait.
+    ///
+    /// # Errors
+    ///
+    /// `DeviceFault` if the device failed. Which of them it has is then not known.
+    fn flush(&mut self) -> Result<(), DeviceFault>
+        ensures same { Self.written self.new ≡ Self.written self.old }
+        ensures flushed { OnOk result (handed_on self.new ≡ Self.written self.new) }
+        ensures failures { Self.failures self.new
+            ≡ Self.failures self.old + (if is_ok result then 0 else 1) };
+}

@@ -1,0 +1,48 @@
+//! The work of a command that writes an output.
+ghost use Rattle.std.specs.Prelude.{◌≡◌, ◌⊎◌, ◌+◌, List, ℕ, Option, OnOk, IfOk, IfErr};
+ghost use Rattle.flutejoin.specs.declared.command_fault.CommandFault.TheVariants.{CannotWrite};
+ghost use Rattle.flutejoin.specs.declared.command_fault.CommandFault.{CommandFault as Fault};
+
+use flute_parts::Sink;
+use flutejoin::{CommandFault, Text};
+
+/// What a command does with its inputs: it writes an output, and tells of it in some lines.
+pub trait Work {
+    type Answer: Drop;
+
+    // What it writes, from what its sink had taken to what it has, if it answers this.
+    ghost writes: { Self → Self.Answer → Option (List ℕ) → Option (List ℕ) → Type 0 };
+
+    // Why it fails.
+    ghost fails: { Self → Fault → Type 0 };
+
+    // The lines that tell of an answer.
+    ghost tells: { Self → Self.Answer → List ℕ };
+
+    // What is known of its inputs where it is told that there is no output.
+    ghost clears: { Self → Type 0 };
+
+    /// Does the work.
+    ///
+    /// # Errors
+    ///
+    /// What is wrong with the inputs; or `CannotWrite` if the sink failed.
+    fn write<W: Sink>(&mut self, sink: &mut W) -> Result<Self::Answer, CommandFault>
+        ensures written { IfOk result
+            (λ x. writes self.old x (W.written sink.old) (W.written sink.new)) }
+        ensures failed { IfErr result (fails self.old) }
+        ensures tells { tells self.new ≡ tells self.old }
+        ensures quiet { OnOk result (W.failures sink.new ≡ W.failures sink.old) }
+        ensures cause { IfErr result (λ fault. fault ≡ CannotWrite
+            → W.failures sink.new ≡ W.failures sink.old + 1) };
+
+    /// What is told where there is no output, for this reason: a fault of the work that comes
+    /// before that, or the reason.
+    fn without_output(&mut self, reason: CommandFault) -> CommandFault
+        ensures first { fails self.old result ⊎ ((result ≡ reason) × clears self.old) }
+        ensures nothing_failed { result ≡ CannotWrite → reason ≡ CannotWrite };
+
+    /// The lines that tell of an answer.
+    fn lines(&self, answer: &Self::Answer) -> Text
+        ensures { result ≡ tells self.now answer.now };
+}
