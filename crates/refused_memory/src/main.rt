@@ -1,5 +1,5 @@
-//! Refuses each request for memory in turn, in the calls that ask for some, and looks
-//! at what comes of it.
+//! Refuses each request for memory in turn, in the calls of the libraries that the program does not
+//! make, or of which it shows less, and looks at what comes of it.
 //!
 //! It is no part of the product. `tests/refused_memory.sh` runs it with the library
 //! `tests/refuse.c` loaded before it, which does the refusing. Without that no request is refused,
@@ -9,10 +9,7 @@
 mod absorbing;
 mod adding;
 mod findings;
-mod inputs;
 mod mapping;
-mod merging;
-mod parts;
 mod reading;
 mod refusing;
 mod report;
@@ -26,10 +23,7 @@ use absorbing::absorbs;
 use adding::adds;
 use anyhow::{Context, Result};
 use flute_parts::{Info, Key, ObjectKey, Sender, SessionKey};
-use inputs::{informs, joins};
 use mapping::maps;
-use merging::merges;
-use parts::names_and_packets;
 use reading::reads;
 use report::Report;
 use running::steps;
@@ -50,20 +44,14 @@ fn try_calls<P: Print>(out: &P, alloc: Global, vectors: &Vectors) -> Result<()> 
     let object = ObjectKey::file(1).context("a file")?;
     let session = SessionKey::new(Sender::new(0), 7).context("a session")?;
     let key = Key { session, object };
-    let session = SessionKey::new(Sender::v4(0x0A00_0001), 7).context("a session")?;
-    let key_of_sender = Key { session, object };
     let info = Info::new(5, 4, 2)?;
     let mut report = Report::new(out, alloc);
     maps(&mut report);
-    names_and_packets(&mut report, vectors);
     takes(&mut report, vectors, &key);
     adds(&mut report, vectors, key, info)?;
     absorbs(&mut report, vectors, &key);
     reads(&mut report, vectors);
-    merges(&mut report, vectors);
     steps(&mut report, vectors, &key)?;
     sends(&mut report, vectors, &key, &info)?;
-    joins(&mut report, vectors)?;
-    informs(&mut report, vectors, key, key_of_sender, info);
     report.end()
 }

@@ -1,4 +1,4 @@
-//! Objects sent, and what is written to a sink.
+//! What is written to a sink.
 
 use crate::findings::Findings;
 use crate::refusing::{Case, refuse_after, was_refused};
@@ -9,47 +9,9 @@ use anyhow::Result;
 use flute_journal::{write_datagrams, write_store};
 use flute_parts::{Info, Key, MemorySink};
 use flute_store::{ExtractFault, Shelf};
-use flute_wire::{CarouselFault, Datagrams, carousel};
+use flute_wire::{Datagrams, carousel};
 use std::alloc::Global;
 use std::io::Print;
-
-/// The datagrams of an object.
-#[derive(Clone, Copy)]
-pub struct Sent<'a> {
-    key: &'a Key,
-    info: &'a Info,
-    content: &'a [u8],
-    datagrams: &'a [&'a [u8]],
-}
-
-impl Sent<'_> {
-    fn are_sent(&self, sent: &Datagrams) -> bool {
-        let mut same = sent.len() == self.datagrams.len();
-        for (place, wanted) in self.datagrams.iter().enumerate() {
-            let is_sent = sent
-                .get(place)
-                .is_some_and(|datagram| datagram.as_slice() == *wanted);
-            same = same && is_sent;
-        }
-        same
-    }
-}
-
-impl Case for Sent<'_> {
-    fn refused_after(&self, alloc: Global, granted: u16, findings: &mut Findings) -> bool {
-        refuse_after(alloc, granted);
-        let mut answer = carousel(alloc, self.key, self.info, self.content);
-        let refused = was_refused(alloc);
-        if refused {
-            let wants = matches!(answer, Err(CarouselFault::OutOfMemory));
-            findings.expect(wants, "a refused carousel answers otherwise");
-            answer = carousel(alloc, self.key, self.info, self.content);
-        }
-        let sent = answer.is_ok_and(|datagrams| self.are_sent(&datagrams));
-        findings.expect(sent, "other datagrams are sent");
-        refused
-    }
-}
 
 /// What is written to a sink, and the bytes of that.
 #[derive(Clone, Copy)]
@@ -113,7 +75,7 @@ impl Case for Written<'_> {
     }
 }
 
-/// The file and an object of no bytes, sent, and the file written in three ways.
+/// The file, written in three ways.
 pub fn sends<P: Print>(
     report: &mut Report<'_, P>,
     vectors: &Vectors,
@@ -121,21 +83,6 @@ pub fn sends<P: Print>(
     info: &Info,
 ) -> Result<()> {
     let content = b"hello".as_slice();
-    let sent = Sent {
-        key,
-        info,
-        content,
-        datagrams: &[&vectors.info_and_first, &vectors.info_and_last],
-    };
-    report.refuse("carousel", &sent);
-    let nothing = Info::new(0, 0, 0)?;
-    let sent = Sent {
-        key,
-        info: &nothing,
-        content: &[],
-        datagrams: &[&vectors.empty_file],
-    };
-    report.refuse("carousel of no bytes", &sent);
     let datagrams = carousel(report.alloc(), key, info, content)?;
     let store: Shelf = taken(
         report.alloc(),

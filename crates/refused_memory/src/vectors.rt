@@ -4,8 +4,8 @@ use std::alloc::Global;
 use std::test::Fail;
 use test_vectors::{
     FIRST_SYMBOL, FIRST_SYMBOL_NARROW, INFO_AND_FIRST_SYMBOL, INFO_AND_LAST_SYMBOL,
-    INFO_AND_PADDED_SYMBOL, INFO_OF_EMPTY_FILE, LAST_SYMBOL, OTHER_FILE, OTHER_SESSION, REFUSED,
-    bytes, journals, written,
+    INFO_AND_PADDED_SYMBOL, LAST_SYMBOL, OTHER_FILE, OTHER_SESSION, REFUSED, bytes, journals,
+    written,
 };
 
 /// Datagrams and journals: `read` has the names that they have in `test_vectors`.
@@ -20,22 +20,17 @@ pub struct Vectors {
     pub last: Vec<u8>,
     pub other_session: Vec<u8>,
     pub other_file: Vec<u8>,
-    pub empty_file: Vec<u8>,
     pub refused: Vec<u8>,
     pub whole: Vec<u8>,
     pub old_whole: Vec<u8>,
     pub whole_of_sender: Vec<u8>,
-    pub whole_of_both: Vec<u8>,
-    pub symbols_of_sender: Vec<u8>,
     pub journal_of_part: Vec<u8>,
     pub journal_of_info: Vec<u8>,
     pub journal_of_first: Vec<u8>,
     pub journal_of_symbols: Vec<u8>,
-    pub old_symbols: Vec<u8>,
     pub journal_of_conflict: Vec<u8>,
     pub journal_of_several: Vec<u8>,
     pub old_others: Vec<u8>,
-    pub joined: Vec<u8>,
     pub datagrams: Vec<u8>,
 }
 
@@ -51,22 +46,17 @@ impl Vectors {
             last: bytes(alloc, LAST_SYMBOL)?,
             other_session: bytes(alloc, OTHER_SESSION)?,
             other_file: bytes(alloc, OTHER_FILE)?,
-            empty_file: bytes(alloc, INFO_OF_EMPTY_FILE)?,
             refused: bytes(alloc, REFUSED)?,
             whole: bytes(alloc, written::WHOLE)?,
             old_whole: bytes(alloc, journals::WHOLE)?,
             whole_of_sender: bytes(alloc, written::WHOLE_OF_SENDER)?,
-            whole_of_both: bytes(alloc, written::OF_BOTH_SENDERS)?,
-            symbols_of_sender: bytes(alloc, written::SYMBOLS_OF_SENDER)?,
             journal_of_part: bytes(alloc, written::INFO_AND_FIRST_SYMBOL)?,
             journal_of_info: bytes(alloc, written::INFO_ALONE)?,
             journal_of_first: bytes(alloc, written::FIRST_SYMBOL)?,
             journal_of_symbols: bytes(alloc, written::SYMBOLS)?,
-            old_symbols: bytes(alloc, journals::SYMBOLS)?,
             journal_of_conflict: bytes(alloc, written::LAST_IN_CONFLICT)?,
             journal_of_several: bytes(alloc, written::SEVERAL_OBJECTS)?,
             old_others: bytes(alloc, journals::OTHERS)?,
-            joined: bytes(alloc, written::JOINED)?,
             datagrams: bytes(alloc, journals::DATAGRAMS)?,
         })
     }
