@@ -42,7 +42,7 @@ edit wrong/never_equal src/cell.rt '*held != value,' '*held != *held,'
 edit wrong/not_inserted src/map.rt 'self.insert(key, value)' 'Ok(())'
 edit wrong/never_full src/map.rt 'self.entries.len() as u32' '0'
 try wrong 0
-told 'three are refused' '^wrong bodies: 3 refused, 0 failed$'
+told 'three are refused' '^wrong bodies: 3 refused, 0 unfit, 0 failed$'
 
 # One that means the same, one that does not compile, and a wrong one with them.
 edit mixed/means_the_same src/cell.rt 'Cell::Conflict => return,' '_ => return,'
@@ -52,7 +52,15 @@ try mixed 1
 told 'the same is proved' '^flute_join/means_the_same: FAILED'
 told 'what does not compile is not refused' '^flute_join/does_not_compile: FAILED'
 told 'the wrong one is refused' '^flute_join/never_full: refused'
-told 'one of three is refused' '^wrong bodies: 1 refused, 2 failed$'
+told 'one of three is refused' '^wrong bodies: 1 refused, 0 unfit, 2 failed$'
+
+# One that means the same under another name, which the written proof does not know.
+edit renamed/copied_is_fresh src/map.rt 'let mut copied = JoinMap::new(alloc);' \
+    'let mut fresh = JoinMap::new(alloc);'
+printf 'old: %s\nnew: %s\n' 'copied.add_new(*key' 'fresh.add_new(*key' 'Ok(copied)' 'Ok(fresh)' \
+    >> "$room/renamed/copied_is_fresh.edit"
+try renamed 1
+told 'a proof that does not fit shows nothing' '^wrong bodies: 0 refused, 1 unfit, 0 failed$'
 
 edit absent/no_such_text src/cell.rt 'no such text' 'nor this'
 try absent 2
@@ -60,7 +68,7 @@ told 'its text is not there' 'no_such_text: its text is 0 times in src/cell.rt, 
 
 mkdir "$room/none"
 try none 1
-told 'none were tried' '^wrong bodies: 0 refused, 0 failed$'
+told 'none were tried' '^wrong bodies: 0 refused, 0 unfit, 0 failed$'
 
 echo "the wrong bodies' tool: $passed passed, $failed failed"
 [ "$failed" = 0 ]

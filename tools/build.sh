@@ -10,18 +10,19 @@ if ! command -v rt > /dev/null; then
 fi
 mkdir -p bin
 echo "flutejoin: proving and building the program;" \
-    "the first time this takes up to 25 minutes (log: bin/build.log)" >&2
+    "the first time this takes 20 to 35 minutes (log: bin/build.log)" >&2
 
 # What the program is made of, the lowest first: built so, each is read once, and no pass over all
 # sources comes before.
 libraries='flute_join flute_parts flute_output flute_wire flute_store flute_journal flutejoin'
+libraries="$libraries flutejoin_commands"
 
 # build CRATE WORD..: builds a crate by these words of rt.
 build() {
     crate=$1
     shift
     step=$((step + 1))
-    echo "flutejoin: $crate ($step of 8)" >&2
+    echo "flutejoin: $crate ($step of 9)" >&2
     if ! (cd "crates/$crate" && rt "$@") >> bin/build.log 2>&1; then
         tail -n 20 bin/build.log >&2
         echo "flutejoin: the build failed; bin/build.log has all of it" >&2

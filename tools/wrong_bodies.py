@@ -10,7 +10,12 @@ doubt is tried alone, and so is an edit outside functions. As many crates are tr
 there are processors. The edits of must-fail/ are tried by `rt ci`, and here only with --all or
 --alone.
 
-The last line is 'wrong bodies: N refused, M failed', and the status is 0 if all were refused.
+A goal that the check leaves open is what refuses a body: the check names it. Where it names none,
+only an answer of the written proof no longer fits. That alone shows nothing of the contract, so
+such a body is told apart, as unfit, and is to be written anew.
+
+The last line is 'wrong bodies: N refused, M unfit, K failed', and the status is 0 if some were
+refused and none failed.
 """
 import argparse
 import os
@@ -30,6 +35,9 @@ ITEM = re.compile(rf"^{PUB}(?:impl|trait|struct|enum)\b[^{{;]*", re.M)
 OWNER = re.compile(rf"{PUB}(?:impl|trait)\b")
 # What a check says of a function.
 ANSWER = re.compile(r"^fn (\S+): (.*)$", re.M)
+# A goal that it leaves open, as a note before the function's answer tells it and as that answer does.
+OPEN = re.compile(r"^note: \S+ it is not proved .*?\(`([^`]+)`\)", re.M)
+UNFOUND = re.compile(r"`search` did not prove ((?:`[^`]+`(?:, )?)+)")
 # The end of what it says where it came to its end, and not all is proved.
 UNPROVED = re.compile(r"^(logic=not-proved|only=\d+ proved=\d+)", re.M)
 # The place of a fault.
@@ -151,6 +159,27 @@ def is_refused(said):
     return said.startswith("not proved") or "` did not prove `" in said
 
 
+def goals_of(told):
+    """The goals that a check leaves open, by function: notes come before their function."""
+    goals, open_goals = {}, []
+    for line in told.split("\n"):
+        note, answer = OPEN.match(line), ANSWER.match(line)
+        if note:
+            open_goals.append(note[1])
+        elif answer:
+            unfound = UNFOUND.search(answer[2])
+            named = re.findall("`([^`]+)`", unfound[1]) if unfound else []
+            goals[answer[1]] = [*dict.fromkeys([*open_goals, *named])]
+            open_goals = []
+    return goals
+
+
+def shown(goals):
+    """The first of these goals, with how many more there are."""
+    more = f" and {len(goals) - 1} more" if len(goals) > 1 else ""
+    return f"{goals[0]}{more}"
+
+
 def is_unproved(status, told):
     return status == 1 and UNPROVED.search(told) is not None
 
@@ -198,7 +227,7 @@ class Crate:
 
     def __init__(self, folder, name, edits):
         self.name, self.folder, self.told = name, folder, []
-        self.refused = self.failed = 0
+        self.refused = self.unfit = self.failed = 0
         self.bodies = [Body(name, it) for it in edits]
 
     def edited(self, body, texts):
@@ -247,24 +276,35 @@ class Crate:
                 texts = with_it
         return chosen
 
-    def settle(self, body, is_refused, why):
-        self.refused += is_refused
-        self.failed += not is_refused
-        self.told.append(f"{body.name}: {'refused' if is_refused else 'FAILED'}: {why}")
+    def fail(self, body, why):
+        self.failed += 1
+        self.told.append(f"{body.name}: FAILED: {why}")
+
+    def refuse(self, body, goals, why):
+        """Counts the body as refused, for the first of these goals if there is one."""
+        self.refused += bool(goals)
+        self.unfit += not goals
+        by = f"refused: {shown(goals)}" if goals else "UNFIT: only a written proof does not fit"
+        self.told.append(f"{body.name}: {by}: {why}")
 
     def alone(self, body):
         """Tries one body, with which the crate has to be unproved. A limit of the prover is no
         proof either."""
         status, told = self.check([body])
         said = next((it for it in told.split("\n") if FAULT.match(it)), told[-160:])
-        at_limit = status == 3 and LIMIT.search(told) is not None
-        self.settle(body, is_unproved(status, told) or at_limit, f"alone: {said[:160]}")
+        why = f"alone: {said[:160]}"
+        if status == 3 and LIMIT.search(told):
+            self.refuse(body, ["a limit"], why)
+        elif is_unproved(status, told):
+            self.refuse(body, [goal for goals in goals_of(told).values() for goal in goals], why)
+        else:
+            self.fail(body, why)
 
     def together(self, bodies):
         """Tries these bodies together, and returns those of which nothing is known yet, or None
         if that tells nothing of any."""
         status, told = self.check(bodies, {name for it in bodies for name in it.functions})
-        answers = dict(ANSWER.findall(told))
+        answers, goals = dict(ANSWER.findall(told)), goals_of(told)
         functions = {it: sorted({found_in(answers, one) for one in it.functions}) for it in bodies}
         edited = {name for names in functions.values() for name in names}
         others = [it for it, said in answers.items() if is_refused(said) and it not in edited]
@@ -277,9 +317,10 @@ class Crate:
             said = [answers.get(it, "no answer") for it in functions[body]]
             names = ", ".join(functions[body])
             if any(is_refused(it) for it in said):
-                self.settle(body, True, f"not proved: {names}")
+                of_body = [goal for it in functions[body] for goal in goals.get(it, [])]
+                self.refuse(body, of_body, f"not proved: {names}")
             elif all(it.startswith("proved") for it in said):
-                self.settle(body, False, f"still proved: {names}")
+                self.fail(body, f"still proved: {names}")
             else:
                 left.append(body)
         return left
@@ -322,8 +363,8 @@ def edits_of(name, options):
 
 
 def tried(name, edits):
-    """Tries the wrong bodies of a crate in a copy of it, and returns how many were refused and how
-    many were not."""
+    """Tries the wrong bodies of a crate in a copy of it, and returns how many were refused, how
+    many only by a proof that does not fit, and how many were not refused."""
     with tempfile.TemporaryDirectory(prefix="wrong-bodies-") as room:
         for part in ("src", "specs", "proofs"):
             if os.path.isdir(f"{crate_folder(name)}/{part}"):
@@ -332,7 +373,7 @@ def tried(name, edits):
         crate = Crate(room, name, edits)
         crate.run()
     print("\n".join(crate.told), flush=True)
-    return crate.refused, crate.failed
+    return crate.refused, crate.unfit, crate.failed
 
 
 def each_alone(names, options):
@@ -398,8 +439,8 @@ def main(words):
     except ValueError as fault:
         print(f"wrong_bodies.py: {fault}", file=sys.stderr)
         return 2
-    refused, failed = sum(it for it, _ in found), sum(it for _, it in found)
-    print(f"wrong bodies: {refused} refused, {failed} failed")
+    refused, unfit, failed = (sum(numbers) for numbers in zip(*found))
+    print(f"wrong bodies: {refused} refused, {unfit} unfit, {failed} failed")
     return 1 if failed or not refused else 0
 
 
