@@ -32,6 +32,7 @@ pages = [
     "flute_journal",
     "flutejoin",
     "flute_output",
+    "flutejoin_commands",
 ]
 for library in pages:
     text = pathlib.Path("crates", library, "src", "lib.rt").read_text()

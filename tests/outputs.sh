@@ -6,7 +6,8 @@ set -u
 work=$(mktemp -d)
 trap 'rm -rf "$work"' EXIT
 cp "$1" "$work/program"
-chmod 755 "$work" "$work/program"
+"$(dirname "$0")/preload.sh" disk "$work/disk.so" || exit 1
+chmod 755 "$work" "$work/program" "$work/disk.so"
 cd "$work" || exit 1
 program=$work/program
 passed=0
@@ -63,6 +64,16 @@ as_other() {
     else
         setpriv --reuid=65534 --regid=65534 --clear-groups "$program" "$@" > out 2> err
     fi
+    status=$?
+}
+
+# through WISH ARG..: a run with tests/disk.c between it and its files. What it asks of the disk and
+# what it prints go to `asked`, in that order.
+through() {
+    wish=$1
+    shift
+    : > out
+    LD_PRELOAD=$work/disk.so DISK=$wish "$program" "$@" > asked 2> err 9>&1
     status=$?
 }
 
@@ -125,21 +136,103 @@ run join -o a a two
 check 'join over a name of two' 0 "$both_lines" ''
 same 'the other name keeps what was there' linked one
 cp two x
-run extract -o x --tsi 7 --toi 2 x
+run extract -f -o x --tsi 7 --toi 2 x
 check 'extract over its journal' 0 'bytes 5' ''
 same 'the object in the place of its journal' x other
 cp sent2 d
-run join -o d d
+run join --force -o d d
 check 'join over its datagram file' 0 'datagrams 2
 refused 0
 entries 3' ''
 same 'the journal in the place of its datagrams' d two
 cp other c
-run carousel -o c --tsi 7 --toi 2 --symbol 4 --block 2 c
+run carousel -f -o c --tsi 7 --toi 2 --symbol 4 --block 2 c
 check 'carousel over its content' 0 'datagrams 2' ''
 same 'the datagrams in the place of their content' c sent2
 run info -o x --tsi 7 --toi 3 --length 5 --symbol 4 --block 2 two
 check 'info over another file' 0 'entries 4' ''
+
+# kept NAME TEXT FILE ARG..: the command refuses its output with this text; the file, a copy of
+# `$copied`, stays, and nothing is made beside it. With --force the same command writes it.
+kept() {
+    name=$1
+    text=$2
+    file=$3
+    shift 3
+    cp "$copied" "$file"
+    run "$@"
+    check "$name" 2 '' "$text"
+    same "$name: the file stays" "$file" "$copied"
+    alone "$name: nothing beside" "$file"
+    run "$@" --force
+    check "$name, forced" 0 - ''
+    holds "$name, forced: the file is another" [ "$(cmp "$file" "$copied" 2>&1)" ]
+    cp "$copied" "$file"
+}
+
+# What stands at OUT and is not overwritten. The shell makes the first input OUT, if that is
+# forgotten.
+mkdir station1 station2
+cp sent1 station1/10.0.0.1.fldg
+cp sent2 station2/10.0.0.1.fldg
+copied=sent1
+kept 'join over a station, by a pattern' 'output is a datagram file' \
+    station1/10.0.0.1.fldg join -o station*/10.0.0.1.fldg
+kept 'merge over a datagram file' 'output is a datagram file' d merge -o d one two
+kept 'info over a datagram file' 'output is a datagram file' d \
+    info -o d --tsi 7 --toi 3 --length 5 --symbol 4 --block 2 two
+kept 'extract over a datagram file' 'output is a datagram file' d extract -o d --tsi 7 --toi 2 two
+kept 'carousel over a datagram file' 'output is a datagram file' d \
+    carousel -o d --tsi 7 --toi 2 --symbol 4 --block 2 other
+ln -s d to_datagrams
+kept 'join over a link to a datagram file' 'output is a datagram file' d join -o to_datagrams two
+copied=two
+kept 'extract over its journal, unforced' 'output is a journal' d extract -o d --tsi 7 --toi 2 d
+kept 'extract over another journal' 'output is a journal' d extract -o d --tsi 7 --toi 2 both
+kept 'carousel over a journal' 'output is a journal' d \
+    carousel -o d --tsi 7 --toi 2 --symbol 4 --block 2 other
+copied=content
+kept 'carousel over its content, unforced' 'output is an input' d \
+    carousel -o d --tsi 7 --toi 2 --symbol 4 --block 2 d
+ln d hard
+kept 'carousel over a name of its content' 'output is an input' d \
+    carousel -o d --tsi 7 --toi 2 --symbol 4 --block 2 hard
+ln -s d soft
+kept 'carousel over a link to its content' 'output is an input' d \
+    carousel -o soft --tsi 7 --toi 2 --symbol 4 --block 2 d
+kept 'carousel over what a link to its content leads to' 'output is an input' d \
+    carousel -o d --tsi 7 --toi 2 --symbol 4 --block 2 soft
+cp other d
+run extract -o d --tsi 7 --toi 1 both
+check 'extract over any other file' 0 'bytes 37' ''
+run info -o x --tsi 7 --toi 3 --length 5 --symbol 4 --block 2 two
+cp two d
+run info -o d --tsi 7 --toi 3 --length 5 --symbol 4 --block 2 d
+check 'info over its journal' 0 'entries 4' ''
+same 'the journal with information' d x
+printf FLD > d
+run carousel -o d --tsi 7 --toi 2 --symbol 4 --block 2 other
+check 'carousel over a file of three bytes' 0 'datagrams 2' ''
+cp sent1 d
+run join -o d two nowhere
+check 'an input that is not there, before what is overwritten' 3 '' 'cannot open input 2'
+run join -o d two other
+check 'what is overwritten, before the kind of an input' 2 '' 'output is a datagram file'
+run extract -o d --tsi 8 --toi 9 two
+check 'what is overwritten, before an object' 2 '' 'output is a datagram file'
+run join -o d d d.partial --tsi x
+check 'a bad number, before what is overwritten' 2 '' 'bad number: --tsi'
+printf FLDG > d.partial
+run join -o d two
+check 'what is overwritten, before a leftover' 2 '' 'output is a datagram file'
+rm d.partial
+cp two appended
+"$program" extract -o /dev/stdout --tsi 7 --toi 2 two >> appended 2> err
+status=$?
+: > out
+check 'standard output behind a journal' 0 '' 'bytes 5'
+cat two other > behind
+same 'the object behind the journal' appended behind
 
 # What was there before: modes, links, leftovers
 cp one all
@@ -171,6 +264,12 @@ holds 'both links stay' [ -L chain ]
 ln -s circle circle
 run join -o circle two
 check 'a link that leads to itself' 3 '' 'cannot create output'
+cp one end
+ln -s end link1
+for k in $(seq 2 40); do ln -s link$((k - 1)) "link$k"; done
+run join -o link40 link40 two
+check 'as many links as the system follows' 0 - ''
+same 'what they lead to is written' end both
 printf garbage > left.partial
 chmod 400 left.partial
 run join -o left two
@@ -238,7 +337,7 @@ first_record=$((8 + $(od -An -tu1 -j6 -N1 sent1) * 256 + $(od -An -tu1 -j7 -N1 s
 head -c $first_record sent1 > sent_part
 "$program" join -o part sent_part > out || told join 'failed'
 for target in all fresh; do
-    cp one all
+    cp other all
     run extract -o $target --tsi 7 --toi 1 cut_both
     check "extract of a whole object from a journal that is cut behind it, to $target" \
         1 '' 'input 1: Cut'
@@ -247,7 +346,7 @@ for target in all fresh; do
     check "extract of a part, to $target" 1 '' 'not whole: 0/1'
     alone "extract of a part leaves nothing beside $target" $target
 done
-same 'after a fault of extract the output is what it was' all one
+same 'after a fault of extract the output is what it was' all other
 holds 'after a fault of extract there is no new output' [ ! -e fresh ]
 run extract -o nowhere/out --tsi 7 --toi 1 cut_both
 check 'a fault of extract before an output that cannot be created' 1 '' 'input 1: Cut'
@@ -289,6 +388,73 @@ if mount -t tmpfs -o size=1m none small 2> err; then
 else
     echo 'outputs: skipped: a full disk (no file system can be mounted here)'
 fi
+
+# Files of two disks may have one number: the leftover on one is no input on the other.
+mkdir disk1 disk2
+if mount -t tmpfs none disk1 2> err && mount -t tmpfs none disk2 2> err; then
+    cp one disk1/all
+    printf garbage > disk2/all.partial
+    number=$(stat -c %i disk1/all)
+    holds 'the files of two disks have one number' [ "$number" = "$(stat -c %i disk2/all.partial)" ]
+    run join -o disk2/all disk1/all two
+    check 'a leftover with the number of an input' 0 - ''
+    same 'the journal in its place' disk2/all both
+else
+    echo 'outputs: skipped: files of two disks (no file system can be mounted here)'
+fi
+umount disk1 disk2 2> err
+
+# What is asked of the disk before success is told, in this order
+mkdir kept
+for target in there new; do
+    cp one kept/there
+    through '' join -o kept/$target one two
+    check "join to a file that is $target" 0 '' ''
+    printf '%s\n' "fsync $target.partial" "rename $target.partial to $target" 'fsync kept' \
+        "$both_lines" > wanted
+    same "the disk has a file that is $target, and its name" asked wanted
+done
+(cd kept && through '' extract -o object --tsi 7 --toi 2 ../two)
+printf '%s\n' 'fsync object.partial' 'rename object.partial to object' 'fsync kept' \
+    'bytes 5' > wanted
+same 'the same without a folder in the name' kept/asked wanted
+for target in there new; do
+    cp one kept/there
+    rm -f kept/new
+    through lost join -o kept/$target one two
+    check "a disk that fails, for a file that is $target" 3 '' 'cannot write'
+    same "nothing else is asked for a file that is $target" asked - << END
+fsync $target.partial
+END
+    alone "nothing is left where the disk failed for a file that is $target" kept/$target
+    through unnamed join -o kept/$target one two
+    check "a disk that fails for the name of a file that is $target" \
+        3 '' 'output may not be on the disk'
+    same "a file that is $target is the new one all the same" kept/$target both
+    alone "nothing is left beside it, for a file that is $target" kept/$target
+    through unnameable join -o kept/$target two
+    check "a file system that syncs no folder, for a file that is $target" 0 '' ''
+    same "its file, for one that is $target" kept/$target two
+done
+rm kept/new
+cp one kept/there
+through lost join -o kept/there one two
+through lost join -o kept/new one two
+same 'a file that was there stays where the disk fails' kept/there one
+holds 'a new file is not there where the disk fails' [ ! -e kept/new ]
+through modeless join -o kept/there one two
+check 'a file that cannot get its mode' 3 '' 'cannot create output'
+alone 'nothing is left of a file that cannot get its mode' kept/there
+same 'what was there stays' kept/there one
+through taken join -o kept/new one two
+check 'a new file whose name another run takes' 3 '' 'cannot create output'
+holds 'the file of that run stays' [ -e kept/new.partial ]
+rm kept/new.partial kept/new.partial.moved
+printf garbage > kept/new.partial
+through taken join -o kept/new one two
+check 'a leftover whose name another run takes' 3 '' 'cannot create output'
+holds 'the file of that run is not removed' [ -e kept/new.partial ]
+rm kept/new.partial kept/new.partial.moved
 
 # Runs that wait on a pipe for an input, with their output made
 mkfifo pipe
@@ -451,6 +617,33 @@ check 'a pipe with a name' 0 'bytes 5' ''
 wait $first
 same 'what went through it' got other
 alone 'nothing beside a pipe' pipe
+# Nothing of a part: what is read from the pipe afterwards is what is written behind it.
+head -c 300000 large > long
+"$program" carousel -o sent6 --tsi 7 --toi 6 --symbol 1400 --block 64 long > out
+"$program" join -o six sent6 > out
+# The last record has a length, a header of 36 bytes and the last 400 bytes.
+head -c $(($(wc -c < sent6) - 438)) sent6 > sent_six
+"$program" join -o part_six sent_six > out
+exec 5<> pipe
+timeout 20 "$program" extract -o pipe --tsi 7 --toi 6 part_six > out 2> err
+status=$?
+check 'extract of a part to a pipe with a name' 1 '' 'not whole: 3/52'
+printf behind >&5
+holds 'no byte of a part went through it' [ "$(head -c 6 <&5)" = behind ]
+exec 5>&-
+# What takes a part of a write gets the rest.
+LD_PRELOAD=$work/disk.so DISK=parts "$program" extract -o - --tsi 7 --toi 6 six > got 2> err
+status=$?
+: > out
+check 'an output that takes parts' 0 '' 'bytes 300000'
+same 'it took all' got long
+cat pipe > got &
+first=$!
+LD_PRELOAD=$work/disk.so DISK=parts "$program" extract -o pipe --tsi 7 --toi 6 six > out 2> err
+status=$?
+check 'a pipe that takes parts' 0 'bytes 300000' ''
+wait $first
+same 'the pipe took all' got long
 mkfifo pipe_in
 cat pipe > got &
 first=$!
@@ -535,7 +728,7 @@ same 'what was merged with it' got both
 "$program" gaps - < two > out 2> err
 status=$?
 check 'gaps of standard input' 0 'session 7 object 2 whole 5' ''
-cat other | "$program" carousel -o got --tsi 7 --toi 2 --symbol 4 --block 2 - > out 2> err
+cat other | "$program" carousel -f -o got --tsi 7 --toi 2 --symbol 4 --block 2 - > out 2> err
 status=$?
 check 'the content from a pipe' 0 'datagrams 2' ''
 same 'its datagrams' got sent2
@@ -605,6 +798,17 @@ if [ "$(id -u)" != 0 ] || setpriv --reuid=65534 --regid=65534 --clear-groups tru
     check 'a file without leave to write' 3 '' 'cannot create output'
     same 'that file stays' open/all one
     alone 'nothing beside that file' open/all
+    rm open/all
+    cp sent2 open/all
+    chmod 222 open/all
+    as_other join -o open/all one two
+    check 'a datagram file that cannot be read' 0 "$both_lines" ''
+    same 'it is overwritten' open/all both
+    rm open/all
+    chmod 333 open
+    as_other join -o open/all one two
+    check 'a folder that cannot be read' 0 "$both_lines" ''
+    same 'the file in it' open/all both
 else
     echo 'outputs: skipped: a user without leave (no other user can be had here)'
 fi
@@ -613,12 +817,19 @@ fi
 # join have no such bound.
 printf 'FLDG\000\001' > huge
 truncate -s 4294967296 huge
+rm got
 "$program" carousel -o got --tsi 7 --toi 2 --symbol 1400 --block 64 huge > out 2> err &
 first=$!
 (sleep 10; kill -9 $first 2> /dev/null) &
 wait $first
 status=$?
 check 'a content of 4 GiB' 1 '' 'input 1: TooLarge'
+truncate -s 4294967295 huge
+(ulimit -v 1000000 &&
+    exec "$program" carousel -o got --tsi 7 --toi 2 --symbol 1400 --block 64 huge > out 2> err)
+status=$?
+check 'a content of one byte less, without memory for it' 3 '' 'out of memory'
+truncate -s 4294967296 huge
 run join -o got other huge
 check 'the kind of the input before it' 1 '' 'input 1: unknown kind'
 run join -o got huge two

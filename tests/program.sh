@@ -306,12 +306,13 @@ run_to /dev/full merge -o got whole others
 check 'merge to a full standard output' 3 '' 'cannot write'
 
 printf hello > content
+rm got
 run carousel -o got --tsi 7 --toi 1 --symbol 4 --block 2 content
 check 'carousel' 0 'datagrams 2' ''
 same 'the datagram file' got sent
 run carousel -o /dev/full --tsi 7 --toi 1 --symbol 4 --block 2 content
 check 'carousel to a full output' 3 '' 'cannot write'
-run carousel -o got --tsi 7 --toi 1 --symbol 0 --block 0 nothing
+run carousel -f -o got --tsi 7 --toi 1 --symbol 0 --block 0 nothing
 check 'carousel of no content' 0 'datagrams 1' ''
 run carousel -o got4 --tsi 7 --toi 1 --symbol 0 --block 2 content
 check 'carousel with bad information' 1 '' 'bad information: SymbolLength'
@@ -325,7 +326,8 @@ run carousel -o got4 --tsi 7 --toi 1 --symbol 4 --block 2 /proc/self/mem
 check 'carousel of a file that cannot be read' 3 '' 'input 1: Read'
 [ ! -e got4 ] || check 'no file after a fault of carousel' x - -
 
-run carousel -o sent --tsi 7 --toi 1 --symbol 4 --block 2 content
+run carousel -f -o sent --tsi 7 --toi 1 --symbol 4 --block 2 content
+rm got
 run join -o got sent
 check 'join of a datagram file' 0 'datagrams 2
 refused 0
@@ -556,7 +558,7 @@ for old in whole empty conflict symbol part instance others symbols many; do
     check "merge of both versions of $old, the new one first" 0 - ''
     same "both versions of $old, merged the other way" got ${old}2
 done
-run extract -o got --tsi 7 --toi 1 whole2
+run extract -f -o got --tsi 7 --toi 1 whole2
 check 'extract from a journal of version 2' 0 'bytes 5' ''
 same 'the object of a journal of version 2' got content
 run extract -o got8 --tsi 7 --toi 1 part2
@@ -668,21 +670,23 @@ entries 10' ''
 same 'the journal of all three senders' got three
 
 # extract: each sender's object
-for source in $v4 $v4_lower 00000000000000000000FfFf0a000001 0A000001 0a000001; do
+for source in $v4 $v4_lower 00000000000000000000FfFf0a000001 0A000001 0a000001 10.0.0.1; do
     for words in "--source $source" "--source=$source"; do
         : > got
-        run extract -o got $words --tsi 7 --toi 1 three
+        run extract -f -o got $words --tsi 7 --toi 1 three
         check "extract with $words" 0 'bytes 5' ''
         same "the object of the sender of $words" got world_content
     done
 done
-run extract -o got --tsi 7 --toi 1 three
+run extract -f -o got --tsi 7 --toi 1 three
 check 'extract without a source' 0 'bytes 5' ''
 same 'the object of the sender zero' got content
-run extract -o got --source $zero --tsi 7 --toi 1 three
-check 'extract of the sender zero' 0 'bytes 5' ''
-same 'the object of the sender that is zero' got content
-run extract -o got --source $zero --tsi 7 --toi 1 whole
+for source in $zero ::; do
+    run extract -f -o got --source $source --tsi 7 --toi 1 three
+    check "extract of the sender $source" 0 'bytes 5' ''
+    same "the object of the sender $source" got content
+done
+run extract -f -o got --source $zero --tsi 7 --toi 1 whole
 check 'extract of the sender zero from an old journal' 0 'bytes 5' ''
 same 'the object of an old journal' got content
 run extract -o got8 --tsi 7 --toi 1 world
@@ -697,11 +701,13 @@ run extract -o got8 --source 0a000001 --tsi 8 --toi 1 three
 check 'extract of a session that the sender zero has alone' 1 '' 'no object'
 run extract -o got8 --source 0a000002 --tsi 7 --toi 1 three
 check 'extract of a sender that the journal has not' 1 '' 'no object'
-run extract -o got8 --source 00000000 --tsi 7 --toi 1 three
-check 'the sender 0.0.0.0 is not the sender zero' 1 '' 'no object'
+for source in 00000000 0.0.0.0; do
+    run extract -o got8 --source $source --tsi 7 --toi 1 three
+    check "the sender 0.0.0.0 is not the sender zero: $source" 1 '' 'no object'
+done
 run extract -o got8 --source 0a000001 --tsi 7 --toi 1 whole
 check 'extract of another sender from an old journal' 1 '' 'no object'
-for source in $v6 $v6_lower 20010dB8000000000000000000000001; do
+for source in $v6 $v6_lower 20010dB8000000000000000000000001 2001:db8::1 2001:0DB8:0:0::0:1; do
     run extract -o got8 --source $source --tsi 7 --toi 1 three
     check "extract of a sender of IPv6, $source" 1 '' 'conflicting information'
 done
@@ -709,7 +715,7 @@ done
 # info: to an object of the sender that is told
 file informed "$header2 $(version2 $zero "$first $last") $(version2 $v4 "$info")
     FF 0000000000000003"
-for source in $v4 $v4_lower 00000000000000000000FfFf0a000001 0A000001 0a000001; do
+for source in $v4 $v4_lower 00000000000000000000FfFf0a000001 0A000001 0a000001 10.0.0.1; do
     for words in "--source $source" "--source=$source"; do
         : > got
         run info -o got $words --tsi 7 --toi 1 --length 5 --symbol 4 --block 2 symbols
@@ -757,6 +763,21 @@ entries 3' ''
         same "the journal of the sender of $words" got hello_v4
     done
 done
+# An address as it is written, and the digits that Python's ipaddress has for it.
+for address in 10.0.0.1=$v4 ::ffff:10.0.0.1=$v4 ::FFFF:a00:1=$v4 2001:db8::1=$v6 \
+    2001:DB8:0:0:0:0:0:1=$v6 255.255.255.255=00000000000000000000FFFFFFFFFFFF \
+    0.0.0.0=00000000000000000000FFFF00000000 ::1=00000000000000000000000000000001 \
+    ::=$zero 1:2:3:4:5:6:7:8=00010002000300040005000600070008 \
+    64:ff9b::192.0.2.33=0064FF9B0000000000000000C0000221 \
+    1:2:3:4:5:6:1.2.3.4=00010002000300040005000601020304 1::=00010000000000000000000000000000; do
+    file wanted "$header2 $(version2 ${address#*=} "$info $first $last") FF 0000000000000003"
+    : > got
+    run join -o got --source ${address%%=*} sent
+    check "join with the source ${address%%=*}" 0 'datagrams 2
+refused 0
+entries 3' ''
+    same "the journal of the sender ${address%%=*}" got wanted
+done
 run join -o got --source $v4 sent sent
 check 'join of two datagram files of one sender' 0 'datagrams 4
 refused 0
@@ -782,7 +803,7 @@ same 'the journal of the sender that is zero' got whole2
 # Only the sessions that are asked for: 65 others beside them.
 : > strays.body
 for tsi in $(seq 100 164); do
-    "$program" carousel -o stray --tsi "$tsi" --toi 1 --symbol 4 --block 2 content > /dev/null
+    "$program" carousel -f -o stray --tsi "$tsi" --toi 1 --symbol 4 --block 2 content > /dev/null
     tail -c +7 stray >> strays.body
 done
 (head -c 6 sent; cat strays.body) > strays
@@ -878,6 +899,71 @@ check 'the highest session' 0 'datagrams 2
 refused 0
 others 2
 entries 0' ''
+run join -o got --tsi 4294967303 sent
+check 'a session that differs above 32 bits' 0 'datagrams 2
+refused 0
+others 2
+entries 0' ''
+# The session 0, the object above 64 bits and the FDT Instance 0 are themselves.
+run carousel -o sent_other --tsi 9 --toi 1 --symbol 4 --block 2 content
+for name in '0 1' '4294967303 1' '7 18446744073709551617'; do
+    set -- $name
+    run info -o alike --tsi "$1" --toi "$2" --length 0 --symbol 0 --block 0 empty
+    check "info of the session $1 and the object $2" 0 'entries 1' ''
+    run join -o got --tsi "$1" alike sent_other
+    check "join of the session $1" 0 'datagrams 2
+refused 0
+others 2
+entries 1' ''
+    same "the journal of the session $1" got alike
+    run gaps alike
+    check "gaps of the session $1 and the object $2" 0 "session $1 object $2 whole 0" ''
+    run extract -o got5 --tsi "$1" --toi "$2" alike
+    check "extract of the session $1 and the object $2" 0 'bytes 0' ''
+    [ ! -s got5 ] || check "the object $2 of the session $1" x - -
+    rm got5
+done
+run extract -o got8 --tsi 7 --toi 1 alike
+check 'an object that differs above 64 bits' 1 '' 'no object'
+run carousel -o sent_one --tsi 1 --toi 1 --symbol 4 --block 2 content
+run carousel -o sent_zero --tsi 0 --toi 1 --symbol 4 --block 2 content
+run join -o got --tsi 0 sent_one sent_zero
+check 'join of the session 0 alone' 0 'datagrams 4
+refused 0
+others 2
+entries 3' ''
+run join -o wanted sent_zero
+same 'the journal of the session 0' got wanted
+run carousel -f -o sent_zero --tsi 7 --toi 0 --fdt 0 --symbol 4 --block 2 content
+check 'carousel of the FDT Instance 0' 0 'datagrams 2' ''
+run join -o alike sent_zero
+run gaps alike
+check 'gaps of the FDT Instance 0' 0 'session 7 object fdt 0 whole 5' ''
+run extract -o got5 --tsi 7 --toi 0 --fdt 0 alike
+check 'extract of the FDT Instance 0' 0 'bytes 5' ''
+same 'the FDT Instance 0' got5 content
+rm got5
+run extract -o got8 --tsi 7 --toi 0 --fdt 1 alike
+check 'extract of another FDT Instance' 1 '' 'no object'
+for numbers in '5000000001 10000 60000' '140737488355327 65535 65535' \
+    '4294967297 4097 65537'; do
+    set -- $numbers
+    run info -o got --tsi 7 --toi 1 --length "$1" --symbol "$2" --block "$3" empty
+    check "info of the length $1" 0 'entries 1' ''
+    run show got
+    check "the information of the length $1" 0 \
+        "session 7 object 1 info length $1 symbol $2 block $3
+entries 1" ''
+done
+# Of many inputs the last alone has a symbol.
+journal last_alone "$header $last FF 0000000000000001"
+for count in 33 34 48 62 63; do
+    run join -o got $(yes part | head -n $((count - 1))) last_alone
+    check "join of $count inputs" 0 'datagrams 0
+refused 0
+entries 3' ''
+    same "the journal of $count inputs" got whole2
+done
 for number in 281474976710656 -1 seven 0x7 7. 99999999999999999999999999999999999999999; do
     run join -o got8 --tsi "$number" sent
     check "the session $number" 2 '' 'bad number: --tsi'
@@ -900,7 +986,7 @@ run gaps of_both
 check 'two senders with one TSI are no conflict' 0 "source $v4_lower session 7 object 1 whole 5
 source 00000000000000000000ffff0a000002 session 7 object 1 whole 5" ''
 for sender in 0a000001=content 0a000002=reversed; do
-    run extract -o got --source ${sender%=*} --tsi 7 --toi 1 of_both
+    run extract -f -o got --source ${sender%=*} --tsi 7 --toi 1 of_both
     check "extract of the sender ${sender%=*} of two" 0 'bytes 5' ''
     same "the object of the sender ${sender%=*} of two" got ${sender#*=}
 done
@@ -911,7 +997,9 @@ check 'extract of the sender zero where it sent nothing' 1 '' 'no object'
 printf before > kept
 for source in '' A 0 0A00001 0A0000010 0A00 0000000000000000 ${v4%?} ${v4}0 ${v4}00 \
     0G000001 0g000001 ${v4%?}G -A000001 -0A00001 -0A000001 - -- -h \
-    +A000001 ' A000001' '0A000001 ' '0A 00001' 10.0.0.1 ::1 ::ffff:10.0.0.1 0x0A0000 0x0A000001
+    +A000001 ' A000001' '0A000001 ' '0A 00001' 0x0A0000 0x0A000001 \
+    10.0.0.256 10.0.0.01 10.0.0 10.0.0.1.1 10.0.0.1/8 ' 10.0.0.1' 1::2::3 2001:db8::12345 \
+    1:2:3:4:5:6:7 1:2:3:4:5:6:7:8:9 fe80::1%1 '[::1]' ::10.0.0.256
 do
     for output in kept got8; do
         run extract -o $output --source "$source" --tsi 7 --toi 1 three
@@ -971,15 +1059,15 @@ for words in 'show three' 'gaps three' 'merge -o kept three three' "packet $symb
     told_first "a source in $words" "unexpected argument '--source' found"
 done
 run extract -o kept --source 0A000001 --tsi 7 --toi 1 --source 0A000001 three
-told_first 'extract with two sources' "the argument '--source <HEX>' cannot be used multiple times"
+told_first 'extract with two sources' "the argument '--source <ADDRESS>' cannot be used multiple times"
 run info -o kept --source 0A000001 --tsi 7 --toi 1 --length 5 --symbol 4 --block 2 \
     --source 0A000002 three
-told_first 'info with two sources' "the argument '--source <HEX>' cannot be used multiple times"
+told_first 'info with two sources' "the argument '--source <ADDRESS>' cannot be used multiple times"
 run join -o kept --source 0A000001 --source 0A000002 sent
-told_first 'join with two sources' "the argument '--source <HEX>' cannot be used multiple times"
+told_first 'join with two sources' "the argument '--source <ADDRESS>' cannot be used multiple times"
 run extract -o kept --tsi 7 --toi 1 three --source
 told_first 'a source without a value' \
-    "a value is required for '--source <HEX>' but none was supplied"
+    "a value is required for '--source <ADDRESS>' but none was supplied"
 [ "$(cat kept)" = before ] && [ ! -e kept.partial ] ||
     check 'the output that was there before bad sources' x - -
 [ ! -e got8 ] && [ ! -e got8.partial ] ||
@@ -1071,6 +1159,7 @@ for command in program packet show gaps extract info join merge carousel; do
     fi
     examples tried/help > tried/lines
     [ -s tried/lines ] || check "help of $command gives an example" x - -
+    [ $command != carousel ] || rm tried/sent
     (cd tried && PATH=$work/names:$PATH sh -e ./lines > ../out 2> ../err)
     status=$?
     check "the example of $command runs" 0 - ''

@@ -6,7 +6,7 @@
 set -u
 work=$(mktemp -d)
 trap 'rm -rf "$work"' EXIT
-"$(dirname "$0")/refuse.sh" "$work/refuse.so" || exit 1
+"$(dirname "$0")/preload.sh" refuse "$work/refuse.so" || exit 1
 
 failed=0
 for program; do

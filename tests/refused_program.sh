@@ -8,7 +8,7 @@
 set -u
 work=$(mktemp -d)
 trap 'rm -rf "$work"' EXIT
-"$(dirname "$0")/refuse.sh" "$work/refuse.so" || exit 1
+"$(dirname "$0")/preload.sh" refuse "$work/refuse.so" || exit 1
 programs=
 for program; do
     programs="$programs $(readlink -f "$program")"
@@ -114,9 +114,12 @@ sweep() {
 sweep_outputs() {
     sweep 0 extract -o made --tsi 7 --toi 1 whole
     sweep 0 info -o made --tsi 7 --toi 1 --length 5 --symbol 4 --block 2 others
+    sweep 0 info -o made --source 0a000001 --tsi 7 --toi 1 --length 5 --symbol 4 --block 2 others
     sweep 0 join -o made sent others
+    sweep 0 join -o made --source 0a000001 sent others
     sweep 0 merge -o made whole others
     sweep 0 carousel -o made --tsi 7 --toi 1 --symbol 4 --block 2 content
+    sweep 0 carousel -o made --tsi 7 --toi 1 --symbol 4 --block 2 /dev/null
 }
 
 header=464C4A4E0001
