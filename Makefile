@@ -11,18 +11,32 @@
 #                    written
 # make install       copies the program to $(PREFIX)/bin, and the tools of the network and of
 #                    pictures beside it; man pages, the completion for bash and the examples of the
-#                    tutorial and of many stations to $(PREFIX)/share
+#                    tutorial and of many stations to $(PREFIX)/share; and the unit of a station
+# make uninstall     takes away what `make install` copies
+# make deb           makes bin/flutejoin_VERSION_ARCHITECTURE.deb of it, for Debian
+# make soak          runs stations for longer than the gate does
+# make scale         runs what docs/SCALE.md has for several machines, where its engines are here
+#
+# PROGRAM=PATH       a program that is built already, in the place of bin/flutejoin
 
 PREFIX ?= /usr/local
+PROGRAM ?= bin/flutejoin
 # They find their modules beside themselves, so bin has links to them.
-TOOLS := flutejoin-capture flutejoin-map flutejoin-mend flutejoin-receive
+TOOLS := flutejoin-capture flutejoin-map flutejoin-mend flutejoin-receive flutejoin-station \
+	flutejoin-values
 
 # What `rt ci` leaves: the program, and the sweep through refused requests for memory
 BUILT := crates/flutejoin_cli/out/flutejoin_cli
 SWEEP := crates/refused_memory/out/refused_memory
 
+BIN = $(DESTDIR)$(PREFIX)/bin
+LIB = $(DESTDIR)$(PREFIX)/lib/flutejoin
+MAN = $(DESTDIR)$(PREFIX)/share/man/man1
 COMPLETIONS = $(DESTDIR)$(PREFIX)/share/bash-completion/completions
 EXAMPLES = $(DESTDIR)$(PREFIX)/share/flutejoin/examples
+SCRIPTS := $(addprefix examples/,tree_steps.sh stations.py levels.sh push.sh reduce.sh)
+UNITS = $(DESTDIR)$(PREFIX)/lib/systemd/system
+UNIT := flutejoin-station@.service
 
 SOURCES := crates.txt $(shell find crates -name out -prune -o -type f -print)
 
@@ -35,12 +49,20 @@ test:
 	tests/wrong_bodies.sh
 	tests/program.sh $(BUILT)
 	tests/outputs.sh $(BUILT)
+	tests/large.py $(BUILT)
 	tests/capture.sh $(BUILT)
+	tests/capture_cases.py
+	tests/values.sh $(BUILT)
 	tests/receive.sh $(BUILT)
+	tests/receiving.py $(BUILT)
 	tests/map.sh $(BUILT)
+	tests/map_cases.py
 	tests/readme.sh $(BUILT)
 	tests/library_pages.sh
 	tests/tree.sh $(BUILT)
+	tests/examples.sh $(BUILT)
+	tests/station.py $(BUILT)
+	tests/package.sh $(BUILT)
 	tests/longest_journal.py $(BUILT)
 	tests/man.sh $(BUILT)
 	tests/completion.sh $(BUILT)
@@ -58,6 +80,12 @@ test-trials:
 wrong-bodies:
 	tools/wrong_bodies.py --all
 
+soak: $(PROGRAM)
+	tests/station.py "$(PROGRAM)" --soak
+
+scale: $(PROGRAM)
+	tests/scale.sh "$(PROGRAM)"
+
 try:
 	@echo "flutejoin: nothing is proved by this:" \
 		"the program is run before any proof, on one packet" >&2
@@ -66,27 +94,33 @@ try:
 example: bin/flutejoin
 	@examples/session.sh bin/flutejoin
 
-install: bin/flutejoin
-	install -d "$(DESTDIR)$(PREFIX)/bin"
-	install -m 755 bin/flutejoin "$(DESTDIR)$(PREFIX)/bin/flutejoin"
-	install -d "$(DESTDIR)$(PREFIX)/lib/flutejoin"
-	install -m 644 tools/flutejoin_*.py "$(DESTDIR)$(PREFIX)/lib/flutejoin"
+install: $(PROGRAM)
+	install -d "$(BIN)" "$(LIB)" "$(MAN)" "$(COMPLETIONS)" "$(EXAMPLES)" "$(UNITS)"
+	install -m 755 "$(PROGRAM)" "$(BIN)/flutejoin"
+	install -m 644 tools/flutejoin_*.py "$(LIB)"
 	for tool in $(TOOLS); do \
-		install -m 755 "tools/$$tool" "$(DESTDIR)$(PREFIX)/lib/flutejoin/$$tool" && \
-		ln -sf "../lib/flutejoin/$$tool" "$(DESTDIR)$(PREFIX)/bin/$$tool" || exit 1; \
-	done
-	install -d "$(DESTDIR)$(PREFIX)/share/man/man1"
-	install -m 644 man/*.1 "$(DESTDIR)$(PREFIX)/share/man/man1"
-	install -d "$(COMPLETIONS)"
-	install -m 644 completions/flutejoin.bash "$(COMPLETIONS)/flutejoin"
-	for tool in $(TOOLS); do \
+		install -m 755 "tools/$$tool" "$(LIB)/$$tool" && \
+		ln -sf "../lib/flutejoin/$$tool" "$(BIN)/$$tool" && \
 		ln -sf flutejoin "$(COMPLETIONS)/$$tool" || exit 1; \
 	done
-	install -d "$(EXAMPLES)"
-	install -m 644 examples/captures.py examples/tree.mk "$(EXAMPLES)"
-	install -m 755 examples/tree_steps.sh examples/stations.py "$(EXAMPLES)"
+	install -m 644 man/*.1 "$(MAN)"
+	install -m 644 completions/flutejoin.bash "$(COMPLETIONS)/flutejoin"
+	install -m 644 examples/captures.py examples/tree.mk examples/datagram_files.py "$(EXAMPLES)"
+	install -m 644 packaging/example.toml "$(EXAMPLES)"
+	install -m 755 $(SCRIPTS) "$(EXAMPLES)"
+	sed 's|/usr/bin/|$(PREFIX)/bin/|' "packaging/$(UNIT)" > "$(UNITS)/$(UNIT)"
+
+uninstall:
+	rm -f "$(BIN)/flutejoin" $(TOOLS:%="$(BIN)/%")
+	rm -f "$(COMPLETIONS)/flutejoin" $(TOOLS:%="$(COMPLETIONS)/%")
+	rm -f $(patsubst man/%,"$(MAN)/%",$(wildcard man/*.1)) "$(UNITS)/$(UNIT)"
+	rm -rf "$(LIB)" "$(DESTDIR)$(PREFIX)/share/flutejoin"
+
+deb: $(PROGRAM)
+	packaging/deb.sh "$(PROGRAM)" bin
 
 clean:
 	rm -rf bin crates/*/out
 
-.PHONY: test test-wrong-bodies test-trials wrong-bodies try example install clean
+.PHONY: test test-wrong-bodies test-trials wrong-bodies soak scale try example install uninstall \
+	deb clean

@@ -21,19 +21,24 @@ _flutejoin_words() {
 _flutejoin_options() {
     case $1 in
         packet | show | gaps) echo '--help' ;;
-        extract) echo '-o --source --tsi --toi --fdt --help' ;;
-        info) echo '-o --source --tsi --toi --fdt --length --symbol --block --help' ;;
-        join) echo '-o --source --tsi --help' ;;
-        merge) echo '-o --help' ;;
-        carousel) echo '-o --tsi --toi --fdt --symbol --block --help' ;;
+        extract) echo '-o --force --source --tsi --toi --fdt --help' ;;
+        info) echo '-o --force --source --tsi --toi --fdt --length --symbol --block --help' ;;
+        join) echo '-o --force --source --tsi --help' ;;
+        merge) echo '-o --force --help' ;;
+        carousel) echo '-o --force --tsi --toi --fdt --symbol --block --help' ;;
         flutejoin) echo '--help --version' ;;
         flutejoin-capture) echo '--port --group -o --split --any-checksum --help' ;;
         flutejoin-receive)
-            echo '--group --port --from --interface -o --count --seconds --senders --split' \
-                '--buffer --help'
+            echo '--group --port --from --interface -o --senders --split --most --buffer' \
+                '--status --count --seconds --config --help'
+            ;;
+        flutejoin-station)
+            echo '-o --config --group --port --from --interface --senders --buffer --tsi --every' \
+                '--window --keep-raw --nightly --outbox --status --seconds --flutejoin --help'
             ;;
         flutejoin-map) echo '-o --text --source --tsi --toi --fdt --flutejoin --help' ;;
         flutejoin-mend) echo '-o --help' ;;
+        flutejoin-values) echo '--source --tsi --toi --fdt --symbol --without -o --help' ;;
     esac
 }
 
@@ -53,14 +58,18 @@ _flutejoin() {
     case $before in
         -o)
             case $tool in
-                flutejoin-capture | flutejoin-receive) _flutejoin_folders "$word" ;;
+                flutejoin-capture | flutejoin-receive | flutejoin-station)
+                    _flutejoin_folders "$word"
+                    ;;
                 *) _flutejoin_files "$word" ;;
             esac
             return ;;
-        --flutejoin) _flutejoin_files "$word"; return ;;
+        --flutejoin | --config | --status) _flutejoin_files "$word"; return ;;
         --interface) _flutejoin_words "$word" "$(_flutejoin_interfaces)"; return ;;
-        --source | --tsi | --toi | --fdt | --length | --symbol | --block) return ;;
-        --port | --group | --from | --count | --seconds | --senders | --split | --buffer) return ;;
+        --source | --tsi | --toi | --fdt | --length | --symbol | --block | --without) return ;;
+        --port | --group | --from | --count | --seconds | --senders | --split | --most | --buffer)
+            return ;;
+        --every | --window | --keep-raw | --nightly) return ;;
     esac
     case $command in
         help) [ "$COMP_CWORD" -gt 2 ] || _flutejoin_words "$word" "$commands"; return ;;
@@ -76,11 +85,14 @@ _flutejoin() {
         -) _flutejoin_words "$word" "- $(_flutejoin_options "$command")"; return ;;
     esac
     case $command in
-        packet | flutejoin-receive) _flutejoin_words "$word" "$(_flutejoin_options "$command")" ;;
+        packet | flutejoin-receive | flutejoin-station)
+            _flutejoin_words "$word" "$(_flutejoin_options "$command")"
+            ;;
         show | gaps | extract | info | join | merge | carousel | flutejoin-*)
             _flutejoin_files "$word"
             ;;
     esac
 }
 
-complete -F _flutejoin flutejoin flutejoin-capture flutejoin-map flutejoin-mend flutejoin-receive
+complete -F _flutejoin flutejoin flutejoin-capture flutejoin-map flutejoin-mend flutejoin-receive \
+    flutejoin-station flutejoin-values

@@ -5,24 +5,18 @@ OUT has those of IN but for about PERCENT of them. Which records are lost depend
 the example is the same each time.
 """
 import random
-import struct
 import sys
+
+sys.dont_write_bytecode = True
+import datagram_files
 
 
 def main():
     source, target, percent, seed = sys.argv[1], sys.argv[2], float(sys.argv[3]), int(sys.argv[4])
     draw = random.Random(seed)
-    with open(source, "rb") as file:
-        data = file.read()
-    kept, place = [data[:6]], 6
-    while place < len(data):
-        (length,) = struct.unpack_from(">H", data, place)
-        record = data[place : place + 2 + length]
-        place += len(record)
-        if draw.random() * 100 >= percent:
-            kept.append(record)
-    with open(target, "wb") as file:
-        file.write(b"".join(kept))
+    sent = datagram_files.read(source)
+    kept = [datagram for datagram in sent if draw.random() * 100 >= percent]
+    datagram_files.write(target, kept)
 
 
 main()

@@ -8,7 +8,8 @@
 # OUT        the journal of all inputs
 # TREE       a folder for the journals between, and for the list of each join
 # FANIN      the greatest number of inputs of a join, from 2 to 64
-# SOURCE     the sender of the inputs that are datagram files (--source)
+# SOURCE     the sender of the inputs that are datagram files (--source). Without it the tools' names
+#            tell it, as 10.0.0.1.fldg or 2001-db8--1.2.fldg; with it one of another name stops
 # FLUTEJOIN  the program
 #
 # An input is joined again, with the path from it to OUT, where its file has other times, another
@@ -39,7 +40,8 @@ quoted = '$(subst ','\'',$(1))'
 
 $(info $(shell $(call quoted,$(STEPS)) plan \
 	$(call quoted,$(INPUTS)) $(call quoted,$(LIST)) $(call quoted,$(PATTERN)) \
-	$(call quoted,$(OUT)) $(call quoted,$(TREE)) $(call quoted,$(FANIN))))
+	$(call quoted,$(OUT)) $(call quoted,$(TREE)) $(call quoted,$(FANIN)) \
+	$(call quoted,$(SOURCE))))
 ifneq ($(.SHELLSTATUS),0)
 $(error tree.mk: nothing was joined)
 endif
@@ -52,10 +54,10 @@ endif
 include $(TREE)/plan.mk
 
 $(OUT): $(TREE)/out.list
-	@$(call quoted,$(STEPS)) join $(call quoted,$(FLUTEJOIN)) '' $@ $<
+	@$(call quoted,$(STEPS)) join $(call quoted,$(FLUTEJOIN)) $@ $<
 
 $(TREE)/%.journal: $(TREE)/%.list
-	@$(call quoted,$(STEPS)) join $(call quoted,$(FLUTEJOIN)) $(call quoted,$(SOURCE)) $@ $<
+	@$(call quoted,$(STEPS)) join $(call quoted,$(FLUTEJOIN)) $@ $<
 
 # The plan is written above.
 $(TREE)/plan.mk: ;

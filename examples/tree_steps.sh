@@ -1,13 +1,13 @@
 #!/bin/sh
 # The two steps of tree.mk.
 #
-# tree_steps.sh plan INPUTS LIST PATTERN OUT TREE FANIN
+# tree_steps.sh plan INPUTS LIST PATTERN OUT TREE FANIN SOURCE
 #     puts the inputs into groups, writes the list of each join where it changed, and TREE/plan.mk
-# tree_steps.sh join PROGRAM SOURCE OUTPUT LIST
+# tree_steps.sh join PROGRAM OUTPUT LIST
 #     joins what a list names, and names the input that is at fault
 #
 # A line of a list is a stamp, a space and a name. The stamp of a station's file changes when the
-# file does.
+# file does. It begins with the sender's address, in 32 digits, if that is known, and a colon.
 set -eu
 LC_ALL=C
 export LC_ALL
@@ -55,6 +55,86 @@ stamped() {
     tr '\n' '\0' < "$1" | xargs -0 -r stat -L --printf '%d:%i:%s:%.9Y:%.9Z %n\n' --
 }
 
+# sourced STAMPED SOURCE: the same, with the sender before each stamp: SOURCE, or of a datagram file
+# the one in the name that flutejoin-receive and flutejoin-capture give it
+sourced() {
+    awk -v source="$2" '
+        function stop(text) {
+            print "tree.mk: " text > "/dev/stderr"
+            exit 1
+        }
+        function ipv4(words,   i, digits) {
+            digits = "00000000000000000000ffff"
+            for (i = 1; i <= 4; i++) {
+                if (words[i] !~ /^(0|[1-9][0-9]*)$/ || words[i] + 0 > 255) return ""
+                digits = digits sprintf("%02x", words[i])
+            }
+            return digits
+        }
+        function part(text, digits,   words, count, i) {
+            count = text == "" ? 0 : split(text, words, "-")
+            for (i = 1; i <= count; i++) {
+                if (words[i] !~ /^[0-9a-f]+$/ || length(words[i]) > 4) return "x"
+                digits = digits substr("0000" words[i], length(words[i]) + 1)
+            }
+            return digits
+        }
+        function ipv6(text,   at, front, back) {
+            at = index(text, "--")
+            front = part(at ? substr(text, 1, at - 1) : text)
+            back = at ? part(substr(text, at + 2)) : ""
+            while (at && length(front back) < 32) front = front "0"
+            return front back ~ /^[0-9a-f]*$/ && length(front back) == 32 ? front back : ""
+        }
+        # address TEXT: its 32 digits, of IPv6 with hyphens as its colons, and what is behind in
+        # `rest`
+        function address(text,   words, count, i) {
+            count = split(text, words, ".")
+            rest = ""
+            for (i = count >= 4 && words[4] ~ /^[0-9]+$/ ? 5 : 2; i <= count; i++)
+                rest = rest "." words[i]
+            return count >= 4 && words[4] ~ /^[0-9]+$/ ? ipv4(words) : ipv6(words[1])
+        }
+        # sender NAME: the address in the name, and its epoch in `epoch`
+        function sender(name,   digits) {
+            sub(/.*\//, "", name)
+            if (!sub(/\.(fldg|journal)$/, "", name)) return ""
+            digits = address(name)
+            if (rest !~ /^(\.e[1-9][0-9]*)?(\.[1-9][0-9]*)?$/) return ""
+            epoch = rest ~ /^\.e/ ? substr(rest, 3) + 0 : 1
+            return digits
+        }
+        BEGIN {
+            named = source
+            source = tolower(source)
+            if (source ~ /^[0-9a-f]+$/ && length(source) == 8)
+                source = "00000000000000000000ffff" source
+            else if (source != "" && !(source ~ /^[0-9a-f]+$/ && length(source) == 32)) {
+                gsub(/:/, "-", source)
+                source = address(source)
+                if (source == "" || rest != "") stop("SOURCE is no address: " named)
+            }
+        }
+        {
+            name = substr($0, length($1) + 2)
+            of = sender(name)
+            if (of != "") {
+                folder = name
+                sub(/[^\/]*$/, "", folder)
+                run = folder SUBSEP of
+                if ((run in epochs) && epochs[run] != epoch)
+                    stop("two runs of one sender, whose datagrams conflict: " names[run] " and " \
+                        name "; PATTERN or LIST names those of one")
+                epochs[run] = epoch
+                names[run] = name
+            }
+            if (name !~ /\.fldg$/) of = ""
+            if (of != "" && source != "" && of != source)
+                stop("of another sender than SOURCE: " name)
+            print (of != "" ? of : source) ":" $0
+        }' "$1"
+}
+
 # check NAMES: stops at a name that cannot be handed on
 check() {
     [ -s "$1" ] || stop 'there are no inputs'
@@ -78,7 +158,8 @@ plan() {
     # No name is an option or standard input, and each stands once.
     sed -e '/^$/d' -e 's|^-|./-|' "$work/all" | awk '!seen[$0]++' > "$work/names"
     check "$work/names"
-    stamped "$work/names" > "$work/stamped" || stop 'an input is not there'
+    stamped "$work/names" > "$work/unsourced" || stop 'an input is not there'
+    sourced "$work/unsourced" "$7" > "$work/stamped" || exit 1
     : > "$work/kept"
     for list in "$5"/1-*.list; do
         [ ! -e "$list" ] || sed "s|^|$(basename "$list" .list) |" "$list" >> "$work/kept"
@@ -88,8 +169,8 @@ plan() {
     replace "$work" "$5"
 }
 
-# groups WORK FANIN: a group for each name. A name stays where it is; a new one fills a place that
-# is free.
+# groups WORK FANIN: a group for each name, of one sender. A name stays where it is; a new one fills a
+# place that is free.
 groups() {
     awk -v fanin="$2" -v kept="$1/kept" '
         {
@@ -97,23 +178,30 @@ groups() {
             name = substr($0, length($1) + 2)
             names[++count] = name
             stamps[name] = stamp
+            senders[name] = substr(stamp, 1, index(stamp, ":") - 1)
+        }
+        # fits NAME GROUP: whether the group has a free place and the same sender
+        function fits(name, group) {
+            return sizes[group] < fanin && (!(group in sender) || sender[group] == senders[name])
+        }
+        function put(name, group) {
+            of[name] = group
+            sizes[group]++
+            sender[group] = senders[name]
         }
         END {
-            free = 0
             while ((getline line < kept) > 0) {
                 split(line, words, " ")
                 name = substr(line, length(words[1]) + length(words[2]) + 3)
                 group = substr(words[1], 3) + 0
-                if ((name in stamps) && !(name in of) && sizes[group] < fanin) {
-                    of[name] = group
-                    sizes[group]++
-                }
+                if ((name in stamps) && !(name in of) && fits(name, group)) put(name, group)
             }
             for (i = 1; i <= count; i++) {
                 if (!(names[i] in of)) {
-                    while (sizes[free] >= fanin) free++
-                    of[names[i]] = free
-                    sizes[free]++
+                    group = free[senders[names[i]]] + 0
+                    while (!fits(names[i], group)) group++
+                    free[senders[names[i]]] = group
+                    put(names[i], group)
                 }
                 print of[names[i]], stamps[names[i]], names[i]
             }
@@ -173,21 +261,22 @@ replace() {
     done
 }
 
-# join PROGRAM SOURCE OUTPUT LIST
+# join PROGRAM OUTPUT LIST
 join() {
-    [ "$(wc -l < "$4")" -le 64 ] || stop "$4 names more than 64 inputs"
+    [ "$(wc -l < "$3")" -le 64 ] || stop "$3 names more than 64 inputs"
+    sender=$(head -n 1 "$3" | sed -n 's/^\([0-9a-f]*\):.*/\1/p')
     # With -x xargs stops where the names are too long for one command, so that a list is joined in
     # one command or not at all.
-    if told=$(cut -d ' ' -f 2- "$4" | tr '\n' '\0' |
-        xargs -0 -x -n 64 "$1" join -o "$3" ${2:+"--source=$2"} 2>&1); then
+    if told=$(cut -d ' ' -f 2- "$3" | tr '\n' '\0' |
+        xargs -0 -x -n 64 "$1" join -o "$2" ${sender:+"--source=$sender"} 2>&1); then
         entries=$(echo "$told" | sed -n 's/^entries //p')
-        echo "$3: $(wc -l < "$4" | tr -d ' ') inputs, $entries entries"
+        echo "$2: $(wc -l < "$3" | tr -d ' ') inputs, $entries entries"
         return
     fi
     at=$(echo "$told" | sed -n 's/.*input \([0-9]*\).*/\1/p' | head -n 1)
     [ -z "$at" ] ||
-        stop "$3 is not joined: $told, which is $(cut -d ' ' -f 2- "$4" | sed -n "${at}p")"
-    stop "$3 is not joined: $told"
+        stop "$2 is not joined: $told, which is $(cut -d ' ' -f 2- "$3" | sed -n "${at}p")"
+    stop "$2 is not joined: $told"
 }
 
 step=$1

@@ -285,6 +285,56 @@ capture sending/unfilled
 check 'most checksums fail in a list' 1 'left out 40: wrong UDP checksum' "$hint
 $none"
 
+# 20 datagrams of a sender at a time, which its network card takes apart later
+"$python" - "$here" sent1 sending/offload << 'END'
+import sys
+sys.path.insert(0, sys.argv[1])
+import captures, datagram_files
+source, target = b"\x0a\0\0\1", b"\xef\1\1\1"
+sent = list(datagram_files.read(sys.argv[2]))
+frames = []
+for at in range(0, len(sent), 20):
+    data = captures.udp(source, target, b"".join(sent[at : at + 20]))
+    data = data[:6] + b"\x12\x34" + data[8:]
+    frame = captures.LINKS["ethernet"][1] + captures.ip4(source, target, 17, data)
+    frames.append((1, frame, len(frame)))
+with open(sys.argv[3], "wb") as file:
+    file.write(captures.pcap(frames, "<", 0xA1B2C3D4, 262144))
+END
+capture --any-checksum --port 4001 -o offload sending/offload
+check 'segmentation offload' 0 - ''
+same 'its datagrams are taken apart' offload/10.0.0.1.fldg sent1
+flutejoin join -o offload.journal offload/10.0.0.1.fldg > told
+holds 'nothing of it is a misfit' [ "$(flutejoin gaps offload.journal)" = \
+    'session 7 object 1 whole 40000' ]
+
+# A sender that starts again: its FDT Instance 1 has other contents, and its object other bytes
+for run in 1 2; do
+    printf '<FDT-Instance Expires="%s"/>' "$run$run$run" > fdt$run
+    flutejoin carousel -o fdt_sent$run --tsi 7 --toi 0 --fdt 1 --symbol 99 --block 16 fdt$run > told
+    { cat fdt_sent$run; tail -c +7 sent$run; } > run$run
+done
+{ cat run1; tail -c +7 run2; tail -c +7 run2; } > runs
+echo 'again|10.0.0.1=runs' > row
+helper make row sending
+capture --port 4001 -o again2 sending/again
+again='starts again: an FDT Instance has other contents; epoch 2 begins'
+check 'a sender that starts again' 0 "again2/10.0.0.1.fldg: 41 datagrams from 10.0.0.1
+again2/10.0.0.1.e2.fldg: 82 datagrams from 10.0.0.1
+flutejoin join --source 0a000001 -o again2/10.0.0.1.journal again2/10.0.0.1.fldg
+flutejoin join --source 0a000001 -o again2/10.0.0.1.e2.journal again2/10.0.0.1.e2.fldg" \
+    "flutejoin-capture: 10.0.0.1 $again"
+grep '^flutejoin join ' out | sh > told
+for run in 1 2; do
+    [ $run = 1 ] && epoch='' || epoch=.e2
+    flutejoin extract -o of_run --source 0a000001 --tsi 7 --toi 1 \
+        again2/10.0.0.1$epoch.journal > told
+    same "the file of run $run" of_run file$run
+    flutejoin extract -o of_run --source 0a000001 --tsi 7 --toi 0 --fdt 1 \
+        again2/10.0.0.1$epoch.journal > told
+    same "the FDT Instance of run $run" of_run fdt$run
+done
+
 # Files in parts, and lines of at most 64 inputs
 mkdir 'a folder' && printf before > 'a folder/kept'
 capture --port 4001 -o 'a folder' --split 2100 made/ethernet
@@ -306,8 +356,9 @@ import struct, sys
 sys.dont_write_bytecode = True
 sys.path.insert(0, sys.argv[1])
 import flutejoin_files as files
-files.MOST_RECORDS = 10
-out = files.Files("records", files.MOST_BYTES, files.Report("test"))
+import flutejoin_parts as parts
+parts.MOST = 10
+out = parts.Files("records", files.MOST_BYTES, files.Report("test"))
 out.make_folder()
 for number in range(25):
     out.add(b"\x0a\0\0\1", b"datagram")
@@ -341,8 +392,9 @@ $join6 -o there/2001-db8--1.journal there/2001-db8--1.fldg" \
 same 'the file that was there' there/10.0.0.1.fldg printed/10.0.0.1.fldg
 mkdir left && printf before > left/10.0.0.1.fldg.partial
 capture --port 4001 -o left made/ethernet
+hint='flutejoin-mend makes a whole file of what a killed run left'
 check 'what a killed run left' 3 - \
-    "flutejoin-capture: left/10.0.0.1.fldg.partial: $occupied"
+    "flutejoin-capture: left/10.0.0.1.fldg.partial: $occupied; $hint"
 holds 'it stays' [ "$(cat left/10.0.0.1.fldg.partial)" = before ]
 holds 'the other sender has a file' [ -e left/10.0.0.2.fldg ]
 capture --port 4001 -o again made/ethernet

@@ -30,6 +30,10 @@ import shlex
 import struct
 import sys
 
+sys.dont_write_bytecode = True
+sys.path.append(os.path.join(os.path.dirname(os.path.realpath(__file__)), "../examples"))
+import datagram_files
+
 PORT = 4001
 GROUPS = {4: "239.1.1.1", 6: "ff3e::4321"}
 LINKS = {  # the link type, and what stands before an IP packet of version 4 and 6
@@ -115,16 +119,6 @@ def fragments(source, target, data, number, size):
             head = struct.pack(">BBHI", 17, 0, at | more, number)
             made.append(ip6(source, target, 44, head + piece))
     return made
-
-
-def records(name):
-    with open(name, "rb") as file:
-        data = file.read()
-    place = 6
-    while place < len(data):
-        (size,) = struct.unpack_from(">H", data, place)
-        yield data[place + 2 : place + 2 + size]
-        place += 2 + size
 
 
 class Capture:
@@ -225,7 +219,7 @@ class Capture:
         waiting = {}
         for word in self.options.sent:
             sender, name = word.split("=")
-            waiting[sender], self.kept[sender] = list(records(name)), []
+            waiting[sender], self.kept[sender] = list(datagram_files.read(name)), []
         turns = [sender for sender, payloads in waiting.items() for _ in payloads]
         self.draw.shuffle(turns)
         sent = dict.fromkeys(waiting, 0)
@@ -255,7 +249,9 @@ class Capture:
 def pcap(frames, order, magic, snap):
     made = [struct.pack(order + "IHHiIII", magic, 2, 4, 0, 0, snap, frames[0][0])]
     for at, (_link, frame, length) in enumerate(frames):
-        made.append(struct.pack(order + "IIII", 1700000000 + at, at, len(frame), length) + frame)
+        second, part = divmod(at, 1000)
+        fields = 1700000000 + second, 1000 * part, len(frame), length
+        made.append(struct.pack(order + "IIII", *fields) + frame)
     return b"".join(made)
 
 
@@ -342,14 +338,7 @@ def make(name, words):
         if options.cut and sender == capture.last:  # the last packet is cut
             payloads = payloads[:-1]
         if options.snap > 1100:  # one that cuts less cuts each datagram of these tests
-            write_datagrams(os.path.join(name + ".kept", sender), payloads)
-
-
-def write_datagrams(name, payloads):
-    with open(name, "wb") as file:
-        file.write(b"FLDG\0\1")
-        for payload in payloads:
-            file.write(struct.pack(">H", len(payload)) + payload)
+            datagram_files.write(os.path.join(name + ".kept", sender), payloads)
 
 
 def damage(folder, count, names):
@@ -465,4 +454,5 @@ def main():
         {"cuts": cuts, "run": run, "mended": mended, "version1": version1}[command](*words)
 
 
-main()
+if __name__ == "__main__":
+    main()

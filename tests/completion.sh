@@ -53,7 +53,8 @@ offers '' flutejoin frob ''
 for command in $(echo "$commands" | tr , ' '); do
     [ "$command" = help ] || offers "-,$(options_of "$program" "$command")" flutejoin "$command" -
 done
-for tool in flutejoin-capture flutejoin-map flutejoin-mend flutejoin-receive; do
+for tool in flutejoin-capture flutejoin-map flutejoin-mend flutejoin-receive flutejoin-station \
+    flutejoin-values; do
     offers "-,$(options_of python3 -B "$here/../tools/$tool")" "$tool" -
 done
 
@@ -76,11 +77,22 @@ offers '' flutejoin-capture --port ''
 offers 'folder' flutejoin-receive --port 4001 -o f
 offers 'lo' flutejoin-receive --interface lo
 offers '' flutejoin-receive --group ''
+offers '' flutejoin-receive --most ''
+offers "$files" flutejoin-receive --config ''
+offers 'folder' flutejoin-station -o f
+offers "$files" flutejoin-station --config ''
+offers '' flutejoin-station --keep-raw ''
+offers '--every' flutejoin-station -o folder --e
 offers "$files" flutejoin-map ''
 offers "$files" flutejoin-map --flutejoin ''
 offers 'station1,station2' flutejoin-map -o map.svg --tsi 7 --toi 1 station
 offers "$files" flutejoin-mend -o ''
 offers 'station1,station2' flutejoin-mend -o mended station
+offers "$files" flutejoin-values ''
+offers 'station1,station2' flutejoin-values --tsi 7 --symbol 1/2 sta
+offers '' flutejoin-values --without ''
+offers "$files" flutejoin-values -o ''
+offers '--symbol,--source' flutejoin-values --s
 offers "$commands" ./bin/flutejoin ''
 
 echo "completion: $passed passed, $failed failed"

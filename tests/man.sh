@@ -28,7 +28,9 @@ options_of() {
     "$@" --help | sed -nE 's/^ +(-[a-zA-Z], )?(--?[a-z-]+).*/\2/p' | sort -u
 }
 
-for tool in flutejoin flutejoin-capture flutejoin-map flutejoin-mend flutejoin-receive; do
+tools='flutejoin-capture flutejoin-map flutejoin-mend flutejoin-receive flutejoin-station'
+tools="$tools flutejoin-values"
+for tool in flutejoin $tools; do
     plain $tool.1 > "$work/$tool.1"
     if command -v groff > "$work/told"; then
         groff -man -ww -Tascii -z "$pages/$tool.1" > "$work/told" 2>&1
@@ -42,7 +44,7 @@ for tool in flutejoin flutejoin-capture flutejoin-map flutejoin-mend flutejoin-r
     fi
 done
 
-for tool in flutejoin-capture flutejoin-map flutejoin-mend flutejoin-receive; do
+for tool in $tools; do
     for option in $(options_of "$tool"); do has $tool.1 "$option"; done
 done
 for command in packet show gaps extract info join merge carousel; do

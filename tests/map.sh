@@ -266,6 +266,12 @@ holds 'OUT is what it was, after a full disk' cmp -s before page.svg
 holds 'nothing beside, after a full disk' [ ! -e page.svg.partial ]
 map -o ./one1 one1
 check 'OUT is a journal' 2 '' -
+for magic in FLJN FLDG; do
+    printf '%s\000\002' $magic > given
+    map -o given one1
+    check "OUT begins with $magic" 2 '' -
+    [ "$(head -c 4 given)" = $magic ] || check "OUT that begins with $magic stays" x - -
+done
 for words in '--text' '-o -'; do
     "$python" "$tool" $words one1 > /dev/full 2> err
     status=$?

@@ -8,11 +8,16 @@ It makes datagram files for its test, too.
   maps.py forget IN OUT          each datagram without its transmission information
   maps.py objects IN OUT         212 objects, each with one datagram of IN
 """
+import os
 import re
 import struct
 import subprocess
 import sys
 import xml.etree.ElementTree as ElementTree
+
+sys.dont_write_bytecode = True
+sys.path.append(os.path.join(os.path.dirname(os.path.realpath(__file__)), "../examples"))
+import datagram_files
 
 NAMES = "held", "missing", "conflicting", "misfit"
 OBJECT = r"(.*object (?:fdt )?\d+) "
@@ -94,8 +99,12 @@ def expected(paths):
     journals = [(path, Journal(path)) for path in paths]
     if len(paths) > 1:
         run("join", "-o", "joined", *paths)
-        journals.append((f"all {len(paths)} joined", Journal("joined")))
-    last = journals[-1][1]
+        last = Journal("joined")
+        # Where the panels do not fit in one line, that of all is the first.
+        place = len(journals) if len(journals) < 4 else 0
+        journals.insert(place, (f"all {len(paths)} joined", last))
+    else:
+        last = journals[0][1]
     for key in last.states:
         panels = []
         for name, journal in journals:
@@ -218,35 +227,19 @@ def see_text(lines, wanted):
     compare(list(lines), [], "the rest")
 
 
-def records(path):
-    data = open(path, "rb").read()
-    place = 6
-    while place < len(data):
-        (length,) = struct.unpack_from(">H", data, place)
-        yield data[place + 2 : place + 2 + length]
-        place += 2 + length
-
-
-def write(path, datagrams):
-    with open(path, "wb") as file:
-        file.write(b"FLDG\0\1")
-        for datagram in datagrams:
-            file.write(struct.pack(">H", len(datagram)) + datagram)
-
-
 def main():
     mode, first, *rest = sys.argv[1:]
     if mode == "cut":
-        write(rest[0], [datagram[:-1] for datagram in records(first)])
+        datagram_files.write(rest[0], [datagram[:-1] for datagram in datagram_files.read(first)])
     elif mode == "forget":
         forgotten = [
-            datagram[:2] + b"\4" + datagram[3:16] + datagram[32:] for datagram in records(first)
+            datagram[:2] + b"\4" + datagram[3:16] + datagram[32:] for datagram in datagram_files.read(first)
         ]
-        write(rest[0], forgotten)
+        datagram_files.write(rest[0], forgotten)
     elif mode == "objects":
-        datagram = next(records(first))
+        datagram = next(datagram_files.read(first))
         numbers = [struct.pack(">I", number) for number in range(1001, 1213)]
-        write(rest[0], [datagram[:12] + number + datagram[16:] for number in numbers])
+        datagram_files.write(rest[0], [datagram[:12] + number + datagram[16:] for number in numbers])
     else:
         wanted = list(expected(rest))
         see_page(mode, wanted)

@@ -79,7 +79,7 @@ awk 'BEGIN { for (i = 1; i <= 5000; i++) printf "%07d\n", i }' > file
 "$program" carousel -o sent --tsi 7 --toi 1 --symbol 1000 --block 16 file > /dev/null
 head -c -1038 sent > sent_but_last
 python3 "$here/../examples/stations.py" sent_but_last stations 100 97
-for station in stations/s000?[13579]; do "$program" join -o "$station" "$station" > /dev/null; done
+for station in stations/s000?[13579]; do "$program" join -f -o "$station" "$station" > /dev/null; done
 
 tree INPUTS=stations OUT=all
 check 'the tree of 64' joined 3
@@ -201,6 +201,81 @@ echo stations/missing > list
 tree LIST=list OUT=none
 check 'a name of a list that is not there' untouched 'an input is not there'
 check 'nothing is made of names that are refused' test ! -e none
+
+# Datagram files that the tools named: two senders with one session, each with its own bytes
+awk 'BEGIN { for (i = 5000; i >= 1; i--) printf "%07d\n", i }' > other_file
+"$program" carousel -o other_sent --tsi 7 --toi 1 --symbol 1000 --block 16 other_file > /dev/null
+python3 "$here/../examples/stations.py" sent of_first 3 40
+python3 "$here/../examples/stations.py" other_sent of_second 2 40
+mkdir -p named/a named/b
+mv of_first/s00000 named/a/10.0.0.1.fldg
+mv of_first/s00001 named/a/10.0.0.1.2.fldg
+mv of_first/s00002 named/b/10.0.0.1.fldg
+mv of_second/s00000 named/a/2001-db8--1.fldg
+mv of_second/s00001 named/b/2001-db8--1.e2.fldg
+tree INPUTS=named OUT=of_named TREE=named_tree
+check 'two senders by the names of their files' joined 3
+"$program" join -o first --source 0a000001 named/a/10.0.0.1*.fldg named/b/10.0.0.1.fldg > /dev/null
+"$program" join -o second --source 20010db8000000000000000000000001 named/*/2001*.fldg > /dev/null
+"$program" merge -o once first second > /dev/null
+check 'two senders by the names of their files: each as its own' cmp -s once of_named
+check 'two senders by the names of their files: no conflict' \
+    test -z "$("$program" gaps of_named | grep 'conflicting [1-9]')"
+"$program" join -o named/a/third --source 0a000003 sent > /dev/null
+tree INPUTS=named OUT=of_named TREE=named_tree
+"$program" merge -o merged once named/a/third > /dev/null
+check 'a journal beside them' cmp -s merged of_named
+rm named/a/third
+for sender in 10.0.0.1 0A000001 00000000000000000000ffff0a000001; do
+    tree INPUTS=named OUT=none TREE=none_tree SOURCE="$sender"
+    check "SOURCE=$sender and a file of another sender" \
+        untouched 'of another sender than SOURCE: named/a/2001-db8--1.fldg'
+    rm -f of_one
+    tree INPUTS=named PATTERN='10.*' OUT=of_one TREE="tree_$sender" SOURCE="$sender"
+    check "SOURCE=$sender and its files" cmp -s first of_one
+done
+tree INPUTS=named OUT=none SOURCE=10.0.0
+check 'SOURCE is no address' untouched 'SOURCE is no address: 10.0.0'
+cp named/b/2001-db8--1.e2.fldg named/a
+tree INPUTS=named OUT=none
+check 'two runs of one sender' untouched 'two runs of one sender'
+# All names that the tools give, and others
+mkdir addresses
+python3 - "$here/../tools" <<'SCRIPT' > wanted
+import ipaddress, random, sys
+sys.dont_write_bytecode = True
+sys.path.insert(0, sys.argv[1])
+from flutejoin_files import file_name
+draw, told = random.Random(1), []
+for number in range(300):
+    if number % 3:
+        words = [draw.choice((0, 0, 0, draw.randrange(1 << draw.choice((4, 16))))) for _ in range(8)]
+        address = ipaddress.ip_address(":".join("%x" % word for word in words))
+        digits = address.packed.hex()
+    else:
+        address = ipaddress.IPv4Address(draw.randrange(1 << 32))
+        digits = "0" * 20 + "ffff" + address.packed.hex()
+    if address.version == 6 and address.ipv4_mapped:
+        continue
+    part, epoch = draw.choice((1, 1, 2, 15)), draw.choice((1, 1, 2, 11))
+    told.append((f"addresses/{number}/" + file_name(str(address), part, epoch), digits))
+for name in ("10.0.0.256", "1.2.3", "1.2.3.4.0", "1.2.3.4.e1x", "01.2.3.4", "1-2", "1-2-3-4-5-6-7",
+             "1-2-3-4-5-6-7-8-9", "1--2--3", "12345--", "g--", "1--2.e0", "1--2.x", "-1--2"):
+    told.append((f"addresses/other/{name}.fldg", ""))
+told.append(("addresses/other/10.0.0.1.journal", ""))
+for name, digits in told:
+    print(f"{digits} {name}")
+SCRIPT
+cut -d ' ' -f 2- wanted | xargs dirname -- | sort -u | xargs mkdir -p --
+cut -d ' ' -f 2- wanted | xargs touch --
+"$here/../examples/tree_steps.sh" plan addresses '' '*' none none_tree 64 '' > out 2> err
+status=$?
+cat none_tree/1-*.list | sed 's/:[^ ]* / /' | sort > planned
+sort wanted > sorted
+check 'the senders in all names' cmp -s sorted planned
+check 'a group has one sender' \
+    test "$(for list in none_tree/1-*.list; do cut -d : -f 1 "$list" | sort -u | wc -l; done |
+        sort -u)" = 1
 
 echo "tree: $passed passed, $failed failed"
 [ "$failed" = 0 ]

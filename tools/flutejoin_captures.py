@@ -2,6 +2,9 @@
 
 They are files, or come from a pipe that still grows.
 """
+from __future__ import annotations
+
+import contextlib
 import errno
 import io
 import os
@@ -12,11 +15,15 @@ import struct
 import sys
 import time
 import zlib
+from typing import NamedTuple
 
 import flutejoin_files as files
 
 MOST_PACKET = 1 << 20  # bytes; a longer one is damage
+MOST_INTERFACES = 1 << 16  # of a section
 GRACE = 1.0  # seconds that a capture in a pipe has for its last packets after a signal
+TICK = 1.0  # seconds between two writes of what waits
+GZIP = b"\x1f\x8b"  # how a member begins
 SECTION = b"\x0a\x0d\x0d\x0a"  # how pcapng begins
 ORDERS = {  # how pcap begins
     b"\xd4\xc3\xb2\xa1": "<",
@@ -24,8 +31,11 @@ ORDERS = {  # how pcap begins
     b"\xa1\xb2\xc3\xd4": ">",
     b"\xa1\xb2\x3c\x4d": ">",
 }
+# How the modified pcap of old Linux begins, whose packets have more fields.
+MODIFIED_ORDERS = {b"\x34\xcd\xb2\xa1": "<", b"\xa1\xb2\xcd\x34": ">"}
 SECTION_ORDERS = {b"\x4d\x3c\x2b\x1a": "<", b"\x1a\x2b\x3c\x4d": ">"}
 INTERFACE, OLD_PACKET, SIMPLE_PACKET, PACKET = 1, 2, 3, 6  # the blocks of pcapng that are read
+RESOLUTION = 9  # the option of an interface that tells the units of its times
 
 
 class Fault(Exception):
@@ -39,9 +49,40 @@ class Ends(Fault):
         super().__init__(f"ends within {what}; the packets before it were read")
 
 
+class Empty(Ends):
+    def __init__(self):
+        Fault.__init__(self, "is empty")
+
+
 class Damage(Fault):
     def __init__(self, what):
         super().__init__(f"is damaged ({what}); the packets before that were read")
+
+
+class Interface(NamedTuple):
+    """Of whom the packets of a section are: the link type, the most bytes of a packet, and how many
+    units of its times a second has.
+    """
+
+    link: int
+    snap: int
+    units: int
+
+    @classmethod
+    def of(cls, order: str, body: bytes) -> Interface:
+        link, snap = struct.unpack_from(order + "HxxI", body)
+        return cls(link, snap, units_of(order, body))
+
+
+def units_of(order: str, body: bytes) -> int:
+    """The units of a second by the option of an interface block, or a million."""
+    at = 8
+    while at + 5 <= len(body):
+        code, size = struct.unpack_from(order + "HH", body, at)
+        if code == RESOLUTION and size == 1:
+            return (2 if body[at + 4] >> 7 else 10) ** (body[at + 4] & 0x7F)
+        at += 4 + size + -size % 4
+    return 1000000
 
 
 class Stop:
@@ -63,11 +104,12 @@ class Input(io.RawIOBase):
     """The bytes of a file or pipe, which end where it ends or once a signal asked for it.
 
     A pipe has a moment more: Ctrl-C also reaches the program that captures, which then hands over
-    its last packets. Where a pipe has nothing for a second, `idle` is called.
+    its last packets. `tick` is called once a second at most, while bytes come and after them.
     """
 
-    def __init__(self, file, stop, idle):
-        self.file, self.stop, self.idle = file, stop, idle
+    def __init__(self, file, stop, tick):
+        self.file, self.stop, self.tick = file, stop, tick
+        self.tick_at = time.monotonic() + TICK
         self.grace = 0 if stat.S_ISREG(os.fstat(file.fileno()).st_mode) else GRACE
         self.begin = b""
         while len(self.begin) < 2 and self.is_ready():
@@ -75,21 +117,26 @@ class Input(io.RawIOBase):
             if not piece:
                 break
             self.begin += piece
-        self.is_gzip = self.begin == b"\x1f\x8b"
+        self.is_gzip = self.begin == GZIP
 
     def readable(self):
         return True
 
     def is_ready(self):
         """Waits for bytes, or the end of the file. False where there is no more waiting."""
-        timeout = 1
+        is_quiet = False
         while not self.stop.asked:
+            left = self.tick_at - time.monotonic()
+            if left <= 0:
+                self.tick()
+                self.tick_at, left = time.monotonic() + TICK, TICK
+            timeout = None if is_quiet else left
             ready = select.select([self.file, self.stop.wakes], [], [], timeout)[0]
             if self.file in ready and not self.stop.asked:
                 return True
-            if not ready:
-                self.idle()
-                timeout = None
+            is_quiet = not ready
+            if is_quiet:
+                self.tick()
         left = self.stop.since + self.grace - time.monotonic()
         if self.stop.asked != 1 or left <= 0:
             return False
@@ -104,77 +151,124 @@ class Input(io.RawIOBase):
 
 
 class Inflated(io.RawIOBase):
-    """What gzip compressed, one member after another (RFC 1952), as far as it goes."""
+    """What gzip compressed, one member after another (RFC 1952), as far as it goes.
+
+    What is behind a member and is none, as zeros that fill a tape, is passed over as gzip does.
+    """
 
     def __init__(self, stream):
         self.stream, self.member = stream, zlib.decompressobj(31)
+        self.fault, self.has_garbage = None, False
 
     def readable(self):
         return True
 
     def readinto(self, buffer):
-        while True:
+        while not self.fault:
             data = self.member.unused_data or self.member.unconsumed_tail
             data = data or self.stream.read1(65536)
             if self.member.eof:
-                data = data.lstrip(b"\0")  # zeros may follow a member
-                if not data and not self.stream.peek(1):
+                data = self.next_member(data)
+                if not data:
                     return 0
                 self.member = zlib.decompressobj(31)
-            inflated = self.member.decompress(data, len(buffer))
+            inflated = self.inflate(data, len(buffer))
             if inflated:
                 buffer[: len(inflated)] = inflated
                 return len(inflated)
             if not data and not self.member.eof and not self.stream.peek(1):
                 raise Ends("what gzip compressed")
+        raise self.fault
+
+    def next_member(self, data: bytes) -> bytes:
+        """What begins the next member, whose first bytes these may be; nothing where none comes."""
+        data = data.lstrip(b"\0")
+        while len(data) < len(GZIP):
+            more = self.stream.read1(65536)
+            if not more:
+                break
+            data = (data + more).lstrip(b"\0")
+        if data.startswith(GZIP):
+            return data
+        self.has_garbage = bool(data)
+        return b""
+
+    def inflate(self, data: bytes, most: int) -> bytes:
+        """So many bytes at most. What came before a fault is answered before the fault is."""
+        before = self.member.copy()
+        try:
+            return self.member.decompress(data, most)
+        except zlib.error as fault:
+            self.fault = Damage(f"gzip: {fault}")
+        inflated = bytearray()
+        with contextlib.suppress(zlib.error):
+            for at in range(len(data)):
+                inflated += before.decompress(data[at : at + 1], most - len(inflated))
+        return bytes(inflated)
 
 
-def read(name, stop, idle, take):
+def opened(name):
+    """A capture as a file. One that waits for its writer, as a pipe may, is waited for later."""
+    if name != "-":
+        file = open(name, "rb", buffering=0, opener=files.open_at_once)
+        os.set_blocking(file.fileno(), True)
+        return file
+    if sys.stdin is None:
+        raise OSError(errno.EBADF, os.strerror(errno.EBADF), "standard input")
+    return open(0, "rb", buffering=0, closefd=False)
+
+
+def read(name, stop, tick, take):
     """Hands each packet of a capture to `take`, up to its end or a signal.
 
-    `Fault` where it is damaged or cut, `OSError` where it cannot be read.
+    Answers what is to be told of a capture that is whole, or None. `Fault` where it is damaged or
+    cut, `OSError` where it cannot be read.
     """
-    if name == "-" and sys.stdin is None:
-        raise OSError(errno.EBADF, os.strerror(errno.EBADF), "standard input")
-    with open(0 if name == "-" else name, "rb", buffering=0, closefd=name != "-") as file:
+    with opened(name) as file:
         try:
-            source = Input(file, stop, idle)
+            source = Input(file, stop, tick)
             stream = io.BufferedReader(source, 1 << 18)
-            if source.is_gzip:
-                stream = io.BufferedReader(Inflated(stream), 1 << 18)
-            for link, frame, is_cut in packets(stream):
-                take(link, frame, is_cut)
+            inflated = Inflated(stream) if source.is_gzip else None
+            if inflated:
+                stream = io.BufferedReader(inflated, 1 << 18)
+            for link, frame, is_cut, when in packets(stream):
+                take(link, frame, is_cut, when)
         except Ends:
             if not stop.asked:
                 raise
-        except zlib.error as fault:
-            raise Damage(f"gzip: {fault}") from None
+    if inflated and inflated.has_garbage:
+        return "what gzip compressed is whole, and other bytes behind it are ignored"
+    return None
 
 
 def packets(stream):
-    """Of each packet: its link type, its bytes, and whether more of them were on the network."""
+    """Of each packet: its link type, its bytes, whether more of them were on the network, and when.
+
+    That is the second, or None where the capture does not tell.
+    """
     magic = stream.read(4)
     if magic == SECTION:
         yield from block_packets(stream)
         return
     if not magic:
-        raise Fault("is empty")
-    if magic not in ORDERS:
+        raise Empty
+    if magic not in ORDERS and magic not in MODIFIED_ORDERS:
         raise Fault("is no capture (pcap or pcapng, which gzip may have compressed)")
-    order = ORDERS[magic]
+    order = ORDERS.get(magic) or MODIFIED_ORDERS[magic]
     link = struct.unpack(order + "16xI", taken(stream, 20, "its header"))[0] & 0xFFFF
-    lengths = struct.Struct(order + "8xII").unpack
-    next_bytes = stream.read
-    while head := next_bytes(16):
-        if len(head) < 16:
+    # Modified pcap has the interface and the protocol behind the lengths.
+    fields = struct.Struct(order + ("I4xII8x" if magic in MODIFIED_ORDERS else "I4xII"))
+    next_bytes, size = stream.read, fields.size
+    while head := next_bytes(size):
+        if len(head) < size:
             raise Ends
-        captured, original = lengths(head)
+        when, captured, original = fields.unpack(head)
         if captured > MOST_PACKET:
             raise Damage(f"a packet of {captured} bytes")
         frame = next_bytes(captured)
         if len(frame) < captured:
             raise Ends
-        yield link, frame, captured < original
+        yield link, frame, captured < original, when
 
 
 def taken(stream, size, what="a packet"):
@@ -206,7 +300,9 @@ def block_packets(stream):
             raise Damage("a block of two lengths")
         try:
             if number == INTERFACE:
-                interfaces.append(struct.unpack_from(order + "HxxI", body))
+                if len(interfaces) >= MOST_INTERFACES:
+                    raise Damage(f"more than {MOST_INTERFACES} interfaces")
+                interfaces.append(Interface.of(order, body))
             elif is_read:
                 yield block_packet(order, interfaces, number, body)
         except (struct.error, IndexError):
@@ -226,15 +322,17 @@ def block_body(stream, length, is_read):
 def block_packet(order, interfaces, number, body):
     """The packet of a block.
 
-    A simple one is of the first interface, and does not tell where that cut it.
+    A simple one is of the first interface, and tells neither where that cut it nor when it came.
     """
     if number == SIMPLE_PACKET:
         (original,) = struct.unpack_from(order + "I", body)
-        interface, captured, start = 0, min(original, interfaces[0][1] or original), 4
+        of, start, when = interfaces[0], 4, None
+        captured = min(original, of.snap or original)
     else:
-        fields = order + ("I8xII" if number == PACKET else "H10xII")
-        interface, captured, original = struct.unpack_from(fields, body)
-        start = 20
+        fields = order + ("I" if number == PACKET else "Hxx") + "IIII"
+        interface, high, low, captured, original = struct.unpack_from(fields, body)
+        of, start = interfaces[interface], 20
+        when = (high << 32 | low) // of.units
     if captured > len(body) - start:
         raise Damage("a packet longer than its block")
-    return interfaces[interface][0], body[start : start + captured], captured < original
+    return of.link, body[start : start + captured], captured < original, when

@@ -5,27 +5,30 @@ Only those are taken that came whole and right; the others are counted by their 
 import collections
 import struct
 
-MOST_FRAGMENTED = 256  # datagrams whose fragments are kept
-MOST_FRAGMENTS = 256  # of one datagram
+from flutejoin_fragments import CUT, Fragments
+from flutejoin_frames import (
+    IP,
+    LLC,
+    MOST_TAGS,
+    OTHER_FAMILY,
+    TUNNELS,
+    VLAN_TAGS,
+    carried,
+    is_without_ip,
+)
+from flutejoin_segments import datagrams_in
 
-CUT = "cut short by the capture (capture whole packets: tcpdump -s 0)"
 CUT_BEFORE_PORT = "cut short by the capture before the port"
 LENGTHS = "lengths in its headers that do not fit"
 HEADER_CHECKSUM = "wrong IPv4 header checksum"
 CHECKSUM = "wrong UDP checksum"
 NO_CHECKSUM = "no UDP checksum, which IPv6 demands"
-LOST = "a fragment is lost"
-DISAGREE = "fragments overlap or disagree"
 QUOTE = "ICMP error that quotes a datagram"
+SEVERAL = "perhaps several datagrams as one (UDP segmentation offload; capture at a station)"
 PORT_UNKNOWN = ", of a port that is not known"
+UNKNOWN = "which is not known here"
+MOST_NAMED = 16  # link types, and EtherTypes, that are told apart
 
-ETHERNET, COOKED, COOKED_2 = 1, 113, 276  # link types, https://www.tcpdump.org/linktypes.html
-RAW_IP = (12, 14, 101, 228, 229)
-LOOPBACK = (0, 108)
-# What the systems number IPv4 and IPv6 by, on loopback.
-FAMILIES = (b"\2", b"\n", b"\x17", b"\x18", b"\x1c", b"\x1e")
-IP = (b"\x08\x00", b"\x86\xdd")
-VLAN_TAGS = (b"\x81\x00", b"\x88\xa8", b"\x91\x00")
 UDP, ICMP, ICMP6, FRAGMENT = 17, 1, 58, 44
 # IPv6 extension headers that tell their length in one way (RFC 6564).
 HEADERS = (0, 43, 60, 135, 139, 140)
@@ -41,7 +44,6 @@ UDP_TUNNELS = {
     6081: "Geneve",
     8472: "VXLAN",
 }
-FRAME_TUNNELS = {b"\x88\x47": "MPLS", b"\x88\x48": "MPLS", b"\x88\x64": "PPPoE", b"\x88\xe7": "PBB"}
 
 # Version and header length, length, identification, fragment, protocol, addresses.
 IP4_HEAD = struct.Struct(">BxHHHxB2x4s4s")
@@ -49,81 +51,6 @@ IP6_HEAD = struct.Struct(">4xHBx16s16s")  # length, next header, addresses
 # Next header, offset and whether more follow, identification.
 FRAGMENT_HEAD = struct.Struct(">BxHI")
 UDP_HEAD = struct.Struct(">2xHHH")  # destination port, length, checksum
-
-
-class Fragmented:
-    """A datagram that comes in fragments."""
-
-    def __init__(self):
-        self.pieces, self.held, self.end, self.cause, self.is_done = {}, 0, None, None, False
-
-    def is_repeat(self, offset, more, data):
-        return self.pieces.get(offset) == data and (offset + len(data) == self.end) != more
-
-    def fail(self, cause):
-        """It is never put together, whatever comes. What is kept is where its port stands."""
-        self.cause = cause
-        self.pieces = {0: self.pieces[0][:256]} if 0 in self.pieces else {}
-
-    def add(self, offset, more, data):
-        """Takes a fragment that is no repeat.
-
-        No two overlap, so they are the whole where their lengths come to its end.
-        """
-        end = offset + len(data)
-        is_wrong = (
-            not data
-            or end > 65535
-            or (more and len(data) % 8)
-            or len(self.pieces) >= MOST_FRAGMENTS
-        )
-        is_beyond = self.end is not None and (not more or end > self.end)
-        for at, piece in self.pieces.items():
-            is_beyond = is_beyond or offset < at + len(piece) and (at < end or not more)
-        if is_wrong or is_beyond:
-            self.fail(DISAGREE)
-            return
-        self.pieces[offset] = data
-        self.held += len(data)
-        self.end = self.end if more else end
-        self.is_done = self.held == self.end
-
-
-class Fragments:
-    """The last datagrams that came in fragments.
-
-    Those that are whole stay among them, since a capture may have a fragment twice.
-    """
-
-    def __init__(self, lose):
-        self.last, self.lose = collections.OrderedDict(), lose
-
-    def add(self, key, offset, more, data, is_whole):
-        """The whole datagram, with the last of its fragments that comes."""
-        datagram = self.last.get(key)
-        if datagram and (datagram.cause or datagram.is_repeat(offset, more, data)):
-            return None
-        if datagram and datagram.is_done:  # its identification is used again
-            del self.last[key]
-            datagram = None
-        if datagram is None:
-            datagram = self.last[key] = Fragmented()
-            if len(self.last) > MOST_FRAGMENTED:
-                self.forget()
-        if is_whole:
-            datagram.add(offset, more, data)
-        else:
-            datagram.pieces.setdefault(offset, data)
-            datagram.fail(CUT)
-        if not datagram.is_done:
-            return None
-        return b"".join(datagram.pieces[at] for at in sorted(datagram.pieces))
-
-    def forget(self):
-        """Forgets the oldest. One that is not whole by now is lost."""
-        key, datagram = self.last.popitem(last=False)
-        if not datagram.is_done:
-            self.lose(key, datagram.pieces.get(0, b""), datagram.cause or LOST)
 
 
 class Datagrams:
@@ -137,6 +64,8 @@ class Datagrams:
         self.any_checksum, self.hand_on = any_checksum, hand_on
         self.count, self.left_out = 0, collections.Counter()
         self.fragments = Fragments(self.lose)
+        self.unknown = collections.defaultdict(set)
+        self.when, self.vlans = None, ()  # of the frame that is looked at
 
     def leave_out(self, cause):
         self.left_out[cause] += 1
@@ -150,19 +79,41 @@ class Datagrams:
         if port in UDP_TUNNELS and port not in self.ports:
             self.leave_tunnel(UDP_TUNNELS[port])
 
-    def take(self, link, frame, is_cut):
-        """Takes the IP packet in a frame."""
-        kind, start = network_layer(link, frame)
-        while kind in VLAN_TAGS:
-            kind, start = frame[start + 2 : start + 4], start + 4
+    def leave_unknown(self, what: str, number: int | str) -> None:
+        """Counts a frame of a link type or an EtherType; of the first ones by their numbers."""
+        numbers = self.unknown[what]
+        if number in numbers or len(numbers) < MOST_NAMED:
+            numbers.add(number)
+            self.leave_out(f"{what} {number}, {UNKNOWN}")
+        else:
+            self.leave_out(f"another {what}, {UNKNOWN}")
+
+    def take(self, link, frame, is_cut, when=None):
+        """Takes the IP packet in a frame. `when` is the second of its capture, if that is told."""
+        kind, start, self.vlans = carried(link, frame)
+        self.when = when
         if kind in IP:
             self.take_ip(frame[start:], is_cut)
-        elif kind in FRAME_TUNNELS:
-            self.leave_tunnel(FRAME_TUNNELS[kind])
         elif kind is None:
-            self.leave_out(f"link type {link}, which is not known here")
-        elif is_cut and len(kind) < 2:
+            self.leave_unknown("link type", link)
+        elif len(kind) >= 2:
+            self.leave_frame(kind, frame, start)
+        elif is_cut:
             self.leave_out(CUT_BEFORE_PORT)
+
+    def leave_frame(self, kind: bytes, frame: bytes, start: int) -> None:
+        """Counts a frame that may carry an IP packet which is not seen here."""
+        if kind in TUNNELS:
+            self.leave_tunnel(TUNNELS[kind])
+        elif kind in VLAN_TAGS:
+            self.leave_out(f"more than {MOST_TAGS} VLAN tags")
+        elif kind == OTHER_FAMILY:
+            self.leave_out(f"a protocol on loopback {UNKNOWN}")
+        elif not is_without_ip(kind, frame, start):
+            if kind == LLC:
+                self.leave_out(f"an LLC frame of a protocol {UNKNOWN}")
+            else:
+                self.leave_unknown("EtherType", f"0x{kind.hex()}")
 
     def take_ip(self, ip, is_cut):
         version = ip[0] >> 4 if ip else 0
@@ -187,17 +138,17 @@ class Datagrams:
             if place & 0x1FFF or self.may_want(data):
                 self.leave_out(HEADER_CHECKSUM)
         elif place & 0x3FFF:
-            key = source, target, number, UDP
+            key = source, target, number, UDP, self.vlans
             offset, more = (place & 0x1FFF) * 8, bool(place & 0x2000)
-            data = self.fragments.add(key, offset, more, data, is_whole)
+            data = self.fragments.add(key, offset, more, data, is_whole, self.when)
             if data is not None:
-                self.take_udp(source, target, data, True)
+                self.take_udp(source, target, data, True, True)
         else:
             self.take_udp(source, target, data, is_whole)
 
     def take_ip6(self, ip):
         length, kind, source, target = IP6_HEAD.unpack_from(ip)
-        is_whole = length <= len(ip) - 40
+        is_whole, is_joined = length <= len(ip) - 40, False
         kind, data = behind_headers(kind, ip[40 : 40 + length])
         if self.groups and target not in self.groups and kind in (UDP, FRAGMENT, *HEADERS):
             self.leave_udp_tunnel(data if kind == UDP else b"")
@@ -208,21 +159,22 @@ class Datagrams:
             if place & 0xFFF9:  # else it is a whole packet for itself (RFC 6946)
                 if kind != UDP and kind not in HEADERS:
                     return
-                key = source, target, number, kind
+                key = source, target, number, kind, self.vlans
                 offset, more = place & 0xFFF8, bool(place & 1)
-                data = self.fragments.add(key, offset, more, data, is_whole)
+                data = self.fragments.add(key, offset, more, data, is_whole, self.when)
                 if data is None:
                     return
-                is_whole = True
+                is_whole = is_joined = True
             kind, data = behind_headers(kind, data)
         if kind == UDP:
-            self.take_udp(source, target, data, is_whole)
+            self.take_udp(source, target, data, is_whole, is_joined)
         elif kind in HEADERS or kind == FRAGMENT:
             self.leave_out(LENGTHS if is_whole else CUT_BEFORE_PORT)
         else:
             self.take_other(kind, data)
 
-    def take_udp(self, source, target, data, is_whole):
+    def take_udp(self, source, target, data, is_whole, is_joined=False):
+        """Takes a datagram, which may have been joined of fragments."""
         if len(data) < 8:
             self.take_short_udp(data, is_whole)
             return
@@ -235,6 +187,8 @@ class Datagrams:
             self.leave_out(CUT)
         elif not 8 <= size <= len(data):
             self.leave_out(LENGTHS)
+        elif self.any_checksum and not is_joined:
+            self.take_unfilled(source, target, data[:size])
         else:
             cause = None
             if not self.any_checksum:
@@ -242,8 +196,25 @@ class Datagrams:
             if cause:
                 self.leave_out(cause)
             else:
-                self.count += 1
-                self.hand_on(source, target, port, data[8:size])
+                self.hand_on_one(source, target, port, data[8:size])
+
+    def take_unfilled(self, source: bytes, target: bytes, udp: bytes) -> None:
+        """Takes what may be several datagrams as one, unless its checksum shows that it is one."""
+        port, _, checksum = UDP_HEAD.unpack_from(udp)
+        payload = udp[8:]
+        payloads = datagrams_in(payload)
+        is_one = payloads is not None and len(payloads) == 1
+        if is_one or checksum and not checksum_fault(source, target, udp, checksum):
+            self.hand_on_one(source, target, port, payload)
+        elif payloads is None:
+            self.leave_out(SEVERAL)
+        else:
+            for payload in payloads:
+                self.hand_on_one(source, target, port, payload)
+
+    def hand_on_one(self, source: bytes, target: bytes, port: int, payload: bytes) -> None:
+        self.count += 1
+        self.hand_on(source, target, port, payload)
 
     def take_short_udp(self, data, is_whole):
         if len(data) < 4 and not is_whole:
@@ -282,26 +253,7 @@ class Datagrams:
             self.leave_out(cause)
 
     def finish(self):
-        while self.fragments.last:
-            self.fragments.forget()
-
-
-def network_layer(link, frame):
-    """The EtherType of what a frame carries, and its place in the frame.
-
-    None for a link type that is not known.
-    """
-    if link == ETHERNET:
-        return frame[12:14], 14
-    if link == COOKED:
-        return frame[14:16], 16
-    if link == COOKED_2:
-        return frame[:2], 20
-    if link in RAW_IP:
-        return IP[0], 0
-    if link in LOOPBACK:  # its family is in the order of bytes of the host that captured
-        return IP[0] if frame[:4].strip(b"\0") in FAMILIES else b"\xff\xff", 4
-    return None, 0
+        self.fragments.finish()
 
 
 def behind_headers(kind, data):
@@ -309,9 +261,10 @@ def behind_headers(kind, data):
 
     Where it ends within one of them: that one.
     """
-    while kind in HEADERS and len(data) >= 8 and len(data) >= 8 + data[1] * 8:
-        kind, data = data[0], data[8 + data[1] * 8 :]
-    return kind, data
+    at = 0
+    while kind in HEADERS and len(data) >= at + 8 and len(data) >= at + 8 + data[at + 1] * 8:
+        kind, at = data[at], at + 8 + data[at + 1] * 8
+    return kind, data[at:] if at else data
 
 
 def checksum_fault(source, target, udp, checksum):
@@ -324,21 +277,3 @@ def checksum_fault(source, target, udp, checksum):
     size = len(udp)
     number = int.from_bytes(b"%b%b%b%b" % (source, target, udp, b"\0" if size & 1 else b""), "big")
     return CHECKSUM if (number + size + UDP) % 65535 else None
-
-
-def is_like_flute(payload):
-    """Whether a datagram has the LCT header of a FLUTE packet as flutejoin takes it.
-
-    What its extensions say does not matter (RFC 5651, section 5).
-    """
-    if len(payload) < 4 or payload[0] >> 4 != 1 or payload[3]:
-        return False
-    has_session, has_object, is_half = payload[1] >> 7, payload[1] >> 5 & 3, payload[1] >> 4 & 1
-    place = 4 * (2 + (payload[0] >> 2 & 3) + has_session + has_object + is_half)
-    end = 4 * payload[2]
-    if not place <= end <= len(payload) or len(payload) - end in (1, 2, 3):
-        return False
-    while place < end:
-        words = 1 if payload[place] >= 128 else payload[place + 1]
-        place += 4 * words if words else end + 1
-    return place == end and bool(has_session or is_half) and bool(has_object or is_half)

@@ -1,31 +1,26 @@
-"""Datagram files, one or several for each sender, and what the tools take and tell.
-
-A file gets its name once it is whole.
+"""What the tools take and tell, the names of datagram files, and files that are whole or not there.
 """
+from __future__ import annotations
+
 import argparse
-import collections
+import contextlib
 import errno
+import ipaddress
 import os
 import shlex
 import signal
 import socket
-import struct
+import string
 import sys
+from typing import BinaryIO, Callable, NamedTuple, Optional
 
-MOST_RECORDS = 1 << 24  # of a datagram file that flutejoin reads
+from flutejoin_records import HEADER, LENGTH  # noqa: F401
+from flutejoin_records import MOST as MOST_RECORDS  # noqa: F401
+
 MOST_BYTES = (1 << 32) - 1  # of a datagram file, so that it can be kept on any disk
 MOST_INPUTS = 64  # of one `flutejoin join`
-MOST_SENDERS = 200  # each has a file open
-SENDERS = f"more than {MOST_SENDERS} senders"
-OCCUPIED = "its sender's file cannot be made"
-HEADER = b"FLDG\0\1"
-LENGTH = struct.Struct(">H")
 PARTIAL = ".partial"
 STOPPING = (signal.SIGINT, signal.SIGTERM, signal.SIGHUP)
-
-
-class Unwritable(Exception):
-    """An output cannot be made or written."""
 
 
 class Report:
@@ -47,10 +42,10 @@ class Report:
         self.status = max(self.status, status)
         self.warn(text)
 
-    def tell(self, stream, text):
-        """Writes a line. A stream that is closed or cannot be written ends no work."""
+    def tell(self, stream, *lines):
+        """Writes lines. A stream that is closed or cannot be written ends no work."""
         try:
-            put(stream, text)
+            put(stream, *lines)
         except (OSError, AttributeError):
             if stream is sys.stdout and not self.is_mute:
                 self.is_mute = True
@@ -75,9 +70,45 @@ class CommandLine(argparse.ArgumentParser):
 
     def print_help(self, file=None):
         report = Report(self.prog)
-        report.tell(file or sys.stdout, self.format_help()[:-1])
+        report.tell(file or sys.stdout, *self.format_help().splitlines())
         if report.status:
             self.exit(report.status)
+
+    def error(self, message):
+        super().error(shown(message))
+
+
+def number_below(end: int) -> Callable[[str], int]:
+    def number(text: str) -> int:
+        if not text.isascii() or not text.isdigit() or len(text) > 39 or not int(text) < end:
+            raise argparse.ArgumentTypeError(f"{text!r} is not a number from 0 to {end - 1}")
+        return int(text)
+
+    return number
+
+
+def sender_bytes(text: str) -> bytes:
+    """A sender's address as journals have it: of text as it is written elsewhere, or of digits."""
+    is_digits = len(text) in (8, 32) and set(text) <= set(string.hexdigits)
+    if "%" in text:
+        raise ValueError("an address with a zone")
+    packed = bytes.fromhex(text) if is_digits else ipaddress.ip_address(text).packed
+    return packed if len(packed) == 16 else bytes(10) + b"\xff\xff" + packed
+
+
+def sender(text: str) -> bytes:
+    try:
+        return sender_bytes(text)
+    except ValueError:
+        told = "is no address, nor 32 hexadecimal digits, nor 8"
+        raise argparse.ArgumentTypeError(f"{text!r} {told}") from None
+
+
+def is_same(one: str, other: str) -> bool:
+    try:
+        return os.path.samefile(one, other)
+    except OSError:
+        return False
 
 
 def answer_stops(answer):
@@ -108,24 +139,81 @@ def keep_status():
         signal.signal(number, signal.SIG_IGN)
 
 
-def put(stream, text):
-    """Writes a line. A name of a file may have any bytes."""
-    line = os.fsencode(text + "\n")
-    while line:
-        line = line[os.write(stream.fileno(), line) :]
+def shown(text: str) -> str:
+    """A text as it can stand in a line: a name of a file may have what a terminal obeys."""
+    return "".join(char if char.isprintable() else "?" for char in text)
 
 
-def stem(text):
-    """What the names of a sender's files begin with: the address without colons.
+def quoted(word: str) -> str:
+    """A word as the shell takes it, printable whatever it has. It ends with no line feed."""
+    if word.isprintable():
+        return shlex.quote(word)
+    marks = {"%": "%%", "\\": "\\\\", "'": "'\\''"}
+    chars = [
+        marks.get(char, char)
+        if char.isprintable()
+        else "".join(f"\\{byte:03o}" for byte in os.fsencode(char))
+        for char in word
+    ]
+    return f"\"$(printf '{''.join(chars)}')\""
+
+
+def open_at_once(name: str, flags: int) -> int:
+    """Opens a file for `open`, and does not wait for the writer of a pipe."""
+    return os.open(name, flags | os.O_NONBLOCK)
+
+
+def put(stream, *lines: str) -> None:
+    """Writes lines, as they can be shown."""
+    text = os.fsencode("".join(f"{shown(line)}\n" for line in lines))
+    while text:
+        text = text[os.write(stream.fileno(), text) :]
+
+
+def stem(text, epoch=1):
+    """What the names of a sender's files begin with: the address without colons, and the epoch.
 
     Some systems and tools do not take colons in names.
     """
-    return text.replace(":", "-")
+    return text.replace(":", "-") + (f".e{epoch}" if epoch > 1 else "")
 
 
-def file_name(text, part):
-    """The name of a sender's datagram file, by the address as text and the number of the file."""
-    return stem(text) + (f".{part}" if part > 1 else "") + ".fldg"
+def file_name(text, part, epoch=1):
+    """The name of a sender's datagram file.
+
+    It is made of the address as text, of the epoch, and of the number of the file in it:
+    10.0.0.1.fldg, 10.0.0.1.2.fldg, 10.0.0.1.e2.fldg, 10.0.0.1.e2.2.fldg.
+    """
+    return stem(text, epoch) + (f".{part}" if part > 1 else "") + ".fldg"
+
+
+class Name(NamedTuple):
+    """What the name of a sender's file tells."""
+
+    address: ipaddress._BaseAddress
+    epoch: int
+    part: int
+
+
+def name_of(name: str) -> Optional[Name]:
+    """What the name of a file tells, if it is the name of a sender's file."""
+    if not name.endswith(".fldg"):
+        return None
+    fields = name.split(".")[:-1]
+    candidates = [(fields, 1)]
+    if fields[-1].isdecimal():
+        candidates.append((fields[:-1], int(fields[-1])))
+    for front, part in candidates:
+        epoch = 1
+        if front and front[-1][:1] == "e" and front[-1][1:].isdecimal():
+            front, epoch = front[:-1], int(front[-1][1:])
+        try:
+            address = ipaddress.ip_address(".".join(front).replace("-", ":"))
+        except ValueError:
+            continue
+        if file_name(str(address), part, epoch) == name:
+            return Name(address, epoch, part)
+    return None
 
 
 def join_lines(sender, journal, inputs):
@@ -138,7 +226,7 @@ def join_lines(sender, journal, inputs):
         paths = [journal, *inputs[:MOST_INPUTS]]
         paths = [f"./{path}" if path.startswith("-") else path for path in paths]
         words = ["flutejoin", "join", "--source", sender.hex(), "-o", *paths]
-        yield " ".join(map(shlex.quote, words))
+        yield " ".join(map(quoted, words))
         rest = inputs[MOST_INPUTS:]
         inputs = [journal, *rest] if rest else []
 
@@ -147,60 +235,29 @@ def address(sender):
     return socket.inet_ntop(socket.AF_INET if len(sender) == 4 else socket.AF_INET6, sender)
 
 
-class Part:
-    """A datagram file that is being written beside its name.
+def write_new(name: str, ending: str, fill: Callable[[BinaryIO], None]) -> None:
+    """Makes a file that is not there yet: whole, or not at all.
 
-    What is not written yet begins with a whole record.
+    Until it is whole it has another name, with this ending.
     """
-
-    def __init__(self, path):
-        self.path, self.size, self.count = path, 0, 0
-        if os.path.lexists(path):
-            raise FileExistsError(errno.EEXIST, "is there already", path)
-        self.file = open(path + PARTIAL, "xb", buffering=0)
-        self.waiting = bytearray(HEADER)
-
-    def flush(self):
-        """Writes what waits.
-
-        After a failure the file ends behind the last record of which all was written.
-        """
-        written = 0
-        try:
-            while written < len(self.waiting):
-                written += self.file.write(self.waiting[written:] if written else self.waiting)
-            self.size += written
-        except OSError:
-            self.keep_whole(written)
-            raise
-        finally:
-            self.waiting.clear()
-
-    def keep_whole(self, written):
-        """Of what waited so many bytes were written.
-
-        Cuts the file behind the whole records among them.
-        """
-        whole = at = 0 if self.size else len(HEADER)
-        while at < len(self.waiting):
-            at += 2 + LENGTH.unpack_from(self.waiting, at)[0]
-            whole = at if at <= written else whole
-            self.count -= at > written
-        self.size += whole
-        self.file.truncate(self.size)
-
-    def finish(self):
-        """Brings the file to the disk and gives it its name.
-
-        It does not, where another file has taken that since. A file of no record is removed.
-        """
-        with self.file:
-            if self.count:
-                os.fsync(self.file.fileno())
-        if self.count:
-            give_name(self.path + PARTIAL, self.path)
-        else:
-            os.remove(self.path + PARTIAL)
+    partial = name + ending
+    if os.path.lexists(name):
+        raise FileExistsError(errno.EEXIST, "is there already, and is left as it is", name)
+    try:
+        out = open(partial, "xb")
+    except FileExistsError:
+        told = "is there already: left by a run that was killed, or being written"
+        raise FileExistsError(errno.EEXIST, told, partial) from None
+    try:
+        with out:
+            fill(out)
+            out.flush()
+            os.fsync(out.fileno())
+        give_name(partial, name)
+    except BaseException:
+        with contextlib.suppress(FileNotFoundError):
+            os.remove(partial)
+        raise
 
 
 def give_name(partial, path):
@@ -215,113 +272,3 @@ def give_name(partial, path):
         os.rename(partial, path)
     else:
         os.remove(partial)
-
-
-class Files:
-    """The datagram files of a folder: of each sender one, or several parts."""
-
-    def __init__(self, folder, split, report):
-        self.folder, self.split, self.report = folder, split, report
-        self.open, self.parts, self.refused, self.left_out = {}, {}, set(), collections.Counter()
-        self.is_made = False
-
-    def make_folder(self):
-        """Makes the folder, in one that is there, and sees that files can be made in it."""
-        try:
-            if not os.path.isdir(self.folder):
-                os.mkdir(self.folder)
-                self.is_made = True
-        except OSError as fault:
-            raise Unwritable(f"cannot make the folder {self.folder}: {fault.strerror}") from None
-        if not os.access(self.folder, os.W_OK | os.X_OK):
-            raise Unwritable(f"cannot make files in the folder {self.folder}")
-
-    def path(self, sender, part):
-        return os.path.join(self.folder, file_name(address(sender), part))
-
-    def add(self, sender, payload):
-        part = self.open.get(sender)
-        size = len(payload) + 2
-        is_full = part and (
-            part.count >= MOST_RECORDS or part.size + len(part.waiting) + size > self.split
-        )
-        if is_full:
-            self.close(sender)
-            part = None
-        part = part or self.begin(sender)
-        if part:
-            part.waiting += LENGTH.pack(size - 2)
-            part.waiting += payload
-            part.count += 1
-            if len(part.waiting) > 65536:
-                self.flush(part)
-
-    def begin(self, sender):
-        """The next part of a sender.
-
-        None where it can have none, of which the first time is told.
-        """
-        if sender in self.refused or sender not in self.parts and len(self.parts) >= MOST_SENDERS:
-            self.left_out[OCCUPIED if sender in self.refused else SENDERS] += 1
-            return None
-        path = self.path(sender, self.parts.get(sender, 0) + 1)
-        try:
-            self.open[sender] = Part(path)
-            self.parts.setdefault(sender, 0)
-        except FileExistsError as fault:
-            self.report.fault(
-                3,
-                f"{fault.filename}: is there already, and is left as it is; "
-                "no other file is written for its sender",
-            )
-            self.refused.add(sender)
-            self.left_out[OCCUPIED] += 1
-        except OSError as fault:
-            raise Unwritable(f"{path}: cannot be made: {fault.strerror}") from None
-        return self.open.get(sender)
-
-    def flush(self, part):
-        try:
-            part.flush()
-        except OSError as fault:
-            raise Unwritable(
-                f"{part.path}: cannot write: {fault.strerror}; what was written whole is kept"
-            ) from None
-
-    def flush_all(self):
-        for part in self.open.values():
-            self.flush(part)
-
-    def close(self, sender):
-        """Finishes a sender's file, and tells of it."""
-        part = self.open.pop(sender)
-        try:
-            try:
-                self.flush(part)
-            except Unwritable as fault:
-                self.report.fault(3, str(fault))
-            part.finish()
-        except OSError as fault:
-            partial = part.path + PARTIAL
-            self.report.fault(3, f"{partial}: cannot become {part.path}: {fault.strerror}")
-            self.refused.add(sender)
-            return
-        if part.count:
-            self.parts[sender] += 1
-            self.report.say(f"{part.path}: {part.count} datagrams from {address(sender)}")
-
-    def finish(self):
-        for sender in list(self.open):
-            self.close(sender)
-        if self.is_made and not any(self.parts.values()):
-            try:
-                os.rmdir(self.folder)
-            except OSError:
-                pass  # others have put something into it
-
-    def join_lines(self):
-        for sender, parts in self.parts.items():
-            if parts:
-                journal = os.path.join(self.folder, stem(address(sender)) + ".journal")
-                paths = [self.path(sender, part + 1) for part in range(parts)]
-                yield from join_lines(sender, journal, paths)

@@ -1,8 +1,9 @@
 """What flutejoin tells of journals: of each object its state, its gaps and its information.
 
-Its lines are read as they come.
+Its lines are read as they come, and none is kept.
 """
-import array
+from __future__ import annotations
+
 import contextlib
 import os
 import re
@@ -10,8 +11,10 @@ import shutil
 import signal
 import subprocess
 import sys
+from typing import Callable, Container, Iterable, NamedTuple, Optional
 
 import flutejoin_files as files
+from flutejoin_files import shown
 
 HELD, MISSING, CONFLICTING, MISFIT = range(4)
 REASONS = {b"missing": MISSING, b"conflicting": CONFLICTING, b"misfit": MISFIT}
@@ -21,7 +24,7 @@ NO_INFORMATION, CONFLICTING_INFORMATION = "no information", "conflicting informa
 OBJECT = rb"((?:source [0-9a-f]{32} )?session \d+ object (?:fdt )?\d+) "
 STATE = re.compile(
     OBJECT + rb"(?:(whole) \d+|(no information)|(conflicting information)"
-    rb"|(partial) missing \d+ conflicting \d+ misfit \d+)\n"
+    rb"|(partial) missing (\d+) conflicting (\d+) misfit (\d+))\n"
 )
 GAP = re.compile(rb"gap (\d+)/(\d+)-(\d+) (missing|conflicting|misfit)\n")
 INFORMATION = re.compile(OBJECT + rb"info length (\d+) symbol (\d+) block (\d+)\n")
@@ -33,11 +36,6 @@ class Fault(Exception):
     def __init__(self, status, text):
         super().__init__(text)
         self.status = status
-
-
-def shown(name):
-    """A name of a file as it can stand in a line and in a page."""
-    return "".join(char if char.isprintable() else "?" for char in name)
 
 
 def find(name):
@@ -53,25 +51,34 @@ def find(name):
     return path
 
 
-class Told:
-    """What a journal tells of an object: its state, and its gaps, each of 7 bytes."""
+class Enough(Exception):
+    """What wants no gaps of further objects."""
 
-    def __init__(self, state):
-        self.state = state
-        self.blocks, self.firsts, self.lasts = array.array("H"), array.array("H"), array.array("H")
-        self.reasons = bytearray()
 
-    def add(self, block, first, last, reason):
-        self.blocks.append(block)
-        self.firsts.append(first)
-        self.lasts.append(last)
-        self.reasons.append(reason)
+class State(NamedTuple):
+    """What journals tell of an object.
 
-    def gaps(self):
-        return zip(self.blocks, self.firsts, self.lasts, self.reasons)
+    There is how many of its symbols are in conflict or misfits, and how many gaps follow.
+    """
 
-    def has_information(self):
-        return self.state in (WHOLE, PARTIAL)
+    words: str
+    disputed: int = 0
+    gaps: int = 0
+
+    @classmethod
+    def of(cls, line: re.Match) -> State:
+        if line[5]:
+            return cls(PARTIAL, int(line[7]) + int(line[8]))
+        return cls(line[line.lastindex].decode())
+
+    def has_information(self) -> bool:
+        return self.words in (WHOLE, PARTIAL)
+
+
+# Takes a gap: its block, its first and last symbol, and the reason
+Take = Callable[[int, int, int, int], None]
+# Answers what takes the gaps of an object, or None
+Begin = Callable[[str, State], Optional[Take]]
 
 
 @contextlib.contextmanager
@@ -100,41 +107,63 @@ class Program:
     def __init__(self, path):
         self.path = path
 
-    def gaps(self, journals, is_wanted):
-        """What these journals together tell, by the text that names each object."""
+    def states(self, journals: list[str], wanted: Container[str] | None) -> dict[str, State]:
+        """What these journals together tell of objects, of all or of those that are wanted.
+
+        The text that names each is that of flutejoin gaps.
+        """
+        states: dict[str, State] = {}
+        key, state, gaps = None, State(""), 0
+        for line in self.lines(self.commands(journals)):
+            if line.startswith(b"gap "):
+                gaps += 1
+                continue
+            if key is not None:
+                states[key] = state._replace(gaps=gaps)
+            told, gaps = state_of(line), 0
+            key, state = told[1].decode(), State.of(told)
+            if wanted is not None and key not in wanted:
+                key = None
+        if key is not None:
+            states[key] = state._replace(gaps=gaps)
+        return states
+
+    def gaps(self, journals: list[str], begin: Begin) -> None:
+        """Hands the gaps of these journals together to what `begin` answers for their object."""
+        self.read_gaps(self.commands(journals), begin)
+
+    @staticmethod
+    def commands(journals: list[str]) -> list[tuple]:
+        """What tells the gaps of these journals together."""
         paths = [argument(path) for path in journals]
         names = [shown(path) for path in journals]
         if len(paths) == 1:
-            return self.read_gaps([(["gaps", *paths], names)], is_wanted)
+            return [(["gaps", *paths], names)]
         joined = (["join", "-o", "-", *paths], names)
-        return self.read_gaps([joined, (["gaps", "-"], ["the journals joined"])], is_wanted)
+        return [joined, (["gaps", "-"], ["the journals joined"])]
 
-    def gaps_with(self, journal, information, is_wanted):
-        """What a journal tells once information is added to it: pairs `(object, numbers)`."""
+    def gaps_with(self, journal: str, information: Iterable[tuple], begin: Begin) -> None:
+        """The same of a journal once information is added to it: pairs `(object, numbers)`."""
         name = shown(journal)
         added = [
             (["info", "-o", "-", *options(key), *numbers_of(numbers), "-"], [name])
             for key, numbers in information
         ]
         added[0][0][-1] = argument(journal)
-        return self.read_gaps([*added, (["gaps", "-"], [name])], is_wanted)
+        self.read_gaps([*added, (["gaps", "-"], [name])], begin)
 
-    def read_gaps(self, commands, is_wanted):
-        told, last = {}, None
-        for line in self.lines(commands):
-            gap = GAP.fullmatch(line)
-            if gap:
-                if last:
-                    last.add(int(gap[1]), int(gap[2]), int(gap[3]), REASONS[gap[4]])
-                continue
-            state = STATE.fullmatch(line)
-            if not state:
-                raise unknown(line)
-            key = state[1].decode()
-            last = Told(state[state.lastindex].decode()) if is_wanted(key) else None
-            if last:
-                told[key] = last
-        return told
+    def read_gaps(self, commands: list[tuple], begin: Begin) -> None:
+        take = None
+        with contextlib.closing(self.lines(commands)) as lines, contextlib.suppress(Enough):
+            for line in lines:
+                if not line.startswith(b"gap "):
+                    told = state_of(line)
+                    take = begin(told[1].decode(), State.of(told))
+                elif take:
+                    gap = GAP.fullmatch(line)
+                    if not gap:
+                        raise unknown(line)
+                    take(int(gap[1]), int(gap[2]), int(gap[3]), REASONS[gap[4]])
 
     def information(self, journal, keys):
         """The information of these objects, of which the journal has it.
@@ -192,6 +221,14 @@ class Program:
             )
         except OSError as fault:
             raise Fault(3, f"{shown(self.path)}: cannot be run: {fault.strerror}") from None
+
+
+def state_of(line: bytes) -> re.Match:
+    """What a line tells of an object."""
+    told = STATE.fullmatch(line)
+    if not told:
+        raise unknown(line)
+    return told
 
 
 def argument(path):

@@ -1,324 +1,284 @@
-"""Datagram files that grow while datagrams are received, and what flutejoin-receive tells.
+"""Datagram files that grow while datagrams are received.
 
-Each sender has one of them, or several.
+Each sender has one of them, or several. Whatever touches them is done by one thread, the writer's,
+so that receiving never waits for the disk.
 """
+from __future__ import annotations
+
 import collections
-import fcntl
-import ipaddress
+import enum
 import os
-import stat
-import sys
+from typing import NamedTuple, Optional, Tuple, Union
 
-from flutejoin_files import HEADER, MOST_RECORDS, file_name, join_lines, put, stem
+from flutejoin_files import file_name
+from flutejoin_notes import note
+from flutejoin_records import HEADER, PIECE, last_whole, whole_records
 
-PIECE = 1 << 20  # bytes that are looked through at once
-WRITE_AT = 1 << 18  # bytes that wait for a file before they are written in any case
-
-
-class Fault(Exception):
-    """What ends the run, and the status that it ends with."""
-
-    def __init__(self, status, text):
-        super().__init__(text)
-        self.status = status
+COPY_STEP = 8  # pieces between two looks at what else waits
+LOOK_FLAGS = os.O_RDWR | os.O_APPEND | os.O_NONBLOCK | os.O_CLOEXEC
+MAKE_FLAGS = os.O_RDWR | os.O_APPEND | os.O_CREAT | os.O_EXCL | os.O_CLOEXEC
 
 
-def note(text):
-    """Tells on standard error. Where that is closed or cannot be written, receiving goes on."""
-    try:
-        put(sys.stderr, f"flutejoin-receive: {text}")
-    except (OSError, AttributeError):
-        pass
+class Block(NamedTuple):
+    """Whole records that are written together."""
+
+    data: Union[bytearray, memoryview]
+    records: int
 
 
-def address_of(text):
-    """The address that a socket names.
+class Begin(enum.Enum):
+    """What the next records begin."""
 
-    An IPv4 address may come in IPv6 form, and a link's name behind an address is no part of it.
-    """
-    address = ipaddress.ip_address(text.partition("%")[0])
-    return getattr(address, "ipv4_mapped", None) or address
+    PART = 1
+    EPOCH = 2
 
 
-def part_of(name):
-    """The sender and the number of a file with this name, or None."""
-    whole = name[: -len(".fldg")]
-    front, _, number = whole.rpartition(".")
-    for text, part in (whole, 1), (front, int(number) if number.isdecimal() else 1):
+class Grown(NamedTuple):
+    """A file that grew in this run."""
+
+    path: str
+    epoch: int
+    records: int
+    new: int
+
+
+class Growing:
+    """The datagram files of one sender, of which the last grows."""
+
+    def __init__(self, folder: str, address, opened, epoch: int = 1, part: int = 1):
+        self.folder, self.address, self.opened = folder, address, opened
+        self.epoch, self.part = epoch, part
+        self.orders: collections.deque[Union[Block, Begin]] = collections.deque()
+        self.descriptor: Optional[int] = None
+        self.identity: Optional[Tuple[int, int]] = None  # device and number of a file that is made
+        self.size = self.records = self.before = 0
+        self.taken = 0  # bytes of all blocks that are written
+        self.lost = 0  # records that were written, and then lost
+        self.fault: Optional[OSError] = None
+        self.done: list[Grown] = []
+        self.copies: list[Copy] = []
+
+    def path(self) -> str:
+        return self.path_of(self.part, self.epoch)
+
+    def path_of(self, part: int, epoch: int) -> str:
+        return os.path.join(self.folder, file_name(str(self.address), part, epoch))
+
+    def go_on(self, identity: Tuple[int, int], size: int, records: int) -> None:
+        """Goes on with a file of an earlier run, once its sender comes."""
+        self.identity = identity
+        self.size, self.records, self.before = size, records, records
+
+    def work(self) -> None:
+        """Does what was ordered. After a fault the files end behind their last whole records."""
         try:
-            address = ipaddress.ip_address(text.replace("-", ":"))
-        except ValueError:
-            continue
-        if file_name(str(address), part) == name:
-            return address, part
-    return None
+            while self.orders:
+                order = self.orders[0]
+                if isinstance(order, Begin):
+                    self.begin(order)
+                else:
+                    self.write(order)
+                self.orders.popleft()
+            for copy in self.copies:
+                copy.step()
+            self.copies = [copy for copy in self.copies if not copy.is_done]
+            if self.fault:
+                note(f"{self.path()}: can be written again")
+            self.fault = None
+        except OSError as fault:
+            if self.fault is None or self.fault.errno != fault.errno:
+                told = f"cannot write {self.path()}: {fault.strerror}"
+                note(f"{told}; it is tried again each second")
+            self.fault = fault
 
+    def has_work(self) -> bool:
+        return bool(self.orders or self.copies)
 
-def walk(piece):
-    """Goes over the records that a piece of a file begins with.
-
-    Answers how many have their length in it, where the last of them begins, and where it ends,
-    which may be behind the piece.
-    """
-    count = begin = end = 0
-    last = len(piece) - 2
-    while end <= last:
-        begin = end
-        end += 2 + (piece[end] << 8 | piece[end + 1])
-        count += 1
-    return count, begin, end
-
-
-def last_whole(file, size, place):
-    """Where the last whole record ends that begins at `place` or behind, and how many there are."""
-    records = 0
-    begin = place
-    while place + 2 <= size:
-        file.seek(place)
-        count, first, end = walk(file.read(PIECE))
-        if not count:
-            break  # the file became shorter
-        records, begin, place = records + count, place + first, place + end
-    return (place, records) if place <= size else (begin, records - 1)
-
-
-def mended(descriptor, path):
-    """The length and the number of records of a file.
-
-    A record that was cut at its end is taken away before.
-    """
-    found = os.fstat(descriptor)
-    if not stat.S_ISREG(found.st_mode):
-        raise Fault(1, f"{path}: is no regular file, and is left as it is")
-    with open(descriptor, "rb", buffering=0, closefd=False) as file:
-        file.seek(0)  # not where it was written last
-        head = file.read(len(HEADER))
-        if head != HEADER[: len(head)]:
-            raise Fault(1, f"{path}: is no datagram file of version 1, and is left as it is")
-        end, records = last_whole(file, found.st_size, len(HEADER)) if head == HEADER else (0, 0)
-    if end < found.st_size:
-        os.ftruncate(descriptor, end)
-        cut = found.st_size - end
-        note(f"{path}: a record was cut at its end; these {cut} bytes are taken away")
-    return end, records
-
-
-class SenderFiles:
-    """The datagram files of one sender.
-
-    The last of them grows: whole records wait in memory and are written together.
-    """
-
-    def __init__(self, folder, address, split, parts):
-        self.folder, self.address, self.split = folder, address, split
-        self.parts = sorted(parts)
-        self.done = []  # path, records and new records of each file that grew
-        self.unwritten = 0
-        if self.parts:
-            self.go_on()
+    def begin(self, what: Begin) -> None:
+        self.close()
+        self.end_file()
+        if what is Begin.EPOCH:
+            self.epoch, self.part = self.epoch + 1, 1
         else:
-            self.begin()
+            self.part += 1
 
-    def path(self):
-        return self.path_of(self.parts[-1])
+    def end_file(self) -> None:
+        if self.records > self.before:
+            new = self.records - self.before
+            self.done.append(Grown(self.path(), self.epoch, self.records, new))
+        self.identity, self.size, self.records, self.before = None, 0, 0, 0
 
-    def path_of(self, part):
-        return os.path.join(self.folder, file_name(str(self.address), part))
-
-    def join_lines(self):
-        journal = os.path.join(self.folder, stem(str(self.address)) + ".journal")
-        return join_lines(self.address.packed, journal, [self.path_of(part) for part in self.parts])
-
-    def begin(self):
-        """Begins the next file.
-
-        It is made when it gets its first records, so that no kill leaves an empty one.
-        """
-        self.parts.append(self.parts[-1] + 1 if self.parts else 1)
-        self.closed, self.is_made = False, False
-        self.descriptor, self.waiting = None, bytearray(HEADER)
-        self.grown, self.records, self.written, self.before = len(HEADER), 0, 0, 0
-
-    def go_on(self):
-        """Opens the last file of an earlier run. A pipe of that name must not be waited for."""
+    def write(self, block: Block) -> None:
+        if self.descriptor is None:
+            self.open()
+        self.opened.touch(self)
+        data = block.data if self.size else HEADER + block.data
+        view, written = memoryview(data), 0
         try:
-            self.descriptor = os.open(self.path(), os.O_RDWR | os.O_APPEND | os.O_NONBLOCK)
-            self.grown, self.records = mended(self.descriptor, self.path())
-        except OSError as error:
-            raise Fault(3, f"cannot open {self.path()}: {error.strerror}")
-        self.closed, self.is_made = False, False
-        self.waiting = bytearray() if self.grown else bytearray(HEADER)
-        self.grown = self.grown or len(HEADER)
-        self.written = self.before = self.records
-
-    def take(self, record):
-        """Adds a record. Each file holds one at least, however small a file is to be."""
-        grown = self.grown + len(record)
-        if grown > self.split and self.records or self.records >= MOST_RECORDS:
-            self.begin_another()
-            grown = self.grown + len(record)
-        self.grown = grown
-        self.records += 1
-        self.waiting += record
-        if len(self.waiting) > WRITE_AT:
-            self.write()
-
-    def begin_another(self):
-        try:
-            self.close()
-        except Fault:
-            self.unwritten += 1  # the record that the next file was for
-            raise
-        self.begin()
-
-    def write(self):
-        """Writes what waits. After a fault the file ends behind its last whole record."""
-        if self.written == self.records:
-            return
-        waiting, self.waiting = self.waiting, bytearray()
-        try:
-            if self.descriptor is None:
-                flags = os.O_RDWR | os.O_APPEND | os.O_CREAT | os.O_EXCL
-                self.descriptor = os.open(self.path(), flags, 0o666)
-                self.is_made = True
-            rest = memoryview(waiting)
-            while rest:
-                rest = rest[os.write(self.descriptor, rest) :]
-            self.written = self.records
-        except OSError as error:
-            self.cut_back()
-            raise Fault(3, f"cannot write {self.path()}: {error.strerror}")
-
-    def cut_back(self):
-        """After a failed write: takes away what is no whole record.
-
-        The file is removed if it has no record at all.
-        """
-        received, self.records = self.records, self.written
-        try:
-            if self.descriptor is not None:
-                self.records = mended(self.descriptor, self.path())[1]
-                if self.is_made and not self.records:
-                    os.unlink(self.path())
-        except OSError as error:
-            told = "the record that is cut at its end cannot be taken away"
-            note(f"{self.path()}: {told}: {error.strerror}")
-        self.unwritten += received - self.records
-        self.written = self.records
-
-    def close(self):
-        """Writes what waits and closes the file, also where it cannot be written."""
-        if self.closed:
-            return
-        self.closed = True
-        try:
-            self.write()
-        finally:
-            if self.descriptor is not None:
-                os.close(self.descriptor)
-            if self.records > self.before:
-                self.done.append((self.path(), self.records, self.records - self.before))
-            elif not self.records:
-                self.parts.pop()
-
-
-class Folder:
-    """The files of all senders."""
-
-    def __init__(self, folder, split, most, sender):
-        self.folder, self.split, self.most, self.sender = folder, split, most, sender
-        self.files = {}  # by address
-        self.by_text = {}  # the same, by the text that the socket names the address with
-        self.left_out = collections.Counter()
-        try:
-            if not os.path.lexists(folder):
-                os.mkdir(folder)
-            self.lock = os.open(folder, os.O_RDONLY | os.O_DIRECTORY)
-            names = os.listdir(folder)
-        except OSError as error:
-            raise Fault(3, f"cannot use the folder {folder}: {error.strerror}")
-        if not os.access(folder, os.W_OK | os.X_OK):
-            raise Fault(3, f"cannot use the folder {folder}: it cannot be written")
-        self.take_lock()
-        self.look_at(names)
-
-    def take_lock(self):
-        """Keeps other runs out: two would write into one another's files.
-
-        Where the file system has no locks they are not told apart.
-        """
-        try:
-            fcntl.flock(self.lock, fcntl.LOCK_EX | fcntl.LOCK_NB)
-        except BlockingIOError:
-            raise Fault(3, f"cannot use the folder {self.folder}: another run writes into it")
+            while written < len(data):
+                written += os.write(self.descriptor, view[written:])
         except OSError:
-            pass
+            self.keep_whole(block, data, written)
+            raise
+        self.add(len(data), len(block.data), block.records)
 
-    def look_at(self, names):
-        """Opens what earlier runs left.
+    def add(self, size: int, of_block: int, records: int) -> None:
+        self.size += size
+        self.taken += of_block
+        self.records += records
 
-        That is before anything is received, since looking through long files takes seconds.
+    def keep_whole(self, block: Block, data, written: int) -> None:
+        """After a write of which so many bytes got to the file: the rest of the block waits."""
+        begin = 0 if self.size else len(HEADER)
+        end, records = whole_records(memoryview(data)[begin:written])
+        whole = begin + end if records else 0
+        try:
+            os.ftruncate(self.descriptor, self.size + whole)
+        except OSError as fault:
+            told = "the record that is cut at its end cannot be taken away"
+            note(f"{self.path()}: {told}: {fault.strerror}")
+            self.orders.appendleft(Begin.PART)
+            return
+        self.add(whole, end if records else 0, records)
+        if records:
+            self.orders[0] = Block(memoryview(data)[whole:], block.records - records)
+
+    def open(self) -> None:
+        """Makes the file, or opens again what is made, where nobody changed it since.
+
+        A file of its name that somebody else made is left as it is, and the next number taken.
         """
-        found = collections.defaultdict(list)
-        for name in names:
-            of = part_of(name) if name.endswith(".fldg") else None
-            if of and self.sender in (None, of[0]):
-                found[of[0]].append(of[1])
-        for address in sorted(found, key=lambda it: (it.version, it)):
-            self.files[address] = SenderFiles(self.folder, address, self.split, found[address])
-
-    def admit(self, text):
-        """The files of a sender from whom nothing came before.
-
-        None where its datagrams are left out, which is counted.
-        """
-        address = address_of(text)
-        if self.sender not in (None, address):
-            self.left_out[f"other senders than {self.sender}"] += 1
-            return None
-        if address not in self.files:
-            if len(self.files) >= self.most:
-                cause = f"more than {self.most} senders"
-                self.left_out[f"{cause} (--senders takes more, and --from names the one)"] += 1
-                return None
-            self.files[address] = SenderFiles(self.folder, address, self.split, [])
-        self.by_text[text] = self.files[address]
-        return self.files[address]
-
-    def write(self):
-        for files in self.by_text.values():
-            files.write()
-
-    def close(self):
-        """Closes all files, and answers the faults."""
-        faults = []
-        for files in self.files.values():
+        while True:
+            is_made = self.identity is not None
             try:
-                files.close()
-            except Fault as fault:
-                faults.append(fault)
-        return faults
+                flags = LOOK_FLAGS if is_made else MAKE_FLAGS
+                self.descriptor = self.opened.open(self.path(), flags)
+            except FileExistsError:
+                self.part += 1
+                continue
+            except FileNotFoundError:
+                if not is_made:
+                    raise  # it is the folder that is not there
+                self.lose("was removed or moved while it was closed")
+                continue
+            found = os.fstat(self.descriptor)
+            if not is_made:
+                self.identity = found.st_dev, found.st_ino
+            elif self.identity != (found.st_dev, found.st_ino) or found.st_size != self.size:
+                self.lose("was changed by another")
+                continue
+            return
 
-    def leave_out_unwritten(self):
-        for files in self.files.values():
-            if files.unwritten:
-                self.left_out["not written, after a fault"] += files.unwritten
+    def lose(self, what: str) -> None:
+        """Leaves the file that grew as it is, and begins another."""
+        note(f"{self.path()}: {what}; another file is begun")
+        self.close()
+        self.end_file()
+        self.part += 1
 
-    def has_grown(self):
-        return any(files.done for files in self.files.values())
+    def look(self) -> None:
+        """Sees whether the file that grows is still there under its name.
 
-    def report(self):
-        """The lines of a run.
-
-        They are about the files that grew and about what was left out; and there are the commands
-        that join the files.
+        What a removed file holds is copied to a new one of its name. Later records go to another.
         """
-        grew = [files for files in self.files.values() if files.done]
-        for files in grew:
-            for path, records, new in files.done:
-                more = f", {new} of them new" if new < records else ""
-                yield f"{path}: {records} datagrams from {files.address}{more}"
-        for cause, count in self.left_out.items():
-            yield f"left out {count}: {cause}"
-        for files in grew:
-            yield from files.join_lines()
+        if self.descriptor is None:
+            return
+        found = os.fstat(self.descriptor)
+        try:
+            is_there = os.path.samestat(os.stat(self.path()), found)
+        except OSError:
+            is_there = False
+        if is_there and found.st_size == self.size:
+            return
+        if not found.st_nlink and self.records:
+            note(f"{self.path()}: was removed while it grew; what it held is written anew")
+            self.copies.append(Copy(self))
+            self.descriptor = None
+            self.opened.forget(self)
+            self.identity, self.size, self.records, self.before = None, 0, 0, 0
+            self.part += 1
+        else:
+            self.lose("was changed by another" if is_there else "was moved while it grew")
+
+    def close(self) -> None:
+        """Closes the file. It is opened again for its next records."""
+        if self.descriptor is None:
+            return
+        descriptor, self.descriptor = self.descriptor, None
+        self.opened.forget(self)
+        try:
+            os.close(descriptor)
+        except OSError as fault:
+            note(f"{self.path()}: what was written last may be lost: {fault.strerror}")
+
+    def finish(self) -> None:
+        """At the end of a run. A file that got no record is removed."""
+        self.work()
+        self.look()
+        while self.copies and self.fault is None:
+            self.work()
+        if self.descriptor is not None and not self.records and not self.before:
+            try:
+                os.unlink(self.path())
+            except OSError:
+                pass
+        self.close()
+        self.end_file()
+        for copy in self.copies:
+            copy.give_up()
+
+
+class Copy:
+    """What a removed file held, which is written anew from the descriptor that is still there."""
+
+    def __init__(self, growing: Growing):
+        self.growing, self.source = growing, growing.descriptor
+        self.epoch, self.part = growing.epoch, growing.part
+        self.size, self.records, self.before = growing.size, growing.records, growing.before
+        self.copied, self.is_done = 0, False
+        self.target: Optional[int] = None
+
+    def path(self) -> str:
+        return self.growing.path_of(self.part, self.epoch)
+
+    def step(self) -> None:
+        """Copies some of it. What fails in the middle is written again from there."""
+        if self.target is None:
+            self.make()
+        for _ in range(COPY_STEP):
+            piece = os.pread(self.source, min(PIECE, self.size - self.copied), self.copied)
+            if not piece:
+                note(f"{self.path()}: {self.copied} bytes of it are written anew")
+                self.end(self.records)
+                return
+            self.copied += os.pwrite(self.target, piece, self.copied)
+
+    def make(self) -> None:
+        flags = os.O_RDWR | os.O_CREAT | os.O_EXCL | os.O_CLOEXEC
+        while self.target is None:
+            try:
+                self.target = self.growing.opened.open(self.path(), flags)
+            except FileExistsError:
+                self.part += 1
+
+    def end(self, records: int) -> None:
+        self.is_done = True
+        self.growing.lost += self.records - records
+        if records > self.before:
+            new = records - self.before
+            self.growing.done.append(Grown(self.path(), self.epoch, records, new))
+        for descriptor in (self.source, self.target):
+            if descriptor is not None:
+                os.close(descriptor)
+
+    def give_up(self) -> None:
+        """At the end of a run: what could not be written anew is lost."""
+        if self.is_done:
+            return
+        note(f"{self.path()}: {self.size - self.copied} bytes of it are lost")
+        records = 0
+        if self.target is not None and self.copied >= len(HEADER):
+            with open(self.target, "rb", closefd=False) as file:
+                end, records = last_whole(file, self.copied, len(HEADER))
+            os.ftruncate(self.target, end)
+        self.end(records)

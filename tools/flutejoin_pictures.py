@@ -1,169 +1,61 @@
-"""Pictures of what stations hold of an object, as a page of SVG and as text.
+"""Pictures of what stations hold of objects, as a page of SVG and as text.
 
-Its source blocks are rows of cells.
+Source blocks are rows of cells.
 """
-import array
-import collections
+from __future__ import annotations
+
 import html
 import math
+from typing import Iterator, NamedTuple
 
 from flutejoin_gaps import CONFLICTING, HELD, MISFIT, MISSING
+from flutejoin_grids import NAMES, Grid, scales
 
-NAMES = ("held", "missing", "conflicting", "misfit")
 # Told apart by their lightness alone too, for those who see fewer colours, and on paper.
 COLOURS = ("#7db8dc", "#c44500", "#1a1a1a", "#ffe436")
 SIGNS = ("#", ".", "!", "?")
 
-# An object that is drawn: what it is called, what is told about it, and a panel for each station
-# and for all of them.
-Drawing = collections.namedtuple("Drawing", "title words panels")
-# A station's part: its name, what is told in words, its grid (None where no symbol is known), and
-# whether it is that of all stations.
-Panel = collections.namedtuple("Panel", "name words grid is_all")
 
+class Panel(NamedTuple):
+    """A station's part: its name, what is told in words, and its grid.
 
-class Partition:
-    """An object's source blocks (RFC 5052, section 9.1).
-
-    The first `larger` of them have a symbol more than the others.
+    There is no grid where no symbol is known. One panel may be that of all stations.
     """
 
-    def __init__(self, length, symbol, block):
-        self.numbers = length, symbol, block
-        self.symbols = -(-length // symbol) if length else 0
-        self.blocks = -(-self.symbols // block) if length else 0
-        self.small, self.larger = divmod(self.symbols, self.blocks) if length else (0, 0)
-
-    def start(self, block):
-        """How many symbols are in the blocks before this one."""
-        return block * self.small + min(block, self.larger)
-
-    def size(self, block):
-        return self.small + (block < self.larger)
-
-    def id_at(self, place):
-        """The block and the number in it of the symbol before which so many are."""
-        edge = self.start(self.larger)
-        if place < edge:
-            return divmod(place, self.small + 1)
-        block, number = divmod(place - edge, self.small)
-        return block + self.larger, number
-
-    def words(self):
-        length, symbol, _ = self.numbers
-        if not length:
-            return "empty: 0 bytes, and no symbol"
-        small = f" or {self.small}" if self.larger else ""
-        of = f" of {self.small + (self.larger > 0)}{small}" if self.blocks > 1 else ""
-        sizes = f"{counted(self.symbols, 'symbol')} of {counted(symbol, 'byte')}"
-        return f"{counted(length, 'byte')}, {sizes}, {counted(self.blocks, 'block')}{of}"
+    name: str
+    words: str
+    grid: Grid | None
+    is_all: bool
 
 
-def counted(number, what):
-    return f"{number} {what}{'' if number == 1 else 's'}"
+class Drawing(NamedTuple):
+    """An object that is drawn, or an overview of many.
 
-
-class Grid:
-    """Cells that each stand for a run of symbols, and rows that each stand for a block or several.
-
-    It has how many symbols of each cell, and of all, are held, missing, conflicting or misfit.
+    What it is called, what is told about it, a panel for each station and for all of them, and
+    whether it may be left out before others.
     """
 
-    def __init__(self, partition, most_rows, columns_of):
-        self.partition = partition
-        self.group = 1
-        if partition.blocks > most_rows:
-            self.group = -(-partition.blocks // (most_rows // 2))
-        self.rows = -(-partition.blocks // self.group)
-        longest = partition.start(min(self.group, partition.blocks))
-        self.run = max(1, -(-longest // columns_of(self.rows)))
-        self.columns = -(-longest // self.run)
-        self.counts = [0, 0, 0, 0]
-        self.counts[HELD] = partition.symbols
-        self.cells = {
-            reason: array.array("Q", bytes(8 * self.rows * self.columns))
-            for reason in (MISSING, CONFLICTING, MISFIT)
-        }
+    title: str
+    words: str
+    panels: list[Panel]
+    is_whole: bool = False
 
-    def is_fine(self):
-        """Whether each row is a block, and each cell a symbol."""
-        return self.group == 1 and self.run == 1
-
-    def begin(self, row):
-        """The place of the first symbol of a row, and of the one behind the last row."""
-        return self.partition.start(min(row * self.group, self.partition.blocks))
-
-    def add(self, block, first, last, reason):
-        """Takes a gap; False where the object has no such symbols."""
-        if block >= self.partition.blocks or not first <= last < self.partition.size(block):
-            return False
-        row = block // self.group
-        at = self.partition.start(block) - self.begin(row)
-        first, last = at + first, at + last
-        cells, base = self.cells[reason], row * self.columns
-        for column in range(first // self.run, last // self.run + 1):
-            begin, end = column * self.run, (column + 1) * self.run
-            cells[base + column] += min(last, end - 1) - max(first, begin) + 1
-        self.counts[reason] += last - first + 1
-        self.counts[HELD] -= last - first + 1
-        return True
-
-    def miss_all(self):
-        for block in range(self.partition.blocks):
-            self.add(block, 0, self.partition.size(block) - 1, MISSING)
-
-    def row_cells(self, row):
-        """How many symbols of each cell of a row are of each kind."""
-        size = self.begin(row + 1) - self.begin(row)
-        for column in range(-(-size // self.run)):
-            at = row * self.columns + column
-            other = [self.cells[reason][at] for reason in (MISSING, CONFLICTING, MISFIT)]
-            yield (min(self.run, size - column * self.run) - sum(other), *other)
-
-    def row_runs(self, row):
-        """Cells side by side that are wholly of one kind, and each other cell alone.
-
-        Of each its first column, the one behind, and its counts.
-        """
-        begin, one, kind = 0, None, None
-        for column, counts in enumerate(self.row_cells(row)):
-            pure = sum(count > 0 for count in counts) == 1
-            if pure and kind == [count > 0 for count in counts]:
-                one = tuple(a + b for a, b in zip(one, counts))
-                continue
-            if one:
-                yield begin, column, one
-            begin, one, kind = column, counts, [count > 0 for count in counts] if pure else None
-        if one:
-            yield begin, column + 1, one
-
-    def range_words(self, row, begin, end):
-        """Which symbols stand in cells of a row."""
-        first = self.partition.id_at(self.begin(row) + begin * self.run)
-        last = self.partition.id_at(min(self.begin(row) + end * self.run, self.begin(row + 1)) - 1)
-        if first == last:
-            return "%d/%d" % first
-        if first[0] == last[0]:
-            return "%d/%d-%d" % (*first, last[1])
-        return "%d/%d to %d/%d" % (*first, *last)
-
-    def scale_words(self):
-        row = "a row is a block" if self.group == 1 else f"a row is {self.group} blocks"
-        return f"{row}, a cell is {'a symbol' if self.run == 1 else f'{self.run} symbols'}"
+    def scale(self) -> str:
+        return scales(panel.grid for panel in self.panels)
 
 
-def count_words(counts, is_short=False):
-    shown = [(name, count) for name, count in zip(NAMES, counts) if count or not is_short]
-    return ", ".join(f"{name} {count}" for name, count in shown)
+class Left(NamedTuple):
+    """How many objects are not drawn, and how many of them are whole."""
 
+    objects: int
+    whole: int
 
-def scales(panels):
-    """Once what the rows and cells of all panels stand for.
-
-    None where the panels are of several kinds.
-    """
-    words = {panel.grid.scale_words() for panel in panels if panel.grid and panel.grid.rows}
-    return words.pop() if len(words) == 1 else ""
+    def notes(self) -> Iterator[str]:
+        if self.objects:
+            yield (
+                f"{self.objects} more objects are not drawn, {self.whole} of them whole; "
+                "--tsi and --toi name one"
+            )
 
 
 # Text
@@ -171,14 +63,18 @@ def scales(panels):
 TEXT_ROWS, TEXT_COLUMNS = 64, 64
 
 
-def text_lines(title, drawings, notes):
+def kinds_words(names: tuple[str, ...]) -> str:
+    """What the signs of cells stand for."""
+    return "  ".join(f"{sign} {name}" for sign, name in zip(SIGNS, names))
+
+
+def text_lines(title: str, drawings: list[Drawing], notes: list[str]) -> Iterator[str]:
     yield title
-    kinds = "  ".join(f"{sign} {name}" for sign, name in zip(SIGNS, NAMES))
-    yield f"{kinds}  1 to 9 of several symbols: tenths missing"
+    yield f"{kinds_words(NAMES)}  1 to 9 of several symbols: tenths missing"
     for drawing in drawings:
         yield ""
         yield f"{drawing.title}: {drawing.words}" if drawing.words else drawing.title
-        scale = scales(drawing.panels)
+        scale = drawing.scale()
         if scale:
             yield scale
         for panel in drawing.panels:
@@ -193,11 +89,11 @@ def panel_lines(panel, scale):
     if not panel.grid:
         yield f"{panel.name}: {panel.words}"
         return
-    yield f"{panel.name}: {panel.words}: {count_words(panel.grid.counts)}"
+    yield f"{panel.name}: {panel.words}: {panel.grid.words()}"
     if not scale and panel.grid.rows:
         yield panel.grid.scale_words()
     for row in range(panel.grid.rows):
-        yield f"{row * panel.grid.group:>7} |{''.join(map(sign, panel.grid.row_cells(row)))}|"
+        yield f"{panel.grid.label(row):>7} |{''.join(map(sign, panel.grid.row_cells(row)))}|"
 
 
 def sign(counts):
@@ -216,6 +112,7 @@ WIDTH, MARGIN, LABEL = 1280, 24, 46
 MOST_ROWS, LEAST_CELL, MOST_CELL = 64, 3, 18
 LEAST_ROW, LEAST_SHARED_ROW = 6, 12  # high enough for shares to be seen
 MOST_CELLS = 40000  # of a page, so that it has some megabytes at most
+MOST_HEIGHT = 32000  # of a page; some programs show no more than 32,767
 
 
 def per_line(panels):
@@ -234,13 +131,34 @@ def shape(panels, objects):
     return rows, lambda count: min(columns, max(8, cells // max(1, count)))
 
 
-def svg_lines(title, drawings, notes):
-    body, top = [], 84
-    for drawing in drawings:
-        body.append(f'<g role="group" aria-label="{html.escape(drawing.title)}">')
-        top = drawing_svg(body, drawing, top)
+def placed(drawings: list[Drawing], top: int) -> tuple[list[str], int, Left]:
+    """The drawings one below the other, where they end, and what a page has no room for.
+
+    Those of whole objects are left out before others.
+    """
+    made = [drawing_svg(drawing) for drawing in drawings]
+    order = sorted(range(len(drawings)), key=lambda place: drawings[place].is_whole)
+    end, kept = top, set()
+    for place in order:
+        if kept and end + made[place][1] > MOST_HEIGHT:
+            continue
+        kept.add(place)
+        end += made[place][1]
+    body = []
+    for place in sorted(kept):
+        lines, height = made[place]
+        label = html.escape(drawings[place].title)
+        body += [f'<g role="group" aria-label="{label}" transform="translate(0,{top:g})">', *lines]
         body.append("</g>")
-    for note in notes:
+        top += height
+    left = [drawing for place, drawing in enumerate(drawings) if place not in kept]
+    return body, top, Left(len(left), sum(drawing.is_whole for drawing in left))
+
+
+def svg_lines(title: str, drawings: list[Drawing], notes: list[str], left: Left) -> Iterator[str]:
+    """The page. Some objects are left out already, and notes tell the rest."""
+    body, top, more = placed(drawings, 84)
+    for note in [*notes, *Left(left.objects + more.objects, left.whole + more.whole).notes()]:
         top += 22
         body.append(text(MARGIN, top, note))
     height = top + MARGIN
@@ -276,12 +194,12 @@ def swatch(x, y, kind, words):
     return square + text(x + 16, y + 10, words)
 
 
-def drawing_svg(body, drawing, top):
-    """Draws an object, and answers where the next one begins."""
-    top += 24
+def drawing_svg(drawing: Drawing) -> tuple[list[str], float]:
+    """Draws an object, and answers how high that is."""
+    body, top = [], 24
     body.append(f'<path d="M{MARGIN} {top - 20}H{WIDTH - MARGIN}" stroke="#bbb"/>')
     body.append(text(MARGIN, top, drawing.title, 'font-size="15" font-weight="bold"'))
-    scale = scales(drawing.panels)
+    scale = drawing.scale()
     for words in (drawing.words, scale and scale[0].upper() + scale[1:] + "."):
         if words:
             top += 17
@@ -295,13 +213,13 @@ def drawing_svg(body, drawing, top):
             for left, panel in zip(lefts, panels)
         ]
         top = max(ends, default=top)
-    return top + 8
+    return body, top + 8
 
 
 def panel_svg(body, panel, x, y, width, scale):
     """Draws a station's part, and answers where it ends."""
     grid = panel.grid
-    told = f"{panel.name}: {panel.words}" + (f": {count_words(grid.counts)}" if grid else "")
+    told = f"{panel.name}: {panel.words}" + (f": {grid.words()}" if grid else "")
     body.append(f'<g><title>{html.escape(told)}</title>')
     style = 'font-size="13" font-weight="bold"' + (' fill="#004a80"' if panel.is_all else "")
     body.append(text(x, y, shortened(panel.name, (width + LABEL) // 8), style))
@@ -311,7 +229,7 @@ def panel_svg(body, panel, x, y, width, scale):
     if grid:
         for number, count in enumerate(grid.counts):
             left, high = x + number % 2 * max(132, width // 3), y + 8 + number // 2 * 16
-            body.append(swatch(left, high, number, f"{NAMES[number]} {count}"))
+            body.append(swatch(left, high, number, f"{grid.names[number]} {count}"))
         y += 44
         if not scale and grid.rows:
             y += 12
@@ -340,11 +258,11 @@ def grid_svg(body, grid, x, y, width):
         if row % every == 0:
             low = at + max(height - 1, 8) / 2 + 3
             style = 'font-size="9" text-anchor="end" fill="#666"'
-            body.append(text(x - 5, low, str(row * grid.group), style))
+            body.append(text(x - 5, low, str(grid.label(row)), style))
         for begin, end, counts in grid.row_runs(row):
-            words = f"{grid.range_words(row, begin, end)}: {count_words(counts, True)}"
+            words = f"{grid.range_words(row, begin, end)}: {grid.words(counts, True)}"
             parts = bars(counts, x + begin * cell, x + end * cell, at, height - 1)
-            body.append(f"<g><title>{words}</title>{''.join(parts)}</g>")
+            body.append(f"<g><title>{html.escape(words)}</title>{''.join(parts)}</g>")
     if cell >= 5:
         lines = "".join(
             f"M{edge(x + number * cell)} {edge(y)}v{grid.rows * height}"

@@ -1,11 +1,15 @@
 """Sockets that receive a group, a group of one sender, or what is sent to this machine."""
+from __future__ import annotations
+
+import collections
 import ipaddress
 import os
 import socket
 import struct
 import sys
+from typing import Iterable, NamedTuple, Optional
 
-from flutejoin_growing import Fault, note
+from flutejoin_notes import Fault, note
 
 # What Python's socket module does not name. The numbers are Linux's.
 SO_RCVBUFFORCE, SO_MEMINFO, SO_BINDTODEVICE = 33, 55, 25
@@ -168,3 +172,54 @@ def dropped_by_system(udp):
     except OSError:
         pass
     return None
+
+
+class Errors(NamedTuple):
+    """Datagrams that the system dropped for all programs."""
+
+    full: int  # a receive buffer, or the memory for all of them
+    checksum: int
+
+
+def system_errors() -> Optional[Errors]:
+    """What the system counts of UDP over IPv4 and IPv6, where it does."""
+    counts: collections.Counter = collections.Counter()
+    try:
+        with open("/proc/net/snmp", encoding="ascii") as table:
+            lines = [line.split() for line in table if line.startswith("Udp: ")]
+        counts.update(dict(zip(lines[0][1:], map(int, lines[1][1:]))))
+        with open("/proc/net/snmp6", encoding="ascii") as table:
+            for line in table:
+                name, _, value = line.partition("\t")
+                if name.startswith("Udp6"):
+                    counts[name.strip()[4:]] += int(value)
+    except (OSError, ValueError, IndexError):
+        if "InCsumErrors" not in counts:
+            return None
+    return Errors(counts["RcvbufErrors"] + counts["MemErrors"], counts["InCsumErrors"])
+
+
+FULL = "its receive buffer was full"
+CHECKSUM = "a checksum did not hold, here or for another program"
+
+
+class Drops:
+    """What the system dropped of what came to some sockets, by its cause.
+
+    A full buffer it counts for each socket. A checksum that does not hold it counts for all
+    programs together, and for the socket only where that is noticed while a datagram is received.
+    """
+
+    def __init__(self, sockets: Iterable[socket.socket]):
+        self.sockets, self.before = list(sockets), system_errors()
+
+    def by_cause(self) -> dict[str, int]:
+        count = sum(dropped_by_system(udp) or 0 for udp in self.sockets)
+        errors = system_errors()
+        full = checksum = 0
+        if self.before and errors:
+            full, checksum = (now - then for now, then in zip(errors, self.before))
+        full = min(full, count)
+        rest = max(0, count - full - checksum)
+        causes = {FULL: full, CHECKSUM: checksum, f"{FULL}, or a checksum did not hold": rest}
+        return {cause: number for cause, number in causes.items() if number}

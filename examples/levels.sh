@@ -1,0 +1,32 @@
+#!/bin/sh
+# Adds an input to a journal that grows for long, in levels: levels.sh STORE INPUT [WORD..]
+#
+# STORE is a folder of levels, each a folder of at most seven journals. When the eighth comes they
+# are joined to one of the next level, so what is kept is written again once for each level, and not
+# with each input. WORDs go to the join of INPUT, as --source 0a000001 of a datagram file.
+#
+#   flutejoin join -o - STORE/*/* | flutejoin gaps -      asks all that was added
+#
+# A kill between a join and the removal of what was joined leaves some journals twice, which changes
+# no answer; the next run goes on. Two runs in one STORE at a time are kept apart by flock.
+set -eu
+program=${FLUTEJOIN:-flutejoin}
+store=$1 input=$2
+shift 2
+level=0
+mkdir -p "$store/0"
+exec 9< "$store"
+flock 9
+name=$(date +%s%N)
+"$program" join "$@" -o "$store/0/$name" "$input" > /dev/null
+while
+    rm -f "$store/$level"/*.partial
+    set -- "$store/$level"/*
+    [ $# -ge 8 ]
+do
+    mkdir -p "$store/$((level + 1))"
+    "$program" join -o "$store/$((level + 1))/$name" "$@" > /dev/null
+    sync "$store/$((level + 1))/$name" "$store/$((level + 1))"
+    rm -- "$@"
+    level=$((level + 1))
+done

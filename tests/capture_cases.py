@@ -1,0 +1,538 @@
+#!/usr/bin/env python3
+"""What flutejoin-capture makes of rare and hostile captures, which are made here.
+
+No program is needed. usage: tests/capture_cases.py
+"""
+from __future__ import annotations
+
+import gzip
+import os
+import re
+import signal
+import struct
+import subprocess
+import sys
+import tempfile
+import time
+import unittest
+
+sys.dont_write_bytecode = True
+TESTS = os.path.dirname(os.path.realpath(__file__))
+TOOLS = os.path.join(os.path.dirname(TESTS), "tools")
+sys.path[:0] = [TESTS, TOOLS]
+import captures
+import datagram_files
+import flutejoin_datagrams
+import flutejoin_epochs
+import flutejoin_files
+
+SENDER, GROUP = b"\x0a\0\0\1", b"\xef\1\1\1"
+ETHERNET = b"\x01\0\x5e\1\1\1\2\0\0\0\0\1"
+IP = b"\x08\0"
+
+
+def packet(symbol: bytes, information: int | None = None, tsi: int = 7) -> bytes:
+    """A datagram of FLUTE, with EXT_FTI for symbols of so many bytes or without."""
+    words = 4 if information is None else 8
+    head = struct.pack(">BBBBIII", 0x10, 0xA0, words, 0, 0, tsi, 1)
+    if information is not None:
+        head += struct.pack(">BBHIHHI", 64, 4, 0, 40000, 0, information, 16)
+    return head + b"\0\0\0\5" + symbol
+
+
+def frame(payload: bytes, checksum: bool = True, tags: bytes = b"") -> bytes:
+    """The Ethernet frame of a UDP datagram, with its checksum or one that is filled in later."""
+    data = captures.udp(SENDER, GROUP, payload)
+    data = data if checksum else data[:6] + b"\x12\x34" + data[8:]
+    return ETHERNET + tags + IP + captures.ip4(SENDER, GROUP, 17, data)
+
+
+def pcap(frames: list[bytes], times: list[int] | None = None, magic: int = 0xA1B2C3D4) -> bytes:
+    made = [struct.pack("<IHHiIII", magic, 2, 4, 0, 0, 262144, 1)]
+    more = b"\0" * (8 if magic == 0xA1B2CD34 else 0)
+    for at, of in enumerate(frames):
+        when = times[at] if times else 1700000000
+        made.append(struct.pack("<IIII", when, 0, len(of), len(of)) + more + of)
+    return b"".join(made)
+
+
+class Cases(unittest.TestCase):
+    def setUp(self):
+        folder = tempfile.TemporaryDirectory()
+        self.addCleanup(folder.cleanup)
+        self.folder = folder.name
+
+    def path(self, name: str) -> str:
+        return os.path.join(self.folder, name)
+
+    def made(self, data: bytes, name: str = "capture") -> str:
+        with open(self.path(name), "wb") as file:
+            file.write(data)
+        return self.path(name)
+
+    def run_tool(self, *words: str, tool: str = "capture") -> subprocess.CompletedProcess:
+        command = [sys.executable, os.path.join(TOOLS, f"flutejoin-{tool}"), *words]
+        return subprocess.run(command, capture_output=True, text=True, timeout=60)
+
+    def listed(self, data: bytes, *options: str) -> list[str]:
+        """What a list of a capture prints, and its faults behind."""
+        ran = self.run_tool(*options, self.made(data))
+        return (ran.stdout + ran.stderr.replace(self.folder + "/", "")).splitlines()
+
+    def taken(self, data: bytes, *options: str) -> list[bytes]:
+        """The datagrams that come of a capture."""
+        self.run_tool("--port", "4001", *options, "-o", self.path("out"), self.made(data))
+        path = self.path("out/10.0.0.1.fldg")
+        return list(datagram_files.read(path)) if os.path.exists(path) else []
+
+
+class Segments(Cases):
+    """Datagrams that UDP segmentation offload has as one, with --any-checksum."""
+
+    told = "left out 1: " + flutejoin_datagrams.SEVERAL
+
+    def test_those_that_tell_their_length_are_taken_apart(self):
+        sent = [packet(bytes([n]) * 1000, 1000) for n in range(20)] + [packet(b"x" * 300, 1000)]
+        data = pcap([frame(b"".join(sent), checksum=False)])
+        self.assertEqual(self.taken(data, "--any-checksum"), sent)
+        told = self.listed(data, "--any-checksum")[0]
+        self.assertTrue(told.endswith(": 21 datagrams, 21 like FLUTE"), told)
+
+    def test_what_may_be_several_is_left_out_and_told(self):
+        session = packet(b"a" * 600, 1000) + packet(b"b" * 600, 1000, tsi=8)
+        for payload in (
+            b"".join(packet(b"y" * 1000) for _ in range(20)),  # nothing tells their length
+            b"".join(packet(b"y" * 400) for _ in range(3)),  # in one frame
+            b"".join(packet(b"y" * 400, 1000) for _ in range(3)),  # shorter than it tells
+            packet(b"z" * 2000, 1000),  # no datagram begins where the second would
+            session,  # nor one of that session
+        ):
+            data = pcap([frame(payload, checksum=False), frame(packet(b"right", 5))])
+            self.assertEqual(self.taken(data, "--any-checksum"), [packet(b"right", 5)])
+            self.assertIn(self.told, self.listed(data, "--any-checksum"))
+            for name in os.listdir(self.path("out")):
+                os.remove(self.path("out/" + name))
+
+    def test_what_is_one_is_taken(self):
+        zeros = packet(b"\0" * 1400, tsi=0)
+        repeats = packet(b"\0\0\0\7" * 250, 1000)
+        jumbo, words = packet(b"y" * 8000, 8000), b"words" * 900
+        for payload in (packet(b"y" * 1400), zeros, repeats, jumbo, words):
+            data = pcap([frame(payload, checksum=False)])
+            self.assertEqual(self.taken(data, "--any-checksum"), [payload])
+            os.remove(self.path("out/10.0.0.1.fldg"))
+
+    def test_a_right_checksum_shows_that_it_is_one(self):
+        payload = b"".join(packet(b"y" * 1000) for _ in range(8))
+        self.assertEqual(self.taken(pcap([frame(payload)]), "--any-checksum"), [payload])
+
+    def test_a_datagram_of_fragments_is_one(self):
+        payload = packet(b"y" * 5000)
+        data = captures.udp(SENDER, GROUP, payload)[:6] + b"\x12\x34"
+        data += captures.udp(SENDER, GROUP, payload)[8:]
+        pieces = captures.fragments(SENDER, GROUP, data, 9, 1400)
+        frames = [ETHERNET + IP + piece for piece in pieces]
+        self.assertEqual(self.taken(pcap(frames), "--any-checksum"), [payload])
+
+
+class Fragments(Cases):
+    def pieces(self, size: int = 400, payload: bytes | None = None) -> list[bytes]:
+        payload = packet(b"s" * 1000, 1000) if payload is None else payload
+        data = captures.udp(SENDER, GROUP, payload)
+        return [ETHERNET + IP + of for of in captures.fragments(SENDER, GROUP, data, 9, size)]
+
+    def test_too_many_are_told(self):
+        payload = packet(b"s" * (257 * 8 - 28))
+        frames = self.pieces(8, payload)
+        self.assertEqual(len(frames), 257)
+        self.assertIn("left out 1: more than 256 fragments", self.listed(pcap(frames)))
+        payload = packet(b"s" * (256 * 8 - 28))
+        self.assertEqual(self.taken(pcap(self.pieces(8, payload))), [payload])
+
+    def test_they_have_thirty_seconds(self):
+        frames = self.pieces()
+        self.assertEqual(len(frames), 3)
+        for late, is_taken in ((30, True), (31, False), (86400, False), (-31, False)):
+            data = pcap(frames, [1700000000, 1700000000, 1700000000 + late])
+            wanted = [] if not is_taken else [packet(b"s" * 1000, 1000)]
+            self.assertEqual(self.taken(data), wanted, late)
+            told = ["left out 2: a fragment is lost"] if not is_taken else []
+            self.assertEqual([line for line in self.listed(data) if "left out" in line], told)
+            for name in os.listdir(self.path("out")) if is_taken else ():
+                os.remove(self.path("out/" + name))
+
+    def test_an_identification_that_is_used_again_later(self):
+        frames = self.pieces()
+        data = pcap(frames[:2] + frames, [100, 100, 200, 200, 200])
+        self.assertEqual(self.taken(data), [packet(b"s" * 1000, 1000)])
+
+    def test_units_of_pcapng(self):
+        frames = self.pieces()
+        for resolution, units in ((None, 10**6), (9, 10**9), (0x80 | 20, 1 << 20), (0, 1)):
+            for late, count in ((30, 1), (31, 0)):
+                options = () if resolution is None else (9, 1, resolution, 0, 0)
+                made = [pcapng_head(struct.pack("<HHB3xHH", *options) if options else b"")]
+                for at, of in enumerate(frames):
+                    when = (1700000000 + late * (at == 2)) * units
+                    fields = 0, when >> 32, when & 0xFFFFFFFF, len(of), len(of)
+                    made.append(captures.block("<", 6, struct.pack("<IIIII", *fields) + of))
+                taken = self.taken(b"".join(made))
+                self.assertEqual(len(taken), count, (resolution, late))
+                for name in os.listdir(self.path("out")) if taken else ():
+                    os.remove(self.path("out/" + name))
+
+    def test_those_of_two_vlans_are_of_two_datagrams(self):
+        frames = self.pieces()
+        tagged = [of[:12] + b"\x81\0\0\7" + of[12:] for of in frames]
+        self.assertEqual(self.taken(pcap(tagged)), [packet(b"s" * 1000, 1000)])
+        os.remove(self.path("out/10.0.0.1.fldg"))
+        others = [of[:12] + b"\x81\0\x20\x08" + of[12:] for of in frames]
+        for mixed in (frames[:2] + tagged[2:], others[:1] + tagged[1:]):
+            self.assertEqual(self.taken(pcap(mixed)), [])
+
+    def test_headers_before_a_datagram_are_copied_once(self):
+        class Counted(bytes):
+            copied = 0
+
+            def __getitem__(self, place):
+                part = bytes.__getitem__(self, place)
+                if isinstance(place, slice):
+                    Counted.copied += len(part)
+                    return Counted(part)
+                return part
+
+        headers = b"\x3c\0\1\4\0\0\0\0" * 8000 + b"\x11\0\1\4\0\0\0\0"
+        kind, data = flutejoin_datagrams.behind_headers(60, Counted(headers + b"datagram"))
+        self.assertEqual((kind, data), (17, b"datagram"))
+        self.assertLess(Counted.copied, 100)
+
+
+def pcapng_head(options: bytes = b"") -> bytes:
+    section = captures.block("<", 0x0A0D0D0A, struct.pack("<IHHq", 0x1A2B3C4D, 1, 0, -1))
+    return section + captures.block("<", 1, struct.pack("<HHI", 1, 0, 262144) + options)
+
+
+class Epochs(Cases):
+    """A sender that starts again."""
+
+    def files(self, frames: list[bytes], times: list[int] | None = None, *options: str) -> dict:
+        """The datagrams of each file that comes of a capture; what is printed stays in `ran`."""
+        folder = self.path("out")
+        made = self.made(pcap(frames, times))
+        self.ran = self.run_tool("--port", "4001", *options, "-o", folder, made)
+        self.assertEqual(self.ran.returncode, 0)
+        names = sorted(os.listdir(folder))
+        return {name: list(datagram_files.read(os.path.join(folder, name))) for name in names}
+
+    def test_each_epoch_has_files(self):
+        old = [instance(b"old"), packet(b"one", 5), instance(b"old"), instance(b"more", 2)]
+        new = [instance(b"new"), packet(b"two", 5), instance(b"new"), instance(b"more", 2)]
+        newest = [instance(b"newest"), packet(b"three", 5)]
+        sent = old + new + newest
+        found = self.files([frame(of) for of in sent])
+        wanted = {"10.0.0.1.fldg": old, "10.0.0.1.e2.fldg": new, "10.0.0.1.e3.fldg": newest}
+        self.assertEqual(found, wanted)
+        again = "flutejoin-capture: 10.0.0.1 starts again: an FDT Instance has other contents"
+        told = [f"{again}; epoch {number} begins" for number in (2, 3)]
+        self.assertEqual(self.ran.stderr.splitlines(), told)
+        stem = self.path("out/10.0.0.1")
+        joins = [line for line in self.ran.stdout.splitlines() if line.startswith("flutejoin join")]
+        lines = [
+            f"flutejoin join --source 0a000001 -o {stem}{epoch}.journal {stem}{epoch}.fldg"
+            for epoch in ("", ".e2", ".e3")
+        ]
+        self.assertEqual(joins, lines)
+
+    def test_the_parts_of_epochs(self):
+        sent = [instance(b"old"), packet(b"1", 5), packet(b"2", 5), instance(b"new")]
+        sent.append(packet(b"3", 5))
+        found = self.files([frame(of) for of in sent], None, "--split", "60")
+        wanted = {
+            "10.0.0.1.fldg": sent[:1],
+            "10.0.0.1.2.fldg": sent[1:2],
+            "10.0.0.1.3.fldg": sent[2:3],
+            "10.0.0.1.e2.fldg": sent[3:4],
+            "10.0.0.1.e2.2.fldg": sent[4:],
+        }
+        self.assertEqual(found, wanted)
+        self.assertEqual(self.ran.stdout.count("flutejoin join"), 2)
+
+    def test_other_lengths_are_another_epoch(self):
+        sent = [instance(b"same"), instance(b"same", length=41)]
+        self.assertEqual(len(self.files([frame(of) for of in sent])), 2)
+
+    def test_what_is_no_contradiction(self):
+        sent = [
+            instance(b"1"),
+            instance(b"2", 2),  # another Instance
+            instance(b"3", tsi=8),  # of another session
+            packet(b"4", 5),
+            packet(b"5", 5),  # files may conflict: each value stays, and flutejoin tells
+            b"no FLUTE",
+            b"x",
+        ]
+        self.assertEqual(self.files([frame(of) for of in sent]), {"10.0.0.1.fldg": sent})
+        self.assertEqual(self.ran.stderr, "")
+
+    def test_two_senders_of_one_address_make_few_epochs(self):
+        sent = [instance(b"new" if n % 2 else b"old") for n in range(1000)]
+        found = self.files([frame(of) for of in sent])
+        self.assertEqual(len(found), 5)
+        told = f"left out {1000 - sum(map(len, found.values()))}: {flutejoin_epochs.CONTRADICTING}"
+        self.assertIn(told, self.ran.stdout.splitlines())
+        for name in found:
+            os.remove(self.path("out/" + name))
+        # Once a minute another one may begin.
+        sent = [instance(b"%d" % n) for n in range(10)]
+        found = self.files([frame(of) for of in sent], [60 * n for n in range(10)])
+        self.assertEqual(len(found), 10)
+
+
+def instance(content: bytes, number: int = 1, tsi: int = 7, length: int = 40) -> bytes:
+    """A datagram of an FDT Instance."""
+    head = struct.pack(">BBBBIII", 0x10, 0xA0, 9, 0, 0, tsi, 0)
+    head += struct.pack(">BBH", 192, 0x20, number)
+    head += struct.pack(">BBHIHHI", 64, 4, 0, length, 0, 10, 16)
+    return head + b"\0\0\0\1" + content
+
+
+class Forms(Cases):
+    one = packet(b"hello", 5)
+
+    def test_interfaces_have_a_bound(self):
+        interface = captures.block("<", 1, struct.pack("<HHI", 1, 0, 0))
+        section = pcapng_head()[:28]
+        of = frame(self.one)
+        fields = struct.pack("<IIIII", 65535, 0, 0, len(of), len(of))
+        last = captures.block("<", 6, fields + of)
+        most = section + interface * 65536 + last
+        self.assertEqual(self.taken(most), [self.one])
+        told = self.listed(most + interface * 1000000)
+        self.assertIn("1 datagrams", told[0])
+        damage = "is damaged (more than 65536 interfaces); the packets before that were read"
+        self.assertEqual(told[1:], [f"flutejoin-capture: capture: {damage}"])
+        # Each section has its own.
+        self.assertEqual(len(self.listed(most + most)), 1)
+
+    def test_modified_pcap(self):
+        data = pcap([frame(self.one), frame(packet(b"again", 5))], magic=0xA1B2CD34)
+        self.assertEqual(self.taken(data), [self.one, packet(b"again", 5)])
+
+    def test_snap(self):
+        for oui in ("000000", "0000f8"):
+            snap = b"\xaa\xaa\3" + bytes.fromhex(oui)
+            of = frame(self.one)
+            length = struct.pack(">H", len(of) - 12 + 6)
+            data = pcap([of[:12] + length + snap + of[12:]])
+            self.assertEqual(self.taken(data), [self.one], oui)
+            os.remove(self.path("out/10.0.0.1.fldg"))
+            tagged = of[:12] + b"\x81\0\0\7" + length + snap + of[12:]
+            self.assertEqual(self.taken(pcap([tagged])), [self.one], oui)
+            os.remove(self.path("out/10.0.0.1.fldg"))
+
+    def test_frames_that_are_not_known_are_counted(self):
+        of = frame(self.one)
+        kinds = "88e5", "88e5", "0806", "05ff"
+        other = [of[:12] + bytes.fromhex(kind) + of[14:] for kind in kinds]
+        llc = ETHERNET + b"\0\x40\xfe\xfe\3" + b"\0" * 60
+        apple = ETHERNET + b"\0\x40\xaa\xaa\3\x08\0\7\x80\x9b" + b"\0" * 60
+        tree = ETHERNET + b"\0\x26\x42\x42\3" + b"\0" * 60
+        tags = ETHERNET + b"\x81\0\0\7" * 17 + of[12:]
+        self.assertEqual(
+            self.listed(pcap([of, *other, llc, apple, tree, tags]))[1:],
+            [
+                "left out 2: EtherType 0x88e5, which is not known here",
+                "left out 1: EtherType 0x05ff, which is not known here",
+                "left out 2: an LLC frame of a protocol which is not known here",
+                "left out 1: more than 16 VLAN tags",
+            ],
+        )
+        self.assertEqual(self.taken(pcap([ETHERNET + b"\x81\0\0\7" * 16 + of[12:]])), [self.one])
+
+    def test_causes_have_a_bound(self):
+        of = frame(self.one)
+        kinds = [of[:12] + struct.pack(">H", 0xA000 + n % 1000) + of[14:] for n in range(2000)]
+        told = self.listed(pcap(kinds))
+        self.assertEqual(len(told), 16 + 1 + 1)
+        self.assertIn(f"left out {2000 - 32}: another EtherType, which is not known here", told)
+
+
+class Gzip(Cases):
+    sent = [packet(bytes([n]) * 100, 100) for n in range(50)]
+
+    def setUp(self):
+        super().setUp()
+        self.data = pcap([frame(of) for of in self.sent])
+
+    def test_a_wrong_check_takes_no_packet_away(self):
+        made = bytearray(gzip.compress(self.data))
+        made[-8] ^= 1
+        told = self.listed(bytes(made))
+        self.assertIn("50 datagrams, 50 like FLUTE", told[0])
+        self.assertIn("is damaged (gzip: ", told[1])
+        self.assertEqual(self.taken(bytes(made)), self.sent)
+
+    def test_what_stands_before_damage_is_taken(self):
+        for at in range(1000, len(self.data), 1997):
+            # A block of a kind that is none, behind stored bytes
+            data = gzip_stored(self.data[:at]) + b"\xff" * 50
+            count = (at - 24) // (16 + len(frame(self.sent[0])))
+            self.assertEqual(self.taken(data), self.sent[:count])
+            for name in os.listdir(self.path("out")) if count else ():
+                os.remove(self.path("out/" + name))
+
+    def test_what_follows_a_member(self):
+        made = gzip.compress(self.data)
+        ignored = "what gzip compressed is whole, and other bytes behind it are ignored"
+        warning = [f"flutejoin-capture: capture: {ignored}"]
+        for behind, told in (
+            (b"", []),
+            (b"\0", []),
+            (b"\0" * 200000, []),
+            (b"\0" * (1 << 18), []),
+            (b"garbage", warning),
+            (b"\x1f", warning),
+            (b"\0" * 65535 + b"\x1f", warning),
+            (b"\0" * 200000 + b"garbage" * 100000, warning),
+        ):
+            ran = self.run_tool(self.made(made + behind))
+            self.assertEqual(ran.returncode, 0)
+            self.assertIn("50 datagrams", ran.stdout)
+            self.assertEqual(ran.stderr.replace(self.folder + "/", "").splitlines(), told)
+        for behind in (b"", b"\0" * 65535, b"\0" * 200000):
+            half = gzip.compress(self.data[:3000]) + behind + gzip.compress(self.data[3000:])
+            self.assertIn("50 datagrams", self.listed(half)[0])
+
+
+def gzip_stored(data: bytes) -> bytes:
+    """The begin of a gzip file that has data as one stored block."""
+    head = b"\x1f\x8b\x08\0\0\0\0\0\0\xff"
+    return head + b"\0" + struct.pack("<HH", len(data), len(data) ^ 0xFFFF) + data
+
+
+class Runs(Cases):
+    def begun(self, *words: str, **more) -> subprocess.Popen:
+        command = [sys.executable, os.path.join(TOOLS, "flutejoin-capture"), *words]
+        process = subprocess.Popen(
+            command, stdout=subprocess.PIPE, stderr=subprocess.PIPE, text=True, **more
+        )
+        self.addCleanup(ended, process)
+        return process
+
+    def wait_for(self, holds) -> None:
+        for _ in range(200):
+            if holds():
+                return
+            time.sleep(0.1)
+        self.fail("waited for 20 seconds")
+
+    def test_a_pipe_that_nobody_writes_can_be_left(self):
+        pipe = self.path("pipe")
+        os.mkfifo(pipe)
+        for number in (signal.SIGINT, signal.SIGTERM):
+            process = self.begun(pipe, preexec_fn=signals_as_usual)
+            self.wait_for(lambda: pipe in opened_by(process.pid))
+            process.send_signal(number)
+            out, err = process.communicate(timeout=20)
+            self.assertEqual((process.returncode, out), (1, ""))
+            self.assertEqual(err, "flutejoin-capture: no UDP datagrams\n")
+
+    def test_a_pipe_whose_writer_comes_later(self):
+        pipe = self.path("pipe")
+        os.mkfifo(pipe)
+        process = self.begun(pipe)
+        self.wait_for(lambda: pipe in opened_by(process.pid))
+        with open(pipe, "wb") as file:
+            file.write(pcap([frame(packet(b"hello", 5))]))
+        out, err = process.communicate(timeout=20)
+        self.assertIn(": 1 datagrams, 1 like FLUTE", out)
+        self.assertEqual((process.returncode, err), (0, ""))
+
+    def test_mend_waits_for_no_pipe(self):
+        pipe = self.path("pipe")
+        os.mkfifo(pipe)
+        ran = self.run_tool("-o", self.path("out"), pipe, tool="mend")
+        self.assertEqual(ran.stderr, f"flutejoin-mend: {pipe}: is no regular file\n")
+
+    def test_a_slow_sender_is_written_beside_a_fast_one(self):
+        udp = captures.udp(b"\x0a\0\0\2", GROUP, packet(b"slow", 4))
+        slow = ETHERNET + IP + captures.ip4(b"\x0a\0\0\2", GROUP, 17, udp)
+        head, fast = pcap([])[:24], frame(packet(b"f" * 40, 40))
+        process = self.begun("--port", "4001", "-o", self.path("live"), "-", stdin=subprocess.PIPE)
+        write = process.stdin.buffer.raw.write
+        write(head + pcap([slow])[24:])
+        path = self.path("live/10.0.0.2.fldg.partial")
+        many, end = pcap([fast] * 5)[24:], time.monotonic() + 20
+        # The pipe is never silent for a second.
+        while not (os.path.exists(path) and os.path.getsize(path)) and time.monotonic() < end:
+            write(many)
+            time.sleep(0.02)
+        process.kill()
+        process.wait()
+        self.assertEqual(list(datagram_files.read(path)), [packet(b"slow", 4)])
+        mended = self.run_tool("-o", self.path("mended"), path, tool="mend")
+        self.assertIn("is whole: 1 datagrams", mended.stdout)
+
+    def test_what_a_killed_run_left_names_the_way_out(self):
+        os.mkdir(self.path("left"))
+        partial = self.made(b"", "left/10.0.0.1.fldg.partial")
+        made = self.made(pcap([frame(packet(b"hello", 5))]))
+        ran = self.run_tool("--port", "4001", "-o", self.path("left"), made)
+        self.assertEqual(ran.returncode, 3)
+        there = "is there already, and is left as it is; no other file is written for its sender"
+        hint = "flutejoin-mend makes a whole file of what a killed run left"
+        self.assertEqual(ran.stderr, f"flutejoin-capture: {partial}: {there}; {hint}\n")
+
+
+def ended(process: subprocess.Popen) -> None:
+    process.kill()
+    process.wait()
+    for stream in (process.stdin, process.stdout, process.stderr):
+        if stream:
+            stream.close()
+
+
+def signals_as_usual() -> None:
+    signal.signal(signal.SIGINT, signal.default_int_handler)
+
+
+def opened_by(process: int) -> list[str]:
+    """The files that a process has open."""
+    folder = f"/proc/{process}/fd"
+    try:
+        return [os.readlink(os.path.join(folder, name)) for name in os.listdir(folder)]
+    except OSError:
+        return []
+
+
+class Names(Cases):
+    odd = "a\x1b[31m'b\\c %d\n\u202e\udcff"
+
+    def test_what_a_terminal_obeys_is_never_printed(self):
+        self.assertEqual(flutejoin_files.shown(self.odd), "a?[31m'b\\c %d???")
+        for tool, words in (
+            ("capture", (self.path(self.odd),)),
+            ("capture", (f"--frob={self.odd}", "file")),
+            ("mend", ("-o", self.path("out"), self.path(self.odd))),
+            ("mend", ("-o", self.path("out"), "--", "file", self.odd)),
+            ("map", ("--text", self.path(self.odd), "--flutejoin", "true")),
+        ):
+            ran = self.run_tool(*words, tool=tool)
+            self.assertIn("a?[31m'b", ran.stderr)
+            self.assertIsNone(re.search(r"[^ -~\n]", ran.stdout + ran.stderr), (tool, words))
+
+    def test_lines_to_run_are_printed_and_run(self):
+        folder = self.path(self.odd)
+        made = self.made(pcap([frame(packet(b"hello", 5))]))
+        ran = self.run_tool("--port", "4001", "-o", folder, made)
+        self.assertEqual(ran.returncode, 0)
+        self.assertIsNone(re.search(r"[^ -~\n]", ran.stdout))
+        line = ran.stdout.splitlines()[-1].replace("flutejoin join ", "printf '%s\\0' ", 1)
+        words = subprocess.run(["sh", "-c", line], capture_output=True).stdout.split(b"\0")
+        stem = os.fsencode(folder) + b"/10.0.0.1"
+        wanted = [b"--source", b"0a000001", b"-o", stem + b".journal", stem + b".fldg", b""]
+        self.assertEqual(words, wanted)
+
+
+if __name__ == "__main__":
+    unittest.main()

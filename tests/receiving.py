@@ -1,0 +1,935 @@
+#!/usr/bin/env python3
+"""What flutejoin-receive does in a long run: events that lose data, and senders that are made up.
+
+Everything is sent to the loopback: of a network namespace of its own where one can be had, and else
+of this machine. Tests run side by side, since most of them wait.
+usage: tests/receiving.py PROGRAM
+"""
+from __future__ import annotations
+
+import concurrent.futures
+import contextlib
+import itertools
+import json
+import os
+import re
+import resource
+import select
+import shutil
+import signal
+import socket
+import struct
+import subprocess
+import sys
+import tempfile
+import threading
+import time
+import unittest
+
+sys.dont_write_bytecode = True
+TOOLS = os.path.join(os.path.dirname(os.path.dirname(os.path.abspath(__file__))), "tools")
+sys.path.insert(0, TOOLS)
+TOOL = os.path.join(TOOLS, "flutejoin-receive")
+PROGRAM = os.path.abspath(sys.argv[1])
+INSIDE = "flutejoin_receiving_inside"
+IS_INSIDE = os.environ.get(INSIDE) == "yes"
+LONGEST_WAIT = 30  # seconds
+STAMP = re.compile(r"^\d{4}-\d\d-\d\dT\d\d:\d\d:\d\dZ (?=flutejoin-receive: )", re.M)
+
+
+def packet(symbol: bytes, number: int = 0, toi: int = 1, instance=None, tsi: int = 7) -> bytes:
+    """A FLUTE packet, of an FDT Instance if one is named."""
+    extension = b"" if instance is None else struct.pack(">I", 0xC0200000 | instance)
+    words = 4 + len(extension) // 4
+    toi = toi if instance is None else 0
+    header = struct.pack(">BBBBIII", 0x10, 0xA0, words, 0, 0, tsi, toi)
+    return header + extension + struct.pack(">HH", number >> 16, number & 0xFFFF) + symbol
+
+
+def records(path: str) -> list[bytes]:
+    """The datagrams of a datagram file. It has to be whole."""
+    with open(path, "rb") as file:
+        data = file.read()
+    assert data[:6] == b"FLDG\0\1", path
+    place, found = 6, []
+    while place < len(data):
+        end = place + 2 + int.from_bytes(data[place : place + 2], "big")
+        assert end <= len(data), path
+        found.append(data[place + 2 : end])
+        place = end
+    return found
+
+
+def free_port() -> int:
+    with socket.socket(socket.AF_INET, socket.SOCK_DGRAM) as udp:
+        udp.bind(("127.0.0.1", 0))
+        return udp.getsockname()[1]
+
+
+class Receiver:
+    """A run of the tool, with its folder and what it tells."""
+
+    def __init__(self, test, *words: str, before=(), tool=(TOOL,), listens: bool = True, **run):
+        self.test, self.port = test, free_port()
+        self.told = tempfile.TemporaryFile()
+        run.setdefault("stderr", self.told)
+        ports = [] if "--config" in words else ["--port", str(self.port)]
+        places = ["--interface", "127.0.0.1", "--buffer", "4000000"] if ports else []
+        interpreter = [*before, sys.executable, "-S", *tool]
+        command = [*interpreter, *ports, *places, "--seconds", "60", *words]
+        self.process = subprocess.Popen(command, cwd=test.work, stdout=subprocess.PIPE, **run)
+        test.addCleanup(self.kill)
+        if listens:
+            self.until_told(": listening ")
+
+    def kill(self) -> None:
+        self.process.kill()
+        self.process.communicate()
+
+    def stderr(self) -> str:
+        """What it told until now, without the times."""
+        return STAMP.sub("", os.pread(self.told.fileno(), 1 << 20, 0).decode())
+
+    def until(self, holds, what: str) -> None:
+        end = time.monotonic() + LONGEST_WAIT
+        while not holds():
+            has_ended = self.process.poll() is not None
+            if (has_ended or time.monotonic() > end) and not holds():
+                self.test.fail(f"{what}: never; {self.stderr()}")
+            time.sleep(0.01)
+
+    def until_told(self, text: str, count: int = 1) -> None:
+        self.until(lambda: self.stderr().count(text) >= count, text)
+
+    def send(self, datagrams, source: str = "127.0.0.1", port: int = 0) -> None:
+        with socket.socket(socket.AF_INET, socket.SOCK_DGRAM) as udp:
+            udp.bind((source, 0))
+            for datagram in datagrams:
+                udp.sendto(datagram, ("127.0.0.1", port or self.port))
+
+    def until_kept(self, count: int, *names: str) -> None:
+        """Waits until the files hold so many datagrams in all."""
+
+        def holds() -> bool:
+            with contextlib.suppress(FileNotFoundError, AssertionError):
+                return sum(len(records(self.test.path(name))) for name in names) == count
+            return False
+
+        self.until(holds, f"{count} datagrams in {names}")
+
+    def end(self, number: int = signal.SIGINT) -> tuple[int, list[str]]:
+        self.process.send_signal(number)
+        return self.ended()
+
+    def ended(self) -> tuple[int, list[str]]:
+        """Its status, and the lines of its standard output."""
+        out, _ = self.process.communicate(timeout=LONGEST_WAIT)
+        return self.process.returncode, out.decode().splitlines()
+
+
+class Case(unittest.TestCase):
+    maxDiff = 2000
+
+    def setUp(self) -> None:
+        self.work = tempfile.mkdtemp(prefix="flutejoin-receiving.")
+        self.addCleanup(shutil.rmtree, self.work, ignore_errors=True)
+
+    def path(self, name: str) -> str:
+        return os.path.join(self.work, name)
+
+    def names(self, folder: str = "kept") -> list[str]:
+        return sorted(os.listdir(self.path(folder)))
+
+    def flutejoin(self, *words: str) -> str:
+        run = subprocess.run(
+            [PROGRAM, *words], cwd=self.work, capture_output=True, text=True, check=True
+        )
+        return run.stdout
+
+    def needs_namespace(self) -> None:
+        if not IS_INSIDE:
+            self.skipTest("needs namespaces of its own")
+
+    def symbols(self, count: int, size: int = 100, toi: int = 1) -> list[bytes]:
+        return [packet(os.urandom(size), number, toi) for number in range(count)]
+
+
+class Sessions(Case):
+    def test_two_ports_at_once(self) -> None:
+        other = free_port()
+        receiver = Receiver(self, "--port", str(other), "--count", "5", "-o", "kept")
+        first, second = self.symbols(3), self.symbols(2, toi=2)
+        receiver.send(first)
+        receiver.until_kept(3, "kept/127.0.0.1.fldg")
+        receiver.send(second, port=other)
+        status, lines = receiver.ended()
+        self.assertEqual(status, 0)
+        self.assertEqual(records(self.path("kept/127.0.0.1.fldg")), first + second)
+        self.assertEqual(lines[0], "kept/127.0.0.1.fldg: 5 datagrams from 127.0.0.1")
+
+    def test_settings_of_a_file(self) -> None:
+        ports = free_port(), free_port()
+        with open(self.path("station.toml"), "w") as file:
+            file.write(
+                'folder = "kept"\nsenders = 3\nbuffer = 4000000\nstatus = "status.json"\n'
+                f'[[session]]\nport = {ports[0]}\ninterface = "127.0.0.1"\n'
+                f'[[session]]\nport = {ports[1]}\ninterface = "127.0.0.1"\n'
+                'folder = "second/"\nfrom = "127.0.0.2"\n'
+            )
+        receiver = Receiver(self, "--config", "station.toml", "--count", "4")
+        receiver.until_told(": listening ", 2)
+        first, second = self.symbols(2), self.symbols(2)
+        receiver.send(first, port=ports[0])
+        receiver.send(first, port=ports[1])
+        receiver.send(second, "127.0.0.2", port=ports[1])
+        status, lines = receiver.ended()
+        self.assertEqual(status, 0, receiver.stderr())
+        self.assertEqual(records(self.path("kept/127.0.0.1.fldg")), first)
+        self.assertEqual(records(self.path("second/127.0.0.2.fldg")), second)
+        self.assertEqual(self.names("second"), ["127.0.0.2.fldg"])
+        self.assertIn("left out 2: other senders than 127.0.0.2", lines)
+        with open(self.path("status.json")) as file:
+            told = json.load(file)
+        self.assertEqual([each["port"] for each in told["sessions"]], list(ports))
+        self.assertEqual([each["datagrams"] for each in told["sessions"]], [2, 2])
+        self.assertEqual([each["bytes_on_disk"] for each in told["senders"]], [250, 250])
+
+    def refused(self, text: str, *words: str) -> str:
+        with open(self.path("wrong.toml"), "w") as file:
+            file.write(text)
+        command = [sys.executable, "-S", TOOL, "--config", "wrong.toml", *words]
+        run = subprocess.run(command, cwd=self.work, capture_output=True, text=True, timeout=20)
+        self.assertEqual((run.returncode, run.stdout), (2, ""), run.stderr)
+        return run.stderr.splitlines()[-1]
+
+    def test_settings_that_are_wrong(self) -> None:
+        session = "[[session]]\nport = 4001\n"
+        for text, told in (
+            ("", "the following arguments are required: --port, or --config"),
+            ("[[session]]\n", "a [[session]] has no port"),
+            ("[[session]]\nport = 0\n", "port: '0' is not a number from 1 to 65535"),
+            ("[[session]]\nport = true\n", "port: is no number and no text"),
+            (session + "senders = 2\n", "senders: there is no such setting there"),
+            ("sender = 2\n" + session, "sender: there is no such setting there"),
+            ("port = 4001\n", "port: there is no such setting there"),
+            ("senders = 501\n" + session, "senders: '501' is not a number from 1 to 500"),
+            ("session = 2\n", "session is no [[session]]"),
+            (session + 'group = "10.0.0.1"\n', "10.0.0.1 is no multicast group"),
+            ("= 2\n", "Invalid statement"),
+        ):
+            with self.subTest(text):
+                self.assertIn(told, self.refused(text))
+        self.assertIn("No such file", self.refused("", "--config", "missing.toml"))
+        told = self.refused(session, "--port", "1", "--port", "2", *["--group", "239.1.1.1"] * 3)
+        self.assertIn("argument --port: is given 2 times, and not 3", told)
+
+
+class Telling(Case):
+    def test_status_in_a_file_and_by_a_signal(self) -> None:
+        receiver = Receiver(self, "--status", "status.json", "-o", "kept")
+        receiver.until(lambda: os.path.exists(self.path("status.json")), "a status")
+        receiver.send(self.symbols(3))
+        receiver.send([b"no packet"] * 2, "127.0.0.9")
+        receiver.until_kept(3, "kept/127.0.0.1.fldg")
+        receiver.process.send_signal(signal.SIGUSR1)
+        receiver.until_told("\n}\n")
+        status, _ = receiver.end()
+        self.assertEqual(status, 0)
+        told = json.loads(receiver.stderr().split(": status\n")[1].split("\n}\n")[0] + "}")
+        with open(self.path("status.json")) as file:
+            last = json.load(file)
+        self.assertEqual(told["senders"], [{**last["senders"][0], "file": "kept/127.0.0.1.fldg"}])
+        (sender,), (session,) = last["senders"], last["sessions"]
+        keys = "time since dropped waiting_bytes bytes_on_disk removed_files sessions senders"
+        self.assertEqual(list(last), keys.split())
+        keys = "group port interface from folder datagrams bytes dropped left_out last_seen"
+        self.assertEqual(list(session), keys.split())
+        keys = "sender folder datagrams bytes left_out last_seen epoch file bytes_on_disk"
+        self.assertEqual(list(sender), keys.split())
+        self.assertEqual(sender["sender"], "127.0.0.1")
+        self.assertEqual((sender["datagrams"], sender["bytes"], sender["epoch"]), (3, 360, 1))
+        self.assertEqual(sender["bytes_on_disk"], 6 + 3 * 122)
+        self.assertEqual((session["port"], session["datagrams"]), (receiver.port, 3))
+        unlike = {"of senders from whom nothing like FLUTE came": 2}
+        self.assertEqual((session["left_out"], session["dropped"]), (unlike, 0))
+        age = time.time() - time.mktime(time.strptime(last["time"], "%Y-%m-%dT%H:%M:%SZ"))
+        self.assertLess(abs(age + time.timezone), 30)
+        self.assertFalse(os.path.exists(self.path("status.json.partial")))
+
+    def test_a_status_that_cannot_be_written(self) -> None:
+        receiver = Receiver(self, "--status", "missing/status.json", "-o", "kept")
+        receiver.until_told("cannot write missing/status.json: No such file or directory")
+        receiver.send(self.symbols(1))
+        receiver.until_kept(1, "kept/127.0.0.1.fldg")
+        self.assertEqual(receiver.end()[0], 0)
+
+    def test_times_where_standard_error_is_no_terminal(self) -> None:
+        receiver = Receiver(self, "-o", "kept")
+        receiver.end()
+        for line in os.pread(receiver.told.fileno(), 1 << 20, 0).decode().splitlines():
+            self.assertRegex(line, STAMP)
+
+    def test_a_terminal_that_is_stopped(self) -> None:
+        """Standard error that nobody reads keeps nothing up: what fits no more waits."""
+        leader, follower = os.openpty()
+        receiver = Receiver(self, "-o", "kept", stderr=follower, listens=False)
+        os.close(follower)
+        first = os.read(leader, 4096).decode()
+        self.assertTrue(first.startswith("flutejoin-receive: listening at "), first)
+        sent = []
+        for number in range(12):
+            receiver.process.send_signal(signal.SIGUSR1)
+            sent += self.symbols(5)
+            receiver.send(sent[-5:])
+            receiver.until_kept(len(sent), "kept/127.0.0.1.fldg")
+            time.sleep(0.9)
+        self.assertFalse(select.select([], [receiver.process.stdout], [], 0)[1])
+        receiver.process.send_signal(signal.SIGINT)
+        self.assertEqual(receiver.ended()[0], 0)
+        self.assertEqual(records(self.path("kept/127.0.0.1.fldg")), sent)
+        os.close(leader)
+
+    def test_names_do_not_steer_a_terminal(self) -> None:
+        folder = "k\x1b[31m\n"
+        receiver = Receiver(self, "-o", folder, "--count", "1")
+        receiver.send(self.symbols(1))
+        status, lines = receiver.ended()
+        self.assertEqual((status, len(lines)), (0, 2))
+        self.assertFalse("\x1b" in receiver.stderr() + "".join(lines), lines)
+        words = subprocess.run(
+            ["bash", "-c", f"printf '%s\\0' {lines[1]}"], capture_output=True, check=True
+        ).stdout.split(b"\0")
+        self.assertEqual(words[-2], os.fsencode(f"{folder}/127.0.0.1.fldg"))
+
+    def test_causes_of_drops(self) -> None:
+        """A full receive buffer and a wrong checksum are told apart."""
+        self.needs_namespace()
+        wrong = "a checksum did not hold, here or for another program"
+        receiver = Receiver(self, "-o", "kept", "--buffer", "4096")
+        receiver.send(self.symbols(1))
+        receiver.until_kept(1, "kept/127.0.0.1.fldg")
+        with socket.socket(socket.AF_INET, socket.SOCK_RAW, socket.IPPROTO_UDP) as raw:
+            raw.bind(("127.0.0.1", 0))
+            data = packet(b"wrong")
+            head = struct.pack(">HHHH", 9, receiver.port, 8 + len(data), 1)
+            for _ in range(3):
+                raw.sendto(head + data, ("127.0.0.1", 0))
+        receiver.until_told(f"the system dropped 3 datagrams ({wrong})")
+        receiver.process.send_signal(signal.SIGSTOP)
+        receiver.send(self.symbols(40, 1000))
+        receiver.process.send_signal(signal.SIGCONT)
+        receiver.until_told("datagrams (its receive buffer was full)")
+        status, lines = receiver.end()
+        self.assertEqual(status, 0)
+        self.assertIn(f"left out 3: dropped by the system ({wrong})", lines)
+        full = re.search(
+            r"^left out (\d+): dropped by the system \(its receive buffer was full\)$",
+            "\n".join(lines),
+            re.M,
+        )
+        kept = len(records(self.path("kept/127.0.0.1.fldg")))
+        self.assertEqual(int(full[1]) + kept, 41)
+
+
+class Disk(Case):
+    def test_a_full_disk_is_tried_again(self) -> None:
+        self.needs_namespace()
+        os.mkdir(self.path("disk"))
+        subprocess.run(
+            ["mount", "-t", "tmpfs", "-o", "size=64k", "none", self.path("disk")], check=True
+        )
+        self.addCleanup(subprocess.run, ["umount", "-l", self.path("disk")])
+        with open(self.path("disk/ballast"), "wb") as file:
+            file.write(bytes(40000))
+        receiver = Receiver(self, "-o", "disk/kept")
+        sent = self.symbols(40, 1000)
+        receiver.send(sent)
+        name = "disk/kept/127.0.0.1.fldg"
+        receiver.until_told(f"cannot write {name}: No space left on device")
+        kept = len(records(self.path(name)))
+        self.assertLess(0, kept)
+        self.assertLess(kept, 40)
+        os.unlink(self.path("disk/ballast"))
+        receiver.until_kept(40, name)
+        receiver.until_told(f"{name}: can be written again")
+        status, lines = receiver.end()
+        self.assertEqual((status, records(self.path(name))), (0, sent), receiver.stderr())
+
+    def test_what_cannot_be_kept_is_not_cut_off(self) -> None:
+        self.needs_namespace()
+        os.mkdir(self.path("kept"))
+        subprocess.run(
+            ["mount", "-t", "tmpfs", "-o", "size=16k", "none", self.path("kept")], check=True
+        )
+        self.addCleanup(subprocess.run, ["umount", "-l", self.path("kept")])
+        cut = b"FLDG\0\1\0\1x\xff\xff" + bytes(100)
+        with open(self.path("kept/127.0.0.1.fldg"), "wb") as file:
+            file.write(cut)
+        with contextlib.suppress(OSError), open(self.path("kept/ballast"), "wb", 0) as file:
+            while file.write(bytes(4096)):
+                pass
+        receiver = Receiver(self, "-o", "kept", "--count", "1")
+        told = "its last 102 bytes, of a record that was cut, cannot be kept elsewhere"
+        self.assertIn(told, receiver.stderr())
+        os.unlink(self.path("kept/ballast"))
+        receiver.send(self.symbols(1))
+        self.assertEqual(receiver.ended()[0], 0)
+        with open(self.path("kept/127.0.0.1.fldg"), "rb") as file:
+            self.assertEqual(file.read(), cut)
+        self.assertEqual(len(records(self.path("kept/127.0.0.1.2.fldg"))), 1)
+        self.assertEqual(self.names(), ["127.0.0.1.2.fldg", "127.0.0.1.fldg"])
+
+    def test_what_a_full_disk_loses_is_counted(self) -> None:
+        self.needs_namespace()
+        os.mkdir(self.path("disk"))
+        subprocess.run(
+            ["mount", "-t", "tmpfs", "-o", "size=20k", "none", self.path("disk")], check=True
+        )
+        self.addCleanup(subprocess.run, ["umount", "-l", self.path("disk")])
+        receiver = Receiver(self, "-o", "disk/kept")
+        sent = self.symbols(40, 1000)
+        receiver.send(sent)
+        receiver.until_told("No space left on device")
+        status, lines = receiver.end()
+        kept = records(self.path("disk/kept/127.0.0.1.fldg"))
+        self.assertEqual((status, kept), (3, sent[: len(kept)]))
+        self.assertIn(f"left out {40 - len(kept)}: not written, after a fault", lines)
+
+    def test_the_oldest_files_go_first(self) -> None:
+        receiver = Receiver(self, "-o", "kept", "--most", "40000", "--split", "10000")
+        sent = self.symbols(100, 1000)
+        for begin in range(0, 100, 5):
+            receiver.send(sent[begin : begin + 5])
+            time.sleep(0.05)
+        receiver.until_told("more than 40000 in all")
+        receiver.until(lambda: self.held() <= 40000, "no more than --most")
+        status, lines = receiver.end()
+        left = [name for name in self.names() if name.endswith(".fldg")]
+        numbers = sorted(int(name.split(".")[4]) for name in left)
+        self.assertEqual(status, 0)
+        self.assertEqual(numbers, list(range(numbers[0], numbers[-1] + 1)))
+        kept = [each for number in numbers for each in self.part(number)]
+        self.assertEqual(kept, sent[100 - len(kept) :])
+        # The lines name what is there.
+        self.assertEqual(sum("datagrams from" in line for line in lines), len(left))
+        self.assertEqual(lines[-1].count(".fldg"), len(left))
+
+    def held(self) -> int:
+        return sum(os.path.getsize(self.path(f"kept/{name}")) for name in self.names())
+
+    def part(self, number: int) -> list[bytes]:
+        return records(self.path(f"kept/127.0.0.1.{number}.fldg"))
+
+    def lost_name(self, lose, told: str) -> tuple[Receiver, list[bytes]]:
+        receiver = Receiver(self, "-o", "kept")
+        before, after = self.symbols(30), self.symbols(30, toi=2)
+        receiver.send(before)
+        receiver.until_kept(30, "kept/127.0.0.1.fldg")
+        lose()
+        began = time.monotonic()
+        receiver.until_told(told)
+        self.assertLess(time.monotonic() - began, 5)
+        receiver.send(after)
+        receiver.until_kept(30, "kept/127.0.0.1.2.fldg")
+        self.assertEqual(receiver.end()[0], 0)
+        self.assertEqual(records(self.path("kept/127.0.0.1.2.fldg")), after)
+        return receiver, before
+
+    def test_a_file_that_is_removed(self) -> None:
+        name = "kept/127.0.0.1.fldg"
+        told = f"{name}: was removed while it grew; what it held is written anew"
+        _, before = self.lost_name(lambda: os.unlink(self.path(name)), told)
+        self.assertEqual(records(self.path(name)), before)
+
+    def test_a_file_that_is_removed_just_before_the_end(self) -> None:
+        receiver = Receiver(self, "-o", "kept")
+        sent = self.symbols(30)
+        receiver.send(sent)
+        receiver.until_kept(30, "kept/127.0.0.1.fldg")
+        os.unlink(self.path("kept/127.0.0.1.fldg"))
+        status, lines = receiver.end()
+        self.assertEqual((status, len(lines)), (0, 2))
+        self.assertEqual(records(self.path("kept/127.0.0.1.fldg")), sent)
+
+    def test_a_file_that_is_moved(self) -> None:
+        name = "kept/127.0.0.1.fldg"
+        _, before = self.lost_name(
+            lambda: os.rename(self.path(name), self.path("elsewhere")),
+            f"{name}: was moved while it grew; another file is begun",
+        )
+        self.assertEqual(records(self.path("elsewhere")), before)
+        self.assertEqual(self.names(), ["127.0.0.1.2.fldg"])
+
+    def test_a_file_that_another_changes(self) -> None:
+        name = "kept/127.0.0.1.fldg"
+        told = f"{name}: was changed by another; another file is begun"
+        self.lost_name(lambda: os.truncate(self.path(name), 100), told)
+
+    def test_a_folder_that_is_removed(self) -> None:
+        told = "the folder kept was removed or moved; it is made anew"
+        _, before = self.lost_name(lambda: shutil.rmtree(self.path("kept")), told)
+        self.assertEqual(records(self.path("kept/127.0.0.1.fldg")), before)
+
+    def test_a_folder_that_is_moved(self) -> None:
+        told = "the folder kept was removed or moved; it is made anew"
+        _, before = self.lost_name(lambda: os.rename(self.path("kept"), self.path("old")), told)
+        self.assertEqual(records(self.path("old/127.0.0.1.fldg")), before)
+
+    def test_nothing_is_lost_while_names_are(self) -> None:
+        """What comes while a file is removed, and while the folder is removed or moved, is kept."""
+        receiver = Receiver(self, "-o", "kept")
+        sent: list[bytes] = []
+
+        def send_until(holds) -> None:
+            end = time.monotonic() + LONGEST_WAIT
+            while not holds():
+                self.assertLess(time.monotonic(), end, receiver.stderr())
+                sent.extend(packet(os.urandom(100), len(sent) + each) for each in range(20))
+                receiver.send(sent[-20:])
+                time.sleep(0.01)
+
+        name = self.path("kept/127.0.0.1.fldg")
+        send_until(lambda: len(sent) >= 200 and os.path.exists(name))
+        os.unlink(name)
+        send_until(lambda: "bytes of it are written anew" in receiver.stderr())
+        # This one grows no more, and is gone with its folder.
+        ended = records(name)
+        shutil.rmtree(self.path("kept"))
+        send_until(lambda: receiver.stderr().count("it is made anew") == 1)
+        os.rename(self.path("kept"), self.path("old"))
+        send_until(lambda: receiver.stderr().count("it is made anew") == 2)
+        status, _ = receiver.end()
+        found = [self.path(f"old/{name}") for name in self.names("old")]
+        found += [self.path(f"kept/{name}") for name in self.names()]
+        kept = ended + [datagram for name in found for datagram in records(name)]
+        missing = len(set(sent) - set(kept))
+        self.assertEqual((status, missing, len(kept)), (0, 0, len(sent)), receiver.stderr())
+
+    def test_what_is_cut_off_is_kept_beside(self) -> None:
+        """One wrong byte of a length: what does not fit behind it is no record that was cut."""
+        os.mkdir(self.path("kept"))
+        sent = self.symbols(1000, 1380)
+        data = b"FLDG\0\1" + b"".join(struct.pack(">H", len(each)) + each for each in sent)
+        wrong = bytearray(data)
+        wrong[6 + 1402 * 970] = 0xFF
+        with open(self.path("kept/127.0.0.1.fldg"), "wb") as file:
+            file.write(wrong)
+        receiver = Receiver(self, "-o", "kept", "--count", "1")
+        receiver.send(self.symbols(1))
+        self.assertEqual(receiver.ended()[0], 0)
+        self.assertIn(
+            "kept/127.0.0.1.fldg: a record was cut at its end; these 42060 bytes are taken away, "
+            "and kept in kept/127.0.0.1.fldg.cut\n",
+            receiver.stderr(),
+        )
+        with open(self.path("kept/127.0.0.1.fldg.cut"), "rb") as file:
+            self.assertEqual(file.read(), wrong[6 + 1402 * 970 :])
+        self.assertEqual(records(self.path("kept/127.0.0.1.fldg"))[:970], sent[:970])
+
+    def test_kills(self) -> None:
+        """What was in the files stays there; nothing is twice there, and nothing damaged."""
+        sent: list[bytes] = []
+        for number in range(5):
+            receiver = Receiver(self, "-o", "kept", *["--split", "20000"] * (number % 2))
+            timer = threading.Timer(0.1 + 0.13 * number, receiver.process.kill)
+            timer.start()
+            while receiver.process.poll() is None:
+                sent += [packet(os.urandom(1000), len(sent) + each) for each in range(5)]
+                receiver.send(sent[-5:])
+                time.sleep(0.002)
+            timer.join()
+        receiver = Receiver(self, "-o", "kept")
+        self.assertNotIn("is left as it is", receiver.stderr())
+        receiver.end()
+        names = [name for name in self.names() if name.endswith(".fldg")]
+        kept = [each for name in names for each in records(self.path(f"kept/{name}"))]
+        self.assertEqual(len(kept), len(set(kept)))
+        self.assertLessEqual(set(kept), set(sent))
+        self.assertGreater(len(kept), 0.5 * len(sent))
+
+
+FEW_DESCRIPTORS = ["sh", "-c", 'ulimit -n 40; exec "$@"', "-"]
+
+
+class Descriptors(Case):
+    def test_too_few_for_all_senders(self) -> None:
+        receiver = Receiver(self, "-o", "kept", "--senders", "100", before=FEW_DESCRIPTORS)
+        sent = {f"127.0.1.{number}": self.symbols(4) for number in range(1, 101)}
+        for each in range(4):
+            for source, datagrams in sent.items():
+                receiver.send(datagrams[each : each + 1], source)
+        receiver.until_kept(400, *(f"kept/{source}.fldg" for source in sent))
+        status, lines = receiver.end()
+        self.assertEqual((status, len(lines)), (0, 200), receiver.stderr())
+        self.assertIn("the file of the sender that was silent longest is closed", receiver.stderr())
+        for source, datagrams in sent.items():
+            self.assertEqual(records(self.path(f"kept/{source}.fldg")), datagrams)
+
+    def test_a_folder_of_thousands(self) -> None:
+        os.mkdir(self.path("kept"))
+        for number in range(2000):
+            with open(self.path(f"kept/10.1.{number // 250}.{number % 250}.fldg"), "wb") as file:
+                file.write(b"FLDG\0\1\0\1x")
+        with open(self.path("kept/127.0.0.1.fldg"), "wb") as file:
+            file.write(b"FLDG\0\1\0\1x")
+        receiver = Receiver(self, "-o", "kept", "--count", "2", before=FEW_DESCRIPTORS)
+        sent = self.symbols(2)
+        receiver.send(sent)
+        status, lines = receiver.ended()
+        self.assertEqual(status, 0, receiver.stderr())
+        self.assertEqual(records(self.path("kept/127.0.0.1.fldg")), [b"x", *sent])
+        self.assertEqual(
+            lines[0], "kept/127.0.0.1.fldg: 3 datagrams from 127.0.0.1, 2 of them new"
+        )
+
+    def test_more_open_files_than_select_takes(self) -> None:
+        soft, hard = resource.getrlimit(resource.RLIMIT_NOFILE)
+        if hard < 1200:
+            self.skipTest("1,200 files cannot be open here")
+        script = (
+            "import os, sys\n"
+            "for each in range(1100): os.set_inheritable(os.dup(0), True)\n"
+            "os.execv(sys.argv[1], sys.argv[1:])\n"
+        )
+        receiver = Receiver(
+            self,
+            "-o",
+            "kept",
+            before=["sh", "-c", 'ulimit -n 1200; exec "$@"', "-", sys.executable, "-c", script],
+            close_fds=True,
+        )
+        sent = self.symbols(2)
+        receiver.send(sent)
+        receiver.until_kept(2, "kept/127.0.0.1.fldg")
+        self.assertEqual(receiver.end()[0], 0, receiver.stderr())
+
+
+class Strangers(Case):
+    def test_who_sends_nothing_like_flute(self) -> None:
+        receiver = Receiver(self, "-o", "kept", "--senders", "1")
+        receiver.send([b"no packet", b""], "127.0.0.2")
+        sent = self.symbols(2)
+        receiver.send(sent)
+        receiver.send([b"anything", b""])
+        receiver.until_kept(4, "kept/127.0.0.1.fldg")
+        receiver.until_told("left out 2: of senders from whom nothing like FLUTE came")
+        status, lines = receiver.end()
+        self.assertEqual(status, 0)
+        self.assertEqual(records(self.path("kept/127.0.0.1.fldg")), [*sent, b"anything", b""])
+        self.assertEqual(self.names(), ["127.0.0.1.fldg"])
+
+    def test_the_one_sender_may_send_anything(self) -> None:
+        receiver = Receiver(self, "-o", "kept", "--from", "127.0.0.1", "--count", "2")
+        receiver.send([b"no packet", b""])
+        self.assertEqual(receiver.ended()[0], 0)
+        self.assertEqual(records(self.path("kept/127.0.0.1.fldg")), [b"no packet", b""])
+
+    def test_made_up_senders_keep_nobody_out_for_good(self) -> None:
+        receiver = Receiver(self, "-o", "kept", "--status", "status.json")
+        receiver.until(lambda: os.path.exists(self.path("status.json")), "a status")
+        for number in range(1, 65):
+            receiver.send(self.symbols(1), f"127.0.2.{number}")
+        receiver.until(lambda: len(self.names()) == 64, "64 files")
+        began, sent = time.monotonic(), 0
+        full = "more than 64 senders (--senders takes more, and --from names the one)"
+        while not os.path.exists(self.path("kept/127.0.0.1.fldg")):
+            self.assertLess(time.monotonic() - began, 20)
+            receiver.send(self.symbols(1))
+            sent += 1
+            time.sleep(0.1)
+        self.assertIn(f": {full}", receiver.stderr())
+        # By now the status was replaced.
+        receiver.until(lambda: self.status()["sessions"][0]["datagrams"] >= 64, "another status")
+        self.assertGreaterEqual(len(self.status()["senders"]), 64)
+        # A silent one has left a place, and its files.
+        self.assertGreater(time.monotonic() - began, 5)
+        receiver.send(self.symbols(2), "127.0.2.64")
+        receiver.until_kept(3, "kept/127.0.2.64.fldg")
+        status, lines = receiver.end()
+        self.assertEqual((status, sum("datagrams from" in line for line in lines)), (0, 65))
+        left_out = int(re.search(r"left out (\d+): more than 64", "\n".join(lines))[1])
+        self.assertEqual(len(records(self.path("kept/127.0.0.1.fldg"))), sent - left_out)
+        # Nor do their files keep anybody out at a restart.
+        os.unlink(self.path("kept/127.0.0.1.fldg"))
+        receiver = Receiver(self, "-o", "kept", "--count", "3")
+        again = self.symbols(3)
+        receiver.send(again)
+        self.assertEqual(receiver.ended()[0], 0)
+        self.assertEqual(records(self.path("kept/127.0.0.1.fldg")), again)
+
+    def status(self) -> dict:
+        with open(self.path("status.json")) as file:
+            return json.load(file)
+
+    def test_a_flood_of_made_up_senders(self) -> None:
+        """Ten thousand addresses: no more files than senders, and the real one is kept."""
+        self.needs_namespace()
+        receiver = Receiver(self, "-o", "kept", "--senders", "4")
+        sent = self.symbols(3)
+        receiver.send(sent[:1])
+        receiver.until_kept(1, "kept/127.0.0.1.fldg")
+        with socket.socket(socket.AF_INET, socket.SOCK_RAW, socket.IPPROTO_RAW) as raw:
+            for number in range(10000):
+                data = packet(b"made up") if number % 2 else b"no packet" * 5
+                addresses = struct.pack(">BBH", 10, 7, number) + socket.inet_aton("127.0.0.1")
+                ip = struct.pack(">BxH4xBBH", 0x45, 28 + len(data), 8, 17, 0) + addresses
+                udp = struct.pack(">HHHH", 9, receiver.port, 8 + len(data), 0)
+                raw.sendto(ip + udp + data, ("127.0.0.1", 0))
+        receiver.send(sent[1:])
+        receiver.until_kept(3, "kept/127.0.0.1.fldg")
+        with open(f"/proc/{receiver.process.pid}/status") as file:
+            (memory,) = re.findall(r"VmRSS:\s+(\d+) kB", file.read())
+        self.assertLess(int(memory), 60000)
+        self.assertLess(len(os.listdir(f"/proc/{receiver.process.pid}/fd")), 20)
+        status, lines = receiver.end()
+        self.assertEqual((status, len(self.names())), (0, 4))
+        self.assertEqual(records(self.path("kept/127.0.0.1.fldg")), sent)
+        self.assertTrue(any("more than 4 senders" in line for line in lines), lines)
+
+
+class Epochs(Case):
+    """A sender that starts again, with FDT Instance 1 and other contents."""
+
+    def run_of_sender(self, text: bytes, instance: int = 1) -> list[bytes]:
+        fdt = [packet(text + bytes([each]), each, instance=instance) for each in range(3)]
+        return [*fdt, *self.symbols(5), *fdt]
+
+    def test_each_epoch_has_files_of_its_own(self) -> None:
+        first, second = self.run_of_sender(b"first"), self.run_of_sender(b"second")
+        receiver = Receiver(self, "-o", "kept", "--count", "38")
+        receiver.send(first + first + self.run_of_sender(b"another", 2)[:3] + second)
+        receiver.send(self.symbols(2))
+        status, lines = receiver.ended()
+        self.assertEqual((status, self.names()), (0, ["127.0.0.1.e2.fldg", "127.0.0.1.fldg"]))
+        self.assertEqual(records(self.path("kept/127.0.0.1.e2.fldg"))[:11], second)
+        self.assertEqual(records(self.path("kept/127.0.0.1.fldg"))[:22], first + first)
+        told = "127.0.0.1 starts again: an FDT Instance has other contents; epoch 2 begins"
+        self.assertEqual(receiver.stderr().count(told), 1)
+        self.assertEqual(
+            lines[2:],
+            [
+                "flutejoin join --source 7f000001 -o kept/127.0.0.1.journal kept/127.0.0.1.fldg",
+                "flutejoin join --source 7f000001 -o kept/127.0.0.1.e2.journal "
+                "kept/127.0.0.1.e2.fldg",
+            ],
+        )
+
+    def test_a_journal_of_an_epoch_is_clean(self) -> None:
+        for number, text in enumerate((b"first", b"second")):
+            with open(self.path("file"), "wb") as file:
+                file.write(text * 100)
+            words = "--tsi 7 --toi 0 --fdt 1 --symbol 50 --block 8".split()
+            self.flutejoin("carousel", "-o", f"sent{number}", *words, "file")
+        receiver = Receiver(self, "-o", "kept")
+        for name in ("sent0", "sent1"):
+            receiver.send(records(self.path(name)))
+        receiver.until_kept(12, "kept/127.0.0.1.e2.fldg")
+        _, lines = receiver.end()
+        for line in lines[-2:]:
+            self.flutejoin(*line.split()[1:])
+        for epoch, length in ("", 500), (".e2", 600):
+            told = self.flutejoin("gaps", f"kept/127.0.0.1{epoch}.journal")
+            self.assertRegex(told, f" session 7 object fdt 1 whole {length}\n$")
+
+    def test_a_restart_goes_on_with_the_newest_epoch(self) -> None:
+        runs = [self.run_of_sender(text) for text in (b"first", b"second", b"third")]
+        receiver = Receiver(self, "-o", "kept", "--count", "22", "--split", "400")
+        receiver.send(runs[0] + runs[1])
+        receiver.ended()
+        parts = [name for name in self.names() if ".e2." in name]
+        self.assertGreater(len(parts), 1)
+        # The same again is no new epoch; what contradicts what an earlier run of the tool took is.
+        receiver = Receiver(self, "-o", "kept", "--count", "22")
+        receiver.send(runs[1] + runs[2])
+        status, lines = receiver.ended()
+        self.assertEqual(status, 0)
+        self.assertEqual(records(self.path("kept/127.0.0.1.e3.fldg")), runs[2])
+        last = f"kept/127.0.0.1.e2.{len(parts)}.fldg"
+        self.assertEqual(records(self.path(last))[-11:], runs[1])
+        self.assertEqual(lines[-1].split()[5:], [
+            "kept/127.0.0.1.e3.journal",
+            "kept/127.0.0.1.e3.fldg",
+        ])
+
+    def test_a_restart_where_a_file_just_began(self) -> None:
+        """What its last file does not tell of FDT Instances, the one before does."""
+        receiver = Receiver(self, "-o", "kept", "--count", "9", "--split", "1000")
+        receiver.send([packet(b"first", instance=1), *self.symbols(8)])
+        receiver.ended()
+        self.assertEqual(len(records(self.path("kept/127.0.0.1.2.fldg"))), 1)
+        receiver = Receiver(self, "-o", "kept", "--count", "1")
+        other = packet(b"second", instance=1)
+        receiver.send([other])
+        self.assertEqual(receiver.ended()[0], 0)
+        self.assertEqual(records(self.path("kept/127.0.0.1.e2.fldg")), [other])
+
+    def test_two_senders_of_one_address_make_few_epochs(self) -> None:
+        receiver = Receiver(self, "-o", "kept")
+        receiver.send(packet(bytes([each]), instance=1) for each in range(20))
+        receiver.until_told("again and again")
+        status, lines = receiver.end()
+        names = [f"127.0.0.1{epoch}.fldg" for epoch in (".e2", ".e3", ".e4", ".e5", "")]
+        self.assertEqual((status, self.names()), (0, names))
+        self.assertTrue(any(line.startswith("left out 15: of an FDT Instance") for line in lines))
+
+
+class Patched(Case):
+    """Runs of the tool in which a part of Python or of the system is another."""
+
+    def run_patched(self, patch: str, *words: str) -> Receiver:
+        script = (
+            f"import runpy, sys\nsys.argv[0] = {TOOL!r}\nsys.path.insert(0, {TOOLS!r})\n{patch}\n"
+            f"runpy.run_path({TOOL!r}, run_name='__main__')\n"
+        )
+        return Receiver(self, *words, tool=["-c", script])
+
+    def test_without_the_call_for_many_datagrams(self) -> None:
+        patch = "sys.modules['ctypes'] = None"
+        receiver = self.run_patched(patch, "--count", "100", "-o", "kept")
+        sent = [*self.symbols(98), b"", bytes(65507)]
+        receiver.send(sent)
+        self.assertEqual(receiver.ended()[0], 0)
+        self.assertEqual(records(self.path("kept/127.0.0.1.fldg")), sent)
+
+    def test_a_disk_that_stalls(self) -> None:
+        """Meanwhile the receive buffer is emptied all the same."""
+        patch = (
+            "import os, time\nwrite, began = os.write, []\n"
+            "def slow(descriptor, data):\n"
+            "    if len(data) > 200 and not began:\n"
+            "        began.append(time.sleep(8))\n"
+            "    return write(descriptor, data)\n"
+            "os.write = slow"
+        )
+        receiver = self.run_patched(patch, "-o", "kept")
+        sent = self.symbols(500, 1000)
+        receiver.send(sent[:1])
+        name = self.path("kept/127.0.0.1.fldg")
+        receiver.until(lambda: os.path.exists(name), "a file")
+        receiver.send(sent[1:])
+        receiver.until(lambda: not self.waiting(receiver.port), "an empty receive buffer")
+        self.assertEqual(os.path.getsize(name), 0)
+        receiver.until_kept(len(sent), "kept/127.0.0.1.fldg")
+        self.assertEqual(receiver.end()[0], 0)
+        self.assertEqual(records(name), sent)
+
+    def waiting(self, port: int) -> int:
+        """How many bytes wait in the receive buffer of a port of 127.0.0.1."""
+        with open("/proc/net/udp") as table:
+            for line in table:
+                fields = line.split()
+                if fields[1] == f"0100007F:{port:04X}":
+                    return int(fields[4].split(":")[1], 16)
+        return self.fail(f"nobody listens at {port}")
+
+
+class Modules(unittest.TestCase):
+    def test_names_of_files(self) -> None:
+        from flutejoin_files import file_name
+        from flutejoin_found import address_of, name_of
+
+        for address in ("10.0.0.1", "2001:db8::1", "::"):
+            for epoch in 1, 2, 31:
+                for part in 1, 2, 12:
+                    name = file_name(address, part, epoch)
+                    self.assertEqual(name_of(name), (address_of(address), epoch, part))
+        for name in ("10.0.0.1.e1.fldg", "10.0.0.1.e02.fldg", "10.0.0.1.2.e2.fldg", "e2.fldg"):
+            self.assertIsNone(name_of(name))
+
+    def test_who_asks_most_often_gets_a_free_place(self) -> None:
+        import ipaddress
+
+        from flutejoin_senders import MOST_ASKING, Senders
+        from flutejoin_writer import Folder, Writer
+
+        with tempfile.TemporaryDirectory() as path:
+            folder = Folder(path)
+            senders = Senders(folder, Writer([folder], None, 0), 2, 1000)
+            for number in 1, 2:
+                self.assertTrue(senders.has_room(bytes([number]), 0))
+                senders.admit(ipaddress.ip_address(number), 0)
+            real, number = b"real", 0
+            for now in range(5, 11):
+                for number in range(number, number + 3 * MOST_ASKING):
+                    self.assertFalse(senders.has_room(number.to_bytes(8, "big"), now))
+                    if number % 1000 == 0:
+                        self.assertFalse(senders.has_room(real, now))
+                    self.assertLessEqual(len(senders.asking), MOST_ASKING)
+                senders.each_second(now)
+            # The two are silent for 10 seconds by now.
+            self.assertIn(real, senders.invited)
+            self.assertLessEqual(len(senders.invited), 2)
+            self.assertTrue(senders.has_room(real, 11))
+            senders.admit(ipaddress.ip_address(3), 11)
+            self.assertEqual(len(senders.admitted), 2)
+            os.close(folder.lock)
+
+    def test_an_epoch_remembers_the_newest(self) -> None:
+        import flutejoin_epochs
+
+        epoch = flutejoin_epochs.Epoch()
+        many = flutejoin_epochs.MOST_SYMBOLS
+        for number in range(many + 1):
+            self.assertFalse(epoch.contradicts(packet(b"one", number, instance=1)))
+        self.assertEqual(len(epoch.hashes), many)
+        self.assertTrue(epoch.contradicts(packet(b"other", 1, instance=1)))
+        self.assertFalse(epoch.contradicts(packet(b"other", 0, instance=1)))
+        self.assertFalse(epoch.contradicts(packet(b"other", 2, instance=2)))
+        self.assertFalse(epoch.contradicts(packet(b"other", 2, instance=1, tsi=8)))
+        self.assertFalse(epoch.contradicts(packet(b"a file", 2)))
+        self.assertFalse(epoch.contradicts(b"no packet"))
+
+
+def tests_of(suite) -> list[unittest.TestCase]:
+    if isinstance(suite, unittest.TestCase):
+        return [suite]
+    return [test for part in suite for test in tests_of(part)]
+
+
+def run_one(test: unittest.TestCase) -> unittest.TestResult:
+    result = unittest.TestResult()
+    test.run(result)
+    return result
+
+
+def main() -> int:
+    names = sys.argv[2:]
+    loader = unittest.defaultTestLoader
+    tests = tests_of(loader.loadTestsFromModule(sys.modules["__main__"]))
+    tests = [test for test in tests if not names or any(name in test.id() for name in names)]
+    # What the system counts for all programs is compared while no other test runs.
+    alone = [test for test in tests if test.id().endswith(".test_causes_of_drops")]
+    passed = failed = 0
+    with concurrent.futures.ThreadPoolExecutor(8) as pool:
+        together = [test for test in tests if test not in alone]
+        results = itertools.chain(pool.map(run_one, together), map(run_one, alone))
+        for test, result in zip(together + alone, results):
+            for _, text in (*result.failures, *result.errors):
+                print(f"receiving: {test.id()}: {text}")
+            for _, reason in result.skipped:
+                print(f"receiving: skipped: {test.id()}: {reason}")
+            wrong = bool(result.failures or result.errors)
+            failed += wrong
+            passed += not wrong and not result.skipped
+    print(f"receiving: {passed} passed, {failed} failed")
+    return int(failed > 0)
+
+
+def is_inside_namespaces() -> None:
+    """Goes on in namespaces of its own, where they can be had."""
+    inner = 'ip link set lo up && exec "$@"'
+    words = ["unshare", "-rmn", "sh", "-c", inner, "-"]
+    try:
+        can = subprocess.run([*words, "true"], capture_output=True, check=False)
+    except OSError:
+        return
+    if can.returncode == 0:
+        os.environ[INSIDE] = "yes"
+        os.execvp(words[0], [*words, sys.executable, "-S", *sys.argv])
+
+
+if __name__ == "__main__":
+    if INSIDE not in os.environ:
+        is_inside_namespaces()
+        os.environ[INSIDE] = "no"
+    sys.exit(main())

@@ -1,0 +1,655 @@
+#!/usr/bin/env python3
+"""Stations that run by themselves: what they keep, what they lose to kills and full disks (nothing
+that was on the disk), and what their folders take.
+
+Datagrams are sent to 127.0.0.1 alone. A full disk is a memory file system in a mount namespace of
+its own; where none can be made, that is told.
+
+usage: tests/station.py PROGRAM [--soak] [NAME..]
+       --soak: ten times as many kills and rounds; NAME: these tests alone
+"""
+from __future__ import annotations
+
+import contextlib
+import json
+import os
+import pathlib
+import random
+import shutil
+import signal
+import socket
+import struct
+import subprocess
+import sys
+import tempfile
+import threading
+import time
+
+HERE = pathlib.Path(__file__).resolve().parent
+TOOLS = HERE.parent / "tools"
+STATION = TOOLS / "flutejoin-station"
+PUSH = HERE.parent / "examples" / "push.sh"
+HEADER = b"FLDG\0\1"
+SOURCE = "7f000001"
+NAME = "127.0.0.1"
+
+sys.dont_write_bytecode = True
+sys.path.insert(0, str(TOOLS))
+import flutejoin_files
+from flutejoin_joining import Program
+from flutejoin_keeping import Keeper, Settings
+
+PROGRAM = os.path.abspath(sys.argv[1])
+SOAK = 10 if "--soak" in sys.argv else 1
+passed = failed = 0
+
+
+def check(name: str, is_right: bool, told: object = "") -> None:
+    global passed, failed
+    if is_right:
+        passed += 1
+    else:
+        failed += 1
+        print(f"station: {name}: {str(told)[-400:]}")
+
+
+def flutejoin(*words: object) -> subprocess.CompletedProcess:
+    return subprocess.run([PROGRAM, *map(str, words)], capture_output=True)
+
+
+def records(data: bytes) -> list[bytes]:
+    """The whole records of a datagram file, which may be cut."""
+    found, place = [], len(HEADER)
+    while place + 2 <= len(data):
+        end = place + 2 + struct.unpack_from(">H", data, place)[0]
+        if end > len(data):
+            break
+        found.append(data[place:end])
+        place = end
+    return found
+
+
+def datagram_file(path: pathlib.Path, of: list[bytes]) -> pathlib.Path:
+    path.parent.mkdir(parents=True, exist_ok=True)
+    path.write_bytes(HEADER + b"".join(of))
+    return path
+
+
+def sent_file(folder: pathlib.Path, size: int, symbol: int, toi: int = 1) -> list[bytes]:
+    """The records of a file that is sent."""
+    file, sent = folder / f"file{toi}", folder / f"sent{toi}"
+    file.write_bytes(random.Random(toi).randbytes(size))
+    words = "--tsi", 7, "--toi", toi, "--symbol", symbol, "--block", 64
+    done = flutejoin("carousel", "-o", sent, *words, file)
+    assert done.returncode == 0, done.stderr
+    return records(sent.read_bytes())
+
+
+def journal_of(*inputs: object) -> bytes:
+    """The journal of journals and datagram files. These may be cut at their ends."""
+    with tempfile.TemporaryDirectory() as folder:
+        paths: list[object] = []
+        for number, path in enumerate(map(pathlib.Path, inputs)):
+            # A station that runs may replace it or take it away meanwhile.
+            with contextlib.suppress(FileNotFoundError):
+                data = path.read_bytes()
+                copy = pathlib.Path(folder, str(number))
+                if data.startswith(HEADER):
+                    paths.append(datagram_file(copy, records(data)))
+                elif data:
+                    copy.write_bytes(data)
+                    paths.append(copy)
+        out = pathlib.Path(folder, "out")
+        out.write_bytes(b"FLJN\0\2\xff" + bytes(8))
+        while paths:
+            done = flutejoin("join", "--source", SOURCE, "-o", out, out, *paths[:60])
+            assert done.returncode == 0, done.stderr
+            paths = paths[60:]
+        return out.read_bytes()
+
+
+def kept(folder: pathlib.Path) -> list[pathlib.Path]:
+    return [*folder.glob("journals/*.journal"), *folder.glob("recent/*.journal")]
+
+
+class Port:
+    """A port of 127.0.0.1 to which datagrams are sent."""
+
+    def __init__(self) -> None:
+        with socket.socket(socket.AF_INET, socket.SOCK_DGRAM) as free:
+            free.bind((NAME, 0))
+            self.number = free.getsockname()[1]
+        self.udp = socket.socket(socket.AF_INET, socket.SOCK_DGRAM)
+
+    def send(self, of: list[bytes], pause: float = 0.0) -> None:
+        for number, record in enumerate(of):
+            self.udp.sendto(record[2:], (NAME, self.number))
+            if number % 16 == 15:
+                time.sleep(pause)
+
+
+class Run:
+    """A station that runs."""
+
+    def __init__(
+        self, folder: pathlib.Path, port: int | None, *words: object, wait: bool = True
+    ) -> None:
+        self.told = tempfile.NamedTemporaryFile()
+        command = [sys.executable, STATION, "-o", folder]
+        if port is not None:
+            command += ["--port", port, "--interface", NAME]
+        self.child = subprocess.Popen(
+            [*map(str, [*command, "--flutejoin", PROGRAM, *words])],
+            stdout=subprocess.DEVNULL,
+            stderr=self.told,
+            start_new_session=True,
+        )
+        if wait:
+            self.until("listening")
+
+    def text(self) -> str:
+        return pathlib.Path(self.told.name).read_text()
+
+    def until(self, text: str) -> None:
+        until(lambda: text in self.text() or self.child.poll() is not None, self)
+
+    def end(self, number: int = signal.SIGTERM) -> int:
+        self.child.send_signal(number)
+        return self.wait()
+
+    def wait(self) -> int:
+        try:
+            return self.child.wait(60)
+        except subprocess.TimeoutExpired:
+            self.child.kill()
+            check("a run ends", False, self.text())
+            return self.child.wait()
+
+
+def until(holds, run: Run | None = None) -> bool:
+    """Waits until something holds, 30 seconds at most."""
+    end = time.monotonic() + 30
+    while not holds():
+        if time.monotonic() > end:
+            check("a wait", False, run.text() if run else "it never holds")
+            return False
+        time.sleep(0.02)
+    return True
+
+
+def of_once(folder: pathlib.Path, *words: object) -> Run:
+    """A run that receives nothing, and joins what is there."""
+    run = Run(folder, Port().number, "--seconds", 0.1, *words, wait=False)
+    run.wait()
+    return run
+
+
+def keep(folder: pathlib.Path, has_outbox: bool = False) -> None:
+    """The same, without a receiver."""
+    settings = Settings(0, 0, has_outbox)
+    report = flutejoin_files.Report("station")
+    keeper = Keeper(str(folder), Program(PROGRAM, lambda: None), settings, report)
+    while keeper.waiting():
+        keeper.work(False)
+
+
+def disk(folder: pathlib.Path) -> tuple[int, int]:
+    """The bytes of a folder's files, and of those that are being written."""
+    whole = partial = 0
+    for path in folder.rglob("*"):
+        with contextlib.suppress(FileNotFoundError):
+            if path.is_file():
+                size = path.stat().st_size
+                whole += size * (path.suffix != ".partial")
+                partial += size * (path.suffix == ".partial")
+    return whole, partial
+
+
+def carousel_at_three_stations(work: pathlib.Path) -> None:
+    """Ten rounds; each station never gets a third of the symbols, and loses others at random."""
+    window = 200_000
+    sent = sent_file(work, 1_000_000, 1000)
+    names, ports = ["one", "two", "three"], [Port() for _ in range(3)]
+    words = "--window", window, "--every", 1
+    runs = [
+        Run(work / name, port.number, *words, *more, "--status", work / f"{name}.json")
+        for name, port, more in zip(names, ports, ([], [], ["--outbox"]))
+    ]
+    most, draw = [(0, 0)] * 3, random.Random(5)
+    for _ in range(10 * SOAK):
+        for number, port in enumerate(ports):
+            port.send(
+                [it for at, it in enumerate(sent) if at % 3 != number and draw.random() > 0.3],
+                0.002,
+            )
+            most[number] = max(most[number], disk(work / names[number]))
+        for name in names:
+            # What a slow machine has not joined yet is not a carousel's.
+            until(lambda: len(list((work / name / "in").iterdir())) < 2)
+    for name, run, of in zip(names, runs, most):
+        folder = work / name
+        status = run.end()
+        check(f"{name}: status", status == 0, f"{status}: {run.text()}")
+        journal = len(journal_of(*kept(folder)))
+        least = 600_000
+        check(f"{name}: has its symbols", journal > least, journal)
+        at_end, outbox = disk(folder), disk(folder / "outbox")[0]
+        without = at_end[0] - outbox
+        check(f"{name}: disk at the end", without <= 1.3 * (journal + window), at_end)
+        check(f"{name}: the outbox at the end", outbox <= 2 * journal + window, outbox)
+        check(f"{name}: nothing half done", at_end[1] == 0, at_end)
+        if not outbox:
+            check(f"{name}: disk meanwhile", of[0] <= 1.3 * journal + 4 * window, (of, journal))
+        told = json.loads((work / f"{name}.json").read_text())
+        check(f"{name}: status file", NAME in told["journals"] and told["disk"] > least, told)
+    (work / "all").write_bytes(journal_of(*[path for name in names for path in kept(work / name)]))
+    for name in names:
+        is_whole = flutejoin(
+            "extract", "-o", work / "out", "--source", SOURCE, "--tsi", 7, "--toi", 1,
+            *kept(work / name)[:1],
+        )
+        check(f"{name}: is not whole alone", is_whole.returncode == 1, is_whole)
+    words = "--source", SOURCE, "--tsi", 7, "--toi", 1
+    done = flutejoin("extract", "-o", work / "out", *words, work / "all")
+    is_same = done.returncode == 0 and (work / "out").read_bytes() == (work / "file1").read_bytes()
+    check("the file at the centre", is_same, done)
+
+
+class Witness:
+    """Hard links of each datagram file that was ever in a folder, so that none is removed."""
+
+    def __init__(self, folder: pathlib.Path, links: pathlib.Path) -> None:
+        self.folder, self.links, self.is_over = folder, links, False
+        links.mkdir()
+        self.thread = threading.Thread(target=self.watch, daemon=True)
+        self.thread.start()
+
+    def watch(self) -> None:
+        while not self.is_over:
+            with contextlib.suppress(FileNotFoundError):
+                for entry in os.scandir(self.folder):
+                    if not entry.name.endswith(".fldg"):
+                        continue
+                    with contextlib.suppress(FileNotFoundError, FileExistsError):
+                        os.link(entry.path, self.links / str(entry.inode()))
+            time.sleep(0.003)
+
+    def end(self) -> None:
+        self.is_over = True
+        self.thread.join()
+
+
+def kills(work: pathlib.Path) -> None:
+    """What was on the disk when a station was killed is in its journals, or still there."""
+    sent = sent_file(work, 4_000_000, 1400)
+    large = datagram_file(work / "large", sent_file(work, 12_000_000, 1400, 2))
+    (work / "news/journals").mkdir(parents=True)
+    journal = work / f"news/journals/{NAME}.journal"
+    journal.write_bytes(journal_of(large))
+    witness, port, draw = Witness(work / "news/in", work / "links"), Port(), random.Random(6)
+    is_over = threading.Event()
+
+    def send() -> None:
+        while not is_over.is_set():
+            port.send(sent, 0.01)
+
+    sender = threading.Thread(target=send, daemon=True)
+    sender.start()
+    joining = 0
+    for number in range(20 * SOAK):
+        words = "--window", 150_000, "--every", 0.2, *["--outbox"] * (number % 2)
+        run = Run(work / "news", port.number, *words)
+        time.sleep(draw.random())
+        # Every third run is killed while it joins, if it does within ten seconds.
+        end = time.monotonic() + 10 * (number % 3 == 0)
+        while not (is_joining := any((work / "news").rglob("*.partial"))):
+            if time.monotonic() >= end:
+                break
+            time.sleep(0.001)
+        joining += is_joining
+        if number % 2:
+            os.killpg(run.child.pid, signal.SIGKILL)
+        else:
+            run.child.kill()
+        run.wait()
+        # The receiver may still write what it received, and so what is looked at last has more.
+        links = list((work / "links").iterdir())
+        (work / "seen").write_bytes(journal_of(*links))
+        have = journal_of(*kept(work / "news"), *(work / "news/in").glob("*.fldg"))
+        (work / "have").write_bytes(have)
+        check(f"kill {number}", journal_of(work / "have", work / "seen") == have, len(links))
+        for link in links[: -len(links) // 2]:
+            link.unlink()
+    is_over.set()
+    sender.join()
+    witness.end()
+    check("some were killed while they joined", joining > 0, joining)
+    status = Run(work / "news", port.number, "--outbox").end()
+    check("a run behind them", status in (0, 1), status)
+    have = journal_of(*kept(work / "news"))
+    (work / "have").write_bytes(have)
+    left = [*(work / "news/in").glob("*.fldg")]
+    check("all is joined", journal_of(work / "have", *left) == have and len(left) == 1, left)
+    whole, partial = disk(work / "news")
+    check("nothing half done is left", partial == 0, partial)
+
+
+def faults(work: pathlib.Path) -> None:
+    """What is at fault is set aside and told, and the rest goes on."""
+    sent = sent_file(work, 60_000, 1000)
+    folder = work / "news"
+    (folder / "in").mkdir(parents=True)
+    (folder / f"in/{NAME}.fldg").write_text("no datagram file at all")
+    datagram_file(folder / f"in/{NAME}.2.fldg", sent[:20])
+    cut = datagram_file(folder / f"in/{NAME}.3.fldg", sent[20:40])
+    cut.write_bytes(cut.read_bytes() + b"\4\0cut")
+    datagram_file(folder / f"in/{NAME}.4.fldg", sent[40:])
+    run = of_once(folder)
+    check("a part at fault: status", run.child.returncode == 1, run.text())
+    check("a part at fault is told", "is no datagram file" in run.text(), run.text())
+    check("a cut part is told", "is cut at its end" in run.text(), run.text())
+    aside = sorted(path.read_bytes()[:6] for path in (folder / "aside").iterdir())
+    check("what is set aside", aside == [HEADER, b"no dat"], aside)
+    datagram_file(work / "all.fldg", sent)
+    wanted = journal_of(work / "all.fldg")
+    check("the others are joined", journal_of(*kept(folder)) == wanted)
+    check("the last part stays", os.listdir(folder / "in") == [f"{NAME}.4.fldg"])
+
+    # A damaged journal: what the datagram file that is still there has of it is joined again.
+    journal = folder / f"journals/{NAME}.journal"
+    damaged = journal.read_bytes()[:-30]
+    recent = folder / "recent" / journal.name
+    before = journal.stat().st_mtime_ns
+    run = Run(folder, Port().number, "--every", 0.1)
+    until(lambda: journal.stat().st_mtime_ns != before, run)
+    time.sleep(0.5)
+    recent.write_bytes(damaged)
+    datagram_file(folder / f"in/{NAME}.5.fldg", sent[:1])
+    until(lambda: list((folder / "aside").glob("*.journal")), run)
+    run.end()
+    aside = [path.read_bytes() for path in (folder / "aside").glob("*.journal")]
+    check("a damaged journal is kept", aside == [damaged], run.text())
+    check("a damaged journal: all is joined", journal_of(*kept(folder)) == wanted, run.text())
+    for path in kept(folder):
+        path.write_bytes(damaged)
+    datagram_file(folder / f"in/{NAME}.6.fldg", sent[:20])
+    run = of_once(folder)
+    left = journal_of(*(folder / "in").iterdir())
+    (work / "left").write_bytes(left)
+    have = journal_of(*kept(folder))
+    (work / "have").write_bytes(have)
+    check("damaged journals: others are begun", have == journal_of(work / "have", work / "left"))
+
+    # A program that fails, and one that is not there
+    failing = work / "failing"
+    failing.write_text(f'#!/bin/sh\necho "$*" >> {work}/tries\necho cannot write >&2\nexit 3\n')
+    failing.chmod(0o755)
+    datagram_file(folder / f"in/{NAME}.7.fldg", sent)
+    port = Port()
+    run = Run(folder, port.number, "--flutejoin", failing, "--every", 0.1)
+    time.sleep(3)
+    status = run.end()
+    tries = (work / "tries").read_text().count(" -o ")
+    check("a join that fails: status", status == 3, run.text())
+    check("a join that fails is tried again, and seldom", 1 <= tries <= 5, tries)
+    check("a join that fails is told", "cannot write; tried again in 10 seconds" in run.text())
+    check("its part stays", (folder / f"in/{NAME}.7.fldg").exists())
+    run = of_once(folder, "--flutejoin", work / "nothing")
+    check("no program", run.child.returncode == 3 and "no program" in run.text(), run.text())
+
+
+def runs(work: pathlib.Path) -> None:
+    """One run in a folder; a receiver that ends is begun again; options that it does not take."""
+    sent, port, folder = sent_file(work, 60_000, 1000), Port(), work / "news"
+    run = Run(folder, port.number, "--every", 0.2, "--keep-raw", "30K", "--window", "10K")
+    second = of_once(folder)
+    check("a second run: status", second.child.returncode == 3, second.text())
+    check("a second run is told", "another run works in it" in second.text(), second.text())
+    port.send(sent[:30], 0.01)
+    until((folder / f"journals/{NAME}.journal").exists, run)
+    receivers = subprocess.run(
+        ["ps", "-o", "pid=", "--ppid", str(run.child.pid)], capture_output=True, text=True
+    )
+    os.kill(int(receivers.stdout.split()[0]), signal.SIGKILL)
+    until(lambda: run.text().count("listening") == 2, run)
+    check("a receiver that ended is told", "ended with status -9" in run.text(), run.text())
+    port.send(sent[30:], 0.01)
+    time.sleep(0.3)
+    status = run.end()
+    check("with a receiver that was killed: status", status == 0, run.text())
+    datagram_file(work / "all.fldg", sent)
+    wanted = journal_of(work / "all.fldg")
+    check("with a receiver that was killed: all is kept", journal_of(*kept(folder)) == wanted)
+    raw = [path.stat().st_size for path in (folder / "raw").iterdir()]
+    check("the newest datagram files are kept", 20_000 < sum(raw) <= 30 << 10, raw)
+    of_raw = journal_of(*(folder / "raw").iterdir())
+    (work / "wanted").write_bytes(wanted)
+    (work / "raw").write_bytes(of_raw)
+    check("and are right", journal_of(work / "wanted", work / "raw") == wanted)
+
+    run = Run(work / "wrong", port.number, "--senders", "none", wait=False)
+    run.wait()
+    check("a wrong option: status", run.child.returncode == 2, run.text())
+    settings_in_a_file(work, sent)
+    run = of_once(work / "others", "--tsi", 8)
+    datagram_file(work / f"others/in/{NAME}.fldg", sent)
+    run = of_once(work / "others", "--tsi", 8)
+    check("other sessions are left out", len(journal_of(*kept(work / "others"))) == 15)
+
+
+def a_sender_that_starts_again(work: pathlib.Path) -> None:
+    """Each of its runs has a journal of its own, also where the station starts again meanwhile."""
+    folder, port, sent = work / "again", Port(), []
+    words = "--tsi", 7, "--toi", 0, "--fdt", 1, "--symbol", 100, "--block", 8
+    for number in range(2):
+        (work / "fdt").write_bytes(random.Random(number).randbytes(900))
+        path = work / f"sent_fdt{number}"
+        done = flutejoin("carousel", "-o", path, *words, work / "fdt")
+        assert done.returncode == 0, done.stderr
+        sent.append(records(path.read_bytes()))
+    for of in sent[0], sent[1][:5], sent[1][5:]:
+        run = Run(folder, port.number)
+        port.send(of, 0.01)
+        time.sleep(0.3)
+        check("a sender that starts again: status", run.end() == 0, run.text())
+    for name, of in (NAME, sent[0]), (f"{NAME}.e2", sent[1]):
+        path = datagram_file(work / "all.fldg", of)
+        have = journal_of(folder / f"journals/{name}.journal", folder / f"recent/{name}.journal")
+        check(f"a sender that starts again: {name}", have == journal_of(path))
+    check("a sender that starts again: files", os.listdir(folder / "in") == [f"{NAME}.e2.fldg"])
+
+
+def settings_in_a_file(work: pathlib.Path, sent: list[bytes]) -> None:
+    """Two sessions, and what a station takes and does not."""
+    config, ports, folder = work / "news.toml", [Port(), Port()], work / "of_file"
+    table = '[[session]]\nport = {}\ninterface = "{}"\n'
+    sessions = "".join(table.format(port.number, NAME) for port in ports)
+    config.write_text('[station]\nevery = 0.2\nkeep-raw = "1M"\ntsi = [7, 8]\n' + sessions)
+    run = Run(folder, None, "--config", config)
+    until(lambda: run.text().count("listening") == 2, run)
+    ports[0].send(sent[:30], 0.01)
+    ports[1].send(sent[30:], 0.01)
+    time.sleep(0.3)
+    check("settings in a file: status", run.end() == 0, run.text())
+    datagram_file(work / "all.fldg", sent)
+    check("two sessions", journal_of(*kept(folder)) == journal_of(work / "all.fldg"), run.text())
+    wrong = [f"[station]\n{it}\n" for it in ("frob = 1", "every = x", 'outbox = "true"')]
+    wrong += ["most = 5\n", 'station = "news"\n', 'folder = "elsewhere"\n']
+    for text in wrong:
+        config.write_text(text + sessions)
+        run = Run(folder, None, "--config", config, wait=False)
+        check(f"{text!r} in a file", run.wait() == 2, run.text())
+
+
+def growing(work: pathlib.Path) -> None:
+    """A small journal is joined into the large one once it is a tenth of it, or at the hour."""
+    folder = work / "news"
+    sent = sent_file(work, 400_000, 1000)
+    datagram_file(folder / f"in/{NAME}.fldg", sent[:300])
+    keep(folder)
+    large, recent = folder / f"journals/{NAME}.journal", folder / f"recent/{NAME}.journal"
+    check("the first journal is the large one", large.exists() and not recent.exists())
+    before = large.read_bytes()
+    datagram_file(folder / f"in/{NAME}.fldg", sent[300:320])
+    keep(folder)
+    check("a little is joined beside it", recent.exists() and large.read_bytes() == before)
+    datagram_file(folder / f"in/{NAME}.2.fldg", sent[320:340])
+    keep(folder)
+    check("a tenth is joined into it", not recent.exists() and large.read_bytes() != before)
+    datagram_file(folder / f"in/{NAME}.2.fldg", sent[340:345])
+    keep(folder)
+    before = large.read_bytes()
+    later = time.localtime(time.time() + 62)
+    run = Run(folder, Port().number, "--nightly", time.strftime("%H:%M", later))
+    check("before the hour", recent.exists() and large.read_bytes() == before)
+    if SOAK > 1:
+        time.sleep(64)
+        check("at the hour", not recent.exists() and large.read_bytes() != before)
+    run.end()
+    datagram_file(work / "all.fldg", sent[:345])
+    check("all is kept", journal_of(*kept(folder)) == journal_of(work / "all.fldg"))
+
+
+def push(work: pathlib.Path, *command: str) -> subprocess.CompletedProcess:
+    path = f"{work / 'bin'}:{os.environ['PATH']}"
+    return subprocess.run(
+        [PUSH, work / "news", work / "centre/north", *command],
+        env={**os.environ, "PATH": path},
+        capture_output=True,
+        text=True,
+    )
+
+
+def to_the_centre(work: pathlib.Path) -> None:
+    """What came since the last push gets to the centre, whatever fails under way."""
+    sent, folder = sent_file(work, 300_000, 1000), work / "news"
+    (work / "bin").mkdir()
+    (work / "bin/flutejoin").symlink_to(PROGRAM)
+    done = push(work, "sh", "-c")
+    check("no outbox: status", done.returncode == 3, done)
+    centre = work / f"centre/north/{NAME}.journal"
+    for number in range(10):
+        datagram_file(folder / f"in/{NAME}.{number + 2}.fldg", sent[20 * number : 20 * number + 20])
+        keep(folder, has_outbox=True)
+    waiting = list((folder / "outbox").iterdir())
+    check("few journals wait", 1 <= len(waiting) <= 8, waiting)
+    done = push(work, "false")
+    check("no centre: status", done.returncode == 1, done)
+    check("no centre is told", f"{NAME} is not pushed" in done.stderr, done.stderr)
+    check("no centre: all waits", sorted(waiting) == sorted((folder / "outbox").iterdir()))
+    # What is cut under way changes nothing there.
+    done = push(work, "sh", "-c", 'head -c 1000 | sh -c "$1"', "cut")
+    check("a cut connection: status", done.returncode == 1 and not centre.exists(), done)
+    done = push(work, "sh", "-c")
+    check("a push: status", done.returncode == 0, done)
+    check("a push: nothing waits", not list((folder / "outbox").iterdir()))
+    datagram_file(work / "first.fldg", sent[:200])
+    check("a push: the journal", centre.read_bytes() == journal_of(work / "first.fldg"))
+    datagram_file(folder / f"in/{NAME}.12.fldg", sent[200:])
+    of_once(folder, "--outbox")
+    # Of the file that grew in the run before, all is joined again.
+    waiting = sum(path.stat().st_size for path in (folder / "outbox").iterdir())
+    check("what came since is what waits", 100_000 < waiting < 130_000, waiting)
+    # The centre has it, and the connection is lost before it can tell.
+    done = push(work, "sh", "-c", 'sh -c "$1"; false', "lost")
+    check("a lost answer: status", done.returncode == 1, done)
+    done = push(work, "sh", "-c")
+    check("a second push: status", done.returncode == 0, done)
+    datagram_file(work / "all.fldg", sent)
+    check("a second push: the journal", centre.read_bytes() == journal_of(work / "all.fldg"))
+    check("a second push: as the station", centre.read_bytes() == journal_of(*kept(folder)))
+    done = push(work, "false")
+    check("nothing to push: status", done.returncode == 0, done)
+
+
+def full_disk(work: pathlib.Path) -> None:
+    """A disk fills and is emptied. Runs in a mount namespace of its own."""
+    place = work / "disk"
+    place.mkdir()
+    subprocess.run(["mount", "-t", "tmpfs", "-o", "size=6m", "none", place], check=True)
+    folder, ballast, port = place / "news", place / "ballast", Port()
+    sent = sent_file(work, 1_500_000, 1400)
+    words = "--window", 200_000, "--every", 0.2, "--keep-raw", "1M"
+    run = Run(folder, port.number, *words)
+    port.send(sent[:300], 0.01)
+    until((folder / f"journals/{NAME}.journal").exists, run)
+    until((folder / "raw").exists, run)
+    with open(ballast, "wb", buffering=0) as file:
+        while os.statvfs(place).f_bavail * os.statvfs(place).f_frsize > 100_000:
+            file.write(bytes(1 << 15))
+    port.send(sent[300:600], 0.01)
+    until(lambda: "the disk is full" in run.text(), run)
+    check("a full disk: files that are joined go first", not list((folder / "raw").iterdir()))
+    ballast.unlink()
+    # The receiver has kept in memory what it could not write.
+    datagram_file(work / "first.fldg", sent[:600])
+    wanted = journal_of(work / "first.fldg")
+    is_there = until(lambda: journal_of(*kept(folder), *(folder / "in").iterdir()) == wanted, run)
+    check("behind a full disk: nothing is lost", is_there)
+    for _ in range(2):
+        port.send(sent, 0.01)
+    status = run.end()
+    check("behind a full disk: status", status == 0, run.text())
+    datagram_file(work / "all.fldg", sent)
+    have, wanted = journal_of(*kept(folder)), journal_of(work / "all.fldg")
+    check("behind a full disk: all is kept", have == wanted, (len(have), len(wanted)))
+
+
+def in_mounts(work: pathlib.Path) -> None:
+    """Runs the test of the full disk as another process in a mount namespace."""
+    words = "unshare", "-m", "mount", "-t", "tmpfs", "none", work
+    if subprocess.run(words, capture_output=True).returncode:
+        print("station: skipped: a full disk, since no file system can be mounted here")
+        return
+    words = sys.executable, __file__, PROGRAM, "--full-disk", work
+    done = subprocess.run(["unshare", "-m", *words], capture_output=True, text=True)
+    check("a full disk", done.returncode == 0, done.stdout + done.stderr)
+
+
+TESTS = {
+    test.__name__: test
+    for test in (
+        kills,
+        carousel_at_three_stations,
+        runs,
+        a_sender_that_starts_again,
+        growing,
+        faults,
+        to_the_centre,
+        in_mounts,
+    )
+}
+
+
+def run_beside_one_another() -> None:
+    """Runs each test as a process of its own, since they wait for most of their time."""
+    global passed, failed
+    words = sys.executable, __file__, *sys.argv[1:]
+    children = [
+        subprocess.Popen([*words, name], stdout=subprocess.PIPE, text=True) for name in TESTS
+    ]
+    for name, child in zip(TESTS, children):
+        *lines, last = (child.communicate()[0] or "nothing").splitlines()
+        print(*lines, sep="\n", end="\n" if lines else "")
+        counts = last.removeprefix("station: ").split()
+        if child.returncode not in (0, 1) or len(counts) != 4:
+            check(name, False, f"ended with status {child.returncode}: {last}")
+        else:
+            passed, failed = passed + int(counts[0]), failed + int(counts[2])
+
+
+def main() -> int:
+    if sys.argv[2:3] == ["--full-disk"]:
+        full_disk(pathlib.Path(sys.argv[3]))
+        return int(failed > 0)
+    named = [word for word in sys.argv[2:] if word != "--soak"]
+    for name in named:
+        with tempfile.TemporaryDirectory() as folder:
+            TESTS[name](pathlib.Path(folder))
+    if not named:
+        run_beside_one_another()
+    print(f"station: {passed} passed, {failed} failed")
+    return int(failed > 0)
+
+
+sys.exit(main())

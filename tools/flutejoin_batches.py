@@ -1,0 +1,124 @@
+"""Datagrams that the system gives together, by one call for many of them where it has such a call.
+
+Each stands in a place of its own in one buffer, with room for its length before it: a record.
+"""
+from __future__ import annotations
+
+import errno
+import os
+import socket
+import struct
+import sys
+from typing import Iterable, Tuple
+
+from flutejoin_packets import FIXED_ALL
+
+try:
+    import ctypes
+except ImportError:  # a Python without it receives them one by one
+    ctypes = None
+
+MOST = 32  # datagrams of one call
+ROOM = 1 << 16  # bytes of a datagram, one more than a record can hold
+# Between two places; so that they do not all fall into the same lines of a cache.
+STRIDE = 2 + ROOM + 1470
+DONT_WAIT = 0x40  # MSG_DONTWAIT of Linux
+
+# The sender's address, the datagram's length, its first bytes, and where its record begins. Of a
+# short datagram the first bytes end with some of an earlier one.
+Datagram = Tuple[bytes, int, Tuple[bytes], int]
+
+
+class Batch:
+    """The datagrams of one call on one socket."""
+
+    def __init__(self, udp: socket.socket):
+        self.udp, self.descriptor = udp, udp.fileno()
+        self.buffer = bytearray(MOST * STRIDE)
+        self.view = memoryview(self.buffer)
+        self.places = [STRIDE * number for number in range(MOST)]
+        self.heads = struct.Struct(f"2x{FIXED_ALL}s{STRIDE - 2 - FIXED_ALL}x").iter_unpack
+        self.many = many_at_once(self)
+
+    def receive(self, most: int) -> Iterable[Datagram]:
+        """What waits, up to so many and to MOST. Nothing where nothing waits."""
+        if self.many is None:
+            return self.one_by_one(min(most, MOST))
+        return self.many(min(most, MOST))
+
+    def together(self, senders: Iterable[bytes], lengths: list[int]) -> Iterable[Datagram]:
+        heads = self.heads(self.view[: len(lengths) * STRIDE])
+        return zip(senders, lengths, heads, self.places)
+
+    def one_by_one(self, most: int) -> Iterable[Datagram]:
+        senders, lengths = [], []
+        for place in self.places[:most]:
+            try:
+                length, address = self.udp.recvfrom_into(self.view[place + 2 : place + 2 + ROOM])
+            except BlockingIOError:
+                break
+            lengths.append(length)
+            senders.append(socket.inet_pton(self.udp.family, address[0].partition("%")[0]))
+        return self.together(senders, lengths)
+
+
+def many_at_once(batch: Batch):
+    """The call recvmmsg of Linux for a batch; None where it cannot be had."""
+    if ctypes is None or sys.platform != "linux":
+        return None
+    call = getattr(ctypes.CDLL(None, use_errno=True), "recvmmsg", None)
+    if call is None:
+        return None
+
+    class Piece(ctypes.Structure):
+        _fields_ = [("base", ctypes.c_void_p), ("length", ctypes.c_size_t)]
+
+    class Message(ctypes.Structure):
+        _fields_ = [
+            ("name", ctypes.c_void_p),
+            ("name_length", ctypes.c_uint),
+            ("pieces", ctypes.c_void_p),
+            ("piece_count", ctypes.c_size_t),
+            ("control", ctypes.c_void_p),
+            ("control_length", ctypes.c_size_t),
+            ("flags", ctypes.c_int),
+        ]
+
+    class Received(ctypes.Structure):
+        _fields_ = [("message", Message), ("length", ctypes.c_uint)]
+
+    name_room = 28  # struct sockaddr_in6
+    names = bytearray(MOST * name_room)
+    pieces, received = (Piece * MOST)(), (Received * MOST)()
+    data = (ctypes.c_char * len(batch.buffer)).from_buffer(batch.buffer)
+    name_data = (ctypes.c_char * len(names)).from_buffer(names)
+    for number, place in enumerate(batch.places):
+        pieces[number] = Piece(ctypes.addressof(data) + place + 2, ROOM)
+        received[number].message = Message(
+            ctypes.addressof(name_data) + number * name_room,
+            name_room,
+            ctypes.addressof(pieces[number]),
+            1,
+        )
+    call.argtypes = [ctypes.c_int, ctypes.c_void_p, ctypes.c_uint, ctypes.c_int, ctypes.c_void_p]
+    at = ctypes.addressof(received)
+    words = memoryview(received).cast("B").cast("I")
+    lengths = words[Received.length.offset // 4 :: ctypes.sizeof(Received) // 4]
+    name_view = memoryview(names)
+    # The address in struct sockaddr_in and sockaddr_in6
+    place, size = (4, 4) if batch.udp.family == socket.AF_INET else (8, 16)
+    address = struct.Struct(f"{place}x{size}s{name_room - place - size}x").iter_unpack
+    # What the system writes into is kept for as long as the call.
+    kept = data, name_data, pieces, received
+
+    def receive(most: int, _kept=kept) -> Iterable[Datagram]:
+        count = call(batch.descriptor, at, most, DONT_WAIT, None)
+        if count < 0:
+            number = ctypes.get_errno()
+            if number not in (errno.EAGAIN, errno.EINTR):
+                raise OSError(number, os.strerror(number))
+            return ()
+        senders = [sender for (sender,) in address(name_view[: count * name_room])]
+        return batch.together(senders, lengths[:count].tolist())
+
+    return receive

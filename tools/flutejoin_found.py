@@ -1,0 +1,145 @@
+"""Datagram files that earlier runs left in a folder: whose they are, and where they end."""
+from __future__ import annotations
+
+import collections
+import contextlib
+import ipaddress
+import os
+import stat
+from typing import Iterable, NamedTuple, Optional, Tuple
+
+from flutejoin_epochs import Epoch, may_tell_of_instance
+from flutejoin_files import Name, file_name, name_of
+from flutejoin_notes import Fault, note
+from flutejoin_records import HEADER, LENGTH, PIECE, ends, last_whole
+
+MOST_LOOKED = 64  # pieces at a file's end in which FDT Instances are looked for
+MOST_RECORDS = 1 << 17  # records in which they are looked for
+
+
+def address_of(text):
+    """The address that a socket names, as text or packed.
+
+    An IPv4 address may come in IPv6 form, and a link's name behind an address is no part of it.
+    """
+    address = ipaddress.ip_address(text.partition("%")[0] if isinstance(text, str) else text)
+    return getattr(address, "ipv4_mapped", None) or address
+
+
+def newest(names: Iterable[str]) -> dict:
+    """The newest file of each sender, by its address: the last part of its last epoch."""
+    last: dict = {}
+    for found in filter(None, map(name_of, names)):
+        last[found.address] = max(last.get(found.address, found), found)
+    return last
+
+
+class Found(NamedTuple):
+    """The newest file of a sender: where it ends, and what it tells of FDT Instances."""
+
+    name: Name
+    identity: Tuple[int, int]  # device and number
+    size: Optional[int]  # None where it is left as it is, and another file is begun
+    records: int
+    epoch: Epoch
+
+
+def look_at(folder: str, name: Name) -> Found:
+    """Looks through a file, and takes away a record that was cut at its end."""
+    path = os.path.join(folder, file_name(str(name.address), name.part, name.epoch))
+    looked = collections.deque(maxlen=MOST_LOOKED)
+    try:
+        # A pipe of that name must not be waited for.
+        with open(os.open(path, os.O_RDWR | os.O_NONBLOCK | os.O_CLOEXEC), "r+b", 0) as file:
+            found = os.fstat(file.fileno())
+            size, records = last_of(file, path, found, looked)
+            epoch = epoch_of(file, size, looked)
+            if not epoch.hashes and name.part > 1:
+                epoch = epoch_in(folder, name._replace(part=name.part - 1))
+            size = size if mended(file, path, size, found.st_size) else None
+            return Found(name, (found.st_dev, found.st_ino), size, records, epoch)
+    except OSError as error:
+        raise Fault(3, f"cannot open {path}: {error.strerror}") from None
+
+
+def last_of(file, path: str, found: os.stat_result, looked) -> tuple[int, int]:
+    """Where the last whole record of a file ends, and how many there are."""
+    if not stat.S_ISREG(found.st_mode):
+        raise Fault(1, f"{path}: is no regular file, and is left as it is")
+    head = file.read(len(HEADER))
+    if head != HEADER[: len(head)]:
+        raise Fault(1, f"{path}: is no datagram file of version 1, and is left as it is")
+    return last_whole(file, found.st_size, len(HEADER), looked) if head == HEADER else (0, 0)
+
+
+def mended(file, path: str, end: int, size: int) -> bool:
+    """Takes away a record that was cut at a file's end, and keeps it in a file beside it.
+
+    Where a length in the file is wrong, it is more than a record that a kill cut. It is not taken
+    away where it cannot be kept.
+    """
+    if end == size:
+        return True
+    file.seek(end)
+    cut = file.read(size - end)
+    try:
+        beside = keep_beside(path, cut)
+        file.truncate(end)
+    except OSError as error:
+        told = f"its last {len(cut)} bytes, of a record that was cut, cannot be kept elsewhere"
+        note(f"{path}: {told}: {error.strerror}; another file is begun")
+        return False
+    told = f"a record was cut at its end; these {len(cut)} bytes are taken away"
+    note(f"{path}: {told}, and kept in {beside}")
+    return True
+
+
+def keep_beside(path: str, cut: bytes) -> str:
+    """Writes what is cut off a file into a new one beside it, and answers its name."""
+    number = 1
+    while True:
+        beside = f"{path}.cut" + (f".{number}" if number > 1 else "")
+        try:
+            with open(beside, "xb") as file:
+                file.write(cut)
+            return beside
+        except FileExistsError:
+            number += 1
+        except OSError:
+            with contextlib.suppress(OSError):
+                os.unlink(beside)
+            raise
+
+
+def epoch_in(folder: str, name: Name) -> Epoch:
+    """What an earlier file tells of FDT Instances. Nothing where it is not there any more."""
+    looked = collections.deque(maxlen=MOST_LOOKED)
+    try:
+        path = os.path.join(folder, file_name(str(name.address), name.part, name.epoch))
+        with open(os.open(path, os.O_RDONLY | os.O_NONBLOCK | os.O_CLOEXEC), "rb", 0) as file:
+            found = os.fstat(file.fileno())
+            return epoch_of(file, last_of(file, path, found, looked)[0], looked)
+    except (OSError, Fault):
+        return Epoch()
+
+
+def epoch_of(file, size: int, looked) -> Epoch:
+    """What a file tells at its end of FDT Instances."""
+    epoch, records = Epoch(), sum(count for _, count in looked)
+    while records > MOST_RECORDS:
+        records -= looked.popleft()[1]
+    for place, _ in looked:
+        file.seek(place)
+        for datagram in datagrams_of_instances(file.read(min(PIECE, size - place))):
+            epoch.contradicts(datagram)
+    return epoch
+
+
+def datagrams_of_instances(piece: bytes) -> Iterable[bytes]:
+    """Those datagrams of a piece that may be of an FDT Instance."""
+    begin = 0
+    for end in ends(piece):
+        datagram = piece[begin + LENGTH.size : end]
+        if end <= len(piece) and may_tell_of_instance(datagram):
+            yield datagram
+        begin = end

@@ -1,0 +1,99 @@
+"""Datagrams that come in fragments, put together where all of them came."""
+from __future__ import annotations
+
+import collections
+from typing import Callable
+
+MOST_FRAGMENTED = 256  # datagrams whose fragments are kept
+MOST_FRAGMENTS = 256  # of one datagram
+MOST_SECONDS = 30  # between two fragments of one datagram, as in Linux
+
+CUT = "cut short by the capture (capture whole packets: tcpdump -s 0)"
+LOST = "a fragment is lost"
+DISAGREE = "fragments overlap or disagree"
+TOO_MANY = f"more than {MOST_FRAGMENTS} fragments"
+
+
+class Fragmented:
+    """A datagram that comes in fragments, the first of which came at a second."""
+
+    def __init__(self, when):
+        self.pieces, self.held, self.end, self.cause, self.is_done = {}, 0, None, None, False
+        self.when = when
+
+    def is_repeat(self, offset, more, data):
+        return self.pieces.get(offset) == data and (offset + len(data) == self.end) != more
+
+    def is_over(self, when: int | None) -> bool:
+        """Whether what comes at this second is too late for it. A capture may tell no times."""
+        return None not in (when, self.when) and abs(when - self.when) > MOST_SECONDS
+
+    def fail(self, cause):
+        """It is never put together, whatever comes. What is kept is where its port stands."""
+        self.cause = cause
+        self.pieces = {0: self.pieces[0][:256]} if 0 in self.pieces else {}
+
+    def add(self, offset, more, data):
+        """Takes a fragment that is no repeat.
+
+        No two overlap, so they are the whole where their lengths come to its end.
+        """
+        end = offset + len(data)
+        is_wrong = not data or end > 65535 or (more and len(data) % 8)
+        is_beyond = self.end is not None and (not more or end > self.end)
+        for at, piece in self.pieces.items():
+            is_beyond = is_beyond or offset < at + len(piece) and (at < end or not more)
+        if is_wrong or is_beyond:
+            self.fail(DISAGREE)
+            return
+        if len(self.pieces) >= MOST_FRAGMENTS:
+            self.fail(TOO_MANY)
+            return
+        self.pieces[offset] = data
+        self.held += len(data)
+        self.end = self.end if more else end
+        self.is_done = self.held == self.end
+
+
+class Fragments:
+    """The last datagrams that came in fragments.
+
+    Those that are whole stay among them, since a capture may have a fragment twice.
+    """
+
+    def __init__(self, lose: Callable[[tuple, bytes, str], None]):
+        self.last, self.lose = collections.OrderedDict(), lose
+
+    def add(self, key, offset, more, data, is_whole, when):
+        """The whole datagram, with the last of its fragments that comes."""
+        datagram = self.last.get(key)
+        if datagram and datagram.is_over(when):
+            self.forget(key)
+            datagram = None
+        if datagram and (datagram.cause or datagram.is_repeat(offset, more, data)):
+            return None
+        if datagram and datagram.is_done:  # its identification is used again
+            self.forget(key)
+            datagram = None
+        if datagram is None:
+            datagram = self.last[key] = Fragmented(when)
+            if len(self.last) > MOST_FRAGMENTED:
+                self.forget(next(iter(self.last)))
+        if is_whole:
+            datagram.add(offset, more, data)
+        else:
+            datagram.pieces.setdefault(offset, data)
+            datagram.fail(CUT)
+        if not datagram.is_done:
+            return None
+        return b"".join(datagram.pieces[at] for at in sorted(datagram.pieces))
+
+    def forget(self, key):
+        """Forgets a datagram. One that is not whole by now is lost."""
+        datagram = self.last.pop(key)
+        if not datagram.is_done:
+            self.lose(key, datagram.pieces.get(0, b""), datagram.cause or LOST)
+
+    def finish(self):
+        while self.last:
+            self.forget(next(iter(self.last)))

@@ -1,0 +1,179 @@
+"""Cells of pictures: each stands for a run of symbols, or of objects, and tells their kinds."""
+from __future__ import annotations
+
+import array
+from typing import Callable, Iterable
+
+from flutejoin_gaps import (
+    CONFLICTING,
+    HELD,
+    MISFIT,
+    MISSING,
+    NO_INFORMATION,
+    PARTIAL,
+    WHOLE,
+    State,
+)
+from flutejoin_partition import Partition
+
+NAMES = ("held", "missing", "conflicting", "misfit")
+OBJECT_NAMES = ("whole", "partial", "conflicting", "no information")
+
+
+def counted(number: int, what: str) -> str:
+    return f"{number} {what}{'' if number == 1 else 's'}"
+
+
+def partition_words(partition: Partition) -> str:
+    length, symbol, _ = partition.numbers
+    if not length:
+        return "empty: 0 bytes, and no symbol"
+    small = f" or {partition.small}" if partition.larger else ""
+    of = f" of {partition.size(0)}{small}" if partition.blocks > 1 else ""
+    sizes = f"{counted(partition.symbols, 'symbol')} of {counted(symbol, 'byte')}"
+    return f"{counted(length, 'byte')}, {sizes}, {counted(partition.blocks, 'block')}{of}"
+
+
+class Grid:
+    """Cells that each stand for a run of symbols, and rows that each stand for a block or several.
+
+    It has how many symbols of each cell, and of all, are held, missing, conflicting or misfit.
+    """
+
+    names = NAMES
+
+    def __init__(
+        self, partition: Partition, most_rows: int, columns_of: Callable[[int], int]
+    ) -> None:
+        self.partition = partition
+        self.group = 1
+        if partition.blocks > most_rows:
+            self.group = -(-partition.blocks // (most_rows // 2))
+        self.rows = -(-partition.blocks // self.group)
+        longest = partition.start(min(self.group, partition.blocks))
+        self.run = max(1, -(-longest // columns_of(self.rows)))
+        self.columns = -(-longest // self.run)
+        self.counts = [0, 0, 0, 0]
+        self.counts[HELD] = partition.symbols
+        self.cells = {
+            reason: array.array("Q", bytes(8 * self.rows * self.columns))
+            for reason in (MISSING, CONFLICTING, MISFIT)
+        }
+
+    def is_fine(self):
+        """Whether each row is a block, and each cell a symbol."""
+        return self.group == 1 and self.run == 1
+
+    def begin(self, row):
+        """The place of the first symbol of a row, and of the one behind the last row."""
+        return self.partition.start(min(row * self.group, self.partition.blocks))
+
+    def add(self, block, first, last, reason):
+        """Takes a gap; False where the object has no such symbols."""
+        if block >= self.partition.blocks or not first <= last < self.partition.size(block):
+            return False
+        row = block // self.group
+        at = self.partition.start(block) - self.begin(row)
+        first, last = at + first, at + last
+        cells, base = self.cells[reason], row * self.columns
+        for column in range(first // self.run, last // self.run + 1):
+            begin, end = column * self.run, (column + 1) * self.run
+            cells[base + column] += min(last, end - 1) - max(first, begin) + 1
+        self.counts[reason] += last - first + 1
+        self.counts[HELD] -= last - first + 1
+        return True
+
+    def miss_all(self):
+        for block in range(self.partition.blocks):
+            self.add(block, 0, self.partition.size(block) - 1, MISSING)
+
+    def row_cells(self, row):
+        """How many symbols of each cell of a row are of each kind."""
+        size = self.begin(row + 1) - self.begin(row)
+        for column in range(-(-size // self.run)):
+            at = row * self.columns + column
+            other = [self.cells[reason][at] for reason in (MISSING, CONFLICTING, MISFIT)]
+            yield (min(self.run, size - column * self.run) - sum(other), *other)
+
+    def row_runs(self, row):
+        """Cells side by side that are wholly of one kind, and each other cell alone.
+
+        Of each its first column, the one behind, and its counts.
+        """
+        begin, one, kind = 0, None, None
+        for column, counts in enumerate(self.row_cells(row)):
+            pure = sum(count > 0 for count in counts) == 1
+            if pure and kind == [count > 0 for count in counts]:
+                one = tuple(a + b for a, b in zip(one, counts))
+                continue
+            if one:
+                yield begin, column, one
+            begin, one, kind = column, counts, [count > 0 for count in counts] if pure else None
+        if one:
+            yield begin, column + 1, one
+
+    def places(self, row, begin, end):
+        """The places of the first and the last symbol of cells of a row."""
+        first = self.begin(row) + begin * self.run
+        return first, min(self.begin(row) + end * self.run, self.begin(row + 1)) - 1
+
+    def range_words(self, row, begin, end):
+        """Which symbols stand in cells of a row."""
+        first, last = map(self.partition.id_at, self.places(row, begin, end))
+        if first == last:
+            return "%d/%d" % first
+        if first[0] == last[0]:
+            return "%d/%d-%d" % (*first, last[1])
+        return "%d/%d to %d/%d" % (*first, *last)
+
+    def label(self, row):
+        """What stands before a row: its first block."""
+        return row * self.group
+
+    def scale_words(self):
+        row = "a row is a block" if self.group == 1 else f"a row is {self.group} blocks"
+        return f"{row}, a cell is {'a symbol' if self.run == 1 else f'{self.run} symbols'}"
+
+    def words(self, counts=None, is_short=False):
+        """How many are of each kind, of all or of these counts."""
+        of = list(zip(self.names, self.counts if counts is None else counts))
+        return ", ".join(f"{name} {count}" for name, count in of if count or not is_short)
+
+
+class Overview(Grid):
+    """Cells that each stand for an object, or for a run of them: what is told of many objects."""
+
+    names = OBJECT_NAMES
+    ROW = 64  # objects, at most
+
+    def __init__(
+        self, states: dict[str, State], most_rows: int, columns_of: Callable[[int], int]
+    ) -> None:
+        super().__init__(Partition(len(states), 1, self.ROW), most_rows, columns_of)
+        self.keys = list(states)
+        for place, state in enumerate(states.values()):
+            if kind := self.kind(state):
+                block, number = self.partition.id_at(place)
+                self.add(block, number, number, kind)
+
+    @staticmethod
+    def kind(state: State) -> int:
+        if state.words in (WHOLE, NO_INFORMATION):
+            return HELD if state.words == WHOLE else MISFIT
+        return MISSING if state.words == PARTIAL and not state.disputed else CONFLICTING
+
+    def range_words(self, row: int, begin: int, end: int) -> str:
+        first, last = (self.keys[place] for place in self.places(row, begin, end))
+        return first if first == last else f"{first} to {last}"
+
+    def label(self, row: int) -> int:
+        return self.begin(row)
+
+    def scale_words(self) -> str:
+        return "a cell is an object" if self.run == 1 else f"a cell is {self.run} objects"
+
+
+def scales(grids: Iterable[Grid | None]) -> str:
+    """Once what the rows and cells of all grids stand for; nothing where they differ."""
+    words = {grid.scale_words() for grid in grids if grid and grid.rows}
+    return words.pop() if len(words) == 1 else ""

@@ -1,0 +1,70 @@
+"""Datagram files that a station joins, and whose they are."""
+from __future__ import annotations
+
+import os
+import stat
+from typing import NamedTuple, Optional
+
+import flutejoin_files as files
+from flutejoin_found import last_whole, name_of
+from flutejoin_joining import Fed
+
+
+class Sender(NamedTuple):
+    """Whose facts one journal has: an address, of the module ipaddress, and an epoch."""
+
+    address: object
+    epoch: int
+
+    def stem(self) -> str:
+        return files.stem(str(self.address), self.epoch)
+
+
+def sender_of(name: str) -> Optional[tuple[Sender, int]]:
+    """The sender and the number of a datagram file with this name, or None."""
+    found = name_of(name)
+    return (Sender(found.address, found.epoch), found.part) if found else None
+
+
+class NoDatagramFile(Exception):
+    """A file has the name of a datagram file and is none."""
+
+
+class Part:
+    """A datagram file, and up to where its facts are in a journal on the disk."""
+
+    def __init__(self, path: str, number: int) -> None:
+        self.path, self.number = path, number
+        self.taken = self.end = len(files.HEADER)
+        self.size, self.inode, self.is_last = 0, None, True
+
+    def look(self) -> None:
+        """Sees how long the file is by now, and where its last whole record ends."""
+        found = os.lstat(self.path)
+        if found.st_ino != self.inode or found.st_size < self.size:
+            self.check(found)
+            self.inode, self.size = found.st_ino, 0
+            self.taken = self.end = len(files.HEADER)
+        if found.st_size > self.size:
+            with open(self.path, "rb", buffering=0) as file:
+                self.end, _ = last_whole(file, found.st_size, self.taken)
+            self.size = found.st_size
+
+    def check(self, found: os.stat_result) -> None:
+        """Refuses what is no datagram file. The receiver would not start beside it."""
+        head = b""
+        if stat.S_ISREG(found.st_mode):
+            with open(self.path, "rb") as file:
+                head = file.read(len(files.HEADER))
+        if not stat.S_ISREG(found.st_mode) or head != files.HEADER[: len(head)]:
+            raise NoDatagramFile("is no datagram file of version 1")
+
+    def is_new(self) -> bool:
+        return self.end > self.taken
+
+    def is_plain(self) -> bool:
+        """Whether a join may be given its path: it is whole, and nothing of it was joined."""
+        return not self.is_last and self.taken == len(files.HEADER) and self.end == self.size
+
+    def fed(self) -> Fed:
+        return Fed(self.path, self.taken, self.end)

@@ -1,0 +1,129 @@
+"""Runs of flutejoin join at a low priority, beside something that goes on meanwhile."""
+from __future__ import annotations
+
+import errno
+import os
+import signal
+import subprocess
+from typing import Callable, Iterator, NamedTuple, Optional, Sequence
+
+from flutejoin_files import HEADER
+
+PIECE = 1 << 20  # bytes that are handed to a join at once
+NICE = 10
+LOOK = 0.5  # seconds between two looks at what goes on beside a join
+DIE_WITH_PARENT = 1  # prctl's PR_SET_PDEATHSIG
+
+
+class Answer(NamedTuple):
+    """How a join ended, and what it told of a fault."""
+
+    status: int
+    told: str
+
+
+class Fed(NamedTuple):
+    """Whole records of a datagram file that a join reads from standard input."""
+
+    path: str
+    begin: int
+    end: int
+
+    def pieces(self) -> Iterator[bytes]:
+        yield HEADER
+        with open(self.path, "rb", buffering=0) as file:
+            place = file.seek(self.begin)
+            while place < self.end:
+                piece = file.read(min(PIECE, self.end - place))
+                if not piece:
+                    raise OSError(errno.EIO, "became shorter", self.path)
+                place += len(piece)
+                yield piece
+
+
+def die_with_parent(number: int = signal.SIGTERM) -> None:
+    """In a child: has the system end it with its parent, however that is killed.
+
+    Where the system cannot, the child ends when it is stopped by somebody else.
+    """
+    try:
+        import ctypes
+
+        ctypes.CDLL(None).prctl(DIE_WITH_PARENT, int(number))
+    except (ImportError, AttributeError, OSError, MemoryError):
+        pass
+
+
+def in_background() -> None:
+    os.nice(NICE)
+    # A join that is killed leaves its output as it was.
+    die_with_parent(signal.SIGKILL)
+
+
+class Program:
+    """The program flutejoin. `tend` is called while it works, once a second at least."""
+
+    def __init__(self, path: str, tend: Callable[[], None], sessions: Sequence[int] = ()) -> None:
+        self.path, self.tend = path, tend
+        self.words = [word for tsi in sessions for word in ("--tsi", str(tsi))]
+        if self.knows("--any-size"):
+            self.words.append("--any-size")
+
+    def knows(self, option: str) -> bool:
+        try:
+            told = subprocess.run(
+                [self.path, "join", "--help"],
+                stdin=subprocess.DEVNULL,
+                stdout=subprocess.PIPE,
+                stderr=subprocess.DEVNULL,
+            )
+        except OSError:
+            return False  # each join tells of it
+        return option.encode() in told.stdout.split()
+
+    def join(
+        self, source: bytes, out: str, inputs: Sequence[str], fed: Optional[Fed] = None
+    ) -> Answer:
+        words = [self.path, "join", "--source", source.hex(), *self.words, "-o", out, *inputs]
+        try:
+            child = subprocess.Popen(
+                words + ["-"] * bool(fed),
+                stdin=subprocess.PIPE if fed else subprocess.DEVNULL,
+                stdout=subprocess.DEVNULL,
+                stderr=subprocess.PIPE,
+                preexec_fn=in_background,
+            )
+        except (OSError, subprocess.SubprocessError) as fault:
+            return Answer(3, f"{self.path} cannot be run: {fault}")
+        with child:
+            try:
+                if fed:
+                    self.feed(child, fed)
+                return self.answer(child)
+            except BaseException:
+                child.kill()
+                raise
+
+    def feed(self, child: subprocess.Popen, fed: Fed) -> None:
+        """Hands records to a join. One that ends before has something to tell."""
+        pipe, child.stdin = child.stdin, None
+        try:
+            with pipe:
+                for piece in fed.pieces():
+                    pipe.write(piece)
+                    self.tend()
+        except BrokenPipeError:
+            pass
+
+    def answer(self, child: subprocess.Popen) -> Answer:
+        while True:
+            try:
+                _, told = child.communicate(timeout=LOOK)
+            except subprocess.TimeoutExpired:
+                self.tend()
+                continue
+            status = child.returncode
+            if status < 0:
+                return Answer(3, f"flutejoin join was ended by signal {-status}")
+            text = os.fsdecode(told).strip() or f"flutejoin join ended with status {status}"
+            return Answer(status, text)

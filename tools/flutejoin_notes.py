@@ -1,0 +1,99 @@
+"""What flutejoin-receive tells on standard error while it runs.
+
+A terminal that is stopped (Ctrl-S) and a pipe that nobody reads keep nothing up: what cannot be
+written waits.
+"""
+from __future__ import annotations
+
+import collections
+import os
+import select
+import sys
+import threading
+import time
+
+from flutejoin_files import shown
+
+MOST_WAITING = 200  # lines
+PIECE = 4096  # bytes that a pipe takes at once
+EACH = 60  # seconds between two lines about one cause
+
+
+class Fault(Exception):
+    """What ends the run, and the status that it ends with."""
+
+    def __init__(self, status: int, text: str):
+        super().__init__(text)
+        self.status = status
+
+
+class Notes:
+    """Lines for standard error, with the time where that is no terminal."""
+
+    def __init__(self) -> None:
+        self.lock = threading.Lock()
+        self.waiting: collections.deque[bytes] = collections.deque()
+        self.missed = 0
+
+    def add(self, text: str) -> None:
+        with self.lock:
+            if len(self.waiting) < MOST_WAITING:
+                self.waiting.append(self.line(text))
+            else:
+                self.missed += 1
+        self.write()
+
+    @staticmethod
+    def line(text: str) -> bytes:
+        stamp = ""
+        if sys.stderr is None or not sys.stderr.isatty():
+            stamp = time.strftime("%Y-%m-%dT%H:%M:%SZ ", time.gmtime())
+        lines = "\n".join(map(shown, text.split("\n")))
+        return os.fsencode(f"{stamp}flutejoin-receive: {lines}\n")
+
+    def write(self) -> None:
+        """Writes what standard error takes now. Where it is closed, nothing waits."""
+        with self.lock:
+            try:
+                while self.waiting and is_writable(sys.stderr.fileno()):
+                    line = self.waiting.popleft()
+                    rest = line[os.write(sys.stderr.fileno(), line[:PIECE]) :]
+                    if rest:
+                        self.waiting.appendleft(rest)
+                    elif not self.waiting and self.missed:
+                        self.waiting.append(self.line(f"{self.missed} lines could not be told"))
+                        self.missed = 0
+            except (OSError, AttributeError, ValueError):
+                self.waiting.clear()
+
+
+    def finish(self) -> None:
+        """At the end of a run: waits a second at most for what still waits."""
+        for _ in range(10):
+            self.write()
+            if not self.waiting:
+                return
+            time.sleep(0.1)
+
+
+def is_writable(descriptor: int) -> bool:
+    ready = select.poll()
+    ready.register(descriptor, select.POLLOUT)
+    return bool(ready.poll(0))
+
+
+NOTES = Notes()
+note = NOTES.add
+
+
+class EachMinute:
+    """Tells of counts that rise: at once, and then once a minute while they rise."""
+
+    def __init__(self) -> None:
+        self.told: dict[str, tuple[float, int]] = {}
+
+    def tell(self, cause: str, count: int, now: float, text: str = "left out {}: {}") -> None:
+        at, before = self.told.get(cause, (float("-inf"), 0))
+        if count > before and now >= at + EACH:
+            note(text.format(count - before, cause))
+            self.told[cause] = now, count

@@ -1,0 +1,111 @@
+"""The fields of a FLUTE packet that the tools look at (RFC 5651, RFC 6726, RFC 5445)."""
+from __future__ import annotations
+
+from typing import Iterator, NamedTuple, Optional
+
+EXT_FTI, EXT_FDT = 64, 192  # types of header extensions
+FIXED_ALL = 40  # the most bytes of a header before its extensions
+
+
+class Header(NamedTuple):
+    """Where the fields of an LCT header begin, and where it ends."""
+
+    tsi: int
+    toi: int
+    extensions: int
+    end: int
+
+
+class Packet(NamedTuple):
+    """What a packet tells, without what is said of its transport."""
+
+    tsi: int
+    toi: int
+    instance: Optional[int]  # the FDT Instance ID of EXT_FDT
+    information: Optional[bytes]  # lengths of EXT_FTI: transfer (6 bytes), symbol (2), block (4)
+    payload_id: bytes  # SBN and ESI, of 2 bytes each; empty where there is no symbol
+    symbol: bytes
+
+
+def fixed_fields(first: int, flags: int) -> tuple[int, int, int]:
+    """Where TSI, TOI and extensions begin, by the first two bytes of a header."""
+    half = 2 * (flags >> 4 & 1)
+    tsi = 8 + 4 * (first >> 2 & 3)
+    toi = tsi + 4 * (flags >> 7) + half
+    return tsi, toi, toi + 4 * (flags >> 5 & 3) + half
+
+
+# The place of the TOI by the last 12 bits of the first two bytes of a header of version 1
+TOI_PLACES = [slice(*fixed_fields(place >> 8, place & 255)[1:]) for place in range(1 << 12)]
+# A TOI 0 in each width
+ZEROS = frozenset(bytes(size) for size in range(2, 15, 2))
+
+
+def header_of(payload) -> Optional[Header]:
+    """The header of a packet as flutejoin takes it, or None.
+
+    It has version 1, TSI, TOI, codepoint 0, and a length that holds its fields and lies within the
+    datagram. Its extensions are not looked at.
+    """
+    if len(payload) < 4 or payload[0] >> 4 != 1 or payload[3]:
+        return None
+    header = Header(*fixed_fields(payload[0], payload[1]), 4 * payload[2])
+    if header.tsi == header.toi or header.toi == header.extensions:
+        return None
+    if not header.extensions <= header.end <= len(payload):
+        return None
+    return None if len(payload) - header.end in (1, 2, 3) else header
+
+
+def extensions_of(payload, header: Header) -> Iterator[tuple[int, int, int]]:
+    """The type of each header extension, and where it begins and ends.
+
+    The last ends at the header's end, unless one of them has no right length.
+    """
+    place = header.extensions
+    while place < header.end:
+        words = 1 if payload[place] >= 128 else payload[place + 1]
+        if not words:
+            return
+        yield payload[place], place, place + 4 * words
+        place += 4 * words
+
+
+def is_like_flute(payload) -> bool:
+    """Whether a datagram has the LCT header of a FLUTE packet as flutejoin takes it.
+
+    What its extensions say does not matter (RFC 5651, section 5).
+    """
+    header = header_of(payload)
+    if not header:
+        return False
+    end = header.extensions
+    for _, _, end in extensions_of(payload, header):
+        pass
+    return end == header.end
+
+
+def packet_of(payload) -> Optional[Packet]:
+    """The fields of a datagram that is like FLUTE, or None."""
+    header = header_of(payload)
+    if not header:
+        return None
+    instance = information = None
+    end = header.extensions
+    for kind, place, end in extensions_of(payload, header):
+        if kind == EXT_FDT:
+            instance = int.from_bytes(payload[place + 1 : place + 4], "big") & 0xFFFFF
+        elif kind == EXT_FTI and end - place == 16:
+            # The 2 bytes between the lengths are reserved.
+            information = bytes(payload[place + 2 : place + 8]) + bytes(payload[place + 10 : end])
+    if end != header.end:
+        return None
+    has_symbol = len(payload) > end + 4
+    return Packet(
+        int.from_bytes(payload[header.tsi : header.toi], "big"),
+        int.from_bytes(payload[header.toi : header.extensions], "big"),
+        instance,
+        information,
+        bytes(payload[end : end + 4]) if has_symbol else b"",
+        bytes(payload[end + 4 :]) if has_symbol else b"",
+    )

@@ -1,0 +1,214 @@
+"""The datagram files that flutejoin-capture writes, for each sender and epoch one or several parts.
+
+A file gets its name once it is whole.
+"""
+from __future__ import annotations
+
+import collections
+import errno
+import os
+
+import flutejoin_files as files
+from flutejoin_epochs import CONTRADICTING, Epochs, may_tell_of_instance
+from flutejoin_records import HEADER, LENGTH, MOST, whole_records
+
+MOST_SENDERS = 200  # each has a file open
+SENDERS = f"more than {MOST_SENDERS} senders"
+OCCUPIED = "its sender's file cannot be made"
+
+
+class Unwritable(Exception):
+    """An output cannot be made or written."""
+
+
+class Part:
+    """A datagram file that is being written beside its name.
+
+    What is not written yet begins with a whole record.
+    """
+
+    def __init__(self, path, epoch):
+        self.path, self.epoch, self.size, self.count = path, epoch, 0, 0
+        if os.path.lexists(path):
+            raise FileExistsError(errno.EEXIST, "is there already", path)
+        self.file = open(path + files.PARTIAL, "xb", buffering=0)
+        self.waiting = bytearray(HEADER)
+
+    def flush(self):
+        """Writes what waits.
+
+        After a failure the file ends behind the last record of which all was written.
+        """
+        written = 0
+        try:
+            while written < len(self.waiting):
+                written += self.file.write(self.waiting[written:] if written else self.waiting)
+            self.size += written
+        except OSError:
+            self.keep_whole(written)
+            raise
+        finally:
+            self.waiting.clear()
+
+    def keep_whole(self, written):
+        """Of what waited so many bytes were written.
+
+        Cuts the file behind the whole records among them.
+        """
+        begin = 0 if self.size else len(HEADER)
+        with memoryview(self.waiting) as waiting:
+            whole, records = whole_records(waiting[begin:written])
+            self.count += records - whole_records(waiting[begin:])[1]
+        self.size += begin + whole
+        self.file.truncate(self.size)
+
+    def finish(self):
+        """Brings the file to the disk and gives it its name.
+
+        It does not, where another file has taken that since. A file of no record is removed.
+        """
+        with self.file:
+            if self.count:
+                os.fsync(self.file.fileno())
+        if self.count:
+            files.give_name(self.path + files.PARTIAL, self.path)
+        else:
+            os.remove(self.path + files.PARTIAL)
+
+
+class Files:
+    """The datagram files of a folder: of each sender one, or several parts and epochs."""
+
+    def __init__(self, folder, split, report):
+        self.folder, self.split, self.report = folder, split, report
+        self.open, self.refused, self.left_out = {}, set(), collections.Counter()
+        self.epochs = {}  # of each sender
+        self.parts = collections.Counter()  # how many files a sender has of an epoch
+        self.is_made = False
+
+    def make_folder(self):
+        """Makes the folder, in one that is there, and sees that files can be made in it."""
+        try:
+            if not os.path.isdir(self.folder):
+                os.mkdir(self.folder)
+                self.is_made = True
+        except OSError as fault:
+            raise Unwritable(f"cannot make the folder {self.folder}: {fault.strerror}") from None
+        if not os.access(self.folder, os.W_OK | os.X_OK):
+            raise Unwritable(f"cannot make files in the folder {self.folder}")
+
+    def path(self, sender, part, epoch):
+        return os.path.join(self.folder, files.file_name(files.address(sender), part, epoch))
+
+    def add(self, sender, payload, when=None):
+        """Adds a datagram, which came at this second if that is known."""
+        if may_tell_of_instance(payload) and self.is_too_often(sender, payload, when or 0):
+            self.left_out[CONTRADICTING] += 1
+            return
+        part = self.open.get(sender)
+        size = len(payload) + 2
+        is_full = part and (
+            part.count >= MOST or part.size + len(part.waiting) + size > self.split
+        )
+        if is_full:
+            self.close(sender)
+            part = None
+        part = part or self.begin(sender)
+        if part:
+            part.waiting += LENGTH.pack(size - 2)
+            part.waiting += payload
+            part.count += 1
+            if len(part.waiting) > 65536:
+                self.flush(part)
+
+    def is_too_often(self, sender: bytes, payload: bytes, when: int) -> bool:
+        """Looks at a datagram of an FDT Instance, which may begin the sender's next epoch.
+
+        Answers whether it is left out since too many would begin.
+        """
+        epochs = self.epochs.get(sender)
+        if epochs is None and sender not in self.refused and len(self.epochs) < MOST_SENDERS:
+            epochs = self.epochs[sender] = Epochs()
+        begins = epochs.begins(payload, when) if epochs else False
+        if begins:
+            self.report.warn(f"{files.address(sender)} {epochs.told()}")
+            if sender in self.open:
+                self.close(sender)
+        return begins is None
+
+    def begin(self, sender):
+        """The next part of a sender.
+
+        None where it can have none, of which the first time is told.
+        """
+        is_new = sender not in self.epochs
+        if sender in self.refused or is_new and len(self.epochs) >= MOST_SENDERS:
+            self.left_out[OCCUPIED if sender in self.refused else SENDERS] += 1
+            return None
+        epoch = self.epochs.setdefault(sender, Epochs()).number
+        path = self.path(sender, self.parts[sender, epoch] + 1, epoch)
+        try:
+            self.open[sender] = Part(path, epoch)
+        except FileExistsError as fault:
+            hint = ""
+            if fault.filename.endswith(files.PARTIAL):
+                hint = "; flutejoin-mend makes a whole file of what a killed run left"
+            self.report.fault(
+                3,
+                f"{fault.filename}: is there already, and is left as it is; "
+                f"no other file is written for its sender{hint}",
+            )
+            self.refused.add(sender)
+            self.epochs.pop(sender)
+            self.left_out[OCCUPIED] += 1
+        except OSError as fault:
+            raise Unwritable(f"{path}: cannot be made: {fault.strerror}") from None
+        return self.open.get(sender)
+
+    def flush(self, part):
+        try:
+            part.flush()
+        except OSError as fault:
+            raise Unwritable(
+                f"{part.path}: cannot write: {fault.strerror}; what was written whole is kept"
+            ) from None
+
+    def flush_all(self):
+        for part in self.open.values():
+            self.flush(part)
+
+    def close(self, sender):
+        """Finishes a sender's file, and tells of it."""
+        part = self.open.pop(sender)
+        try:
+            try:
+                self.flush(part)
+            except Unwritable as fault:
+                self.report.fault(3, str(fault))
+            part.finish()
+        except OSError as fault:
+            partial = part.path + files.PARTIAL
+            self.report.fault(3, f"{partial}: cannot become {part.path}: {fault.strerror}")
+            self.refused.add(sender)
+            return
+        if part.count:
+            self.parts[sender, part.epoch] += 1
+            self.report.say(f"{part.path}: {part.count} datagrams from {files.address(sender)}")
+
+    def finish(self):
+        for sender in list(self.open):
+            self.close(sender)
+        if self.is_made and not any(self.parts.values()):
+            try:
+                os.rmdir(self.folder)
+            except OSError:
+                pass  # others have put something into it
+
+    def join_lines(self):
+        """The lines that join the files of each sender, and of each of its epochs by itself."""
+        for (sender, epoch), parts in self.parts.items():
+            if parts:
+                stem = files.stem(files.address(sender), epoch)
+                journal = os.path.join(self.folder, stem + ".journal")
+                paths = [self.path(sender, part + 1, epoch) for part in range(parts)]
+                yield from files.join_lines(sender, journal, paths)

@@ -1,0 +1,81 @@
+"""flutejoin-receive as a child, which is begun again where it ends."""
+from __future__ import annotations
+
+import json
+import os
+import subprocess
+import sys
+import time
+from typing import Optional, Sequence
+
+import flutejoin_files as files
+from flutejoin_joining import die_with_parent
+from flutejoin_notes import Fault
+
+PATH = os.path.join(os.path.dirname(os.path.realpath(__file__)), "flutejoin-receive")
+FIRST_DELAY, LONGEST_DELAY = 1, 60  # seconds until one that ended is begun again
+WELL = 60  # seconds after which one that ran is begun again as at first
+
+
+class Receiver:
+    """Writes what comes into one folder, and what it tells of that into a file."""
+
+    def __init__(
+        self, words: Sequence[str], folder: str, status_path: str, report: files.Report
+    ) -> None:
+        self.words = [sys.executable, PATH, *words, "-o", folder, "--status", status_path]
+        self.status_path, self.report = status_path, report
+        self.child: Optional[subprocess.Popen] = None
+        self.delay, self.started_at, self.start_at = FIRST_DELAY, 0.0, float("-inf")
+        self.is_stopped, self.status = False, 0
+
+    def tend(self) -> None:
+        """Sees whether it runs, and begins it where that is due."""
+        now = time.monotonic()
+        if self.child and self.child.poll() is not None:
+            self.end(now)
+        if not self.child and not self.is_stopped and now >= self.start_at:
+            self.begin(now)
+
+    def begin(self, now: float) -> None:
+        self.started_at = now
+        try:
+            # Its lines are about files that are joined here.
+            self.child = subprocess.Popen(
+                self.words,
+                stdin=subprocess.DEVNULL,
+                stdout=subprocess.DEVNULL,
+                preexec_fn=die_with_parent,
+            )
+        except (OSError, subprocess.SubprocessError) as fault:
+            self.put_off(now, f"the receiver cannot be run: {fault}")
+
+    def end(self, now: float) -> None:
+        self.status, self.child = self.child.returncode, None
+        if self.status == 2:
+            raise Fault(2, "the receiver does not take its settings")
+        if not self.is_stopped:
+            if now >= self.started_at + WELL:
+                self.delay = FIRST_DELAY
+            self.put_off(now, f"the receiver ended with status {self.status}")
+
+    def put_off(self, now: float, told: str) -> None:
+        self.report.warn(f"{told}; it is begun again in {self.delay} seconds")
+        self.start_at = now + self.delay
+        self.delay = min(2 * self.delay, LONGEST_DELAY)
+
+    def stop(self) -> None:
+        """Ends it, and waits until it has written what it received."""
+        self.is_stopped = True
+        if self.child:
+            self.child.terminate()
+            self.child.wait()
+            self.end(time.monotonic())
+
+    def told(self) -> Optional[dict]:
+        """What it told last of what it receives."""
+        try:
+            with open(self.status_path, encoding="utf-8") as file:
+                return json.load(file)
+        except (OSError, ValueError):
+            return None

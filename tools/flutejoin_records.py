@@ -1,0 +1,108 @@
+"""Datagram files as they are read: records, each a datagram behind its length in two bytes."""
+from __future__ import annotations
+
+import struct
+from typing import BinaryIO, Iterator
+
+HEADER = b"FLDG\0\1"
+LENGTH = struct.Struct(">H")
+MOST = 1 << 24  # records of a datagram file, or entries of a journal, that flutejoin reads
+PIECE = 1 << 20  # bytes that are read at once
+
+
+class Fault(Exception):
+    """What is wrong in a file, as flutejoin names it."""
+
+
+class Cut(Exception):
+    """A file ends where bytes are wanted."""
+
+
+def ends(data, place: int = 0) -> Iterator[int]:
+    """Where each record ends whose length stands in these bytes; the last may end behind them."""
+    last = len(data) - LENGTH.size
+    while place <= last:
+        place += LENGTH.size + (data[place] << 8 | data[place + 1])
+        yield place
+
+
+def whole_records(data) -> tuple[int, int]:
+    """Where the last record ends that is whole in these bytes, and how many there are."""
+    whole = records = 0
+    for end in ends(data):
+        if end > len(data):
+            break
+        whole, records = end, records + 1
+    return whole, records
+
+
+def last_whole(file: BinaryIO, size: int, place: int, looked=None) -> tuple[int, int]:
+    """Where the last whole record ends that begins at `place` or behind, and how many there are.
+
+    That is of a file of this size. The places of the pieces that were read, and how many records
+    each has, are added to `looked`.
+    """
+    records, begin = 0, place
+    while place + LENGTH.size <= size:
+        file.seek(place)
+        at, count = place, 0
+        for end in ends(file.read(PIECE)):
+            begin, place, count = place, at + end, count + 1
+        if not count:
+            break  # the file became shorter
+        if looked is not None:
+            looked.append((at, count))
+        records += count
+    return (place, records) if place <= size else (begin, records - 1)
+
+
+class Reader:
+    """Takes the datagrams of a datagram file, or the entries of a journal, one after another.
+
+    It knows how many of them stand whole, and where the last of these ends.
+    """
+
+    magic, versions = HEADER[:4], (1,)
+
+    def __init__(self, file: BinaryIO):
+        self.file, self.place, self.count, self.end, self.version = file, 0, 0, 0, 0
+
+    def take(self, size: int) -> bytes:
+        data = self.file.read(size)
+        self.place += len(data)
+        if len(data) < size:
+            raise Cut
+        return data
+
+    def number(self, size: int) -> int:
+        return int.from_bytes(self.take(size), "big")
+
+    def begin(self) -> None:
+        """Takes the header; the first four bytes are known to be right."""
+        self.take(4)
+        self.version = self.number(2)
+        if self.version not in self.versions:
+            raise Fault("Version")
+        self.end = self.place
+
+
+class Records(Reader):
+    """The datagrams of a datagram file."""
+
+    def __iter__(self) -> Iterator[bytes]:
+        self.begin()
+        rest = b""
+        while piece := self.file.read(PIECE):
+            data, at = rest + piece, 0
+            for end in ends(data):
+                if self.count == MOST:
+                    raise Fault("TooMany")
+                if end > len(data):
+                    break
+                self.count += 1
+                self.end += end - at
+                yield data[at + LENGTH.size : end]
+                at = end
+            rest = data[at:]
+        if rest:
+            raise Fault("TooMany") if self.count == MOST else Cut

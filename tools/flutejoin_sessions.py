@@ -1,0 +1,149 @@
+"""What is received at one port: datagrams of the senders that are kept, and of others."""
+from __future__ import annotations
+
+import collections
+import ipaddress
+import socket
+import time
+from typing import Optional
+
+from flutejoin_batches import Batch
+from flutejoin_found import address_of
+from flutejoin_notes import EachMinute, Fault, note
+from flutejoin_packets import TOI_PLACES, ZEROS, is_like_flute
+from flutejoin_records import LENGTH
+from flutejoin_senders import Sender, Senders
+from flutejoin_sockets import Interface, ask_for_buffer, dropped_by_system, open_socket
+
+LONGEST = 65535  # bytes of a datagram that a record can hold
+MOST_TESTS = 10000  # datagrams of unknown senders that are looked at in a second
+
+UNLIKE = "of senders from whom nothing like FLUTE came"
+UNSEEN = f"of senders that are not kept, beyond {MOST_TESTS:,} in a second"
+TOO_LONG = "more than 65,535 bytes"
+
+
+def packed_for(family: int, address) -> bytes:
+    """An address as a socket of this family names it."""
+    if family == socket.AF_INET6 and address.version == 4:
+        return ipaddress.ip_address(f"::ffff:{address}").packed
+    return address.packed
+
+
+class Session:
+    """One socket, and what came to it."""
+
+    def __init__(self, options, interface: Interface, senders: Senders):
+        self.options, self.senders = options, senders
+        self.udp = self.listen(interface)
+        self.batch = Batch(self.udp)
+        self.only = packed_for(self.udp.family, options.sender) if options.sender else None
+        self.by_key: dict[bytes, Sender] = {}
+        self.datagrams = self.bytes = 0
+        self.seen_at: Optional[float] = None
+        self.others = self.full = self.unlike = self.unseen = self.too_long = 0
+        self.tests = MOST_TESTS
+        self.told = EachMinute()
+
+    def listen(self, interface: Interface) -> socket.socket:
+        """The socket, once the system receives for it."""
+        options = self.options
+        where = options.group or interface.address or "every address"
+        try:
+            udp = open_socket(options, interface)
+        except OSError as error:
+            hint = ""
+            if options.group and not options.interface:
+                hint = " (name the interface by --interface)"
+            raise Fault(3, f"cannot listen at {where} port {options.port}: {error.strerror}{hint}")
+        buffer = ask_for_buffer(udp, options.buffer)
+        named = options.interface and where != interface.address
+        on = f" on {options.interface}" if named else ""
+        of = f" to {options.sender}" if options.sender else ""
+        address = f"{where} port {options.port}{on}"
+        note(f"listening{of} at {address}, with a receive buffer of {buffer} bytes")
+        return udp
+
+    def receive(self, most: int, now: float) -> tuple[int, int]:
+        """Takes what waits, up to a batch. Answers how many came, and how many are kept."""
+        came = kept = size = 0
+        get, put_length = self.by_key.get, LENGTH.pack_into
+        buffer, view = self.batch.buffer, self.batch.view
+        for key, length, (head,), place in self.batch.receive(most):
+            came += 1
+            begin, end = place + 2, place + 2 + length
+            sender = get(key) or self.admit(key, view[begin:end], now)
+            if sender is None:
+                continue
+            # What may be of an FDT Instance has TOI 0.
+            if head[TOI_PLACES[(head[0] & 15) << 8 | head[1]]] in ZEROS:
+                if sender.contradicts(view[begin:end], now):
+                    continue
+            if length > LONGEST:
+                self.too_long += 1
+                continue
+            grown = sender.grown + 2 + length
+            if grown > sender.room:
+                sender.make_room(2 + length)
+                grown = sender.grown + 2 + length
+            put_length(buffer, place, length)
+            sender.waiting += view[place:end]
+            sender.grown = grown
+            sender.records += 1
+            kept += 1
+            size += length
+        if kept:
+            self.datagrams += kept
+            self.bytes += size
+            self.seen_at = time.time()
+        return came, kept
+
+    def admit(self, key: bytes, datagram, now: float) -> Optional[Sender]:
+        """The sender of whom nothing was kept until now; None where it is left out.
+
+        Whoever can send here can make addresses up, any number of them. So this takes as little
+        time as can be, and keeps nothing of who is left out.
+        """
+        if self.only is not None:
+            if key != self.only:
+                self.others += 1
+                return None
+        elif not self.is_welcome(key, datagram, now):
+            return None
+        sender = self.senders.admit(address_of(key), now)
+        sender.keys.append((self.by_key, key))
+        self.by_key[key] = sender
+        return sender
+
+    def is_welcome(self, key: bytes, datagram, now: float) -> bool:
+        self.tests -= 1
+        if self.tests < 0:
+            self.unseen += 1
+        elif not is_like_flute(datagram):
+            self.unlike += 1
+        elif not self.senders.has_room(key, now):
+            self.full += 1
+        else:
+            return True
+        return False
+
+    def dropped(self) -> int:
+        return dropped_by_system(self.udp) or 0
+
+    def left_out(self) -> collections.Counter:
+        """How many were left out of those that came here, by cause."""
+        only, most = self.options.sender, self.senders.most
+        full = f"more than {most} senders (--senders takes more, and --from names the one)"
+        causes = {
+            f"other senders than {only}": self.others,
+            full: self.full,
+            UNLIKE: self.unlike,
+            UNSEEN: self.unseen,
+            TOO_LONG: self.too_long,
+        }
+        return collections.Counter({cause: count for cause, count in causes.items() if count})
+
+    def each_second(self, now: float) -> None:
+        self.tests = MOST_TESTS
+        for cause, count in self.left_out().items():
+            self.told.tell(cause, count, now)

@@ -1,0 +1,229 @@
+"""What the command line and the file of settings of flutejoin-receive ask for."""
+from __future__ import annotations
+
+import argparse
+import ipaddress
+from typing import Any, Optional
+
+from flutejoin_files import MOST_BYTES, CommandLine, shown
+from flutejoin_found import address_of
+
+OF_SESSION = "group", "port", "from", "interface", "folder"
+
+
+def number_within(least: int, most: int):
+    def number(text: str) -> int:
+        if not text.isascii() or not text.isdigit() or not least <= int(text) <= most:
+            raise argparse.ArgumentTypeError(f"{text!r} is not a number from {least} to {most}")
+        return int(text)
+
+    return number
+
+
+def seconds(text: str) -> float:
+    value = float(text)
+    if not 0 <= value <= 1e9:
+        raise argparse.ArgumentTypeError(f"{text!r} is not a number of seconds")
+    return value
+
+
+def plain_address(text: str):
+    if "%" in text:
+        raise argparse.ArgumentTypeError(f"{text}: name the link by --interface")
+    try:
+        return address_of(text)
+    except ValueError:
+        raise argparse.ArgumentTypeError(f"{text!r} is not an address")
+
+
+def name(text: str) -> str:
+    return text
+
+
+def interface_version(text: Optional[str]) -> Optional[int]:
+    """The version of IP of an interface's address; None of a name."""
+    try:
+        return ipaddress.ip_address(text).version if text else None
+    except ValueError:
+        return None
+
+
+class SessionOptions:
+    """What is received at one port, and where it goes."""
+
+    def __init__(self, port: int, group=None, sender=None, interface=None, folder=None):
+        self.port, self.group, self.sender = port, group, sender
+        self.interface: Optional[str] = interface
+        self.folder: Optional[str] = folder
+        self.buffer = DEFAULTS["buffer"]
+
+    def wrong(self) -> Optional[str]:
+        """What of it does not fit together."""
+        group, sender = self.group, self.sender
+        if group and not group.is_multicast:
+            return f"argument --group: {group} is no multicast group"
+        if sender and sender.is_multicast:
+            return f"argument --from: {sender} is a group, and no sender"
+        if group and sender and group.version != sender.version:
+            return "argument --from: the group is of the other version of IP"
+        if group and interface_version(self.interface) not in (None, group.version):
+            return "argument --interface: the group is of the other version of IP"
+        return None
+
+
+# Type, name of the value, and help of what the file of settings may have too
+SETTINGS = {
+    "group": (
+        plain_address,
+        "ADDRESS",
+        "the multicast group to join (default: none; what is sent to this machine is received)",
+    ),
+    "port": (number_within(1, 65535), "N", "the UDP port"),
+    "from": (plain_address, "SENDER", "the one sender whose datagrams are kept"),
+    "interface": (
+        name,
+        "NAME_OR_ADDRESS",
+        "the interface to receive on, by its name or one of its addresses (default: with --group "
+        "as the system chooses, and else all)",
+    ),
+    "folder": (
+        name,
+        "FOLDER",
+        "where the files go (default: the current folder); it is made, in a folder that is there",
+    ),
+    "senders": (
+        number_within(1, 500),
+        "N",
+        "keep the datagrams of N senders at a time (default: 64)",
+    ),
+    "split": (
+        number_within(1, MOST_BYTES),
+        "BYTES",
+        "the most bytes of a file (default and most: 4294967295), but at least one datagram; and "
+        "never more than 16,777,216 datagrams, which flutejoin reads of one file",
+    ),
+    "most": (
+        number_within(1, 1 << 62),
+        "BYTES",
+        "keep so many bytes of datagram files in all: the oldest files are removed (default: all "
+        "are kept); then a file has a quarter of it at most",
+    ),
+    "buffer": (
+        number_within(1, (1 << 30) - 1),
+        "BYTES",
+        "the receive buffer to ask the system for (default: 16777216)",
+    ),
+    "status": (
+        name,
+        "FILE",
+        "write there each 10 seconds what came, as JSON; SIGUSR1 tells the same",
+    ),
+}
+DEFAULTS = {"folder": ".", "senders": 64, "split": MOST_BYTES, "buffer": 1 << 24}
+
+
+def command_line(description: str, epilog: str) -> argparse.Namespace:
+    """The options of a run: `sessions`, and what holds for all of them."""
+    parser = CommandLine("flutejoin-receive", description, epilog)
+    for key, (kind, metavar, text) in SETTINGS.items():
+        word = "-o" if key == "folder" else f"--{key}"
+        action = "append" if key in ("group", "port", "from", "interface") else "store"
+        parser.add_argument(
+            word, dest=key, type=kind, metavar=metavar, help=text, action=action
+        )
+    parser.add_argument(
+        "--count",
+        type=number_within(1, 1 << 62),
+        metavar="N",
+        help="end once N datagrams were kept",
+    )
+    parser.add_argument("--seconds", type=seconds, metavar="S", help="end after S seconds")
+    parser.add_argument(
+        "--config",
+        metavar="FILE",
+        help="take settings from a file of TOML: the options above by their names, and for each "
+        "session a table [[session]] with port, group, from, interface and folder",
+    )
+    options = parser.parse_args()
+    try:
+        complete(options)
+    except ValueError as fault:
+        parser.error(str(fault))
+    return options
+
+
+def complete(options: argparse.Namespace) -> None:
+    """Adds what the file of settings has, and what is asked for by default."""
+    file = read_config(options.config) if options.config is not None else {}
+    file.pop("station", None)  # settings of flutejoin-station
+    tables = file.pop("session", [])
+    if not isinstance(tables, list) or not all(isinstance(table, dict) for table in tables):
+        raise ValueError(f"{shown(options.config)}: session is no [[session]]")
+    given = {key: value_of(options.config, key, file[key]) for key in file}
+    for key in ("folder", "senders", "split", "most", "buffer", "status"):
+        if getattr(options, key) is None:
+            setattr(options, key, given.get(key, DEFAULTS.get(key)))
+    options.sessions = sessions_of(options)
+    for table in tables:
+        fields = {key: value_of(options.config, key, table[key], OF_SESSION) for key in table}
+        if "port" not in fields:
+            raise ValueError(f"{shown(options.config)}: a [[session]] has no port")
+        fields["sender"] = fields.pop("from", None)
+        options.sessions.append(SessionOptions(**fields))
+    if not options.sessions:
+        raise ValueError("the following arguments are required: --port, or --config")
+    if options.most is not None:
+        options.split = min(options.split, max(1, options.most // 4))
+    for session in options.sessions:
+        session.buffer, session.folder = options.buffer, session.folder or options.folder
+        wrong = session.wrong()
+        if wrong:
+            raise ValueError(wrong)
+
+
+def sessions_of(options: argparse.Namespace) -> list[SessionOptions]:
+    """The sessions of the command line.
+
+    What was given several times belongs together in its order, and what was given once to all.
+    """
+    lists = {key: getattr(options, key) or [None] for key in ("port", "group", "from", "interface")}
+    if lists["port"] == [None]:
+        if any(values != [None] for values in lists.values()):
+            raise ValueError("the following arguments are required: --port")
+        return []
+    count = max(map(len, lists.values()))
+    for key, values in lists.items():
+        if len(values) not in (1, count):
+            raise ValueError(f"argument --{key}: is given {len(values)} times, and not {count}")
+    columns = (values if len(values) == count else values * count for values in lists.values())
+    return [
+        SessionOptions(port, group, sender, interface)
+        for port, group, sender, interface in zip(*columns)
+    ]
+
+
+def read_config(path: str) -> dict:
+    try:
+        import tomllib
+    except ImportError:
+        raise ValueError("argument --config: needs Python 3.11 or later") from None
+    try:
+        with open(path, "rb") as file:
+            return tomllib.load(file)
+    except OSError as fault:
+        raise ValueError(f"argument --config: {shown(path)}: {fault.strerror}") from None
+    except ValueError as fault:  # no UTF-8, or no TOML
+        raise ValueError(f"argument --config: {shown(path)}: {fault}") from None
+
+
+def value_of(path: str, key: str, value: Any, keys=tuple(SETTINGS)) -> Any:
+    """A value of the file of settings, as the option of its name takes it."""
+    at = f"argument --config: {shown(path)}: {key}"
+    if key not in keys or keys is not OF_SESSION and key in OF_SESSION[:4]:
+        raise ValueError(f"{at}: there is no such setting there")
+    if not isinstance(value, (str, int)) or isinstance(value, bool):
+        raise ValueError(f"{at}: is no number and no text")
+    try:
+        return SETTINGS[key][0](str(value))
+    except (ValueError, argparse.ArgumentTypeError) as fault:
+        raise ValueError(f"{at}: {fault}") from None

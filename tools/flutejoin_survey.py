@@ -1,0 +1,219 @@
+"""What each of several journals, and all of them together, tell of the objects that are drawn."""
+from __future__ import annotations
+
+import ipaddress
+from typing import Iterator, NamedTuple
+
+import flutejoin_gaps as gaps
+import flutejoin_pictures as pictures
+from flutejoin_files import shown
+from flutejoin_grids import Grid, Overview, partition_words
+from flutejoin_partition import Partition
+
+MOST_PANELS = 520
+MOST_GAPS = 2000000  # of all objects that are drawn, unless it is one: a datagram can make 65,536
+ADDED_AT_ONCE = 16  # objects whose information is added in one run, each by a program of its own
+NOTHING = "nothing of this object"
+
+
+class Waiting(NamedTuple):
+    """A panel that waits for the information of another journal."""
+
+    key: str
+    place: int
+    is_held: bool  # whether the journal has anything of the object
+
+
+class Survey:
+    """The panels of the objects that are drawn.
+
+    The states of all objects are read first. Gaps are read of those that are drawn alone, and go to
+    their grids as they come, so memory does not grow with them.
+    """
+
+    def __init__(self, program: gaps.Program, journals: list[str], wanted: str | None, is_text):
+        self.program, self.journals, self.is_text = program, journals, is_text
+        self.all = program.states(journals, None if wanted is None else {wanted})
+        if wanted is not None and not self.all:
+            raise gaps.Fault(1, "no object")
+        self.count = len(journals) + (len(journals) > 1)
+        self.keys = self.chosen()
+        left = [state for key, state in self.all.items() if key not in self.keys]
+        whole = sum(state.words == gaps.WHOLE for state in left)
+        self.left = pictures.Left(len(left), whole)
+        self.partitions: dict[str, Partition] = {}  # of those that all journals agree about
+        self.panels: dict[str, list[pictures.Panel]] = {key: [] for key in self.keys}
+        for journal, waiting in [(journal, self.look(journal)) for journal in journals]:
+            self.complete(journal, waiting)
+        if len(journals) > 1:
+            self.look_at_all()
+
+    def chosen(self) -> dict[str, None]:
+        """All objects, or of too many as many of those that are not whole as a page takes."""
+        most = max(1, MOST_PANELS // self.count)
+        keys = list(self.all)
+        if len(keys) > most:
+            keys = [key for key in keys if self.all[key].words != gaps.WHOLE][:most]
+        chosen, left = {}, MOST_GAPS
+        for key in keys:
+            if not chosen or self.all[key].gaps <= left:
+                chosen[key] = None
+                left -= self.all[key].gaps
+        return chosen
+
+    def look(self, journal: str) -> list[Waiting]:
+        """Draws what a journal tells by itself.
+
+        Answers what waits for the information of others.
+        """
+        states = self.all
+        if len(self.journals) > 1:
+            states = self.program.states([journal], self.keys)
+        name, waiting = shown(journal), []
+        grids = self.grids([journal], name, states, self.partitions_of(journal, states))
+        for key in self.keys:
+            words = states[key].words if key in states else NOTHING
+            if words in (NOTHING, gaps.NO_INFORMATION):
+                waiting.append(Waiting(key, len(self.panels[key]), key in states))
+            self.panels[key].append(pictures.Panel(name, words, grids.get(key), False))
+        return waiting
+
+    def look_at_all(self) -> None:
+        """Draws all journals joined: the first of the panels, where they do not fit in one line."""
+        name = self.name_of_all()
+        grids = self.grids(self.journals, name, self.all, self.partitions)
+        for key in self.keys:
+            panel = pictures.Panel(name, self.all[key].words, grids.get(key), True)
+            is_last = self.count <= pictures.per_line(self.count)
+            self.panels[key].insert(len(self.panels[key]) if is_last else 0, panel)
+
+    def name_of_all(self) -> str:
+        count = len(self.journals)
+        return f"all {count} joined" if count > 1 else shown(self.journals[0])
+
+    def partitions_of(self, journal: str, states: dict[str, gaps.State]) -> dict[str, Partition]:
+        """The partitions of objects by a journal's information.
+
+        Where all journals agree, one of them alone is asked for it.
+        """
+        own = [key for key in self.keys if key in states and states[key].has_information()]
+        asked = {key for key in own if key not in self.partitions}
+        found = self.program.information(journal, asked) if asked else {}
+        partitions = {key: Partition(*numbers) for key, numbers in found.items()}
+        self.partitions.update(
+            (key, partition)
+            for key, partition in partitions.items()
+            if self.all[key].has_information()
+        )
+        return {key: partitions.get(key) or self.partitions[key] for key in own}
+
+    def grids(
+        self,
+        journals: list[str],
+        name: str,
+        states: dict[str, gaps.State],
+        partitions: dict[str, Partition],
+    ) -> dict[str, Grid]:
+        """The grids of what journals tell together of objects that they have information of."""
+        wanted = [key for key in self.keys if key in states and states[key].has_information()]
+        filling = Filling(self, name, {key: partitions[key] for key in wanted})
+        if any(states[key].words != gaps.WHOLE for key in wanted):
+            self.program.gaps(journals, filling.begin)
+        else:
+            for key in wanted:
+                filling.begin(key, states[key])
+        return {key: filling.grid_of(key) for key in wanted}
+
+    def complete(self, journal: str, waiting: list[Waiting]) -> None:
+        """Draws with the information of other journals what has none of its own."""
+        waiting = [one for one in waiting if one.key in self.partitions]
+        for key, place, is_held in waiting:
+            if not is_held:
+                grid = self.grid(self.partitions[key])
+                grid.miss_all()
+                self.panels[key][place] = pictures.Panel(shown(journal), NOTHING, grid, False)
+        held = [one for one in waiting if one.is_held]
+        for begin in range(0, len(held), ADDED_AT_ONCE):
+            self.add_information(journal, held[begin : begin + ADDED_AT_ONCE])
+
+    def add_information(self, journal: str, waiting: list[Waiting]) -> None:
+        name = shown(journal)
+        partitions = {one.key: self.partitions[one.key] for one in waiting}
+        filling = Filling(self, name, partitions)
+        numbers = [(key, partition.numbers) for key, partition in partitions.items()]
+        self.program.gaps_with(journal, numbers, filling.begin)
+        for key, place, _ in waiting:
+            grid = filling.grid_of(key)
+            words = gaps.WHOLE if grid.counts[0] == grid.partition.symbols else gaps.PARTIAL
+            words += ", with the information of other journals; it has none of its own"
+            self.panels[key][place] = pictures.Panel(name, words, grid, False)
+
+    def grid(self, partition: Partition) -> Grid:
+        return Grid(partition, *self.shape(self.count, len(self.keys)))
+
+    def shape(self, panels: int, objects: int) -> tuple:
+        if self.is_text:
+            return pictures.TEXT_ROWS, lambda rows: pictures.TEXT_COLUMNS
+        return pictures.shape(panels, objects)
+
+    def drawings(self) -> Iterator[pictures.Drawing]:
+        """What is drawn, and before it an overview where that is not all objects."""
+        if self.left.objects:
+            grid = Overview(self.all, *self.shape(1, 1))
+            words = pictures.kinds_words(grid.names) if self.is_text else ""
+            panel = pictures.Panel(self.name_of_all(), "overview", grid, len(self.journals) > 1)
+            yield pictures.Drawing(f"{len(self.all)} objects", words, [panel])
+        for key in self.keys:
+            is_whole = self.all[key].words == gaps.WHOLE
+            yield pictures.Drawing(title_of(key), self.words(key), self.panels[key], is_whole)
+
+    def words(self, key: str) -> str:
+        words = self.all[key].words
+        if words == gaps.NO_INFORMATION:
+            return "no packet told its length, so its blocks are not known; flutejoin info adds it"
+        if words == gaps.CONFLICTING_INFORMATION:
+            return (
+                "two lengths, of the object, its symbols or its blocks, came; "
+                "each journal is drawn with its own"
+            )
+        return partition_words(self.partitions[key])
+
+
+class Filling:
+    """Grids that are filled with the gaps of a journal as it tells them."""
+
+    def __init__(self, survey: Survey, name: str, partitions: dict[str, Partition]):
+        self.survey, self.name, self.partitions = survey, name, partitions
+        self.made: dict[str, Grid] = {}
+
+    def begin(self, key: str, state: gaps.State) -> gaps.Take | None:
+        if len(self.made) == len(self.partitions):
+            raise gaps.Enough
+        if key not in self.partitions:
+            return None
+        if not state.has_information():
+            raise self.changed()
+        grid = self.made[key] = self.survey.grid(self.partitions[key])
+
+        def take(*gap: int) -> None:
+            if not grid.add(*gap):
+                raise self.changed()
+
+        return take
+
+    def grid_of(self, key: str) -> Grid:
+        if key not in self.made:
+            raise self.changed()
+        return self.made[key]
+
+    def changed(self) -> gaps.Fault:
+        return gaps.Fault(3, f"{self.name}: changed while it was read")
+
+
+def title_of(key: str) -> str:
+    """The name of an object, with the sender's address as it is written elsewhere."""
+    words = key.split()
+    if words[0] != "source":
+        return key
+    address = ipaddress.IPv6Address(int(words[1], 16))
+    return f"{key} (sender {address.ipv4_mapped or address})"

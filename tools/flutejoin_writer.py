@@ -1,0 +1,285 @@
+"""The thread that writes what was received, and sees to the folders that it is written to."""
+from __future__ import annotations
+
+import collections
+import errno
+import fcntl
+import os
+import resource
+import threading
+import time
+from typing import Callable, Iterable, NamedTuple, Optional
+
+from flutejoin_found import Name, name_of
+from flutejoin_growing import Begin, Block, Growing
+from flutejoin_notes import Fault, note
+
+MOST_WAITING = 1 << 26  # bytes that wait for the disk in all
+MANY_WAITING = 1 << 23  # from here on the thread that receives makes way
+MAKE_WAY = 0.001  # seconds
+SPARE = 16  # descriptors for what is no file of a sender
+MOST_OPEN = 4096
+
+
+class Entry(NamedTuple):
+    """A sender's file in a folder. The oldest is the least."""
+
+    changed: int
+    path: str
+    size: int
+    name: Name
+    folder: str
+
+
+class Folder:
+    """A folder of datagram files, into which one run alone writes."""
+
+    def __init__(self, path: str):
+        self.path = path
+        self.is_gone = False
+        try:
+            if not os.path.lexists(path):
+                os.mkdir(path)
+            self.lock = os.open(path, os.O_RDONLY | os.O_DIRECTORY | os.O_CLOEXEC)
+        except OSError as error:
+            raise Fault(3, f"cannot use the folder {path}: {error.strerror}")
+        if not os.access(path, os.W_OK | os.X_OK):
+            raise Fault(3, f"cannot use the folder {path}: it cannot be written")
+        self.take_lock()
+
+    def take_lock(self) -> None:
+        """Keeps other runs out: two would write into one another's files.
+
+        Where the file system has no locks they are not told apart.
+        """
+        try:
+            fcntl.flock(self.lock, fcntl.LOCK_EX | fcntl.LOCK_NB)
+        except BlockingIOError:
+            raise Fault(3, f"cannot use the folder {self.path}: another run writes into it")
+        except OSError:
+            pass
+
+    def look(self) -> None:
+        """Makes the folder anew where it was removed or moved."""
+        try:
+            if os.path.samestat(os.stat(self.path), os.fstat(self.lock)):
+                return
+        except OSError:
+            pass
+        try:
+            if not os.path.lexists(self.path):
+                os.mkdir(self.path)
+            lock = os.open(self.path, os.O_RDONLY | os.O_DIRECTORY | os.O_CLOEXEC)
+        except OSError as error:
+            if not self.is_gone:
+                told = f"the folder {self.path} was removed or moved, and cannot be made anew"
+                note(f"{told}: {error.strerror}; it is tried again each second")
+            self.is_gone = True
+            return
+        os.close(self.lock)
+        self.lock, self.is_gone = lock, False
+        note(f"the folder {self.path} was removed or moved; it is made anew")
+        try:
+            self.take_lock()
+        except Fault as fault:
+            note(str(fault))
+
+    def names(self) -> list[str]:
+        try:
+            return os.listdir(self.path)
+        except OSError:
+            return []
+
+    def entries(self) -> list[Entry]:
+        found = []
+        for name in self.names():
+            of = name_of(name)
+            path = os.path.join(self.path, name)
+            try:
+                status = os.lstat(path) if of else None
+            except OSError:
+                continue
+            if status:
+                found.append(Entry(status.st_mtime_ns, path, status.st_size, of, self.path))
+        return found
+
+
+def descriptors() -> int:
+    """How many descriptors this run may have. It asks for as many as it has a use for."""
+    soft, hard = resource.getrlimit(resource.RLIMIT_NOFILE)
+    most = MOST_OPEN if hard == resource.RLIM_INFINITY else min(hard, MOST_OPEN)
+    if soft == resource.RLIM_INFINITY or soft >= most:
+        return most
+    try:
+        resource.setrlimit(resource.RLIMIT_NOFILE, (most, hard))
+    except (OSError, ValueError):
+        return soft
+    return most
+
+
+class Opened:
+    """The files of senders that are open: no more than the system has descriptors for."""
+
+    def __init__(self, reserved: int):
+        self.most = max(1, descriptors() - SPARE - reserved)
+        self.growing: collections.OrderedDict[Growing, None] = collections.OrderedDict()
+        self.is_told = False
+
+    def open(self, path: str, flags: int) -> int:
+        while len(self.growing) >= self.most and self.close_silent():
+            pass
+        while True:
+            try:
+                return os.open(path, flags, 0o666)
+            except OSError as fault:
+                if fault.errno not in (errno.EMFILE, errno.ENFILE) or not self.close_silent():
+                    raise
+
+    def close_silent(self) -> bool:
+        """Closes the file of the sender that was silent longest."""
+        for growing in self.growing:
+            if not self.is_told:
+                told = "the file of the sender that was silent longest is closed for another"
+                note(f"there are too few descriptors (ulimit -n): {told}")
+                self.is_told = True
+            growing.close()
+            return True
+        return False
+
+    def touch(self, growing: Growing) -> None:
+        self.growing[growing] = None
+        self.growing.move_to_end(growing)
+
+    def forget(self, growing: Growing) -> None:
+        self.growing.pop(growing, None)
+
+
+class Writer(threading.Thread):
+    """Writes what it is given. Only its work touches the folders and the files in them."""
+
+    def __init__(self, folders: Iterable[Folder], most: Optional[int], reserved: int):
+        super().__init__(daemon=True)
+        self.folders, self.most = list(folders), most
+        self.opened = Opened(reserved)
+        self.event = threading.Event()
+        self.given, self.taken = 0, 0  # bytes, each counted by one thread alone
+        self.todo: collections.deque[Growing] = collections.deque()
+        self.unfinished: set[Growing] = set()
+        self.reports: collections.deque[Callable[[list[Entry]], None]] = collections.deque()
+        self.unremovable: set[str] = set()
+        self.removed = self.held = 0
+        self.is_ending = False
+        self.fault: Optional[BaseException] = None
+
+    def give(self, growing: Growing, order) -> bool:
+        """Has an order done soon. Answers no where too much waits already."""
+        if isinstance(order, Block):
+            waiting = self.given - self.taken
+            if waiting > MANY_WAITING and growing.fault is None:
+                time.sleep(MAKE_WAY)  # both may have one processor, and this one does not wait
+            if waiting + len(order.data) > MOST_WAITING:
+                return False
+            self.given += len(order.data)
+        growing.orders.append(order)
+        self.todo.append(growing)
+        self.event.set()
+        return True
+
+    def report(self, to: Callable[[list[Entry]], None]) -> None:
+        """Has a report made of what is in the folders."""
+        self.reports.append(to)
+        self.event.set()
+
+    def run(self) -> None:
+        look_at = time.monotonic() + 1
+        try:
+            while not self.is_ending:
+                wait = 0 if self.copying() else max(0, look_at - time.monotonic())
+                self.event.wait(wait)
+                self.event.clear()
+                self.work()
+                if time.monotonic() >= look_at:
+                    look_at = time.monotonic() + 1
+                    self.look()
+                while self.reports:
+                    self.reports.popleft()(self.entries())
+            self.work()
+        except BaseException as fault:  # the run ends with it
+            self.fault = fault
+
+    def entries(self) -> list[Entry]:
+        entries = [entry for folder in self.folders for entry in folder.entries()]
+        self.held = sum(entry.size for entry in entries)
+        return entries
+
+    def work(self) -> None:
+        again = self.copying()
+        while self.todo or again:
+            growing = self.todo.popleft() if self.todo else again.pop()
+            if growing.fault is None:
+                self.work_at(growing)
+
+    def copying(self) -> list[Growing]:
+        return [growing for growing in self.unfinished if growing.copies and not growing.fault]
+
+    def work_at(self, growing: Growing) -> None:
+        before = growing.taken
+        growing.work()
+        self.taken += growing.taken - before
+        self.held += growing.taken - before
+        if growing.has_work():
+            self.unfinished.add(growing)
+        else:
+            self.unfinished.discard(growing)
+
+    def look(self) -> None:
+        """Each second: sees whether all is still there, and tries again what failed."""
+        for folder in self.folders:
+            folder.look()
+        for growing in list(self.opened.growing):
+            growing.look()
+            if growing.copies:
+                self.unfinished.add(growing)
+        for growing in list(self.unfinished):
+            self.work_at(growing)
+        if self.most is not None and self.held > self.most:
+            self.remove_oldest()
+
+    def remove_oldest(self) -> None:
+        """Removes the oldest files while there are more bytes than the run may keep.
+
+        A file that grows is ended before.
+        """
+        growing = {each.path(): each for each in self.opened.growing}
+        for entry in sorted(self.entries()):
+            if self.held <= self.most:
+                return
+            if entry.path in growing:
+                growing[entry.path].begin(Begin.PART)
+            try:
+                os.unlink(entry.path)
+            except OSError as fault:
+                if entry.path not in self.unremovable:
+                    note(f"{entry.path}: cannot be removed: {fault.strerror}")
+                    self.unremovable.add(entry.path)
+                continue
+            self.held -= entry.size
+            self.removed += 1
+            told = f"{entry.path}: its {entry.size} bytes are removed"
+            note(f"{told}, since the datagram files have more than {self.most} in all")
+
+    def end(self) -> None:
+        """Ends the thread, once what waits was tried."""
+        self.is_ending = True
+        self.event.set()
+        self.join()
+
+
+def sizes(entries: Iterable[Entry]) -> dict:
+    """Bytes on disk, by a sender's folder and address."""
+    held: collections.Counter = collections.Counter()
+    for entry in entries:
+        held[entry.folder, entry.name.address] += entry.size
+    return held
+
+
