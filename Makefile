@@ -3,10 +3,10 @@
 #                    trials, the program, the tools, the sessions of README, of docs/OPERATING.md,
 #                    the man pages and the tutorial, the completion, the longest journal, and memory
 #                    refused in turn
-# make wrong-bodies  all wrong bodies: also second ones of a function, which the gate leaves out, and
-#                    those that `rt ci` tries
-# make try           reads a first packet with the program as it stands, in about a minute and with
-#                    nothing proved
+# make wrong-bodies  all wrong bodies: also second ones of a function, which the gate leaves out,
+#                    and those that `rt ci` tries
+# make try           runs a first session, from the datagrams of two stations to the file, with the
+#                    program as it stands and nothing proved, in a minute or two
 # make example       runs a small session: a file sent, received at three stations, joined and
 #                    written
 # make install       copies the program to $(PREFIX)/bin, and the tools of the network and of
@@ -22,8 +22,8 @@
 PREFIX ?= /usr/local
 PROGRAM ?= bin/flutejoin
 # They find their modules beside themselves, so bin has links to them.
-TOOLS := flutejoin-capture flutejoin-map flutejoin-mend flutejoin-receive flutejoin-station \
-	flutejoin-values
+TOOLS := flutejoin-capture flutejoin-files flutejoin-map flutejoin-mend flutejoin-receive \
+	flutejoin-station flutejoin-values
 
 # What `rt ci` leaves: the program, and the sweep through refused requests for memory
 BUILT := crates/flutejoin_cli/out/flutejoin_cli
@@ -34,11 +34,12 @@ LIB = $(DESTDIR)$(PREFIX)/lib/flutejoin
 MAN = $(DESTDIR)$(PREFIX)/share/man/man1
 COMPLETIONS = $(DESTDIR)$(PREFIX)/share/bash-completion/completions
 EXAMPLES = $(DESTDIR)$(PREFIX)/share/flutejoin/examples
-SCRIPTS := $(addprefix examples/,tree_steps.sh stations.py levels.sh push.sh reduce.sh)
+SCRIPTS := $(addprefix examples/,tree_steps.sh stations.py levels.sh push.sh reduce.sh slurm.sh \
+	join_on_dask.py)
 UNITS = $(DESTDIR)$(PREFIX)/lib/systemd/system
 UNIT := flutejoin-station@.service
 
-SOURCES := crates.txt $(shell find crates -name out -prune -o -type f -print)
+SOURCES := crates.txt $(shell find crates -name out -prune -o -name README.md -o -type f -print)
 
 bin/flutejoin: $(SOURCES)
 	@tools/build.sh
@@ -53,12 +54,15 @@ test:
 	tests/capture.sh $(BUILT)
 	tests/capture_cases.py
 	tests/values.sh $(BUILT)
+	tests/files.py $(BUILT)
+	tests/extract_all.py $(BUILT)
 	tests/receive.sh $(BUILT)
 	tests/receiving.py $(BUILT)
 	tests/map.sh $(BUILT)
 	tests/map_cases.py
 	tests/readme.sh $(BUILT)
 	tests/library_pages.sh
+	tests/python.py
 	tests/tree.sh $(BUILT)
 	tests/examples.sh $(BUILT)
 	tests/station.py $(BUILT)
@@ -87,9 +91,7 @@ scale: $(PROGRAM)
 	tests/scale.sh "$(PROGRAM)"
 
 try:
-	@echo "flutejoin: nothing is proved by this:" \
-		"the program is run before any proof, on one packet" >&2
-	@cd crates/flutejoin_cli && rt try -- packet 10A004000000000000000007000000010000000068656C6C
+	@examples/try.sh
 
 example: bin/flutejoin
 	@examples/session.sh bin/flutejoin
@@ -105,7 +107,8 @@ install: $(PROGRAM)
 	done
 	install -m 644 man/*.1 "$(MAN)"
 	install -m 644 completions/flutejoin.bash "$(COMPLETIONS)/flutejoin"
-	install -m 644 examples/captures.py examples/tree.mk examples/datagram_files.py "$(EXAMPLES)"
+	install -m 644 examples/captures.py examples/fdt.py examples/tree.mk examples/datagram_files.py \
+		"$(EXAMPLES)"
 	install -m 644 packaging/example.toml "$(EXAMPLES)"
 	install -m 755 $(SCRIPTS) "$(EXAMPLES)"
 	sed 's|/usr/bin/|$(PREFIX)/bin/|' "packaging/$(UNIT)" > "$(UNITS)/$(UNIT)"

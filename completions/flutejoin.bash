@@ -21,13 +21,21 @@ _flutejoin_words() {
 _flutejoin_options() {
     case $1 in
         packet | show | gaps) echo '--help' ;;
-        extract) echo '-o --force --source --tsi --toi --fdt --help' ;;
-        info) echo '-o --force --source --tsi --toi --fdt --length --symbol --block --help' ;;
+        extract) echo '-o --all --force --source --tsi --toi --fdt --help' ;;
+        info)
+            echo '-o --force --list --source --tsi --toi --fdt --length --symbol --block --help'
+            ;;
         join) echo '-o --force --source --tsi --help' ;;
         merge) echo '-o --force --help' ;;
+        forget)
+            echo '-o --force --conflicts --source --tsi --toi --fdt --symbol --info --help'
+            ;;
         carousel) echo '-o --force --tsi --toi --fdt --symbol --block --help' ;;
         flutejoin) echo '--help --version' ;;
         flutejoin-capture) echo '--port --group -o --split --any-checksum --help' ;;
+        flutejoin-files)
+            echo '--list -o --source --tsi --fdt --most --resolve --from --flutejoin --help'
+            ;;
         flutejoin-receive)
             echo '--group --port --from --interface -o --senders --split --most --buffer' \
                 '--status --count --seconds --config --help'
@@ -49,7 +57,7 @@ _flutejoin_interfaces() {
 
 _flutejoin() {
     local word=${COMP_WORDS[COMP_CWORD]} before=${COMP_WORDS[COMP_CWORD - 1]} tool=${1##*/} command
-    local commands='packet show gaps extract info join merge carousel help'
+    local commands='packet show gaps extract info join merge forget carousel help'
     COMPREPLY=()
     command=$tool
     if [ "$tool" = flutejoin ] && [ "$COMP_CWORD" -gt 1 ]; then
@@ -58,16 +66,25 @@ _flutejoin() {
     case $before in
         -o)
             case $tool in
-                flutejoin-capture | flutejoin-receive | flutejoin-station)
+                flutejoin-capture | flutejoin-files | flutejoin-receive | flutejoin-station)
                     _flutejoin_folders "$word"
                     ;;
                 *) _flutejoin_files "$word" ;;
             esac
             return ;;
         --flutejoin | --config | --status) _flutejoin_files "$word"; return ;;
+        --list)
+            # Of flutejoin-files it has no value.
+            if [ "$tool" = flutejoin ]; then
+                _flutejoin_files "$word"
+                return
+            fi ;;
+        --fdt | --from)
+            [ "$tool" != flutejoin-files ] || _flutejoin_files "$word"
+            return ;;
         --interface) _flutejoin_words "$word" "$(_flutejoin_interfaces)"; return ;;
-        --source | --tsi | --toi | --fdt | --length | --symbol | --block | --without) return ;;
-        --port | --group | --from | --count | --seconds | --senders | --split | --most | --buffer)
+        --source | --tsi | --toi | --length | --symbol | --block | --without) return ;;
+        --port | --group | --count | --seconds | --senders | --split | --most | --buffer)
             return ;;
         --every | --window | --keep-raw | --nightly) return ;;
     esac
@@ -88,11 +105,11 @@ _flutejoin() {
         packet | flutejoin-receive | flutejoin-station)
             _flutejoin_words "$word" "$(_flutejoin_options "$command")"
             ;;
-        show | gaps | extract | info | join | merge | carousel | flutejoin-*)
+        show | gaps | extract | info | join | merge | forget | carousel | flutejoin-*)
             _flutejoin_files "$word"
             ;;
     esac
 }
 
-complete -F _flutejoin flutejoin flutejoin-capture flutejoin-map flutejoin-mend flutejoin-receive \
-    flutejoin-station flutejoin-values
+complete -F _flutejoin flutejoin flutejoin-capture flutejoin-files flutejoin-map flutejoin-mend \
+    flutejoin-receive flutejoin-station flutejoin-values

@@ -5,15 +5,18 @@ Each OUT is that of one station, of the datagram file SENT. The sender is 10.0.0
 239.1.1.1, the port 4001. Each station loses about PERCENT of the datagrams, and other ones. Which
 they are depends on a station's place among the OUTs alone, so the example is the same each time.
 """
+from __future__ import annotations
+
 import random
 import struct
 import sys
+from typing import Iterator
 
 SENDER, GROUP, PORT = bytes([10, 0, 0, 1]), bytes([239, 1, 1, 1]), 4001
 MULTICAST = bytes.fromhex("01005e010101" "020000000001" "0800")
 
 
-def checksum(data):
+def checksum(data: bytes) -> int:
     """The Internet checksum (RFC 1071)."""
     words = struct.unpack(f">{(len(data) + 1) // 2}H", data + b"\0" * (len(data) % 2))
     total = sum(words)
@@ -22,7 +25,7 @@ def checksum(data):
     return ~total & 0xFFFF
 
 
-def frame(payload):
+def frame(payload: bytes) -> bytes:
     """The Ethernet frame of a UDP datagram over IPv4."""
     udp = struct.pack(">HHHH", PORT, PORT, 8 + len(payload), 0) + payload
     pseudo = SENDER + GROUP + struct.pack(">HH", 17, len(udp))
@@ -31,7 +34,7 @@ def frame(payload):
     return MULTICAST + head[:10] + struct.pack(">H", checksum(head)) + head[12:] + udp
 
 
-def payloads(name):
+def payloads(name: str) -> Iterator[bytes]:
     """The datagrams of a datagram file: each is its length in two bytes, and its bytes."""
     with open(name, "rb") as file:
         data = file.read()
@@ -42,7 +45,7 @@ def payloads(name):
         place += 2 + length
 
 
-def main():
+def main() -> None:
     if len(sys.argv) < 4:
         print("usage: captures.py SENT PERCENT OUT..", file=sys.stderr)
         sys.exit(2)

@@ -5,10 +5,10 @@
 # are joined to one of the next level, so what is kept is written again once for each level, and not
 # with each input. WORDs go to the join of INPUT, as --source 0a000001 of a datagram file.
 #
-#   flutejoin join -o - STORE/*/* | flutejoin gaps -      asks all that was added
+#   flutejoin join -o - STORE/*/*[0-9] | flutejoin gaps -      asks all that was added
 #
-# A kill between a join and the removal of what was joined leaves some journals twice, which changes
-# no answer; the next run goes on. Two runs in one STORE at a time are kept apart by flock.
+# A kill may leave journals twice, which changes no answer, and a file .partial, which the next run
+# removes: give it the same INPUT again. Two runs in one STORE wait for one another (flock).
 set -eu
 program=${FLUTEJOIN:-flutejoin}
 store=$1 input=$2
@@ -17,10 +17,10 @@ level=0
 mkdir -p "$store/0"
 exec 9< "$store"
 flock 9
+rm -f "$store"/*/*.partial
 name=$(date +%s%N)
 "$program" join "$@" -o "$store/0/$name" "$input" > /dev/null
 while
-    rm -f "$store/$level"/*.partial
     set -- "$store/$level"/*
     [ $# -ge 8 ]
 do

@@ -4,6 +4,8 @@
 OUT has those of IN but for about PERCENT of them. Which records are lost depends on SEED alone, so
 the example is the same each time.
 """
+from __future__ import annotations
+
 import random
 import sys
 
@@ -11,7 +13,7 @@ sys.dont_write_bytecode = True
 import datagram_files
 
 
-def main():
+def main() -> None:
     source, target, percent, seed = sys.argv[1], sys.argv[2], float(sys.argv[3]), int(sys.argv[4])
     draw = random.Random(seed)
     sent = datagram_files.read(source)

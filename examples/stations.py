@@ -5,6 +5,8 @@ Each is the datagram file SENT without about PERCENT of its records. They are s0
 from sFIRST on). Which records each loses depends on its number alone, so they are the same each
 time.
 """
+from __future__ import annotations
+
 import os
 import random
 import sys
@@ -13,7 +15,7 @@ sys.dont_write_bytecode = True
 import datagram_files
 
 
-def main():
+def main() -> None:
     if len(sys.argv) not in (5, 6):
         sys.exit(__doc__)
     source, folder, count, percent = sys.argv[1], sys.argv[2], int(sys.argv[3]), float(sys.argv[4])

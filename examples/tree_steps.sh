@@ -169,8 +169,8 @@ plan() {
     replace "$work" "$5"
 }
 
-# groups WORK FANIN: a group for each name, of one sender. A name stays where it is; a new one fills a
-# place that is free.
+# groups WORK FANIN: a group for each name, of one sender. A name stays where it is; a new one fills
+# a place that is free.
 groups() {
     awk -v fanin="$2" -v kept="$1/kept" '
         {

@@ -13,38 +13,8 @@ mkdir "$work/bin"
 ln -s "$(readlink -f "$1")" "$work/bin/flutejoin"
 PATH=$work/bin:$PATH
 cd "$work" || exit 1
-passed=0
-failed=0
-
-# told NAME TEXT: a check failed
-told() {
-    failed=$((failed + 1))
-    echo "capture: $1: $2"
-}
-
-# check NAME STATUS OUT ERR: what the last run left must be this ("-": anything)
-check() {
-    if { [ "$2" = - ] || [ "$status" = "$2" ]; } &&
-        { [ "$3" = - ] || [ "$(cat out)" = "$3" ]; } &&
-        { [ "$4" = - ] || [ "$(cat err)" = "$4" ]; }; then
-        passed=$((passed + 1))
-    else
-        printed=$(head -c 600 out)
-        told "$1" "status $status, standard output '$printed', standard error '$(head -c 400 err)'"
-    fi
-}
-
-# same NAME FILE FILE: two files have the same bytes
-same() {
-    if cmp -s "$2" "$3"; then passed=$((passed + 1)); else told "$1" "$2 is not $3"; fi
-}
-
-# holds NAME TEST..: a test of the shell holds
-holds() {
-    claim=$1
-    shift
-    if "$@"; then passed=$((passed + 1)); else told "$claim" "not so: $*"; fi
-}
+suite=capture
+. "$here/harness.sh"
 
 capture() {
     "$python" "$here/../tools/flutejoin-capture" "$@" > out 2> err
@@ -392,7 +362,7 @@ $join6 -o there/2001-db8--1.journal there/2001-db8--1.fldg" \
 same 'the file that was there' there/10.0.0.1.fldg printed/10.0.0.1.fldg
 mkdir left && printf before > left/10.0.0.1.fldg.partial
 capture --port 4001 -o left made/ethernet
-hint='flutejoin-mend makes a whole file of what a killed run left'
+hint='rename what a killed run left, or flutejoin-mend it if it is cut'
 check 'what a killed run left' 3 - \
     "flutejoin-capture: left/10.0.0.1.fldg.partial: $occupied; $hint"
 holds 'it stays' [ "$(cat left/10.0.0.1.fldg.partial)" = before ]
@@ -597,6 +567,20 @@ mend -o mended cut.fldg
 check 'mend of a datagram file' 0 'mended: 2 datagrams; 918 bytes behind them were left' ''
 flutejoin join -o journal mended > told
 holds 'what it holds' [ "$(head -n 1 told)" = 'datagrams 2' ]
+mend -o - cut.fldg
+check 'mend to standard output' 0 - '2 datagrams; 918 bytes behind them were left'
+same 'what is written to standard output' out mended
+holds 'no file has the name -' [ ! -e ./- ]
+mend -o - got1
+check 'a whole file to standard output' 0 '' \
+    'got1 is whole: 23 datagrams; nothing is written, use it as it is'
+"$python" "$here/../tools/flutejoin-mend" -o - cut.fldg > /dev/full 2> err
+status=$?
+: > out
+check 'standard output that is full' 3 '' 'flutejoin-mend: standard output: No space left on device'
+"$python" "$here/../tools/flutejoin-mend" -o - cut.fldg >&- 2> err
+status=$?
+check 'standard output that is closed' 3 '' 'flutejoin-mend: standard output: Bad file descriptor'
 mend -o mended cut.fldg
 check 'an output that is there' 3 '' \
     'flutejoin-mend: mended: is there already, and is left as it is'
@@ -613,9 +597,11 @@ check 'mend of a journal' 0 'all: 3 entries; 856 bytes behind them were left' ''
 flutejoin merge -o merged all journal > told
 same 'the mended journal is part of the whole' merged journal
 mend -o whole got1
-check 'a datagram file that is whole' 0 'got1 is whole: 23 datagrams; nothing is written' ''
+check 'a datagram file that is whole' 0 \
+    'got1 is whole: 23 datagrams; nothing is written, use it as it is' ''
 mend -o whole journal
-check 'a journal that is whole' 0 'journal is whole: 24 entries; nothing is written' ''
+check 'a journal that is whole' 0 \
+    'journal is whole: 24 entries; nothing is written, use it as it is' ''
 mend -o whole file1
 check 'another file' 1 '' 'flutejoin-mend: file1: is neither a datagram file nor a journal'
 mend -o whole empty
@@ -692,5 +678,4 @@ for number in $(seq 0 89); do
 done
 passed=$((passed + 1))
 
-echo "capture: $passed passed, $failed failed"
-[ $failed = 0 ]
+finished

@@ -57,7 +57,7 @@ def pcap(frames: list[bytes], times: list[int] | None = None, magic: int = 0xA1B
 
 
 class Cases(unittest.TestCase):
-    def setUp(self):
+    def setUp(self) -> None:
         folder = tempfile.TemporaryDirectory()
         self.addCleanup(folder.cleanup)
         self.folder = folder.name
@@ -91,14 +91,14 @@ class Segments(Cases):
 
     told = "left out 1: " + flutejoin_datagrams.SEVERAL
 
-    def test_those_that_tell_their_length_are_taken_apart(self):
+    def test_those_that_tell_their_length_are_taken_apart(self) -> None:
         sent = [packet(bytes([n]) * 1000, 1000) for n in range(20)] + [packet(b"x" * 300, 1000)]
         data = pcap([frame(b"".join(sent), checksum=False)])
         self.assertEqual(self.taken(data, "--any-checksum"), sent)
         told = self.listed(data, "--any-checksum")[0]
         self.assertTrue(told.endswith(": 21 datagrams, 21 like FLUTE"), told)
 
-    def test_what_may_be_several_is_left_out_and_told(self):
+    def test_what_may_be_several_is_left_out_and_told(self) -> None:
         session = packet(b"a" * 600, 1000) + packet(b"b" * 600, 1000, tsi=8)
         for payload in (
             b"".join(packet(b"y" * 1000) for _ in range(20)),  # nothing tells their length
@@ -113,7 +113,7 @@ class Segments(Cases):
             for name in os.listdir(self.path("out")):
                 os.remove(self.path("out/" + name))
 
-    def test_what_is_one_is_taken(self):
+    def test_what_is_one_is_taken(self) -> None:
         zeros = packet(b"\0" * 1400, tsi=0)
         repeats = packet(b"\0\0\0\7" * 250, 1000)
         jumbo, words = packet(b"y" * 8000, 8000), b"words" * 900
@@ -122,11 +122,11 @@ class Segments(Cases):
             self.assertEqual(self.taken(data, "--any-checksum"), [payload])
             os.remove(self.path("out/10.0.0.1.fldg"))
 
-    def test_a_right_checksum_shows_that_it_is_one(self):
+    def test_a_right_checksum_shows_that_it_is_one(self) -> None:
         payload = b"".join(packet(b"y" * 1000) for _ in range(8))
         self.assertEqual(self.taken(pcap([frame(payload)]), "--any-checksum"), [payload])
 
-    def test_a_datagram_of_fragments_is_one(self):
+    def test_a_datagram_of_fragments_is_one(self) -> None:
         payload = packet(b"y" * 5000)
         data = captures.udp(SENDER, GROUP, payload)[:6] + b"\x12\x34"
         data += captures.udp(SENDER, GROUP, payload)[8:]
@@ -141,7 +141,7 @@ class Fragments(Cases):
         data = captures.udp(SENDER, GROUP, payload)
         return [ETHERNET + IP + of for of in captures.fragments(SENDER, GROUP, data, 9, size)]
 
-    def test_too_many_are_told(self):
+    def test_too_many_are_told(self) -> None:
         payload = packet(b"s" * (257 * 8 - 28))
         frames = self.pieces(8, payload)
         self.assertEqual(len(frames), 257)
@@ -149,7 +149,7 @@ class Fragments(Cases):
         payload = packet(b"s" * (256 * 8 - 28))
         self.assertEqual(self.taken(pcap(self.pieces(8, payload))), [payload])
 
-    def test_they_have_thirty_seconds(self):
+    def test_they_have_thirty_seconds(self) -> None:
         frames = self.pieces()
         self.assertEqual(len(frames), 3)
         for late, is_taken in ((30, True), (31, False), (86400, False), (-31, False)):
@@ -161,12 +161,12 @@ class Fragments(Cases):
             for name in os.listdir(self.path("out")) if is_taken else ():
                 os.remove(self.path("out/" + name))
 
-    def test_an_identification_that_is_used_again_later(self):
+    def test_an_identification_that_is_used_again_later(self) -> None:
         frames = self.pieces()
         data = pcap(frames[:2] + frames, [100, 100, 200, 200, 200])
         self.assertEqual(self.taken(data), [packet(b"s" * 1000, 1000)])
 
-    def test_units_of_pcapng(self):
+    def test_units_of_pcapng(self) -> None:
         frames = self.pieces()
         for resolution, units in ((None, 10**6), (9, 10**9), (0x80 | 20, 1 << 20), (0, 1)):
             for late, count in ((30, 1), (31, 0)):
@@ -181,7 +181,7 @@ class Fragments(Cases):
                 for name in os.listdir(self.path("out")) if taken else ():
                     os.remove(self.path("out/" + name))
 
-    def test_those_of_two_vlans_are_of_two_datagrams(self):
+    def test_those_of_two_vlans_are_of_two_datagrams(self) -> None:
         frames = self.pieces()
         tagged = [of[:12] + b"\x81\0\0\7" + of[12:] for of in frames]
         self.assertEqual(self.taken(pcap(tagged)), [packet(b"s" * 1000, 1000)])
@@ -190,7 +190,7 @@ class Fragments(Cases):
         for mixed in (frames[:2] + tagged[2:], others[:1] + tagged[1:]):
             self.assertEqual(self.taken(pcap(mixed)), [])
 
-    def test_headers_before_a_datagram_are_copied_once(self):
+    def test_headers_before_a_datagram_are_copied_once(self) -> None:
         class Counted(bytes):
             copied = 0
 
@@ -224,7 +224,7 @@ class Epochs(Cases):
         names = sorted(os.listdir(folder))
         return {name: list(datagram_files.read(os.path.join(folder, name))) for name in names}
 
-    def test_each_epoch_has_files(self):
+    def test_each_epoch_has_files(self) -> None:
         old = [instance(b"old"), packet(b"one", 5), instance(b"old"), instance(b"more", 2)]
         new = [instance(b"new"), packet(b"two", 5), instance(b"new"), instance(b"more", 2)]
         newest = [instance(b"newest"), packet(b"three", 5)]
@@ -243,7 +243,7 @@ class Epochs(Cases):
         ]
         self.assertEqual(joins, lines)
 
-    def test_the_parts_of_epochs(self):
+    def test_the_parts_of_epochs(self) -> None:
         sent = [instance(b"old"), packet(b"1", 5), packet(b"2", 5), instance(b"new")]
         sent.append(packet(b"3", 5))
         found = self.files([frame(of) for of in sent], None, "--split", "60")
@@ -257,11 +257,11 @@ class Epochs(Cases):
         self.assertEqual(found, wanted)
         self.assertEqual(self.ran.stdout.count("flutejoin join"), 2)
 
-    def test_other_lengths_are_another_epoch(self):
+    def test_other_lengths_are_another_epoch(self) -> None:
         sent = [instance(b"same"), instance(b"same", length=41)]
         self.assertEqual(len(self.files([frame(of) for of in sent])), 2)
 
-    def test_what_is_no_contradiction(self):
+    def test_what_is_no_contradiction(self) -> None:
         sent = [
             instance(b"1"),
             instance(b"2", 2),  # another Instance
@@ -274,7 +274,7 @@ class Epochs(Cases):
         self.assertEqual(self.files([frame(of) for of in sent]), {"10.0.0.1.fldg": sent})
         self.assertEqual(self.ran.stderr, "")
 
-    def test_two_senders_of_one_address_make_few_epochs(self):
+    def test_two_senders_of_one_address_make_few_epochs(self) -> None:
         sent = [instance(b"new" if n % 2 else b"old") for n in range(1000)]
         found = self.files([frame(of) for of in sent])
         self.assertEqual(len(found), 5)
@@ -299,7 +299,7 @@ def instance(content: bytes, number: int = 1, tsi: int = 7, length: int = 40) ->
 class Forms(Cases):
     one = packet(b"hello", 5)
 
-    def test_interfaces_have_a_bound(self):
+    def test_interfaces_have_a_bound(self) -> None:
         interface = captures.block("<", 1, struct.pack("<HHI", 1, 0, 0))
         section = pcapng_head()[:28]
         of = frame(self.one)
@@ -314,11 +314,11 @@ class Forms(Cases):
         # Each section has its own.
         self.assertEqual(len(self.listed(most + most)), 1)
 
-    def test_modified_pcap(self):
+    def test_modified_pcap(self) -> None:
         data = pcap([frame(self.one), frame(packet(b"again", 5))], magic=0xA1B2CD34)
         self.assertEqual(self.taken(data), [self.one, packet(b"again", 5)])
 
-    def test_snap(self):
+    def test_snap(self) -> None:
         for oui in ("000000", "0000f8"):
             snap = b"\xaa\xaa\3" + bytes.fromhex(oui)
             of = frame(self.one)
@@ -330,7 +330,7 @@ class Forms(Cases):
             self.assertEqual(self.taken(pcap([tagged])), [self.one], oui)
             os.remove(self.path("out/10.0.0.1.fldg"))
 
-    def test_frames_that_are_not_known_are_counted(self):
+    def test_frames_that_are_not_known_are_counted(self) -> None:
         of = frame(self.one)
         kinds = "88e5", "88e5", "0806", "05ff"
         other = [of[:12] + bytes.fromhex(kind) + of[14:] for kind in kinds]
@@ -349,7 +349,7 @@ class Forms(Cases):
         )
         self.assertEqual(self.taken(pcap([ETHERNET + b"\x81\0\0\7" * 16 + of[12:]])), [self.one])
 
-    def test_causes_have_a_bound(self):
+    def test_causes_have_a_bound(self) -> None:
         of = frame(self.one)
         kinds = [of[:12] + struct.pack(">H", 0xA000 + n % 1000) + of[14:] for n in range(2000)]
         told = self.listed(pcap(kinds))
@@ -360,11 +360,11 @@ class Forms(Cases):
 class Gzip(Cases):
     sent = [packet(bytes([n]) * 100, 100) for n in range(50)]
 
-    def setUp(self):
+    def setUp(self) -> None:
         super().setUp()
         self.data = pcap([frame(of) for of in self.sent])
 
-    def test_a_wrong_check_takes_no_packet_away(self):
+    def test_a_wrong_check_takes_no_packet_away(self) -> None:
         made = bytearray(gzip.compress(self.data))
         made[-8] ^= 1
         told = self.listed(bytes(made))
@@ -372,7 +372,7 @@ class Gzip(Cases):
         self.assertIn("is damaged (gzip: ", told[1])
         self.assertEqual(self.taken(bytes(made)), self.sent)
 
-    def test_what_stands_before_damage_is_taken(self):
+    def test_what_stands_before_damage_is_taken(self) -> None:
         for at in range(1000, len(self.data), 1997):
             # A block of a kind that is none, behind stored bytes
             data = gzip_stored(self.data[:at]) + b"\xff" * 50
@@ -381,7 +381,7 @@ class Gzip(Cases):
             for name in os.listdir(self.path("out")) if count else ():
                 os.remove(self.path("out/" + name))
 
-    def test_what_follows_a_member(self):
+    def test_what_follows_a_member(self) -> None:
         made = gzip.compress(self.data)
         ignored = "what gzip compressed is whole, and other bytes behind it are ignored"
         warning = [f"flutejoin-capture: capture: {ignored}"]
@@ -426,7 +426,7 @@ class Runs(Cases):
             time.sleep(0.1)
         self.fail("waited for 20 seconds")
 
-    def test_a_pipe_that_nobody_writes_can_be_left(self):
+    def test_a_pipe_that_nobody_writes_can_be_left(self) -> None:
         pipe = self.path("pipe")
         os.mkfifo(pipe)
         for number in (signal.SIGINT, signal.SIGTERM):
@@ -437,7 +437,7 @@ class Runs(Cases):
             self.assertEqual((process.returncode, out), (1, ""))
             self.assertEqual(err, "flutejoin-capture: no UDP datagrams\n")
 
-    def test_a_pipe_whose_writer_comes_later(self):
+    def test_a_pipe_whose_writer_comes_later(self) -> None:
         pipe = self.path("pipe")
         os.mkfifo(pipe)
         process = self.begun(pipe)
@@ -448,13 +448,13 @@ class Runs(Cases):
         self.assertIn(": 1 datagrams, 1 like FLUTE", out)
         self.assertEqual((process.returncode, err), (0, ""))
 
-    def test_mend_waits_for_no_pipe(self):
+    def test_mend_waits_for_no_pipe(self) -> None:
         pipe = self.path("pipe")
         os.mkfifo(pipe)
         ran = self.run_tool("-o", self.path("out"), pipe, tool="mend")
         self.assertEqual(ran.stderr, f"flutejoin-mend: {pipe}: is no regular file\n")
 
-    def test_a_slow_sender_is_written_beside_a_fast_one(self):
+    def test_a_slow_sender_is_written_beside_a_fast_one(self) -> None:
         udp = captures.udp(b"\x0a\0\0\2", GROUP, packet(b"slow", 4))
         slow = ETHERNET + IP + captures.ip4(b"\x0a\0\0\2", GROUP, 17, udp)
         head, fast = pcap([])[:24], frame(packet(b"f" * 40, 40))
@@ -473,14 +473,14 @@ class Runs(Cases):
         mended = self.run_tool("-o", self.path("mended"), path, tool="mend")
         self.assertIn("is whole: 1 datagrams", mended.stdout)
 
-    def test_what_a_killed_run_left_names_the_way_out(self):
+    def test_what_a_killed_run_left_names_the_way_out(self) -> None:
         os.mkdir(self.path("left"))
         partial = self.made(b"", "left/10.0.0.1.fldg.partial")
         made = self.made(pcap([frame(packet(b"hello", 5))]))
         ran = self.run_tool("--port", "4001", "-o", self.path("left"), made)
         self.assertEqual(ran.returncode, 3)
         there = "is there already, and is left as it is; no other file is written for its sender"
-        hint = "flutejoin-mend makes a whole file of what a killed run left"
+        hint = "rename what a killed run left, or flutejoin-mend it if it is cut"
         self.assertEqual(ran.stderr, f"flutejoin-capture: {partial}: {there}; {hint}\n")
 
 
@@ -508,7 +508,7 @@ def opened_by(process: int) -> list[str]:
 class Names(Cases):
     odd = "a\x1b[31m'b\\c %d\n\u202e\udcff"
 
-    def test_what_a_terminal_obeys_is_never_printed(self):
+    def test_what_a_terminal_obeys_is_never_printed(self) -> None:
         self.assertEqual(flutejoin_files.shown(self.odd), "a?[31m'b\\c %d???")
         for tool, words in (
             ("capture", (self.path(self.odd),)),
@@ -521,7 +521,7 @@ class Names(Cases):
             self.assertIn("a?[31m'b", ran.stderr)
             self.assertIsNone(re.search(r"[^ -~\n]", ran.stdout + ran.stderr), (tool, words))
 
-    def test_lines_to_run_are_printed_and_run(self):
+    def test_lines_to_run_are_printed_and_run(self) -> None:
         folder = self.path(self.odd)
         made = self.made(pcap([frame(packet(b"hello", 5))]))
         ran = self.run_tool("--port", "4001", "-o", folder, made)

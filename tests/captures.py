@@ -19,6 +19,8 @@
       runs a tool with the words of each line of a list, and tells its status and standard error, a
       line for each run
 """
+from __future__ import annotations
+
 import argparse
 import gzip
 import ipaddress
@@ -29,6 +31,7 @@ import runpy
 import shlex
 import struct
 import sys
+from typing import Iterator, Optional, Tuple
 
 sys.dont_write_bytecode = True
 sys.path.append(os.path.join(os.path.dirname(os.path.realpath(__file__)), "../examples"))
@@ -73,10 +76,11 @@ LINKS = {  # the link type, and what stands before an IP packet of version 4 and
     "loop": (108, b"\0\0\0\2", b"\0\0\0\x18"),
     "wifi": (105, b"\0" * 32, b"\0" * 32),
 }
+Frame = Tuple[int, bytes, int]  # its link type, its bytes and its length
 SPOILT = (3, 8, 13)  # the datagrams of each sender that an option spoils
 
 
-def ones(data):
+def ones(data: bytes) -> int:
     """The Internet checksum (RFC 1071)."""
     words = struct.unpack(f">{len(data) // 2 + len(data) % 2}H", data + b"\0" * (len(data) % 2))
     total = sum(words)
@@ -85,29 +89,37 @@ def ones(data):
     return ~total & 0xFFFF
 
 
-def ip4(source, target, protocol, data, number=0, place=0, options=b""):
+def ip4(
+    source: bytes,
+    target: bytes,
+    protocol: int,
+    data: bytes,
+    number: int = 0,
+    place: int = 0,
+    options: bytes = b"",
+) -> bytes:
     first, length = 0x45 + len(options) // 4, 20 + len(options) + len(data)
     fields = first, 0, length, number, place, 16, protocol, 0, source, target
     head = struct.pack(">BBHHHBBH4s4s", *fields) + options
     return head[:10] + struct.pack(">H", ones(head)) + head[12:] + data
 
 
-def ip6(source, target, kind, data):
+def ip6(source: bytes, target: bytes, kind: int, data: bytes) -> bytes:
     return struct.pack(">IHBB16s16s", 6 << 28, len(data), kind, 16, source, target) + data
 
 
-def ip(source, target, protocol, data):
+def ip(source: bytes, target: bytes, protocol: int, data: bytes) -> bytes:
     packet = ip4 if len(source) == 4 else ip6
     return packet(source, target, protocol, data)
 
 
-def udp(source, target, payload, port=PORT):
+def udp(source: bytes, target: bytes, payload: bytes, port: int = PORT) -> bytes:
     data = struct.pack(">HHHH", 40000, port, 8 + len(payload), 0) + payload
     pseudo = source + target + struct.pack(">II", len(data), 17)
     return data[:6] + struct.pack(">H", ones(pseudo + data) or 0xFFFF) + data[8:]
 
 
-def fragments(source, target, data, number, size):
+def fragments(source: bytes, target: bytes, data: bytes, number: int, size: int) -> list[bytes]:
     """The IP packets of a UDP datagram that is cut into pieces of `size` bytes."""
     made = []
     for at in range(0, len(data), size):
@@ -124,11 +136,13 @@ def fragments(source, target, data, number, size):
 class Capture:
     """A capture that is made: IP packets in their order, as one of them is told by `options`."""
 
-    def __init__(self, options):
-        self.options, self.draw = options, random.Random(22)
-        self.packets, self.kept, self.number, self.last = [], {}, 0, None
+    def __init__(self, options: argparse.Namespace) -> None:
+        self.options, self.draw, self.number = options, random.Random(22), 0
+        self.packets: list[bytes] = []
+        self.kept: dict[str, list[bytes]] = {}
+        self.last: Optional[str] = None
 
-    def send(self, sender, payload, count):
+    def send(self, sender: str, payload: bytes, count: int) -> None:
         """A datagram of a sender, its `count`th.
 
         It is whole and right unless it is one of those that an option spoils.
@@ -157,7 +171,7 @@ class Capture:
         if self.options.icmp and count % 4 == 0:
             self.packets.append(self.error(source, target, self.packets[-1]))
 
-    def head(self, source, target, data, spoil):
+    def head(self, source: bytes, target: bytes, data: bytes, spoil: Optional[str]) -> bytes:
         if len(source) == 16:
             if self.options.headers:  # hop-by-hop and destination options
                 headers = b"\x3c\0\1\4\0\0\0\0" + b"\x11\1\1\x0c" + b"\0" * 12
@@ -167,7 +181,7 @@ class Capture:
         packet = ip4(source, target, 17, data, self.number, 0, options)
         return packet[:8] + b"\7" + packet[9:] if spoil == "header" else packet
 
-    def lose(self, pieces, spoil):
+    def lose(self, pieces: list[bytes], spoil: Optional[str]) -> list[bytes]:
         """What comes of the fragments of a datagram."""
         first = pieces[0]
         head = 20 if first[0] >> 4 == 4 else 48
@@ -187,7 +201,7 @@ class Capture:
             return [ip6(first[8:24], first[24:40], 44, first[40:] + b"\0" * 8), *pieces[1:]]
         return pieces
 
-    def error(self, source, target, packet):
+    def error(self, source: bytes, target: bytes, packet: bytes) -> bytes:
         """An ICMP error of a router, which quotes a packet."""
         if len(source) == 4:
             body = b"\x0b\0\0\0\0\0\0\0" + packet
@@ -198,7 +212,7 @@ class Capture:
         total = ones(router + source + struct.pack(">II", len(body), 58) + body)
         return ip6(router, source, 58, body[:2] + struct.pack(">H", total) + body[4:])
 
-    def others(self, count):
+    def others(self, count: int) -> None:
         """What else is on a network: another port, TCP, a tunnel, what is no IP."""
         source, target = b"\x0a\0\0\x63", b"\xef\1\1\2"
         if self.options.other and count % 5 == 0:
@@ -214,7 +228,7 @@ class Capture:
             outer = udp(source, b"\xc0\0\2\1", inner, 4789)
             self.packets.append(ip4(source, b"\xc0\0\2\1", 17, outer))
 
-    def fill(self):
+    def fill(self) -> None:
         """All datagrams of all senders, each sender's in their order."""
         waiting = {}
         for word in self.options.sent:
@@ -235,7 +249,7 @@ class Capture:
             }
             self.packets.sort(key=lambda packet: places[id(packet)])
 
-    def frames(self):
+    def frames(self) -> Iterator[Frame]:
         """Link type, bytes and length of each frame, as the capture has them."""
         names = itertools.cycle(self.options.link.split(","))
         for packet in self.packets:
@@ -246,7 +260,7 @@ class Capture:
             yield link, frame[: self.options.snap], len(frame)
 
 
-def pcap(frames, order, magic, snap):
+def pcap(frames: list[Frame], order: str, magic: int, snap: int) -> bytes:
     made = [struct.pack(order + "IHHiIII", magic, 2, 4, 0, 0, snap, frames[0][0])]
     for at, (_link, frame, length) in enumerate(frames):
         second, part = divmod(at, 1000)
@@ -255,13 +269,13 @@ def pcap(frames, order, magic, snap):
     return b"".join(made)
 
 
-def block(order, number, body):
+def block(order: str, number: int, body: bytes) -> bytes:
     body += b"\0" * (-len(body) % 4)
     length = struct.pack(order + "I", 12 + len(body))
     return struct.pack(order + "I", number) + length + body + length
 
 
-def pcapng(frames, order, kind, snap):
+def pcapng(frames: list[Frame], order: str, kind: int, snap: int) -> bytes:
     """Blocks of packets of a kind: enhanced (6), simple (3) or old (2).
 
     There are blocks of other things among them.
@@ -288,7 +302,7 @@ def pcapng(frames, order, kind, snap):
     return b"".join(made)
 
 
-def sections(frames, snap):
+def sections(frames: list[Frame], snap: int) -> bytes:
     """Two sections, each with its order of bytes."""
     half = len(frames) // 2
     return pcapng(frames[:half], "<", 6, snap) + pcapng(frames[half:], ">", 6, snap)
@@ -307,7 +321,7 @@ FORMS = {
 }
 
 
-def make(name, words):
+def make(name: str, words: list[str]) -> None:
     parser = argparse.ArgumentParser()
     parser.add_argument("--form", choices=FORMS, default="pcap")
     parser.add_argument("--link", default="ethernet")
@@ -341,7 +355,7 @@ def make(name, words):
             datagram_files.write(os.path.join(name + ".kept", sender), payloads)
 
 
-def damage(folder, count, names):
+def damage(folder: str, count: str, names: list[str]) -> None:
     draw = random.Random(22)
     for number in range(int(count)):
         with open(names[number % len(names)], "rb") as file:
@@ -355,7 +369,7 @@ def damage(folder, count, names):
             file.write(data)
 
 
-def cuts(name, folder):
+def cuts(name: str, folder: str) -> None:
     with open(name, "rb") as file:
         data = file.read()
     for length in range(len(data)):
@@ -363,7 +377,7 @@ def cuts(name, folder):
             file.write(data[:length])
 
 
-def pieces(data):
+def pieces(data: bytes) -> Iterator[bytes]:
     """The records of a datagram file, or the entries of a journal, by their lengths.
 
     docs/FORMATS.md has the formats.
@@ -379,19 +393,19 @@ def pieces(data):
         place += size
 
 
-def journal(version, entries):
+def journal(version: int, entries: list[bytes]) -> bytes:
     end = b"\xff" + len(entries).to_bytes(8, "big")
     return b"FLJN\0" + bytes([version]) + b"".join(entries) + end
 
 
-def version1(name, out):
+def version1(name: str, out: str) -> None:
     with open(name, "rb") as file:
         entries = list(pieces(file.read()))
     with open(out, "wb") as file:
         file.write(journal(1, [entry[:1] + entry[17:] for entry in entries]))
 
 
-def mended(name, folder):
+def mended(name: str, folder: str) -> None:
     with open(name, "rb") as file:
         data = file.read()
     for length in range(4, len(data)):
@@ -414,7 +428,7 @@ def mended(name, folder):
                 assert file.read() == wanted, path
 
 
-def run(tool, name):
+def run(tool: str, name: str) -> None:
     """Runs a tool many times in children of one Python, which has its modules already.
 
     It is the same as with a Python for each run, and sooner.
@@ -441,7 +455,7 @@ def run(tool, name):
         print(os.waitstatus_to_exitcode(os.waitpid(child, 0)[1]), text)
 
 
-def main():
+def main() -> None:
     command, *words = sys.argv[1:]
     if command == "make":
         with open(words[0]) as file:

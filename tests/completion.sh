@@ -53,13 +53,13 @@ offers '' flutejoin frob ''
 for command in $(echo "$commands" | tr , ' '); do
     [ "$command" = help ] || offers "-,$(options_of "$program" "$command")" flutejoin "$command" -
 done
-for tool in flutejoin-capture flutejoin-map flutejoin-mend flutejoin-receive flutejoin-station \
-    flutejoin-values; do
+for tool in flutejoin-capture flutejoin-files flutejoin-map flutejoin-mend flutejoin-receive \
+    flutejoin-station flutejoin-values; do
     offers "-,$(options_of python3 -B "$here/../tools/$tool")" "$tool" -
 done
 
 files='a name,folder,station1,station2'
-for command in show gaps extract info join merge carousel; do
+for command in $(echo "$commands" | tr , '\n' | grep -vx -e packet -e help); do
     offers "$files" flutejoin "$command" ''
 done
 offers 'station1,station2' flutejoin join -o all station1 sta
@@ -83,6 +83,12 @@ offers 'folder' flutejoin-station -o f
 offers "$files" flutejoin-station --config ''
 offers '' flutejoin-station --keep-raw ''
 offers '--every' flutejoin-station -o folder --e
+offers "$files" flutejoin-files ''
+offers 'folder' flutejoin-files -o f
+offers "$files" flutejoin-files --fdt ''
+offers "$files" flutejoin-files --from ''
+offers '' flutejoin-receive --from ''
+offers '' flutejoin-files --most ''
 offers "$files" flutejoin-map ''
 offers "$files" flutejoin-map --flutejoin ''
 offers 'station1,station2' flutejoin-map -o map.svg --tsi 7 --toi 1 station

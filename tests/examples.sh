@@ -98,6 +98,18 @@ check 'levels: behind a kill' level "$(sed -n 17p list)"
 check 'levels: behind a kill, seven a level' most
 grow 200 > told
 check 'levels: behind a kill, all at once' as_once
+# Kills at any moment, each followed by the same input again
+rm -r store
+head -n 60 list | while read -r station; do
+    setsid "$examples/levels.sh" store "$station" &
+    sleep 0.0"$(($(od -A n -N 1 -t u1 /dev/urandom) % 10))"
+    kill -KILL -- -$!
+    wait $!
+    level "$station"
+done > told 2>&1
+head -n 60 list | tr '\n' '\0' | xargs -0 flutejoin join -f -o once > told
+check 'levels: behind 60 kills, seven a level' most
+check 'levels: behind 60 kills, all at once' as_once
 
 echo "examples: $passed passed, $failed failed"
 [ "$failed" = 0 ]

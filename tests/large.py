@@ -5,6 +5,7 @@ go on where a smaller input would not tell that it gave up.
 usage: tests/large.py PROGRAM
 """
 import os
+import struct
 import subprocess
 import sys
 import tempfile
@@ -114,6 +115,25 @@ class Large(unittest.TestCase):
         told = run("gaps", journal)
         self.assertGreater(len(told), 16_000_000)
         self.assertEqual(told.count("\ngap "), len(objects) * 65_536)
+
+    def test_gaps_of_few_bytes_take_no_memory(self) -> None:
+        """400 datagrams, 15.6 KB, of which each makes 65,535 symbols missing."""
+        sent, journal = self.room / "sent", self.room / "journal"
+        lengths = struct.pack(">BBHIHHI", 64, 4, 0, 65_536, 0, 1, 1)
+        with sent.open("wb") as file:
+            file.write(b"FLDG\0\1")
+            for toi in range(1, 401):
+                header = struct.pack(">BBBBIII", 0x10, 0xA0, 8, 0, 0, 7, toi)
+                file.write(struct.pack(">H", 37) + header + lengths + bytes(4) + b"x")
+        self.assertEqual(counted(run("join", "-o", journal, sent))["entries"], 800)
+        limited = f'ulimit -v {32 << 10}; exec "$@"'
+        command = ["sh", "-c", limited, "sh", PROGRAM, "gaps", str(journal)]
+        with subprocess.Popen(command, stdout=subprocess.PIPE) as gaps:
+            assert gaps.stdout
+            lines = 0
+            while piece := gaps.stdout.read(1 << 20):
+                lines += piece.count(b"\n")
+        self.assertEqual((gaps.returncode, lines), (0, 400 * 65_536))
 
     def test_each_of_many_inputs_has_the_sender(self) -> None:
         journal, sent = self.room / "journal", []

@@ -1,6 +1,7 @@
 #!/bin/sh
-# The examples on the pages of the libraries (the docs of src/lib.rt) stand, line after line, in the
-# crate that their page names.
+# The examples on the pages of the libraries (the docs of src/lib.rt, and README.md) stand, line
+# after line, in the crate that their page names. Each crate has a README of at most 40 lines, whose
+# links lead to files and headings that are there.
 set -eu
 cd "$(dirname "$0")/.."
 python3 - <<'END'
@@ -34,14 +35,49 @@ pages = [
     "flute_output",
     "flutejoin_commands",
 ]
-for library in pages:
+
+
+def docs_of(library):
+    """The page of a library."""
     text = pathlib.Path("crates", library, "src", "lib.rt").read_text()
-    page = [line[3:].strip() for line in text.splitlines() if line.startswith("//!")]
+    return [line[3:].strip() for line in text.splitlines() if line.startswith("//!")]
+
+
+def readme_of(library):
+    """The README of a crate, of whose examples only those of Rust are kept."""
+    text = pathlib.Path("crates", library, "README.md").read_text()
+    return [line.strip().replace("```rust", "```") for line in text.splitlines()]
+
+
+def anchors_of(path):
+    """The headings of a page, as links name them."""
+    heads = [line.lstrip("# ") for line in path.read_text().splitlines() if line.startswith("#")]
+    return {re.sub(r"[^\w\- ]", "", head.lower()).replace(" ", "-") for head in heads}
+
+
+def leads_nowhere(folder, link):
+    path, _, anchor = link.partition("#")
+    path = folder / path
+    return not path.exists() or anchor and anchor not in anchors_of(path)
+
+
+for crate in sorted(path.parent for path in pathlib.Path("crates").glob("*/src")):
+    path = crate / "README.md"
+    text = path.read_text() if path.exists() else ""
+    faults = [link for link in re.findall(r"\]\(([^)]+)\)", text) if leads_nowhere(crate, link)]
+    if not text or len(text.splitlines()) > 40:
+        faults.append(f"{len(text.splitlines())} lines")
+    passed, failed = passed + (not faults), failed + bool(faults)
+    for fault in faults:
+        print(f"{path}: {fault}", file=sys.stderr)
+
+for library, page in [(name, of(name)) for name in pages for of in (docs_of, readme_of)]:
     crate, example, examples = None, None, 0
     for line in page:
-        named = re.search(r"\(from `(\w+)`\)", line)
+        # A crate, or a file of the library itself
+        named = re.search(r"\(from `(\w+)(\.rt)?`[),]", line)
         if named:
-            crate = named.group(1)
+            crate = library if named[2] else named[1]
         if line != "```":
             if example is not None:
                 example.append(line)

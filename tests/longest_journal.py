@@ -7,12 +7,14 @@ some 20 seconds.
 
 usage: tests/longest_journal.py PROGRAM
 """
+from __future__ import annotations
 
 import os
 import struct
 import subprocess
 import sys
 import tempfile
+from typing import BinaryIO
 
 OBJECTS = 16
 SYMBOLS = 1_048_575  # with the entry of its information, an object has 1,048,576 entries
@@ -21,19 +23,19 @@ MOST_MEMORY = 16 << 20
 BYTE = b"x"
 
 
-def key(toi):
+def key(toi: int) -> bytes:
     """The bytes of an object's name: sender 0, TSI 7, a file (docs/FORMATS.md)."""
     return bytes(16) + (7).to_bytes(6, "big") + b"\1" + toi.to_bytes(14, "big")
 
 
-def block_lengths():
+def block_lengths() -> list[int]:
     """How many symbols each block has (RFC 5052, section 9.1)."""
     blocks = -(-SYMBOLS // BLOCK)
     small, large_blocks = divmod(SYMBOLS, blocks)
     return [small + 1] * large_blocks + [small] * (blocks - large_blocks)
 
 
-def write_journal(out):
+def write_journal(out: BinaryIO) -> None:
     """Writes the journal, a block of entries at a time."""
     out.write(b"FLJN" + struct.pack(">H", 2))
     lengths = block_lengths()
@@ -48,7 +50,7 @@ def write_journal(out):
     out.write(b"\xff" + (OBJECTS * (SYMBOLS + 1)).to_bytes(8, "big"))
 
 
-def piped(program, *words):
+def piped(program: str, *words: str) -> str:
     """What a command prints that reads the journal from standard input.
 
     It gets at most so much memory, and its processor time is told.
@@ -80,7 +82,7 @@ def piped(program, *words):
     return printed.decode()
 
 
-def main():
+def main() -> int:
     program = os.path.abspath(sys.argv[1])
     lines = piped(program, "gaps", "-")
     wanted = "".join(f"session 7 object {toi} whole {SYMBOLS}\n" for toi in range(1, OBJECTS + 1))

@@ -28,8 +28,8 @@ options_of() {
     "$@" --help | sed -nE 's/^ +(-[a-zA-Z], )?(--?[a-z-]+).*/\2/p' | sort -u
 }
 
-tools='flutejoin-capture flutejoin-map flutejoin-mend flutejoin-receive flutejoin-station'
-tools="$tools flutejoin-values"
+tools='flutejoin-capture flutejoin-files flutejoin-map flutejoin-mend flutejoin-receive'
+tools="$tools flutejoin-station flutejoin-values"
 for tool in flutejoin $tools; do
     plain $tool.1 > "$work/$tool.1"
     if command -v groff > "$work/told"; then
@@ -47,7 +47,9 @@ done
 for tool in $tools; do
     for option in $(options_of "$tool"); do has $tool.1 "$option"; done
 done
-for command in packet show gaps extract info join merge carousel; do
+commands=$(flutejoin --help | sed -n '/^Commands:/,/^$/s/^  \([a-z]*\) .*/\1/p')
+for command in $commands; do
+    [ "$command" != help ] || continue
     has flutejoin.1 "flutejoin $command"
     for option in $(options_of flutejoin $command); do has flutejoin.1 "$option"; done
 done

@@ -14,33 +14,8 @@ mkdir "$work/bin"
 ln -s "$(readlink -f "$1")" "$work/bin/flutejoin"
 PATH=$work/bin:$PATH
 cd "$work" || exit 1
-passed=0
-failed=0
-
-# told NAME TEXT: a check failed
-told() {
-    failed=$((failed + 1))
-    echo "map: $1: $2"
-}
-
-# check NAME STATUS OUT ERR: what the last run left must be this ("-": anything)
-check() {
-    if { [ "$2" = - ] || [ "$status" = "$2" ]; } &&
-        { [ "$3" = - ] || [ "$(cat out)" = "$3" ]; } &&
-        { [ "$4" = - ] || [ "$(cat err)" = "$4" ]; }; then
-        passed=$((passed + 1))
-    else
-        printed=$(head -c 600 out)
-        told "$1" "status $status, standard output '$printed', standard error '$(head -c 400 err)'"
-    fi
-}
-
-# holds NAME TEST..: a test of the shell holds
-holds() {
-    claim=$1
-    shift
-    if "$@"; then passed=$((passed + 1)); else told "$claim" "not so: $*"; fi
-}
+suite=map
+. "$here/harness.sh"
 
 map() {
     "$python" "$tool" "$@" > out 2> err
@@ -270,7 +245,7 @@ for magic in FLJN FLDG; do
     printf '%s\000\002' $magic > given
     map -o given one1
     check "OUT begins with $magic" 2 '' -
-    [ "$(head -c 4 given)" = $magic ] || check "OUT that begins with $magic stays" x - -
+    holds "OUT that begins with $magic stays" [ "$(head -c 4 given)" = $magic ]
 done
 for words in '--text' '-o -'; do
     "$python" "$tool" $words one1 > /dev/full 2> err
@@ -379,5 +354,4 @@ check 'help to a full standard output' 3 '' 'flutejoin-map: cannot write'
 status=$?
 check 'help to a closed standard output' 3 '' 'flutejoin-map: cannot write'
 
-echo "map: $passed passed, $failed failed"
-[ $failed = 0 ]
+finished

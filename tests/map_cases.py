@@ -34,7 +34,7 @@ esac
 
 
 class Pictures(unittest.TestCase):
-    def setUp(self):
+    def setUp(self) -> None:
         folder = tempfile.TemporaryDirectory()
         self.addCleanup(folder.cleanup)
         self.folder = folder.name
@@ -77,7 +77,7 @@ class Pictures(unittest.TestCase):
         states.update(dict.fromkeys((3333, 3334, 4000), "no information"))
         return states
 
-    def test_many_objects_have_an_overview(self):
+    def test_many_objects_have_an_overview(self) -> None:
         self.journal("many", self.many())
         text = self.map("--text", "many").splitlines()
         signs = "# whole  . partial  ! conflicting  ? no information"
@@ -95,7 +95,7 @@ class Pictures(unittest.TestCase):
         rest = "3975 more objects are not drawn, 3975 of them whole; --tsi and --toi name one"
         self.assertEqual(text[-1], rest)
 
-    def test_the_overview_of_a_page(self):
+    def test_the_overview_of_a_page(self) -> None:
         self.journal("many", self.many())
         page = self.page("many")
         self.assertEqual(self.titles(page)[:2], ["4000 objects", "session 7 object 100"])
@@ -106,7 +106,7 @@ class Pictures(unittest.TestCase):
         counts = [int(number) for told in words for number in re.findall(r" (\d+)(?:,|$)", told)]
         self.assertEqual(sum(counts), 4000)
 
-    def test_a_page_is_no_higher_than_programs_show(self):
+    def test_a_page_is_no_higher_than_programs_show(self) -> None:
         states = dict.fromkeys(range(1, 501), PARTIAL)
         states.update(dict.fromkeys(range(200, 220), "whole 400"))
         self.journal("high", states)
@@ -125,7 +125,7 @@ class Pictures(unittest.TestCase):
     def first(count: int, states: dict[int, str]) -> list[int]:
         return [toi for toi in states if states[toi].startswith("partial")][:count]
 
-    def test_all_joined_is_first_of_many_stations(self):
+    def test_all_joined_is_first_of_many_stations(self) -> None:
         states = {1: PARTIAL, 2: "whole 400"}
         names = [f"station{number}" for number in range(64)]
         for name in [*names, "joined"]:
@@ -138,7 +138,7 @@ class Pictures(unittest.TestCase):
             wanted = [*stations, joined] if count < 4 else [joined, *stations]
             self.assertEqual(told, wanted)
 
-    def test_gaps_are_not_kept(self):
+    def test_gaps_are_not_kept(self) -> None:
         class Program:
             """Tells an object of 65,536 blocks of 16 symbols, of which every second is missing."""
 
@@ -162,7 +162,7 @@ class Pictures(unittest.TestCase):
         self.assertEqual(survey.panels["object"][0].grid.counts[1], 131072)
         self.assertLess(tracemalloc.get_traced_memory()[1], 300000)
 
-    def test_the_gaps_of_a_page_have_a_bound(self):
+    def test_the_gaps_of_a_page_have_a_bound(self) -> None:
         bound = flutejoin_survey.MOST_GAPS
         self.addCleanup(setattr, flutejoin_survey, "MOST_GAPS", bound)
         flutejoin_survey.MOST_GAPS = 10
@@ -190,7 +190,7 @@ class Pictures(unittest.TestCase):
         survey = flutejoin_survey.Survey(Program(), ["journal"], None, True)
         self.assertEqual(list(survey.keys), ["object 9"])
 
-    def test_gaps_of_what_is_not_drawn_are_passed_over(self):
+    def test_gaps_of_what_is_not_drawn_are_passed_over(self) -> None:
         """A datagram of 37 bytes makes 65,536 gaps: that many lines are no work for the rest."""
         gap = "".join(f"gap {block}/0-0 missing\n" for block in range(65536))
         hostile = f"partial missing 65536 conflicting 0 misfit 0\n{gap}"[:-1]

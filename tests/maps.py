@@ -8,12 +8,15 @@ It makes datagram files for its test, too.
   maps.py forget IN OUT          each datagram without its transmission information
   maps.py objects IN OUT         212 objects, each with one datagram of IN
 """
+from __future__ import annotations
+
 import os
 import re
 import struct
 import subprocess
 import sys
 import xml.etree.ElementTree as ElementTree
+from typing import Iterator, List, Tuple
 
 sys.dont_write_bytecode = True
 sys.path.append(os.path.join(os.path.dirname(os.path.realpath(__file__)), "../examples"))
@@ -27,9 +30,14 @@ SVG = "{http://www.w3.org/2000/svg}"
 BAR = re.compile(r"M([0-9.]+) ([0-9.]+)H([0-9.]+)V([0-9.]+)H\1Z")
 
 
-def run(*words):
+def run(*words: str) -> list[str]:
     told = subprocess.run(["flutejoin", *words], check=True, capture_output=True, text=True)
     return told.stdout.splitlines()
+
+
+Numbers = Tuple[int, int, int]  # an object's length, a symbol's and a block's
+Symbol = Tuple[int, int]  # its block and its number there
+Panel = Tuple[str, List[Symbol], List[str]]  # its title, its symbols and their kinds
 
 
 class Journal:
@@ -38,8 +46,12 @@ class Journal:
     Of each object it has the state, the information, the kinds by gaps, and the symbols.
     """
 
-    def __init__(self, path):
-        self.states, self.gaps, self.infos, self.symbols = {}, {}, {}, {}
+    def __init__(self, path: str) -> None:
+        self.states: dict[str, str] = {}
+        self.gaps: dict[str, list[tuple[int, int, str]]] = {}
+        self.infos: dict[str, Numbers] = {}
+        self.symbols: dict[str, dict] = {}
+        key = None
         for line in run("gaps", path):
             if line.startswith("gap "):
                 place, kind = line.split()[1:]
@@ -57,7 +69,7 @@ class Journal:
                 symbol = tuple(map(int, words[0].split("/")))
                 self.symbols[key][symbol] = None if words[1] == "conflict" else int(words[2])
 
-    def kinds(self, key, info):
+    def kinds(self, key: str, info: Numbers) -> list[str]:
         """The kind of each symbol in the order of the object."""
         listing = listing_of(info)
         if key in self.infos:
@@ -77,7 +89,7 @@ class Journal:
         return kinds
 
 
-def listing_of(info):
+def listing_of(info: Numbers) -> list[Symbol]:
     """The symbols of an object (RFC 5052, section 9.1)."""
     length, size, most = info
     if not length:
@@ -90,11 +102,11 @@ def listing_of(info):
     ]
 
 
-def counts(kinds):
+def counts(kinds: list[str]) -> str:
     return ", ".join(f"{name} {kinds.count(name)}" for name in NAMES)
 
 
-def expected(paths):
+def expected(paths: list[str]) -> Iterator[tuple[str, list[Panel]]]:
     """Of each object its panels: what is told, the symbols and their kinds."""
     journals = [(path, Journal(path)) for path in paths]
     if len(paths) > 1:
@@ -116,17 +128,17 @@ def expected(paths):
             kinds = journal.kinds(key, info)
             if words == "no information":
                 state = "whole" if kinds.count("held") == len(kinds) else "partial"
-                words = f"{state}, with the information of other journals; it has none of its own"
+                words = f"{state}, with the transmission information of other journals"
             panels.append((f"{name}: {words}: {counts(kinds)}", listing_of(info), kinds))
         yield key, panels
 
 
-def compare(one, other, what):
+def compare(one: object, other: object, what: str) -> None:
     if one != other:
         sys.exit(f"{what}: drawn is {one!r}, and told is {other!r}")
 
 
-def see_page(page, wanted):
+def see_page(page: str, wanted: list[tuple[str, list[Panel]]]) -> None:
     root = ElementTree.parse(page).getroot()
     compare(root.tag, f"{SVG}svg", "the page")
     groups = root.findall(f"{SVG}g")
@@ -144,7 +156,9 @@ def see_page(page, wanted):
             see_edges(panel, words)
 
 
-def see_cells(cells, listing, kinds, words):
+def see_cells(
+    cells: list[ElementTree.Element], listing: list[Symbol], kinds: list[str], words: str
+) -> None:
     """The runs of cells stand one behind another, and have the symbols that they tell."""
     places, at = {symbol: place for place, symbol in enumerate(listing)}, 0
     for cell in cells:
@@ -166,7 +180,7 @@ def see_cells(cells, listing, kinds, words):
     compare(at, len(kinds), f"{words}: all symbols")
 
 
-def see_edges(panel, words):
+def see_edges(panel: ElementTree.Element, words: str) -> None:
     """Each bar begins with the very number by which its neighbour ends.
 
     The lines between cells stand at these edges.
@@ -188,7 +202,7 @@ def see_edges(panel, words):
         compare(ends - between, set(), f"{words}: cells without a line between them")
 
 
-def sign(part):
+def sign(part: list[str]) -> str:
     """The sign of a cell."""
     for kind, char in ("conflicting", "!"), ("misfit", "?"):
         if kind in part:
@@ -198,8 +212,8 @@ def sign(part):
     return {"held": "#", "missing": "."}[part[0]]
 
 
-def see_text(lines, wanted):
-    lines = iter(lines[2:])
+def see_text(text: list[str], wanted: list[tuple[str, list[Panel]]]) -> None:
+    lines = iter(text[2:])
     scale = re.compile(r"a row is (?:a block|(\d+) blocks), a cell is (?:a symbol|(\d+) symbols)")
     for key, panels in wanted:
         compare(next(lines), "", key)
@@ -227,19 +241,21 @@ def see_text(lines, wanted):
     compare(list(lines), [], "the rest")
 
 
-def main():
+def main() -> None:
     mode, first, *rest = sys.argv[1:]
     if mode == "cut":
         datagram_files.write(rest[0], [datagram[:-1] for datagram in datagram_files.read(first)])
     elif mode == "forget":
         forgotten = [
-            datagram[:2] + b"\4" + datagram[3:16] + datagram[32:] for datagram in datagram_files.read(first)
+            datagram[:2] + b"\4" + datagram[3:16] + datagram[32:]
+            for datagram in datagram_files.read(first)
         ]
         datagram_files.write(rest[0], forgotten)
     elif mode == "objects":
         datagram = next(datagram_files.read(first))
         numbers = [struct.pack(">I", number) for number in range(1001, 1213)]
-        datagram_files.write(rest[0], [datagram[:12] + number + datagram[16:] for number in numbers])
+        sent = [datagram[:12] + number + datagram[16:] for number in numbers]
+        datagram_files.write(rest[0], sent)
     else:
         wanted = list(expected(rest))
         see_page(mode, wanted)

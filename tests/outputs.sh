@@ -3,6 +3,7 @@
 # after faults, kills and in odd places.
 # usage: tests/outputs.sh PROGRAM
 set -u
+tests=$(dirname "$(readlink -f "$0")")
 work=$(mktemp -d)
 trap 'rm -rf "$work"' EXIT
 cp "$1" "$work/program"
@@ -10,38 +11,8 @@ cp "$1" "$work/program"
 chmod 755 "$work" "$work/program" "$work/disk.so"
 cd "$work" || exit 1
 program=$work/program
-passed=0
-failed=0
-
-# told NAME TEXT: a check failed
-told() {
-    failed=$((failed + 1))
-    echo "outputs: $1: $2"
-}
-
-# check NAME STATUS OUT ERR: what the last run left must be this ("-": anything)
-check() {
-    if { [ "$2" = - ] || [ "$status" = "$2" ]; } &&
-        { [ "$3" = - ] || [ "$(cat out)" = "$3" ]; } &&
-        { [ "$4" = - ] || [ "$(cat err)" = "$4" ]; }; then
-        passed=$((passed + 1))
-    else
-        printed=$(head -c 400 out)
-        told "$1" "status $status, standard output '$printed', standard error '$(head -c 400 err)'"
-    fi
-}
-
-# same NAME FILE FILE: two files have the same bytes
-same() {
-    if cmp -s "$2" "$3"; then passed=$((passed + 1)); else told "$1" "$2 is not $3"; fi
-}
-
-# holds NAME TEST..: a test of the shell holds
-holds() {
-    claim=$1
-    shift
-    if "$@"; then passed=$((passed + 1)); else told "$claim" "not so: $*"; fi
-}
+suite=outputs
+. "$tests/harness.sh"
 
 # alone NAME FILE: nothing stands beside it
 alone() {
@@ -179,6 +150,7 @@ copied=sent1
 kept 'join over a station, by a pattern' 'output is a datagram file' \
     station1/10.0.0.1.fldg join -o station*/10.0.0.1.fldg
 kept 'merge over a datagram file' 'output is a datagram file' d merge -o d one two
+kept 'forget over a datagram file' 'output is a datagram file' d forget -o d --conflicts two
 kept 'info over a datagram file' 'output is a datagram file' d \
     info -o d --tsi 7 --toi 3 --length 5 --symbol 4 --block 2 two
 kept 'extract over a datagram file' 'output is a datagram file' d extract -o d --tsi 7 --toi 2 two
@@ -446,10 +418,14 @@ through modeless join -o kept/there one two
 check 'a file that cannot get its mode' 3 '' 'cannot create output'
 alone 'nothing is left of a file that cannot get its mode' kept/there
 same 'what was there stays' kept/there one
-through taken join -o kept/new one two
-check 'a new file whose name another run takes' 3 '' 'cannot create output'
-holds 'the file of that run stays' [ -e kept/new.partial ]
-rm kept/new.partial kept/new.partial.moved
+for target in there new; do
+    through taken join -o kept/$target one two
+    check "a name that another run takes beside a file that is $target" \
+        3 '' 'cannot create output'
+    holds "the file of that run stays beside a file that is $target" [ -e kept/$target.partial ]
+    rm kept/$target.partial kept/$target.partial.moved
+done
+same 'what was there stays when its name is taken' kept/there one
 printf garbage > kept/new.partial
 through taken join -o kept/new one two
 check 'a leftover whose name another run takes' 3 '' 'cannot create output'
@@ -568,6 +544,62 @@ same 'the output is what it was' all one
 holds 'what another put beside it stays' [ "$(cat all.partial)" = else ]
 rm -f all.partial
 
+# Runs that overlap: the first opens its inputs, waits for the first bytes of the last, and makes
+# its output once another run has put its own in place. What that run wrote stays.
+# overlap NAME OUT ARG..: the first run has these arguments, and `pipe` as its last input.
+overlap() {
+    name=$1
+    target=$2
+    shift 2
+    "$program" "$@" pipe > out2 2> err2 &
+    first=$!
+    exec 3> pipe
+    run join -o "$target" one two
+    check "$name: the second run" 0 "$both_lines" ''
+    cat two >&3
+    exec 3>&-
+    wait $first
+    status=$?
+    cp out2 out
+    cp err2 err
+    check "$name: the first run" 3 '' 'cannot create output'
+    same "$name: what the second run wrote stays" "$target" both
+    alone "$name: nothing beside" "$target"
+}
+cp one all
+overlap 'two joins into one of their inputs' all join -o all all
+rm -f new_all
+overlap 'two joins into a new file' new_all join -o new_all one
+cp one store/all
+overlap 'two joins through a link' store/all join -o link link
+cp one all
+"$program" join -o all all pipe > out2 2> err2 &
+first=$!
+exec 3> pipe
+mv all all_moved
+cp all_moved all
+cat two >&3
+exec 3>&-
+wait $first
+status=$?
+cp out2 out
+cp err2 err
+check 'a copy that took the place of the output' 3 '' 'cannot create output'
+same 'the copy stays' all one
+cp one all
+"$program" join -o all all pipe > out2 2> err2 &
+first=$!
+exec 3> pipe
+cat two >&3
+exec 3>&-
+wait $first
+status=$?
+cp out2 out
+cp err2 err
+check 'no other run meanwhile' 0 "$both_lines" ''
+same 'its output' all both
+rm -f out2 err2 all_moved
+
 # Killed at 20 moments of a join in place of 50 MB
 head -c 25000000 /dev/urandom > large
 "$program" carousel -o sent4 --tsi 7 --toi 4 --symbol 1400 --block 64 large > out
@@ -602,6 +634,25 @@ run join -o place place sent5
 check 'the join after the killed ones' 0 - ''
 same 'it has all' place new
 alone 'it took the leftover over' place
+
+# Killed at each 5 ms of forgetting in place the half of it
+for k in $(seq 20); do
+    cp new place
+    "$program" forget -o place --tsi 7 --toi 5 place > out2 2> err2 &
+    first=$!
+    sleep "$(awk "BEGIN { print $k * 0.005 }")"
+    kill -9 $first 2> err
+    wait $first 2> err
+    if ! cmp -s place old && ! cmp -s place new; then
+        told 'a killed forget' "after $k times 5 ms the output is neither journal"
+    fi
+done
+passed=$((passed + 1))
+cp new place
+run forget -o place --tsi 7 --toi 5 place
+check 'the forget after the killed ones' 0 - ''
+same 'it has the others' place old
+alone 'it took the leftover of a forget over' place
 
 # Devices and pipes take their bytes themselves.
 run join -o /dev/full two
@@ -768,7 +819,16 @@ closed 'extract of a sender' other \
 closed info informed info -o closed --tsi 7 --toi 3 --length 5 --symbol 4 --block 2 two
 closed join two join -o closed two
 closed merge both merge -o closed one two
+closed forget two forget -o closed --conflicts two
 closed carousel sent2 carousel -o closed --tsi 7 --toi 2 --symbol 4 --block 2 other
+# No input is opened in the place of a closed stream: by the stream's name it would be an output.
+cp one all
+"$program" join -o /dev/stderr all two >&- 2>&- <&-
+status=$?
+: > out
+: > err
+check 'standard error as the output with all streams closed' 3 '' ''
+same 'the first input stays' all one
 : > out
 "$program" show - <&- > out 2> err
 status=$?
@@ -802,9 +862,12 @@ if [ "$(id -u)" != 0 ] || setpriv --reuid=65534 --regid=65534 --clear-groups tru
     cp sent2 open/all
     chmod 222 open/all
     as_other join -o open/all one two
-    check 'a datagram file that cannot be read' 0 "$both_lines" ''
-    same 'it is overwritten' open/all both
-    rm open/all
+    check 'a file that cannot be read' 3 '' 'cannot create output'
+    same 'it is not overwritten, as it may be a datagram file' open/all sent2
+    alone 'nothing beside a file that cannot be read' open/all
+    as_other join --force -o open/all one two
+    check 'a file that cannot be read, forced' 3 '' 'cannot create output'
+    rm -f open/all
     chmod 333 open
     as_other join -o open/all one two
     check 'a folder that cannot be read' 0 "$both_lines" ''
@@ -853,5 +916,4 @@ for version in 1 2; do
     check "a journal of version $version of any length is read" 1 '' 'input 1: Kind'
 done
 
-echo "outputs: $passed passed, $failed failed"
-[ $failed = 0 ]
+finished

@@ -37,8 +37,8 @@ prints() {
 version=$("$program" --version | sed -n 's/^flutejoin //p')
 mkdir "$work/by_make"
 check 'make install' made install DESTDIR="$work/by_make" PREFIX=/usr/local
-for tool in flutejoin flutejoin-capture flutejoin-map flutejoin-mend flutejoin-receive \
-    flutejoin-station; do
+for tool in flutejoin flutejoin-capture flutejoin-files flutejoin-map flutejoin-mend \
+    flutejoin-receive flutejoin-station flutejoin-values; do
     check "$tool runs" "$work/by_make/usr/local/bin/$tool" --help
     check "$tool has a man page" test -f "$work/by_make/usr/local/share/man/man1/$tool.1"
 done
@@ -78,7 +78,7 @@ try_package() {
     cp "$1" "$root/flutejoin.deb"
     in_root "$root" dpkg --force-depends -i /flutejoin.deb > /dev/null || return 1
     in_root "$root" flutejoin --version | grep -q "^flutejoin $version" || return 1
-    in_root "$root" flutejoin-station --help | grep -q 'what stands in FOLDER' || return 1
+    in_root "$root" flutejoin-station --help | grep -q 'what is in FOLDER' || return 1
     in_root "$root" flutejoin-station --config /etc/flutejoin/example.toml -o /station --seconds 1
     [ -d "$root/station/journals" ] || return 1
     echo changed >> "$root/etc/flutejoin/example.toml"

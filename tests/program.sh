@@ -3,26 +3,12 @@
 # usage: tests/program.sh PROGRAM
 set -u
 program=$(readlink -f "$1")
+tests=$(dirname "$(readlink -f "$0")")
 work=$(mktemp -d)
 trap 'rm -rf "$work"' EXIT
 cd "$work" || exit 1
-passed=0
-failed=0
-
-# check NAME STATUS OUT ERR: what the last run left must be this ("-": anything)
-check() {
-    ok=1
-    [ "$2" = - ] || [ "$status" = "$2" ] || ok=0
-    [ "$3" = - ] || [ "$(cat out)" = "$3" ] || ok=0
-    [ "$4" = - ] || [ "$(cat err)" = "$4" ] || ok=0
-    if [ $ok = 1 ]; then
-        passed=$((passed + 1))
-    else
-        failed=$((failed + 1))
-        echo "program: $1: status $status, standard output '$(head -c 400 out)'," \
-            "standard error '$(head -c 400 err)'"
-    fi
-}
+suite=program
+. "$tests/harness.sh"
 
 run() {
     "$program" "$@" > out 2> err
@@ -204,10 +190,10 @@ check 'gaps to a full standard output' 3 '' 'cannot write'
 
 run extract -o got --tsi 7 --toi 1 whole
 check 'extract' 0 'bytes 5' ''
-[ "$(cat got)" = hello ] || check 'the object that was extracted' x - -
+holds 'the object that was extracted' [ "$(cat got)" = hello ]
 run extract -o got2 --tsi 7 --toi 1 part
 check 'extract of a part' 1 '' 'not whole: 0/1'
-[ ! -e got2 ] || check 'no file of an object that is not whole' x - -
+holds 'no file of an object that is not whole' [ ! -e got2 ]
 run extract -o got2 --tsi 7 --toi 2 whole
 check 'extract of another object' 1 '' 'no object'
 run extract -o got2 --tsi 7 --toi 1 symbol
@@ -228,7 +214,7 @@ run extract -o got2 --tsi 7 --toi 0 missing
 check 'the key before the input' 2 '' 'bad key'
 run extract -o got2 --tsi 7 --toi 1 missing
 check 'extract from a file that is not there' 3 '' 'cannot open input 1'
-[ ! -e got2 ] || check 'no file after a fault' x - -
+holds 'no file after a fault' [ ! -e got2 ]
 run_to /dev/full extract -o got2 --tsi 7 --toi 1 whole
 check 'extract to a full standard output' 3 '' 'cannot write'
 
@@ -240,11 +226,6 @@ journal symbols "$header $first $last FF 0000000000000002"
 file sent "464C44470001
     0028 10A00800 00000000 00000007 00000001 40040000 00000005 00000004 00000002 00000000 68656C6C
     0025 10A00800 00000000 00000007 00000001 40040000 00000005 00000004 00000002 00000001 6F"
-
-# same NAME FILE FILE: two files are the same
-same() {
-    cmp -s "$2" "$3" || check "$1" x - -
-}
 
 run info -o got --tsi 7 --toi 1 --length 5 --symbol 4 --block 2 symbols
 check 'info' 0 'entries 3' ''
@@ -264,7 +245,7 @@ run info -o got3 --tsi 7 --toi 0 --length x --symbol 0 --block 2 missing
 check 'numbers before the key' 2 '' 'bad number: --length'
 run info -o got3 --tsi 7 --toi 1 --length 5 --symbol 4 --block 2 bad
 check 'info of a bad journal' 1 '' 'input 1: Trailing'
-[ ! -e got3 ] || check 'no file after a fault of info' x - -
+holds 'no file after a fault of info' [ ! -e got3 ]
 # As many sessions as a store holds, and one more.
 sessions=
 for session in $(seq 0 63); do
@@ -274,10 +255,66 @@ journal many "$header $sessions FF 0000000000000040"
 printf before > kept
 run info -o kept --tsi 64 --toi 1 --length 5 --symbol 4 --block 2 many
 check 'info of one session too many' 1 '' 'full'
-[ "$(cat kept)" = before ] || check 'the output that was there before a full store' x - -
+holds 'the output that was there before a full store' [ "$(cat kept)" = before ]
 run info -o kept --tsi 63 --toi 1 --length 5 --symbol 4 --block 2 many
 check 'info of the last session' 0 'entries 64' ''
 same 'information where it is in conflict' kept many2
+
+# Information of many objects, in lines as `show` prints them.
+info_line='session 7 object 1 info length 5 symbol 4 block 2'
+printf '# twice\n\n%s\n%s\n' "$info_line" "$info_line" > lines
+run info -o got --list lines symbols
+check 'info of a list' 0 'entries 3' ''
+same 'the journal with a list added' got whole2
+run info -o got --list - symbols < lines
+check 'info of a list from standard input' 0 'entries 3' ''
+same 'the journal with that list added' got whole2
+run info -o got --list lines - < symbols
+check 'info of a list, of a journal from standard input' 0 'entries 3' ''
+same 'that journal with a list added' got whole2
+cp symbols over
+run info -o over --list lines over
+check 'info of a list over its journal' 0 'entries 3' ''
+same 'the journal that was written over' over whole2
+run_to to info -o - --list lines symbols
+check 'info of a list to standard output' 0 - 'entries 3'
+same 'the journal on standard output' to whole2
+run show whole
+grep ' info length ' out > shown
+run info -o got --list shown symbols
+check 'info of what is shown' 0 'entries 3' ''
+same 'the journal with what is shown added' got whole2
+: > nothing
+run info -o got --list nothing symbols
+check 'info of an empty list' 0 'entries 2' ''
+run info -o /dev/full --list lines symbols
+check 'info of a list to a full output' 3 '' 'cannot write'
+printf '%s' "$info_line" > cut
+run info -o got3 --list cut symbols
+check 'a list without its last line feed' 1 '' 'list: line 1'
+printf '%s\r\n' "$info_line" > crlf
+run info -o got3 --list crlf symbols
+check 'a list with carriage returns' 1 '' 'list: line 1'
+{ cat lines; echo "$info_line" | sed 's/7/07/'; } > zeros
+run info -o got3 --list zeros bad
+check 'a list is read before the journal' 1 '' 'list: line 5'
+{ cat lines; echo "$info_line" | sed 's/symbol 4/symbol 0/'; } > invalid
+run info -o got3 --list invalid symbols
+check 'a list of numbers that are not valid' 1 '' 'list: line 5: SymbolLength'
+run info -o got3 --list lines bad
+check 'info of a list and a bad journal' 1 '' 'input 1: Trailing'
+run info -o got3 --list missing missing
+check 'a journal that is not there' 3 '' 'cannot open input 1'
+run info -o got3 --list missing symbols
+check 'a list that is not there' 3 '' 'cannot open input 2'
+run info -o got3 --list . symbols
+check 'a list that is a folder' 3 '' 'cannot open input 2'
+run info -o got3 --list - - < lines
+check 'a list and a journal from standard input' 1 '' 'input 1: Cut'
+printf 'session 64 object 1 info length 5 symbol 4 block 2\n' > beyond
+run info -o got3 --list beyond many
+check 'info of a list with one session too many' 1 '' 'full'
+holds 'no file after a fault of a list' [ ! -e got3 ]
 
 run merge -o got whole others
 check 'merge' 0 'entries 4' ''
@@ -294,16 +331,91 @@ run merge -o got3 missing missing
 check 'the first input that is not there' 3 '' 'cannot open input 1'
 run merge -o got3 whole missing
 check 'the second input that is not there' 3 '' 'cannot open input 2'
-[ ! -e got3 ] || check 'no file before both inputs are open' x - -
+holds 'no file before both inputs are open' [ ! -e got3 ]
 run merge -o no/got bad bad
 check 'the output of a merge before the inputs are read' 3 '' 'cannot create output'
 run merge -o got3 whole bad
 check 'merge with a bad journal' 1 '' 'input 2: Trailing'
-[ ! -e got3 ] || check 'no file after a fault of merge' x - -
+holds 'no file after a fault of merge' [ ! -e got3 ]
 run merge -o /dev/full whole others
 check 'merge to a full output' 3 '' 'cannot write'
 run_to /dev/full merge -o got whole others
 check 'merge to a full standard output' 3 '' 'cannot write'
+
+# What forget leaves is what the lines of show leave, and it is no join.
+run forget -o got --conflicts whole
+check 'forget where nothing is in conflict' 0 'forgotten 0
+entries 3' ''
+same 'a journal of which nothing is forgotten' got whole2
+run forget -o got --conflicts conflict
+check 'forget a conflict' 0 'forgotten 1
+entries 0' ''
+run join -o got2 got whole
+check 'what is forgotten comes back as the next input has it' 0 'datagrams 0
+refused 0
+entries 3' ''
+same 'a journal joined with a forgotten conflict' got2 whole2
+run forget -o got --info whole
+check 'forget information' 0 'forgotten 1
+entries 2' ''
+run show got
+grep -q info out && check 'no information is left' x - -
+run forget -o got --symbol 0/0 whole
+check 'forget a symbol' 0 'forgotten 1
+entries 2' ''
+run gaps got
+check 'the gap that is left of it' 0 'session 7 object 1 partial missing 1 conflicting 0 misfit 0
+gap 0/0-0 missing' ''
+run forget -o got --info --symbol 0/0 whole
+check 'forget what is information and a symbol' 0 'forgotten 0
+entries 3' ''
+run forget -o got --tsi 7 --toi 2 whole
+check 'forget another object' 0 'forgotten 0
+entries 3' ''
+run forget -o got --tsi 8 --tsi 7 --toi 1 whole
+check 'forget an object of one of two sessions' 0 'forgotten 3
+entries 0' ''
+same 'a journal of which all is forgotten' got empty2
+run forget -o got --source 0a000001 whole
+check 'forget another sender' 0 'forgotten 0
+entries 3' ''
+run forget -o got --source :: whole
+check 'forget the sender zero' 0 'forgotten 3
+entries 0' ''
+run forget -o got --toi 0 --fdt 3 instance
+check 'forget an FDT Instance' 0 - ''
+cp whole2 inplace
+run forget -o inplace --symbol 0/0 inplace
+check 'forget in place' 0 'forgotten 1
+entries 2' ''
+run forget -o inplace --symbol 0/0 inplace
+check 'forget again' 0 'forgotten 0
+entries 2' ''
+run forget -o got3 whole
+check 'forget nothing in particular' 2 '' 'bad option: --conflicts'
+run forget -o got3 --symbol 0 whole
+check 'a symbol without its block' 2 '' 'bad number: --symbol'
+run forget -o got3 --symbol 0/65536 whole
+check 'a symbol out of its range' 2 '' 'bad number: --symbol'
+run forget -o got3 --fdt 3 whole
+check 'an FDT Instance without the TOI 0' 2 '' 'bad key'
+run forget -o got3 --toi 1 --fdt 3 whole
+check 'an FDT Instance of a file' 2 '' 'bad key'
+run forget -o got3 --source nobody --symbol x whole
+check 'a wrong symbol before a wrong sender' 2 '' 'bad number: --symbol'
+run forget -o got3 --conflicts bad
+check 'forget of a bad journal' 1 '' 'input 1: Trailing'
+run forget -o no/got --conflicts bad
+check 'a bad journal before its output' 1 '' 'input 1: Trailing'
+run forget -o no/got --conflicts whole
+check 'forget to an output that cannot be created' 3 '' 'cannot create output'
+run forget -o got3 --conflicts missing
+check 'forget of a journal that is not there' 3 '' 'cannot open input 1'
+[ ! -e got3 ] || check 'no file after a fault of forget' x - -
+run forget -o /dev/full --conflicts whole
+check 'forget to a full output' 3 '' 'cannot write'
+run_to /dev/full forget -o got --conflicts whole
+check 'forget to a full standard output' 3 '' 'cannot write'
 
 printf hello > content
 rm got
@@ -324,7 +436,7 @@ run carousel -o got4 --tsi 7 --toi 1 --symbol 4 --block 2 missing
 check 'carousel of a file that is not there' 3 '' 'cannot open input 1'
 run carousel -o got4 --tsi 7 --toi 1 --symbol 4 --block 2 /proc/self/mem
 check 'carousel of a file that cannot be read' 3 '' 'input 1: Read'
-[ ! -e got4 ] || check 'no file after a fault of carousel' x - -
+holds 'no file after a fault of carousel' [ ! -e got4 ]
 
 run carousel -f -o sent --tsi 7 --toi 1 --symbol 4 --block 2 content
 rm got
@@ -362,7 +474,7 @@ run join -o got5 cut
 check 'join of a datagram file that is cut' 1 '' 'input 1: Cut'
 run join -o got5 whole /proc/self/mem
 check 'join with an input that cannot be read' 3 '' 'input 2: Read'
-[ ! -e got5 ] || check 'no file after a fault of join' x - -
+holds 'no file after a fault of join' [ ! -e got5 ]
 run join -o no/got whole
 check 'join to a folder that is not there' 3 '' 'cannot create output'
 run join -o /dev/full whole
@@ -440,7 +552,7 @@ run join -o got5 many cut_more
 check 'a cut journal before too many sessions together' 1 '' 'input 2: Cut'
 run join -o got5 many cut
 check 'a cut datagram file beside a journal' 1 '' 'input 2: Cut'
-[ ! -e got5 ] && [ ! -e got5.partial ] || check 'nothing is left after a fault of join' x - -
+holds 'nothing is left after a fault of join' test ! -e got5 -a ! -e got5.partial
 run join -o got
 check 'join of nothing' 2 '' -
 run join -o got $(yes whole | head -n 65)
@@ -465,11 +577,11 @@ run join -o got6 border.joined further
 check 'join of one symbol more together' 1 '' 'full'
 run join -o got6 border.sent further
 check 'join of a datagram file with one symbol more together' 1 '' 'full'
-[ ! -e got6 ] || check 'no file after a full join' x - -
+holds 'no file after a full join' [ ! -e got6 ]
 run merge -o more border.joined further
 check 'merge of one symbol more than a store holds' 0 'entries 1048578' ''
 run join -o got6 more bad
-check 'an input over the limits before one at fault' 1 '' 'full'
+check 'an input over the limits before one at fault' 1 '' 'input 2: Trailing'
 run join -o got6 bad more
 check 'an input at fault before one over the limits' 1 '' 'input 1: Trailing'
 run join -o got6 border.joined border.joined
@@ -490,7 +602,7 @@ run extract -o got8 --tsi 7 --toi 1 more
 check 'extract of one symbol more than a store holds' 1 '' 'full'
 run extract -o got8 --tsi 7 --toi 9 more
 check 'full before an object that is not there' 1 '' 'full'
-[ ! -e got8 ] || check 'no file after a full extract' x - -
+holds 'no file after a full extract' [ ! -e got8 ]
 rm -f border* beyond* more got6 got7
 
 # As many objects of one session as a store holds, and one more: each has its information in
@@ -513,7 +625,7 @@ run extract -o got8 --tsi 7 --toi 4096 objects.4096
 check 'extract from as many objects as a store holds' 1 '' 'conflicting information'
 run extract -o got8 --tsi 7 --toi 1 objects.4097
 check 'extract from one object more' 1 '' 'full'
-[ ! -e got8 ] || check 'no file after it' x - -
+holds 'no file after it' [ ! -e got8 ]
 rm -f objects.4096 objects.4097
 
 # Journals of version 2. The bytes of `whole2`, all of them by hand:
@@ -920,7 +1032,7 @@ entries 1' ''
     check "gaps of the session $1 and the object $2" 0 "session $1 object $2 whole 0" ''
     run extract -o got5 --tsi "$1" --toi "$2" alike
     check "extract of the session $1 and the object $2" 0 'bytes 0' ''
-    [ ! -s got5 ] || check "the object $2 of the session $1" x - -
+    holds "the object $2 of the session $1" [ ! -s got5 ]
     rm got5
 done
 run extract -o got8 --tsi 7 --toi 1 alike
@@ -964,7 +1076,7 @@ refused 0
 entries 3' ''
     same "the journal of $count inputs" got whole2
 done
-for number in 281474976710656 -1 seven 0x7 7. 99999999999999999999999999999999999999999; do
+for number in 281474976710656 seven 0x7 7. 99999999999999999999999999999999999999999; do
     run join -o got8 --tsi "$number" sent
     check "the session $number" 2 '' 'bad number: --tsi'
     run join -o got8 --tsi 7 --source zz --tsi "$number" sent
@@ -996,7 +1108,7 @@ check 'extract of the sender zero where it sent nothing' 1 '' 'no object'
 # A source that is none: told behind the numbers and before all else, and nothing is made.
 printf before > kept
 for source in '' A 0 0A00001 0A0000010 0A00 0000000000000000 ${v4%?} ${v4}0 ${v4}00 \
-    0G000001 0g000001 ${v4%?}G -A000001 -0A00001 -0A000001 - -- -h \
+    0G000001 0g000001 ${v4%?}G - \
     +A000001 ' A000001' '0A000001 ' '0A 00001' 0x0A0000 0x0A000001 \
     10.0.0.256 10.0.0.01 10.0.0 10.0.0.1.1 10.0.0.1/8 ' 10.0.0.1' 1::2::3 2001:db8::12345 \
     1:2:3:4:5:6:7 1:2:3:4:5:6:7:8:9 fe80::1%1 '[::1]' ::10.0.0.256
@@ -1028,14 +1140,14 @@ for name in tsi toi fdt length symbol block; do
         sed "s/--$name [0-9]*/--$name x/")
     run info -o kept --source 0 $words missing
     check "a bad --$name of info before a bad source" 2 '' "bad number: --$name"
-    run info -o kept $words --source -A000001 missing
+    run info -o kept $words --source=-A000001 missing
     check "a bad --$name of info before a bad source behind it" 2 '' "bad number: --$name"
 done
 for name in tsi toi fdt; do
     words=$(echo '--tsi 7 --toi 0 --fdt 3' | sed "s/--$name [0-9]*/--$name x/")
     run extract -o kept --source 0 $words missing
     check "a bad --$name of extract before a bad source" 2 '' "bad number: --$name"
-    run extract -o kept $words --source -A000001 missing
+    run extract -o kept $words --source=-A000001 missing
     check "a bad --$name of extract before a bad source behind it" 2 '' "bad number: --$name"
 done
 run extract -o kept --source 0 --tsi x --toi 0 missing
@@ -1051,6 +1163,27 @@ told_first() {
     head -n 1 text > err
     check "$1" 2 '' "error: $2"
 }
+# A value that begins with a hyphen stands behind `=`; alone it is another option.
+for source in -A000001 -0A00001 -0A000001 -- -h
+do
+    run extract -o kept "--source=$source" --tsi 7 --toi 1 three
+    check "extract with the source '$source' behind its option" 2 '' 'bad source'
+    run join -o kept "--source=$source" sent three
+    check "join with the source '$source' behind its option" 2 '' 'bad source'
+done
+run extract -o kept --source -A000001 --tsi 7 --toi 1 three
+told_first 'a source that is an option' "unexpected argument '-A' found"
+run extract -o kept --source -- --tsi 7 --toi 1 three
+told_first 'a source that is left out' \
+    "a value is required for '--source <ADDRESS>' but none was supplied"
+run info -o kept --tsi 7 --toi 1 --length -5 --symbol 4 --block 2 three
+told_first 'a length that is an option' "unexpected argument '-5' found"
+run info -o kept --tsi 7 --toi 1 --length=-5 --symbol 4 --block 2 three
+check 'a length behind its option' 2 '' 'bad number: --length'
+run join -o kept --tsi -1 sent
+told_first 'a session that is an option' "unexpected argument '-1' found"
+run join -o kept --tsi=-1 sent
+check 'a session behind its option' 2 '' 'bad number: --tsi'
 for words in 'show three' 'gaps three' 'merge -o kept three three' "packet $symbol" \
     'carousel -o kept --tsi 7 --toi 1 --symbol 4 --block 2 content'; do
     run $words --source 0A000001
@@ -1059,7 +1192,8 @@ for words in 'show three' 'gaps three' 'merge -o kept three three' "packet $symb
     told_first "a source in $words" "unexpected argument '--source' found"
 done
 run extract -o kept --source 0A000001 --tsi 7 --toi 1 --source 0A000001 three
-told_first 'extract with two sources' "the argument '--source <ADDRESS>' cannot be used multiple times"
+told_first 'extract with two sources' \
+    "the argument '--source <ADDRESS>' cannot be used multiple times"
 run info -o kept --source 0A000001 --tsi 7 --toi 1 --length 5 --symbol 4 --block 2 \
     --source 0A000002 three
 told_first 'info with two sources' "the argument '--source <ADDRESS>' cannot be used multiple times"
@@ -1110,7 +1244,7 @@ at_fault() {
         run $words
         check "$words: $1" "$2" "$3" "$4"
     done
-    [ ! -e got8 ] && [ ! -e got8.partial ] || check "nothing is made: $1" x - -
+    holds "nothing is made: $1" test ! -e got8 -a ! -e got8.partial
 }
 file bad 464C4A4E0003 FF 0000000000000000
 at_fault 'an empty journal of version 3' 1 '' 'input 1: Version'
@@ -1151,14 +1285,15 @@ mkdir tried
 mkdir names
 ln -s "$program" names/flutejoin
 cp out tried/help
-for command in program packet show gaps extract info join merge carousel; do
+for command in program $(sed -n '/^Commands:/,/^$/s/^  \([a-z]*\) .*/\1/p' tried/help); do
+    [ "$command" != help ] || continue
     if [ $command != program ]; then
         run $command --help
         check "help of $command" 0 - ''
         cp out tried/help
     fi
     examples tried/help > tried/lines
-    [ -s tried/lines ] || check "help of $command gives an example" x - -
+    holds "help of $command gives an example" [ -s tried/lines ]
     [ $command != carousel ] || rm tried/sent
     (cd tried && PATH=$work/names:$PATH sh -e ./lines > ../out 2> ../err)
     status=$?
@@ -1181,5 +1316,4 @@ check 'help to a full standard output' 3 '' 'cannot write'
 status=$?
 check 'a closed standard output' 3 '' 'cannot write'
 
-echo "program: $passed passed, $failed failed"
-[ $failed = 0 ]
+finished

@@ -13,48 +13,20 @@ python=$(python3 -c 'import sys; print(sys.executable)')
 work=$(mktemp -d)
 trap 'rm -rf "$work"' EXIT
 cd "$work" || exit 1
-passed=0
-failed=0
-
-told() {
-    failed=$((failed + 1))
-    echo "receive: $1: $2"
-}
+suite=receive
+. "$(dirname "$script")/harness.sh"
 
 # What the last run told, without times, and without the line that tells that it listens
-told_by_run() { sed 's/^[0-9-]*T[0-9:]*Z \(flutejoin-receive: \)/\1/; /: listening /d' err; }
+printed_err() { sed 's/^[0-9-]*T[0-9:]*Z \(flutejoin-receive: \)/\1/; /: listening /d' err; }
 
-# check NAME STATUS OUT ERR: what the last run left must be this ("-": anything).
-check() {
-    ok=1
-    [ "$2" = - ] || [ "$status" = "$2" ] || ok=0
-    [ "$3" = - ] || [ "$(cat out)" = "$3" ] || ok=0
-    [ "$4" = - ] || [ "$(told_by_run)" = "$4" ] || ok=0
-    if [ $ok = 1 ]; then
-        passed=$((passed + 1))
-    else
-        printed=$(head -c 400 out)
-        told "$1" "status $status, standard output '$printed', standard error '$(head -c 400 err)'"
-    fi
-}
-
-# same NAME FILE FILE: two files are the same
-same() {
-    if cmp -s "$2" "$3"; then
-        passed=$((passed + 1))
-    else
-        told "$1" "$2 and $3 differ"
-    fi
-}
-
-# holds NAME COMMAND..: the command succeeds
+# holds NAME COMMAND..: the command succeeds; what it prints is shown if it fails
 holds() {
-    name=$1
+    claim=$1
     shift
     if "$@" > held 2>&1; then
         passed=$((passed + 1))
     else
-        told "$name" "$* fails: $(head -c 400 held)"
+        told "$claim" "$* fails: $(head -c 400 held)"
     fi
 }
 
@@ -609,5 +581,4 @@ else
         "(no network namespace with a loopback can be had here: $(head -n 1 held))"
 fi
 
-echo "receive: $passed passed, $failed failed"
-[ $failed = 0 ]
+finished

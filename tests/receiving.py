@@ -402,7 +402,6 @@ class Disk(Case):
             receiver.send(sent[begin : begin + 5])
             time.sleep(0.05)
         receiver.until_told("more than 40000 in all")
-        receiver.until(lambda: self.held() <= 40000, "no more than --most")
         status, lines = receiver.end()
         left = [name for name in self.names() if name.endswith(".fldg")]
         numbers = sorted(int(name.split(".")[4]) for name in left)
@@ -414,8 +413,35 @@ class Disk(Case):
         self.assertEqual(sum("datagrams from" in line for line in lines), len(left))
         self.assertEqual(lines[-1].count(".fldg"), len(left))
 
+    def test_there_are_never_more_bytes_than_most(self) -> None:
+        receiver = Receiver(self, "-o", "kept", "--most", "40000")
+        sent = self.symbols(400, 1000)
+        for begin in range(0, 400, 40):  # each burst is more than all that is kept
+            receiver.send(sent[begin : begin + 40])
+            time.sleep(0.1)  # less than the second after which the folder is looked at
+            before = self.held()
+            if before == self.held():  # else files came and went meanwhile
+                self.assertLessEqual(before, 40000)
+        receiver.send(sent[:40])
+        self.assertEqual(receiver.end()[0], 0)
+        self.assertLessEqual(self.held(), 40000)
+        self.assertGreater(self.held(), 10000)
+
+    def test_one_datagram_is_kept_whatever_most_is(self) -> None:
+        receiver = Receiver(self, "-o", "kept", "--most", "100")
+        sent = self.symbols(20, 1000)
+        receiver.send(sent)
+        self.assertEqual(receiver.end()[0], 0)
+        (name,) = [name for name in self.names() if name.endswith(".fldg")]
+        self.assertEqual(records(self.path(f"kept/{name}")), sent[-1:])
+
     def held(self) -> int:
-        return sum(os.path.getsize(self.path(f"kept/{name}")) for name in self.names())
+        """The bytes of all files; one that is removed meanwhile has none."""
+        sizes = []
+        for name in self.names():
+            with contextlib.suppress(FileNotFoundError):
+                sizes.append(os.path.getsize(self.path(f"kept/{name}")))
+        return sum(sizes)
 
     def part(self, number: int) -> list[bytes]:
         return records(self.path(f"kept/127.0.0.1.{number}.fldg"))

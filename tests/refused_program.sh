@@ -118,6 +118,7 @@ sweep_outputs() {
     sweep 0 join -o made sent others
     sweep 0 join -o made --source 0a000001 sent others
     sweep 0 merge -o made whole others
+    sweep 0 forget -o made --tsi 7 --toi 1 --symbol 0/1 whole
     sweep 0 carousel -o made --tsi 7 --toi 1 --symbol 4 --block 2 content
     sweep 0 carousel -o made --tsi 7 --toi 1 --symbol 4 --block 2 /dev/null
 }

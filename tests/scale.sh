@@ -60,12 +60,6 @@ free_port() {
     python3 -c 'from socket import create_server as serve
 print(serve(("127.0.0.1", 0)).getsockname()[1])'
 }
-# block PAGE WORD: the block of a page that has a line with the word
-block() {
-    awk -v word="$2" '
-        /^```/ { if (is_in && has) printf "%s", text; is_in = !is_in; text = ""; has = 0; next }
-        is_in { text = text $0 "\n"; if (index($0, word)) has = 1 }' "$1"
-}
 
 awk 'BEGIN { for (i = 1; i <= 5000; i++) printf "%07d\n", i }' > file
 flutejoin carousel -o sent --tsi 7 --toi 1 --symbol 1000 --block 16 file > told
@@ -162,13 +156,19 @@ END
     begin slurmctld -D
     begin slurmd -D -N one
     begin slurmd -D -N two
-    block "$here/../docs/SCALE.md" 'sbatch --wait' > slurm.sh
     until_true sh -c 'sinfo -h -o %T | grep -q idle'
-    engine slurm sh slurm.sh
-    # A job that is killed and given again
+    engine slurm slurm.sh
+    # Jobs that are killed while they run, and given again
+    mkdir slow
+    printf '#!/bin/sh\nsleep 2\nexec %s "$@"\n' "$program" > slow/flutejoin
+    chmod 755 slow slow/flutejoin
+    mv few few_before
     (until_true sh -c 'squeue -h -t RUNNING | grep -q .'; scancel --state=RUNNING --me) &
-    check 'slurm: killed jobs' fails reduce.sh list all sh slurm.sh
-    check 'slurm: behind killed jobs' reduce.sh list all sh slurm.sh
+    check 'slurm: killed jobs' fails env PATH="$work/slow:$PATH" reduce.sh short few slurm.sh
+    check 'slurm: killed jobs: nothing is made' test ! -e few
+    check 'slurm: behind killed jobs' reduce.sh short few slurm.sh
+    check 'slurm: behind killed jobs, the same bytes' cmp few_before few
+    check 'slurm: nothing is left' test -z "$(find . -maxdepth 1 -name 'slurm[.-]*')"
     check 'slurm: behind killed jobs, the same bytes' cmp once all
 else
     skipped slurm slurm-wlm
@@ -184,11 +184,10 @@ elif has dask-scheduler && /usr/bin/python3 -c 'import distributed' 2> told; the
             --local-directory "$work/dask"
     done
     worker=$!
-    block "$here/../docs/SCALE.md" 'from distributed' > join_on_dask.py
-    engine dask /usr/bin/python3 join_on_dask.py "tcp://127.0.0.1:$port"
+    engine dask join_on_dask.py "tcp://127.0.0.1:$port"
     (sleep 1.5; kill -KILL "$worker") &
     check 'dask: a worker killed' \
-        reduce.sh list all /usr/bin/python3 join_on_dask.py "tcp://127.0.0.1:$port"
+        reduce.sh list all join_on_dask.py "tcp://127.0.0.1:$port"
     check 'dask: a worker killed, the same bytes' cmp once all
 else
     skipped dask python3-distributed

@@ -15,7 +15,6 @@ import json
 import os
 import pathlib
 import random
-import shutil
 import signal
 import socket
 import struct
@@ -28,6 +27,7 @@ import time
 HERE = pathlib.Path(__file__).resolve().parent
 TOOLS = HERE.parent / "tools"
 STATION = TOOLS / "flutejoin-station"
+FILES = TOOLS / "flutejoin-files"
 PUSH = HERE.parent / "examples" / "push.sh"
 HEADER = b"FLDG\0\1"
 SOURCE = "7f000001"
@@ -35,6 +35,7 @@ NAME = "127.0.0.1"
 
 sys.dont_write_bytecode = True
 sys.path.insert(0, str(TOOLS))
+import flute_sender
 import flutejoin_files
 from flutejoin_joining import Program
 from flutejoin_keeping import Keeper, Settings
@@ -83,6 +84,14 @@ def sent_file(folder: pathlib.Path, size: int, symbol: int, toi: int = 1) -> lis
     done = flutejoin("carousel", "-o", sent, *words, file)
     assert done.returncode == 0, done.stderr
     return records(sent.read_bytes())
+
+
+def described(file: pathlib.Path) -> list[bytes]:
+    """The records of an FDT Instance of a file."""
+    location = f"http://example.com/{file.name}"
+    sent = flute_sender.Sent(1, file.read_bytes(), location, symbol=1000, block=64)
+    packets = flute_sender.instance(7, 2, flute_sender.fdt([sent]))
+    return [struct.pack(">H", len(packet)) + packet for packet in packets]
 
 
 def journal_of(*inputs: object) -> bytes:
@@ -208,7 +217,7 @@ def disk(folder: pathlib.Path) -> tuple[int, int]:
 def carousel_at_three_stations(work: pathlib.Path) -> None:
     """Ten rounds; each station never gets a third of the symbols, and loses others at random."""
     window = 200_000
-    sent = sent_file(work, 1_000_000, 1000)
+    sent = [*sent_file(work, 1_000_000, 1000), *described(work / "file1")]
     names, ports = ["one", "two", "three"], [Port() for _ in range(3)]
     words = "--window", window, "--every", 1
     runs = [
@@ -222,10 +231,10 @@ def carousel_at_three_stations(work: pathlib.Path) -> None:
                 [it for at, it in enumerate(sent) if at % 3 != number and draw.random() > 0.3],
                 0.002,
             )
-            most[number] = max(most[number], disk(work / names[number]))
-        for name in names:
+        for number, name in enumerate(names):
             # What a slow machine has not joined yet is not a carousel's.
             until(lambda: len(list((work / name / "in").iterdir())) < 2)
+            most[number] = max(most[number], disk(work / name))
     for name, run, of in zip(names, runs, most):
         folder = work / name
         status = run.end()
@@ -249,10 +258,11 @@ def carousel_at_three_stations(work: pathlib.Path) -> None:
             *kept(work / name)[:1],
         )
         check(f"{name}: is not whole alone", is_whole.returncode == 1, is_whole)
-    words = "--source", SOURCE, "--tsi", 7, "--toi", 1
-    done = flutejoin("extract", "-o", work / "out", *words, work / "all")
-    is_same = done.returncode == 0 and (work / "out").read_bytes() == (work / "file1").read_bytes()
-    check("the file at the centre", is_same, done)
+    words = "--flutejoin", PROGRAM, "-o", work / "named", work / "all"
+    done = subprocess.run([sys.executable, FILES, *map(str, words)], capture_output=True)
+    named = work / "named/example.com/file1"
+    is_same = done.returncode == 0 and named.read_bytes() == (work / "file1").read_bytes()
+    check("the file under its name at the centre", is_same, done)
 
 
 class Witness:
@@ -296,7 +306,7 @@ def kills(work: pathlib.Path) -> None:
     sender = threading.Thread(target=send, daemon=True)
     sender.start()
     joining = 0
-    for number in range(20 * SOAK):
+    for number in range(50 * SOAK):
         words = "--window", 150_000, "--every", 0.2, *["--outbox"] * (number % 2)
         run = Run(work / "news", port.number, *words)
         time.sleep(draw.random())
@@ -337,7 +347,14 @@ def kills(work: pathlib.Path) -> None:
 def faults(work: pathlib.Path) -> None:
     """What is at fault is set aside and told, and the rest goes on."""
     sent = sent_file(work, 60_000, 1000)
-    folder = work / "news"
+    datagram_file(work / "all.fldg", sent)
+    wanted = journal_of(work / "all.fldg")
+    parts_at_fault(work / "news", sent, wanted)
+    damaged_journals(work, sent, wanted)
+    programs_that_fail(work, sent)
+
+
+def parts_at_fault(folder: pathlib.Path, sent: list[bytes], wanted: bytes) -> None:
     (folder / "in").mkdir(parents=True)
     (folder / f"in/{NAME}.fldg").write_text("no datagram file at all")
     datagram_file(folder / f"in/{NAME}.2.fldg", sent[:20])
@@ -350,12 +367,13 @@ def faults(work: pathlib.Path) -> None:
     check("a cut part is told", "is cut at its end" in run.text(), run.text())
     aside = sorted(path.read_bytes()[:6] for path in (folder / "aside").iterdir())
     check("what is set aside", aside == [HEADER, b"no dat"], aside)
-    datagram_file(work / "all.fldg", sent)
-    wanted = journal_of(work / "all.fldg")
     check("the others are joined", journal_of(*kept(folder)) == wanted)
     check("the last part stays", os.listdir(folder / "in") == [f"{NAME}.4.fldg"])
 
-    # A damaged journal: what the datagram file that is still there has of it is joined again.
+
+def damaged_journals(work: pathlib.Path, sent: list[bytes], wanted: bytes) -> None:
+    """What the datagram file that is still there has of one is joined again."""
+    folder = work / "news"
     journal = folder / f"journals/{NAME}.journal"
     damaged = journal.read_bytes()[:-30]
     recent = folder / "recent" / journal.name
@@ -380,8 +398,10 @@ def faults(work: pathlib.Path) -> None:
     (work / "have").write_bytes(have)
     check("damaged journals: others are begun", have == journal_of(work / "have", work / "left"))
 
-    # A program that fails, and one that is not there
-    failing = work / "failing"
+
+def programs_that_fail(work: pathlib.Path, sent: list[bytes]) -> None:
+    """One that fails each time, and one that is not there."""
+    folder, failing = work / "news", work / "failing"
     failing.write_text(f'#!/bin/sh\necho "$*" >> {work}/tries\necho cannot write >&2\nexit 3\n')
     failing.chmod(0o755)
     datagram_file(folder / f"in/{NAME}.7.fldg", sent)
@@ -573,13 +593,14 @@ def full_disk(work: pathlib.Path) -> None:
     run = Run(folder, port.number, *words)
     port.send(sent[:300], 0.01)
     until((folder / f"journals/{NAME}.journal").exists, run)
-    until((folder / "raw").exists, run)
+    until(lambda: (folder / "raw").exists() and os.listdir(folder / "raw"), run)
+    oldest = min((folder / "raw").iterdir())
     with open(ballast, "wb", buffering=0) as file:
         while os.statvfs(place).f_bavail * os.statvfs(place).f_frsize > 100_000:
             file.write(bytes(1 << 15))
     port.send(sent[300:600], 0.01)
     until(lambda: "the disk is full" in run.text(), run)
-    check("a full disk: files that are joined go first", not list((folder / "raw").iterdir()))
+    check("a full disk: files that are joined go first", not oldest.exists(), run.text())
     ballast.unlink()
     # The receiver has kept in memory what it could not write.
     datagram_file(work / "first.fldg", sent[:600])

@@ -79,7 +79,9 @@ awk 'BEGIN { for (i = 1; i <= 5000; i++) printf "%07d\n", i }' > file
 "$program" carousel -o sent --tsi 7 --toi 1 --symbol 1000 --block 16 file > /dev/null
 head -c -1038 sent > sent_but_last
 python3 "$here/../examples/stations.py" sent_but_last stations 100 97
-for station in stations/s000?[13579]; do "$program" join -f -o "$station" "$station" > /dev/null; done
+for station in stations/s000?[13579]; do
+    "$program" join -f -o "$station" "$station" > /dev/null
+done
 
 tree INPUTS=stations OUT=all
 check 'the tree of 64' joined 3
@@ -249,7 +251,8 @@ from flutejoin_files import file_name
 draw, told = random.Random(1), []
 for number in range(300):
     if number % 3:
-        words = [draw.choice((0, 0, 0, draw.randrange(1 << draw.choice((4, 16))))) for _ in range(8)]
+        widths = [draw.choice((4, 16)) for _ in range(8)]
+        words = [draw.choice((0, 0, 0, draw.randrange(1 << width))) for width in widths]
         address = ipaddress.ip_address(":".join("%x" % word for word in words))
         digits = address.packed.hex()
     else:

@@ -12,38 +12,8 @@ mkdir "$work/bin"
 ln -s "$(readlink -f "$1")" "$work/bin/flutejoin"
 PATH=$work/bin:$PATH
 cd "$work" || exit 1
-passed=0
-failed=0
-
-# told NAME TEXT: a check failed
-told() {
-    failed=$((failed + 1))
-    echo "values: $1: $2"
-}
-
-# check NAME STATUS OUT ERR: what the last run left must be this ("-": anything)
-check() {
-    if { [ "$2" = - ] || [ "$status" = "$2" ]; } &&
-        { [ "$3" = - ] || [ "$(cat out)" = "$3" ]; } &&
-        { [ "$4" = - ] || [ "$(cat err)" = "$4" ]; }; then
-        passed=$((passed + 1))
-    else
-        printed=$(head -c 600 out)
-        told "$1" "status $status, standard output '$printed', standard error '$(head -c 400 err)'"
-    fi
-}
-
-# same NAME FILE FILE: two files have the same bytes
-same() {
-    if cmp -s "$2" "$3"; then passed=$((passed + 1)); else told "$1" "$2 is not $3"; fi
-}
-
-# holds NAME TEST..: a test of the shell holds
-holds() {
-    claim=$1
-    shift
-    if "$@"; then passed=$((passed + 1)); else told "$claim" "not so: $*"; fi
-}
+suite=values
+. "$here/harness.sh"
 
 values() {
     "$python" "$here/../tools/flutejoin-values" "$@" > out 2> err
@@ -99,7 +69,8 @@ in 1 three/journal
 in 1 three/10.0.0.1.fldg" ''
 for sender in 10.0.0.2 0A000002 2001:db8::1; do
     values --source $sender $symbol three/journal three/10.0.0.1.fldg
-    check "another sender, $sender" 1 'left out three/10.0.0.1.fldg: of another sender by its name' \
+    check "another sender, $sender" 1 \
+        'left out three/10.0.0.1.fldg: of another sender by its name' \
         'flutejoin-values: no value of this symbol'
 done
 values --tsi 8 --toi 1 --symbol 1/2 one/10.0.0.1.fldg one/journal
@@ -129,6 +100,11 @@ check 'without the right value' 0 'left.fldg: 40 datagrams, without 2' ''
 values $symbol --without "$(tail -c +16001 wrong_file | head -c 1000 | sha256sum | cut -c 1-64)" \
     -o long.fldg one/10.0.0.1.fldg
 same 'by all digits' long.fldg one/good.fldg
+
+values $symbol --without "$bad" -o - one/10.0.0.1.fldg
+check 'to standard output' 0 - '41 datagrams, without 1'
+same 'the datagrams on standard output' out one/good.fldg
+holds 'no file has the name -' [ ! -e ./- ]
 
 # FDT Instances, and senders of IPv6 in names and journals
 flutejoin carousel -o fdt_sent --tsi 7 --toi 0 --fdt 3 --symbol 1000 --block 16 file > told
@@ -203,5 +179,4 @@ status=$?
 : > out
 check 'a full standard output' 3 '' 'flutejoin-values: cannot write'
 
-echo "values: $passed passed, $failed failed"
-[ $failed = 0 ]
+finished

@@ -14,6 +14,12 @@ edit() {
     printf 'file: %s\nold: %s\nnew: %s\n' "$2" "$3" "$4" > "$room/$1.edit"
 }
 
+# over FOLDER/NAME FILE HEAD BODY: writes a body over the function with this head.
+over() {
+    mkdir -p "$room/$(dirname "$1")"
+    printf 'file: %s\nover: %s\nnew: %s\n' "$2" "$3" "$4" > "$room/$1.edit"
+}
+
 # try FOLDER STATUS: tries the edits of the folder, which has to end with this status.
 try() {
     tools/wrong_bodies.py --edits "$room/$1" flute_join > "$room/told" 2>&1
@@ -61,6 +67,15 @@ printf 'old: %s\nnew: %s\n' 'copied.add_new(*key' 'fresh.add_new(*key' 'Ok(copie
     >> "$room/renamed/copied_is_fresh.edit"
 try renamed 1
 told 'a proof that does not fit shows nothing' '^wrong bodies: 0 refused, 1 unfit, 0 failed$'
+
+# One that calls its function and changes nothing, and one that changes the answer.
+over over/calls_alone src/cell.rt 'pub fn is_conflict(&self) -> bool' 'self.is_conflict()'
+over over/the_other_answer src/map.rt 'pub fn is_empty(&self) -> bool' '!self.is_empty()'
+try over 1
+told 'what calls its function is proved by the clauses' \
+    '^flute_join/calls_alone: FAILED: still proved: .*::Cell::wrong_is_conflict$'
+told 'another answer than its is refused' '^flute_join/the_other_answer: refused'
+told 'one of two is refused' '^wrong bodies: 1 refused, 0 unfit, 1 failed$'
 
 edit absent/no_such_text src/cell.rt 'no such text' 'nor this'
 try absent 2

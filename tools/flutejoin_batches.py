@@ -9,7 +9,7 @@ import os
 import socket
 import struct
 import sys
-from typing import Iterable, Tuple
+from typing import Callable, Iterable, Optional, Tuple
 
 from flutejoin_packets import FIXED_ALL
 
@@ -32,7 +32,7 @@ Datagram = Tuple[bytes, int, Tuple[bytes], int]
 class Batch:
     """The datagrams of one call on one socket."""
 
-    def __init__(self, udp: socket.socket):
+    def __init__(self, udp: socket.socket) -> None:
         self.udp, self.descriptor = udp, udp.fileno()
         self.buffer = bytearray(MOST * STRIDE)
         self.view = memoryview(self.buffer)
@@ -62,7 +62,7 @@ class Batch:
         return self.together(senders, lengths)
 
 
-def many_at_once(batch: Batch):
+def many_at_once(batch: Batch) -> Optional[Callable[[int], Iterable[Datagram]]]:
     """The call recvmmsg of Linux for a batch; None where it cannot be had."""
     if ctypes is None or sys.platform != "linux":
         return None
@@ -111,7 +111,7 @@ def many_at_once(batch: Batch):
     # What the system writes into is kept for as long as the call.
     kept = data, name_data, pieces, received
 
-    def receive(most: int, _kept=kept) -> Iterable[Datagram]:
+    def receive(most: int, _kept: tuple = kept) -> Iterable[Datagram]:
         count = call(batch.descriptor, at, most, DONT_WAIT, None)
         if count < 0:
             number = ctypes.get_errno()

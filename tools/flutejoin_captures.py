@@ -15,7 +15,7 @@ import struct
 import sys
 import time
 import zlib
-from typing import NamedTuple
+from typing import Any, BinaryIO, Callable, Iterator, NamedTuple, Optional, Tuple
 
 import flutejoin_files as files
 
@@ -37,6 +37,9 @@ SECTION_ORDERS = {b"\x4d\x3c\x2b\x1a": "<", b"\x1a\x2b\x3c\x4d": ">"}
 INTERFACE, OLD_PACKET, SIMPLE_PACKET, PACKET = 1, 2, 3, 6  # the blocks of pcapng that are read
 RESOLUTION = 9  # the option of an interface that tells the units of its times
 
+# Its link type, its bytes, whether more of them were on the network, and the second, if it is known
+Packet = Tuple[int, bytes, bool, Optional[int]]
+
 
 class Fault(Exception):
     """What is wrong in a capture."""
@@ -45,17 +48,17 @@ class Fault(Exception):
 class Ends(Fault):
     """A capture ends within a packet."""
 
-    def __init__(self, what="a packet"):
+    def __init__(self, what: str = "a packet") -> None:
         super().__init__(f"ends within {what}; the packets before it were read")
 
 
 class Empty(Ends):
-    def __init__(self):
+    def __init__(self) -> None:
         Fault.__init__(self, "is empty")
 
 
 class Damage(Fault):
-    def __init__(self, what):
+    def __init__(self, what: str) -> None:
         super().__init__(f"is damaged ({what}); the packets before that were read")
 
 
@@ -88,14 +91,14 @@ def units_of(order: str, body: bytes) -> int:
 class Stop:
     """How often a signal asked for the end, and when first. `wakes` can be waited for."""
 
-    def __init__(self):
+    def __init__(self) -> None:
         self.asked, self.since = 0, 0.0
         self.wakes, wakened = os.pipe()
         os.set_blocking(wakened, False)
         signal.set_wakeup_fd(wakened, warn_on_full_buffer=False)
         files.answer_stops(self.ask)
 
-    def ask(self, _number, _frame):
+    def ask(self, _number: int, _frame: object) -> None:
         self.asked += 1
         self.since = self.since or time.monotonic()
 
@@ -107,7 +110,7 @@ class Input(io.RawIOBase):
     its last packets. `tick` is called once a second at most, while bytes come and after them.
     """
 
-    def __init__(self, file, stop, tick):
+    def __init__(self, file: BinaryIO, stop: Stop, tick: Callable[[], None]) -> None:
         self.file, self.stop, self.tick = file, stop, tick
         self.tick_at = time.monotonic() + TICK
         self.grace = 0 if stat.S_ISREG(os.fstat(file.fileno()).st_mode) else GRACE
@@ -119,10 +122,10 @@ class Input(io.RawIOBase):
             self.begin += piece
         self.is_gzip = self.begin == GZIP
 
-    def readable(self):
+    def readable(self) -> bool:
         return True
 
-    def is_ready(self):
+    def is_ready(self) -> bool:
         """Waits for bytes, or the end of the file. False where there is no more waiting."""
         is_quiet = False
         while not self.stop.asked:
@@ -142,7 +145,7 @@ class Input(io.RawIOBase):
             return False
         return bool(select.select([self.file], [], [], left)[0])
 
-    def readinto(self, buffer):
+    def readinto(self, buffer: Any) -> int:
         if self.begin:
             size = min(len(buffer), len(self.begin))
             buffer[:size], self.begin = self.begin[:size], self.begin[size:]
@@ -156,14 +159,15 @@ class Inflated(io.RawIOBase):
     What is behind a member and is none, as zeros that fill a tape, is passed over as gzip does.
     """
 
-    def __init__(self, stream):
+    def __init__(self, stream: io.BufferedReader) -> None:
         self.stream, self.member = stream, zlib.decompressobj(31)
-        self.fault, self.has_garbage = None, False
+        self.fault: Optional[Damage] = None
+        self.has_garbage = False
 
-    def readable(self):
+    def readable(self) -> bool:
         return True
 
-    def readinto(self, buffer):
+    def readinto(self, buffer: Any) -> int:
         while not self.fault:
             data = self.member.unused_data or self.member.unconsumed_tail
             data = data or self.stream.read1(65536)
@@ -207,7 +211,7 @@ class Inflated(io.RawIOBase):
         return bytes(inflated)
 
 
-def opened(name):
+def opened(name: str) -> BinaryIO:
     """A capture as a file. One that waits for its writer, as a pipe may, is waited for later."""
     if name != "-":
         file = open(name, "rb", buffering=0, opener=files.open_at_once)
@@ -218,7 +222,12 @@ def opened(name):
     return open(0, "rb", buffering=0, closefd=False)
 
 
-def read(name, stop, tick, take):
+def read(
+    name: str,
+    stop: Stop,
+    tick: Callable[[], None],
+    take: Callable[[int, bytes, bool, Optional[int]], None],
+) -> Optional[str]:
     """Hands each packet of a capture to `take`, up to its end or a signal.
 
     Answers what is to be told of a capture that is whole, or None. `Fault` where it is damaged or
@@ -241,7 +250,7 @@ def read(name, stop, tick, take):
     return None
 
 
-def packets(stream):
+def packets(stream: io.BufferedReader) -> Iterator[Packet]:
     """Of each packet: its link type, its bytes, whether more of them were on the network, and when.
 
     That is the second, or None where the capture does not tell.
@@ -271,19 +280,20 @@ def packets(stream):
         yield link, frame, captured < original, when
 
 
-def taken(stream, size, what="a packet"):
+def taken(stream: io.BufferedReader, size: int, what: str = "a packet") -> bytes:
     data = stream.read(size)
     if len(data) < size:
         raise Ends(what)
     return data
 
 
-def block_packets(stream):
+def block_packets(stream: io.BufferedReader) -> Iterator[Packet]:
     """The same of a pcapng capture, whose first four bytes were read.
 
     It has sections, each with its order of bytes and its interfaces.
     """
-    order, interfaces, kind = "<", [], SECTION
+    order, kind = "<", SECTION
+    interfaces: list[Interface] = []
     while kind:
         size = taken(stream, 4) if len(kind) == 4 else taken(stream, 1 << 20)
         begun = 0
@@ -310,7 +320,7 @@ def block_packets(stream):
         kind = stream.read(4)
 
 
-def block_body(stream, length, is_read):
+def block_body(stream: io.BufferedReader, length: int, is_read: bool) -> bytes:
     """The bytes of a block up to its second length; what is not read is passed over."""
     if is_read:
         return taken(stream, length)
@@ -319,7 +329,7 @@ def block_body(stream, length, is_read):
     return b""
 
 
-def block_packet(order, interfaces, number, body):
+def block_packet(order: str, interfaces: list[Interface], number: int, body: bytes) -> Packet:
     """The packet of a block.
 
     A simple one is of the first interface, and tells neither where that cut it nor when it came.

@@ -2,10 +2,13 @@
 
 Only those are taken that came whole and right; the others are counted by their cause.
 """
+from __future__ import annotations
+
 import collections
 import struct
+from typing import Callable, Container, Optional
 
-from flutejoin_fragments import CUT, Fragments
+from flutejoin_fragments import CUT, Fragments, Key
 from flutejoin_frames import (
     IP,
     LLC,
@@ -52,6 +55,9 @@ IP6_HEAD = struct.Struct(">4xHBx16s16s")  # length, next header, addresses
 FRAGMENT_HEAD = struct.Struct(">BxHI")
 UDP_HEAD = struct.Struct(">2xHHH")  # destination port, length, checksum
 
+# Takes a datagram: the addresses of its sender and its target, its port, and its payload
+HandOn = Callable[[bytes, bytes, int, bytes], None]
+
 
 class Datagrams:
     """Takes the UDP datagrams out of frames.
@@ -59,21 +65,26 @@ class Datagrams:
     It hands on those that are wanted, and counts what it leaves out.
     """
 
-    def __init__(self, ports, groups, any_checksum, hand_on):
+    def __init__(
+        self, ports: Container[int], groups: Container[bytes], any_checksum: bool, hand_on: HandOn
+    ) -> None:
         self.ports, self.groups = ports, groups
         self.any_checksum, self.hand_on = any_checksum, hand_on
-        self.count, self.left_out = 0, collections.Counter()
+        self.count = 0
+        self.left_out: collections.Counter[str] = collections.Counter()
         self.fragments = Fragments(self.lose)
-        self.unknown = collections.defaultdict(set)
-        self.when, self.vlans = None, ()  # of the frame that is looked at
+        self.unknown: dict[str, set] = collections.defaultdict(set)
+        # Of the frame that is looked at
+        self.when: Optional[int] = None
+        self.vlans: tuple[int, ...] = ()
 
-    def leave_out(self, cause):
+    def leave_out(self, cause: str) -> None:
         self.left_out[cause] += 1
 
-    def leave_tunnel(self, name):
+    def leave_tunnel(self, name: str) -> None:
         self.leave_out(f"in a tunnel ({name}), which is not opened")
 
-    def leave_udp_tunnel(self, udp):
+    def leave_udp_tunnel(self, udp: bytes) -> None:
         """Counts a datagram that carries packets, unless its port is wanted for itself."""
         port = int.from_bytes(udp[2:4], "big")
         if port in UDP_TUNNELS and port not in self.ports:
@@ -88,7 +99,7 @@ class Datagrams:
         else:
             self.leave_out(f"another {what}, {UNKNOWN}")
 
-    def take(self, link, frame, is_cut, when=None):
+    def take(self, link: int, frame: bytes, is_cut: bool, when: Optional[int] = None) -> None:
         """Takes the IP packet in a frame. `when` is the second of its capture, if that is told."""
         kind, start, self.vlans = carried(link, frame)
         self.when = when
@@ -115,7 +126,7 @@ class Datagrams:
             else:
                 self.leave_unknown("EtherType", f"0x{kind.hex()}")
 
-    def take_ip(self, ip, is_cut):
+    def take_ip(self, ip: bytes, is_cut: bool) -> None:
         version = ip[0] >> 4 if ip else 0
         if version == 4 and len(ip) >= 20:
             self.take_ip4(ip)
@@ -124,7 +135,7 @@ class Datagrams:
         elif is_cut and (version in (4, 6) or not ip):
             self.leave_out(CUT_BEFORE_PORT)
 
-    def take_ip4(self, ip):
+    def take_ip4(self, ip: bytes) -> None:
         first, length, number, place, protocol, source, target = IP4_HEAD.unpack_from(ip)
         head = (first & 15) * 4
         data, is_whole = ip[head:length], length <= len(ip)
@@ -146,7 +157,7 @@ class Datagrams:
         else:
             self.take_udp(source, target, data, is_whole)
 
-    def take_ip6(self, ip):
+    def take_ip6(self, ip: bytes) -> None:
         length, kind, source, target = IP6_HEAD.unpack_from(ip)
         is_whole, is_joined = length <= len(ip) - 40, False
         kind, data = behind_headers(kind, ip[40 : 40 + length])
@@ -173,7 +184,9 @@ class Datagrams:
         else:
             self.take_other(kind, data)
 
-    def take_udp(self, source, target, data, is_whole, is_joined=False):
+    def take_udp(
+        self, source: bytes, target: bytes, data: bytes, is_whole: bool, is_joined: bool = False
+    ) -> None:
         """Takes a datagram, which may have been joined of fragments."""
         if len(data) < 8:
             self.take_short_udp(data, is_whole)
@@ -216,13 +229,13 @@ class Datagrams:
         self.count += 1
         self.hand_on(source, target, port, payload)
 
-    def take_short_udp(self, data, is_whole):
+    def take_short_udp(self, data: bytes, is_whole: bool) -> None:
         if len(data) < 4 and not is_whole:
             self.leave_out(CUT_BEFORE_PORT)
         elif self.may_want(data):
             self.leave_out(LENGTHS if is_whole else CUT)
 
-    def take_other(self, protocol, data):
+    def take_other(self, protocol: int, data: bytes) -> None:
         """Counts what may carry datagrams and is not opened.
 
         An ICMP error quotes the packet that it is about behind 8 bytes.
@@ -240,11 +253,11 @@ class Datagrams:
             if self.may_want(udp) and (not self.groups or target in self.groups):
                 self.leave_out(QUOTE)
 
-    def may_want(self, udp):
+    def may_want(self, udp: bytes) -> bool:
         """Whether its port is wanted, or there is none to see."""
         return not self.ports or len(udp) < 4 or int.from_bytes(udp[2:4], "big") in self.ports
 
-    def lose(self, key, first, cause):
+    def lose(self, key: Key, first: bytes, cause: str) -> None:
         """A datagram in fragments is left out. Its port stands in the first of them."""
         kind, udp = behind_headers(key[3], first)
         if kind != UDP or len(udp) < 4:
@@ -252,11 +265,11 @@ class Datagrams:
         elif self.may_want(udp):
             self.leave_out(cause)
 
-    def finish(self):
+    def finish(self) -> None:
         self.fragments.finish()
 
 
-def behind_headers(kind, data):
+def behind_headers(kind: int, data: bytes) -> tuple[int, bytes]:
     """What stands behind the extension headers of an IPv6 packet: its kind and its bytes.
 
     Where it ends within one of them: that one.
@@ -267,7 +280,7 @@ def behind_headers(kind, data):
     return kind, data[at:] if at else data
 
 
-def checksum_fault(source, target, udp, checksum):
+def checksum_fault(source: bytes, target: bytes, udp: bytes, checksum: int) -> Optional[str]:
     """Why the UDP checksum does not hold (RFC 768; RFC 8200, section 8.1), or None.
 
     The sum of words in ones' complement is the number modulo 65,535.

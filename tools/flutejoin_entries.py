@@ -2,7 +2,7 @@
 from __future__ import annotations
 
 import struct
-from typing import BinaryIO, Iterator, NamedTuple
+from typing import BinaryIO, Iterator, NamedTuple, Union
 
 from flutejoin_partition import fault_of
 from flutejoin_records import MOST, Fault, Reader, Records
@@ -78,11 +78,12 @@ class Entries(Reader):
         return self.take(size)
 
 
-def reader_of(file: BinaryIO) -> Reader:
+def reader_of(file: BinaryIO) -> Union[Records, Entries]:
     """Reads a file by its first four bytes as a datagram file or as a journal."""
     magic = file.read(4)
     file.seek(0)
-    for reader in (Records, Entries):
-        if magic == reader.magic:
-            return reader(file)
+    if magic == Records.magic:
+        return Records(file)
+    if magic == Entries.magic:
+        return Entries(file)
     raise Fault("is neither a datagram file nor a journal")

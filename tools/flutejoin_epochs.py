@@ -8,20 +8,21 @@ from __future__ import annotations
 from typing import Iterator, Optional
 
 from flutejoin_packets import TOI_PLACES, ZEROS, packet_of
+from flutejoin_records import Buffer
 
 MOST_SYMBOLS = 4096  # that are remembered of a sender
 MOST_BEGUN, BEGUN_IN = 4, 60  # epochs that may begin in so many seconds
 CONTRADICTING = "of an FDT Instance that came with other contents, again and again (two senders?)"
 
 
-def may_tell_of_instance(payload) -> bool:
+def may_tell_of_instance(payload: Buffer) -> bool:
     """Whether a datagram has a TOI 0, if it is one of FLUTE. That is soon seen."""
     if len(payload) < 2:
         return False
     return bytes(payload[TOI_PLACES[(payload[0] & 15) << 8 | payload[1]]]) in ZEROS
 
 
-def told_of_instance(payload) -> Iterator[tuple[bytes, int]]:
+def told_of_instance(payload: Buffer) -> Iterator[tuple[bytes, int]]:
     """What a datagram tells of an FDT Instance: the address of each fact, and a hash of its value.
 
     Nothing where it is of a file, or no FLUTE packet.
@@ -45,7 +46,7 @@ class Epoch:
     def __init__(self) -> None:
         self.hashes: dict[bytes, int] = {}
 
-    def contradicts(self, payload) -> bool:
+    def contradicts(self, payload: Buffer) -> bool:
         """Whether a datagram has another value of an FDT Instance than came before.
 
         Then the sender started again, and nothing is noted. Else it is noted.
@@ -60,7 +61,7 @@ class Epoch:
             del self.hashes[next(iter(self.hashes))]
         return False
 
-    def begin(self, payload) -> None:
+    def begin(self, payload: Buffer) -> None:
         """Begins the next epoch with the datagram that contradicts this one."""
         self.hashes.clear()
         self.contradicts(payload)
@@ -76,7 +77,7 @@ class Epochs:
         self.number, self.epoch = 1, Epoch()
         self.begun = [float("-inf")] * MOST_BEGUN
 
-    def begins(self, payload, now: float) -> Optional[bool]:
+    def begins(self, payload: Buffer, now: float) -> Optional[bool]:
         """Whether a datagram that comes at this second begins the next; None to leave it out."""
         if not may_tell_of_instance(payload) or not self.epoch.contradicts(payload):
             return False

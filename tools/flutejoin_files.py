@@ -7,20 +7,24 @@ import contextlib
 import errno
 import ipaddress
 import os
+import re
 import shlex
 import signal
 import socket
 import string
 import sys
-from typing import BinaryIO, Callable, NamedTuple, Optional
+from typing import IO, BinaryIO, Callable, Iterator, NamedTuple, NoReturn, Optional, Union
 
-from flutejoin_records import HEADER, LENGTH  # noqa: F401
-from flutejoin_records import MOST as MOST_RECORDS  # noqa: F401
+import flutejoin_records as records
 
+HEADER = records.HEADER  # of a datagram file
 MOST_BYTES = (1 << 32) - 1  # of a datagram file, so that it can be kept on any disk
 MOST_INPUTS = 64  # of one `flutejoin join`
 PARTIAL = ".partial"
+STANDARD_OUTPUT = "-"  # as the name of an output
 STOPPING = (signal.SIGINT, signal.SIGTERM, signal.SIGHUP)
+
+IPAddress = Union[ipaddress.IPv4Address, ipaddress.IPv6Address]
 
 
 class Report:
@@ -29,20 +33,22 @@ class Report:
     The greatest status of the faults is kept.
     """
 
-    def __init__(self, tool):
+    def __init__(self, tool: str, out: Optional[str] = None) -> None:
+        """Where the output of the tool is standard output, its lines go to standard error."""
         self.tool, self.status, self.is_mute = tool, 0, False
+        self.has_lines_aside = out == STANDARD_OUTPUT
 
-    def say(self, text):
-        self.tell(sys.stdout, text)
+    def say(self, text: str) -> None:
+        self.tell(sys.stderr if self.has_lines_aside else sys.stdout, text)
 
-    def warn(self, text):
+    def warn(self, text: str) -> None:
         self.tell(sys.stderr, f"{self.tool}: {text}")
 
-    def fault(self, status, text):
+    def fault(self, status: int, text: str) -> None:
         self.status = max(self.status, status)
         self.warn(text)
 
-    def tell(self, stream, *lines):
+    def tell(self, stream: IO[str], *lines: str) -> None:
         """Writes lines. A stream that is closed or cannot be written ends no work."""
         try:
             put(stream, *lines)
@@ -58,7 +64,7 @@ class CommandLine(argparse.ArgumentParser):
     The help is an output like any other: where it cannot be written, that is told.
     """
 
-    def __init__(self, tool, description, epilog=None):
+    def __init__(self, tool: str, description: Optional[str], epilog: Optional[str] = None) -> None:
         form = argparse.RawDescriptionHelpFormatter
         super().__init__(
             prog=tool,
@@ -68,13 +74,13 @@ class CommandLine(argparse.ArgumentParser):
             allow_abbrev=False,
         )
 
-    def print_help(self, file=None):
+    def print_help(self, file: Optional[IO[str]] = None) -> None:
         report = Report(self.prog)
         report.tell(file or sys.stdout, *self.format_help().splitlines())
         if report.status:
             self.exit(report.status)
 
-    def error(self, message):
+    def error(self, message: str) -> NoReturn:
         super().error(shown(message))
 
 
@@ -85,6 +91,13 @@ def number_below(end: int) -> Callable[[str], int]:
         return int(text)
 
     return number
+
+
+def number_of_bytes(text: str) -> int:
+    found = re.fullmatch(r"(\d{1,15})([KMGT]?)", text, re.ASCII)
+    if not found:
+        raise argparse.ArgumentTypeError(f"{text!r} is not a number of bytes, as 64M or 2G")
+    return int(found[1]) << 10 * " KMGT".index(found[2] or " ")
 
 
 def sender_bytes(text: str) -> bytes:
@@ -111,7 +124,7 @@ def is_same(one: str, other: str) -> bool:
         return False
 
 
-def answer_stops(answer):
+def answer_stops(answer: Callable[..., None]) -> None:
     """Has the signals that end a run answered so.
 
     A hangup is none of them where it is ignored, as under nohup.
@@ -121,7 +134,7 @@ def answer_stops(answer):
             signal.signal(number, answer)
 
 
-def stop(number, _frame):
+def stop(number: int, _frame: object) -> None:
     """Ends a run by the first signal.
 
     Others that come change nothing: what is left is to clear up.
@@ -130,7 +143,7 @@ def stop(number, _frame):
     raise KeyboardInterrupt(number)
 
 
-def keep_status():
+def keep_status() -> None:
     """For the end of a run: it keeps the status that the run ends with.
 
     Python lets signals kill while it ends, and a late Ctrl-C would then take the status away.
@@ -163,14 +176,23 @@ def open_at_once(name: str, flags: int) -> int:
     return os.open(name, flags | os.O_NONBLOCK)
 
 
-def put(stream, *lines: str) -> None:
+def opened(name: str) -> BinaryIO:
+    """Opens a file that may be read from any place."""
+    file = open(name, "rb", buffering=records.PIECE, opener=open_at_once)
+    if not file.seekable():
+        file.close()
+        raise OSError(errno.ESPIPE, "is no regular file", name)
+    return file
+
+
+def put(stream: IO[str], *lines: str) -> None:
     """Writes lines, as they can be shown."""
     text = os.fsencode("".join(f"{shown(line)}\n" for line in lines))
     while text:
         text = text[os.write(stream.fileno(), text) :]
 
 
-def stem(text, epoch=1):
+def stem(text: str, epoch: int = 1) -> str:
     """What the names of a sender's files begin with: the address without colons, and the epoch.
 
     Some systems and tools do not take colons in names.
@@ -178,7 +200,7 @@ def stem(text, epoch=1):
     return text.replace(":", "-") + (f".e{epoch}" if epoch > 1 else "")
 
 
-def file_name(text, part, epoch=1):
+def file_name(text: str, part: int, epoch: int = 1) -> str:
     """The name of a sender's datagram file.
 
     It is made of the address as text, of the epoch, and of the number of the file in it:
@@ -190,7 +212,7 @@ def file_name(text, part, epoch=1):
 class Name(NamedTuple):
     """What the name of a sender's file tells."""
 
-    address: ipaddress._BaseAddress
+    address: IPAddress
     epoch: int
     part: int
 
@@ -216,7 +238,7 @@ def name_of(name: str) -> Optional[Name]:
     return None
 
 
-def join_lines(sender, journal, inputs):
+def join_lines(sender: bytes, journal: str, inputs: list[str]) -> Iterator[str]:
     """The lines that join a sender's files, and what an earlier run of such a line made of some.
 
     A line takes 64 inputs.
@@ -231,15 +253,19 @@ def join_lines(sender, journal, inputs):
         inputs = [journal, *rest] if rest else []
 
 
-def address(sender):
+def address(sender: bytes) -> str:
     return socket.inet_ntop(socket.AF_INET if len(sender) == 4 else socket.AF_INET6, sender)
 
 
 def write_new(name: str, ending: str, fill: Callable[[BinaryIO], None]) -> None:
     """Makes a file that is not there yet: whole, or not at all.
 
-    Until it is whole it has another name, with this ending.
+    Until it is whole it has another name, with this ending. `-` is standard output, which keeps
+    what it took before a fault.
     """
+    if name == STANDARD_OUTPUT:
+        write_out(fill)
+        return
     partial = name + ending
     if os.path.lexists(name):
         raise FileExistsError(errno.EEXIST, "is there already, and is left as it is", name)
@@ -260,7 +286,18 @@ def write_new(name: str, ending: str, fill: Callable[[BinaryIO], None]) -> None:
         raise
 
 
-def give_name(partial, path):
+def write_out(fill: Callable[[BinaryIO], None]) -> None:
+    """Writes to standard output."""
+    if sys.stdout is None:
+        raise OSError(errno.EBADF, os.strerror(errno.EBADF), "standard output")
+    try:
+        with open(sys.stdout.fileno(), "wb", closefd=False) as out:
+            fill(out)
+    except OSError as fault:
+        raise OSError(fault.errno, fault.strerror, fault.filename or "standard output") from None
+
+
+def give_name(partial: str, path: str) -> None:
     """Names a file that is whole. A file of that name is never replaced."""
     try:
         os.link(partial, path)

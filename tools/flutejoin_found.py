@@ -3,21 +3,22 @@ from __future__ import annotations
 
 import collections
 import contextlib
+import io
 import ipaddress
 import os
 import stat
-from typing import Iterable, NamedTuple, Optional, Tuple
+from typing import Iterable, NamedTuple, Optional, Tuple, Union
 
 from flutejoin_epochs import Epoch, may_tell_of_instance
-from flutejoin_files import Name, file_name, name_of
+from flutejoin_files import IPAddress, Name, file_name, name_of
 from flutejoin_notes import Fault, note
-from flutejoin_records import HEADER, LENGTH, PIECE, ends, last_whole
+from flutejoin_records import HEADER, LENGTH, PIECE, Looked, ends, last_whole
 
 MOST_LOOKED = 64  # pieces at a file's end in which FDT Instances are looked for
 MOST_RECORDS = 1 << 17  # records in which they are looked for
 
 
-def address_of(text):
+def address_of(text: Union[str, bytes]) -> IPAddress:
     """The address that a socket names, as text or packed.
 
     An IPv4 address may come in IPv6 form, and a link's name behind an address is no part of it.
@@ -47,7 +48,7 @@ class Found(NamedTuple):
 def look_at(folder: str, name: Name) -> Found:
     """Looks through a file, and takes away a record that was cut at its end."""
     path = os.path.join(folder, file_name(str(name.address), name.part, name.epoch))
-    looked = collections.deque(maxlen=MOST_LOOKED)
+    looked: Looked = collections.deque(maxlen=MOST_LOOKED)
     try:
         # A pipe of that name must not be waited for.
         with open(os.open(path, os.O_RDWR | os.O_NONBLOCK | os.O_CLOEXEC), "r+b", 0) as file:
@@ -62,7 +63,7 @@ def look_at(folder: str, name: Name) -> Found:
         raise Fault(3, f"cannot open {path}: {error.strerror}") from None
 
 
-def last_of(file, path: str, found: os.stat_result, looked) -> tuple[int, int]:
+def last_of(file: io.FileIO, path: str, found: os.stat_result, looked: Looked) -> tuple[int, int]:
     """Where the last whole record of a file ends, and how many there are."""
     if not stat.S_ISREG(found.st_mode):
         raise Fault(1, f"{path}: is no regular file, and is left as it is")
@@ -72,7 +73,7 @@ def last_of(file, path: str, found: os.stat_result, looked) -> tuple[int, int]:
     return last_whole(file, found.st_size, len(HEADER), looked) if head == HEADER else (0, 0)
 
 
-def mended(file, path: str, end: int, size: int) -> bool:
+def mended(file: io.FileIO, path: str, end: int, size: int) -> bool:
     """Takes away a record that was cut at a file's end, and keeps it in a file beside it.
 
     Where a length in the file is wrong, it is more than a record that a kill cut. It is not taken
@@ -113,7 +114,7 @@ def keep_beside(path: str, cut: bytes) -> str:
 
 def epoch_in(folder: str, name: Name) -> Epoch:
     """What an earlier file tells of FDT Instances. Nothing where it is not there any more."""
-    looked = collections.deque(maxlen=MOST_LOOKED)
+    looked: Looked = collections.deque(maxlen=MOST_LOOKED)
     try:
         path = os.path.join(folder, file_name(str(name.address), name.part, name.epoch))
         with open(os.open(path, os.O_RDONLY | os.O_NONBLOCK | os.O_CLOEXEC), "rb", 0) as file:
@@ -123,7 +124,7 @@ def epoch_in(folder: str, name: Name) -> Epoch:
         return Epoch()
 
 
-def epoch_of(file, size: int, looked) -> Epoch:
+def epoch_of(file: io.FileIO, size: int, looked: Looked) -> Epoch:
     """What a file tells at its end of FDT Instances."""
     epoch, records = Epoch(), sum(count for _, count in looked)
     while records > MOST_RECORDS:

@@ -2,7 +2,7 @@
 from __future__ import annotations
 
 import collections
-from typing import Callable
+from typing import Callable, Tuple
 
 MOST_FRAGMENTED = 256  # datagrams whose fragments are kept
 MOST_FRAGMENTS = 256  # of one datagram
@@ -13,27 +13,32 @@ LOST = "a fragment is lost"
 DISAGREE = "fragments overlap or disagree"
 TOO_MANY = f"more than {MOST_FRAGMENTS} fragments"
 
+# Whose fragments belong together: source, target, identification, protocol and VLANs
+Key = Tuple[bytes, bytes, int, int, Tuple[int, ...]]
+
 
 class Fragmented:
     """A datagram that comes in fragments, the first of which came at a second."""
 
-    def __init__(self, when):
-        self.pieces, self.held, self.end, self.cause, self.is_done = {}, 0, None, None, False
-        self.when = when
+    def __init__(self, when: int | None) -> None:
+        self.pieces: dict[int, bytes] = {}  # by their offsets
+        self.held, self.is_done, self.when = 0, False, when
+        self.end: int | None = None
+        self.cause: str | None = None
 
-    def is_repeat(self, offset, more, data):
+    def is_repeat(self, offset: int, more: bool, data: bytes) -> bool:
         return self.pieces.get(offset) == data and (offset + len(data) == self.end) != more
 
     def is_over(self, when: int | None) -> bool:
         """Whether what comes at this second is too late for it. A capture may tell no times."""
         return None not in (when, self.when) and abs(when - self.when) > MOST_SECONDS
 
-    def fail(self, cause):
+    def fail(self, cause: str) -> None:
         """It is never put together, whatever comes. What is kept is where its port stands."""
         self.cause = cause
         self.pieces = {0: self.pieces[0][:256]} if 0 in self.pieces else {}
 
-    def add(self, offset, more, data):
+    def add(self, offset: int, more: bool, data: bytes) -> None:
         """Takes a fragment that is no repeat.
 
         No two overlap, so they are the whole where their lengths come to its end.
@@ -61,10 +66,13 @@ class Fragments:
     Those that are whole stay among them, since a capture may have a fragment twice.
     """
 
-    def __init__(self, lose: Callable[[tuple, bytes, str], None]):
-        self.last, self.lose = collections.OrderedDict(), lose
+    def __init__(self, lose: Callable[[Key, bytes, str], None]) -> None:
+        self.last: collections.OrderedDict[Key, Fragmented] = collections.OrderedDict()
+        self.lose = lose
 
-    def add(self, key, offset, more, data, is_whole, when):
+    def add(
+        self, key: Key, offset: int, more: bool, data: bytes, is_whole: bool, when: int | None
+    ) -> bytes | None:
         """The whole datagram, with the last of its fragments that comes."""
         datagram = self.last.get(key)
         if datagram and datagram.is_over(when):
@@ -88,12 +96,12 @@ class Fragments:
             return None
         return b"".join(datagram.pieces[at] for at in sorted(datagram.pieces))
 
-    def forget(self, key):
+    def forget(self, key: Key) -> None:
         """Forgets a datagram. One that is not whole by now is lost."""
         datagram = self.last.pop(key)
         if not datagram.is_done:
             self.lose(key, datagram.pieces.get(0, b""), datagram.cause or LOST)
 
-    def finish(self):
+    def finish(self) -> None:
         while self.last:
             self.forget(next(iter(self.last)))

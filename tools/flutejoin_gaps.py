@@ -11,7 +11,19 @@ import shutil
 import signal
 import subprocess
 import sys
-from typing import Callable, Container, Iterable, NamedTuple, Optional
+from typing import (
+    IO,
+    Callable,
+    Container,
+    Generator,
+    Iterable,
+    Iterator,
+    List,
+    NamedTuple,
+    Optional,
+    Tuple,
+    Union,
+)
 
 import flutejoin_files as files
 from flutejoin_files import shown
@@ -33,12 +45,12 @@ INFORMATION = re.compile(OBJECT + rb"info length (\d+) symbol (\d+) block (\d+)\
 class Fault(Exception):
     """What ends the run, and the status that it ends with."""
 
-    def __init__(self, status, text):
+    def __init__(self, status: int, text: str, is_write: bool = False) -> None:
         super().__init__(text)
-        self.status = status
+        self.status, self.is_write = status, is_write
 
 
-def find(name):
+def find(name: Optional[str]) -> str:
     """The program: the one that is named, or beside this tool, or on the PATH."""
     beside = os.path.join(os.path.dirname(os.path.abspath(sys.argv[0])), "flutejoin")
     if name is None and os.path.isfile(beside) and os.access(beside, os.X_OK):
@@ -80,9 +92,14 @@ Take = Callable[[int, int, int, int], None]
 # Answers what takes the gaps of an object, or None
 Begin = Callable[[str, State], Optional[Take]]
 
+# Information of an object: its length, the bytes of a symbol and the symbols of a block
+Numbers = Tuple[int, int, int]
+# The words of a run of the program, and the names of its inputs
+Command = Tuple[List[str], List[str]]
+
 
 @contextlib.contextmanager
-def later():
+def later() -> Iterator[None]:
     """Signals that come meanwhile are answered behind it.
 
     What was begun by then is known, and is ended with the run.
@@ -104,8 +121,9 @@ def later():
 class Program:
     """Runs flutejoin. A journal is a path, and is named in faults by its path."""
 
-    def __init__(self, path):
+    def __init__(self, path: str) -> None:
         self.path = path
+        self.kept: tuple[int, ...] = ()  # open files that a run of it keeps open
 
     def states(self, journals: list[str], wanted: Container[str] | None) -> dict[str, State]:
         """What these journals together tell of objects, of all or of those that are wanted.
@@ -133,7 +151,7 @@ class Program:
         self.read_gaps(self.commands(journals), begin)
 
     @staticmethod
-    def commands(journals: list[str]) -> list[tuple]:
+    def commands(journals: list[str]) -> list[Command]:
         """What tells the gaps of these journals together."""
         paths = [argument(path) for path in journals]
         names = [shown(path) for path in journals]
@@ -142,7 +160,9 @@ class Program:
         joined = (["join", "-o", "-", *paths], names)
         return [joined, (["gaps", "-"], ["the journals joined"])]
 
-    def gaps_with(self, journal: str, information: Iterable[tuple], begin: Begin) -> None:
+    def gaps_with(
+        self, journal: str, information: Iterable[Tuple[str, Numbers]], begin: Begin
+    ) -> None:
         """The same of a journal once information is added to it: pairs `(object, numbers)`."""
         name = shown(journal)
         added = [
@@ -152,7 +172,7 @@ class Program:
         added[0][0][-1] = argument(journal)
         self.read_gaps([*added, (["gaps", "-"], [name])], begin)
 
-    def read_gaps(self, commands: list[tuple], begin: Begin) -> None:
+    def read_gaps(self, commands: list[Command], begin: Begin) -> None:
         take = None
         with contextlib.closing(self.lines(commands)) as lines, contextlib.suppress(Enough):
             for line in lines:
@@ -165,7 +185,7 @@ class Program:
                         raise unknown(line)
                     take(int(gap[1]), int(gap[2]), int(gap[3]), REASONS[gap[4]])
 
-    def information(self, journal, keys):
+    def information(self, journal: str, keys: set[str]) -> dict[str, Numbers]:
         """The information of these objects, of which the journal has it.
 
         It is the object's length, the bytes of a symbol and the symbols of a block.
@@ -186,13 +206,13 @@ class Program:
                         return found
         raise Fault(3, f"{shown(journal)}: changed while it was read")
 
-    def lines(self, commands):
+    def lines(self, commands: list[Command]) -> Generator[bytes, None, None]:
         """The lines that the last command prints.
 
         Each command is its words and the names of its inputs, and takes what the one before it
         writes.
         """
-        running = []
+        running: list[subprocess.Popen] = []
         try:
             for words, _ in commands:
                 feed = running[-1].stdout if running else subprocess.DEVNULL
@@ -214,10 +234,14 @@ class Program:
         if first:
             raise first[0]
 
-    def start(self, words, feed):
+    def start(self, words: list[str], feed: Union[IO[bytes], int]) -> subprocess.Popen:
         try:
             return subprocess.Popen(
-                [self.path, *words], stdin=feed, stdout=subprocess.PIPE, stderr=subprocess.PIPE
+                [self.path, *words],
+                stdin=feed,
+                stdout=subprocess.PIPE,
+                stderr=subprocess.PIPE,
+                pass_fds=self.kept,
             )
         except OSError as fault:
             raise Fault(3, f"{shown(self.path)}: cannot be run: {fault.strerror}") from None
@@ -231,26 +255,26 @@ def state_of(line: bytes) -> re.Match:
     return told
 
 
-def argument(path):
+def argument(path: str) -> str:
     """A path as the program takes it: `-` is no file there, and what begins so no name."""
     return f"./{path}" if path.startswith("-") else path
 
 
-def options(key):
+def options(key: str) -> list[str]:
     """The options that name an object."""
     words = key.split()
     source = ["--source", words[1]] if words[0] == "source" else []
-    words = words[len(source):]
+    words = words[len(source) :]
     number = ["--toi", "0", "--fdt", words[4]] if words[3] == "fdt" else ["--toi", words[3]]
     return [*source, "--tsi", words[1], *number]
 
 
-def numbers_of(information):
+def numbers_of(information: Numbers) -> list[str]:
     length, symbol, block = information
     return ["--length", str(length), "--symbol", str(symbol), "--block", str(block)]
 
 
-def fault_of(process, names):
+def fault_of(process: subprocess.Popen, names: list[str]) -> Optional[Fault]:
     """What a run of the program tells to be wrong, with the name of the file.
 
     None where it did its work.
@@ -269,11 +293,10 @@ def fault_of(process, names):
     else:
         name = names[0] if len(names) == 1 else "the journals joined"
         text = f"{name}: {text or f'flutejoin ended with status {status}'}"
-    fault = Fault(status if status in (1, 2, 3) else 3, text)
-    fault.is_write = status == -signal.SIGPIPE or told.endswith("cannot write")
-    return fault
+    is_write = status == -signal.SIGPIPE or told.endswith("cannot write")
+    return Fault(status if status in (1, 2, 3) else 3, text, is_write)
 
 
-def unknown(line):
+def unknown(line: bytes) -> Fault:
     told = shown(line[:80].decode(errors="replace").strip())
     return Fault(3, f"flutejoin tells a line that is not known here: {told}")

@@ -2,7 +2,7 @@
 from __future__ import annotations
 
 import array
-from typing import Callable, Iterable
+from typing import Callable, Iterable, Iterator, Sequence
 
 from flutejoin_gaps import (
     CONFLICTING,
@@ -18,6 +18,9 @@ from flutejoin_partition import Partition
 
 NAMES = ("held", "missing", "conflicting", "misfit")
 OBJECT_NAMES = ("whole", "partial", "conflicting", "no information")
+
+# How many are of each kind
+Counts = Sequence[int]
 
 
 def counted(number: int, what: str) -> str:
@@ -60,15 +63,15 @@ class Grid:
             for reason in (MISSING, CONFLICTING, MISFIT)
         }
 
-    def is_fine(self):
+    def is_fine(self) -> bool:
         """Whether each row is a block, and each cell a symbol."""
         return self.group == 1 and self.run == 1
 
-    def begin(self, row):
+    def begin(self, row: int) -> int:
         """The place of the first symbol of a row, and of the one behind the last row."""
         return self.partition.start(min(row * self.group, self.partition.blocks))
 
-    def add(self, block, first, last, reason):
+    def add(self, block: int, first: int, last: int, reason: int) -> bool:
         """Takes a gap; False where the object has no such symbols."""
         if block >= self.partition.blocks or not first <= last < self.partition.size(block):
             return False
@@ -83,11 +86,11 @@ class Grid:
         self.counts[HELD] -= last - first + 1
         return True
 
-    def miss_all(self):
+    def miss_all(self) -> None:
         for block in range(self.partition.blocks):
             self.add(block, 0, self.partition.size(block) - 1, MISSING)
 
-    def row_cells(self, row):
+    def row_cells(self, row: int) -> Iterator[Counts]:
         """How many symbols of each cell of a row are of each kind."""
         size = self.begin(row + 1) - self.begin(row)
         for column in range(-(-size // self.run)):
@@ -95,7 +98,7 @@ class Grid:
             other = [self.cells[reason][at] for reason in (MISSING, CONFLICTING, MISFIT)]
             yield (min(self.run, size - column * self.run) - sum(other), *other)
 
-    def row_runs(self, row):
+    def row_runs(self, row: int) -> Iterator[tuple[int, int, Counts]]:
         """Cells side by side that are wholly of one kind, and each other cell alone.
 
         Of each its first column, the one behind, and its counts.
@@ -112,12 +115,12 @@ class Grid:
         if one:
             yield begin, column + 1, one
 
-    def places(self, row, begin, end):
+    def places(self, row: int, begin: int, end: int) -> tuple[int, int]:
         """The places of the first and the last symbol of cells of a row."""
         first = self.begin(row) + begin * self.run
         return first, min(self.begin(row) + end * self.run, self.begin(row + 1)) - 1
 
-    def range_words(self, row, begin, end):
+    def range_words(self, row: int, begin: int, end: int) -> str:
         """Which symbols stand in cells of a row."""
         first, last = map(self.partition.id_at, self.places(row, begin, end))
         if first == last:
@@ -126,15 +129,15 @@ class Grid:
             return "%d/%d-%d" % (*first, last[1])
         return "%d/%d to %d/%d" % (*first, *last)
 
-    def label(self, row):
+    def label(self, row: int) -> int:
         """What stands before a row: its first block."""
         return row * self.group
 
-    def scale_words(self):
+    def scale_words(self) -> str:
         row = "a row is a block" if self.group == 1 else f"a row is {self.group} blocks"
         return f"{row}, a cell is {'a symbol' if self.run == 1 else f'{self.run} symbols'}"
 
-    def words(self, counts=None, is_short=False):
+    def words(self, counts: Iterable[int] | None = None, is_short: bool = False) -> str:
         """How many are of each kind, of all or of these counts."""
         of = list(zip(self.names, self.counts if counts is None else counts))
         return ", ".join(f"{name} {count}" for name, count in of if count or not is_short)

@@ -8,11 +8,14 @@ from __future__ import annotations
 import collections
 import enum
 import os
-from typing import NamedTuple, Optional, Tuple, Union
+from typing import TYPE_CHECKING, NamedTuple, Optional, Tuple, Union
 
-from flutejoin_files import file_name
+from flutejoin_files import IPAddress, file_name
 from flutejoin_notes import note
-from flutejoin_records import HEADER, PIECE, last_whole, whole_records
+from flutejoin_records import HEADER, PIECE, Buffer, last_whole, whole_records
+
+if TYPE_CHECKING:
+    from flutejoin_writer import Opened
 
 COPY_STEP = 8  # pieces between two looks at what else waits
 LOOK_FLAGS = os.O_RDWR | os.O_APPEND | os.O_NONBLOCK | os.O_CLOEXEC
@@ -45,7 +48,9 @@ class Grown(NamedTuple):
 class Growing:
     """The datagram files of one sender, of which the last grows."""
 
-    def __init__(self, folder: str, address, opened, epoch: int = 1, part: int = 1):
+    def __init__(
+        self, folder: str, address: IPAddress, opened: Opened, epoch: int = 1, part: int = 1
+    ) -> None:
         self.folder, self.address, self.opened = folder, address, opened
         self.epoch, self.part = epoch, part
         self.orders: collections.deque[Union[Block, Begin]] = collections.deque()
@@ -109,6 +114,7 @@ class Growing:
         self.identity, self.size, self.records, self.before = None, 0, 0, 0
 
     def write(self, block: Block) -> None:
+        self.opened.make_room(len(HEADER) + len(block.data))  # which may end this file
         if self.descriptor is None:
             self.open()
         self.opened.touch(self)
@@ -124,10 +130,11 @@ class Growing:
 
     def add(self, size: int, of_block: int, records: int) -> None:
         self.size += size
+        self.opened.held += size
         self.taken += of_block
         self.records += records
 
-    def keep_whole(self, block: Block, data, written: int) -> None:
+    def keep_whole(self, block: Block, data: Buffer, written: int) -> None:
         """After a write of which so many bytes got to the file: the rest of the block waits."""
         begin = 0 if self.size else len(HEADER)
         end, records = whole_records(memoryview(data)[begin:written])
@@ -231,7 +238,7 @@ class Growing:
 class Copy:
     """What a removed file held, which is written anew from the descriptor that is still there."""
 
-    def __init__(self, growing: Growing):
+    def __init__(self, growing: Growing) -> None:
         self.growing, self.source = growing, growing.descriptor
         self.epoch, self.part = growing.epoch, growing.part
         self.size, self.records, self.before = growing.size, growing.records, growing.before
@@ -251,7 +258,9 @@ class Copy:
                 note(f"{self.path()}: {self.copied} bytes of it are written anew")
                 self.end(self.records)
                 return
-            self.copied += os.pwrite(self.target, piece, self.copied)
+            written = os.pwrite(self.target, piece, self.copied)
+            self.copied += written
+            self.growing.opened.held += written
 
     def make(self) -> None:
         flags = os.O_RDWR | os.O_CREAT | os.O_EXCL | os.O_CLOEXEC

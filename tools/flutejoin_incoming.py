@@ -6,14 +6,15 @@ import stat
 from typing import NamedTuple, Optional
 
 import flutejoin_files as files
-from flutejoin_found import last_whole, name_of
+from flutejoin_files import IPAddress, name_of
 from flutejoin_joining import Fed
+from flutejoin_records import HEADER, last_whole
 
 
 class Sender(NamedTuple):
-    """Whose facts one journal has: an address, of the module ipaddress, and an epoch."""
+    """Whose facts one journal has: an address and an epoch."""
 
-    address: object
+    address: IPAddress
     epoch: int
 
     def stem(self) -> str:
@@ -35,8 +36,9 @@ class Part:
 
     def __init__(self, path: str, number: int) -> None:
         self.path, self.number = path, number
-        self.taken = self.end = len(files.HEADER)
-        self.size, self.inode, self.is_last = 0, None, True
+        self.taken = self.end = len(HEADER)
+        self.size, self.is_last = 0, True
+        self.inode: Optional[int] = None
 
     def look(self) -> None:
         """Sees how long the file is by now, and where its last whole record ends."""
@@ -44,7 +46,7 @@ class Part:
         if found.st_ino != self.inode or found.st_size < self.size:
             self.check(found)
             self.inode, self.size = found.st_ino, 0
-            self.taken = self.end = len(files.HEADER)
+            self.taken = self.end = len(HEADER)
         if found.st_size > self.size:
             with open(self.path, "rb", buffering=0) as file:
                 self.end, _ = last_whole(file, found.st_size, self.taken)
@@ -55,8 +57,8 @@ class Part:
         head = b""
         if stat.S_ISREG(found.st_mode):
             with open(self.path, "rb") as file:
-                head = file.read(len(files.HEADER))
-        if not stat.S_ISREG(found.st_mode) or head != files.HEADER[: len(head)]:
+                head = file.read(len(HEADER))
+        if not stat.S_ISREG(found.st_mode) or head != HEADER[: len(head)]:
             raise NoDatagramFile("is no datagram file of version 1")
 
     def is_new(self) -> bool:
@@ -64,7 +66,7 @@ class Part:
 
     def is_plain(self) -> bool:
         """Whether a join may be given its path: it is whole, and nothing of it was joined."""
-        return not self.is_last and self.taken == len(files.HEADER) and self.end == self.size
+        return not self.is_last and self.taken == len(HEADER) and self.end == self.size
 
     def fed(self) -> Fed:
         return Fed(self.path, self.taken, self.end)

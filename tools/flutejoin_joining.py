@@ -7,7 +7,7 @@ import signal
 import subprocess
 from typing import Callable, Iterator, NamedTuple, Optional, Sequence
 
-from flutejoin_files import HEADER
+from flutejoin_records import HEADER
 
 PIECE = 1 << 20  # bytes that are handed to a join at once
 NICE = 10

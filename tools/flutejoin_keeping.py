@@ -17,6 +17,7 @@ from typing import Callable, Iterable, NamedTuple, Optional
 import flutejoin_files as files
 from flutejoin_joining import Answer, Program
 from flutejoin_incoming import NoDatagramFile, Part, Sender, sender_of
+from flutejoin_records import HEADER
 from flutejoin_shelves import Shelf, bring_to_disk, remove, size_of
 
 SHARE = 10  # the large journal has so many times the bytes of the small one
@@ -121,8 +122,9 @@ class Keeper:
         try:
             part.look()
         except NoDatagramFile as fault:
+            told = str(fault)
             if time.monotonic() >= self.states[sender].next_try:
-                self.attempt(sender, lambda: self.set_aside(part.path, str(fault)))
+                self.attempt(sender, lambda: self.set_aside(part.path, told))
             return False
         except FileNotFoundError:
             return False
@@ -336,7 +338,7 @@ class Keeper:
         self.set_aside(path, told)
         for name, part in self.parts.items():
             if (sender_of(name) or (None, 0))[0] == sender:
-                part.taken = len(files.HEADER)
+                part.taken = len(HEADER)
 
     def set_aside(self, path: str, told: str) -> None:
         name = os.path.basename(path)
@@ -351,7 +353,7 @@ class Keeper:
 
     def status(self) -> dict:
         """What is kept, by sender, and how many bytes it takes."""
-        journals = collections.defaultdict(dict)
+        journals: dict[str, dict] = collections.defaultdict(dict)
         for kind, folder in ("entries", self.journals.path), ("recent entries", self.small.path):
             for name in sorted(os.listdir(folder)):
                 if name.endswith(".journal"):

@@ -22,7 +22,7 @@ EACH = 60  # seconds between two lines about one cause
 class Fault(Exception):
     """What ends the run, and the status that it ends with."""
 
-    def __init__(self, status: int, text: str):
+    def __init__(self, status: int, text: str) -> None:
         super().__init__(text)
         self.status = status
 

@@ -3,6 +3,8 @@ from __future__ import annotations
 
 from typing import Iterator, NamedTuple, Optional
 
+from flutejoin_records import Buffer
+
 EXT_FTI, EXT_FDT = 64, 192  # types of header extensions
 FIXED_ALL = 40  # the most bytes of a header before its extensions
 
@@ -41,7 +43,7 @@ TOI_PLACES = [slice(*fixed_fields(place >> 8, place & 255)[1:]) for place in ran
 ZEROS = frozenset(bytes(size) for size in range(2, 15, 2))
 
 
-def header_of(payload) -> Optional[Header]:
+def header_of(payload: Buffer) -> Optional[Header]:
     """The header of a packet as flutejoin takes it, or None.
 
     It has version 1, TSI, TOI, codepoint 0, and a length that holds its fields and lies within the
@@ -57,7 +59,7 @@ def header_of(payload) -> Optional[Header]:
     return None if len(payload) - header.end in (1, 2, 3) else header
 
 
-def extensions_of(payload, header: Header) -> Iterator[tuple[int, int, int]]:
+def extensions_of(payload: Buffer, header: Header) -> Iterator[tuple[int, int, int]]:
     """The type of each header extension, and where it begins and ends.
 
     The last ends at the header's end, unless one of them has no right length.
@@ -71,7 +73,7 @@ def extensions_of(payload, header: Header) -> Iterator[tuple[int, int, int]]:
         place += 4 * words
 
 
-def is_like_flute(payload) -> bool:
+def is_like_flute(payload: Buffer) -> bool:
     """Whether a datagram has the LCT header of a FLUTE packet as flutejoin takes it.
 
     What its extensions say does not matter (RFC 5651, section 5).
@@ -85,7 +87,7 @@ def is_like_flute(payload) -> bool:
     return end == header.end
 
 
-def packet_of(payload) -> Optional[Packet]:
+def packet_of(payload: Buffer) -> Optional[Packet]:
     """The fields of a datagram that is like FLUTE, or None."""
     header = header_of(payload)
     if not header:

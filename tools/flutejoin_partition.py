@@ -5,7 +5,7 @@ from __future__ import annotations
 class Partition:
     """An object's source blocks. The first `larger` of them have a symbol more than the others."""
 
-    def __init__(self, length: int, symbol: int, block: int):
+    def __init__(self, length: int, symbol: int, block: int) -> None:
         self.numbers = length, symbol, block
         self.symbols = -(-length // symbol) if length else 0
         self.blocks = -(-self.symbols // block) if length else 0

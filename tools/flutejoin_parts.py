@@ -7,6 +7,7 @@ from __future__ import annotations
 import collections
 import errno
 import os
+from typing import Iterator
 
 import flutejoin_files as files
 from flutejoin_epochs import CONTRADICTING, Epochs, may_tell_of_instance
@@ -27,14 +28,14 @@ class Part:
     What is not written yet begins with a whole record.
     """
 
-    def __init__(self, path, epoch):
+    def __init__(self, path: str, epoch: int) -> None:
         self.path, self.epoch, self.size, self.count = path, epoch, 0, 0
         if os.path.lexists(path):
             raise FileExistsError(errno.EEXIST, "is there already", path)
         self.file = open(path + files.PARTIAL, "xb", buffering=0)
         self.waiting = bytearray(HEADER)
 
-    def flush(self):
+    def flush(self) -> None:
         """Writes what waits.
 
         After a failure the file ends behind the last record of which all was written.
@@ -50,7 +51,7 @@ class Part:
         finally:
             self.waiting.clear()
 
-    def keep_whole(self, written):
+    def keep_whole(self, written: int) -> None:
         """Of what waited so many bytes were written.
 
         Cuts the file behind the whole records among them.
@@ -62,7 +63,7 @@ class Part:
         self.size += begin + whole
         self.file.truncate(self.size)
 
-    def finish(self):
+    def finish(self) -> None:
         """Brings the file to the disk and gives it its name.
 
         It does not, where another file has taken that since. A file of no record is removed.
@@ -79,14 +80,17 @@ class Part:
 class Files:
     """The datagram files of a folder: of each sender one, or several parts and epochs."""
 
-    def __init__(self, folder, split, report):
+    def __init__(self, folder: str, split: int, report: files.Report) -> None:
         self.folder, self.split, self.report = folder, split, report
-        self.open, self.refused, self.left_out = {}, set(), collections.Counter()
-        self.epochs = {}  # of each sender
-        self.parts = collections.Counter()  # how many files a sender has of an epoch
+        self.open: dict[bytes, Part] = {}
+        self.refused: set[bytes] = set()
+        self.left_out: collections.Counter[str] = collections.Counter()
+        self.epochs: dict[bytes, Epochs] = {}  # of each sender
+        # How many files a sender has of an epoch
+        self.parts: collections.Counter[tuple[bytes, int]] = collections.Counter()
         self.is_made = False
 
-    def make_folder(self):
+    def make_folder(self) -> None:
         """Makes the folder, in one that is there, and sees that files can be made in it."""
         try:
             if not os.path.isdir(self.folder):
@@ -97,10 +101,10 @@ class Files:
         if not os.access(self.folder, os.W_OK | os.X_OK):
             raise Unwritable(f"cannot make files in the folder {self.folder}")
 
-    def path(self, sender, part, epoch):
+    def path(self, sender: bytes, part: int, epoch: int) -> str:
         return os.path.join(self.folder, files.file_name(files.address(sender), part, epoch))
 
-    def add(self, sender, payload, when=None):
+    def add(self, sender: bytes, payload: bytes, when: int | None = None) -> None:
         """Adds a datagram, which came at this second if that is known."""
         if may_tell_of_instance(payload) and self.is_too_often(sender, payload, when or 0):
             self.left_out[CONTRADICTING] += 1
@@ -136,7 +140,7 @@ class Files:
                 self.close(sender)
         return begins is None
 
-    def begin(self, sender):
+    def begin(self, sender: bytes) -> Part | None:
         """The next part of a sender.
 
         None where it can have none, of which the first time is told.
@@ -152,7 +156,7 @@ class Files:
         except FileExistsError as fault:
             hint = ""
             if fault.filename.endswith(files.PARTIAL):
-                hint = "; flutejoin-mend makes a whole file of what a killed run left"
+                hint = "; rename what a killed run left, or flutejoin-mend it if it is cut"
             self.report.fault(
                 3,
                 f"{fault.filename}: is there already, and is left as it is; "
@@ -165,7 +169,7 @@ class Files:
             raise Unwritable(f"{path}: cannot be made: {fault.strerror}") from None
         return self.open.get(sender)
 
-    def flush(self, part):
+    def flush(self, part: Part) -> None:
         try:
             part.flush()
         except OSError as fault:
@@ -173,11 +177,11 @@ class Files:
                 f"{part.path}: cannot write: {fault.strerror}; what was written whole is kept"
             ) from None
 
-    def flush_all(self):
+    def flush_all(self) -> None:
         for part in self.open.values():
             self.flush(part)
 
-    def close(self, sender):
+    def close(self, sender: bytes) -> None:
         """Finishes a sender's file, and tells of it."""
         part = self.open.pop(sender)
         try:
@@ -195,7 +199,7 @@ class Files:
             self.parts[sender, part.epoch] += 1
             self.report.say(f"{part.path}: {part.count} datagrams from {files.address(sender)}")
 
-    def finish(self):
+    def finish(self) -> None:
         for sender in list(self.open):
             self.close(sender)
         if self.is_made and not any(self.parts.values()):
@@ -204,7 +208,7 @@ class Files:
             except OSError:
                 pass  # others have put something into it
 
-    def join_lines(self):
+    def join_lines(self) -> Iterator[str]:
         """The lines that join the files of each sender, and of each of its epochs by itself."""
         for (sender, epoch), parts in self.parts.items():
             if parts:

@@ -6,10 +6,10 @@ from __future__ import annotations
 
 import html
 import math
-from typing import Iterator, NamedTuple
+from typing import Callable, Iterator, NamedTuple
 
 from flutejoin_gaps import CONFLICTING, HELD, MISFIT, MISSING
-from flutejoin_grids import NAMES, Grid, scales
+from flutejoin_grids import NAMES, Counts, Grid, scales
 
 # Told apart by their lightness alone too, for those who see fewer colours, and on paper.
 COLOURS = ("#7db8dc", "#c44500", "#1a1a1a", "#ffe436")
@@ -85,7 +85,7 @@ def text_lines(title: str, drawings: list[Drawing], notes: list[str]) -> Iterato
         yield from notes
 
 
-def panel_lines(panel, scale):
+def panel_lines(panel: Panel, scale: str) -> Iterator[str]:
     if not panel.grid:
         yield f"{panel.name}: {panel.words}"
         return
@@ -96,7 +96,7 @@ def panel_lines(panel, scale):
         yield f"{panel.grid.label(row):>7} |{''.join(map(sign, panel.grid.row_cells(row)))}|"
 
 
-def sign(counts):
+def sign(counts: Counts) -> str:
     """The sign of a cell. What is rare and matters most goes before the others."""
     for reason in (CONFLICTING, MISFIT):
         if counts[reason]:
@@ -115,15 +115,15 @@ MOST_CELLS = 40000  # of a page, so that it has some megabytes at most
 MOST_HEIGHT = 32000  # of a page; some programs show no more than 32,767
 
 
-def per_line(panels):
+def per_line(panels: int) -> int:
     return min(panels, 4)
 
 
-def plot_width(panels):
+def plot_width(panels: int) -> int:
     return (WIDTH - MARGIN) // per_line(panels) - LABEL - MARGIN
 
 
-def shape(panels, objects):
+def shape(panels: int, objects: int) -> tuple[int, Callable[[int], int]]:
     """How many rows a grid of the page may have, and how many columns for a number of rows."""
     cells = max(64, min(6144, MOST_CELLS // (panels * objects)))
     rows = min(MOST_ROWS, max(8, math.isqrt(cells)))
@@ -131,14 +131,15 @@ def shape(panels, objects):
     return rows, lambda count: min(columns, max(8, cells // max(1, count)))
 
 
-def placed(drawings: list[Drawing], top: int) -> tuple[list[str], int, Left]:
+def placed(drawings: list[Drawing], top: float) -> tuple[list[str], float, Left]:
     """The drawings one below the other, where they end, and what a page has no room for.
 
     Those of whole objects are left out before others.
     """
     made = [drawing_svg(drawing) for drawing in drawings]
     order = sorted(range(len(drawings)), key=lambda place: drawings[place].is_whole)
-    end, kept = top, set()
+    end = top
+    kept: set[int] = set()
     for place in order:
         if kept and end + made[place][1] > MOST_HEIGHT:
             continue
@@ -182,11 +183,11 @@ def svg_lines(title: str, drawings: list[Drawing], notes: list[str], left: Left)
     yield "</svg>"
 
 
-def text(x, y, words, more=""):
+def text(x: float, y: float, words: str, more: str = "") -> str:
     return f'<text x="{x:g}" y="{y:g}"{" " + more if more else ""}>{html.escape(words)}</text>'
 
 
-def swatch(x, y, kind, words):
+def swatch(x: float, y: float, kind: int, words: str) -> str:
     square = (
         f'<rect x="{x:g}" y="{y:g}" width="11" height="11" fill="{COLOURS[kind]}" '
         'stroke="#555" stroke-width=".5"/>'
@@ -216,7 +217,7 @@ def drawing_svg(drawing: Drawing) -> tuple[list[str], float]:
     return body, top + 8
 
 
-def panel_svg(body, panel, x, y, width, scale):
+def panel_svg(body: list[str], panel: Panel, x: float, y: float, width: int, scale: str) -> float:
     """Draws a station's part, and answers where it ends."""
     grid = panel.grid
     told = f"{panel.name}: {panel.words}" + (f": {grid.words()}" if grid else "")
@@ -239,7 +240,7 @@ def panel_svg(body, panel, x, y, width, scale):
     return y + 6
 
 
-def grid_svg(body, grid, x, y, width):
+def grid_svg(body: list[str], grid: Grid, x: float, y: float, width: int) -> float:
     if not grid.rows:
         return y
     cell = min(MOST_CELL, width / grid.columns)
@@ -272,7 +273,7 @@ def grid_svg(body, grid, x, y, width):
     return y + grid.rows * height
 
 
-def edge(place):
+def edge(place: float) -> str:
     """A place as text.
 
     An edge that two neighbours have is written by its place in both, so that they meet exactly.
@@ -280,7 +281,7 @@ def edge(place):
     return f"{place:.2f}".rstrip("0").rstrip(".")
 
 
-def bars(counts, left, right, y, height):
+def bars(counts: Counts, left: float, right: float, y: float, height: float) -> Iterator[str]:
     """The share of each kind, one above the other. What is there at all can be seen."""
     kinds = [kind for kind in (MISSING, CONFLICTING, MISFIT, HELD) if counts[kind]]
     parts = {kind: max(1, height * counts[kind] / sum(counts)) for kind in kinds}
@@ -292,7 +293,7 @@ def bars(counts, left, right, y, height):
         y += part
 
 
-def shortened(words, most):
+def shortened(words: str, most: int) -> str:
     """Words in so many characters.
 
     Their end stays, which tells files apart, and a part of their beginning.
@@ -303,7 +304,7 @@ def shortened(words, most):
     return words[:front] + "..." + words[front + 3 - most :]
 
 
-def wrapped(words, most):
+def wrapped(words: str, most: int) -> Iterator[str]:
     """Lines of about so many characters."""
     line = ""
     for word in words.split():

@@ -2,12 +2,15 @@
 from __future__ import annotations
 
 import struct
-from typing import BinaryIO, Iterator
+from typing import BinaryIO, Deque, Iterator, Optional, Tuple, Union
 
 HEADER = b"FLDG\0\1"
 LENGTH = struct.Struct(">H")
 MOST = 1 << 24  # records of a datagram file, or entries of a journal, that flutejoin reads
 PIECE = 1 << 20  # bytes that are read at once
+
+Buffer = Union[bytes, bytearray, memoryview]
+Looked = Deque[Tuple[int, int]]  # places of pieces of a file, and how many records begin in each
 
 
 class Fault(Exception):
@@ -18,7 +21,7 @@ class Cut(Exception):
     """A file ends where bytes are wanted."""
 
 
-def ends(data, place: int = 0) -> Iterator[int]:
+def ends(data: Buffer, place: int = 0) -> Iterator[int]:
     """Where each record ends whose length stands in these bytes; the last may end behind them."""
     last = len(data) - LENGTH.size
     while place <= last:
@@ -26,7 +29,7 @@ def ends(data, place: int = 0) -> Iterator[int]:
         yield place
 
 
-def whole_records(data) -> tuple[int, int]:
+def whole_records(data: Buffer) -> tuple[int, int]:
     """Where the last record ends that is whole in these bytes, and how many there are."""
     whole = records = 0
     for end in ends(data):
@@ -36,7 +39,9 @@ def whole_records(data) -> tuple[int, int]:
     return whole, records
 
 
-def last_whole(file: BinaryIO, size: int, place: int, looked=None) -> tuple[int, int]:
+def last_whole(
+    file: BinaryIO, size: int, place: int, looked: Optional[Looked] = None
+) -> tuple[int, int]:
     """Where the last whole record ends that begins at `place` or behind, and how many there are.
 
     That is of a file of this size. The places of the pieces that were read, and how many records
@@ -62,9 +67,10 @@ class Reader:
     It knows how many of them stand whole, and where the last of these ends.
     """
 
-    magic, versions = HEADER[:4], (1,)
+    magic: bytes = HEADER[:4]
+    versions: Tuple[int, ...] = (1,)
 
-    def __init__(self, file: BinaryIO):
+    def __init__(self, file: BinaryIO) -> None:
         self.file, self.place, self.count, self.end, self.version = file, 0, 0, 0, 0
 
     def take(self, size: int) -> bytes:

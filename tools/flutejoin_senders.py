@@ -9,11 +9,11 @@ import time
 from typing import Iterable, Iterator, Optional
 
 from flutejoin_epochs import CONTRADICTING, Epoch, Epochs
-from flutejoin_files import file_name, join_lines, name_of, stem
-from flutejoin_found import look_at, newest
+from flutejoin_files import IPAddress, file_name, join_lines, name_of, stem
+from flutejoin_found import Found, look_at, newest
 from flutejoin_growing import Begin, Block, Grown, Growing
 from flutejoin_notes import EachMinute, note
-from flutejoin_records import HEADER
+from flutejoin_records import HEADER, Buffer
 from flutejoin_records import MOST as MOST_RECORDS
 from flutejoin_writer import Folder, Writer
 
@@ -30,7 +30,9 @@ TOO_SLOW = "not written, since the disk was slower than what came"
 class Sender:
     """One sender: what it sent, and its files."""
 
-    def __init__(self, growing: Growing, writer: Writer, split: int, causes: collections.Counter):
+    def __init__(
+        self, growing: Growing, writer: Writer, split: int, causes: collections.Counter
+    ) -> None:
         self.growing, self.writer, self.split = growing, writer, split
         self.of_all = causes  # what is left out of all senders, by cause
         self.keys: list[tuple[dict, bytes]] = []  # where it is found by its address
@@ -38,7 +40,8 @@ class Sender:
         self.begin_file()
         self.epochs = Epochs()
         self.datagrams = self.bytes = 0
-        self.seen, self.seen_at = float("-inf"), None
+        self.seen = float("-inf")  # by a clock that is never set
+        self.seen_at: Optional[float] = None  # in seconds since 1970
         self.left_out: collections.Counter = collections.Counter()
 
     def begin_file(self) -> None:
@@ -80,7 +83,7 @@ class Sender:
         self.left_out[cause] += count
         self.of_all[cause] += count
 
-    def contradicts(self, datagram, now: float) -> bool:
+    def contradicts(self, datagram: Buffer, now: float) -> bool:
         """Looks at what may be of an FDT Instance. Answers whether it is left out.
 
         One that contradicts an earlier one begins an epoch, but not many of them in a short time.
@@ -100,7 +103,7 @@ class Sender:
 class Senders:
     """All senders of a folder."""
 
-    def __init__(self, folder: Folder, writer: Writer, most: int, split: int):
+    def __init__(self, folder: Folder, writer: Writer, most: int, split: int) -> None:
         self.folder, self.writer, self.most, self.split = folder, writer, most, split
         self.admitted: dict = {}  # by address
         self.known: collections.OrderedDict = collections.OrderedDict()  # the others
@@ -113,7 +116,7 @@ class Senders:
         self.causes: collections.Counter = collections.Counter()
         self.told = EachMinute()
 
-    def sender(self, address) -> Sender:
+    def sender(self, address: IPAddress) -> Sender:
         growing = Growing(self.folder.path, address, self.writer.opened)
         return Sender(growing, self.writer, self.split, self.causes)
 
@@ -128,7 +131,7 @@ class Senders:
             if only is None or address in only:
                 self.known[address] = self.go_on(address, look_at(self.folder.path, found[address]))
 
-    def go_on(self, address, found) -> Sender:
+    def go_on(self, address: IPAddress, found: Found) -> Sender:
         sender = self.sender(address)
         sender.growing.epoch, sender.growing.part = found.name.epoch, found.name.part
         if found.size is None:
@@ -193,7 +196,7 @@ class Senders:
             self.known.popitem(last=False)
             self.forgotten += 1
 
-    def admit(self, address, now: float) -> Sender:
+    def admit(self, address: IPAddress, now: float) -> Sender:
         sender = self.admitted.get(address) or self.known.pop(address, None)
         if sender is None:
             sender = self.sender(address)

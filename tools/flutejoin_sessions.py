@@ -8,11 +8,13 @@ import time
 from typing import Optional
 
 from flutejoin_batches import Batch
+from flutejoin_files import IPAddress
 from flutejoin_found import address_of
 from flutejoin_notes import EachMinute, Fault, note
 from flutejoin_packets import TOI_PLACES, ZEROS, is_like_flute
-from flutejoin_records import LENGTH
+from flutejoin_records import LENGTH, Buffer
 from flutejoin_senders import Sender, Senders
+from flutejoin_settings import SessionOptions
 from flutejoin_sockets import Interface, ask_for_buffer, dropped_by_system, open_socket
 
 LONGEST = 65535  # bytes of a datagram that a record can hold
@@ -23,7 +25,7 @@ UNSEEN = f"of senders that are not kept, beyond {MOST_TESTS:,} in a second"
 TOO_LONG = "more than 65,535 bytes"
 
 
-def packed_for(family: int, address) -> bytes:
+def packed_for(family: int, address: IPAddress) -> bytes:
     """An address as a socket of this family names it."""
     if family == socket.AF_INET6 and address.version == 4:
         return ipaddress.ip_address(f"::ffff:{address}").packed
@@ -33,7 +35,7 @@ def packed_for(family: int, address) -> bytes:
 class Session:
     """One socket, and what came to it."""
 
-    def __init__(self, options, interface: Interface, senders: Senders):
+    def __init__(self, options: SessionOptions, interface: Interface, senders: Senders) -> None:
         self.options, self.senders = options, senders
         self.udp = self.listen(interface)
         self.batch = Batch(self.udp)
@@ -98,7 +100,7 @@ class Session:
             self.seen_at = time.time()
         return came, kept
 
-    def admit(self, key: bytes, datagram, now: float) -> Optional[Sender]:
+    def admit(self, key: bytes, datagram: Buffer, now: float) -> Optional[Sender]:
         """The sender of whom nothing was kept until now; None where it is left out.
 
         Whoever can send here can make addresses up, any number of them. So this takes as little
@@ -115,7 +117,7 @@ class Session:
         self.by_key[key] = sender
         return sender
 
-    def is_welcome(self, key: bytes, datagram, now: float) -> bool:
+    def is_welcome(self, key: bytes, datagram: Buffer, now: float) -> bool:
         self.tests -= 1
         if self.tests < 0:
             self.unseen += 1

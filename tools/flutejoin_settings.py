@@ -3,15 +3,15 @@ from __future__ import annotations
 
 import argparse
 import ipaddress
-from typing import Any, Optional
+from typing import Any, Callable, Container, Optional
 
-from flutejoin_files import MOST_BYTES, CommandLine, shown
+from flutejoin_files import MOST_BYTES, CommandLine, IPAddress, shown
 from flutejoin_found import address_of
 
 OF_SESSION = "group", "port", "from", "interface", "folder"
 
 
-def number_within(least: int, most: int):
+def number_within(least: int, most: int) -> Callable[[str], int]:
     def number(text: str) -> int:
         if not text.isascii() or not text.isdigit() or not least <= int(text) <= most:
             raise argparse.ArgumentTypeError(f"{text!r} is not a number from {least} to {most}")
@@ -27,7 +27,7 @@ def seconds(text: str) -> float:
     return value
 
 
-def plain_address(text: str):
+def plain_address(text: str) -> IPAddress:
     if "%" in text:
         raise argparse.ArgumentTypeError(f"{text}: name the link by --interface")
     try:
@@ -51,7 +51,14 @@ def interface_version(text: Optional[str]) -> Optional[int]:
 class SessionOptions:
     """What is received at one port, and where it goes."""
 
-    def __init__(self, port: int, group=None, sender=None, interface=None, folder=None):
+    def __init__(
+        self,
+        port: int,
+        group: Optional[IPAddress] = None,
+        sender: Optional[IPAddress] = None,
+        interface: Optional[str] = None,
+        folder: Optional[str] = None,
+    ) -> None:
         self.port, self.group, self.sender = port, group, sender
         self.interface: Optional[str] = interface
         self.folder: Optional[str] = folder
@@ -105,8 +112,9 @@ SETTINGS = {
     "most": (
         number_within(1, 1 << 62),
         "BYTES",
-        "keep so many bytes of datagram files in all: the oldest files are removed (default: all "
-        "are kept); then a file has a quarter of it at most",
+        "keep at most so many bytes of datagram files in all, but at least one datagram: the "
+        "oldest files are removed before more is written (default: all are kept); then a file has "
+        "a quarter of it at most",
     ),
     "buffer": (
         number_within(1, (1 << 30) - 1),
@@ -216,7 +224,7 @@ def read_config(path: str) -> dict:
         raise ValueError(f"argument --config: {shown(path)}: {fault}") from None
 
 
-def value_of(path: str, key: str, value: Any, keys=tuple(SETTINGS)) -> Any:
+def value_of(path: str, key: str, value: Any, keys: Container[str] = tuple(SETTINGS)) -> Any:
     """A value of the file of settings, as the option of its name takes it."""
     at = f"argument --config: {shown(path)}: {key}"
     if key not in keys or keys is not OF_SESSION and key in OF_SESSION[:4]:

@@ -7,9 +7,11 @@ import os
 import socket
 import struct
 import sys
-from typing import Iterable, NamedTuple, Optional
+from typing import Iterable, NamedTuple, Optional, Union
 
+from flutejoin_files import IPAddress
 from flutejoin_notes import Fault, note
+from flutejoin_settings import SessionOptions
 
 # What Python's socket module does not name. The numbers are Linux's.
 SO_RCVBUFFORCE, SO_MEMINFO, SO_BINDTODEVICE = 33, 55, 25
@@ -24,7 +26,7 @@ class Interface:
     Without either the system chooses.
     """
 
-    def __init__(self, text):
+    def __init__(self, text: Optional[str]) -> None:
         self.text, self.name, self.index, self.address = text, None, 0, None
         if text is None:
             return
@@ -38,7 +40,7 @@ class Interface:
         if self.address and self.address.version == 6:
             self.index = self.index_of_address()
 
-    def index_of_address(self):
+    def index_of_address(self) -> int:
         """The number of the interface with this IPv6 address.
 
         The calls for IPv6 groups take that alone.
@@ -54,7 +56,7 @@ class Interface:
         raise Fault(3, f"there is no interface with the address {self.text}")
 
 
-def set_option(udp, level, option, value):
+def set_option(udp: socket.socket, level: int, option: int, value: Union[int, bytes]) -> bool:
     """Sets what not every system has, and answers whether it could."""
     try:
         udp.setsockopt(level, option, value)
@@ -63,7 +65,7 @@ def set_option(udp, level, option, value):
         return False
 
 
-def open_socket(options, interface):
+def open_socket(options: SessionOptions, interface: Interface) -> socket.socket:
     """A socket that receives what the command line names.
 
     It receives nothing that other programs asked for.
@@ -99,7 +101,7 @@ def open_socket(options, interface):
     return udp
 
 
-def join_group(udp, options, interface):
+def join_group(udp: socket.socket, options: SessionOptions, interface: Interface) -> None:
     """Joins the group: of one sender where one is named and the system can, and else of all."""
     group, sender = options.group, options.sender
     if sender and LINUX and join_source(udp, group, sender, interface):
@@ -118,7 +120,9 @@ def join_group(udp, options, interface):
         note(f"{told}; what others send to it is received and left out")
 
 
-def join_source(udp, group, sender, interface):
+def join_source(
+    udp: socket.socket, group: IPAddress, sender: IPAddress, interface: Interface
+) -> bool:
     """Whether the system joined a group of one sender (RFC 4607)."""
     if interface.address and group.version == 4:
         request = group.packed + interface.address.packed + sender.packed
@@ -130,13 +134,13 @@ def join_source(udp, group, sender, interface):
     return set_option(udp, level, MCAST_JOIN_SOURCE_GROUP, request)
 
 
-def system_address(address):
+def system_address(address: IPAddress) -> bytes:
     if address.version == 4:
         return struct.pack("=HH4s", socket.AF_INET, 0, address.packed)
     return struct.pack("=HHI16sI", socket.AF_INET6, 0, 0, address.packed, 0)
 
 
-def ask_for_buffer(udp, wanted):
+def ask_for_buffer(udp: socket.socket, wanted: int) -> int:
     """Asks for a receive buffer, and tells where the system gives much less. Answers its bytes."""
     if not LINUX or not set_option(udp, socket.SOL_SOCKET, SO_RCVBUFFORCE, wanted):
         set_option(udp, socket.SOL_SOCKET, socket.SO_RCVBUF, wanted)
@@ -150,7 +154,7 @@ def ask_for_buffer(udp, wanted):
     return got
 
 
-def dropped_by_system(udp):
+def dropped_by_system(udp: socket.socket) -> Optional[int]:
     """How many datagrams the system dropped, or None where it does not tell.
 
     SO_RXQ_OVFL comes with the next datagram, and so never tells of the last.
@@ -210,7 +214,7 @@ class Drops:
     programs together, and for the socket only where that is noticed while a datagram is received.
     """
 
-    def __init__(self, sockets: Iterable[socket.socket]):
+    def __init__(self, sockets: Iterable[socket.socket]) -> None:
         self.sockets, self.before = list(sockets), system_errors()
 
     def by_cause(self) -> dict[str, int]:

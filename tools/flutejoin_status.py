@@ -22,7 +22,13 @@ def instant(seconds: Optional[float]) -> Optional[str]:
 class Status:
     """What a run tells of itself."""
 
-    def __init__(self, path, sessions: list[Session], folders: Iterable[Senders], writer: Writer):
+    def __init__(
+        self,
+        path: Optional[str],
+        sessions: list[Session],
+        folders: Iterable[Senders],
+        writer: Writer,
+    ) -> None:
         self.path, self.sessions, self.folders = path, sessions, list(folders)
         self.writer, self.began = writer, time.time()
         self.drops = Drops(session.udp for session in sessions)

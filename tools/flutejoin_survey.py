@@ -31,7 +31,9 @@ class Survey:
     their grids as they come, so memory does not grow with them.
     """
 
-    def __init__(self, program: gaps.Program, journals: list[str], wanted: str | None, is_text):
+    def __init__(
+        self, program: gaps.Program, journals: list[str], wanted: str | None, is_text: bool
+    ) -> None:
         self.program, self.journals, self.is_text = program, journals, is_text
         self.all = program.states(journals, None if wanted is None else {wanted})
         if wanted is not None and not self.all:
@@ -54,7 +56,8 @@ class Survey:
         keys = list(self.all)
         if len(keys) > most:
             keys = [key for key in keys if self.all[key].words != gaps.WHOLE][:most]
-        chosen, left = {}, MOST_GAPS
+        chosen: dict[str, None] = {}
+        left = MOST_GAPS
         for key in keys:
             if not chosen or self.all[key].gaps <= left:
                 chosen[key] = None
@@ -145,7 +148,7 @@ class Survey:
         for key, place, _ in waiting:
             grid = filling.grid_of(key)
             words = gaps.WHOLE if grid.counts[0] == grid.partition.symbols else gaps.PARTIAL
-            words += ", with the information of other journals; it has none of its own"
+            words += ", with the transmission information of other journals"
             self.panels[key][place] = pictures.Panel(name, words, grid, False)
 
     def grid(self, partition: Partition) -> Grid:
@@ -182,7 +185,7 @@ class Survey:
 class Filling:
     """Grids that are filled with the gaps of a journal as it tells them."""
 
-    def __init__(self, survey: Survey, name: str, partitions: dict[str, Partition]):
+    def __init__(self, survey: Survey, name: str, partitions: dict[str, Partition]) -> None:
         self.survey, self.name, self.partitions = survey, name, partitions
         self.made: dict[str, Grid] = {}
 

@@ -8,7 +8,7 @@ import os
 import resource
 import threading
 import time
-from typing import Callable, Iterable, NamedTuple, Optional
+from typing import Callable, Iterable, NamedTuple, Optional, Union
 
 from flutejoin_found import Name, name_of
 from flutejoin_growing import Begin, Block, Growing
@@ -34,7 +34,7 @@ class Entry(NamedTuple):
 class Folder:
     """A folder of datagram files, into which one run alone writes."""
 
-    def __init__(self, path: str):
+    def __init__(self, path: str) -> None:
         self.path = path
         self.is_gone = False
         try:
@@ -118,12 +118,17 @@ def descriptors() -> int:
 
 
 class Opened:
-    """The files of senders that are open: no more than the system has descriptors for."""
+    """The files of senders that are open: no more than the system has descriptors for.
 
-    def __init__(self, reserved: int):
+    Before bytes are written to one, `make_room` is called with their number; `held` counts them.
+    """
+
+    def __init__(self, reserved: int, make_room: Callable[[int], None]) -> None:
         self.most = max(1, descriptors() - SPARE - reserved)
         self.growing: collections.OrderedDict[Growing, None] = collections.OrderedDict()
         self.is_told = False
+        self.make_room = make_room
+        self.held = 0  # bytes of all datagram files
 
     def open(self, path: str, flags: int) -> int:
         while len(self.growing) >= self.most and self.close_silent():
@@ -157,21 +162,21 @@ class Opened:
 class Writer(threading.Thread):
     """Writes what it is given. Only its work touches the folders and the files in them."""
 
-    def __init__(self, folders: Iterable[Folder], most: Optional[int], reserved: int):
+    def __init__(self, folders: Iterable[Folder], most: Optional[int], reserved: int) -> None:
         super().__init__(daemon=True)
         self.folders, self.most = list(folders), most
-        self.opened = Opened(reserved)
+        self.opened = Opened(reserved, self.make_room)
         self.event = threading.Event()
         self.given, self.taken = 0, 0  # bytes, each counted by one thread alone
         self.todo: collections.deque[Growing] = collections.deque()
         self.unfinished: set[Growing] = set()
         self.reports: collections.deque[Callable[[list[Entry]], None]] = collections.deque()
         self.unremovable: set[str] = set()
-        self.removed = self.held = 0
-        self.is_ending = False
+        self.removed = 0
+        self.is_ending = self.is_stuck = False
         self.fault: Optional[BaseException] = None
 
-    def give(self, growing: Growing, order) -> bool:
+    def give(self, growing: Growing, order: Union[Block, Begin]) -> bool:
         """Has an order done soon. Answers no where too much waits already."""
         if isinstance(order, Block):
             waiting = self.given - self.taken
@@ -209,7 +214,7 @@ class Writer(threading.Thread):
 
     def entries(self) -> list[Entry]:
         entries = [entry for folder in self.folders for entry in folder.entries()]
-        self.held = sum(entry.size for entry in entries)
+        self.opened.held = sum(entry.size for entry in entries)
         return entries
 
     def work(self) -> None:
@@ -226,7 +231,6 @@ class Writer(threading.Thread):
         before = growing.taken
         growing.work()
         self.taken += growing.taken - before
-        self.held += growing.taken - before
         if growing.has_work():
             self.unfinished.add(growing)
         else:
@@ -242,17 +246,27 @@ class Writer(threading.Thread):
                 self.unfinished.add(growing)
         for growing in list(self.unfinished):
             self.work_at(growing)
-        if self.most is not None and self.held > self.most:
-            self.remove_oldest()
+        self.is_stuck = False
+        self.make_room(0)
 
-    def remove_oldest(self) -> None:
-        """Removes the oldest files while there are more bytes than the run may keep.
+    def make_room(self, size: int) -> None:
+        """Removes the oldest files where so many more bytes are more than the run may keep.
+
+        Where some cannot be removed, that is tried again each second.
+        """
+        if self.most is None or self.opened.held + size <= self.most or self.is_stuck:
+            return
+        self.remove_oldest(self.most - size)
+        self.is_stuck = bool(self.unremovable) and self.opened.held + size > self.most
+
+    def remove_oldest(self, most: int) -> None:
+        """Removes the oldest files until the others have at most so many bytes.
 
         A file that grows is ended before.
         """
         growing = {each.path(): each for each in self.opened.growing}
         for entry in sorted(self.entries()):
-            if self.held <= self.most:
+            if self.opened.held <= most:
                 return
             if entry.path in growing:
                 growing[entry.path].begin(Begin.PART)
@@ -263,10 +277,10 @@ class Writer(threading.Thread):
                     note(f"{entry.path}: cannot be removed: {fault.strerror}")
                     self.unremovable.add(entry.path)
                 continue
-            self.held -= entry.size
+            self.opened.held -= entry.size
             self.removed += 1
             told = f"{entry.path}: its {entry.size} bytes are removed"
-            note(f"{told}, since the datagram files have more than {self.most} in all")
+            note(f"{told}, since the datagram files would have more than {self.most} in all")
 
     def end(self) -> None:
         """Ends the thread, once what waits was tried."""

@@ -2,6 +2,11 @@
 """Tries wrong bodies: edits of the code that a contract has to refuse.
 
 An edit is a file as `rt must-fail` reads it, with lines 'file: PATH', 'old: TEXT' and 'new: TEXT'.
+In the place of 'old: TEXT' it may have 'over: HEAD', the first line of a function: then another
+function is put behind that one, with its signature and clauses and the body TEXT, which calls it
+and changes what comes of it. Such a body is for a function whose proof is written down: what calls
+it is proved by its clauses alone, so a goal that is left open is left by what the body changes.
+
 A function is proved from the contracts of those that it calls, and from nothing else of them. So
 the edits of a crate are tried together, one of a function at a time, in a copy of the crate: each
 function that was edited has to be refused for a goal of its own, and no other function may be. One
@@ -17,6 +22,8 @@ such a body is told apart, as unfit, and is to be written anew.
 The last line is 'wrong bodies: N refused, M unfit, K failed', and the status is 0 if some were
 refused and none failed.
 """
+from __future__ import annotations
+
 import argparse
 import os
 import re
@@ -25,17 +32,16 @@ import subprocess
 import sys
 import tempfile
 from concurrent.futures import ThreadPoolExecutor
+from typing import Iterable, Optional
 
-ROOT = os.path.dirname(os.path.dirname(os.path.abspath(__file__)))
+sys.dont_write_bytecode = True
+from wrong_edits import ROOT, Body, crate_folder, text_of
+
 KIT = os.path.dirname(os.path.dirname(os.path.realpath(shutil.which("rt") or "rt")))
 
-PUB = r"(?:pub(?:\([^)]*\))? )?"
-FUNCTION = re.compile(rf"^( *){PUB}(?:const |final |unsafe )*fn (\w+)", re.M)
-ITEM = re.compile(rf"^{PUB}(?:impl|trait|struct|enum)\b[^{{;]*", re.M)
-OWNER = re.compile(rf"{PUB}(?:impl|trait)\b")
 # What a check says of a function.
 ANSWER = re.compile(r"^fn (\S+): (.*)$", re.M)
-# A goal that it leaves open, as a note before the function's answer tells it and as that answer does.
+# A goal that it leaves open, in a note before the function's answer, and in that answer.
 OPEN = re.compile(r"^note: \S+ it is not proved .*?\(`([^`]+)`\)", re.M)
 UNFOUND = re.compile(r"`search` did not prove ((?:`[^`]+`(?:, )?)+)")
 # The end of what it says where it came to its end, and not all is proved.
@@ -49,119 +55,26 @@ LIMIT = re.compile(
 )
 
 
-def text_of(path):
-    with open(path, encoding="utf-8") as file:
-        return file.read()
-
-
-def crate_folder(name):
-    return f"{ROOT}/crates/{name}"
-
-
-class Body:
-    """A wrong body: its name, its files with their pairs of texts, and the functions it changes."""
-
-    def __init__(self, crate, file):
-        self.name = f"{crate}/{os.path.basename(file)[: -len('.edit')]}"
-        self.pairs = pairs_of(text_of(file))
-        if not self.pairs:
-            raise ValueError(f"{self.name}: no pair of texts")
-        self.functions, texts = set(), {}
-        for path, old, new in self.pairs:
-            if path not in texts:
-                texts[path] = text_of(f"{crate_folder(crate)}/{path}")
-            times = texts[path].count(old)
-            if times != 1:
-                raise ValueError(f"{self.name}: its text is {times} times in {path}, and not once")
-            end = texts[path].index(old) + len(old)
-            self.functions.add(enclosing(crate, path, texts[path][:end]))
-            texts[path] = texts[path].replace(old, new)
-
-    def is_of_functions(self):
-        return None not in self.functions
-
-
-def pairs_of(text):
-    """The paths of an edit with their old and new texts, in their order."""
-    pairs, path, old = [], "", None
-    for line in text.split("\n"):
-        if line.startswith("file: "):
-            path = line[len("file: ") :].strip()
-        elif line.startswith("old: "):
-            old = line[len("old: ") :]
-        elif line.startswith("new:") and path and old:
-            pairs.append((path, old, line[len("new:") :].removeprefix(" ")))
-            old = None
-    return pairs
-
-
-def enclosing(crate, path, text):
-    """The name, as a check tells it, of the function that this text ends in, if it is in one."""
-    functions = [*FUNCTION.finditer(text)]
-    items = [*ITEM.finditer(text)]
-    if not functions or items and functions[-1].end() < items[-1].start():
-        return None
-    inside = path[len("src/") : -len(".rt")]
-    names = [crate, *([] if inside in ("lib", "main") else inside.split("/"))]
-    indent, function = functions[-1].groups()
-    if indent:
-        owners = [it[0] for it in items if OWNER.match(it[0])]
-        names.append(owner_name(re.sub(f"^{PUB}", "", " ".join(owners[-1].split()))))
-    return "::".join([*names, function])
-
-
-def owner_name(head):
-    """The name that a check has for the owner of methods, from the head of its impl or trait."""
-    if head.startswith("trait"):
-        return bare(head[len("trait") :])
-    head = without_parameters(head[len("impl") :].strip())
-    trait, _, of = head.partition(" for ")
-    if not of:
-        trait, of = "", trait
-    # The name of a conversion has the type that it is from.
-    conversion = re.fullmatch(r"From<(.*)>", trait.strip())
-    trait = f"From{bare(conversion[1])}" if conversion else bare(trait)
-    of = bare(of)
-    return of[:1].upper() + of[1:] + trait
-
-
-def without_parameters(head):
-    """The head of an impl after its list of parameters."""
-    if not head.startswith("<"):
-        return head
-    depth = 0
-    for at, letter in enumerate(head):
-        depth += (letter == "<") - (letter == ">" and head[at - 1] != "-")
-        if not depth:
-            return head[at + 1 :].strip()
-    return head
-
-
-def bare(name):
-    """A type or trait without its path, its lifetime and its parameters."""
-    name = re.sub(r"<.*", "", name.strip().lstrip("&")).strip()
-    return name.rpartition("::")[2]
-
-
-def last_names(name):
+def last_names(name: str) -> str:
     """A method is told with the module of its type, not with its own."""
     return "::".join(name.split("::")[-2:])
 
 
-def found_in(answers, name):
+def found_in(answers: dict[str, str], name: str) -> str:
     """The name that a check tells for this one."""
     alike = [it for it in answers if it.endswith(f"::{last_names(name)}")]
     return name if name in answers or len(alike) != 1 else alike[0]
 
 
-def is_refused(said):
+def is_refused(said: str) -> bool:
     """Whether a function is refused for what it does itself, and not only for what it calls."""
     return said.startswith("not proved") or "` did not prove `" in said
 
 
-def goals_of(told):
+def goals_of(told: str) -> dict[str, list[str]]:
     """The goals that a check leaves open, by function: notes come before their function."""
-    goals, open_goals = {}, []
+    goals: dict[str, list[str]] = {}
+    open_goals: list[str] = []
     for line in told.split("\n"):
         note, answer = OPEN.match(line), ANSWER.match(line)
         if note:
@@ -174,24 +87,25 @@ def goals_of(told):
     return goals
 
 
-def shown(goals):
-    """The first of these goals, with how many more there are."""
+def shown(goals: list[str]) -> str:
+    """The first of these goals that is of a clause, or else the first, and how many more."""
+    first = next((it for it in goals if it.startswith("returns")), goals[0])
     more = f" and {len(goals) - 1} more" if len(goals) > 1 else ""
-    return f"{goals[0]}{more}"
+    return f"{first}{more}"
 
 
-def is_unproved(status, told):
+def is_unproved(status: int, told: str) -> bool:
     return status == 1 and UNPROVED.search(told) is not None
 
 
-def listed_libraries():
+def listed_libraries() -> dict[str, list[str]]:
     """The libraries that crates.txt lists for each crate."""
     lines = text_of(f"{ROOT}/crates.txt").split("\n")
     listed = [it.partition("#")[0].partition(":") for it in lines]
     return {it[0].split()[0]: it[2].split() for it in listed if it[0].strip()}
 
 
-def libraries_of(name):
+def libraries_of(name: str) -> tuple[list[str], list[str], list[str]]:
     """The crate's libraries: the repository's, with those below them, and the kit's."""
     listed = listed_libraries()
     own = [it for it in listed[name] if it in listed]
@@ -201,11 +115,11 @@ def libraries_of(name):
     return own, below, [it for it in listed[name] if it not in listed]
 
 
-def rlibs(name):
+def rlibs(name: str) -> str:
     return f"{crate_folder(name)}/out/rlib"
 
 
-def checking(name):
+def checking(name: str) -> list[str]:
     """The command that checks the crate in the current folder over its libraries as built."""
     own, below, of_kit = libraries_of(name)
     root = "main" if os.path.isfile(f"{crate_folder(name)}/src/main.rt") else "lib"
@@ -225,12 +139,13 @@ def checking(name):
 class Crate:
     """A crate in a folder of its own, in which its wrong bodies are tried."""
 
-    def __init__(self, folder, name, edits):
-        self.name, self.folder, self.told = name, folder, []
+    def __init__(self, folder: str, name: str, edits: Iterable[str]) -> None:
+        self.name, self.folder = name, folder
+        self.told: list[str] = []
         self.refused = self.unfit = self.failed = 0
         self.bodies = [Body(name, it) for it in edits]
 
-    def edited(self, body, texts):
+    def edited(self, body: Body, texts: dict[str, str]) -> Optional[dict[str, str]]:
         """The texts with this body put into them, if each text that it replaces is there once."""
         texts = dict(texts)
         for path, old, new in body.pairs:
@@ -241,12 +156,12 @@ class Crate:
             texts[path] = texts[path].replace(old, new)
         return texts
 
-    def check(self, bodies, functions=()):
+    def check(self, bodies: list[Body], functions: Iterable[str] = ()) -> tuple[int, str]:
         """Puts these bodies in place, checks the crate or these functions, and takes them back.
         Returns the status of the check and what it printed."""
-        texts = {}
+        texts: dict[str, str] = {}
         for body in bodies:
-            texts = self.edited(body, texts)
+            texts = self.edited(body, texts) or {}
         for path, text in texts.items():
             with open(f"{self.folder}/{path}", "w", encoding="utf-8") as file:
                 file.write(text)
@@ -265,9 +180,11 @@ class Crate:
             for path in texts:
                 shutil.copyfile(f"{crate_folder(self.name)}/{path}", f"{self.folder}/{path}")
 
-    def group(self, pending):
+    def group(self, pending: list[Body]) -> list[Body]:
         """As many of these bodies as are of different functions and leave each other's texts."""
-        chosen, functions, texts = [], set(), {}
+        chosen: list[Body] = []
+        functions: set[Optional[str]] = set()
+        texts: dict[str, str] = {}
         for body in pending:
             with_it = self.edited(body, texts)
             if body.is_of_functions() and not body.functions & functions and with_it:
@@ -276,18 +193,18 @@ class Crate:
                 texts = with_it
         return chosen
 
-    def fail(self, body, why):
+    def fail(self, body: Body, why: str) -> None:
         self.failed += 1
         self.told.append(f"{body.name}: FAILED: {why}")
 
-    def refuse(self, body, goals, why):
+    def refuse(self, body: Body, goals: list[str], why: str) -> None:
         """Counts the body as refused, for the first of these goals if there is one."""
         self.refused += bool(goals)
         self.unfit += not goals
         by = f"refused: {shown(goals)}" if goals else "UNFIT: only a written proof does not fit"
         self.told.append(f"{body.name}: {by}: {why}")
 
-    def alone(self, body):
+    def alone(self, body: Body) -> None:
         """Tries one body, with which the crate has to be unproved. A limit of the prover is no
         proof either."""
         status, told = self.check([body])
@@ -300,7 +217,7 @@ class Crate:
         else:
             self.fail(body, why)
 
-    def together(self, bodies):
+    def together(self, bodies: list[Body]) -> Optional[list[Body]]:
         """Tries these bodies together, and returns those of which nothing is known yet, or None
         if that tells nothing of any."""
         status, told = self.check(bodies, {name for it in bodies for name in it.functions})
@@ -325,7 +242,7 @@ class Crate:
                 left.append(body)
         return left
 
-    def left_of(self, bodies):
+    def left_of(self, bodies: list[Body]) -> list[Body]:
         """Tries these bodies, in halves if together they tell nothing, and returns those of which
         nothing is known yet."""
         left = self.together(bodies) if bodies[0].is_of_functions() else None
@@ -337,20 +254,20 @@ class Crate:
             return self.left_of(bodies[:half]) + self.left_of(bodies[half:])
         return left
 
-    def run(self):
+    def run(self) -> None:
         pending = self.bodies
         while pending:
             bodies = self.group(pending) or pending[:1]
             pending = self.left_of(bodies) + [it for it in pending if it not in bodies]
 
 
-def edits_in(folders):
+def edits_in(folders: Iterable[str]) -> list[str]:
     """The files of edits in these folders."""
     files = [f"{at}/{it}" for at in folders if os.path.isdir(at) for it in sorted(os.listdir(at))]
     return [it for it in files if it.endswith(".edit")]
 
 
-def edits_of(name, options):
+def edits_of(name: str, options: argparse.Namespace) -> list[str]:
     """The files of the crate's wrong bodies."""
     if options.edits:
         return edits_in([options.edits])
@@ -362,21 +279,32 @@ def edits_of(name, options):
     return edits_in([f"{crate_folder(name)}/{it}" for it in folders])
 
 
-def tried(name, edits):
+def take_kept(name: str, to: str) -> None:
+    """Lets the checks in a copy of the crate begin with what its own check kept, if it kept any.
+    A file of that is replaced and never written into, so that a link serves."""
+    kept = f"{crate_folder(name)}/out/incremental"
+    try:
+        shutil.copytree(kept, to, copy_function=os.link)
+    except (OSError, shutil.Error):
+        shutil.rmtree(to, ignore_errors=True)
+        os.mkdir(to)
+
+
+def tried(name: str, edits: Iterable[str]) -> tuple[int, int, int]:
     """Tries the wrong bodies of a crate in a copy of it, and returns how many were refused, how
     many only by a proof that does not fit, and how many were not refused."""
     with tempfile.TemporaryDirectory(prefix="wrong-bodies-") as room:
         for part in ("src", "specs", "proofs"):
             if os.path.isdir(f"{crate_folder(name)}/{part}"):
                 shutil.copytree(f"{crate_folder(name)}/{part}", f"{room}/{part}")
-        os.mkdir(f"{room}/kept")
+        take_kept(name, f"{room}/kept")
         crate = Crate(room, name, edits)
         crate.run()
     print("\n".join(crate.told), flush=True)
     return crate.refused, crate.unfit, crate.failed
 
 
-def each_alone(names, options):
+def each_alone(names: list[str], options: argparse.Namespace) -> int:
     """Lets `rt must-fail` try each wrong body of these crates by itself."""
     with tempfile.TemporaryDirectory(prefix="wrong-bodies-") as room:
         copied = shutil.ignore_patterns("out", "must-fail")
@@ -386,17 +314,18 @@ def each_alone(names, options):
         for name in names:
             os.mkdir(f"{room}/crates/{name}/must-fail")
             for edit in edits_of(name, options):
-                shutil.copy(edit, f"{room}/crates/{name}/must-fail")
+                if "\nover: " not in text_of(edit):
+                    shutil.copy(edit, f"{room}/crates/{name}/must-fail")
         return subprocess.run(["rt", "must-fail", *names], cwd=room).returncode
 
 
-def size_of(name):
+def size_of(name: str) -> int:
     """The bytes of the crate's code, by which its check takes longer or shorter."""
     found = os.walk(f"{crate_folder(name)}/src")
     return sum(os.path.getsize(f"{at}/{it}") for at, _, files in found for it in files)
 
 
-def options_of(words):
+def options_of(words: list[str]) -> argparse.Namespace:
     parser = argparse.ArgumentParser(
         description=__doc__, formatter_class=argparse.RawDescriptionHelpFormatter
     )
@@ -411,8 +340,8 @@ def options_of(words):
     parser.add_argument(
         "--alone",
         action="store_true",
-        help="let 'rt must-fail' try each by itself, those in must-fail too, in half a minute to"
-        " two minutes for each",
+        help="let 'rt must-fail' try each by itself, those in must-fail too, but for those over a"
+        " function, in half a minute to two minutes for each",
     )
     parser.add_argument("--edits", metavar="FOLDER", help="the edits in this folder, all of CRATE")
     options = parser.parse_args(words)
@@ -423,7 +352,7 @@ def options_of(words):
     return options
 
 
-def main(words):
+def main(words: list[str]) -> int:
     options = options_of(words)
     if options.alone:
         return each_alone(options.crates, options)

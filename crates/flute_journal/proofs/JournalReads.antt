@@ -1,5 +1,5 @@
 -- A journal that is read on is a stream that goes on.
-use Rattle.flute_journal.proofs.{Common.{AreItems, journal_framing, BeginsWith, Behaviour, Bool, Consumes, Consumes-kept, Continues, Ended, Items, Err, Fact, Failed, FailsIf, FailsSince, Gives, GivesEnd, GivesFault, GoesOn, HasFault, Header, IfSome, IsFactIn, IsJournalOfAll, IsJournalWithin, IsRising, IsSized, IsTrue, Keeps, LentStream, List, LoadFault, None, Ok, Option, ReadAt, ReadFault, ReadWhole, ReadsEntries, SameLoans, Sofar, Some, ReaderState, Before, StopsAt, [], ap, append-nil, arith, count_at, end, false, without_end_in, inl, inr, is_open, journal_behaviour, length, limit_of, option_list, refl, room, source_of, spelling_in, state_of, subst, sym, true, unread_of, ℕ, ◌++◌, ◌+◌, ◌-◌, ◌∙◌, ◌∷◌, ◌≡◌, ◌≤◌, journal_frame}, Whole.{ahead-sofar, reads-side, reads-sofar, reads-fault}, SoFar.{AtEnd, whole-at, side-from, open_after, sofar-fault, read_some}, Framings.{journal_sound}, Framed.{one_given}, Each.{all_split}, Bodies.{fact_sized}, MergeBytes.{spelling-injective}}
+use Rattle.flute_journal.proofs.{Common.{journal_framing, Behaviour, Bool, Consumes-kept, Continues, Ended, Items, Err, Fact, Failed, FailsIf, FailsSince, Gives, GivesEnd, GivesFault, GoesOn, HasFault, Header, IfSome, IsFactIn, IsJournalOfAll, IsJournalWithin, IsRising, IsSized, IsTrue, Keeps, LentStream, List, LoadFault, None, Ok, Option, ReadAt, ReadFault, ReadWhole, ReadsEntries, SameLoans, Sofar, Some, ReaderState, Before, StopsAt, [], ap, append-nil, arith, count_at, false, inl, inr, is_open, journal_behaviour, length, limit_of, option_list, refl, room, source_of, spelling_in, state_of, subst, sym, true, unread_of, ℕ, ◌++◌, ◌+◌, ◌-◌, ◌∙◌, ◌∷◌, ◌≡◌, ◌≤◌}, Whole.{ahead-sofar, reads-side, reads-sofar, reads-fault}, SoFar.{AtEnd, whole-at, side-from, open_after, sofar-fault}, Framings.{journal_sound}, Framed.{one_given}, Each.{all_split}, Bodies.{fact_sized}, MergeBytes.{spelling-injective}}
 use Rattle.flute_journal.specs.declared.fault.LoadFault.TheVariants as load
 use Rattle.flute_journal.specs.declared.journal_stream.JournalStream.{JournalStream}
 
@@ -125,25 +125,6 @@ known_of limit u w state F None r K k =
       ended = λ e. refl;
     }
 
-begins_read : (limit : ℕ) (u w : Option (List ℕ)) (es : List Fact)
-    → (a : AreItems journal_frame limit es) → Consumes u w (without_end_in a.told es)
-    → IfSome u (λ bytes. BeginsWith limit bytes es)
-begins_read limit None w es a h = tt
-begins_read limit (Some x) None es a h = absurd h
-begins_read limit (Some x) (Some z) es a h = record { are_items = a; rest = z; whole = h }
-
-begins_of : (limit : ℕ) (u w : Option (List ℕ)) (state : ReaderState Before) (F : List Fact)
-    (o : Option Fact) → Read limit u w state F o
-    → IfSome u (λ bytes. BeginsWith limit bytes (F ++ option_list o))
-begins_of limit u w state F (Some f) r =
-    begins_read limit u w (F ++ f ∷ []) r.are_items
-    (subst (Consumes u w) (read_some journal_framing r.are_items.told F f) r.read)
-begins_of limit None w state F None r = tt
-begins_of limit (Some x) w state F None r =
-    let h = r.0.whole in
-    subst (BeginsWith limit x) (sym (append-nil F))
-    (record { are_items = h.are_items; rest = end (length F); whole = h.bytes_are })
-
 room_open : (limit : ℕ) (state : ReaderState Before) → IsTrue (is_open state)
     → room limit state ≡ limit - count_at journal_framing state
 room_open limit Header o = omega arith
@@ -172,7 +153,6 @@ pub record GivesOn (limit : ℕ) (u w : Option (List ℕ)) (state : ReaderState 
   pub rising : IsRising (G ++ option_list held)
   pub sized : IfSome held IsSized
   pub ended : held ≡ None → IfSome u (λ bytes. IsJournalWithin limit bytes G)
-  pub begins : IfSome u (λ bytes. BeginsWith limit bytes (G ++ option_list held))
   pub known : (K : List Fact) → IsJournalOfAll u K → Continues K (G ++ option_list held) held
 
 pub gives_on : (limit limit' : ℕ) (u v w : Option (List ℕ)) (old new : ReaderState Before)
@@ -190,7 +170,6 @@ gives_on limit limit' u v w old new F held o same p g =
       rising = rising_of limit u w new G o r;
       sized = sized_of limit u w new G o r;
       ended = ended_of limit u w new G o r;
-      begins = begins_of limit u w new G o r;
       known = known_of limit u w new G o r;
     }
 
@@ -260,7 +239,6 @@ module _ {R : Type 0} (unread : R → Option (List ℕ)) (failures : R → ℕ) 
           sized = r.sized;
           ended = r.ended;
           ends = r.ended;
-          begins = r.begins;
           known = r.known;
         };
     fewer = grind (arith);

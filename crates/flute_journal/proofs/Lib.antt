@@ -26,8 +26,7 @@ mod Sending
 mod MergeRising
 mod MergeBytes
 mod Pairs
-mod BesideFacts
-mod Replacements
+mod Chaining
 mod Loans
 mod JournalReads
 mod OwnedReads
@@ -35,7 +34,6 @@ mod GoingOn
 mod LowestFacts
 mod LeadFacts
 mod Finished
-mod WithinFacts
 mod WrittenSoFar
 mod StreamTurns
 mod StreamStops

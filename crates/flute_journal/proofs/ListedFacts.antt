@@ -33,7 +33,6 @@ module _ {S : Type 0} (held : S → Option Fact) (rest : S → List Fact) (is_so
           sized = elim v [ inl h ↦ some_of IsSized (held t) (all_split IsSized G (option_list (held t)) (all_split IsSized (G ++ option_list (held t)) (rest t) (subst (AllByRecursion IsSized) all (h start p.sound))).0).1 | inr h ↦ h ];
           ended = λ h. told G (held t) (rest t) (rest start) h (n h) all;
           ends = λ h. told G (held t) (rest t) (rest start) h (n h) all;
-          begins = (rest t, all);
           known = λ K k. record { rest = rest t; is = k ∙ all; rising = subst IsRising (sym k) p.rising; ended = n };
         };
     fewer = let l = ap length e in omega (arith, l, length-append (option_list (held t)) (rest t));

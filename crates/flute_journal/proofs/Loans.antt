@@ -17,7 +17,6 @@ module _ {S L : Type 0} (whole : L → S) (Same : L → L → Type 0) (b : Behav
           sized = g.sized;
           ended = g.ended;
           ends = g.ends;
-          begins = g.begins;
           known = g.known;
         };
     fewer = h.fewer;

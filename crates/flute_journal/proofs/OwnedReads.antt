@@ -28,7 +28,6 @@ module _ {R : Type 0} (unread : R → Option (List ℕ)) (failures : R → ℕ) 
             sized = r.sized;
             ended = r.ended;
             ends = r.ended;
-            begins = r.begins;
             known = r.known;
           };
       fewer =

@@ -38,10 +38,13 @@ module _ {A B : Type 0} (a : Behaviour A) (b : Behaviour B) where
   second_at x y n old new (Ok t) w m g s = record { before = Second x; after = Second y; was = w; now = m; goes_on = record { gave = second_on x y g; fewer = g.fewer }; stops = tt }
   second_at x y n old new (Err f) w m g s = record { before = Second x; after = Second y; was = w; now = m; goes_on = tt; stops = second_stops x y f s }
 
-  pub first_advances : (x y : A) (z : B) (n : ℕ) (r : Result (Unit {0}) LoadFault) → n ≡ 0 → OnOk r (GoesOn a x y) → IfErr r (StopsAt a x y)
-      → Advances e n (First x ∷ Second z ∷ []) (First y ∷ Second z ∷ []) r
-  first_advances x y z n r h g s =
-      first_at x y n (First x ∷ Second z ∷ []) (First y ∷ Second z ∷ []) r (ap (slice_get (First x ∷ Second z ∷ [])) h) (sym (ap (λ k. slice_set (First x ∷ Second z ∷ []) k (First y)) h)) g s
+  pub first_advances : (x y : A) (others : List (Either A B)) (n : ℕ)
+      (r : Result (Unit {0}) LoadFault) → n ≡ 0 → OnOk r (GoesOn a x y) → IfErr r (StopsAt a x y)
+      → Advances e n (First x ∷ others) (First y ∷ others) r
+  first_advances x y others n r h g s =
+      first_at x y n (First x ∷ others) (First y ∷ others) r
+      (ap (slice_get (First x ∷ others)) h)
+      (sym (ap (λ k. slice_set (First x ∷ others) k (First y)) h)) g s
 
   pub second_advances : (x y : B) (z : A) (n : ℕ) (r : Result (Unit {0}) LoadFault) → n ≡ 1 → OnOk r (GoesOn b x y) → IfErr r (StopsAt b x y)
       → Advances e n (First z ∷ Second x ∷ []) (First z ∷ Second y ∷ []) r

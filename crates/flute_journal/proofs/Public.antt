@@ -1,4 +1,5 @@
 -- What the proofs of the crates above may cite. Declares nothing.
+pub use Rattle.flute_journal.proofs.Chaining.{taken_all}
 pub use Rattle.flute_journal.proofs.Each.{all_more}
 pub use Rattle.flute_journal.proofs.Entries.{facts_of}
 pub use Rattle.flute_journal.proofs.Passes.{beyond, without_end-below}

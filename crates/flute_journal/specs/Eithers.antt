@@ -31,7 +31,6 @@ module _ {A B : Type 0} (a : Behaviour A) (b : Behaviour B) where
     most = most_either;
     tells = of_each a.tells b.tells;
     knows = of_each a.knows b.knows;
-    begins = of_each a.begins b.begins;
     stops = of_each a.stops b.stops;
     passes = both a.passes b.passes;
     reads = both a.reads b.reads;

@@ -19,7 +19,6 @@ use Rattle.flute_journal.specs.JournalFraming.{journal_framing}
 use Rattle.flute_journal.specs.Readers.{source_of, limit_of, state_of}
 use Rattle.flute_journal.specs.Framing.{HasFault, Sofar}
 use Rattle.flute_journal.specs.Frame.{AreItems}
-use Rattle.flute_journal.specs.Stores.{BeginsWith}
 use Rattle.flute_journal.specs.Loans.{lent_as}
 use Rattle.flute_journal.specs.Merges.{ReadsEntries}
 use Rattle.flute_journal.specs.Streams.{Behaviour, option_list}
@@ -88,7 +87,6 @@ module _ {R : Type 0} (unread : R → Option (List ℕ)) (failures : R → ℕ) 
     most = λ s. length (option_list s.held) + room (limit_of s.reader) (state_of s.reader);
     tells = λ s F. IfSome (unread_of s) (λ bytes. IsJournalWithin (limit_of s.reader) bytes F);
     knows = λ s F. IsJournalOfAll (unread_of s) F;
-    begins = λ s F. IfSome (unread_of s) (λ bytes. BeginsWith (limit_of s.reader) bytes F);
     stops = λ s fault.
         StopsReading (HasFault journal_framing (limit_of s.reader) (unread_of s)) fault;
     passes = PassesSince;

@@ -30,14 +30,13 @@ pub mod JournalWriters
 pub mod FirstFaults
 pub mod StreamMerges
 pub mod Pairs
+pub mod OneStream
 pub mod Listed
 pub mod FactStreams
-pub mod Withins
 pub mod Kinds
 pub mod OwnedStreams
-pub mod OrFulls
-pub mod Besides
-pub mod Replacing
 pub mod Sessions
+pub mod Selections
 pub mod ChosenStreams
 pub mod SessionExamples
+pub mod Chains

@@ -17,7 +17,6 @@ module _ {S : Type 0} (held : S → Option Fact) (rest : S → List Fact) (is_so
     most = λ s. length (option_list (held s)) + length (rest s);
     tells = λ s F. F ≡ rest s;
     knows = λ s F. F ≡ rest s;
-    begins = λ s F. (more : List Fact) × (rest s ≡ F ++ more);
     stops = λ s fault. ⊥;
     passes = PassesListed;
     reads = λ start now F. (more : List Fact) × (rest start ≡ F ++ more);

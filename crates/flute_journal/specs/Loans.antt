@@ -8,7 +8,6 @@ lent_as whole Same b = record {
   most = λ s. b.most (whole s);
   tells = λ s F. b.tells (whole s) F;
   knows = λ s F. b.knows (whole s) F;
-  begins = λ s F. b.begins (whole s) F;
   stops = λ s fault. b.stops (whole s) fault;
   passes = λ start now F. b.passes (whole start) (whole now) F × Same start now;
   reads = λ start now F. b.reads (whole start) (whole now) F;

@@ -7,7 +7,6 @@ use Rattle.flute_journal.specs.declared.entry_fields.Before.{Before}
 use Rattle.flute_journal.specs.declared.reader_state.ReaderState.{ReaderState}
 use Rattle.flute_journal.specs.Journal.{IsJournalWithin}
 use Rattle.flute_journal.specs.JournalFraming.{journal_framing}
-use Rattle.flute_journal.specs.Stores.{BeginsWith}
 use Rattle.flute_journal.specs.Framing.{HasFault}
 use Rattle.flute_journal.specs.Merges.{ReadsEntries}
 use Rattle.flute_journal.specs.Streams.{Behaviour, option_list}
@@ -40,7 +39,6 @@ module _ {R : Type 0} (unread : R → Option (List ℕ)) (failures : R → ℕ) 
     most = λ s. length (option_list s.held) + room s.max_entries s.state;
     tells = λ s F. IfSome (unread s.source) (λ bytes. IsJournalWithin s.max_entries bytes F);
     knows = λ s F. IsJournalOfAll (unread s.source) F;
-    begins = λ s F. IfSome (unread s.source) (λ bytes. BeginsWith s.max_entries bytes F);
     stops = λ s fault.
         StopsReading (HasFault journal_framing s.max_entries (unread s.source)) fault;
     passes = OwnedPasses;

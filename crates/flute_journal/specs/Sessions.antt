@@ -17,6 +17,9 @@ takes tsis tsi = nat_eq (length tsis) 0 || list_any (λ listed_tsis. nat_eq list
 abbrev pub is_chosen : List ℕ → Fact → Bool
 is_chosen tsis fact = takes tsis (address fact).key.session.tsi
 
+abbrev pub of_sessions : Sessions → Fact → Bool
+of_sessions sessions = is_chosen (listed_tsis sessions)
+
 -- the facts of the sessions that are taken: of those whose identifiers are listed, or of all
 abbrev pub chosen : List ℕ → List Fact → List Fact
 chosen tsis facts = filter (is_chosen tsis) facts

@@ -19,8 +19,6 @@ pub record Behaviour (S : Type 0) : Type 1 where
   pub tells : S → List Fact → Type 0
   -- a new one is known to have these facts and no others, if nothing fails
   pub knows : S → List Fact → Type 0
-  -- a new one begins with these facts, whatever follows
-  pub begins : S → List Fact → Type 0
   -- a new one may stop at this fault
   pub stops : S → LoadFault → Type 0
   -- since the first state, when it was new, it let go of these facts, and no device failed
@@ -63,7 +61,6 @@ module _ {S : Type 0} (b : Behaviour S) where
     pub sized : IfSome (b.held now) IsSized
     pub ended : b.held now ≡ None → b.tells start F
     pub ends : b.held now ≡ None → b.ends start now F
-    pub begins : b.begins start (F ++ option_list (b.held now))
     pub known : (K : List Fact) → b.knows start K
         → Continues K (F ++ option_list (b.held now)) (b.held now)
 

@@ -70,6 +70,9 @@ pub fn merge_all<const SESSIONS: u32, const OBJECTS: u32, const SYMBOLS: u32, G:
         (CanGoOn G.Stream.behaviour (G.streams streams.old) (G.streams streams.new)) }
     ensures failures { FailAs G.Stream.behaviour result (G.streams streams.old)
         (G.streams streams.new) }
+    ensures ended { IfOk result (λ joined. EndsMerged G.Stream.behaviour
+        (G.streams streams.old) (G.streams streams.new) SESSIONS OBJECTS SYMBOLS joined
+        (W.written sink.old) (W.written sink.new)) }
     ensures sink_failures { W.failures sink.new ≡ W.failures sink.old + streams_sink_failed result }
     ensures names { G.names streams.new ≡ G.names streams.old }
 {

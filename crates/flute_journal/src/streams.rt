@@ -81,6 +81,37 @@ impl<'a, S: Stream> Streams for Slice<'a, S> {
     }
 }
 
+/// One stream.
+#[derive(Debug, Drop)]
+pub struct One<'a, S> {
+    pub stream: &'a mut S,
+}
+
+impl<'a, S: Stream> Streams for One<'a, S> {
+    ghost use Rattle.std.specs.Prelude.{[], ◌∷◌};
+
+    type Stream = S;
+
+    ghost streams = { λ s. s.stream.now ∷ [] };
+
+    ghost names = { λ s. s.stream.ghost_name ∷ [] };
+
+    #[inline(always)]
+    fn count(&self) -> usize {
+        1
+    }
+
+    #[inline(always)]
+    fn head(&self, _number: usize) -> Option<FactRef<'_>> {
+        self.stream.head()
+    }
+
+    #[inline(always)]
+    fn advance(&mut self, _number: usize, alloc: Global) -> Result<(), LoadFault> {
+        self.stream.advance(alloc)
+    }
+}
+
 /// Two streams, of whatever kinds.
 #[derive(Debug, Drop)]
 pub struct Pair<'a, 'b, A, B> {

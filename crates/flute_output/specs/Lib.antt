@@ -1,2 +1,5 @@
 pub mod Entries
 pub mod Memory
+pub mod Modes
+pub mod NewFolders
+pub mod NewMemory

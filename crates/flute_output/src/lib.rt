@@ -2,7 +2,8 @@
 //!
 //! [`Output`] hands its bytes to a file beside OUT, and puts that in OUT's place once it is whole.
 //! What it needs of a folder is the trait [`Folder`], which the system's folders meet
-//! ([`DiskFolder`]), and one in memory, for tests ([`MemoryFolder`]).
+//! ([`DiskFolder`]), and one in memory, for tests ([`MemoryFolder`]). [`place_at`] tells whether
+//! the path of an output leads to a file, to a device ([`DeviceFile`]) or to standard output.
 //!
 //! Promised of each folder that meets the trait: at any moment OUT is what it was, or the new file,
 //! whole ([`Output::finish`], [`write_file`]).
@@ -16,20 +17,33 @@
 //! ```
 #![tactic(auto)]
 
+mod buffered_file;
+mod device_file;
 mod disk_folder;
+mod disk_new_folder;
 mod file_id;
+mod filled_folder;
 mod folder;
+mod folder_names;
 mod found;
 mod memory_folder;
+mod memory_new_folder;
 mod neighbours;
+mod new_folder;
 mod output;
+mod place;
 mod streams;
-mod target;
 
-pub use disk_folder::{DiskFolder, OpenFault};
+pub use device_file::DeviceFile;
+pub use disk_folder::DiskFolder;
+pub use disk_new_folder::DiskNewFolder;
 pub use file_id::FileId;
+pub use filled_folder::finish_folder;
 pub use folder::{Folder, Name};
 pub use found::Found;
 pub use memory_folder::MemoryFolder;
+pub use memory_new_folder::{MemoryFile, MemoryFiles, MemoryNewFolder};
+pub use new_folder::NewFolder;
 pub use output::{FinishFault, Output, OutputFault, write_file};
+pub use place::{OpenFault, Place, file_at, place_at};
 pub use streams::take_standard_streams;

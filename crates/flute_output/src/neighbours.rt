@@ -1,4 +1,6 @@
 //! The file OUT and the file beside it, in a folder of the system.
+ghost use Rattle.std.specs.Prelude.{◌≡◌, IfOk, option_map};
+ghost use Rattle.flute_output.specs.Modes.{kept_mode, mode_of};
 
 use crate::file_id::FileId;
 use std::alloc::Global;
@@ -21,10 +23,10 @@ const MAX_LINKS: u32 = 40;
 const ATTEMPTS: u32 = 16;
 
 /// Who may read and write a new file, but for what the user's mask takes away.
-const NEW_MODE: u32 = 0o666;
+pub const NEW_MODE: u32 = 0o666;
 
 /// Who may read, write and run a file, of all that a mode says.
-const ACCESS: u32 = 0o777;
+pub const ACCESS: u32 = 0o777;
 
 /// The two names, and what is known of OUT.
 #[derive(Debug, Drop)]
@@ -33,11 +35,13 @@ pub struct Neighbours {
     beside: String,
     /// Who may read, write and run OUT, if it was there.
     mode: Option<u32>,
+    /// Which file OUT was before the inputs were opened, if it was there.
+    before: Option<FileId>,
 }
 
 impl Neighbours {
-    /// The names for an output at this path, which has this metadata if it is there. A symbolic
-    /// link stands for what it leads to.
+    /// The names for an output at this path, which has this metadata if it is there, and was the
+    /// file `before` when the inputs were opened. A symbolic link stands for what it leads to.
     ///
     /// # Errors
     ///
@@ -47,15 +51,32 @@ impl Neighbours {
         alloc: Global,
         path: &str,
         metadata: Option<&Metadata>,
-    ) -> io::Result<Neighbours> {
+        before: Option<FileId>,
+    ) -> io::Result<Neighbours>
+        ensures mode { IfOk result (λ names. names.mode
+            ≡ kept_mode (option_map (λ m. m.now) metadata.entry)) }
+    {
         let out = without_links(rt, alloc, path)?;
         let mut beside = String::from_str(alloc, out.as_str())?;
         beside.push_str(SUFFIX)?;
+        let mode = match metadata {
+            Some(metadata) => Some(metadata.permissions().mode() & ACCESS),
+            None => None,
+        };
         Ok(Neighbours {
             out,
             beside,
-            mode: metadata.map(|metadata| metadata.permissions().mode() & ACCESS),
+            mode,
+            before,
         })
+    }
+
+    /// Who may read, write and run the new file: whoever may OUT, if it was there, and else all
+    /// but for what the user's mask takes away.
+    pub fn new_mode(&self) -> u32
+        ensures { result ≡ mode_of self.now.mode }
+    {
+        self.mode.unwrap_or(NEW_MODE)
     }
 
     /// Whether OUT was there.
@@ -93,12 +114,16 @@ impl Neighbours {
     ///
     /// # Errors
     ///
-    /// Those of the system, also if OUT may not be written; `WouldBlock` if a running program has
-    /// the file locked; and `AlreadyExists` if it is one of `inputs`, or no regular file. Only what
-    /// a killed run left may be gone then.
+    /// Those of the system, also if OUT may not be read and written; `WouldBlock` if a running
+    /// program has the file locked, or another file has become OUT since the inputs were opened;
+    /// and `AlreadyExists` if it is one of `inputs`, or no regular file. Only what a killed run
+    /// left may be gone then.
     pub fn create<R: Files<File = File>>(&self, rt: &R, inputs: &[FileId]) -> io::Result<File> {
         if self.has_out() {
-            OpenOptions::new().write(true).open(rt, &self.out)?;
+            OpenOptions::new()
+                .read(true)
+                .write(true)
+                .open(rt, &self.out)?;
         }
         for _ in 0..ATTEMPTS {
             match self.make(rt) {
@@ -116,20 +141,41 @@ impl Neighbours {
         let file = OpenOptions::new()
             .write(true)
             .create_new(true)
-            .mode(self.mode.unwrap_or(NEW_MODE))
+            .mode(self.new_mode())
             .open(rt, &self.beside)?;
         lock(&file)?;
         if !self.is_beside(rt, &file)? {
             return Err(ErrorKind::AlreadyExists.into());
         }
-        if let Some(mode) = self.mode {
-            // The user's mask may have taken some of it away.
-            if let Err(error) = file.set_permissions(Permissions::from_mode(mode)) {
+        match self.finish_making(rt, &file) {
+            Ok(()) => Ok(file),
+            Err(error) => {
                 let _ = fs::remove_file(rt, &self.beside);
-                return Err(error);
+                Err(error)
             }
         }
-        Ok(file)
+    }
+
+    // Gives the file OUT's mode, of which the user's mask may have taken some away. As the file is
+    // locked, no other run puts its own in OUT's place from now on; one that did so since the
+    // inputs were opened may have joined to OUT what they lack.
+    fn finish_making<R: Files>(&self, rt: &R, file: &File) -> io::Result<()> {
+        if !self.is_as_before(rt)? {
+            return Err(ErrorKind::WouldBlock.into());
+        }
+        match self.mode {
+            Some(mode) => file.set_permissions(Permissions::from_mode(mode)),
+            None => Ok(()),
+        }
+    }
+
+    // Whether OUT is the file that it was before the inputs were opened, or still not there.
+    fn is_as_before<R: Files>(&self, rt: &R) -> io::Result<bool> {
+        match fs::symlink_metadata(rt, &self.out) {
+            Ok(found) => Ok(self.before == Some(FileId::of(&found))),
+            Err(error) if error.kind() == ErrorKind::NotFound => Ok(self.before.is_none()),
+            Err(error) => Err(error),
+        }
     }
 
     // A file that is locked is that of a running program.

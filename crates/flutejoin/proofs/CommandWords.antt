@@ -1,33 +1,56 @@
 -- Words of the command line.
-use Rattle.std.proofs.Common.{◌≡◌, ◌<◌, ◌≤◌, ◌^◌, ℕ, Bool, true, false, ◌&&◌, List, [], length, map, Option, Some, None, option_map, unwrap_or, nat_lt, nat_le, Result, Ok, Err, Bor, refl, sym, ap, ap₂, ◌∙◌, rules, true≢false}
+use Rattle.std.proofs.Common.{◌≡◌, ◌<◌, ◌≤◌, ◌^◌, ℕ, Bool, true, false, ◌&&◌, List, [], length, map}
+use Rattle.std.proofs.Common.{Option, Some, None, option_map, unwrap_or, nat_lt, nat_le, Result, Ok}
+use Rattle.std.proofs.Common.{Err, Bor, refl, sym, ap, ap₂, ◌∙◌, rules, true≢false}
 use Rattle.std.specs.Char.{is_ascii_digit}
 use Rattle.std.specs.List.{list_all}
 use Rattle.std.specs.Result.{result_ok}
 use Rattle.std.specs.Str.Parse.{ParsesUnsigned, digits_value}
 use Rattle.std.proofs.lemmas.Bool.{le-leb, lt-leb, lt-ltb, ltb-true}
 use Rattle.std.proofs.Math.Bool.{and-false}
+use Rattle.std.proofs.lemmas.List.{length-map}
 use Rattle.std.proofs.lemmas.Str.Parse.{IsNumeralModel, numerals_by_value, parse_digits}
 use Rattle.clap.specs.Matches.{found_of, matched_of, raw_values}
 use Rattle.clap.specs.declared.parser.matches.ArgMatches.{ArgMatches}
 use Rattle.clap.proofs.WalkLemmas.{raw_values-rows}
-use Rattle.flutejoin.specs.CommandLine.{found_rows, is_numeral, number_in, words}
+use Rattle.flutejoin.specs.Options.{found_rows, is_numeral, number_in, times_of, words}
 
 -- the default stands for no word
-pub word_or : (found : Option (Bor (List ℕ))) (default : Bor (List ℕ)) → (unwrap_or found default).now ≡ unwrap_or (option_map (λ (w : Bor (List ℕ)). w.now) found) default.now
+pub word_or : (found : Option (Bor (List ℕ))) (default : Bor (List ℕ)) →
+    (unwrap_or found default).now ≡ unwrap_or (option_map (λ (w : Bor (List ℕ)). w.now) found)
+    default.now
 word_or (Some w) default = refl
 word_or None default = refl
 
-words_or : (found : Option (Bor (List (Bor (List ℕ))))) (default : Bor (List (Bor (List ℕ)))) → map (λ (w : Bor (List ℕ)). w.now) (unwrap_or found default).now ≡ unwrap_or (option_map (λ (ws : Bor (List (Bor (List ℕ)))). map (λ (w : Bor (List ℕ)). w.now) ws.now) found) (map (λ (w : Bor (List ℕ)). w.now) default.now)
+words_or : (found : Option (Bor (List (Bor (List ℕ))))) (default : Bor (List (Bor (List ℕ)))) → map
+    (λ (w : Bor (List ℕ)). w.now) (unwrap_or found default).now ≡ unwrap_or
+    (option_map (λ (ws : Bor (List (Bor (List ℕ)))). map (λ (w : Bor (List ℕ)). w.now) ws.now)
+    found) (map (λ (w : Bor (List ℕ)). w.now) default.now)
 words_or (Some w) default = refl
 words_or None default = refl
 
-pub words_read : (matches : ArgMatches) (id : List ℕ) (found : Option (Bor (List (Bor (List ℕ))))) (default read : Bor (List (Bor (List ℕ))))
-    → option_map (λ (ws : Bor (List (Bor (List ℕ)))). map (λ (w : Bor (List ℕ)). w.now) ws.now) found ≡ option_map raw_values (matched_of (found_of matches) id)
-    → read ≡ unwrap_or found default → map (λ (w : Bor (List ℕ)). w.now) default.now ≡ [] → map (λ (w : Bor (List ℕ)). w.now) read.now ≡ words id (found_rows matches)
+pub words_read : (matches : ArgMatches) (id : List ℕ) (found : Option (Bor (List (Bor (List ℕ)))))
+    (default read : Bor (List (Bor (List ℕ))))
+    → option_map (λ (ws : Bor (List (Bor (List ℕ)))). map (λ (w : Bor (List ℕ)). w.now) ws.now)
+    found ≡ option_map raw_values (matched_of (found_of matches) id)
+    → read ≡ unwrap_or found default → map (λ (w : Bor (List ℕ)). w.now) default.now ≡ [] → map
+    (λ (w : Bor (List ℕ)). w.now) read.now ≡ words id (found_rows matches)
 words_read matches id found default read are is none =
     ap (λ (b : Bor (List (Bor (List ℕ)))). map (λ (w : Bor (List ℕ)). w.now) b.now) is
     ∙ words_or found default
-    ∙ ap₂ (λ (o : Option (List (List ℕ))) (d : List (List ℕ)). unwrap_or o d) (are ∙ raw_values-rows (found_of matches) id) none
+    ∙ ap₂ (λ (o : Option (List (List ℕ))) (d : List (List ℕ)). unwrap_or o d)
+    (are ∙ raw_values-rows (found_of matches) id) none
+
+-- how many there are
+pub times_read : (matches : ArgMatches) (id : List ℕ) (found : Option (Bor (List (Bor (List ℕ)))))
+    (default read : Bor (List (Bor (List ℕ))))
+    → option_map (λ (ws : Bor (List (Bor (List ℕ)))). map (λ (w : Bor (List ℕ)). w.now) ws.now)
+    found ≡ option_map raw_values (matched_of (found_of matches) id)
+    → read ≡ unwrap_or found default → map (λ (w : Bor (List ℕ)). w.now) default.now ≡ [] → length
+    read.now ≡ times_of id (found_rows matches)
+times_read matches id found default read are is none = sym
+    (length-map read.now (λ (w : Bor (List ℕ)). w.now)) ∙ ap length
+    (words_read matches id found default read are is none)
 
 -- digits as `parse` reads them
 own : IsNumeralModel (λ ds. list_all is_ascii_digit ds ≡ true) (digits_value 10)
@@ -37,19 +60,30 @@ both : (a b : Bool) → (a && b) ≡ true → (a ≡ true) × (b ≡ true)
 both true b e = (refl, e)
 both false b e = absurd (true≢false (sym e))
 
-pub number_read : {E : Type 0} (text : List ℕ) (r : Result ℕ E) → ParsesUnsigned 128 10 text r → length text ≤ 39 → list_all is_ascii_digit text ≡ true → result_ok r ≡ number_in text
+pub number_read : {E : Type 0} (text : List ℕ) (r : Result ℕ E) → ParsesUnsigned 128 10 text r →
+    length text ≤ 39 → list_all is_ascii_digit text ≡ true → result_ok r ≡ number_in text
 unfolding number_in
 number_read {E} text (Ok n) h short all =
-    let read : ((0 < length text) × (digits_value 10 text < 2 ^ 128)) × (n ≡ digits_value 10 text) = parse_digits own {E = E} 128 text (Ok n) h all in
-    rw (lt-ltb 0 (length text) read.0.0, le-leb (length text) 39 short, all, lt-ltb (digits_value 10 text) (2 ^ 128) read.0.1) (ap Some read.1)
-number_read {E} text (Err e) h short all = go (is_numeral text && nat_lt (digits_value 10 text) (2 ^ 128)) refl
+    let read : ((0 < length text) × (digits_value 10 text < 2 ^ 128)) × (n ≡ digits_value 10 text)
+    = parse_digits own {E = E} 128 text (Ok n) h all in
+    rw (
+      lt-ltb 0 (length text) read.0.0,
+      le-leb (length text) 39 short,
+      all,
+      lt-ltb
+          (digits_value 10 text) (2 ^ 128) read.0.1,
+    ) (ap Some read.1)
+number_read {E} text (Err e) h short all = go (is_numeral text && nat_lt (digits_value 10 text)
+    (2 ^ 128)) refl
   where
-    go : (b : Bool) → (is_numeral text && nat_lt (digits_value 10 text) (2 ^ 128)) ≡ b → None ≡ number_in text
+    go : (b : Bool) → (is_numeral text && nat_lt (digits_value 10 text) (2 ^ 128)) ≡ b → None ≡
+        number_in text
     go false is = rw is refl
     go true is =
         let outer = both _ _ is in
         let inner = both _ _ outer.0 in
-        absurd (parse_digits own {E = E} 128 text (Err e) h all (ltb-true _ _ inner.0, ltb-true _ _ outer.1))
+        absurd (parse_digits own {E = E} 128 text (Err e) h all
+        (ltb-true _ _ inner.0, ltb-true _ _ outer.1))
 
 pub long_text : (text : List ℕ) → 39 < length text → is_numeral text ≡ false
 long_text text long = rw (lt-leb (length text) 39 long) (and-false _)

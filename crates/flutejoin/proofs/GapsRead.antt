@@ -1,6 +1,7 @@
 -- A journal whose objects are listed as it is read.
-use Rattle.std.proofs.Common.{◌≡◌, ℕ, List, [], ◌∷◌, ◌++◌, Option, None, inl, inr, refl, sym, subst}
-use Rattle.std.specs.Prelude.{IfSome}
+use Rattle.std.proofs.Common.{◌≡◌, ℕ, Bool, false, List, [], ◌∷◌, ◌++◌, Option, Some, None, inl}
+use Rattle.std.proofs.Common.{inr, refl, sym, subst}
+use Rattle.std.specs.Prelude.{IfSome, IsTrue}
 use Rattle.std.specs.Io.KnownBytes.{IsAtEnd}
 use Rattle.flute_parts.specs.Facts.{IsRising}
 use Rattle.flute_parts.specs.Limits.{Over}
@@ -15,53 +16,93 @@ use Rattle.flute_journal.specs.declared.reader_state.ReaderState.TheVariants.{He
 use Rattle.flute_journal.specs.Framing.{GivesItem, GivesEnd, GivesFault, Sofar}
 use Rattle.flute_journal.specs.JournalFraming.{journal_framing}
 use Rattle.flute_journal.specs.declared.format.version.Version.TheVariants.{Two}
-use Rattle.flute_journal.proofs.Public.{loaded-over, side-from, journal_sound, sofar-next, sofar-none, sofar-stops}
+use Rattle.flute_journal.proofs.Public.{loaded-over, side-from, journal_sound, sofar-next}
+use Rattle.flute_journal.proofs.Public.{sofar-none, sofar-stops}
 use Rattle.flutejoin.specs.Gaps.{ListsJournal, ReadsWithin}
 use Rattle.flutejoin.specs.Load.{LoadFails}
-use Rattle.flutejoin.specs.Listing.{AreListed, Lists}
+use Rattle.flutejoin.specs.Listing.{AreListed, Lists, ListsWith, CanAdd}
 use Rattle.flutejoin.specs.Shelves.{BeginsOverShelf}
 use Rattle.flutejoin.specs.declared.command_fault.CommandFault.TheVariants.{Input}
 use Rattle.flutejoin.specs.declared.limits.TheConstants.{MAX_ENTRIES}
 use Rattle.flutejoin.specs.declared.listing.Listing.{Listing}
+use Rattle.flutejoin.specs.declared.listing.OpenObject.{OpenObject}
 use Rattle.flutejoin.proofs.Shown.{whole}
+
+-- what is put aside: lines, and those of the gaps of the open object
+pub record PutAside : Type 0 where
+  pub lines : Option (List ℕ)
+  pub gap_lines : Option (List ℕ)
+
+-- both were empty at first
+abbrev pub IsKnown : Bool → PutAside → Type 0
+IsKnown known first =
+    IsTrue known → (first.lines ≡ Some []) × (first.gap_lines ≡ Some [])
+
+abbrev pub ListsAll : List Fact → Listing → PutAside → PutAside → Type 0
+ListsAll F listing first aside =
+    (known : Bool) → IsKnown known first
+    → Lists known F listing.open aside.lines aside.gap_lines
 
 -- these entries were read, counted and listed, and nothing else
 pub record ListsRead (first now : Option (List ℕ)) (state : ReaderState Before)
-    (tally : Tally 64 4096 1048576) (listing : Listing) : Type 0 where
+    (tally : Tally 64 4096 1048576) (listing : Listing) (empty aside : PutAside) : Type 0 where
   pub entries : List Fact
   pub sofar : Sofar journal_framing MAX_ENTRIES first now state entries
   pub counts : Counts 64 4096 1048576 entries tally
-  pub lists : Lists entries listing
+  pub lists : ListsAll entries listing empty aside
+
+pub none_listed_yet : (listing : Listing) (empty : PutAside) → listing.open ≡ None
+    → ListsAll [] listing empty empty
+none_listed_yet listing empty e = λ known is. record {
+  lines = [];
+  gap_lines = [];
+  lists =
+      subst (λ (o : Option OpenObject). ListsWith [] [] [] o) (sym e) (refl, refl, refl);
+  lines_known = λ k. (is k).0;
+  gap_lines_known = λ k. (is k).1;
+}
 
 pub none_read : (u v : Option (List ℕ)) (state : ReaderState Before) (tally : Tally 64 4096 1048576)
-    (listing : Listing) → v ≡ u → state ≡ Header → Counts 64 4096 1048576 [] tally
-    → Lists [] listing
-    → ListsRead u v state tally listing
-none_read u v state tally listing e is c l = record {
+    (listing : Listing) (empty : PutAside) → v ≡ u → state ≡ Header
+    → Counts 64 4096 1048576 [] tally → listing.open ≡ None
+    → ListsRead u v state tally listing empty empty
+none_read u v state tally listing empty e is c l = record {
   entries = [];
   sofar = subst (λ (x : Option (List ℕ)). Sofar journal_framing MAX_ENTRIES u x state []) (sym e)
       (subst (λ (x : ReaderState Before). Sofar journal_framing MAX_ENTRIES u u x []) (sym is)
       (sofar-none journal_sound Two MAX_ENTRIES u));
   counts = c;
-  lists = l;
+  lists = none_listed_yet listing empty l;
 }
 
-module _ (u v w : Option (List ℕ)) (from to : ReaderState Before) (tally : Tally 64 4096 1048576)
-    (listing : Listing) (h : ListsRead u v from tally listing) where
+module _ {u v : Option (List ℕ)} (w : Option (List ℕ)) {from : ReaderState Before}
+    (to : ReaderState Before) {tally : Tally 64 4096 1048576} {listing : Listing}
+    {empty aside : PutAside} (h : ListsRead u v from tally listing empty aside) where
+  -- what the open object is, whatever is known of what was put aside
+  pub is_open : (lines gap_lines : List ℕ) × ListsWith h.entries lines gap_lines listing.open
+  is_open =
+      let l = h.lists false (λ is. absurd cc) in
+      (l.lines, l.gap_lines, l.lists)
+
   module _ (f : Fact) (g : GivesItem journal_framing MAX_ENTRIES from to v w f) where
     pub entry_rises : IsRising (h.entries ++ f ∷ [])
     entry_rises = (sofar-next journal_sound MAX_ENTRIES u v w from to h.entries f h.sofar
         g).are_items.in_order
 
-    pub one_more_read : (tally' : Tally 64 4096 1048576) (listing' : Listing)
-        → Counts 64 4096 1048576 (h.entries ++ f ∷ []) tally' → Lists (h.entries ++ f ∷ []) listing'
-        → ListsRead u w to tally' listing'
-    one_more_read tally' listing' c l = record {
+    pub one_more_read : (tally' : Tally 64 4096 1048576) (listing' : Listing) (aside' : PutAside)
+        → Counts 64 4096 1048576 (h.entries ++ f ∷ []) tally'
+        → ((known : Bool) → Lists known h.entries listing.open aside.lines aside.gap_lines
+        → Lists known (h.entries ++ f ∷ []) listing'.open aside'.lines aside'.gap_lines)
+        → ListsRead u w to tally' listing' empty aside'
+    one_more_read tally' listing' aside' c l = record {
       entries = h.entries ++ f ∷ [];
       sofar = sofar-next journal_sound MAX_ENTRIES u v w from to h.entries f h.sofar g;
       counts = c;
-      lists = l;
+      lists = λ known is. l known (h.lists known is);
     }
+
+    pub can_add : CanAdd f listing.open
+    can_add = (h.entries, entry_rises, is_open)
 
     -- an entry more was read, within the limits
     pub within_read : (tally' : Tally 64 4096 1048576)

@@ -1,5 +1,7 @@
 -- Datagram files that are held as what they tell.
-use Rattle.std.proofs.Common.{◌≡◌, ℕ, ◌+◌, ◌≤◌, Bool, true, false, cond, List, [], ◌∷◌, ◌++◌, count_by, Result, Ok, Err, inl, inr, refl, sym, ap, subst, ◌∙◌, arith, append-nil, append_assoc}
+use Rattle.std.proofs.Common.{◌≡◌, ℕ, ◌+◌, Bool, true, false, cond, List, [], ◌∷◌, ◌++◌, count_by}
+use Rattle.std.proofs.Common.{Result, Ok, Err, inl, inr, refl, sym, ap, subst, ◌∙◌, arith}
+use Rattle.std.proofs.Common.{append-nil, append_assoc}
 use Rattle.std.specs.Prelude.{OnOk, Option, Some, MatchResult}
 use Rattle.flute_journal.specs.declared.fault.ReadFault.{ReadFault}
 use Rattle.flute_journal.specs.Input.{FailsIf}
@@ -15,8 +17,9 @@ use Rattle.flute_parts.proofs.Public.{Same-trans}
 use Rattle.flutejoin.specs.declared.command_fault.CommandFault.{CommandFault}
 use Rattle.flutejoin.specs.declared.command_fault.CommandFault.TheVariants.{Full, Input}
 use Rattle.flutejoin.specs.declared.joined.Joined.{Joined}
-use Rattle.flutejoin.specs.declared.held_file.HeldFile.{HeldFile}
-use Rattle.flutejoin.specs.Joined.{Choice, facts_by, is_of_others, TakesDatagram, TakesDatagrams, StoreFails, HoldsAll, HoldsDatagrams}
+use Rattle.flutejoin.specs.declared.held_files.HeldFiles.{HeldFiles}
+use Rattle.flutejoin.specs.Joined.{Choice, facts_by, is_of_others, TakesDatagram, TakesDatagrams}
+use Rattle.flutejoin.specs.Joined.{StoreFails, HoldsAll, HoldsDatagrams}
 use Rattle.flutejoin.specs.Refused.{is_refused}
 use Rattle.flutejoin.specs.Shelves.{IsOverShelf}
 use Rattle.flutejoin.proofs.Receptions.{Below-left}
@@ -24,98 +27,122 @@ use Rattle.flutejoin.proofs.Receptions.{Below-left}
 abbrev none : Joined
 none = record { store = []; datagrams = 0; refused = 0 }
 
-store_over : (F : List Fact) (fault : CommandFault) → StoreFails F fault → fault ≡ Full → IsOverShelf F
+store_over : (F : List Fact) (fault : CommandFault) → StoreFails F fault → fault ≡ Full →
+    IsOverShelf F
 store_over F fault (inl full) is = full.1
 store_over F fault (inr memory) is = let e = sym memory ∙ is in absurd cc
 
 -- the choice of all datagrams
 module _ (choice : Choice) where
-  flat_more : (ds : List (List ℕ)) (d : List ℕ) → flat_map (facts_by choice) (ds ++ d ∷ []) ≡ flat_map (facts_by choice) ds ++ facts_by choice d
-  flat_more ds d = flat_map-append (facts_by choice) ds (d ∷ []) ∙ ap (λ F. flat_map (facts_by choice) ds ++ F) (append-nil (facts_by choice d))
+  flat_more : (ds : List (List ℕ)) (d : List ℕ) → flat_map (facts_by choice) (ds ++ d ∷ []) ≡
+      flat_map (facts_by choice) ds ++ facts_by choice d
+  flat_more ds d = flat_map-append (facts_by choice) ds (d ∷ []) ∙ ap
+      (λ F. flat_map (facts_by choice) ds ++ F) (append-nil (facts_by choice d))
 
-  takes_more : (before now after : Joined) (ds : List (List ℕ)) (d : List ℕ) → TakesDatagrams choice before ds now → TakesDatagram (facts_by choice d) now d after → TakesDatagrams choice before (ds ++ d ∷ []) after
+  takes_more : (before now after : Joined) (ds : List (List ℕ)) (d : List ℕ) → TakesDatagrams
+      choice before ds now → TakesDatagram (facts_by choice d) now d after → TakesDatagrams choice
+      before (ds ++ d ∷ []) after
   takes_more before now after ds d all one =
       let length_is = length-append ds (d ∷ []) in
       record {
         content = rw (flat_more ds d)
-            (subst (λ F. Same after.store F) (append_assoc before.store (flat_map (facts_by choice) ds) (facts_by choice d))
-            (Same-trans after.store (now.store ++ facts_by choice d) ((before.store ++ flat_map (facts_by choice) ds) ++ facts_by choice d) one.content
-            (Same-append now.store (before.store ++ flat_map (facts_by choice) ds) (facts_by choice d) (facts_by choice d) all.content (Same-itself (facts_by choice d)))));
+            (subst (λ F. Same after.store F) (append_assoc before.store
+            (flat_map (facts_by choice) ds) (facts_by choice d))
+            (Same-trans after.store (now.store ++ facts_by choice d)
+            ((before.store ++ flat_map (facts_by choice) ds) ++ facts_by choice d) one.content
+            (Same-append now.store (before.store ++ flat_map (facts_by choice) ds)
+            (facts_by choice d) (facts_by choice d) all.content
+            (Same-itself (facts_by choice d)))));
         count = omega (arith, one.datagrams, all.count, length_is);
-        refused = rw (sum_by_push (λ x. cond (is_refused x) 1 0) ds d, one.refused) (counted before.refused now.refused (count_by is_refused ds) (is_refused d) all.refused);
+        refused = rw (sum_by_push (λ x. cond (is_refused x) 1 0) ds d, one.refused)
+            (counted before.refused now.refused (count_by is_refused ds) (is_refused d)
+            all.refused);
       }
     where
       counted : (m n k : ℕ) (b : Bool) → n ≡ m + k → cond b (n + 1) n ≡ m + (k + cond b 1 0)
       counted m n k true e = omega (arith, e)
       counted m n k false e = omega (arith, e)
 
-  over_more : (ds : List (List ℕ)) (d : List ℕ) → IsOverShelf (flat_map (facts_by choice) ds) → IsOverShelf (flat_map (facts_by choice) (ds ++ d ∷ []))
-  over_more ds d over = rw (flat_more ds d) (Over-below (flat_map (facts_by choice) ds) (flat_map (facts_by choice) ds ++ facts_by choice d) 64 4096 1048576 (Below-left (flat_map (facts_by choice) ds) (facts_by choice d)) over)
+  over_more : (ds : List (List ℕ)) (d : List ℕ) → IsOverShelf (flat_map (facts_by choice) ds) →
+      IsOverShelf (flat_map (facts_by choice) (ds ++ d ∷ []))
+  over_more ds d over = rw (flat_more ds d) (Over-below (flat_map (facts_by choice) ds)
+      (flat_map (facts_by choice) ds ++ facts_by choice d) 64 4096 1048576
+      (Below-left (flat_map (facts_by choice) ds) (facts_by choice d)) over)
 
-  over_with : (told : Joined) (ds : List (List ℕ)) (d : List ℕ) → TakesDatagrams choice none ds told → IsOverShelf (told.store ++ facts_by choice d) → IsOverShelf (flat_map (facts_by choice) (ds ++ d ∷ []))
+  over_with : (told : Joined) (ds : List (List ℕ)) (d : List ℕ) → TakesDatagrams choice none ds
+      told → IsOverShelf (told.store ++ facts_by choice d) → IsOverShelf
+      (flat_map (facts_by choice) (ds ++ d ∷ []))
   over_with told ds d all over =
       rw (flat_more ds d)
-      (Over-below (told.store ++ facts_by choice d) (flat_map (facts_by choice) ds ++ facts_by choice d) 64 4096 1048576
-      (Below-from_Same (told.store ++ facts_by choice d) (flat_map (facts_by choice) ds ++ facts_by choice d) (Same-append told.store (flat_map (facts_by choice) ds) (facts_by choice d) (facts_by choice d) all.content (Same-itself (facts_by choice d)))) over)
+      (Over-below (told.store ++ facts_by choice d) (flat_map (facts_by choice) ds ++ facts_by
+      choice d) 64 4096 1048576
+      (Below-from_Same (told.store ++ facts_by choice d)
+      (flat_map (facts_by choice) ds ++ facts_by choice d)
+      (Same-append told.store (flat_map (facts_by choice) ds) (facts_by choice d)
+      (facts_by choice d) all.content (Same-itself (facts_by choice d)))) over)
 
-  holding : (b c : Bool) (told : Joined) (ds : List (List ℕ)) → b ≡ c → HoldsAll choice c told ds → HoldsAll choice b told ds
+  holding : (b c : Bool) (told : Joined) (ds : List (List ℕ)) → b ≡ c → HoldsAll choice c told ds →
+      HoldsAll choice b told ds
   holding b c told ds e h = subst (λ x. HoldsAll choice x told ds) (sym e) h
 
-  held_as : (b c : Bool) (told : Joined) (ds : List (List ℕ)) → b ≡ c → HoldsAll choice b told ds → HoldsAll choice c told ds
+  held_as : (b c : Bool) (told : Joined) (ds : List (List ℕ)) → b ≡ c → HoldsAll choice b told ds →
+      HoldsAll choice c told ds
   held_as b c told ds e h = subst (λ x. HoldsAll choice x told ds) e h
 
-  pub holds_none : (file : HeldFile) → file.told.store ≡ [] → file.told.datagrams ≡ 0 → file.told.refused ≡ 0 → file.others ≡ 0 → file.fits ≡ true → HoldsDatagrams choice file []
+  pub holds_none : (file : HeldFiles) → file.told.store ≡ [] → file.told.datagrams ≡ 0 →
+      file.told.refused ≡ 0 → file.others ≡ 0 → file.fits ≡ true → HoldsDatagrams choice file []
   holds_none file store datagrams refused others fits = record {
-    few = omega (arith, datagrams);
-    few_refused = omega (arith, datagrams, refused);
-    few_others = omega (arith, datagrams, others);
     others = λ e. others;
-    holds = holding file.fits true file.told [] fits (record { content = rw store (Same-itself []); count = omega (arith, datagrams); refused = omega (arith, refused) });
+    holds = holding file.fits true file.told [] fits (record {
+      content = rw store (Same-itself []);
+      count = omega (arith, datagrams);
+      refused = omega
+          (arith, refused);
+    });
   }
 
   -- a datagram more was taken
-  pub holds_more : (old new : HeldFile) (ds : List (List ℕ)) (d : List ℕ) → old.fits ≡ true → new.fits ≡ true → TakesDatagram (facts_by choice d) old.told d new.told
-      → new.others ≡ old.others + cond (is_of_others choice d) 1 0 → HoldsDatagrams choice old ds → HoldsDatagrams choice new (ds ++ d ∷ [])
+  pub holds_more : (old new : HeldFiles) (ds : List (List ℕ)) (d : List ℕ) → old.fits ≡ true →
+      new.fits ≡ true → TakesDatagram (facts_by choice d) old.told d new.told
+      → new.others ≡ old.others + cond (is_of_others choice d) 1 0 → HoldsDatagrams choice old ds →
+      HoldsDatagrams choice new (ds ++ d ∷ [])
   holds_more old new ds d fits still one count h = record {
-    few = omega (arith, one.datagrams, h.few, length-append ds (d ∷ []));
-    few_refused = fewer (is_refused d) one.refused;
-    few_others = fewer_others (is_of_others choice d) count;
-    others = λ e. count ∙ ap (λ n. n + cond (is_of_others choice d) 1 0) (h.others fits) ∙ sym (sum_by_push (λ x. cond (is_of_others choice x) 1 0) ds d);
-    holds = holding new.fits true new.told (ds ++ d ∷ []) still (takes_more none old.told new.told ds d (held_as old.fits true old.told ds fits h.holds) one);
+    others = λ e. count ∙ ap (λ n. n + cond (is_of_others choice d) 1 0) (h.others fits) ∙ sym
+        (sum_by_push (λ x. cond (is_of_others choice x) 1 0) ds d);
+    holds = holding new.fits true new.told (ds ++ d ∷ []) still
+        (takes_more none old.told new.told ds d (held_as old.fits true old.told ds fits h.holds)
+        one);
   }
-    where
-      fewer : (b : Bool) → new.told.refused ≡ cond b (old.told.refused + 1) old.told.refused → new.told.refused ≤ new.told.datagrams
-      fewer true e = omega (arith, e, one.datagrams, h.few_refused)
-      fewer false e = omega (arith, e, one.datagrams, h.few_refused)
-
-      fewer_others : (b : Bool) → new.others ≡ old.others + cond b 1 0 → new.others ≤ new.told.datagrams
-      fewer_others true e = omega (arith, e, one.datagrams, h.few_others)
-      fewer_others false e = omega (arith, e, one.datagrams, h.few_others)
 
   -- it found no room
-  pub holds_over : (old new : HeldFile) (ds : List (List ℕ)) (d : List ℕ) (told : List Fact) (fault : CommandFault) → old.fits ≡ true → new.fits ≡ false → facts_by choice d ≡ told → StoreFails (old.told.store ++ told) fault → fault ≡ Full
-      → (new.told.datagrams ≡ old.told.datagrams) × (new.told.refused ≡ old.told.refused) → new.others ≡ old.others → HoldsDatagrams choice old ds → HoldsDatagrams choice new (ds ++ d ∷ [])
+  pub holds_over : (old new : HeldFiles) (ds : List (List ℕ)) (d : List ℕ) (told : List Fact)
+      (fault : CommandFault) → old.fits ≡ true → new.fits ≡ false → facts_by choice d ≡ told →
+      StoreFails (old.told.store ++ told) fault → fault ≡ Full
+      → (new.told.datagrams ≡ old.told.datagrams) × (new.told.refused ≡ old.told.refused) →
+      new.others ≡ old.others → HoldsDatagrams choice old ds → HoldsDatagrams choice new
+      (ds ++ d ∷ [])
   holds_over old new ds d told fault fits over e fails full counts same h = record {
-    few = omega (arith, counts.0, h.few, length-append ds (d ∷ []));
-    few_refused = omega (arith, counts.0, counts.1, h.few_refused);
-    few_others = omega (arith, counts.0, same, h.few_others);
     others = λ fitting. absurd (false≢true (sym over ∙ fitting));
-    holds = holding new.fits false new.told (ds ++ d ∷ []) over (over_with old.told ds d (held_as old.fits true old.told ds fits h.holds) (subst (λ F. IsOverShelf (old.told.store ++ F)) (sym e) (store_over _ fault fails full)));
+    holds = holding new.fits false new.told (ds ++ d ∷ []) over
+        (over_with old.told ds d (held_as old.fits true old.told ds fits h.holds)
+        (subst (λ F. IsOverShelf (old.told.store ++ F)) (sym e) (store_over _ fault fails full)));
   }
 
   -- there had been none before
-  pub holds_past : (file : HeldFile) (ds : List (List ℕ)) (d : List ℕ) → file.fits ≡ false → HoldsDatagrams choice file ds → HoldsDatagrams choice file (ds ++ d ∷ [])
+  pub holds_past : (file : HeldFiles) (ds : List (List ℕ)) (d : List ℕ) → file.fits ≡ false →
+      HoldsDatagrams choice file ds → HoldsDatagrams choice file (ds ++ d ∷ [])
   holds_past file ds d fits h = record {
-    few = omega (arith, h.few, length-append ds (d ∷ []));
-    few_refused = h.few_refused;
-    few_others = h.few_others;
     others = λ fitting. absurd (false≢true (sym fits ∙ fitting));
-    holds = holding file.fits false file.told (ds ++ d ∷ []) fits (over_more ds d (held_as file.fits false file.told ds fits h.holds));
+    holds = holding file.fits false file.told (ds ++ d ∷ []) fits
+        (over_more ds d (held_as file.fits false file.told ds fits h.holds));
   }
 
   -- a datagram of another session was counted
-  pub holds_passed : (old new : HeldFile) (ds : List (List ℕ)) (d : List ℕ) → old.fits ≡ true → new.fits ≡ true → facts_by choice d ≡ [] → is_refused d ≡ false → new.told ≡ record { store = old.told.store; datagrams = old.told.datagrams + 1; refused = old.told.refused }
-      → new.others ≡ old.others + 1 → is_of_others choice d ≡ true → HoldsDatagrams choice old ds → HoldsDatagrams choice new (ds ++ d ∷ [])
+  pub holds_passed : (old new : HeldFiles) (ds : List (List ℕ)) (d : List ℕ) → old.fits ≡ true →
+      new.fits ≡ true → facts_by choice d ≡ [] → is_refused d ≡ false → new.told ≡ record
+      { store = old.told.store; datagrams = old.told.datagrams + 1; refused = old.told.refused }
+      → new.others ≡ old.others + 1 → is_of_others choice d ≡ true → HoldsDatagrams choice old ds →
+      HoldsDatagrams choice new (ds ++ d ∷ [])
   holds_passed old new ds d fits still none kept is count other h =
       holds_more old new ds d fits still
       (record {
@@ -126,33 +153,45 @@ module _ (choice : Choice) where
       (rw other count) h
 
   -- what a taken datagram comes to
-  pub holds_taken : (r : Result (Unit {0}) CommandFault) (old new : HeldFile) (d : List ℕ) (told : List Fact) → old.fits ≡ true → new.fits ≡ true → facts_by choice d ≡ told → new.others ≡ old.others → is_of_others choice d ≡ false
-      → OnOk r (TakesDatagram told old.told d new.told) → OnOk r ((ds : List (List ℕ)) → HoldsDatagrams choice old ds → HoldsDatagrams choice new (ds ++ d ∷ []))
+  pub holds_taken : (r : Result (Unit {0}) CommandFault) (old new : HeldFiles) (d : List ℕ)
+      (told : List Fact) → old.fits ≡ true → new.fits ≡ true → facts_by choice d ≡ told →
+      new.others ≡ old.others → is_of_others choice d ≡ false
+      → OnOk r (TakesDatagram told old.told d new.told) → OnOk r
+      ((ds : List (List ℕ)) → HoldsDatagrams choice old ds → HoldsDatagrams choice new
+      (ds ++ d ∷ []))
   holds_taken (Ok t) old new d told fits still e same taken h = λ ds holds.
-      holds_more old new ds d fits still (subst (λ F. TakesDatagram F old.told d new.told) (sym e) h)
+      holds_more old new ds d fits still (subst (λ F. TakesDatagram F old.told d new.told) (sym e)
+      h)
       (rw taken (omega (arith, same))) holds
   holds_taken (Err f) old new d told fits still e same taken h = tt
 
 -- A record that was read as the input with this number.
 
-pub read_some : (n : ℕ) (r : Result (Option (List ℕ)) ReadFault) (s : Result (Option (List ℕ)) CommandFault) (d : List ℕ) → MatchResult r (λ x. s ≡ Ok x) (λ f. s ≡ Err (Input n f)) → s ≡ Ok (Some d)
+pub read_some : (n : ℕ) (r : Result (Option (List ℕ)) ReadFault)
+    (s : Result (Option (List ℕ)) CommandFault) (d : List ℕ) → MatchResult r (λ x. s ≡ Ok x)
+    (λ f. s ≡ Err (Input n f)) → s ≡ Ok (Some d)
     → r ≡ Ok (Some d)
 read_some n (Ok x) s d h e = let k : Ok x ≡ Ok (Some d) = sym h ∙ e in cc
 read_some n (Err f) s d h e = let k : Err (Input n f) ≡ Ok (Some d) = sym h ∙ e in absurd cc
 
 -- its fault
-pub record ReadErr (n : ℕ) (r : Result (Option (List ℕ)) ReadFault) (fault : CommandFault) : Type 0 where
-  pub why : ReadFault
-  pub was : r ≡ Err why
-  pub is : fault ≡ Input n why
+pub record ReadErr (n : ℕ) (r : Result (Option (List ℕ)) ReadFault) (fault : CommandFault) : Type 0
+  where
+    pub why : ReadFault
+    pub was : r ≡ Err why
+    pub is : fault ≡ Input n why
 
-pub read_err : (n : ℕ) (r : Result (Option (List ℕ)) ReadFault) (s : Result (Option (List ℕ)) CommandFault) (fault : CommandFault) → MatchResult r (λ x. s ≡ Ok x) (λ f. s ≡ Err (Input n f)) → s ≡ Err fault
+pub read_err : (n : ℕ) (r : Result (Option (List ℕ)) ReadFault)
+    (s : Result (Option (List ℕ)) CommandFault) (fault : CommandFault) → MatchResult r
+    (λ x. s ≡ Ok x) (λ f. s ≡ Err (Input n f)) → s ≡ Err fault
     → ReadErr n r fault
 read_err n (Ok x) s fault h e = let k : Ok x ≡ Err fault = sym h ∙ e in absurd cc
-read_err n (Err f) s fault h e = let k : Err (Input n f) ≡ Err fault = sym h ∙ e in record { why = f; was = refl; is = cc }
+read_err n (Err f) s fault h e = let k : Err (Input n f) ≡ Err fault = sym h ∙ e in record
+    { why = f; was = refl; is = cc }
 
 -- no failure is counted where a record was read
-pub none_failed : (b : Bool) (m k : ℕ) (r : Result (Option (List ℕ)) ReadFault) (x : Option (List ℕ)) → r ≡ Ok x → FailsIf {T = Option (List ℕ)} b m k r → k ≡ m
+pub none_failed : (b : Bool) (m k : ℕ) (r : Result (Option (List ℕ)) ReadFault)
+    (x : Option (List ℕ)) → r ≡ Ok x → FailsIf {T = Option (List ℕ)} b m k r → k ≡ m
 none_failed true m k (Ok y) x e h = h
 none_failed false m k (Ok y) x e h = h
 none_failed b m k (Err f) x e h = absurd cc

@@ -2,7 +2,8 @@
 use Rattle.std.proofs.Common.{◌≡◌, ℕ, List, length, map, Bor, sym, ap, ◌∙◌, codes}
 use Rattle.std.proofs.lemmas.List.{length-map}
 use Rattle.clap.specs.Walk.{Row}
-use Rattle.flutejoin.specs.CommandLine.{HasSessions, HasSource, IsJoinFault, IsManyInputs, words}
+use Rattle.flutejoin.specs.CommandLine.{IsJoinFault, IsManyInputs}
+use Rattle.flutejoin.specs.Options.{HasSessions, HasSource, words}
 use Rattle.flutejoin.specs.declared.command_fault.CommandFault.{CommandFault}
 use Rattle.flutejoin.specs.declared.command_fault.CommandFault.TheVariants.{BadNumber, BadSource}
 

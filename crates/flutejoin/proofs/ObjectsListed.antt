@@ -1,5 +1,6 @@
 -- The lines of objects, whose facts come in the order of their addresses.
-use Rattle.std.proofs.Common.{◌≡◌, ℕ, List, [], ◌∷◌, ◌++◌, Option, Some, None, refl, sym, ap, ◌∙◌, subst, inl, inr, arith}
+use Rattle.std.proofs.Common.{◌≡◌, ℕ, List, [], ◌∷◌, ◌++◌, Option, Some, None, refl, sym, ap, ◌∙◌}
+use Rattle.std.proofs.Common.{subst, inl, inr, arith}
 use Rattle.std.specs.Prelude.{Contains, filter_map, option_map}
 use Rattle.std.specs.List.{flat_map, AllByRecursion}
 use Rattle.std.specs.List.Sorted.{IsStrictlySortedBy}
@@ -8,7 +9,9 @@ use Rattle.std.specs.declared.cmp.Ordering.{Ordering}
 use Rattle.std.specs.declared.cmp.Ordering.TheVariants.{Less, Equal, Greater}
 use Rattle.std.proofs.lemmas.Cmp.{tied_itself}
 use Rattle.std.proofs.lemmas.List.{flat_map_more}
-use Rattle.std.proofs.lemmas.List.Elements.{Contains-append_left, Contains-append_right, Contains-append_cases, Contains-push, Contains-push_cases}
+use Rattle.std.proofs.lemmas.List.Elements.{Contains-append_left, Contains-append_right}
+use Rattle.std.proofs.lemmas.List.Elements.{Contains-append_cases, Contains-push}
+use Rattle.std.proofs.lemmas.List.Elements.{Contains-push_cases}
 use Rattle.flute_parts.specs.Information.{Information}
 use Rattle.flute_parts.specs.Addresses.{address, info_address}
 use Rattle.flute_parts.specs.Facts.{fact_at, IsRising}
@@ -17,11 +20,13 @@ use Rattle.flute_parts.specs.Partition.{ids}
 use Rattle.flute_parts.specs.Equality.{key_same}
 use Rattle.flute_parts.specs.Totality.{key_total}
 use Rattle.flute_parts.specs.declared.address.Part.{Part}
-use Rattle.flute_parts.specs.declared.address.Part.TheVariants.{Info as InfoPart, Symbol as SymbolPart}
+use Rattle.flute_parts.specs.declared.address.Part.TheVariants.{Info as InfoPart}
+use Rattle.flute_parts.specs.declared.address.Part.TheVariants.{Symbol as SymbolPart}
 use Rattle.flute_parts.specs.declared.address.Address.{Address}
 use Rattle.flute_parts.specs.declared.key.Key.{Key}
 use Rattle.flute_parts.specs.declared.fact.Fact.{Fact}
-use Rattle.flute_parts.specs.declared.fact.Fact.TheVariants.{Info, InfoConflict, Symbol, SymbolConflict}
+use Rattle.flute_parts.specs.declared.fact.Fact.TheVariants.{Info, InfoConflict, Symbol}
+use Rattle.flute_parts.specs.declared.fact.Fact.TheVariants.{SymbolConflict}
 use Rattle.flute_parts.proofs.Public.{Contains-from, fact_at-append, fact_at-none}
 use Rattle.flute_parts.proofs.Public.{fact_at-some_named, joined, joined-none, key-before, Member}
 use Rattle.flute_parts.proofs.Public.{member-after, Member-from, none-at, tied}
@@ -36,12 +41,14 @@ in_nothing x c = omega (arith, c.1)
 
 -- ---- the lines of an object depend on what the facts come to at its addresses
 
-module _ (F G : List Fact) (key : Key) (same : (part : Part) → fact_at F (record { key = key; part = part }) ≡ fact_at G (record { key = key; part = part })) where
-  wants_same : (info : Information) → wants F key info ≡ wants G key info
+module _ (F G : List Fact) (key : Key) (same : (part : Part) → fact_at F
+    (record { key = key; part = part }) ≡ fact_at G (record { key = key; part = part })) where
+  pub wants_same : (info : Information) → wants F key info ≡ wants G key info
   unfolding wants
-  wants_same info = λ i. filter_map (λ id. option_map (λ reason. (id, reason)) (want info id (same (SymbolPart id) i))) (ids info)
+  wants_same info = λ i. filter_map (λ id. option_map (λ reason. (id, reason))
+      (want info id (same (SymbolPart id) i))) (ids info)
 
-  status_same : (o : Option Fact) → status_at F key o ≡ status_at G key o
+  pub status_same : (o : Option Fact) → status_at F key o ≡ status_at G key o
   status_same None = refl
   status_same (Some (Info k info)) = ap (status_wanting info) (wants_same info)
   status_same (Some (InfoConflict k)) = refl
@@ -58,28 +65,41 @@ module _ (F G : List Fact) (key : Key) (same : (part : Part) → fact_at F (reco
   lines_same : object_lines F key ≡ object_lines G key
   unfolding object_lines
   lines_same =
-      let status : status_at F key (fact_at F (info_address key)) ≡ status_at G key (fact_at G (info_address key)) = status_same (fact_at F (info_address key)) ∙ ap (status_at G key) (same InfoPart) in
-      let gaps : gaps_at F key (fact_at F (info_address key)) ≡ gaps_at G key (fact_at G (info_address key)) = gaps_same (fact_at F (info_address key)) ∙ ap (gaps_at G key) (same InfoPart) in
+      let status : status_at F key (fact_at F (info_address key)) ≡ status_at G key
+      (fact_at G (info_address key)) = status_same (fact_at F (info_address key)) ∙ ap
+      (status_at G key) (same InfoPart) in
+      let gaps : gaps_at F key (fact_at F (info_address key)) ≡ gaps_at G key
+      (fact_at G (info_address key)) = gaps_same (fact_at F (info_address key)) ∙ ap
+      (gaps_at G key) (same InfoPart) in
       λ i. status_line key (status i) ++ flat_map gap_line (gaps i)
 
 -- ---- which objects facts are of
 
-pub holds-from : (F : List Fact) (f : Fact) (key : Key) → Contains F f → (address f).key ≡ key → HoldsObject F key
-holds-from F f key c e = subst (HoldsObject F) e ((address f).part, λ none. none-at F (address f) none f c refl)
+pub holds-from : (F : List Fact) (f : Fact) (key : Key) → Contains F f → (address f).key ≡ key →
+    HoldsObject F key
+holds-from F f key c e = subst (HoldsObject F) e (
+  (address f).part,
+  λ none. none-at F (address f)
+      none f c refl,
+)
 
-named-from : (F : List Fact) (key : Key) → HoldsObject F key → (f : Fact) × (Contains F f) × ((address f).key ≡ key)
+pub named-from : (F : List Fact) (key : Key) → HoldsObject F key → (f : Fact) × (Contains F f) ×
+    ((address f).key ≡ key)
 named-from F key h = elim (fact_at-some_named F (record { key = key; part = h.0 })) [
   | inl n ↦ (n.0, Contains-from F n.0 n.1, ap (λ (a : Address). a.key) n.2)
   | inr e ↦ absurd (h.1 e)
 ]
 
 -- facts of other objects do not change what an object's come to
-other_objects : (F G : List Fact) (key : Key) → ((g : Fact) → Contains G g → (address g).key ≡ key → ⊥) → object_lines F key ≡ object_lines (F ++ G) key
+other_objects : (F G : List Fact) (key : Key) → ((g : Fact) → Contains G g → (address g).key ≡ key
+    → ⊥) → object_lines F key ≡ object_lines (F ++ G) key
 other_objects F G key h =
     lines_same F (F ++ G) key
     (λ part.
     let a : Address = record { key = key; part = part } in
-    sym (fact_at-append F G a ∙ ap (joined a (fact_at F a)) (fact_at-none G a (λ g c e. h g c (ap (λ (x : Address). x.key) e))) ∙ joined-none a (fact_at F a)))
+    sym (fact_at-append F G a ∙ ap (joined a (fact_at F a))
+    (fact_at-none G a (λ g c e. h g c (ap (λ (x : Address). x.key) e))) ∙ joined-none a
+    (fact_at F a)))
 
 -- ---- objects follow one another
 
@@ -87,19 +107,24 @@ pub rising-back : (F G : List Fact) → IsRising (F ++ G) → IsRising G
 rising-back [] G r = r
 rising-back (f ∷ F) G r = rising-back F G r.1
 
-rising_apart : (F G : List Fact) (f g : Fact) → IsRising (F ++ G) → Member f F → Contains G g → address_cmp (address f) (address g) ≡ Less
+rising_apart : (F G : List Fact) (f g : Fact) → IsRising (F ++ G) → Member f F → Contains G g →
+    address_cmp (address f) (address g) ≡ Less
 unfolding Member
 rising_apart [] G f g r m c = absurd m
 rising_apart (x ∷ F) G f g r (inl e) c =
-    ap (λ y. address_cmp (address y) (address g)) e ∙ member-after (address x) g (F ++ G) r.0 (Member-from (F ++ G) g (Contains-append_right F G g c))
+    ap (λ y. address_cmp (address y) (address g)) e ∙ member-after (address x) g (F ++ G) r.0
+    (Member-from (F ++ G) g (Contains-append_right F G g c))
 rising_apart (x ∷ F) G f g r (inr m) c = rising_apart F G f g r.1 m c
 
-pub stands_before : (F G : List Fact) (f g : Fact) → IsRising (F ++ G) → Contains F f → Contains G g → address_cmp (address f) (address g) ≡ Less
+pub stands_before : (F G : List Fact) (f g : Fact) → IsRising (F ++ G) → Contains F f → Contains G
+    g → address_cmp (address f) (address g) ≡ Less
 stands_before F G f g r c d = rising_apart F G f g r (Member-from F f c) d
 
-lesser_key : (a b : Address) → address_cmp a b ≡ Less → (a.key ≡ b.key → ⊥) → key_cmp a.key b.key ≡ Less
+pub lesser_key : (a b : Address) → address_cmp a b ≡ Less → (a.key ≡ b.key → ⊥) → key_cmp a.key
+    b.key ≡ Less
 lesser_key a b l apart =
-    let cases : (o : Ordering) → key_cmp a.key b.key ≡ o → key_cmp a.key b.key ≡ Less = λ o e. elim o as (λ x. key_cmp a.key b.key ≡ x → key_cmp a.key b.key ≡ Less) [
+    let cases : (o : Ordering) → key_cmp a.key b.key ≡ o → key_cmp a.key b.key ≡ Less = λ o e. elim
+    o as (λ x. key_cmp a.key b.key ≡ x → key_cmp a.key b.key ≡ Less) [
       | Less ↦ λ e. e
       | Equal ↦ λ e. absurd (apart (key_same a.key b.key (ap is_eq e)))
       | Greater ↦ λ e. absurd (key-before a b l e)
@@ -107,33 +132,47 @@ lesser_key a b l apart =
     cases (key_cmp a.key b.key) refl
 
 -- between two facts of an object stand no others
-pub same_object_between : (a b c : Address) → address_cmp a b ≡ Less → address_cmp b c ≡ Less → a.key ≡ c.key → b.key ≡ c.key
+pub same_object_between : (a b c : Address) → address_cmp a b ≡ Less → address_cmp b c ≡ Less →
+    a.key ≡ c.key → b.key ≡ c.key
 same_object_between a b c p q e =
-    let after : key_cmp c.key b.key ≡ Greater → ⊥ = λ g. key-before a b p (ap (λ k. key_cmp k b.key) e ∙ g) in
-    key_same b.key c.key (ap is_eq (tied (key_cmp b.key c.key) (key_cmp c.key b.key) (key_total.antisymm b.key c.key) (key-before b c q) after))
+    let after : key_cmp c.key b.key ≡ Greater → ⊥ = λ g. key-before a b p
+    (ap (λ k. key_cmp k b.key) e ∙ g) in
+    key_same b.key c.key (ap is_eq (tied (key_cmp b.key c.key) (key_cmp c.key b.key)
+    (key_total.antisymm b.key c.key) (key-before b c q) after))
 
 no_part : (p : Part) → part_cmp p InfoPart ≡ Less → ⊥
 no_part InfoPart e = absurd cc
 no_part (SymbolPart n) e = absurd cc
 
 -- information stands before all else of its object
-pub information_first : (a b : Address) → address_cmp a b ≡ Less → b.part ≡ InfoPart → a.key ≡ b.key → ⊥
+pub information_first : (a b : Address) → address_cmp a b ≡ Less → b.part ≡ InfoPart → a.key ≡
+    b.key → ⊥
 information_first a b l i e =
-    let tie : key_cmp a.key b.key ≡ Equal = ap (λ k. key_cmp k b.key) e ∙ tied_itself key_total b.key in
-    let rest : part_cmp a.part InfoPart ≡ Less = sym (ap (λ o. ordering_then o (part_cmp a.part InfoPart)) tie) ∙ sym (ap (λ p. ordering_then (key_cmp a.key b.key) (part_cmp a.part p)) i) ∙ l in
+    let tie : key_cmp a.key b.key ≡ Equal = ap (λ k. key_cmp k b.key) e ∙ tied_itself key_total
+    b.key in
+    let rest : part_cmp a.part InfoPart ≡ Less = sym (ap
+    (λ o. ordering_then o (part_cmp a.part InfoPart)) tie) ∙ sym
+    (ap (λ p. ordering_then (key_cmp a.key b.key) (part_cmp a.part p)) i) ∙ l in
     no_part a.part rest
 
-all_more : (P : Key → Type 0) (ks : List Key) (k : Key) → AllByRecursion P ks → P k → AllByRecursion P (ks ++ k ∷ [])
+all_more : (P : Key → Type 0) (ks : List Key) (k : Key) → AllByRecursion P ks → P k →
+    AllByRecursion P (ks ++ k ∷ [])
 all_more P [] k a p = (p, tt)
 all_more P (x ∷ ks) k a p = (a.0, all_more P ks k a.1 p)
 
-sorted_more : (ks : List Key) (k : Key) → IsStrictlySortedBy key_cmp ks → ((x : Key) → Contains ks x → key_cmp x k ≡ Less) → IsStrictlySortedBy key_cmp (ks ++ k ∷ [])
+pub sorted_more : (ks : List Key) (k : Key) → IsStrictlySortedBy key_cmp ks →
+    ((x : Key) → Contains ks x → key_cmp x k ≡ Less) → IsStrictlySortedBy key_cmp (ks ++ k ∷ [])
 unfolding IsStrictlySortedBy
 sorted_more [] k s h = (tt, tt)
-sorted_more (x ∷ ks) k s h =
-    (all_more (λ y. key_cmp x y ≡ Less) ks k s.0 (h x (Contains-append_left (x ∷ []) ks x (Contains-push [] x))), sorted_more ks k s.1 (λ y c. h y (Contains-append_right (x ∷ []) ks y c)))
+sorted_more (x ∷ ks) k s h = (
+  all_more (λ y. key_cmp x y ≡ Less) ks k s.0 (h x (Contains-append_left (x ∷ []) ks x
+      (Contains-push [] x))),
+  sorted_more ks k s.1 (λ y c. h y
+      (Contains-append_right (x ∷ []) ks y c)),
+)
 
-lines_kept : (F G : List Fact) (ks : List Key) → ((k : Key) → Contains ks k → object_lines F k ≡ object_lines G k) → flat_map (object_lines F) ks ≡ flat_map (object_lines G) ks
+lines_kept : (F G : List Fact) (ks : List Key) → ((k : Key) → Contains ks k → object_lines F k ≡
+    object_lines G k) → flat_map (object_lines F) ks ≡ flat_map (object_lines G) ks
 lines_kept F G [] h = refl
 lines_kept F G (k ∷ ks) h =
     let one = h k (Contains-append_left (k ∷ []) ks k (Contains-push [] k)) in
@@ -141,35 +180,47 @@ lines_kept F G (k ∷ ks) h =
     λ i. one i ++ others i
 
 -- the lines of the objects before, and of one more, of which all other facts are
-pub one_more_listed : (before mine : List Fact) (key : Key) (lines : List ℕ) → IsRising (before ++ mine) → AreListed before lines → IsFirstOf before key → ((f : Fact) → Contains mine f → (address f).key ≡ key)
-    → (f : Fact) × Contains mine f → AreListed (before ++ mine) (lines ++ object_lines (before ++ mine) key)
+pub one_more_listed : (before mine : List Fact) (key : Key) (lines : List ℕ) → IsRising
+    (before ++ mine) → AreListed before lines → IsFirstOf before key →
+    ((f : Fact) → Contains mine f → (address f).key ≡ key)
+    → (f : Fact) × Contains mine f → AreListed (before ++ mine)
+    (lines ++ object_lines (before ++ mine) key)
 one_more_listed before mine key lines r l first own some =
     let all = before ++ mine in
-    let earlier : (k : Key) → Contains l.keys k → (f : Fact) × (Contains before f) × ((address f).key ≡ k) = λ k c. named-from before k ((l.held k).0 c) in
-    let apart : (k : Key) → Contains l.keys k → k ≡ key → ⊥ = λ k c e. let f = earlier k c in first f.0 f.1 (f.2 ∙ e) in
+    let earlier : (k : Key) → Contains l.keys k → (f : Fact) × (Contains before f) ×
+    ((address f).key ≡ k) = λ k c. named-from before k ((l.held k).0 c) in
+    let apart : (k : Key) → Contains l.keys k → k ≡ key → ⊥ = λ k c e. let f = earlier k c in first
+    f.0 f.1 (f.2 ∙ e) in
     let below : (k : Key) → Contains l.keys k → key_cmp k key ≡ Less = λ k c.
     let f = earlier k c in
     let e = own some.0 some.1 in
     subst (λ x. key_cmp x key ≡ Less) f.2
     (subst (λ x. key_cmp (address f.0).key x ≡ Less) e
-    (lesser_key (address f.0) (address some.0) (stands_before before mine f.0 some.0 r f.1 some.1) (λ same. first f.0 f.1 (same ∙ e)))) in
-    let kept = lines_kept before all l.keys (λ k c. other_objects before mine k (λ g d e. apart k c (sym e ∙ own g d))) in
+    (lesser_key (address f.0) (address some.0) (stands_before before mine f.0 some.0 r f.1 some.1)
+    (λ same. first f.0 f.1 (same ∙ e)))) in
+    let kept = lines_kept before all l.keys (λ k c. other_objects before mine k
+    (λ g d e. apart k c (sym e ∙ own g d))) in
     record {
       keys = l.keys ++ key ∷ [];
       rising = sorted_more l.keys key l.rising below;
       held = λ k. (
         λ c. elim (Contains-push_cases l.keys key k c) [
-          | inl d ↦ let f = earlier k d in holds-from all f.0 k (Contains-append_left before mine f.0 f.1) f.2
-          | inr e ↦ holds-from all some.0 k (Contains-append_right before mine some.0 some.1) (own some.0 some.1 ∙ e)
+          | inl d ↦ let f = earlier k d in holds-from all f.0 k
+              (Contains-append_left before mine f.0 f.1) f.2
+          | inr e ↦ holds-from all some.0 k (Contains-append_right before mine some.0 some.1)
+              (own some.0 some.1 ∙ e)
         ],
         λ h.
             let f = named-from all k h in
             elim (Contains-append_cases before mine f.0 f.1) [
-              | inl d ↦ Contains-append_left l.keys (key ∷ []) k ((l.held k).1 (holds-from before f.0 k d f.2))
-              | inr d ↦ subst (Contains (l.keys ++ key ∷ [])) (sym (own f.0 d) ∙ f.2) (Contains-push l.keys key)
+              | inl d ↦ Contains-append_left l.keys (key ∷ []) k
+                  ((l.held k).1 (holds-from before f.0 k d f.2))
+              | inr d ↦ subst (Contains (l.keys ++ key ∷ [])) (sym (own f.0 d) ∙ f.2)
+                  (Contains-push l.keys key)
             ],
       );
-      lines = ap (λ x. x ++ object_lines all key) (l.lines ∙ kept) ∙ flat_map_more (object_lines all) [] l.keys key;
+      lines = ap (λ x. x ++ object_lines all key) (l.lines ∙ kept) ∙ flat_map_more
+          (object_lines all) [] l.keys key;
     }
 
 -- no facts have no lines
@@ -178,6 +229,10 @@ unfolding IsStrictlySortedBy
 none_listed = record {
   keys = [];
   rising = tt;
-  held = λ k. (λ c. absurd (in_nothing k c), λ h. let f = named-from [] k h in absurd (in_nothing f.0 f.1));
+  held = λ k. (
+    λ c. absurd (in_nothing k c),
+    λ h. let f = named-from [] k h in absurd
+        (in_nothing f.0 f.1),
+  );
   lines = refl;
 }

@@ -3,7 +3,8 @@ use Rattle.std.proofs.Common.{◌≡◌, ℕ, true, false, List, ◌∷◌, Opti
 use Rattle.std.proofs.lemmas.Bool.{lt-ltb}
 use Rattle.std.specs.Prelude.{IsErrAnd, MatchOption, MatchResult, ok_or}
 use Rattle.clap.specs.Walk.{Row}
-use Rattle.flutejoin.specs.CommandLine.{NamesSender, IsSource, IsBadNumber, IsFirstWrong, IsNumber, first_wrong, has_number, is_below}
+use Rattle.flutejoin.specs.Options.{IsBadNumber, IsFirstWrong, IsNumber, IsSource, NamesSender}
+use Rattle.flutejoin.specs.Options.{first_wrong, has_number, is_below}
 use Rattle.flutejoin.specs.declared.command_fault.CommandFault.{CommandFault}
 use Rattle.flutejoin.specs.declared.command_fault.CommandFault.TheVariants.{BadNumber, BadSource}
 

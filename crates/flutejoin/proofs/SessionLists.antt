@@ -6,7 +6,7 @@ use Rattle.std.proofs.Math.Bool.{and-false}
 use Rattle.std.proofs.lemmas.List.{length-map, length-take-le, map-append, take_more, take_all}
 use Rattle.std.proofs.lemmas.List.Elements.{All-push}
 use Rattle.std.proofs.lemmas.List.Folds.{list_all-map, list_all_at}
-use Rattle.flutejoin.specs.CommandLine.{AreNumbers, are_sessions, is_below, number_in}
+use Rattle.flutejoin.specs.Options.{AreNumbers, are_sessions, is_below, number_in}
 
 abbrev pub text_of : Bor (List ℕ) → List ℕ
 text_of text = text.now

@@ -1,174 +1,34 @@
 -- The command line: what each field of a `Line` is, and when there is no line.
-use Rattle.std.specs.Prelude.{◌≡◌, ◌<◌, ◌≤◌, ◌^◌, ◌*◌, ◌+◌, ◌==◌, ◌&&◌, ◌||◌, ◌⊎◌, ⊤, ℕ, Bool, true, false, not, List, [], ◌∷◌, ◌++◌, length, map, codes, if◌then◌else◌, nat_lt, nat_le, Option, Some, None, is_some, unwrap_or}
-use Rattle.std.specs.List.{All, list_all}
-use Rattle.std.specs.Char.{is_ascii_digit}
+use Rattle.std.specs.Prelude.{◌≡◌, ◌<◌, ◌≤◌, ◌^◌, ◌&&◌, ◌||◌, ◌⊎◌, ⊤, ℕ, Bool, true}
+use Rattle.std.specs.Prelude.{false, not, List, [], ◌∷◌, length, map, codes}
+use Rattle.std.specs.Prelude.{Option, Some, None, is_some}
+use Rattle.std.specs.List.{list_any}
 use Rattle.std.specs.Str.{bytes_eq}
-use Rattle.std.specs.Str.Parse.{digits_value}
 use Rattle.std.specs.Borrow.{Bor}
-use Rattle.std.specs.Net.Addr.{ipv4_bits, ipv6_bits}
-use Rattle.std.specs.Net.Grammar.{IsIpText}
-use Rattle.std.specs.declared.net.ip_addr.IpAddr.{IpAddr}
-use Rattle.std.specs.declared.net.ip_addr.IpAddr.TheVariants.{V4, V6}
-use Rattle.clap.specs.Matches.{found_of}
-use Rattle.clap.specs.Walk.{Row, all_of, first_of, one_of, rows_of}
-use Rattle.clap.specs.declared.parser.matches.ArgMatches.{ArgMatches}
-use Rattle.flute_parts.specs.declared.key.Key.{Key}
-use Rattle.flute_parts.specs.declared.object_key.ObjectName.{ObjectName}
-use Rattle.flute_parts.specs.declared.object_key.ObjectName.TheVariants.{Instance, File}
+use Rattle.clap.specs.Kinds.{IsAmong}
+use Rattle.clap.specs.Values.{kind_of}
+use Rattle.clap.specs.Walk.{Row, first_of}
+use Rattle.clap.specs.declared.error.Error.{Error}
+use Rattle.clap.specs.declared.error.kind.ErrorKind.TheVariants as kind
+use Rattle.flute_journal.specs.Selections.{is_everything}
 use Rattle.flute_journal.specs.Sessions.{listed_tsis}
-use Rattle.flutejoin.specs.Sender.{sender_named}
+use Rattle.flutejoin.specs.Options.{HasObject, HasSessions, HasSource, IsFlag, IsFormFault, IsKey}
+use Rattle.flutejoin.specs.Options.{IsNumber, IsSourceIf, IsZero, all_form, are_sessions}
+use Rattle.flutejoin.specs.Options.{carousel_options, extract_form, first_unfit, first_wrong}
+use Rattle.flutejoin.specs.Options.{info_form, info_options, key_options, list_form, word, words}
+use Rattle.flutejoin.specs.Parser.{command_in, refusals_of}
+use Rattle.flutejoin.specs.Selecting.{IsChoiceFault, IsSelection}
 use Rattle.flutejoin.specs.declared.command_fault.CommandFault.{CommandFault}
-use Rattle.flutejoin.specs.declared.command_fault.CommandFault.TheVariants.{BadNumber, BadSource, BadKey, TooManyInputs, OutputIsInput, OutOfMemory}
+use Rattle.flutejoin.specs.declared.command_fault.CommandFault.TheVariants.{CommandLine, BadNumber}
+use Rattle.flutejoin.specs.declared.command_fault.CommandFault.TheVariants.{BadOption, BadSource}
+use Rattle.flutejoin.specs.declared.command_fault.CommandFault.TheVariants.{BadKey}
+use Rattle.flutejoin.specs.declared.command_fault.CommandFault.TheVariants.{TooManyInputs}
+use Rattle.flutejoin.specs.declared.command_fault.CommandFault.TheVariants.{OutputIsInput}
+use Rattle.flutejoin.specs.declared.command_fault.CommandFault.TheVariants.{OutOfMemory}
 use Rattle.flutejoin.specs.declared.command_line.Line.{Line}
-use Rattle.flutejoin.specs.declared.command_line.Line.TheVariants.{Packet, Show, Gaps, Extract, Info, Join, Merge, Carousel}
-use Rattle.flutejoin.specs.declared.key_numbers.KeyNumbers.{KeyNumbers}
-
--- ---- words
-
--- what the parser found for each argument of a command
-abbrev pub found_rows : ArgMatches → List Row
-found_rows matches = rows_of (found_of matches)
-
--- the word behind an option, or at a place; the empty text if there is none
-abbrev pub word : List ℕ → List Row → List ℕ
-word id rows = unwrap_or (first_of id rows) []
-
--- all of them, in their order
-abbrev pub words : List ℕ → List Row → List (List ℕ)
-words id rows = unwrap_or (all_of id rows) []
-
--- a flag is set if the parser reads it as true, and not if it reads it as false or not at all
-pub record IsFlag (id : List ℕ) (rows : List Row) (is_set : Bool) : Type 0 where
-  pub given : one_of id rows ≡ Some (codes "true") → is_set ≡ true
-  pub other : one_of id rows ≡ Some (codes "false") → is_set ≡ false
-  pub none : one_of id rows ≡ None → is_set ≡ false
-
--- ---- numbers
-
--- 1 to 39 decimal digits, and nothing else
-abbrev pub is_numeral : List ℕ → Bool
-is_numeral text =
-    nat_lt 0 (length text) && (nat_le (length text) 39 && list_all is_ascii_digit text)
-
--- the number that they spell, if it is below 2^128; no other text spells one
-unfoldable pub number_in : List ℕ → Option ℕ
-number_in text =
-    if is_numeral text && nat_lt (digits_value 10 text) (2 ^ 128) then Some (digits_value 10 text)
-    else None
-
-abbrev pub is_below : ℕ → Option ℕ → Bool
-is_below limit None = false
-is_below limit (Some n) = nat_lt n limit
-
--- the word behind an option spells a number below the limit
-abbrev pub has_number : List ℕ → ℕ → List Row → Bool
-has_number option limit rows = is_below limit (number_in (word option rows))
-
--- this one
-abbrev pub IsNumber : List ℕ → ℕ → List Row → ℕ → Type 0
-IsNumber option limit rows n = (number_in (word option rows) ≡ Some n) × (n < limit)
-
--- the first option whose word spells no number below its limit
-abbrev pub first_wrong : List (List ℕ × ℕ) → List Row → Option (List ℕ)
-first_wrong [] rows = None
-first_wrong (option ∷ options) rows =
-    if has_number option.0 option.1 rows then first_wrong options rows else Some option.0
-
-abbrev pub IsBadNumber : List ℕ → CommandFault → Type 0
-IsBadNumber option (BadNumber name) = name.now ≡ option
-IsBadNumber option _ = ⊥
-
--- the fault tells of that option
-abbrev pub IsFirstWrong : List (List ℕ × ℕ) → List Row → CommandFault → Type 0
-IsFirstWrong options rows (BadNumber name) = first_wrong options rows ≡ Some name.now
-IsFirstWrong options rows _ = ⊥
-
--- the options that name an object, with what their numbers are below (RFC 5651, 5.1; RFC 6726,
--- 3.4.1)
-abbrev pub key_options : List Row → List (List ℕ × ℕ)
-key_options rows =
-    (codes "tsi", 2 ^ 48) ∷ (codes "toi", 2 ^ 112)
-    ∷ (if is_some (first_of (codes "fdt") rows) then (codes "fdt", 2 ^ 20) ∷ [] else [])
-
--- with those of its transmission information after them
-abbrev pub info_options : List Row → List (List ℕ × ℕ)
-info_options rows =
-    key_options rows
-    ++ (codes "length", 2 ^ 64) ∷ (codes "symbol", 2 ^ 16) ∷ (codes "block", 2 ^ 32) ∷ []
-
--- of a file that is sent the length is known
-abbrev pub carousel_options : List Row → List (List ℕ × ℕ)
-carousel_options rows =
-    key_options rows ++ (codes "symbol", 2 ^ 16) ∷ (codes "block", 2 ^ 32) ∷ []
-
--- the number of `--fdt`, if there is that option
-abbrev pub IsInstance : List Row → Option ℕ → Type 0
-IsInstance rows None = first_of (codes "fdt") rows ≡ None
-IsInstance rows (Some instance) = IsNumber (codes "fdt") (2 ^ 20) rows instance
-
-pub record AreKeyNumbers (rows : List Row) (numbers : KeyNumbers) : Type 0 where
-  pub tsi : IsNumber (codes "tsi") (2 ^ 48) rows numbers.tsi
-  pub toi : IsNumber (codes "toi") (2 ^ 112) rows numbers.toi
-  pub instance : IsInstance rows numbers.instance
-
--- up to 64 words that spell a session each (RFC 5651, 5.1)
-abbrev pub are_sessions : List (List ℕ) → Bool
-are_sessions texts =
-    nat_le (length texts) 64 && list_all (λ text. is_below (2 ^ 48) (number_in text)) texts
-
--- the numbers of several words, each below the limit
-abbrev pub AreNumbers : ℕ → List (List ℕ) → List ℕ → Type 0
-AreNumbers limit texts numbers =
-    (map number_in texts ≡ map Some numbers) × All (λ n. n < limit) numbers
-
--- the sessions that `--tsi` names, or none
-abbrev pub HasSessions : List Row → List ℕ → Type 0
-HasSessions rows tsis = AreNumbers (2 ^ 48) (words (codes "tsi") rows) tsis
-
--- ---- senders
-
--- an address as a number; an IPv4 address stands for the IPv4-mapped one (RFC 4291, 2.5.5.2)
-abbrev pub address_number : IpAddr → ℕ
-address_number (V4 address) = 65535 * 2 ^ 32 + ipv4_bits address
-address_number (V6 address) = ipv6_bits address
-
--- a text names a sender by the digits of its address; and if it names none so, by the address as
--- it is written (RFC 4291, 2.2)
-abbrev pub NamesSender : List ℕ → ℕ → Type 0
-NamesSender text sender =
-    (sender_named text ≡ Some sender)
-    ⊎ ((sender_named text ≡ None)
-    × ((address : IpAddr) × (IsIpText text address × (sender ≡ address_number address))))
-
--- the sender that `--source` names, or 0 if there is no such option
-abbrev pub IsSource : Option (List ℕ) → ℕ → Type 0
-IsSource None sender = sender ≡ 0
-IsSource (Some text) sender = NamesSender text sender
-
-abbrev pub HasSource : List Row → ℕ → Type 0
-HasSource rows sender = IsSource (first_of (codes "source") rows) sender
-
--- ---- keys
-
--- an FDT Instance has the TOI 0, and no file has (RFC 6726, 3.4)
-abbrev pub object_by : ℕ → Option ℕ → Option ObjectName
-object_by toi None = if toi == 0 then None else Some (File toi)
-object_by toi (Some instance) = if toi == 0 then Some (Instance instance) else None
-
-abbrev pub HasObject : List Row → Option ObjectName → Type 0
-HasObject rows object =
-    (toi : ℕ) × ((instance : Option ℕ) × (IsNumber (codes "toi") (2 ^ 112) rows toi
-    × (IsInstance rows instance × (object_by toi instance ≡ object))))
-
--- what `--tsi`, `--toi` and `--fdt` name, of a sender that is meant
-pub record IsKey (IsMeant : ℕ → Type 0) (rows : List Row) (key : Key) : Type 0 where
-  pub sender : IsMeant key.session.sender
-  pub tsi : IsNumber (codes "tsi") (2 ^ 48) rows key.session.tsi
-  pub object : HasObject rows (Some key.object)
-
--- a command without `--source` means the sender 0
-abbrev pub IsZero : ℕ → Type 0
-IsZero sender = sender ≡ 0
+use Rattle.flutejoin.specs.declared.command_line.Line.TheVariants.{Packet, Show, Gaps, Extract}
+use Rattle.flutejoin.specs.declared.command_line.Line.TheVariants.{Info, Join, Merge, Carousel}
+use Rattle.flutejoin.specs.declared.command_line.Line.TheVariants.{ExtractAll, InfoList, Forget}
 
 -- ---- lines
 
@@ -188,10 +48,24 @@ IsLine name rows (Packet hex) = (name ≡ codes "packet") × IsWord (codes "HEX"
 IsLine name rows (Show j) = (name ≡ codes "show") × IsWord (codes "J") rows j
 IsLine name rows (Gaps j) = (name ≡ codes "gaps") × IsWord (codes "J") rows j
 IsLine name rows (Extract out force key j) =
-    (name ≡ codes "extract") × IsWord (codes "OUT") rows out × IsFlag (codes "force") rows force
+    (name ≡ codes "extract") × IsFlag (codes "all") rows false
+    × (first_unfit extract_form rows ≡ None)
+    × IsWord (codes "OUT") rows out × IsFlag (codes "force") rows force
     × IsKey (HasSource rows) rows key × IsWord (codes "J") rows j
+IsLine name rows (ExtractAll out sender sessions j) =
+    (name ≡ codes "extract") × IsFlag (codes "all") rows true
+    × (first_unfit all_form rows ≡ None) × IsFlag (codes "force") rows false
+    × IsWord (codes "OUT") rows out × IsSourceIf rows sender
+    × HasSessions rows (listed_tsis sessions) × IsWord (codes "J") rows j
+IsLine name rows (InfoList out force list j) =
+    (name ≡ codes "info") × (first_of (codes "list") rows ≡ Some list.now)
+    × (first_unfit list_form rows ≡ None)
+    × IsWord (codes "OUT") rows out × IsFlag (codes "force") rows force
+    × IsWord (codes "J") rows j
 IsLine name rows (Info out force key len symbol block j) =
-    (name ≡ codes "info") × IsWord (codes "OUT") rows out × IsFlag (codes "force") rows force
+    (name ≡ codes "info") × (first_of (codes "list") rows ≡ None)
+    × (first_unfit info_form rows ≡ None)
+    × IsWord (codes "OUT") rows out × IsFlag (codes "force") rows force
     × IsKey (HasSource rows) rows key × IsNumber (codes "length") (2 ^ 64) rows len
     × IsNumber (codes "symbol") (2 ^ 16) rows symbol
     × IsNumber (codes "block") (2 ^ 32) rows block × IsWord (codes "J") rows j
@@ -204,6 +78,9 @@ IsLine name rows (Join out force sender sessions inputs) =
 IsLine name rows (Merge out force a b) =
     (name ≡ codes "merge") × IsWord (codes "OUT") rows out × IsFlag (codes "force") rows force
     × IsWord (codes "A") rows a × IsWord (codes "B") rows b × (is_out_an_input rows ≡ false)
+IsLine name rows (Forget out force selection j) =
+    (name ≡ codes "forget") × IsWord (codes "OUT") rows out × IsFlag (codes "force") rows force
+    × IsSelection rows selection × (is_everything selection ≡ false) × IsWord (codes "J") rows j
 IsLine name rows (Carousel out force key symbol block file) =
     (name ≡ codes "carousel") × IsWord (codes "OUT") rows out × IsFlag (codes "force") rows force
     × IsKey IsZero rows key × IsNumber (codes "symbol") (2 ^ 16) rows symbol
@@ -235,27 +112,95 @@ IsJoinFault rows fault =
     ((tsis : List ℕ) × HasSessions rows tsis) × ((sender : ℕ) × HasSource rows sender)
     × IsManyInputs (length (words (codes "INPUT") rows)) fault
 
+-- of `extract --all`, which takes no `--force`
+abbrev pub IsAllFault : List Row → CommandFault → Type 0
+IsAllFault rows (BadOption name) =
+    (first_unfit all_form rows ≡ Some name.now)
+    ⊎ ((first_unfit all_form rows ≡ None) × (name.now ≡ codes "force")
+    × IsFlag (codes "force") rows true)
+IsAllFault rows (BadNumber option) =
+    (first_unfit all_form rows ≡ None) × IsFlag (codes "force") rows false
+    × (option.now ≡ codes "tsi") × (are_sessions (words (codes "tsi") rows) ≡ false)
+IsAllFault rows BadSource =
+    (first_unfit all_form rows ≡ None) × IsFlag (codes "force") rows false
+    × ((tsis : List ℕ) × HasSessions rows tsis) × ((sender : ℕ) → HasSource rows sender → ⊥)
+IsAllFault rows _ = ⊥
+
+abbrev pub IsOneFault : List Row → CommandFault → Type 0
+IsOneFault rows =
+    IsFormFault extract_form (IsKeyFault (key_options rows) (HasSource rows) rows) rows
+
+-- of `extract`, by its form
+abbrev pub IsExtractFault : List Row → CommandFault → Type 0
+IsExtractFault rows fault =
+    (IsFlag (codes "all") rows true × IsAllFault rows fault)
+    ⊎ (IsFlag (codes "all") rows false × IsOneFault rows fault)
+
+abbrev pub IsListFault : List Row → CommandFault → Type 0
+IsListFault rows = IsFormFault list_form (λ _. ⊥) rows
+
+abbrev pub IsNumbersFault : List Row → CommandFault → Type 0
+IsNumbersFault rows =
+    IsFormFault info_form (IsKeyFault (info_options rows) (HasSource rows) rows) rows
+
+-- of `info`, by its form
+abbrev pub IsInfoFault : List Row → CommandFault → Type 0
+IsInfoFault rows fault =
+    ((is_some (first_of (codes "list") rows) ≡ true) × IsListFault rows fault)
+    ⊎ ((first_of (codes "list") rows ≡ None) × IsNumbersFault rows fault)
+
 abbrev pub IsMergeFault : List Row → CommandFault → Type 0
 IsMergeFault rows OutputIsInput = is_out_an_input rows ≡ true
 IsMergeFault rows _ = ⊥
 
+-- the commands; the parser knows no other
+abbrev pub is_command : List ℕ → Bool
+is_command name = list_any (bytes_eq name) (codes "packet" ∷ codes "show" ∷ codes "gaps"
+    ∷ codes "extract" ∷ codes "info" ∷ codes "join" ∷ codes "merge" ∷ codes "forget"
+    ∷ codes "carousel" ∷ [])
+
 -- why these rows of the command with this name are no line
 abbrev pub IsFault : List ℕ → List Row → CommandFault → Type 0
 IsFault name rows fault =
-    ((name ≡ codes "extract") × IsKeyFault (key_options rows) (HasSource rows) rows fault)
-    ⊎ (((name ≡ codes "info") × IsKeyFault (info_options rows) (HasSource rows) rows fault)
+    ((name ≡ codes "extract") × IsExtractFault rows fault)
+    ⊎ (((name ≡ codes "info") × IsInfoFault rows fault)
     ⊎ (((name ≡ codes "carousel") × IsKeyFault (carousel_options rows) IsZero rows fault)
     ⊎ (((name ≡ codes "join") × IsJoinFault rows fault)
-    ⊎ ((name ≡ codes "merge") × IsMergeFault rows fault))))
+    ⊎ (((name ≡ codes "merge") × IsMergeFault rows fault)
+    ⊎ (((name ≡ codes "forget") × IsChoiceFault rows fault)
+    ⊎ ((is_command name ≡ false) × (fault ≡ OutOfMemory)))))))
 
 -- the line is what the parser found for its command
 abbrev pub IsLineOf : Option (List ℕ × List Row) → Line → Type 0
 IsLineOf None line = ⊥
 IsLineOf (Some found) line = IsLine found.0 found.1 line
 
--- it found a command, and this is why its rows are no line; or, which no parser of `command` finds,
--- no command or another, as for want of memory
+-- why what it found is no line; of no command, which it never finds, memory is blamed
 abbrev pub IsFaultOf : Option (List ℕ × List Row) → CommandFault → Type 0
-IsFaultOf found OutOfMemory = ⊤
-IsFaultOf None fault = ⊥
+IsFaultOf None fault = fault ≡ OutOfMemory
 IsFaultOf (Some found) fault = IsFault found.0 found.1 fault
+
+-- ---- words
+
+-- what is told of the parser's error
+abbrev pub IsParserFault : Error → CommandFault → Type 0
+IsParserFault error (CommandLine told) =
+    (told ≡ error) × (kind_of error ≡ kind.OutOfMemory → ⊥)
+IsParserFault error OutOfMemory = kind_of error ≡ kind.OutOfMemory
+IsParserFault error _ = ⊥
+
+-- the parser refuses the words, by its own reasons, or for want of memory
+abbrev pub IsRefusal : List (List ℕ) → CommandFault → Type 0
+IsRefusal words (CommandLine error) = IsAmong (kind_of error) (refusals_of words)
+IsRefusal words OutOfMemory = ⊤
+IsRefusal words _ = ⊥
+
+-- the parser takes the words, and the line is what they say
+abbrev pub IsLineIn : List (List ℕ) → Line → Type 0
+IsLineIn words line = (refusals_of words ≡ []) × IsLineOf (command_in words) line
+
+-- it refuses them, or what it finds in them is no line
+abbrev pub IsFaultIn : List (List ℕ) → CommandFault → Type 0
+IsFaultIn words fault =
+    IsRefusal words fault
+    ⊎ ((refusals_of words ≡ []) × IsFaultOf (command_in words) fault)

@@ -1,7 +1,6 @@
 -- What the command `gaps` answers and writes, given a journal.
 use Rattle.std.specs.Prelude.{ℕ, ◌⊎◌, List, Option, IfSome}
 use Rattle.std.specs.Io.KnownBytes.{Consumes, IsAtEnd}
-use Rattle.flute_parts.specs.Devices.{AppendsPart}
 use Rattle.flute_parts.specs.declared.fact.Fact.{Fact}
 use Rattle.flute_journal.specs.Frame.{AreItems}
 use Rattle.flute_journal.specs.Framing.{read_of}
@@ -9,7 +8,8 @@ use Rattle.flute_journal.specs.Journal.{IsJournalWithin, journal_frame}
 use Rattle.flute_journal.specs.JournalFraming.{journal_framing}
 use Rattle.flutejoin.specs.declared.limits.TheConstants.{MAX_ENTRIES}
 use Rattle.flutejoin.specs.declared.command_fault.CommandFault.{CommandFault}
-use Rattle.flutejoin.specs.declared.command_fault.CommandFault.TheVariants.{OutOfMemory, CannotWrite}
+use Rattle.flutejoin.specs.declared.command_fault.CommandFault.TheVariants.{OutOfMemory}
+use Rattle.flutejoin.specs.declared.command_fault.CommandFault.TheVariants.{CannotWrite}
 use Rattle.flutejoin.specs.Load.{LoadFails}
 use Rattle.flutejoin.specs.Objects.{OfObjects}
 use Rattle.flutejoin.specs.Shelves.{IsOverShelf}
@@ -29,14 +29,9 @@ pub record ReadsWithin (input left : Option (List ℕ)) : Type 0 where
   pub read : Consumes input left (read_of journal_framing are_items.told entries)
       ⊎ (IfSome input (λ bytes. IsJournalWithin MAX_ENTRIES bytes entries) × IsAtEnd left)
 
--- why the lines were not made: as a journal is not read into a store; memory is asked for those of
--- what was read
-abbrev pub ListingFails : Option (List ℕ) → Option (List ℕ) → CommandFault → Type 0
-ListingFails input left OutOfMemory = ReadsWithin input left
-ListingFails input left fault = LoadFails 1 input left fault
-
--- why it failed: as the lines were not made; or a first part of them was written, and not all
-abbrev pub GapsFail : Option (List ℕ) → Option (List ℕ) → Option (List ℕ) → Option (List ℕ)
-    → CommandFault → Type 0
-GapsFail input left old new CannotWrite = ListsJournal input (AppendsPart old new)
-GapsFail input left old new fault = ListingFails input left fault
+-- why they are not written: as a journal is not read into a store; lines are put aside or written
+-- after entries within the limits were read
+abbrev pub GapsFail : Option (List ℕ) → Option (List ℕ) → CommandFault → Type 0
+GapsFail input left OutOfMemory = ⊥
+GapsFail input left CannotWrite = ReadsWithin input left
+GapsFail input left fault = LoadFails 1 input left fault

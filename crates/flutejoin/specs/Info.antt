@@ -1,22 +1,15 @@
 -- What is written of a journal to which a fact is added.
-use Rattle.std.specs.Prelude.{◌≡◌, ℕ, ◌⊎◌, List, [], ◌∷◌, ◌++◌, Option, IfSome}
+use Rattle.std.specs.Prelude.{◌≡◌, ℕ, List, ◌++◌, Option, IfSome}
 use Rattle.flute_parts.specs.declared.fact.Fact.{Fact}
-use Rattle.flute_journal.specs.declared.either.Either.{Either}
-use Rattle.flute_journal.specs.declared.either.Either.TheVariants.{First, Second}
-use Rattle.flute_journal.specs.declared.within.LentWithin.{LentWithin}
-use Rattle.flute_journal.specs.declared.fact_stream.FactStream.{FactStream}
-use Rattle.flute_journal.specs.Eithers.{either_behaviour}
-use Rattle.flute_journal.specs.FactStreams.{fact_behaviour}
-use Rattle.flute_journal.specs.Streams.{Behaviour}
-use Rattle.flute_journal.specs.Withins.{lent_within_behaviour}
 use Rattle.flute_journal.specs.Journal.{IsJournalWithin}
 use Rattle.flute_journal.specs.JournalFraming.{journal_framing}
 use Rattle.flute_journal.specs.Framing.{HasFault}
 use Rattle.flutejoin.specs.declared.command_fault.CommandFault.{CommandFault}
-use Rattle.flutejoin.specs.declared.command_fault.CommandFault.TheVariants.{Input, Full, CannotWrite}
+use Rattle.flutejoin.specs.declared.command_fault.CommandFault.TheVariants.{Input, Full}
+use Rattle.flutejoin.specs.declared.command_fault.CommandFault.TheVariants.{CannotWrite}
 use Rattle.flutejoin.specs.declared.limits.TheConstants.{MAX_ENTRIES}
 use Rattle.flute_journal.specs.JournalWriters.{WritesJournal}
-use Rattle.flutejoin.specs.Shelves.{IsOverShelf, BeginsOverShelf}
+use Rattle.flutejoin.specs.Shelves.{IsOverShelf}
 
 -- the bytes are a journal of some entries, and the journal of them and of these facts was written,
 -- which has so many entries
@@ -37,26 +30,11 @@ IsWithinWith bytes facts =
     (entries : List Fact) × IsJournalWithin MAX_ENTRIES bytes entries
     × ¬ IsOverShelf (entries ++ facts)
 
--- why facts were not added: the fault of the journal; the limits of a store, over which it is alone
--- or with them; or the sink, if neither is
+-- why facts were not added: the fault of the journal; the limits of a store, over which it is with
+-- them; or the sink, if neither is
 abbrev pub InfoFails : Option (List ℕ) → List Fact → CommandFault → Type 0
 InfoFails input facts (Input told fault) =
     (told ≡ 1) × HasFault journal_framing MAX_ENTRIES input fault
-InfoFails input facts Full = IfSome input (λ bytes. BeginsOverShelf bytes ⊎ IsOverWith bytes facts)
+InfoFails input facts Full = IfSome input (λ bytes. IsOverWith bytes facts)
 InfoFails input facts CannotWrite = IfSome input (λ bytes. IsWithinWith bytes facts)
 InfoFails input facts _ = ⊥
-
--- a stream that is lent, and counted against the limits of a store, and that of a fact
-
-abbrev pub OneOf : Type 0 → Type 0
-OneOf S = Either (LentWithin 64 4096 1048576 S) FactStream
-
-module _ {S : Type 0} where
-  abbrev pub counted_behaviour : Behaviour S → Behaviour (OneOf S)
-  counted_behaviour b =
-      either_behaviour (lent_within_behaviour 64 4096 1048576 b) fact_behaviour
-
-  -- it holds of both, whatever was counted
-  abbrev pub OfCounted : S → FactStream → (List (OneOf S) → Type 0) → Type 0
-  OfCounted stream fact P =
-      (w : LentWithin 64 4096 1048576 S) × (w.stream.now ≡ stream) × P (First w ∷ Second fact ∷ [])

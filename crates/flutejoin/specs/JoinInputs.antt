@@ -1,46 +1,47 @@
--- The inputs of a join: which bytes they are, and how often their sources failed.
-use Rattle.std.specs.Prelude.{◌≡◌, ℕ, ◌+◌, List, length, take, drop, slice_get, Option, Some}
-use Rattle.std.specs.Borrow.{MutBor}
+-- The inputs of a join: which bytes they are, what they give, and how often their sources failed.
+use Rattle.std.specs.Prelude.{◌≡◌, ℕ, ◌+◌, List, [], length, take, drop, slice_get, Option, Some}
+use Rattle.std.specs.Prelude.{None}
 use Rattle.std.specs.Io.KnownBytes.{prepend_known}
-use Rattle.flute_journal.specs.declared.within.Within.{Within}
+use Rattle.flute_parts.specs.declared.fact.Fact.{Fact}
 use Rattle.flute_journal.specs.declared.chosen.Chosen.{Chosen}
+use Rattle.flute_journal.specs.declared.fault.LoadFault.{LoadFault}
+use Rattle.flute_journal.specs.declared.kind.Kind.TheVariants as kinds
 use Rattle.flute_journal.specs.declared.owned_journal_stream.OwnedJournalStream.{OwnedJournalStream}
+use Rattle.flute_journal.specs.declared.sessions.Sessions.{Sessions}
 use Rattle.flute_journal.specs.ChosenStreams.{chosen_behaviour}
+use Rattle.flute_journal.specs.Kinds.{HasKind, IsNeither}
 use Rattle.flute_journal.specs.OwnedStreams.{owned_behaviour}
+use Rattle.flute_journal.specs.Sessions.{of_sessions}
 use Rattle.flute_journal.specs.Streams.{Behaviour}
-use Rattle.flute_journal.specs.Withins.{within_behaviour}
+use Rattle.flutejoin.specs.declared.join_input.JoinInput.{JoinInput}
+use Rattle.flutejoin.specs.declared.join_input.JoinInput.TheVariants.{Journal, Datagrams, Unknown}
 use Rattle.flutejoin.specs.declared.peeked_source.PeekedSource.{PeekedSource}
 
-abbrev pub JoinInput : Type 0 → Type 0
-JoinInput R = Within 64 4096 1048576 (Chosen (OwnedJournalStream (PeekedSource R)))
+-- a journal of which some sessions are taken
+abbrev pub JournalInput : Type 0 → Type 0
+JournalInput R = Chosen (OwnedJournalStream (PeekedSource R)) Sessions
 
--- its source, of which the first bytes were read ahead
-abbrev pub peeked : {R : Type 0} → JoinInput R → PeekedSource R
-peeked input = input.stream.stream.source
+-- the bytes of a source that were read ahead
+abbrev pub front_of : {R : Type 0} → PeekedSource R → List ℕ
+front_of source = take source.first.count source.first.bytes
 
--- these bytes
-abbrev pub front_of : {R : Type 0} → JoinInput R → List ℕ
-front_of input = take (peeked input).first.count (peeked input).first.bytes
-
--- the source of the others
-abbrev pub source_in : {R : Type 0} → JoinInput R → MutBor R
-source_in input = (peeked input).source
-
--- how much of a journal was passed over
+-- how many entries of an input were passed over
 abbrev pub passed_over : {R : Type 0} → JoinInput R → ℕ
-passed_over input = input.stream.others
+passed_over (Journal journal) = journal.others
+passed_over (Datagrams source) = 0
+passed_over Unknown = 0
 
 module _ {R : Type 0} (unread : R → Option (List ℕ)) where
   -- what a source has left: of the bytes that were read ahead, and after them
   abbrev pub left : PeekedSource R → Option (List ℕ)
-  left source =
-      prepend_known (drop source.given (take source.first.count source.first.bytes))
-      (unread source.source.now)
+  left source = prepend_known (drop source.given (front_of source)) (unread source.source)
 
-  -- the input is these bytes, of which the first were read ahead
-  pub record IsInput (input : JoinInput R) (bytes : List ℕ) : Type 0 where
-    pub bytes_are : left (peeked input) ≡ Some bytes
-    pub front : take 4 (front_of input) ≡ take 4 bytes
+  -- the input is these bytes, and of the kind that their first four tell
+  abbrev pub IsInput : JoinInput R → List ℕ → Type 0
+  IsInput (Journal journal) bytes =
+      HasKind kinds.Journal bytes × (left journal.stream.source ≡ Some bytes)
+  IsInput (Datagrams source) bytes = HasKind kinds.Datagrams bytes × (left source ≡ Some bytes)
+  IsInput Unknown bytes = IsNeither bytes
 
   -- each of the inputs is the bytes at its place
   pub record AreInputs (inputs : List (JoinInput R)) (contents : List (List ℕ)) : Type 0 where
@@ -49,15 +50,61 @@ module _ {R : Type 0} (unread : R → Option (List ℕ)) where
         → slice_get contents k ≡ Some bytes → IsInput input bytes
 
   module _ (failures : R → ℕ) where
+    -- what is said of a journal as a stream
+    abbrev pub journal_behaviour : Behaviour (JournalInput R)
+    journal_behaviour =
+        chosen_behaviour of_sessions (owned_behaviour left (λ source. failures source.source))
+
+    -- the entry that an input holds: no other than a journal holds any
+    abbrev pub held_input : JoinInput R → Option Fact
+    held_input (Journal journal) = journal_behaviour.held journal
+    held_input (Datagrams source) = None
+    held_input Unknown = None
+
+    abbrev pub most_input : JoinInput R → ℕ
+    most_input (Journal journal) = journal_behaviour.most journal
+    most_input (Datagrams source) = 0
+    most_input Unknown = 0
+
+    abbrev pub stops_input : JoinInput R → LoadFault → Type 0
+    stops_input (Journal journal) fault = journal_behaviour.stops journal fault
+    stops_input (Datagrams source) fault = ⊥
+    stops_input Unknown fault = ⊥
+
+    -- the facts of a journal; of another input, none
+    abbrev pub of_entries : (JournalInput R → List Fact → Type 0) → JoinInput R → List Fact → Type 0
+    of_entries P (Journal journal) F = P journal F
+    of_entries P (Datagrams source) F = F ≡ []
+    of_entries P Unknown F = F ≡ []
+
+    -- so it is with two states of a journal; another input is as it was, and nothing comes of it
+    abbrev pub of_states : {X : Type 0} → (JournalInput R → JournalInput R → X → Type 0) → X
+        → JoinInput R → JoinInput R → X → Type 0
+    of_states P nothing (Journal start) (Journal now) x = P start now x
+    of_states P nothing (Datagrams start) (Datagrams now) x = (now ≡ start) × (x ≡ nothing)
+    of_states P nothing Unknown Unknown x = x ≡ nothing
+    of_states P nothing _ _ x = ⊥
+
     -- what is said of an input as a stream
     abbrev pub input_behaviour : Behaviour (JoinInput R)
-    input_behaviour =
-        within_behaviour 64 4096 1048576
-        (chosen_behaviour (owned_behaviour left (λ source. failures source.source.now)))
+    input_behaviour = record {
+      held = held_input;
+      most = most_input;
+      tells = of_entries journal_behaviour.tells;
+      knows = of_entries journal_behaviour.knows;
+      stops = stops_input;
+      passes = of_states journal_behaviour.passes [];
+      reads = of_states journal_behaviour.reads [];
+      fails = of_states journal_behaviour.fails None;
+      ends = of_states journal_behaviour.ends [];
+    }
 
 module _ {R : Type 0} (failures : R → ℕ) where
+  -- how often the source of an input failed
   abbrev pub failures_of : JoinInput R → ℕ
-  failures_of input = failures (source_in input).now
+  failures_of (Journal journal) = failures journal.stream.source.source
+  failures_of (Datagrams source) = failures source.source
+  failures_of Unknown = 0
 
   -- no source failed
   pub record NoneFailed (old new : List (JoinInput R)) : Type 0 where

@@ -1,5 +1,6 @@
 -- What the inputs of several stations tell together.
-use Rattle.std.specs.Prelude.{◌≡◌, ◌≢◌, ℕ, ◌+◌, List, [], ◌∷◌, ◌++◌, ◌≤◌, length, Option, Some, None, Bool, true, false, if◌then◌else◌, not, ⊤, ◌⊎◌}
+use Rattle.std.specs.Prelude.{◌≡◌, ◌≢◌, ℕ, ◌+◌, List, [], ◌∷◌, ◌++◌, ◌≤◌, length, Option, Some}
+use Rattle.std.specs.Prelude.{None, Bool, true, false, if◌then◌else◌, not, ⊤, ◌⊎◌}
 use Rattle.std.specs.List.{flat_map, count_by, AllByRecursion}
 use Rattle.flute_parts.specs.Facts.{Same}
 use Rattle.flute_parts.specs.declared.fact.Fact.{Fact}
@@ -9,7 +10,6 @@ use Rattle.flute_journal.specs.Journal.{IsJournalWithin}
 use Rattle.flute_journal.specs.JournalFraming.{journal_framing}
 use Rattle.flute_journal.specs.Sessions.{listed_tsis, takes, chosen, others_in}
 use Rattle.flute_journal.specs.declared.sessions.Sessions.{Sessions}
-use Rattle.flute_journal.specs.Stores.{BeginsWith}
 use Rattle.flute_journal.specs.Records.{IsFileWithin}
 use Rattle.flute_journal.specs.FileFraming.{file_framing}
 use Rattle.flute_journal.specs.Framing.{HasFault}
@@ -19,11 +19,12 @@ use Rattle.flutejoin.specs.Shelves.{IsOverShelf}
 use Rattle.flutejoin.specs.Refused.{is_refused}
 use Rattle.flutejoin.specs.declared.limits.TheConstants.{MAX_ENTRIES}
 use Rattle.flutejoin.specs.declared.joined.Joined.{Joined}
-use Rattle.flutejoin.specs.declared.held_file.HeldFile.{HeldFile}
+use Rattle.flutejoin.specs.declared.held_files.HeldFiles.{HeldFiles}
 use Rattle.flute_journal.specs.Kinds.{HasKind, IsNeither}
 use Rattle.flute_journal.specs.declared.kind.Kind.TheVariants.{Journal, Datagrams}
 use Rattle.flutejoin.specs.declared.command_fault.CommandFault.{CommandFault}
-use Rattle.flutejoin.specs.declared.command_fault.CommandFault.TheVariants.{UnknownKind, Input, Full, OutOfMemory}
+use Rattle.flutejoin.specs.declared.command_fault.CommandFault.TheVariants.{UnknownKind, Input}
+use Rattle.flutejoin.specs.declared.command_fault.CommandFault.TheVariants.{Full, OutOfMemory}
 
 -- what an input tells: the facts of a journal, or the datagrams of a file
 pub data InputContent : Type 0 where
@@ -105,20 +106,11 @@ abbrev pub HasKnownKind : List ℕ → Type 0
 HasKnownKind bytes =
     HasKind Journal bytes ⊎ ((datagrams : List (List ℕ)) × IsFileWithin MAX_ENTRIES bytes datagrams)
 
--- an input that tells facts within the limits of a store
-abbrev pub TellsWithin : Choice → List ℕ → Type 0
-TellsWithin choice bytes =
-    (told : InputContent) × Tells bytes told × ¬ IsOverShelf (content_facts choice told)
+-- a valid journal or datagram file
+abbrev pub IsValid : List ℕ → Type 0
+IsValid bytes = (told : InputContent) × Tells bytes told
 
--- an input that is over these limits alone
-abbrev pub IsOverAlone : Choice → List ℕ → Type 0
-IsOverAlone choice bytes =
-    (HasKind Journal bytes × (entries : List Fact) × BeginsWith MAX_ENTRIES bytes entries
-    × IsOverShelf (chosen choice.tsis entries))
-    ⊎ ((datagrams : List (List ℕ)) × IsFileWithin MAX_ENTRIES bytes datagrams
-    × IsOverShelf (flat_map (facts_by choice) datagrams))
-
--- inputs that are over them together
+-- inputs that tell facts over the limits of a store together
 abbrev pub TellOver : Choice → List (List ℕ) → Type 0
 TellOver choice inputs =
     (told : List InputContent) × TellAll inputs told
@@ -142,17 +134,14 @@ abbrev pub WantsMemory : List (List ℕ) → Type 0
 WantsMemory inputs = (number : ℕ) × FirstInput HasKnownKind IsOfAKind number inputs
 
 -- why inputs were not joined: the first that is of no known kind, or a datagram file at fault; else
--- the first that is a journal at fault, or over the limits alone; else all are over them together
+-- the first that is a journal at fault; else all are over the limits of a store together
 abbrev pub JoinFails : Choice → List (List ℕ) → CommandFault → Type 0
 JoinFails choice inputs (UnknownKind number) = FirstInput HasKnownKind IsNeither number inputs
 JoinFails choice inputs (Input number fault) =
     FirstInput HasKnownKind (IsFileAt fault) number inputs
     ⊎ (AllByRecursion HasKnownKind inputs
-    × FirstInput (TellsWithin choice) (IsJournalAt fault) number inputs)
-JoinFails choice inputs Full =
-    AllByRecursion HasKnownKind inputs
-    × (((number : ℕ) × FirstInput (TellsWithin choice) (IsOverAlone choice) number inputs)
-    ⊎ (AllByRecursion (TellsWithin choice) inputs × TellOver choice inputs))
+    × FirstInput IsValid (IsJournalAt fault) number inputs)
+JoinFails choice inputs Full = TellOver choice inputs
 JoinFails choice inputs OutOfMemory = WantsMemory inputs
 JoinFails choice inputs _ = ⊥
 
@@ -182,14 +171,27 @@ HoldsAll choice true told datagrams =
     TakesDatagrams choice (record { store = []; datagrams = 0; refused = 0 }) datagrams told
 HoldsAll choice false told datagrams = IsOverShelf (flat_map (facts_by choice) datagrams)
 
--- the datagrams of a file are held as what they tell
-pub record HoldsDatagrams (choice : Choice) (file : HeldFile)
+-- datagrams are held as what they tell
+pub record HoldsDatagrams (choice : Choice) (held : HeldFiles)
     (datagrams : List (List ℕ)) : Type 0 where
-  pub few : file.told.datagrams ≤ length datagrams
-  pub few_refused : file.told.refused ≤ file.told.datagrams
-  pub few_others : file.others ≤ file.told.datagrams
-  pub others : file.fits ≡ true → file.others ≡ count_by (is_of_others choice) datagrams
-  pub holds : HoldsAll choice file.fits file.told datagrams
+  pub others : held.fits ≡ true → held.others ≡ count_by (is_of_others choice) datagrams
+  pub holds : HoldsAll choice held.fits held.told datagrams
+
+-- these datagrams are held too
+abbrev pub HoldsMore : Choice → HeldFiles → HeldFiles → List (List ℕ) → Type 0
+HoldsMore choice old new datagrams =
+    (before : List (List ℕ)) → HoldsDatagrams choice old before
+    → HoldsDatagrams choice new (before ++ datagrams)
+
+-- no more datagrams are refused, or of others, than there are
+abbrev pub IsCounted : HeldFiles → Type 0
+IsCounted held =
+    (held.told.refused ≤ held.told.datagrams) × (held.others ≤ held.told.datagrams)
+
+-- and there are at most so many more
+abbrev pub CountsUpTo : ℕ → HeldFiles → HeldFiles → Type 0
+CountsUpTo most old new =
+    (new.told.datagrams ≤ old.told.datagrams + most) × IsCounted new
 
 -- why a datagram file was not held
 abbrev pub FileFails : ℕ → Option (List ℕ) → CommandFault → Type 0

@@ -1,6 +1,7 @@
 -- What a join of inputs writes and answers.
-use Rattle.std.specs.Prelude.{◌≡◌, ℕ, ◌+◌, ◌^◌, ◌<◌, ◌≤◌, true, false, List, length, slice_get, Option, Some, None, ⊤, ◌⊎◌}
+use Rattle.std.specs.Prelude.{◌≡◌, ℕ, ◌+◌, ◌≤◌, List, [], ◌∷◌, ◌++◌, length, Option, Some, ⊤, ◌⊎◌}
 use Rattle.std.specs.List.{flat_map, count_by, sum_by, AllByRecursion}
+use Rattle.flute_parts.specs.Facts.{Same}
 use Rattle.flute_parts.specs.declared.fact.Fact.{Fact}
 use Rattle.flute_journal.specs.JournalWriters.{PutsJournal, WritesJournal}
 use Rattle.flute_journal.specs.Kinds.{HasKind, IsNeither}
@@ -8,26 +9,25 @@ use Rattle.flute_journal.specs.Records.{IsFileWithin}
 use Rattle.flute_journal.specs.Sessions.{listed_tsis}
 use Rattle.flute_journal.specs.StreamMerges.{IsWithinLimits}
 use Rattle.flute_journal.specs.Streams.{Behaviour, IsNew}
-use Rattle.flute_journal.specs.Besides.{beside_behaviour}
 use Rattle.flute_journal.specs.Eithers.{either_behaviour}
-use Rattle.flute_journal.specs.declared.beside.Beside.{Beside}
 use Rattle.flute_journal.specs.declared.either.Either.{Either}
-use Rattle.flute_journal.specs.declared.fault.LoadFault.{LoadFault}
-use Rattle.flute_journal.specs.declared.or_full.OrFull.{OrFull}
-use Rattle.flute_journal.specs.declared.or_full.OrFull.TheVariants.{Stream, Full}
 use Rattle.flute_journal.specs.declared.fault.ReadFault.TheVariants.{Read}
 use Rattle.flute_journal.specs.declared.kind.Kind.TheVariants as kinds
 use Rattle.flute_journal.specs.declared.all_streams.MergedJournal.{MergedJournal}
-use Rattle.flutejoin.specs.JoinInputs.{JoinInput, peeked, left, input_behaviour}
-use Rattle.flutejoin.specs.Joined.{Choice, InputContent, content_facts, content_datagrams, content_others, TellAll, TellsWithin, FirstInput, HasKnownKind, JoinFails, WantsMemory, HoldsDatagrams, FileFails}
+use Rattle.flutejoin.specs.JoinInputs.{left, journal_behaviour, input_behaviour}
+use Rattle.flutejoin.specs.Joined.{Choice, facts_by, is_of_others, InputContent, content_facts}
+use Rattle.flutejoin.specs.Joined.{content_datagrams, content_others, TellAll, IsValid, FirstInput}
+use Rattle.flutejoin.specs.Joined.{HasKnownKind, JoinFails, HoldsDatagrams, FileFails}
 use Rattle.flutejoin.specs.Refused.{is_refused}
 use Rattle.flutejoin.specs.Shelves.{IsOverShelf}
 use Rattle.flutejoin.specs.declared.command_fault.CommandFault.{CommandFault}
-use Rattle.flutejoin.specs.declared.command_fault.CommandFault.TheVariants.{Input, UnknownKind, OutOfMemory, CannotWrite}
-use Rattle.flutejoin.specs.declared.held_file.HeldFile.{HeldFile}
+use Rattle.flutejoin.specs.declared.command_fault.CommandFault.TheVariants.{Input, UnknownKind}
+use Rattle.flutejoin.specs.declared.command_fault.CommandFault.TheVariants.{CannotWrite}
+use Rattle.flutejoin.specs.declared.held_files.HeldFiles.{HeldFiles}
 use Rattle.flutejoin.specs.declared.join_counts.JoinCounts.{JoinCounts}
+use Rattle.flutejoin.specs.declared.join_input.JoinInput.{JoinInput}
+use Rattle.flutejoin.specs.declared.join_input.JoinInput.TheVariants.{Journal, Datagrams, Unknown}
 use Rattle.flutejoin.specs.declared.limits.TheConstants.{MAX_ENTRIES}
-use Rattle.flutejoin.specs.declared.inspecting.Inspected.{Inspected}
 
 -- Each input tells some facts. The journal of all of them was appended, and the numbers are right.
 pub record JoinsTo (choice : Choice) (inputs : List (List ℕ)) (counts : JoinCounts)
@@ -40,27 +40,26 @@ pub record JoinsTo (choice : Choice) (inputs : List (List ℕ)) (counts : JoinCo
   pub refused : counts.refused ≡ count_by is_refused (flat_map content_datagrams told)
   pub others : counts.others ≡ sum_by (content_others choice) told
 
--- each tells facts within the limits of a store, and so do all together
+-- each tells facts, and all together are within the limits of a store
 pub record AllTell (choice : Choice) (inputs : List (List ℕ)) : Type 0 where
   pub told : List InputContent
   pub tell : TellAll inputs told
-  pub alone : AllByRecursion (TellsWithin choice) inputs
   pub together : ¬ IsOverShelf (flat_map (content_facts choice) told)
 
 -- the source failed of the input with this number: of a datagram file, if all inputs before it are
--- known; of a journal, if all inputs are, and those before it tell facts within the limits
-abbrev pub ReadFailsAt : Choice → List (List ℕ) → ℕ → Type 0
-ReadFailsAt choice inputs number =
+-- known; of a journal, if all inputs are, and those before it are valid
+abbrev pub ReadFailsAt : List (List ℕ) → ℕ → Type 0
+ReadFailsAt inputs number =
     FirstInput HasKnownKind (HasKind kinds.Datagrams) number inputs
     ⊎ (AllByRecursion HasKnownKind inputs
-    × FirstInput (TellsWithin choice) (HasKind kinds.Journal) number inputs)
+    × FirstInput IsValid (HasKind kinds.Journal) number inputs)
 
 -- why inputs were not joined: as those in memory; or a device failed, the sink only if all
 -- the inputs could be joined
 pub data JoinToFails (choice : Choice) (inputs : List (List ℕ))
     (fault : CommandFault) : Type 0 where
   of_inputs : JoinFails choice inputs fault → JoinToFails choice inputs fault
-  of_source : (number : ℕ) → fault ≡ Input number Read → ReadFailsAt choice inputs number
+  of_source : (number : ℕ) → fault ≡ Input number Read → ReadFailsAt inputs number
       → JoinToFails choice inputs fault
   of_sink : fault ≡ CannotWrite → AllTell choice inputs → JoinToFails choice inputs fault
 
@@ -85,112 +84,64 @@ pub data InspectionFails (number : ℕ) (bytes : List ℕ) (fault : CommandFault
   of_file : HasKind kinds.Datagrams bytes → FileFails number (Some bytes) fault
       → InspectionFails number bytes fault
 
--- so it is with an input, and those before it are known; or there was no memory for what was found
+-- so it is with an input, and those before it are known
 abbrev pub SomeInspectionFails : List (List ℕ) → CommandFault → Type 0
 SomeInspectionFails inputs fault =
-    ((number : ℕ)
-    × FirstInput HasKnownKind (λ bytes. InspectionFails number bytes fault) number inputs)
-    ⊎ ((fault ≡ OutOfMemory) × WantsMemory inputs)
-
--- how many datagrams a file has, refused ones, and ones of sessions that are not taken
-abbrev pub datagrams_of : Option HeldFile → ℕ
-datagrams_of None = 0
-datagrams_of (Some file) = file.told.datagrams
-
-abbrev pub refused_of : Option HeldFile → ℕ
-refused_of None = 0
-refused_of (Some file) = file.told.refused
-
-abbrev pub passed_of : Option HeldFile → ℕ
-passed_of None = 0
-passed_of (Some file) = file.others
-
--- a file has at most 16,777,216 datagrams, and no more are refused, or of others, than there are
-abbrev pub IsFew : Option HeldFile → Type 0
-IsFew file =
-    (datagrams_of file ≤ MAX_ENTRIES) × (refused_of file ≤ datagrams_of file)
-    × (passed_of file ≤ datagrams_of file)
-
--- the numbers are those of all the files
-pub record SumsUp (inspected : Inspected) : Type 0 where
-  pub datagrams : inspected.datagrams ≡ sum_by datagrams_of inspected.files.items
-  pub refused : inspected.refused ≡ sum_by refused_of inspected.files.items
-  pub others : inspected.others ≡ sum_by passed_of inspected.files.items
+    (number : ℕ)
+    × FirstInput HasKnownKind (λ bytes. InspectionFails number bytes fault) number inputs
 
 module _ {R : Type 0} (unread : R → Option (List ℕ)) where
-  -- an input was inspected: a datagram file is held, and a journal is still to be read
-  abbrev pub IsInspected : Choice → JoinInput R → Option HeldFile → List ℕ → Type 0
-  IsInspected choice input None bytes =
-      HasKind kinds.Journal bytes × (left unread (peeked input) ≡ Some bytes)
-      × (listed_tsis input.stream.sessions ≡ choice.tsis)
-  IsInspected choice input (Some file) bytes =
-      (datagrams : List (List ℕ)) × IsFileWithin MAX_ENTRIES bytes datagrams
-      × HoldsDatagrams choice file datagrams
+  -- what was found of an input: a journal is still to be read, of the chosen sessions, and a
+  -- datagram file has these datagrams
+  abbrev pub IsInspected : Choice → JoinInput R → List ℕ → List (List ℕ) → Type 0
+  IsInspected choice (Journal journal) bytes datagrams =
+      (datagrams ≡ []) × HasKind kinds.Journal bytes
+      × (left unread journal.stream.source ≡ Some bytes)
+      × (listed_tsis journal.choice ≡ choice.tsis)
+  IsInspected choice (Datagrams source) bytes datagrams =
+      IsFileWithin MAX_ENTRIES bytes datagrams
+  IsInspected choice Unknown bytes datagrams = ⊥
 
-  pub record AreInspected (choice : Choice) (inputs : List (JoinInput R))
-      (files : List (Option HeldFile)) (contents : List (List ℕ)) : Type 0 where
-    pub as_many : length inputs ≡ length contents
-    pub each : (k : ℕ) (input : JoinInput R) (file : Option HeldFile) (bytes : List ℕ)
-        → slice_get inputs k ≡ Some input → slice_get files k ≡ Some file
-        → slice_get contents k ≡ Some bytes → IsInspected choice input file bytes
+  -- so it is with each of them, and these are the datagrams of all
+  abbrev pub AreInspected : Choice → List (JoinInput R) → List (List ℕ) → List (List ℕ) → Type 0
+  AreInspected choice [] [] datagrams = datagrams ≡ []
+  AreInspected choice (input ∷ inputs) (bytes ∷ contents) datagrams =
+      (own : List (List ℕ)) × (others : List (List ℕ))
+      × IsInspected choice input bytes own × (datagrams ≡ own ++ others)
+      × AreInspected choice inputs contents others
+  AreInspected choice _ _ datagrams = ⊥
+
+  -- and all of these are held
+  abbrev pub Finds : Choice → List (JoinInput R) → List (List ℕ) → HeldFiles → Type 0
+  Finds choice inputs contents held =
+      (datagrams : List (List ℕ)) × AreInspected choice inputs contents datagrams
+      × HoldsDatagrams choice held datagrams
 
   module _ (failures : R → ℕ) where
-    -- nothing was passed over, and of an input that is no datagram file nothing was read as a
-    -- journal
-    abbrev pub IsReady : JoinInput R → Option HeldFile → Type 0
-    IsReady input file =
-        (input.stream.others ≡ 0)
-        × (file ≡ None
-        → IsNew (input_behaviour unread failures) input
-        × ((input_behaviour unread failures).most input ≡ MAX_ENTRIES)
-        × (input.stream.stream.max_entries ≡ MAX_ENTRIES))
+    -- of a journal nothing was read yet, and nothing was passed over
+    abbrev pub IsReady : JoinInput R → Type 0
+    IsReady (Journal journal) =
+        (journal.others ≡ 0) × IsNew (journal_behaviour unread failures) journal
+        × ((journal_behaviour unread failures).most journal ≡ MAX_ENTRIES)
+        × (journal.stream.max_entries ≡ MAX_ENTRIES)
+    IsReady (Datagrams source) = Unit {0}
+    IsReady Unknown = Unit {0}
 
-    pub record AreReady (inputs : List (JoinInput R))
-        (files : List (Option HeldFile)) : Type 0 where
-      pub as_many : length files ≡ length inputs
-      pub each : (k : ℕ) (input : JoinInput R) (file : Option HeldFile)
-          → slice_get inputs k ≡ Some input → slice_get files k ≡ Some file → IsReady input file
+    -- what is said of inputs as streams, with one before them
+    abbrev pub joined_behaviour : {S : Type 0} → Behaviour S → Behaviour (Either S (JoinInput R))
+    joined_behaviour b = either_behaviour b (input_behaviour unread failures)
 
--- inputs that were inspected were joined, and so many entries of journals were passed over
-pub record JoinsInspected (choice : Choice) (contents : List (List ℕ))
-    (files : List (Option HeldFile)) (passed : ℕ) (joined : MergedJournal)
-    (old new : Option (List ℕ)) : Type 0 where
+-- The journals among inputs that were inspected were joined with what is held, and so many entries
+-- of them were passed over; the others are datagram files with these datagrams.
+pub record JoinsInspected (choice : Choice) (contents datagrams : List (List ℕ)) (held : List Fact)
+    (passed : ℕ) (joined : MergedJournal) (old new : Option (List ℕ)) : Type 0 where
   pub told : List InputContent
   pub tell : TellAll contents told
-  pub alone : AllByRecursion (TellsWithin choice) contents
-  pub puts : PutsJournal joined.cut old new (flat_map (content_facts choice) told) joined.entries
-  pub limits : IsWithinLimits 64 4096 1048576 (flat_map (content_facts choice) told) joined.within
-  pub datagrams : sum_by datagrams_of files ≡ length (flat_map content_datagrams told)
-  pub refused : sum_by refused_of files ≡ count_by is_refused (flat_map content_datagrams told)
-  pub others : passed + sum_by passed_of files ≡ sum_by (content_others choice) told
-  pub few : sum_by (content_others choice) told < 2 ^ 64
-
--- Streams of what was inspected.
-
--- the stream of what a datagram file tells, which is within the limits of a store:
--- no device of it fails
-pub record IsHeldStream {S : Type 0} (b : Behaviour S) (file : HeldFile) (s : S) : Type 0 where
-  pub fits : file.fits ≡ true
-  pub within : ¬ IsOverShelf file.told.store
-  pub new : IsNew b s
-  pub most : b.most s ≤ 2 ^ 40
-  pub tells : (F : List Fact) → b.tells s F → F ≡ file.told.store
-  pub stops : (fault : LoadFault) → b.stops s fault → ⊥
-  pub fails : (now : S) (fault : LoadFault) → b.fails s now (Some fault) → ⊥
-
-module _ {S : Type 0} (b : Behaviour S) where
-  -- so it is, or it is full
-  abbrev pub IsFileStream : HeldFile → OrFull S → Type 0
-  IsFileStream file (Stream s) = IsHeldStream b file s
-  IsFileStream file Full = file.fits ≡ false
-
-  abbrev pub IsStreamOf : Option HeldFile → Option (OrFull S) → Type 0
-  IsStreamOf None None = Unit {0}
-  IsStreamOf (Some file) (Some s) = IsFileStream file s
-  IsStreamOf _ _ = ⊥
-
--- what is said of inputs as streams, with others in the places of some
-abbrev pub joined_behaviour : {R S : Type 0} → (R → Option (List ℕ)) → (R → ℕ) → Behaviour S
-    → Behaviour (Either (JoinInput R) (Beside (JoinInput R) S))
-joined_behaviour unread failures b =
-    either_behaviour (input_behaviour unread failures) (beside_behaviour b)
+  pub datagrams_are : flat_map content_datagrams told ≡ datagrams
+  pub entries : List Fact
+  pub same : Same (flat_map (content_facts choice) told)
+      (flat_map (facts_by choice) datagrams ++ entries)
+  pub puts : PutsJournal joined.cut old new (held ++ entries) joined.entries
+  pub limits : IsWithinLimits 64 4096 1048576 (held ++ entries) joined.within
+  pub others : passed + count_by (is_of_others choice) datagrams
+      ≡ sum_by (content_others choice) told

@@ -1,9 +1,19 @@
--- Replicas that were given the same.
-use Rattle.std.specs.Prelude.{ℕ, List}
+-- Replicas that were given the same, and journals of which entries were forgotten.
+use Rattle.std.specs.Prelude.{ℕ, List, ◌++◌, Some}
 use Rattle.flute_parts.specs.declared.fact.Fact.{Fact}
 use Rattle.flute_parts.specs.Facts.{Same, SameMembers}
+use Rattle.flute_journal.specs.declared.selection.Selection.{Selection}
+use Rattle.flutejoin.specs.Forget.{Forgets}
+use Rattle.flutejoin.specs.declared.forget.ForgetCounts.{ForgetCounts}
 use Rattle.flutejoin.specs.declared.steps.Step.{Step}
 use Rattle.flutejoin.specs.Known.{Fits, known_by}
+
+-- a journal of these bytes, without what is selected, was written as those, behind whatever was
+-- there before
+abbrev pub Leaves : Selection → List ℕ → List ℕ → ForgetCounts → Type 0
+Leaves selection bytes written counts =
+    (before : List ℕ)
+    × Forgets selection counts (Some bytes) (Some before) (Some (before ++ written))
 
 -- F is what replica r holds, of so many new ones that were given the steps: the same
 -- as what it was given

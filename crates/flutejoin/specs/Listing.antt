@@ -1,9 +1,10 @@
 -- The lines of objects, made as their facts come in the order of their addresses.
-use Rattle.std.specs.Prelude.{◌≡◌, ℕ, List, [], ◌∷◌, ◌++◌, Contains, Option, Some, None}
+use Rattle.std.specs.Prelude.{◌≡◌, ℕ, Bool, IsTrue, List, [], ◌∷◌, ◌++◌, Contains, Option, Some}
+use Rattle.std.specs.Prelude.{None}
 use Rattle.std.specs.Borrow.{Bor}
 use Rattle.std.specs.List.{flat_map}
 use Rattle.flute_parts.specs.Addresses.{address, info_address}
-use Rattle.flute_parts.specs.Facts.{fact_at}
+use Rattle.flute_parts.specs.Facts.{fact_at, IsRising}
 use Rattle.flute_parts.specs.declared.address.Part.TheVariants.{Info as InfoPart}
 use Rattle.flute_parts.specs.declared.key.Key.{Key}
 use Rattle.flute_parts.specs.declared.symbol_id.SymbolId.{SymbolId}
@@ -16,9 +17,10 @@ use Rattle.flute_store.specs.Status.{TellsStatus}
 use Rattle.flutejoin.specs.Lines.{gap_line}
 use Rattle.flutejoin.specs.Objects.{gaps_at, OfObjects}
 use Rattle.flutejoin.specs.declared.listing.ObjectState.{ObjectState}
-use Rattle.flutejoin.specs.declared.listing.ObjectState.TheVariants.{NoInformation, ConflictingInformation, OneInformation}
+use Rattle.flutejoin.specs.declared.listing.ObjectState.TheVariants.{NoInformation}
+use Rattle.flutejoin.specs.declared.listing.ObjectState.TheVariants.{ConflictingInformation}
+use Rattle.flutejoin.specs.declared.listing.ObjectState.TheVariants.{OneInformation}
 use Rattle.flutejoin.specs.declared.listing.OpenObject.{OpenObject}
-use Rattle.flutejoin.specs.declared.listing.Listing.{Listing}
 
 -- these are the lines of all objects of the facts
 abbrev pub AreListed : List Fact → List ℕ → Type 0
@@ -54,9 +56,46 @@ abbrev pub ListsWith : List Fact → List ℕ → List ℕ → Option OpenObject
 ListsWith F lines gap_lines None = (F ≡ []) × (lines ≡ []) × (gap_lines ≡ [])
 ListsWith F lines gap_lines (Some o) = HasOpen F lines gap_lines o.key o.state
 
--- these facts came, and nothing else
-abbrev pub Lists : List Fact → Listing → Type 0
-Lists F l = ListsWith F l.lines.items l.gap_lines.items l.open
+-- these bytes were put aside, if that is known
+abbrev pub Knows : Bool → Option (List ℕ) → List ℕ → Type 0
+Knows known aside bytes = IsTrue known → aside ≡ Some bytes
+
+-- these facts came, and nothing else; and their lines were put aside
+pub record Lists (known : Bool) (F : List Fact) (last : Option OpenObject)
+    (lines_aside gap_lines_aside : Option (List ℕ)) : Type 0 where
+  pub lines : List ℕ
+  pub gap_lines : List ℕ
+  pub lists : ListsWith F lines gap_lines last
+  pub lines_known : Knows known lines_aside lines
+  pub gap_lines_known : Knows known gap_lines_aside gap_lines
+
+-- the lines of all objects of the facts were put aside, and no other
+pub record IsListed (known : Bool) (F : List Fact)
+    (lines_aside gap_lines_aside : Option (List ℕ)) : Type 0 where
+  pub lines : List ℕ
+  pub listed : AreListed F lines
+  pub lines_known : Knows known lines_aside lines
+  pub gap_lines_known : Knows known gap_lines_aside []
+
+-- some facts came
+abbrev pub IsOpen : Option OpenObject → Type 0
+IsOpen last = (F : List Fact) × (lines gap_lines : List ℕ) × ListsWith F lines gap_lines last
+
+-- the fact may be the next
+abbrev pub CanAdd : Fact → Option OpenObject → Type 0
+CanAdd f last =
+    (F : List Fact) × IsRising (F ++ f ∷ [])
+    × ((lines gap_lines : List ℕ) × ListsWith F lines gap_lines last)
+
+-- some facts of an object tell this
+abbrev pub IsState : ObjectState → Type 0
+IsState state = (key : Key) × (mine : List Fact) × (gaps : List ℕ) × StateIs key mine gaps state
+
+-- the symbol may be the next of the object
+abbrev pub CanPass : SymbolId × Option (Bor (List ℕ)) → ObjectState → Type 0
+CanPass next state =
+    (key : Key) × (mine : List Fact) × (gaps : List ℕ)
+    × IsRising (mine ++ next_fact key next ∷ []) × StateIs key mine gaps state
 
 -- the symbol was passed, or, if none is left, all gaps were given
 abbrev pub Passes : Scanned → Option (SymbolId × Option (Bor (List ℕ))) → Scanned → Type 0

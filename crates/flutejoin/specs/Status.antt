@@ -1,9 +1,24 @@
 -- The program's status after a fault.
-use Rattle.std.specs.Prelude.{ℕ, ⊤, ◌≤◌, length}
+use Rattle.std.specs.Prelude.{ℕ}
 use Rattle.flutejoin.specs.declared.command_fault.CommandFault.{CommandFault}
-use Rattle.flutejoin.specs.declared.command_fault.CommandFault.TheVariants.{CommandLine, NotText, BadNumber, BadSource, BadKey, TooManyInputs, OutputIsInput, OutputIsDatagrams, OutputIsJournal, BadInformation, BadHex, Refused, CannotSend, TooLarge, CannotOpen, Input, UnknownKind, Full, NoObject, NoInformation, ConflictingInformation, NotWhole, OutOfMemory, CannotCreate, CannotWrite, NotOnDisk}
-use Rattle.flutejoin.specs.declared.command_line.Line.{Line}
-use Rattle.flutejoin.specs.declared.command_line.Line.TheVariants.{Join}
+use Rattle.flutejoin.specs.declared.command_fault.CommandFault.TheVariants.{CommandLine, NotText}
+use Rattle.flutejoin.specs.declared.command_fault.CommandFault.TheVariants.{BadNumber, BadSource}
+use Rattle.flutejoin.specs.declared.command_fault.CommandFault.TheVariants.{BadOption, BadKey}
+use Rattle.flutejoin.specs.declared.command_fault.CommandFault.TheVariants.{TooManyInputs}
+use Rattle.flutejoin.specs.declared.command_fault.CommandFault.TheVariants.{OutputIsInput}
+use Rattle.flutejoin.specs.declared.command_fault.CommandFault.TheVariants.{OutputIsDatagrams}
+use Rattle.flutejoin.specs.declared.command_fault.CommandFault.TheVariants.{OutputIsJournal}
+use Rattle.flutejoin.specs.declared.command_fault.CommandFault.TheVariants.{BadInformation, BadHex}
+use Rattle.flutejoin.specs.declared.command_fault.CommandFault.TheVariants.{Refused, CannotSend}
+use Rattle.flutejoin.specs.declared.command_fault.CommandFault.TheVariants.{TooLarge, ListLine}
+use Rattle.flutejoin.specs.declared.command_fault.CommandFault.TheVariants.{ListInformation}
+use Rattle.flutejoin.specs.declared.command_fault.CommandFault.TheVariants.{CannotOpen, Input}
+use Rattle.flutejoin.specs.declared.command_fault.CommandFault.TheVariants.{UnknownKind, Full}
+use Rattle.flutejoin.specs.declared.command_fault.CommandFault.TheVariants.{NoObject, NoInformation}
+use Rattle.flutejoin.specs.declared.command_fault.CommandFault.TheVariants.{ConflictingInformation}
+use Rattle.flutejoin.specs.declared.command_fault.CommandFault.TheVariants.{NotWhole, OutOfMemory}
+use Rattle.flutejoin.specs.declared.command_fault.CommandFault.TheVariants.{CannotCreate}
+use Rattle.flutejoin.specs.declared.command_fault.CommandFault.TheVariants.{CannotWrite, NotOnDisk}
 use Rattle.flute_journal.specs.declared.fault.ReadFault.{ReadFault}
 use Rattle.flute_journal.specs.declared.fault.ReadFault.TheVariants as faults
 use Rattle.flute_journal.specs.declared.fault.LoadFault.{LoadFault}
@@ -22,6 +37,7 @@ abbrev pub exit_status : CommandFault → ℕ
 exit_status (CommandLine text) = 2
 exit_status NotText = 2
 exit_status (BadNumber option) = 2
+exit_status (BadOption option) = 2
 exit_status BadSource = 2
 exit_status BadKey = 2
 exit_status TooManyInputs = 2
@@ -31,6 +47,8 @@ exit_status OutputIsJournal = 2
 exit_status (BadInformation fault) = 1
 exit_status (CannotSend fault) = 1
 exit_status (TooLarge number) = 1
+exit_status (ListLine number) = 1
+exit_status (ListInformation number fault) = 1
 exit_status BadHex = 1
 exit_status (Refused refusal) = 1
 exit_status (CannotOpen number) = 3
@@ -46,27 +64,11 @@ exit_status CannotCreate = 3
 exit_status CannotWrite = 3
 exit_status NotOnDisk = 3
 
--- the faults of reading a command line
-abbrev pub IsLineFault : CommandFault → Type 0
-IsLineFault (CommandLine text) = ⊤
-IsLineFault (BadNumber option) = ⊤
-IsLineFault BadSource = ⊤
-IsLineFault BadKey = ⊤
-IsLineFault TooManyInputs = ⊤
-IsLineFault OutputIsInput = ⊤
-IsLineFault OutOfMemory = ⊤
-IsLineFault _ = ⊥
-
 -- why an input was not kept
 abbrev pub of_blob : ℕ → BlobFault → CommandFault
 of_blob number blobs.Read = Input number faults.Read
 of_blob number blobs.TooLarge = TooLarge number
 of_blob number blobs.OutOfMemory = OutOfMemory
-
--- no more inputs than are joined
-abbrev pub HasFewInputs : Line → Type 0
-HasFewInputs (Join out force sender sessions inputs) = length inputs.items ≤ 64
-HasFewInputs _ = ⊤
 
 -- what the fault of a journal with this number, read into a store, is
 abbrev pub of_load : ℕ → LoadFault → CommandFault

@@ -23,6 +23,10 @@ pub enum CommandFault {
     /// not within its range.
     #[error("bad number: --{0}")]
     BadNumber(&'static str),
+    /// The option with this name is left out, is given more often than once, or does not go with
+    /// the others.
+    #[error("bad option: --{0}")]
+    BadOption(&'static str),
     /// The value of `--source` is neither 32 or 8 hexadecimal digits nor an address.
     #[error("bad source")]
     BadSource,
@@ -65,6 +69,14 @@ pub enum CommandFault {
     /// The input with this number, from 1, begins as neither a journal nor a datagram file.
     #[error("input {0}: unknown kind")]
     UnknownKind(usize),
+    /// The line with this number, from 1, of a list of information is none of those that `show`
+    /// prints for information.
+    #[error("list: line {0}")]
+    ListLine(u64),
+    /// The numbers of the line with this number, from 1, of a list of information are no
+    /// transmission information.
+    #[error("list: line {0}: {1}")]
+    ListInformation(u64, InfoFault),
     /// A journal, or all inputs together, have more sessions, objects or symbols than a store
     /// holds.
     #[error("full")]
@@ -109,10 +121,14 @@ impl CommandFault {
             CommandFault::BadHex | CommandFault::Refused(_) | CommandFault::Full => 1,
             CommandFault::BadInformation(_) | CommandFault::CannotSend(_) => 1,
             CommandFault::TooLarge(_) => 1,
+            CommandFault::ListLine(_) | CommandFault::ListInformation(..) => 1,
             CommandFault::NoObject | CommandFault::NoInformation => 1,
             CommandFault::ConflictingInformation | CommandFault::NotWhole { .. } => 1,
             CommandFault::CommandLine(_) | CommandFault::NotText => 2,
-            CommandFault::BadNumber(_) | CommandFault::BadSource | CommandFault::BadKey => 2,
+            CommandFault::BadNumber(_)
+            | CommandFault::BadOption(_)
+            | CommandFault::BadSource
+            | CommandFault::BadKey => 2,
             CommandFault::TooManyInputs | CommandFault::OutputIsInput => 2,
             CommandFault::OutputIsDatagrams | CommandFault::OutputIsJournal => 2,
             CommandFault::Input(_, ReadFault::Read | ReadFault::OutOfMemory) => 3,

@@ -1,13 +1,16 @@
 //! The command line.
-ghost use Rattle.std.specs.Prelude.{◌≡◌, ◌≤◌, IfOk, IfErr, MatchResult, Some, codes, length};
+ghost use Rattle.std.specs.Prelude.{◌≡◌, ◌≤◌, [], MatchResult, codes, length, map, string_bytes};
 ghost use Rattle.clap.specs.Simple.{subcommand_rows_of};
-ghost use Rattle.flutejoin.specs.CommandLine.{HasSource, IsJoinFault, IsKeyFault, IsLine};
-ghost use Rattle.flutejoin.specs.CommandLine.{IsMergeFault, IsZero, carousel_options, found_rows};
-ghost use Rattle.flutejoin.specs.CommandLine.{IsFaultOf, IsLineOf, IsManyInputs, info_options};
-ghost use Rattle.flutejoin.specs.CommandLine.{key_options};
-ghost use Rattle.flutejoin.specs.Status.{HasFewInputs, IsLineFault};
+ghost use Rattle.flutejoin.specs.CommandLine.{IsFault, IsFaultIn, IsFaultOf, IsJoinFault};
+ghost use Rattle.flutejoin.specs.CommandLine.{IsKeyFault, IsLine, IsLineIn, IsLineOf, IsManyInputs};
+ghost use Rattle.flutejoin.specs.CommandLine.{IsMergeFault, IsParserFault, IsRefusal};
+ghost use Rattle.flutejoin.specs.Options.{IsZero, carousel_options, found_rows};
+ghost use Rattle.flutejoin.specs.Parser.{command_in, refusals_of};
 
 use crate::command_fault::CommandFault;
+use crate::extract_line::extract_of;
+use crate::forget_line::forget_of;
+use crate::info_line::info_of;
 use crate::key_numbers::KeyNumbers;
 use crate::limits::MAX_INPUTS;
 use crate::numbers::{number_below, sessions, source};
@@ -15,7 +18,7 @@ use crate::parser::command;
 use crate::words::{flag, text};
 use clap::ArgMatches;
 use clap::error::ErrorKind;
-use flute_journal::Sessions;
+use flute_journal::{Selection, Sessions};
 use flute_parts::{Key, Sender};
 use std::alloc::Global;
 
@@ -45,6 +48,14 @@ pub enum Line<'a> {
         key: Key,
         j: &'a str,
     },
+    /// Write each whole object that the journal `j` has of this sender, or of all if there is none,
+    /// and of these sessions to a file of the new folder `out`.
+    ExtractAll {
+        out: &'a str,
+        sender: Option<Sender>,
+        sessions: Sessions,
+        j: &'a str,
+    },
     /// Write the journal `j` with this information of the object `key` added to the file `out`.
     Info {
         out: &'a str,
@@ -53,6 +64,14 @@ pub enum Line<'a> {
         length: u64,
         symbol: u16,
         block: u32,
+        j: &'a str,
+    },
+    /// Write the journal `j` with the information that the lines of the file `list` tell added to
+    /// the file `out`.
+    InfoList {
+        out: &'a str,
+        force: bool,
+        list: &'a str,
         j: &'a str,
     },
     /// Join what the journals and datagram files `inputs`, 1 to 64 of them, have of these sessions
@@ -71,6 +90,13 @@ pub enum Line<'a> {
         a: &'a str,
         b: &'a str,
     },
+    /// Write the entries of the journal `j` that are not selected to the journal `out`.
+    Forget {
+        out: &'a str,
+        force: bool,
+        selection: Selection,
+        j: &'a str,
+    },
     /// Write the datagrams of the object `key`, whose content is `file`, to the
     /// datagram file `out`.
     Carousel {
@@ -88,90 +114,71 @@ pub enum Line<'a> {
 /// # Errors
 ///
 /// `CommandLine` with the parser's text if that refuses the words, or if they ask for help or
-/// the version; `BadNumber` with the first option, in the order `--tsi`, `--toi`, `--fdt`,
+/// the version; `BadOption` with the first option that the form of `extract` or `info` lacks, or
+/// does not take; `BadNumber` with the first option, in the order `--tsi`, `--toi`, `--fdt`,
 /// `--length`, `--symbol`, `--block`, that is not a number of its range, or with `--tsi` if
 /// `join` has it more than 64 times; `BadSource` if `--source` is neither 32 or 8 hexadecimal
 /// digits nor an address; `BadKey` if `--fdt` does not go with `--toi`; `TooManyInputs` if `join`
 /// has more than 64 inputs; `OutputIsInput` if `merge` is to write one of its inputs; and
 /// `OutOfMemory`.
 pub fn line_of(alloc: Global, words: &[String]) -> Result<Line<'_>, CommandFault>
-    ensures few { IfOk result HasFewInputs }
-    ensures fault { IfErr result IsLineFault }
+    ensures read { let texts = map string_bytes words.now in
+        MatchResult result (IsLineIn texts) (IsFaultIn texts) }
 {
-    let command = command(alloc).map_err(parser_fault)?;
-    let matches = command.try_get_matches_from(words).map_err(parser_fault)?;
+    let matches = matches_in(alloc, words)?;
     line_in(alloc, &matches)
+}
+
+// What the parser finds in the words.
+fn matches_in(alloc: Global, words: &[String]) -> Result<ArgMatches<'_>, CommandFault>
+    ensures { let texts = map string_bytes words.now in
+        MatchResult result (λ matches. (refusals_of texts ≡ [])
+        × (subcommand_rows_of matches ≡ command_in texts)) (IsRefusal texts) }
+{
+    let command = command(alloc)?;
+    command.try_get_matches_from(words).map_err(parser_fault)
 }
 
 // The line that is told by what the parser found.
 fn line_in<'a>(alloc: Global, matches: &ArgMatches<'a>) -> Result<Line<'a>, CommandFault>
-    ensures line { IfOk result (IsLineOf (subcommand_rows_of matches.now)) }
-    ensures fault { IfErr result (IsFaultOf (subcommand_rows_of matches.now)) }
+    ensures { let found = subcommand_rows_of matches.now in
+        MatchResult result (IsLineOf found) (IsFaultOf found) }
 {
     match matches.subcommand() {
-        Some(("packet", matches)) => Ok(Line::Packet {
-            hex: text(matches, "HEX"),
-        }),
-        Some(("show", matches)) => Ok(Line::Show {
-            j: text(matches, "J"),
-        }),
-        Some(("gaps", matches)) => Ok(Line::Gaps {
-            j: text(matches, "J"),
-        }),
-        Some(("extract", matches)) => extract_of(matches),
-        Some(("info", matches)) => info_of(matches),
-        Some(("join", matches)) => join_line(alloc, matches),
-        Some(("merge", matches)) => merge_of(matches),
-        Some(("carousel", matches)) => carousel_of(matches),
-        // The parser takes no line without a command, and no other command.
-        _ => Err(CommandFault::OutOfMemory),
+        Some((name, matches)) => line_by_name(alloc, name, matches),
+        // The parser takes no line without a command.
+        None => Err(CommandFault::OutOfMemory),
     }
 }
 
-fn extract_of<'a>(matches: &ArgMatches<'a>) -> Result<Line<'a>, CommandFault>
+// The line of the command with this name.
+fn line_by_name<'a>(
+    alloc: Global,
+    name: &str,
+    matches: &ArgMatches<'a>,
+) -> Result<Line<'a>, CommandFault>
     ensures { let rows = found_rows matches.now in
-        MatchResult result (IsLine (codes "extract") rows)
-        (IsKeyFault (key_options rows) (HasSource rows) rows) }
+        MatchResult result (IsLine name.now rows) (IsFault name.now rows) }
 {
-    let numbers = KeyNumbers::of(matches)?;
-    let sender = source(matches)?;
-    let key = numbers.key(sender)?;
-    Ok(Line::Extract {
-        out: text(matches, "OUT"),
-        force: flag(matches, "force"),
-        key,
-        j: text(matches, "J"),
-    })
-}
-
-fn info_of<'a>(matches: &ArgMatches<'a>) -> Result<Line<'a>, CommandFault>
-    ensures { let rows = found_rows matches.now in
-        MatchResult result (IsLine (codes "info") rows)
-        (IsKeyFault (info_options rows) (HasSource rows) rows) }
-{
-    let numbers = KeyNumbers::of(matches)?;
-    let length = number_below(matches, "length", 1 << 64)? as u64;
-    let symbol = number_below(matches, "symbol", 1 << 16)? as u16;
-    let block = number_below(matches, "block", 1 << 32)? as u32;
-    let sender = source(matches)?;
-    let key = numbers.key(sender)?;
-    Ok(Line::Info {
-        out: text(matches, "OUT"),
-        force: flag(matches, "force"),
-        key,
-        length,
-        symbol,
-        block,
-        j: text(matches, "J"),
-    })
-}
-
-// The line of a join, as `line_in` tells it.
-fn join_line<'a>(alloc: Global, matches: &ArgMatches<'a>) -> Result<Line<'a>, CommandFault>
-    ensures line { IfOk result (IsLine (codes "join") (found_rows matches.now)) }
-    ensures fault { IfErr result (IsFaultOf (Some (codes "join", found_rows matches.now))) }
-{
-    join_of(alloc, matches)
+    match name {
+        "packet" => Ok(Line::Packet {
+            hex: text(matches, "HEX"),
+        }),
+        "show" => Ok(Line::Show {
+            j: text(matches, "J"),
+        }),
+        "gaps" => Ok(Line::Gaps {
+            j: text(matches, "J"),
+        }),
+        "extract" => extract_of(matches),
+        "info" => info_of(matches),
+        "join" => join_of(alloc, matches),
+        "merge" => merge_of(matches),
+        "forget" => forget_of(matches),
+        "carousel" => carousel_of(matches),
+        // The parser knows no other command.
+        _ => Err(CommandFault::OutOfMemory),
+    }
 }
 
 fn join_of<'a>(alloc: Global, matches: &ArgMatches<'a>) -> Result<Line<'a>, CommandFault>
@@ -235,7 +242,7 @@ fn carousel_of<'a>(matches: &ArgMatches<'a>) -> Result<Line<'a>, CommandFault>
 }
 
 fn parser_fault(error: clap::Error) -> CommandFault
-    ensures { IsLineFault result }
+    ensures { IsParserFault error result }
 {
     match error.kind() {
         ErrorKind::OutOfMemory => CommandFault::OutOfMemory,

@@ -1,6 +1,7 @@
 //! The words of the lines that are printed.
 ghost use Rattle.std.specs.Prelude.{◌≡◌, ◌+◌, ◌≤◌, ◌++◌, length};
 ghost use Rattle.std.specs.Option.{option_map};
+ghost use Rattle.flute_parts.specs.Information.{information};
 ghost use Rattle.flutejoin.specs.Lines.{key_words, object_words, information_words, id_words, symbol_words, info_or_none};
 ghost use Rattle.flutejoin.specs.Pieces.{symbol_head};
 
@@ -26,18 +27,27 @@ pub fn push_object(text: &mut Text, object: &ObjectKey)
     }
 }
 
+/// Appends `info`, a length in bytes, that of a symbol and that of the longest block.
+pub fn push_numbers(text: &mut Text, len: u64, symbol: u16, block: u32)
+    requires { length text.old + 160 ≤ 512 }
+    ensures text { text.new ≡ text.old ++ information_words (information len symbol block) }
+    ensures len { length text.new ≤ length text.old + 160 }
+{
+    text.push("info length ");
+    text.push_number(len);
+    text.push(" symbol ");
+    text.push_number(symbol);
+    text.push(" block ");
+    text.push_number(block);
+}
+
 /// Appends `info` and the three numbers of the information.
 pub fn push_information(text: &mut Text, info: &Info)
     requires { length text.old + 160 ≤ 512 }
     ensures text { text.new ≡ text.old ++ information_words info.now }
     ensures len { length text.new ≤ length text.old + 160 }
 {
-    text.push("info length ");
-    text.push_number(info.length());
-    text.push(" symbol ");
-    text.push_number(info.symbol());
-    text.push(" block ");
-    text.push_number(info.block());
+    push_numbers(text, info.length(), info.symbol(), info.block());
 }
 
 /// Appends what there is of the information.

@@ -9,7 +9,7 @@ use flute_parts::Source;
 
 /// The first bytes of an input: four, or as many as it has.
 #[derive(Clone, Copy, Debug)]
-pub struct FirstBytes {
+pub(crate) struct FirstBytes {
     pub(crate) bytes: [u8; 4],
     /// How many they are.
     pub(crate) count: usize,
@@ -21,7 +21,7 @@ impl FirstBytes {
     /// # Errors
     ///
     /// `Read` if the source fails, and nothing else.
-    pub fn read<R: Source>(source: &mut R) -> Result<FirstBytes, ReadFault>
+    pub(crate) fn read<R: Source>(source: &mut R) -> Result<FirstBytes, ReadFault>
         ensures begins { IfOk result (λ first. Begins (take first.count first.bytes)
             (R.unread source.old) (R.unread source.new)) }
         ensures only { IfErr result (λ f. f ≡ Read) }
@@ -33,7 +33,7 @@ impl FirstBytes {
     }
 
     /// The bytes, at most four.
-    pub fn as_slice(&self) -> &[u8]
+    pub(crate) fn as_slice(&self) -> &[u8]
         ensures bytes { result.now ≡ take self.now.count self.now.bytes }
         ensures few { length result.now ≤ 4 }
     {

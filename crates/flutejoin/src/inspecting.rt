@@ -1,63 +1,25 @@
 //! The inputs of a join, inspected before they are joined.
-ghost use Rattle.std.specs.Prelude.{◌≡◌, ◌≤◌, ◌<◌, ◌+◌, ◌*◌, ◌^◌, List, ℕ, ◌++◌, ◌∷◌, [], length, sum_by, OnOk, IfOk, IfErr};
+ghost use Rattle.std.specs.Prelude.{◌≡◌, ◌≤◌, ◌<◌, ◌^◌, List, ℕ, ◌++◌, length, OnOk, IfOk, IfErr};
+ghost use Rattle.std.specs.List.{AllByRecursion};
 ghost use Rattle.flute_journal.specs.declared.fault.ReadFault.TheVariants.{Read};
 ghost use Rattle.flute_journal.specs.Streams.{IsNew};
-ghost use Rattle.flutejoin.specs.declared.command_fault.CommandFault.TheVariants.{Input, OutOfMemory, CannotWrite};
+ghost use Rattle.flutejoin.specs.declared.command_fault.CommandFault.TheVariants.{Input, CannotWrite};
 ghost use Rattle.flutejoin.specs.declared.limits.TheConstants.{MAX_ENTRIES};
-ghost use Rattle.flutejoin.specs.JoinInputs.{IsInput, AreInputs, peeked, front_of, input_behaviour, failures_of, NoneFailed, OneFailed};
-ghost use Rattle.flutejoin.specs.Joined.{choice_of};
-ghost use Rattle.flutejoin.specs.Joining.{NamesOnly, NamesOneOf, InspectionFails, SomeInspectionFails, datagrams_of, refused_of, passed_of, IsFew, IsInspected, AreInspected, IsReady, AreReady, SumsUp};
+ghost use Rattle.flutejoin.specs.JoinInputs.{IsInput, AreInputs, journal_behaviour, failures_of, NoneFailed, OneFailed};
+ghost use Rattle.flutejoin.specs.Joined.{choice_of, HoldsMore, IsCounted, CountsUpTo};
+ghost use Rattle.flutejoin.specs.Joining.{NamesOnly, NamesOneOf, InspectionFails, SomeInspectionFails, IsInspected, Finds, IsReady};
 ghost use Rattle.flutejoin.specs.Show.{FailsToRead};
 
 use crate::command_fault::CommandFault;
-use crate::held_file::{HeldFile, read_file};
-use crate::join_input::JoinInput;
+use crate::held_files::HeldFiles;
+use crate::join_input::{JoinInput, JournalInput};
 use crate::limits::MAX_ENTRIES;
-use flute_journal::{Kind, Sessions, kind_of};
-use flute_parts::{Sender, Source, Tally};
+use flute_journal::Sessions;
+use flute_parts::{Sender, Source};
 use std::alloc::Global;
 
-/// What was found of inputs.
-#[derive(Drop)]
-pub(crate) struct Inspected {
-    /// For each of them, what it tells if it is a datagram file.
-    pub(crate) files: Vec<Option<HeldFile>>,
-    /// How many datagrams these have.
-    pub(crate) datagrams: u64,
-    /// How many of these are refused.
-    pub(crate) refused: u64,
-    /// How many of them are of other sessions.
-    pub(crate) others: u64,
-}
-
-impl Inspected {
-    // Adds what was found of one more.
-    fn add(&mut self, file: Option<HeldFile>) -> Result<(), CommandFault>
-        requires few { IsFew file }
-        requires datagrams { self.now.datagrams + MAX_ENTRIES < 2 ^ 64 }
-        requires refused { self.now.refused ≤ self.now.datagrams }
-        requires others { self.now.others ≤ self.now.datagrams }
-        ensures added { OnOk result (self.new.files.items ≡ self.old.files.items ++ file ∷ []) }
-        ensures datagrams { OnOk result
-            (self.new.datagrams ≡ self.old.datagrams + datagrams_of file) }
-        ensures refused { OnOk result (self.new.refused ≡ self.old.refused + refused_of file) }
-        ensures others { OnOk result (self.new.others ≡ self.old.others + passed_of file) }
-        ensures memory { IfErr result (λ fault. fault ≡ OutOfMemory) }
-    {
-        if let Some(file) = &file {
-            self.datagrams += file.told.datagrams;
-            self.refused += file.told.refused;
-            self.others += file.others;
-        }
-        match self.files.push(file) {
-            Ok(()) => Ok(()),
-            Err(_) => Err(CommandFault::OutOfMemory),
-        }
-    }
-}
-
-/// Inspects the kind of each input, and reads each datagram file, in their order.
-/// A journal is then to be read from its first byte.
+/// Reads the datagram files among inputs, in their order, and holds what they tell of these
+/// sessions of this sender. The journals are then to be read from their first bytes.
 ///
 /// # Errors
 ///
@@ -68,15 +30,12 @@ pub(crate) fn inspect_all<R: Source>(
     alloc: Global,
     sender: Sender,
     sessions: &Sessions,
-    inputs: &mut [JoinInput<'_, R>],
-) -> Result<Inspected, CommandFault>
+    inputs: &mut [JoinInput<R>],
+) -> Result<HeldFiles, CommandFault>
     requires { length inputs.old ≤ 64 }
-    ensures ready { IfOk result
-        (λ inspected. AreReady R.unread R.failures inputs.new inspected.files.items) }
+    ensures ready { OnOk result (AllByRecursion (IsReady R.unread R.failures) inputs.new) }
     ensures inspected { (contents : List (List ℕ)) → AreInputs R.unread inputs.old contents
-        → IfOk result (λ inspected. AreInspected R.unread (choice_of sender sessions.now)
-        inputs.new inspected.files.items contents) }
-    ensures sums { IfOk result SumsUp }
+        → IfOk result (Finds R.unread (choice_of sender sessions.now) inputs.new contents) }
     ensures failed { (contents : List (List ℕ)) → AreInputs R.unread inputs.old contents
         → IfErr result (SomeInspectionFails contents) }
     ensures names { IfErr result (NamesOneOf (length inputs.old)) }
@@ -85,69 +44,57 @@ pub(crate) fn inspect_all<R: Source>(
     ensures one_failed { IfErr result (λ fault. (number : ℕ) → fault ≡ Input number Read
         → OneFailed R.failures number inputs.old inputs.new) }
 {
-    let mut inspected = Inspected {
-        files: Vec::new(alloc),
-        datagrams: 0,
-        refused: 0,
-        others: 0,
-    };
+    let mut held = HeldFiles::new(alloc);
     for k in 0..inputs.len() {
-        let file = inspect(alloc, k + 1, sender, sessions, &mut inputs[k])?;
-        inspected.add(file)?;
+        inspect(alloc, k + 1, sender, sessions, &mut inputs[k], &mut held)?;
     }
-    Ok(inspected)
+    Ok(held)
 }
 
-// Inspects the kind of an input. Answers what it tells, if it is a datagram file; a journal is
-// then to be read from its first byte, and nothing of it was passed over.
+// Inspects an input: what a datagram file tells is then held too, and a journal is to be read from
+// its first byte.
 fn inspect<R: Source>(
     alloc: Global,
     number: usize,
     sender: Sender,
     sessions: &Sessions,
-    input: &mut JoinInput<'_, R>,
-) -> Result<Option<HeldFile>, CommandFault>
-    ensures ready { IfOk result (IsReady R.unread R.failures input.new) }
+    input: &mut JoinInput<R>,
+    held: &mut HeldFiles,
+) -> Result<(), CommandFault>
+    requires room { held.old.told.datagrams < 2 ^ 63 }
+    requires counted { IsCounted held.old }
+    ensures ready { OnOk result (IsReady R.unread R.failures input.new) }
     ensures inspected { (bytes : List ℕ) → IsInput R.unread input.old bytes
-        → IfOk result (λ file. IsInspected R.unread (choice_of sender sessions.now)
-        input.new file bytes) }
-    ensures few { IfOk result IsFew }
+        → OnOk result ((datagrams : List (List ℕ))
+        × IsInspected R.unread (choice_of sender sessions.now) input.new bytes datagrams
+        × HoldsMore (choice_of sender sessions.now) held.old held.new datagrams) }
+    ensures few { OnOk result (CountsUpTo MAX_ENTRIES held.old held.new) }
     ensures failed { (bytes : List ℕ) → IsInput R.unread input.old bytes
         → IfErr result (InspectionFails number bytes) }
     ensures names { IfErr result (NamesOnly number) }
     ensures failures { FailsToRead (failures_of R.failures input.old)
         (failures_of R.failures input.new) result }
 {
-    input.stream.others = 0;
-    match kind_of(input.stream.stream.source.front()) {
-        Some(Kind::Journal) => {
-            restart(sessions, input);
-            Ok(None)
+    match input {
+        JoinInput::Journal(journal) => {
+            restart(sessions, journal);
+            Ok(())
         }
-        Some(Kind::Datagrams) => {
-            let file = read_file(
-                alloc,
-                number,
-                sender,
-                sessions,
-                &mut input.stream.stream.source,
-            )?;
-            Ok(Some(file))
-        }
-        None => Err(CommandFault::UnknownKind(number)),
+        JoinInput::Datagrams(source) => held.read(alloc, number, sender, sessions, source),
+        JoinInput::Unknown => Err(CommandFault::UnknownKind(number)),
     }
 }
 
-// An input as a journal of which nothing was read, and these sessions are taken.
-fn restart<R: Source>(sessions: &Sessions, input: &mut JoinInput<'_, R>)
-    ensures source { peeked input.new ≡ peeked input.old }
-    ensures sessions { input.new.stream.sessions ≡ sessions.now }
-    ensures others { input.new.stream.others ≡ input.old.stream.others }
-    ensures new { IsNew (input_behaviour R.unread R.failures) input.new }
-    ensures most { (input_behaviour R.unread R.failures).most input.new ≡ MAX_ENTRIES }
-    ensures limit { input.new.stream.stream.max_entries ≡ MAX_ENTRIES }
+// A journal of which nothing was read or passed over, and these sessions are taken.
+fn restart<R: Source>(sessions: &Sessions, journal: &mut JournalInput<R>)
+    ensures source { journal.new.stream.source ≡ journal.old.stream.source }
+    ensures sessions { journal.new.choice ≡ sessions.now }
+    ensures others { journal.new.others ≡ 0 }
+    ensures new { IsNew (journal_behaviour R.unread R.failures) journal.new }
+    ensures most { (journal_behaviour R.unread R.failures).most journal.new ≡ MAX_ENTRIES }
+    ensures limit { journal.new.stream.max_entries ≡ MAX_ENTRIES }
 {
-    input.tally = Tally::new();
-    input.stream.sessions = *sessions;
-    input.stream.stream.restart(MAX_ENTRIES);
+    journal.choice = *sessions;
+    journal.others = 0;
+    journal.stream.restart(MAX_ENTRIES);
 }

@@ -1,33 +1,87 @@
 //! The inputs of a join.
-ghost use Rattle.std.specs.Prelude.{◌≡◌, take, List, ℕ, Option, IfSome};
-ghost use Rattle.flutejoin.specs.Begins.{Begins};
-ghost use Rattle.flutejoin.specs.JoinInputs.{IsInput, source_in};
+ghost use Rattle.std.specs.Prelude.{◌≡◌, IfSome, IfOk, IfErr};
+ghost use Rattle.flute_journal.specs.declared.fault.ReadFault.TheVariants.{Read};
+ghost use Rattle.flutejoin.specs.JoinInputs.{IsInput, passed_over};
 
 use crate::first_bytes::FirstBytes;
 use crate::limits::MAX_ENTRIES;
 use crate::peeked_source::PeekedSource;
-use flute_journal::{Chosen, OwnedJournalStream, Sessions, Within};
-use flute_parts::Source;
+use flute_journal::{
+    Chosen, Kind, LoadFault, OwnedJournalStream, ReadFault, Sessions, Stream, kind_of,
+};
+use flute_parts::{FactRef, Source};
+use std::alloc::Global;
 
-/// An input of a join, of which the first bytes were read, which tell what it is: a journal, whose
-/// entries of the sessions that are taken are counted against the limits of a store as they are
-/// read, or a datagram file.
-pub type JoinInput<'a, R> = Within<
-    64,
-    4096,
-    1_048_576,
-    Chosen<OwnedJournalStream<PeekedSource<'a, R>>>,
->;
+/// A journal of which some sessions are taken.
+pub type JournalInput<R> = Chosen<OwnedJournalStream<PeekedSource<R>>, Sessions>;
 
-/// The input that has these first bytes, and then those that the source has left. It takes no
-/// memory, and reads nothing yet.
-pub fn input_of<'a, R: Source>(first: FirstBytes, source: &'a mut R) -> JoinInput<'a, R>
-    ensures input { (bytes : Option (List ℕ)) → Begins (take first.count first.bytes) bytes
-        (R.unread source.old) → IfSome bytes (IsInput R.unread result) }
-    ensures same_source { (source_in result).ghost_name ≡ source.entry.ghost_name }
-    ensures source { (source_in result).now ≡ source.old }
-{
-    let source = PeekedSource::new(first, source);
-    let journal = OwnedJournalStream::new(source, MAX_ENTRIES);
-    Within::new(Chosen::new(journal, Sessions::all()))
+/// An input of a join, of the kind that its first four bytes tell.
+#[derive(Debug, Drop)]
+pub enum JoinInput<R> {
+    /// A journal.
+    Journal(JournalInput<R>),
+    /// A datagram file.
+    Datagrams(PeekedSource<R>),
+    /// Neither of them.
+    Unknown,
+}
+
+impl<R: Source + Drop> JoinInput<R> {
+    /// The input that a source has left. Its first four bytes are read, or as many as it has.
+    ///
+    /// # Errors
+    ///
+    /// `Read` if the source fails.
+    pub fn open(source: R) -> Result<JoinInput<R>, ReadFault>
+        ensures input { IfOk result
+            (λ input. IfSome (R.unread source) (IsInput R.unread input)) }
+        ensures only { IfErr result (λ fault. fault ≡ Read) }
+    {
+        let mut source = source;
+        let first = FirstBytes::read(&mut source)?;
+        match kind_of(first.as_slice()) {
+            Some(Kind::Journal) => {
+                let source = PeekedSource::new(first, source);
+                let journal = OwnedJournalStream::new(source, MAX_ENTRIES);
+                Ok(JoinInput::Journal(Chosen::new(journal, Sessions::all())))
+            }
+            Some(Kind::Datagrams) => Ok(JoinInput::Datagrams(PeekedSource::new(first, source))),
+            None => Ok(JoinInput::Unknown),
+        }
+    }
+}
+
+impl<R> JoinInput<R> {
+    // How many entries were passed over.
+    pub(crate) fn passed_over(&self) -> u64
+        ensures { result ≡ passed_over self.now }
+    {
+        match self {
+            JoinInput::Journal(journal) => journal.others,
+            _ => 0,
+        }
+    }
+}
+
+/// A journal gives its entries of the sessions that are taken. Nothing else gives any.
+impl<R: Source> Stream for JoinInput<R> {
+    ghost use Rattle.flutejoin.specs.JoinInputs.{input_behaviour};
+
+    ghost behaviour = { input_behaviour R.unread R.failures };
+
+    #[inline(always)]
+    fn head(&self) -> Option<FactRef<'_>> {
+        match self {
+            JoinInput::Journal(journal) => journal.head(),
+            _ => None,
+        }
+    }
+
+    #[inline(always)]
+    fn advance(&mut self, alloc: Global) -> Result<(), LoadFault> {
+        match self {
+            JoinInput::Journal(journal) => journal.advance(alloc),
+            _ => Ok(()),
+        }
+    }
 }

@@ -1,28 +1,29 @@
 //! The command `join`: inputs, joined as streams.
-ghost use Rattle.std.specs.Prelude.{◌≡◌, true, false, ◌≤◌, ◌<◌, ◌+◌, ◌-◌, ◌^◌, List, ℕ, length, map, min, sum_by, OnOk, IfOk, IfErr};
-ghost use Rattle.flute_journal.specs.declared.fault.ReadFault.TheVariants.{Read};
-ghost use Rattle.flute_journal.specs.Streams.{fact_in, most_of};
-ghost use Rattle.flute_journal.specs.Advances.{AreNew};
-ghost use Rattle.flute_journal.specs.FirstFaults.{FirstFault};
+ghost use Rattle.std.specs.Prelude.{◌≡◌, true, false, ◌≤◌, ◌<◌, ◌+◌, ◌-◌, ◌^◌, List, ℕ, length, flat_map, min, sum_by, OnOk, IfOk, IfErr};
+ghost use Rattle.std.specs.List.{AllByRecursion};
 ghost use Rattle.flute_parts.specs.Devices.{times_failed};
-ghost use Rattle.flute_journal.specs.Listed.{listed_behaviour};
-ghost use Rattle.flute_journal.specs.Replacing.{replaced};
-ghost use Rattle.flute_journal.specs.StreamMerges.{MergedAll, EndsMerged, AppendsNoJournal, NoneFails};
+ghost use Rattle.flute_journal.specs.Advances.{AreNew};
+ghost use Rattle.flute_journal.specs.Chains.{chained, taken};
+ghost use Rattle.flute_journal.specs.FirstFaults.{FirstFault};
+ghost use Rattle.flute_journal.specs.StreamMerges.{EndsMerged, AppendsNoJournal, NoneFails};
+ghost use Rattle.flute_journal.specs.Streams.{most_of};
+ghost use Rattle.flute_journal.specs.declared.fault.ReadFault.TheVariants.{Read};
 ghost use Rattle.flutejoin.specs.declared.command_fault.CommandFault.TheVariants.{Input, OutOfMemory, CannotWrite};
 ghost use Rattle.flutejoin.specs.JoinInputs.{AreInputs, passed_over, NoneFailed, OneFailed};
-ghost use Rattle.flutejoin.specs.Joined.{Choice, choice_of};
-ghost use Rattle.flutejoin.specs.Joining.{JoinsTo, JoinToFails, NamesOneOf, AreInspected, AreReady, JoinsInspected, IsStreamOf, joined_behaviour};
+ghost use Rattle.flutejoin.specs.Joined.{Choice, choice_of, facts_by};
+ghost use Rattle.flutejoin.specs.Joining.{JoinsTo, JoinToFails, NamesOneOf, AreInspected, IsReady, JoinsInspected, joined_behaviour};
+ghost use Rattle.flutejoin.specs.Shelves.{IsOverShelf};
 
 use crate::command_fault::{CommandFault, load_fault};
-use crate::held_file::HeldFile;
 use crate::inspecting::inspect_all;
 use crate::join_counts::JoinCounts;
 use crate::join_input::JoinInput;
+use crate::nothing::Nothing;
 use flute_journal::{
-    InputFault, MergedJournal, OrFull, Replaced, Sessions, Stream, WalkStream, join_streams,
+    Chained, InputFault, MergedJournal, Sessions, Stream, WalkStream, join_streams,
 };
 use flute_parts::{Sender, Sink, Source};
-use flute_store::Objects;
+use flute_store::Shelf;
 use std::alloc::Global;
 
 /// Writes the journal of all that the inputs tell together of these sessions, each a journal or a
@@ -32,8 +33,8 @@ use std::alloc::Global;
 /// and is counted. Whatever else tells the same facts, in any order, number and grouping: its
 /// journal is the same, byte for byte.
 ///
-/// First the datagram files are read, record by record, and held as what they tell. Then the
-/// journals are read, and the journal of all is written meanwhile: one entry of each is held.
+/// First the datagram files are read, record by record, and held as what they tell together. Then
+/// the journals are read, and the journal of all is written meanwhile: one entry of each is held.
 ///
 /// # Errors
 ///
@@ -42,9 +43,8 @@ use std::alloc::Global;
 /// - first, input by input: `UnknownKind` if it is neither; `Input` with the fault of a datagram
 ///   file, which may have at most 16,777,216 records, or with `Read` if its source fails;
 /// - then, input by input: `Input` with the fault of a journal, which may have at most 16,777,216
-///   entries, or with `Read` if its source fails, and `Full` if the input alone has more
-///   sessions, objects or symbols than a store holds;
-/// - then `Full` if all of them together do;
+///   entries, or with `Read` if its source fails;
+/// - then `Full` if all of them together have more sessions, objects or symbols than a store holds;
 /// - last, `CannotWrite` if the sink failed. The inputs are read to their ends all the same.
 ///
 /// `OutOfMemory`, or `Input` with it, if a request for memory was refused; at `OutOfMemory` nothing
@@ -54,7 +54,7 @@ pub fn join_to<R: Source, W: Sink>(
     alloc: Global,
     sender: Sender,
     sessions: &Sessions,
-    inputs: &mut [JoinInput<'_, R>],
+    inputs: &mut [JoinInput<R>],
     sink: &mut W,
 ) -> Result<JoinCounts, CommandFault>
     requires few { length inputs.old ≤ 64 }
@@ -75,8 +75,11 @@ pub fn join_to<R: Source, W: Sink>(
     ensures write_failed { IfErr result
         (λ fault. fault ≡ CannotWrite → W.failures sink.new ≡ W.failures sink.old + 1) }
 {
-    let inspected = inspect_all(alloc, sender, sessions, inputs)?;
-    let joined = join_inspected(alloc, inputs, &inspected.files, sink)?;
+    let held = inspect_all(alloc, sender, sessions, inputs)?;
+    if !held.fits {
+        return Err(fault_or_full(alloc, inputs, &held.told.store));
+    }
+    let joined = join_inspected(alloc, inputs, &held.told.store, sink)?;
     if !joined.within {
         return Err(CommandFault::Full);
     }
@@ -84,47 +87,72 @@ pub fn join_to<R: Source, W: Sink>(
         return Err(CommandFault::CannotWrite);
     }
     Ok(JoinCounts {
-        datagrams: inspected.datagrams,
-        refused: inspected.refused,
-        others: others_of(inspected.others, inputs),
+        datagrams: held.told.datagrams,
+        refused: held.told.refused,
+        others: others_of(held.others, inputs),
         entries: joined.entries,
     })
 }
 
 // How many entries and datagrams were of other sessions.
-fn others_of<R: Source>(of_files: u64, inputs: &[JoinInput<'_, R>]) -> u64
+fn others_of<R>(of_files: u64, inputs: &[JoinInput<R>]) -> u64
     ensures { result ≡ min (of_files + sum_by passed_over inputs.now) (2 ^ 64 - 1) }
 {
     let mut others = of_files;
     for input in inputs {
-        others = others.saturating_add(input.stream.others);
+        others = others.saturating_add(input.passed_over());
     }
     others
 }
 
-// Joins inputs that were inspected.
+// Why inputs are not joined that were inspected, and whose datagram files alone are over the limits
+// of a store: the first fault of a journal, or else that they are full.
+fn fault_or_full<R: Source>(
+    alloc: Global,
+    inputs: &mut [JoinInput<R>],
+    store: &Shelf,
+) -> CommandFault
+    requires few { length inputs.old ≤ 64 }
+    requires ready { AllByRecursion (IsReady R.unread R.failures) inputs.old }
+    ensures failed { (choice : Choice) (contents datagrams : List (List ℕ))
+        → AreInspected R.unread choice inputs.old contents datagrams
+        → IsOverShelf (flat_map (facts_by choice) datagrams)
+        → JoinToFails choice contents result }
+    ensures names { NamesOneOf (length inputs.old) result }
+    ensures no_memory { result ≡ OutOfMemory → ⊥ }
+    ensures no_sink { result ≡ CannotWrite → ⊥ }
+    ensures read_failed { (number : ℕ) → result ≡ Input number Read
+        → OneFailed R.failures number inputs.old inputs.new }
+{
+    match join_inspected(alloc, inputs, store, &mut Nothing) {
+        Ok(_) => CommandFault::Full,
+        Err(fault) => fault,
+    }
+}
+
+// Joins the journals among inputs that were inspected, and what a store holds of the others.
 fn join_inspected<R: Source, W: Sink>(
     alloc: Global,
-    inputs: &mut [JoinInput<'_, R>],
-    files: &[Option<HeldFile>],
+    inputs: &mut [JoinInput<R>],
+    store: &Shelf,
     sink: &mut W,
 ) -> Result<MergedJournal, CommandFault>
     requires few { length inputs.old ≤ 64 }
-    requires ready { AreReady R.unread R.failures inputs.old files.now }
-    ensures joined { (choice : Choice) (contents : List (List ℕ))
-        → AreInspected R.unread choice inputs.old files.now contents
-        → IfOk result (λ joined. JoinsInspected choice contents files.now
+    requires ready { AllByRecursion (IsReady R.unread R.failures) inputs.old }
+    ensures joined { (choice : Choice) (contents datagrams : List (List ℕ))
+        → AreInspected R.unread choice inputs.old contents datagrams
+        → IfOk result (λ joined. JoinsInspected choice contents datagrams store.now
         (sum_by passed_over inputs.new) joined (W.written sink.old) (W.written sink.new)) }
-    ensures failed { (choice : Choice) (contents : List (List ℕ))
-        → AreInspected R.unread choice inputs.old files.now contents
+    ensures failed { (choice : Choice) (contents datagrams : List (List ℕ))
+        → AreInspected R.unread choice inputs.old contents datagrams
         → IfErr result (JoinToFails choice contents) }
     ensures cut { IfOk result (λ joined. joined.cut ≡ true
         → AppendsNoJournal (W.written sink.old) (W.written sink.new)) }
     ensures over { IfOk result (λ joined. joined.within ≡ false → joined.cut ≡ true) }
     ensures short { IfErr result
         (λ _. AppendsNoJournal (W.written sink.old) (W.written sink.new)) }
-    ensures kept { IfErr result (λ fault. fault ≡ OutOfMemory → sink.new ≡ sink.old) }
     ensures names { IfErr result (NamesOneOf (length inputs.old)) }
+    ensures no_memory { IfErr result (λ fault. fault ≡ OutOfMemory → ⊥) }
     ensures no_sink { IfErr result (λ fault. fault ≡ CannotWrite → ⊥) }
     ensures none_failed { OnOk result (NoneFailed R.failures inputs.old inputs.new) }
     ensures read_failed { IfErr result (λ fault. (number : ℕ) → fault ≡ Input number Read
@@ -132,47 +160,27 @@ fn join_inspected<R: Source, W: Sink>(
     ensures sink_failures { IfOk result (λ joined. joined.within ≡ true
         → W.failures sink.new ≡ W.failures sink.old + times_failed joined.cut) }
 {
-    let mut others = Vec::new(alloc);
-    for file in files {
-        if others.push(stream_of(file)).is_err() {
-            return Err(CommandFault::OutOfMemory);
-        }
-    }
-    match join_replaced(alloc, inputs, &mut others, sink) {
+    let mut walk = WalkStream::new(store.walk());
+    match join_chained(alloc, &mut walk, inputs, sink) {
         Ok(joined) => Ok(joined),
-        Err(fault) => Err(load_fault(fault.number + 1, fault.fault)),
+        Err(fault) => Err(load_fault(fault.number, fault.fault)),
     }
 }
 
-// The stream of what a datagram file tells, if the input is one.
-fn stream_of(file: &Option<HeldFile>) -> Option<OrFull<WalkStream<'_, Objects<4096, 1_048_576>>>>
-    ensures { IsStreamOf (listed_behaviour (λ s. fact_in s.held) (λ s. s.walk) (λ _. Unit {0}))
-        file.now result }
-{
-    match file {
-        None => None,
-        Some(file) if file.fits => Some(OrFull::of(WalkStream::new(file.told.store.walk()))),
-        Some(_) => Some(OrFull::full()),
-    }
-}
-
-// Joins inputs as journals, but for others in the places of some.
-fn join_replaced<R: Source, S: Stream, W: Sink>(
+// Joins a stream and inputs.
+fn join_chained<S: Stream, R: Source, W: Sink>(
     alloc: Global,
-    inputs: &mut [JoinInput<'_, R>],
-    others: &mut [Option<S>],
+    first: &mut S,
+    inputs: &mut [JoinInput<R>],
     sink: &mut W,
 ) -> Result<MergedJournal, InputFault>
     requires new { AreNew (joined_behaviour R.unread R.failures S.behaviour)
-        (replaced inputs.old others.old) }
-    requires few { most_of (joined_behaviour R.unread R.failures S.behaviour)
-        (replaced inputs.old others.old) < 2 ^ 64 }
-    ensures merged { IfOk result (λ joined. MergedAll
-        (joined_behaviour R.unread R.failures S.behaviour) (replaced inputs.old others.old)
-        64 4096 1048576 joined (W.written sink.old) (W.written sink.new)) }
+        (chained first.old (taken inputs.old)) }
+    requires most { most_of (joined_behaviour R.unread R.failures S.behaviour)
+        (chained first.old (taken inputs.old)) < 2 ^ 64 }
     ensures ended { IfOk result (λ joined. EndsMerged
         (joined_behaviour R.unread R.failures S.behaviour)
-        (replaced inputs.old others.old) (replaced inputs.new others.new)
+        (chained first.old (taken inputs.old)) (chained first.new (taken inputs.new))
         64 4096 1048576 joined (W.written sink.old) (W.written sink.new)) }
     ensures cut { IfOk result (λ joined. joined.cut ≡ true
         → AppendsNoJournal (W.written sink.old) (W.written sink.new)) }
@@ -181,16 +189,16 @@ fn join_replaced<R: Source, S: Stream, W: Sink>(
         (λ _. AppendsNoJournal (W.written sink.old) (W.written sink.new)) }
     ensures first { IfErr result
         (FirstFault (joined_behaviour R.unread R.failures S.behaviour)
-        (replaced inputs.old others.old) (replaced inputs.new others.new)) }
+        (chained first.old (taken inputs.old)) (chained first.new (taken inputs.new))) }
     ensures failures { IfOk result (λ _. NoneFails
         (joined_behaviour R.unread R.failures S.behaviour)
-        (replaced inputs.old others.old) (replaced inputs.new others.new)) }
+        (chained first.old (taken inputs.old)) (chained first.new (taken inputs.new))) }
     ensures sink_failures { IfOk result (λ joined. joined.within ≡ true
         → W.failures sink.new ≡ W.failures sink.old + times_failed joined.cut) }
 {
-    let mut streams = Replaced {
-        streams: &mut *inputs,
-        others: &mut *others,
+    let mut streams = Chained {
+        first: &mut *first,
+        others: &mut *inputs,
     };
     join_streams::<64, 4096, 1_048_576, _, _>(alloc, &mut streams, sink)
 }

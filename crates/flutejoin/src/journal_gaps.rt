@@ -1,59 +1,80 @@
 //! The command `gaps`: what is held of each object of a journal, told as it is read.
-ghost use Rattle.std.specs.Prelude.{◌≡◌, ◌≢◌, ◌+◌, IfOk, IfErr, OnOk};
-ghost use Rattle.std.specs.Io.KnownBytes.{Appends, IsAtEnd};
+ghost use Rattle.std.specs.Prelude.{◌≡◌, ◌≢◌, ◌+◌, ◌⊎◌, [], List, ℕ, Some, IfErr, OnOk, is_ok};
+ghost use Rattle.std.specs.Io.KnownBytes.{Appends, IsAtEnd, Keeps};
+ghost use Rattle.flute_parts.specs.Devices.{AppendsPart};
 ghost use Rattle.flutejoin.specs.declared.command_fault.CommandFault.TheVariants.{CannotWrite};
-ghost use Rattle.flutejoin.specs.Gaps.{ListsJournal, ListingFails, GapsFail};
+ghost use Rattle.flutejoin.specs.Gaps.{ListsJournal, GapsFail, ReadsWithin};
 ghost use Rattle.flutejoin.specs.Show.{FailsToRead};
 ghost use Rattle.flutejoin.specs.Packet.{write_failures};
 
+use crate::aside::Aside;
 use crate::command_fault::{CommandFault, at_input};
 use crate::limits::MAX_ENTRIES;
 use crate::listing::Listing;
 use flute_journal::JournalReader;
-use flute_parts::{Sink, Source, Tally};
+use flute_parts::{DeviceFault, Sink, Source, Tally};
 use std::alloc::Global;
 
 /// Writes how much is held of each object of the journal that the source gives, of at most
 /// 16,777,216 entries, in the order of their keys: a line for the object, and if some symbols
 /// are missing, in conflict or of a length that does not fit, a line for each longest run of those.
-/// One entry is held, and the lines, which are written once the whole journal was read.
+/// One entry is held. The lines are put aside as `lines`, and those of the gaps of one object as
+/// `gap_lines`, both of which are empty at first; they are written once the whole journal was read.
 ///
 /// # Errors
 ///
 /// The first that is met: `Input` with the fault of the journal, as input 1, or if the source
 /// failed or there was no memory for a symbol; `Full` if its entries are over the limits of a
-/// store; `OutOfMemory` if there was none for the lines. Nothing was written then. `CannotWrite`
-/// if the sink failed: it took a first part of the lines, and not all.
-pub fn gaps_from<R: Source, W: Sink>(
+/// store; `CannotWrite` if lines could not be put aside. Nothing was written then. Last,
+/// `CannotWrite` if the lines could not be read back or the sink failed: it took a proper prefix
+/// of the lines.
+pub fn gaps_from<R: Source, A: Aside, W: Sink>(
     alloc: Global,
     source: &mut R,
+    lines: &mut A,
+    gap_lines: &mut A,
     sink: &mut W,
 ) -> Result<(), CommandFault>
-    ensures printed { OnOk result (ListsJournal (R.unread source.old)
+    ensures printed { A.written lines.old ≡ Some [] → A.written gap_lines.old ≡ Some []
+        → OnOk result (ListsJournal (R.unread source.old)
         (Appends (W.written sink.old) (W.written sink.new))) }
     ensures end { OnOk result (IsAtEnd (R.unread source.new)) }
-    ensures failed { IfErr result (GapsFail (R.unread source.old) (R.unread source.new)
-        (W.written sink.old) (W.written sink.new)) }
+    ensures failed { IfErr result (GapsFail (R.unread source.old) (R.unread source.new)) }
+    ensures part { A.written lines.old ≡ Some [] → A.written gap_lines.old ≡ Some []
+        → IfErr result (λ fault. fault ≡ CannotWrite → (sink.new ≡ sink.old)
+        ⊎ ListsJournal (R.unread source.old)
+        (AppendsPart (W.written sink.old) (W.written sink.new))) }
     ensures kept { IfErr result (λ fault. fault ≢ CannotWrite → sink.new ≡ sink.old) }
     ensures read_failures { FailsToRead (R.failures source.old) (R.failures source.new) result }
-    ensures failures { W.failures sink.new ≡ W.failures sink.old + write_failures result }
+    ensures failures { A.failures lines.new + A.failures gap_lines.new + W.failures sink.new
+        ≡ A.failures lines.old + A.failures gap_lines.old + W.failures sink.old
+        + write_failures result }
 {
-    let lines = lines_of(alloc, source)?;
-    match sink.write_all(&lines) {
+    put_aside(alloc, source, lines, gap_lines)?;
+    match lines.move_to(sink) {
         Ok(()) => Ok(()),
         Err(_) => Err(CommandFault::CannotWrite),
     }
 }
 
-// The lines of the objects of a journal.
-fn lines_of<R: Source>(alloc: Global, source: &mut R) -> Result<Vec<u8>, CommandFault>
-    ensures listed { IfOk result
-        (λ lines. ListsJournal (R.unread source.old) (λ all. lines.items ≡ all)) }
+// Puts aside the lines of the objects of a journal.
+fn put_aside<R: Source, A: Aside>(
+    alloc: Global,
+    source: &mut R,
+    lines: &mut A,
+    gap_lines: &mut A,
+) -> Result<(), CommandFault>
+    ensures listed { A.written lines.old ≡ Some [] → A.written gap_lines.old ≡ Some []
+        → OnOk result ((all : List ℕ) × ListsJournal (R.unread source.old) (λ l. all ≡ l)
+        × (A.written lines.new ≡ Some all)) }
     ensures end { OnOk result (IsAtEnd (R.unread source.new)) }
-    ensures failed { IfErr result (ListingFails (R.unread source.old) (R.unread source.new)) }
-    ensures failures { FailsToRead (R.failures source.old) (R.failures source.new) result }
+    ensures whole { OnOk result (ReadsWithin (R.unread source.old) (R.unread source.new)) }
+    ensures failed { IfErr result (GapsFail (R.unread source.old) (R.unread source.new)) }
+    ensures read_failures { FailsToRead (R.failures source.old) (R.failures source.new) result }
+    ensures failures { A.failures lines.new + A.failures gap_lines.new
+        ≡ A.failures lines.old + A.failures gap_lines.old + write_failures result }
 {
-    let mut listing = Listing::new(alloc);
+    let mut listing = Listing::new();
     let mut tally = Tally::<64, 4096, 1_048_576>::new();
     let mut reader = JournalReader::new(source, MAX_ENTRIES);
     let mut spare = Vec::new(alloc);
@@ -61,8 +82,19 @@ fn lines_of<R: Source>(alloc: Global, source: &mut R) -> Result<Vec<u8>, Command
         if !tally.count(&fact.address()) {
             return Err(CommandFault::Full);
         }
-        listing.add(&fact)?;
+        at_aside(listing.add(&fact, lines, gap_lines))?;
         spare = fact.into_vec(alloc);
     }
-    Ok(listing.finish()?)
+    at_aside(listing.finish(lines, gap_lines))
+}
+
+// What was done, or that lines could not be put aside.
+fn at_aside(done: Result<(), DeviceFault>) -> Result<(), CommandFault>
+    ensures same { is_ok result ≡ is_ok done }
+    ensures fault { IfErr result (λ fault. fault ≡ CannotWrite) }
+{
+    match done {
+        Ok(()) => Ok(()),
+        Err(_) => Err(CommandFault::CannotWrite),
+    }
 }

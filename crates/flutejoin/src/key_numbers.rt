@@ -21,8 +21,8 @@ pub struct KeyNumbers {
 
 impl KeyNumbers {
     ghost use Rattle.std.specs.Prelude.{◌≡◌, Some, None, MatchResult};
-    ghost use Rattle.flutejoin.specs.CommandLine.{AreKeyNumbers, IsFirstWrong, found_rows};
-    ghost use Rattle.flutejoin.specs.CommandLine.{key_options, object_by};
+    ghost use Rattle.flutejoin.specs.Options.{AreKeyNumbers, IsFirstWrong, found_rows, key_options};
+    ghost use Rattle.flutejoin.specs.Options.{object_by};
 
     /// The numbers of `--tsi`, `--toi` and `--fdt`.
     ///

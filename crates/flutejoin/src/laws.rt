@@ -1,4 +1,4 @@
-//! Laws of replicas, each the contract of a function that does nothing.
+//! Laws of replicas and of journals, each the contract of a function that does nothing.
 ghost use Rattle.std.specs.Prelude.{◌≡◌, ℕ, List, flat_map};
 ghost use Rattle.flute_parts.specs.Facts.{Same, SameMembers};
 ghost use Rattle.flute_parts.specs.Information.{Information};
@@ -11,9 +11,11 @@ ghost use Rattle.flutejoin.specs.Held.{Held};
 ghost use Rattle.flutejoin.specs.Steps.{held_by};
 ghost use Rattle.flutejoin.specs.Known.{Fits, known_by};
 ghost use Rattle.flutejoin.specs.Runs.{IsRunDone};
-ghost use Rattle.flutejoin.specs.Laws.{GivenTheSame};
+ghost use Rattle.flutejoin.specs.Laws.{GivenTheSame, Leaves};
 ghost use Rattle.flutejoin.specs.Joined.{Choice, InputContent, TellAll, content_facts};
 ghost use Rattle.flutejoin.specs.JoinTrees.{Joined, Inputs, AreMade, bytes_of, leaf_facts};
+ghost use Rattle.flute_journal.specs.declared.selection.Selection.{Selection as Selecting};
+ghost use Rattle.flutejoin.specs.declared.forget.ForgetCounts.{ForgetCounts as Counts};
 ghost use Rattle.flutejoin.specs.declared.limits.TheConstants.{MAX_ENTRIES};
 ghost use Rattle.flutejoin.specs.declared.steps.Step.{Step as Doing};
 
@@ -56,6 +58,19 @@ pub fn equal_journals_mean_one_content()
 pub fn a_journal_is_read_as_what_was_joined()
     ensures { (held joined others : List Known) (bs : List ℕ) → IsJournalOf MAX_ENTRIES bs held
         → IsJournal bs joined → Same joined others → Same held others }
+{}
+
+/// A journal of which entries were forgotten has the others as they were.
+///
+/// - `none`: if none was forgotten, a journal of the newest version stays the same, byte for byte.
+/// - `twice`: forgetting the same again forgets nothing, and writes the same bytes.
+pub fn forgetting_leaves_the_rest()
+    ensures none { (selection : Selecting) (bytes written : List ℕ) (counts : Counts)
+        (facts : List Known) → Leaves selection bytes written counts → counts.forgotten ≡ 0
+        → Journal bytes facts → written ≡ bytes }
+    ensures twice { (selection : Selecting) (bytes once twice : List ℕ) (counts again : Counts)
+        → Leaves selection bytes once counts → Leaves selection once twice again
+        → (again.forgotten ≡ 0) × (twice ≡ once) }
 {}
 
 /// Joins of inputs that tell the same write equal bytes, in whatever order, however often and in

@@ -1,5 +1,5 @@
 //! The lines of objects, made as their facts come in the order of their addresses.
-ghost use Rattle.std.specs.Prelude.{◌≡◌, ◌<◌, ◌∷◌, ◌++◌, [], List, None, IfOk, OnOk, flat_map, vec_len};
+ghost use Rattle.std.specs.Prelude.{◌≡◌, ◌+◌, ◌∷◌, ◌++◌, [], List, ℕ, Bool, None, IfOk, OnOk, if◌then◌else◌, is_ok, flat_map};
 ghost use Rattle.flute_parts.specs.declared.fact.Fact.{Fact};
 ghost use Rattle.flute_parts.specs.Addresses.{address};
 ghost use Rattle.flute_parts.specs.Facts.{IsRising};
@@ -7,23 +7,22 @@ ghost use Rattle.flute_store.specs.Scan.{Scanned, next_fact, CanFollow};
 ghost use Rattle.flute_store.specs.Scans.{Scans};
 ghost use Rattle.flutejoin.specs.Lines.{gap_line};
 ghost use Rattle.flute_store.specs.Held.{HoldsObject};
-ghost use Rattle.flutejoin.specs.Listing.{Lists, AreListed, IsFirstOf, StateIs, Passes, TellsAll};
+ghost use Rattle.std.specs.Io.KnownBytes.{Appends};
+ghost use Rattle.flutejoin.specs.Listing.{Lists, AreListed, IsFirstOf, StateIs, Passes, TellsAll, CanAdd};
+ghost use Rattle.flutejoin.specs.Listing.{IsOpen, IsState, CanPass, Knows, IsListed};
 
+use crate::aside::Aside;
 use crate::held_lines::{gap_text, status_text};
-use crate::report_lines::push_line;
-use flute_parts::{Fact, Key, SymbolId};
+use crate::report_lines::write_words;
+use flute_parts::{DeviceFault, Fact, Key, SymbolId};
 use flute_store::{Gap, ObjectScan, Status, Turn};
-use std::alloc::{AllocError, Global};
 
 /// The lines of objects: how much is held of each, and its gaps. Their facts come one by one in the
-/// order of their addresses, and none of them is kept.
+/// order of their addresses, and none of them is kept. The lines of the objects before the open one
+/// are put aside, and so, elsewhere, are those of its gaps that were found: they follow the line of
+/// its status, which is known when all its facts came.
 #[derive(Debug, Drop)]
 pub struct Listing {
-    /// The lines of the objects before the open one.
-    pub lines: Vec<u8>,
-    /// The lines of the gaps of the open object that were found. They follow the line of its
-    /// status, which is known when all its facts came.
-    pub gap_lines: Vec<u8>,
     /// The object of the last fact.
     pub open: Option<OpenObject>,
 }
@@ -44,114 +43,149 @@ pub enum ObjectState {
 }
 
 impl Listing {
-    /// The lines of no object. It takes no memory yet.
-    pub fn new(alloc: Global) -> Listing
-        ensures { Lists [] result }
+    /// The lines of no object.
+    pub fn new() -> Listing
+        ensures { result.open ≡ None }
     {
-        Listing {
-            lines: Vec::new(alloc),
-            gap_lines: Vec::new(alloc),
-            open: None,
-        }
+        Listing { open: None }
     }
 
     /// Takes the next fact, which is after those that came before.
     ///
     /// # Errors
     ///
-    /// If there is no memory for the lines. They are of no use then.
+    /// If lines could not be put aside. They are of no use then.
     #[inline(always)]
-    pub fn add(&mut self, fact: &Fact) -> Result<(), AllocError>
-        ensures { (F : List Fact) → IsRising (F ++ fact.now ∷ []) → Lists F self.old
-            → OnOk result (Lists (F ++ fact.now ∷ []) self.new) }
+    pub fn add<A: Aside>(
+        &mut self,
+        fact: &Fact,
+        lines: &mut A,
+        gap_lines: &mut A,
+    ) -> Result<(), DeviceFault>
+        requires { CanAdd fact.now self.old.open }
+        ensures added { (known : Bool) (F : List Fact) → IsRising (F ++ fact.now ∷ [])
+            → Lists known F self.old.open (A.written lines.old) (A.written gap_lines.old)
+            → OnOk result (Lists known (F ++ fact.now ∷ []) self.new.open
+            (A.written lines.new) (A.written gap_lines.new)) }
+        ensures failures { A.failures lines.new + A.failures gap_lines.new
+            ≡ A.failures lines.old + A.failures gap_lines.old + (if is_ok result then 0 else 1) }
     {
         match fact {
-            Fact::Symbol { key, id, bytes } => self.add_symbol(key, *id, Some(bytes.as_slice())),
-            Fact::SymbolConflict { key, id } => self.add_symbol(key, *id, None),
-            Fact::Info { key, info } => {
-                self.begin(
-                    *key,
-                    ObjectState::OneInformation(ObjectScan::new(*key, info)),
-                )
+            Fact::Symbol { key, id, bytes } => {
+                self.add_symbol(key, *id, Some(bytes.as_slice()), lines, gap_lines)
             }
-            Fact::InfoConflict { key } => self.begin(*key, ObjectState::ConflictingInformation),
+            Fact::SymbolConflict { key, id } => self.add_symbol(key, *id, None, lines, gap_lines),
+            Fact::Info { key, info } => {
+                let state = ObjectState::OneInformation(ObjectScan::new(*key, info));
+                self.begin(*key, state, lines, gap_lines)
+            }
+            Fact::InfoConflict { key } => {
+                self.begin(*key, ObjectState::ConflictingInformation, lines, gap_lines)
+            }
         }
     }
 
     // Takes a symbol with its one value, or None if two were told.
     #[inline(always)]
-    fn add_symbol(
+    fn add_symbol<A: Aside>(
         &mut self,
         key: &Key,
         id: SymbolId,
         value: Option<&[u8]>,
-    ) -> Result<(), AllocError>
-        ensures { (F : List Fact) → IsRising (F ++ next_fact key.now (id, value.entry) ∷ [])
-            → Lists F self.old
-            → OnOk result (Lists (F ++ next_fact key.now (id, value.entry) ∷ []) self.new) }
+        lines: &mut A,
+        gap_lines: &mut A,
+    ) -> Result<(), DeviceFault>
+        requires { CanAdd (next_fact key.now (id, value)) self.old.open }
+        ensures added { (known : Bool) (F : List Fact)
+            → IsRising (F ++ next_fact key.now (id, value.entry) ∷ [])
+            → Lists known F self.old.open (A.written lines.old) (A.written gap_lines.old)
+            → OnOk result (Lists known (F ++ next_fact key.now (id, value.entry) ∷ [])
+            self.new.open (A.written lines.new) (A.written gap_lines.new)) }
+        ensures failures { A.failures lines.new + A.failures gap_lines.new
+            ≡ A.failures lines.old + A.failures gap_lines.old + (if is_ok result then 0 else 1) }
     {
         match &mut self.open {
             Some(object) if object.key == *key => {
-                pass_symbol(&mut object.state, &mut self.gap_lines, id, value)
+                pass_symbol(&mut object.state, gap_lines, id, value)
             }
-            _ => self.begin(*key, ObjectState::NoInformation),
+            _ => self.begin(*key, ObjectState::NoInformation, lines, gap_lines),
         }
     }
 
     // Opens the next object, of which one fact came.
     #[inline(never)]
-    fn begin(&mut self, key: Key, state: ObjectState) -> Result<(), AllocError>
-        ensures { (F : List Fact) (f : Fact) → IsRising (F ++ f ∷ []) → Lists F self.old
+    fn begin<A: Aside>(
+        &mut self,
+        key: Key,
+        state: ObjectState,
+        lines: &mut A,
+        gap_lines: &mut A,
+    ) -> Result<(), DeviceFault>
+        requires { IsOpen self.old.open }
+        ensures begun { (known : Bool) (F : List Fact) (f : Fact) → IsRising (F ++ f ∷ [])
+            → Lists known F self.old.open (A.written lines.old) (A.written gap_lines.old)
             → IsFirstOf F key → (address f).key ≡ key → StateIs key (f ∷ []) [] state
-            → OnOk result (Lists (F ++ f ∷ []) self.new) }
+            → OnOk result (Lists known (F ++ f ∷ []) self.new.open
+            (A.written lines.new) (A.written gap_lines.new)) }
+        ensures failures { A.failures lines.new + A.failures gap_lines.new
+            ≡ A.failures lines.old + A.failures gap_lines.old + (if is_ok result then 0 else 1) }
     {
-        self.close()?;
+        self.close(lines, gap_lines)?;
         self.open = Some(OpenObject { key, state });
         Ok(())
     }
 
     // Ends the open object, if there is one.
-    fn close(&mut self) -> Result<(), AllocError>
-        ensures { (F : List Fact) → IsRising F → Lists F self.old
-            → OnOk result (AreListed F self.new.lines.items × (self.new.gap_lines.items ≡ [])) }
+    fn close<A: Aside>(&mut self, lines: &mut A, gap_lines: &mut A) -> Result<(), DeviceFault>
+        requires { IsOpen self.old.open }
+        ensures closed { (known : Bool) (F : List Fact) → IsRising F
+            → Lists known F self.old.open (A.written lines.old) (A.written gap_lines.old)
+            → OnOk result (IsListed known F (A.written lines.new) (A.written gap_lines.new)) }
+        ensures failures { A.failures lines.new + A.failures gap_lines.new
+            ≡ A.failures lines.old + A.failures gap_lines.old + (if is_ok result then 0 else 1) }
     {
         let Some(object) = self.open.take() else {
             return Ok(());
         };
-        let status = end_object(object.state, &mut self.gap_lines)?;
-        push_line(&mut self.lines, status_text(&object.key, status))?;
-        self.lines.extend_from_slice(&self.gap_lines)?;
-        self.gap_lines.clear();
-        Ok(())
+        let status = end_object(object.state, gap_lines)?;
+        write_words(lines, status_text(&object.key, status))?;
+        gap_lines.move_to(lines)
     }
 
-    /// The lines of all objects of which facts came.
+    /// Puts aside the last lines of all objects of which facts came.
     ///
     /// # Errors
     ///
-    /// If there is no memory for them.
-    pub fn finish(mut self) -> Result<Vec<u8>, AllocError>
-        ensures { (F : List Fact) → IsRising F → Lists F self
-            → IfOk result (λ lines. AreListed F lines.items) }
+    /// If they could not be put aside.
+    pub fn finish<A: Aside>(mut self, lines: &mut A, gap_lines: &mut A) -> Result<(), DeviceFault>
+        requires { IsOpen self.open }
+        ensures finished { (known : Bool) (F : List Fact) → IsRising F
+            → Lists known F self.open (A.written lines.old) (A.written gap_lines.old)
+            → OnOk result (IsListed known F (A.written lines.new) (A.written gap_lines.new)) }
+        ensures failures { A.failures lines.new + A.failures gap_lines.new
+            ≡ A.failures lines.old + A.failures gap_lines.old + (if is_ok result then 0 else 1) }
     {
-        self.close()?;
-        Ok(self.lines)
+        self.close(lines, gap_lines)
     }
 }
 
 // Takes the next symbol of an object.
 #[inline(always)]
-fn pass_symbol(
+fn pass_symbol<A: Aside>(
     state: &mut ObjectState,
-    gap_lines: &mut Vec<u8>,
+    gap_lines: &mut A,
     id: SymbolId,
     value: Option<&[u8]>,
-) -> Result<(), AllocError>
-    ensures { (key : Key) (mine : List Fact)
+) -> Result<(), DeviceFault>
+    requires { CanPass (id, value) state.old }
+    ensures passed { (known : Bool) (key : Key) (mine : List Fact) (gaps : List ℕ)
         → IsRising (mine ++ next_fact key (id, value.entry) ∷ [])
-        → StateIs key mine gap_lines.old.items state.old
-        → OnOk result (StateIs key (mine ++ next_fact key (id, value.entry) ∷ [])
-        gap_lines.new.items state.new) }
+        → StateIs key mine gaps state.old → Knows known (A.written gap_lines.old) gaps
+        → OnOk result ((all : List ℕ)
+        × StateIs key (mine ++ next_fact key (id, value.entry) ∷ []) all state.new
+        × Knows known (A.written gap_lines.new) all) }
+    ensures failures { A.failures gap_lines.new
+        ≡ A.failures gap_lines.old + (if is_ok result then 0 else 1) }
 {
     match state {
         ObjectState::OneInformation(scan) => pass(scan, gap_lines, Some((id, value))),
@@ -160,11 +194,15 @@ fn pass_symbol(
 }
 
 // How much is held of an object of which all facts came.
-fn end_object(state: ObjectState, gap_lines: &mut Vec<u8>) -> Result<Status, AllocError>
-    ensures { (F before mine : List Fact) (key : Key) → F ≡ before ++ mine → IsRising F
-        → HoldsObject F key → IsFirstOf before key
-        → StateIs key mine gap_lines.old.items state
-        → IfOk result (λ status. TellsAll F key status gap_lines.new.items) }
+fn end_object<A: Aside>(state: ObjectState, gap_lines: &mut A) -> Result<Status, DeviceFault>
+    requires { IsState state }
+    ensures told { (known : Bool) (F before mine : List Fact) (key : Key) (gaps : List ℕ)
+        → F ≡ before ++ mine → IsRising F → HoldsObject F key → IsFirstOf before key
+        → StateIs key mine gaps state → Knows known (A.written gap_lines.old) gaps
+        → IfOk result (λ status. (all : List ℕ) × TellsAll F key status all
+        × Knows known (A.written gap_lines.new) all) }
+    ensures failures { A.failures gap_lines.new
+        ≡ A.failures gap_lines.old + (if is_ok result then 0 else 1) }
 {
     match state {
         ObjectState::NoInformation => Ok(Status::NoInformation),
@@ -176,29 +214,34 @@ fn end_object(state: ObjectState, gap_lines: &mut Vec<u8>) -> Result<Status, All
     }
 }
 
-// Passes the next symbol, or the end if none is left, and appends the lines of the gaps before.
+// Passes the next symbol, or the end if none is left, and puts aside the lines of the gaps before.
 #[inline(always)]
-fn pass(
+fn pass<A: Aside>(
     scan: &mut ObjectScan,
-    gap_lines: &mut Vec<u8>,
+    gap_lines: &mut A,
     next: Option<(SymbolId, Option<&[u8]>)>,
-) -> Result<(), AllocError>
-    ensures { (s : Scanned) → Scans scan.old s
-        → CanFollow s next.entry → s.coming ≡ None → gap_lines.old.items ≡ flat_map gap_line s.given
+) -> Result<(), DeviceFault>
+    requires { (s : Scanned) × Scans scan.old s × CanFollow s next × (s.coming ≡ None) }
+    ensures passed { (known : Bool) (s : Scanned) (gaps : List ℕ) → Scans scan.old s
+        → CanFollow s next.entry → s.coming ≡ None → gaps ≡ flat_map gap_line s.given
+        → Knows known (A.written gap_lines.old) gaps
         → OnOk result ((t : Scanned) × Passes s next.entry t × Scans scan.new t
-        × (gap_lines.new.items ≡ flat_map gap_line t.given)) }
+        × Knows known (A.written gap_lines.new) (flat_map gap_line t.given)) }
+    ensures failures { A.failures gap_lines.new
+        ≡ A.failures gap_lines.old + (if is_ok result then 0 else 1) }
 {
     while let Turn::Gap(gap) = scan.next(next) {
-        push_gap(gap_lines, &gap)?;
+        put_gap(gap_lines, &gap)?;
     }
     Ok(())
 }
 
 #[inline(never)]
-fn push_gap(gap_lines: &mut Vec<u8>, gap: &Gap) -> Result<(), AllocError>
-    ensures line { OnOk result
-        (gap_lines.new.items ≡ gap_lines.old.items ++ gap_line gap.now) }
-    ensures longer { OnOk result (vec_len gap_lines.old < vec_len gap_lines.new) }
+fn put_gap<A: Aside>(gap_lines: &mut A, gap: &Gap) -> Result<(), DeviceFault>
+    ensures line { OnOk result (Appends (A.written gap_lines.old) (A.written gap_lines.new)
+        (gap_line gap.now)) }
+    ensures failures { A.failures gap_lines.new
+        ≡ A.failures gap_lines.old + (if is_ok result then 0 else 1) }
 {
-    push_line(gap_lines, gap_text(gap))
+    write_words(gap_lines, gap_text(gap))
 }

@@ -4,12 +4,12 @@ ghost use Rattle.flutejoin.specs.Joined.{everything, Joins};
 ghost use Rattle.flutejoin.specs.Joining.{JoinsTo};
 ghost use Rattle.flutejoin.specs.Memory.{in_memory, MemoryFails};
 
-use crate::begun_source::{BegunSource, join_sources};
 use crate::blob::Blob;
 use crate::command_fault::CommandFault;
-use crate::first_bytes::FirstBytes;
 use crate::join_counts::JoinCounts;
+use crate::join_input::JoinInput;
 use crate::joined::Joined;
+use crate::joined_inputs::join_to;
 use flute_journal::laws::{a_journal_has_one_content, a_journal_within_a_bound_is_one};
 use flute_journal::{ReadFault, Sessions, read_store};
 use flute_parts::{MemorySink, MemorySource, Sender, Sink};
@@ -56,17 +56,16 @@ fn join_blobs(
         (⟦<MemorySink as Sink>⟧.written sink.old) (⟦<MemorySink as Sink>⟧.written sink.new)) }
     ensures failed { IfErr result (MemoryFails (everything sender) inputs.now) }
 {
-    let mut sources = Vec::new(alloc);
+    let mut opened = Vec::new(alloc);
     for input in inputs {
-        let mut source = MemorySource::new(input.as_slice());
-        let Ok(first) = FirstBytes::read(&mut source) else {
+        let Ok(input) = JoinInput::open(MemorySource::new(input.as_slice())) else {
             return Err(CommandFault::OutOfMemory);
         };
-        if sources.push(BegunSource { first, source }).is_err() {
+        if opened.push(input).is_err() {
             return Err(CommandFault::OutOfMemory);
         }
     }
-    match join_sources(alloc, sender, &Sessions::all(), sources, sink) {
+    match join_to(alloc, sender, &Sessions::all(), &mut opened, sink) {
         Ok(counts) => Ok(counts),
         Err(fault) => Err(in_memory(fault)),
     }

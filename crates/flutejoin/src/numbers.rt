@@ -5,10 +5,9 @@ ghost use Rattle.std.specs.Char.{is_ascii_digit};
 ghost use Rattle.std.specs.List.{list_all};
 ghost use Rattle.clap.specs.Walk.{first_of};
 ghost use Rattle.flute_journal.specs.Sessions.{listed_tsis};
-ghost use Rattle.flutejoin.specs.CommandLine.{AreNumbers, HasSessions, HasSource};
-ghost use Rattle.flutejoin.specs.CommandLine.{IsBadNumber, IsInstance};
-ghost use Rattle.flutejoin.specs.CommandLine.{IsNumber, are_sessions, found_rows, has_number};
-ghost use Rattle.flutejoin.specs.CommandLine.{is_below, number_in, words};
+ghost use Rattle.flutejoin.specs.Options.{AreNumbers, HasSessions, HasSource, IsBadNumber};
+ghost use Rattle.flutejoin.specs.Options.{IsInstance, IsNumber, IsSourceIf, IsToi, are_sessions};
+ghost use Rattle.flutejoin.specs.Options.{found_rows, has_number, is_below, number_in, words};
 
 use crate::command_fault::CommandFault;
 use crate::sender::sender_in;
@@ -62,6 +61,39 @@ pub fn source(matches: &ArgMatches<'_>) -> Result<Sender, CommandFault>
     }
 }
 
+/// The sender of `--source`, or none if it is left out.
+///
+/// # Errors
+///
+/// As of `source`.
+pub fn source_if(matches: &ArgMatches<'_>) -> Result<Option<Sender>, CommandFault>
+    ensures { let rows = found_rows matches.now in MatchResult result (IsSourceIf rows)
+        (λ fault. (fault ≡ CommandFault.BadSource) × ((sender : ℕ) → HasSource rows sender → ⊥)) }
+{
+    match word(matches, "source") {
+        Some(_) => Ok(Some(source(matches)?)),
+        None => Ok(None),
+    }
+}
+
+/// The number of `--toi`, or none if it is left out.
+///
+/// # Errors
+///
+/// `BadNumber` if it is not a number below 2^112.
+pub fn toi(matches: &ArgMatches<'_>) -> Result<Option<u128>, CommandFault>
+    ensures number { let rows = found_rows matches.now in
+        MatchResult result (IsToi rows) (λ fault. IsBadNumber (codes "toi") fault
+        × (is_some (first_of (codes "toi") rows) ≡ true)
+        × (has_number (codes "toi") (2 ^ 112) rows ≡ false)) }
+    ensures range { IfOk result (λ toi. IfSome toi (λ number. number < 2 ^ 112)) }
+{
+    match word(matches, "toi") {
+        Some(_) => Ok(Some(number_below(matches, "toi", 1 << 112)?)),
+        None => Ok(None),
+    }
+}
+
 /// The number of `--fdt`, or none if it is left out.
 ///
 /// # Errors
@@ -108,8 +140,8 @@ fn decimal_below(text: &str, name: &'static str, limit: u128) -> Result<u128, Co
     }
 }
 
-// The number that 1 to 39 decimal digits spell, if it is below 2^128.
-fn decimal(text: &str) -> Option<u128>
+/// The number that 1 to 39 decimal digits spell, if it is below 2^128.
+pub fn decimal(text: &str) -> Option<u128>
     ensures { result ≡ number_in text.now }
 {
     if text.len() > 39 || !has_digits_alone(text) {

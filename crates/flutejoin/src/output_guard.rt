@@ -1,7 +1,8 @@
 //! Which files that are there a command overwrites.
-ghost use Rattle.std.specs.Prelude.{◌≡◌, ◌≢◌, Err, is_ok, true, false, if◌then◌else◌};
+ghost use Rattle.std.specs.Prelude.{◌≡◌, ◌≢◌, Err, IfErr, is_ok, true, false, if◌then◌else◌};
 ghost use Rattle.flute_journal.specs.Kinds.{HasKind, IsNeither};
 ghost use Rattle.flute_journal.specs.declared.kind.Kind.TheVariants.{Journal, Datagrams};
+ghost use Rattle.flutejoin.specs.OutputGuard.{IsKeptOutput};
 
 use crate::command_fault::CommandFault;
 use flute_journal::{Kind, kind_of};
@@ -58,6 +59,7 @@ impl Overwrites {
             → is_ok result ≡ true }
         ensures others { self ≡ Overwrites.OtherFiles → IsNeither first.now → is_input ≡ false
             → is_ok result ≡ true }
+        ensures kept { IfErr result IsKeptOutput }
     {
         match self {
             Overwrites::Any => Ok(()),
@@ -79,6 +81,7 @@ impl Overwrites {
 fn check_input(is_input: bool) -> Result<(), CommandFault>
     ensures input { is_input ≡ true → result ≡ Err CommandFault.OutputIsInput }
     ensures other { is_input ≡ false → is_ok result ≡ true }
+    ensures kept { IfErr result IsKeptOutput }
 {
     if is_input {
         Err(CommandFault::OutputIsInput)

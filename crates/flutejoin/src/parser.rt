@@ -1,7 +1,17 @@
 //! What the parser of the command line is told: the commands, and their options.
+ghost use Rattle.std.specs.Prelude.{◌≡◌, [], IfOk, codes};
+ghost use Rattle.clap.specs.Simple.{app_of};
+ghost use Rattle.flutejoin.specs.Parser.{IsCommand, carousel_rules, extract_rules, forget_rules};
+ghost use Rattle.flutejoin.specs.Parser.{info_rules};
+ghost use Rattle.flutejoin.specs.Parser.{join_rules, journal_rules, merge_rules, packet_rules};
+ghost use Rattle.flutejoin.specs.Parser.{no_commands, program};
 
-use clap::{Arg, ArgAction, Command};
-use std::alloc::Global;
+use crate::arguments::{
+    all, block, conflicts, force, force_all, information, input, inputs, instance, journal, length,
+    list, object, output, required, session, sessions, source, symbol, symbol_id,
+};
+use clap::Command;
+use std::alloc::{AllocError, Global};
 
 /// What journals are read and written, after the number that `--version` tells.
 const VERSION: &str = "\
@@ -65,6 +75,8 @@ The journal may have as much as a store holds (flutejoin --help).",
 const EXTRACT_HELP: &str = help_of!(
     "\
 Prints: bytes N. Of an object that is not whole nothing is written.
+With --all in place of --toi each whole object becomes a file of the new folder OUT, named by its
+sender, TSI and TOI; prints the line of `gaps` for each object, and last: written N.
 At `no object` another sender, TSI or TOI may have it: `gaps` lists the objects that there are.
 The journal may have as much as a store holds (flutejoin --help).",
     "extract -o out --tsi 7 --toi 1 station1"
@@ -73,6 +85,7 @@ The journal may have as much as a store holds (flutejoin --help).",
 const INFO_HELP: &str = help_of!(
     "\
 Prints: entries N. It is for an object whose packets do not tell its information.
+With --list in place of the numbers it adds what the lines of a file tell, each as `show` prints it.
 The journal may have as much as a store holds (flutejoin --help).",
     "info -o known --tsi 7 --toi 1 --length 40000 --symbol 1000 --block 16 station1"
 );
@@ -93,18 +106,41 @@ apply. OUT is no input.",
     "merge -o both station1 station2"
 );
 
+const FORGET_HELP: &str = help_of!(
+    "\
+Prints: forgotten N and entries N. The options narrow one another; at least one is needed. An FDT
+Instance is --toi 0 --fdt N.
+It is no join: what is forgotten comes back with the next input of a join that has it.
+The journal may have up to 16,777,216 entries; the limits of a store do not apply.",
+    "forget -o without --conflicts all"
+);
+
 const CAROUSEL_HELP: &str = help_of!(
     "\
 Prints: datagrams N. FILE has up to 4,294,967,295 bytes.",
     "carousel -o sent --tsi 7 --toi 1 --symbol 1000 --block 16 file"
 );
 
-const SOURCE_HELP: &str = "\
-The sender's address, as 10.0.0.1, 2001:db8::1 or its 8 or 32 hexadecimal digits; left out, it \
-is ::, and not 0.0.0.0";
-
 /// The program's command, with a subcommand for each of its commands.
-pub fn command<'a>(alloc: Global) -> Result<Command<'a>, clap::Error> {
+pub fn command<'a>(alloc: Global) -> Result<Command<'a>, AllocError>
+    ensures { IfOk result (λ command. app_of command ≡ program) }
+{
+    let command = without_commands(alloc)?
+        .subcommand(packet_command(alloc)?)?
+        .subcommand(show_command(alloc)?)?
+        .subcommand(gaps_command(alloc)?)?
+        .subcommand(extract_command(alloc)?)?
+        .subcommand(info_command(alloc)?)?
+        .subcommand(join_command(alloc)?)?
+        .subcommand(merge_command(alloc)?)?
+        .subcommand(forget_command(alloc)?)?
+        .subcommand(carousel_command(alloc)?)?;
+    Ok(command)
+}
+
+fn without_commands<'a>(alloc: Global) -> Result<Command<'a>, AllocError>
+    ensures { IfOk result (λ command. app_of command ≡ no_commands) }
+{
     let command = Command::new(alloc, "flutejoin")
         .version("0.1.0")
         .long_version(VERSION)
@@ -113,197 +149,177 @@ pub fn command<'a>(alloc: Global) -> Result<Command<'a>, clap::Error> {
         .no_binary_name(true)
         .bin_name("flutejoin")?
         .subcommand_required(true)
-        .arg_required_else_help(true)
-        .subcommand(packet_command(alloc)?)?
-        .subcommand(show_command(alloc)?)?
-        .subcommand(gaps_command(alloc)?)?
-        .subcommand(extract_command(alloc)?)?
-        .subcommand(info_command(alloc)?)?
-        .subcommand(join_command(alloc)?)?
-        .subcommand(merge_command(alloc)?)?
-        .subcommand(carousel_command(alloc)?)?;
+        .arg_required_else_help(true);
     Ok(command)
 }
 
-fn packet_command<'a>(alloc: Global) -> Result<Command<'a>, clap::Error> {
-    let hex = input(alloc, "HEX").help("The datagram in hexadecimal digits, two for each byte");
-    let command = Command::new(alloc, "packet")
-        .about("Prints what one datagram says: its session, object, information and symbol")
-        .after_help(PACKET_HELP)
-        .arg(hex)?;
-    Ok(command)
+// A command with these texts, and no argument as yet.
+fn named<'a>(alloc: Global, name: &'a str, about: &'a str, after_help: &'a str) -> Command<'a>
+    ensures { IsCommand name.entry.now [] result }
+{
+    Command::new(alloc, name)
+        .about(about)
+        .after_help(after_help)
 }
 
-fn show_command<'a>(alloc: Global) -> Result<Command<'a>, clap::Error> {
-    let command = Command::new(alloc, "show")
-        .about("Prints the entries of a journal, a line each")
-        .after_help(SHOW_HELP)
-        .arg(journal(alloc))?;
-    Ok(command)
-}
-
-fn gaps_command<'a>(alloc: Global) -> Result<Command<'a>, clap::Error> {
-    let command = Command::new(alloc, "gaps")
-        .about("Prints how much of each object a journal has, and which symbols are missing")
-        .after_help(GAPS_HELP)
-        .arg(journal(alloc))?;
-    Ok(command)
-}
-
-fn extract_command<'a>(alloc: Global) -> Result<Command<'a>, clap::Error> {
-    let command = Command::new(alloc, "extract")
-        .about("Writes an object that a journal has whole to a file")
-        .after_help(EXTRACT_HELP)
-        .arg(output(alloc))?
-        .arg(force_all(alloc))?
-        .arg(source(alloc))?
-        .arg(session(alloc))?
-        .arg(object(alloc))?
-        .arg(instance(alloc))?
-        .arg(journal(alloc))?;
-    Ok(command)
-}
-
-fn info_command<'a>(alloc: Global) -> Result<Command<'a>, clap::Error> {
-    let length = number(alloc, "length")
-        .required(true)
-        .help("The transfer length: how many bytes the object has");
-    let command = Command::new(alloc, "info")
-        .about("Writes a journal with an object's transmission information added")
-        .after_help(INFO_HELP)
-        .arg(output(alloc))?
-        .arg(force(alloc))?
-        .arg(source(alloc))?
-        .arg(session(alloc))?
-        .arg(object(alloc))?
-        .arg(instance(alloc))?
-        .arg(length)?
-        .arg(symbol(alloc))?
-        .arg(block(alloc))?
-        .arg(journal(alloc))?;
-    Ok(command)
-}
-
-fn join_command<'a>(alloc: Global) -> Result<Command<'a>, clap::Error> {
-    let inputs = Arg::new(alloc, "INPUT")
-        .required(true)
-        .action(ArgAction::Append)
-        .num_args(1..)
-        .help("Journals and datagram files, at most 64");
-    let sessions = number(alloc, "tsi").action(ArgAction::Append).help(
-        "A session that is taken; up to 64 times; left out, all are",
+fn packet_command<'a>(alloc: Global) -> Result<Command<'a>, AllocError>
+    ensures { IfOk result (IsCommand (codes "packet") packet_rules) }
+{
+    let hex = input(
+        alloc,
+        "HEX",
+        "The datagram in hexadecimal digits, two for each byte",
     );
-    let command = Command::new(alloc, "join")
-        .about("Joins what several journals and datagram files have into one journal")
-        .after_help(JOIN_HELP)
-        .arg(output(alloc))?
-        .arg(force(alloc))?
-        .arg(source(alloc))?
-        .arg(sessions)?
-        .arg(inputs)?;
-    Ok(command)
-}
-
-fn merge_command<'a>(alloc: Global) -> Result<Command<'a>, clap::Error> {
-    let command = Command::new(alloc, "merge")
-        .about("Merges two journals into one, entry by entry")
-        .after_help(MERGE_HELP)
-        .arg(output(alloc))?
-        .arg(force(alloc))?
-        .arg(input(alloc, "A").help("A journal"))?
-        .arg(input(alloc, "B").help("Another journal"))?;
-    Ok(command)
-}
-
-fn carousel_command<'a>(alloc: Global) -> Result<Command<'a>, clap::Error> {
-    let command = Command::new(alloc, "carousel")
-        .about("Writes the datagrams that send an object to a datagram file")
-        .after_help(CAROUSEL_HELP)
-        .arg(output(alloc))?
-        .arg(force_all(alloc))?
-        .arg(session(alloc))?
-        .arg(object(alloc))?
-        .arg(instance(alloc))?
-        .arg(symbol(alloc))?
-        .arg(block(alloc))?
-        .arg(input(alloc, "FILE").help("The content of the object"))?;
-    Ok(command)
-}
-
-fn symbol<'a>(alloc: Global) -> Arg<'a> {
-    number(alloc, "symbol")
-        .required(true)
-        .help("The encoding symbol length, in bytes")
-}
-
-fn block<'a>(alloc: Global) -> Arg<'a> {
-    number(alloc, "block")
-        .required(true)
-        .help("The maximum source block length, in symbols")
-}
-
-fn journal<'a>(alloc: Global) -> Arg<'a> {
-    input(alloc, "J").help("The journal; - is standard input")
-}
-
-fn input<'a>(alloc: Global, name: &'a str) -> Arg<'a> {
-    Arg::new(alloc, name).required(true).action(ArgAction::Set)
-}
-
-fn output<'a>(alloc: Global) -> Arg<'a> {
-    Arg::new(alloc, "OUT")
-        .short('o')
-        .required(true)
-        .action(ArgAction::Set)
-        .help("The file that is written; - is standard output")
-}
-
-// Of a command whose OUT may be a journal or its input.
-fn force<'a>(alloc: Global) -> Arg<'a> {
-    force_flag(alloc).help("Write OUT even if it is a datagram file")
-}
-
-// Of a command whose OUT may be none of these.
-fn force_all<'a>(alloc: Global) -> Arg<'a> {
-    force_flag(alloc).help("Write OUT even if it is a datagram file, a journal or the input")
-}
-
-fn force_flag<'a>(alloc: Global) -> Arg<'a> {
-    Arg::new(alloc, "force")
-        .short('f')
-        .long("force")
-        .action(ArgAction::SetTrue)
-}
-
-fn session<'a>(alloc: Global) -> Arg<'a> {
-    number(alloc, "tsi")
-        .required(true)
-        .help("The session, by its Transport Session Identifier")
-}
-
-fn object<'a>(alloc: Global) -> Arg<'a> {
-    number(alloc, "toi").required(true).help(
-        "The object, by its Transport Object Identifier: 0 for an FDT Instance",
+    let command = named(
+        alloc,
+        "packet",
+        "Prints what one datagram says: its session, object, information and symbol",
+        PACKET_HELP,
     )
+    .arg(hex)?;
+    Ok(command)
 }
 
-fn instance<'a>(alloc: Global) -> Arg<'a> {
-    number(alloc, "fdt").help("The FDT Instance ID, with --toi 0 alone")
+fn show_command<'a>(alloc: Global) -> Result<Command<'a>, AllocError>
+    ensures { IfOk result (IsCommand (codes "show") journal_rules) }
+{
+    let command = named(
+        alloc,
+        "show",
+        "Prints the entries of a journal, a line each",
+        SHOW_HELP,
+    )
+    .arg(journal(alloc))?;
+    Ok(command)
 }
 
-fn source<'a>(alloc: Global) -> Arg<'a> {
-    value(alloc, "source", "ADDRESS").help(SOURCE_HELP)
+fn gaps_command<'a>(alloc: Global) -> Result<Command<'a>, AllocError>
+    ensures { IfOk result (IsCommand (codes "gaps") journal_rules) }
+{
+    let command = named(
+        alloc,
+        "gaps",
+        "Prints how much of each object a journal has, and which symbols are missing",
+        GAPS_HELP,
+    )
+    .arg(journal(alloc))?;
+    Ok(command)
 }
 
-fn number<'a>(alloc: Global, name: &'a str) -> Arg<'a> {
-    value(alloc, name, "N")
+fn extract_command<'a>(alloc: Global) -> Result<Command<'a>, AllocError>
+    ensures { IfOk result (IsCommand (codes "extract") extract_rules) }
+{
+    let command = named(
+        alloc,
+        "extract",
+        "Writes an object that a journal has whole to a file",
+        EXTRACT_HELP,
+    )
+    .arg(output(alloc))?
+    .arg(force_all(alloc))?
+    .arg(all(alloc))?
+    .arg(source(alloc))?
+    .arg(sessions(alloc))?
+    .arg(object(alloc))?
+    .arg(instance(alloc))?
+    .arg(journal(alloc))?;
+    Ok(command)
 }
 
-// An option with a value, which is inspected later: also if it begins with a hyphen.
-fn value<'a>(alloc: Global, name: &'a str, value_name: &'a str) -> Arg<'a> {
-    Arg::new(alloc, name)
-        .long(name)
-        .value_name(value_name)
-        .allow_hyphen_values(true)
-        .action(ArgAction::Set)
+fn info_command<'a>(alloc: Global) -> Result<Command<'a>, AllocError>
+    ensures { IfOk result (IsCommand (codes "info") info_rules) }
+{
+    let command = named(
+        alloc,
+        "info",
+        "Writes a journal with an object's transmission information added",
+        INFO_HELP,
+    )
+    .arg(output(alloc))?
+    .arg(force(alloc))?
+    .arg(list(alloc))?
+    .arg(source(alloc))?
+    .arg(session(alloc))?
+    .arg(object(alloc))?
+    .arg(instance(alloc))?
+    .arg(length(alloc))?
+    .arg(symbol(alloc))?
+    .arg(block(alloc))?
+    .arg(journal(alloc))?;
+    Ok(command)
+}
+
+fn join_command<'a>(alloc: Global) -> Result<Command<'a>, AllocError>
+    ensures { IfOk result (IsCommand (codes "join") join_rules) }
+{
+    let command = named(
+        alloc,
+        "join",
+        "Joins what several journals and datagram files have into one journal",
+        JOIN_HELP,
+    )
+    .arg(output(alloc))?
+    .arg(force(alloc))?
+    .arg(source(alloc))?
+    .arg(sessions(alloc))?
+    .arg(inputs(alloc))?;
+    Ok(command)
+}
+
+fn merge_command<'a>(alloc: Global) -> Result<Command<'a>, AllocError>
+    ensures { IfOk result (IsCommand (codes "merge") merge_rules) }
+{
+    let command = named(
+        alloc,
+        "merge",
+        "Merges two journals into one, entry by entry",
+        MERGE_HELP,
+    )
+    .arg(output(alloc))?
+    .arg(force(alloc))?
+    .arg(input(alloc, "A", "A journal"))?
+    .arg(input(alloc, "B", "Another journal"))?;
+    Ok(command)
+}
+
+fn forget_command<'a>(alloc: Global) -> Result<Command<'a>, AllocError>
+    ensures { IfOk result (IsCommand (codes "forget") forget_rules) }
+{
+    let command = named(
+        alloc,
+        "forget",
+        "Writes a journal without the entries that are chosen",
+        FORGET_HELP,
+    )
+    .arg(output(alloc))?
+    .arg(force(alloc))?
+    .arg(conflicts(alloc))?
+    .arg(source(alloc))?
+    .arg(sessions(alloc))?
+    .arg(object(alloc))?
+    .arg(instance(alloc))?
+    .arg(symbol_id(alloc))?
+    .arg(information(alloc))?
+    .arg(journal(alloc))?;
+    Ok(command)
+}
+
+fn carousel_command<'a>(alloc: Global) -> Result<Command<'a>, AllocError>
+    ensures { IfOk result (IsCommand (codes "carousel") carousel_rules) }
+{
+    let command = named(
+        alloc,
+        "carousel",
+        "Writes the datagrams that send an object to a datagram file",
+        CAROUSEL_HELP,
+    )
+    .arg(output(alloc))?
+    .arg(force_all(alloc))?
+    .arg(required(session(alloc)))?
+    .arg(required(object(alloc)))?
+    .arg(instance(alloc))?
+    .arg(required(symbol(alloc)))?
+    .arg(required(block(alloc)))?
+    .arg(input(alloc, "FILE", "The content of the object"))?;
+    Ok(command)
 }

@@ -5,22 +5,21 @@ use crate::first_bytes::FirstBytes;
 use flute_parts::{DeviceFault, Source};
 
 /// A source that gives the first bytes of an input, which were read ahead, and then those that
-/// another source has left. It takes no memory.
+/// are left of it. It takes no memory.
 #[derive(Debug, Drop)]
-pub struct PeekedSource<'a, R> {
+pub struct PeekedSource<R> {
     first: FirstBytes,
     /// How many of the first bytes were given.
     given: usize,
-    source: &'a mut R,
+    source: R,
 }
 
-impl<'a, R: Source> PeekedSource<'a, R> {
+impl<R> PeekedSource<R> {
     // A source of the first bytes, and then of those of `source`.
-    pub(crate) fn new(first: FirstBytes, source: &'a mut R) -> PeekedSource<'a, R>
+    pub(crate) fn new(first: FirstBytes, source: R) -> PeekedSource<R>
         ensures first { result.first ≡ first }
         ensures given { result.given ≡ 0 }
-        ensures same_source { result.source.ghost_name ≡ source.entry.ghost_name }
-        ensures source { result.source.now ≡ source.old }
+        ensures source { result.source ≡ source }
     {
         PeekedSource {
             first,
@@ -29,14 +28,7 @@ impl<'a, R: Source> PeekedSource<'a, R> {
         }
     }
 
-    // The first bytes, whether or not they were given.
-    pub(crate) fn front(&self) -> &[u8]
-        ensures { result.now ≡ take self.now.first.count self.now.first.bytes }
-    {
-        self.first.as_slice()
-    }
-
-    // Whether all of them were given.
+    // Whether all of the first bytes were given.
     #[inline(always)]
     fn is_past(&self) -> bool
         ensures { result ≡ nat_le self.now.first.count self.now.given }
@@ -54,16 +46,16 @@ impl<'a, R: Source> PeekedSource<'a, R> {
     }
 }
 
-impl<'a, R: Source> Source for PeekedSource<'a, R> {
+impl<R: Source> Source for PeekedSource<R> {
     ghost use Rattle.std.specs.Prelude.{take, drop, nat_le, [], if◌then◌else◌};
     ghost use Rattle.std.specs.Io.KnownBytes.{prepend_known};
 
-    ghost failures = { λ s. R.failures s.source.now };
+    ghost failures = { λ s. R.failures s.source };
 
     ghost unread = { λ s. prepend_known (drop s.given (take s.first.count s.first.bytes))
-        (R.unread s.source.now) };
+        (R.unread s.source) };
 
-    ghost buffered = { λ s. if nat_le s.first.count s.given then R.buffered s.source.now else [] };
+    ghost buffered = { λ s. if nat_le s.first.count s.given then R.buffered s.source else [] };
 
     fn read(&mut self, buffer: &mut [u8]) -> Result<usize, DeviceFault> {
         let front = self.left();
@@ -79,8 +71,7 @@ impl<'a, R: Source> Source for PeekedSource<'a, R> {
     #[inline(always)]
     fn buffer(&self) -> &[u8] {
         if self.is_past() {
-            let source = &*self.source;
-            source.buffer()
+            self.source.buffer()
         } else {
             &[]
         }

@@ -1,4 +1,12 @@
 pub mod Failing
+mod Empty
+mod FewInputs
+pub mod LeftFiles
 pub mod ObjectBytes
+pub mod OfNames
+pub mod PrintedNames
 pub mod Openings
+pub mod SentNames
 pub mod Since
+mod FolderSteps
+mod Replacing

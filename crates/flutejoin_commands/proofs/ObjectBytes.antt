@@ -5,7 +5,7 @@ use Rattle.flute_parts.specs.declared.key.Key.{Key}
 use Rattle.flute_parts.specs.declared.fact.Fact.{Fact}
 use Rattle.flutejoin.specs.Extract.{AnswersFrom, Extracts}
 use Rattle.flutejoin.specs.declared.command_fault.CommandFault.{CommandFault}
-use Rattle.flutejoin.specs.declared.command_fault.CommandFault.TheVariants.{CommandLine, NotText, BadNumber, BadSource, BadKey, TooManyInputs, OutputIsInput, OutputIsDatagrams, OutputIsJournal, BadInformation, BadHex, Refused, CannotSend, TooLarge, CannotOpen, Input, UnknownKind, Full, NoObject, NoInformation, ConflictingInformation, NotWhole, OutOfMemory, CannotCreate, CannotWrite, NotOnDisk}
+use Rattle.flutejoin.specs.declared.command_fault.CommandFault.TheVariants.{CommandLine, NotText, BadNumber, BadOption, BadSource, BadKey, TooManyInputs, OutputIsInput, OutputIsDatagrams, OutputIsJournal, BadInformation, BadHex, Refused, CannotSend, TooLarge, ListLine, ListInformation, CannotOpen, Input, UnknownKind, Full, NoObject, NoInformation, ConflictingInformation, NotWhole, OutOfMemory, CannotCreate, CannotWrite, NotOnDisk}
 use Rattle.flutejoin_commands.specs.Works.{WritesObject, ExtractFails}
 
 of_bytes : {W : Type 0} (written : W → Option (List ℕ)) (F : List Fact) (key : Key) (old new : W) (r : Result ℕ CommandFault) → Extracts written F key old new r → Extracts (λ x. x) F key (written old) (written new) r
@@ -18,6 +18,9 @@ of_bytes written F key old new (Err CannotWrite) e = record { info = e.info; who
 of_bytes written F key old new (Err (CommandLine x)) e = e
 of_bytes written F key old new (Err NotText) e = e
 of_bytes written F key old new (Err (BadNumber x)) e = e
+of_bytes written F key old new (Err (BadOption x)) e = e
+of_bytes written F key old new (Err (ListLine x)) e = e
+of_bytes written F key old new (Err (ListInformation x y)) e = e
 of_bytes written F key old new (Err BadSource) e = e
 of_bytes written F key old new (Err BadKey) e = e
 of_bytes written F key old new (Err TooManyInputs) e = e
@@ -50,6 +53,9 @@ answers_map input left P Q (Err CannotWrite) f a = record { entries = a.entries;
 answers_map input left P Q (Err (CommandLine x)) f a = record { entries = a.entries; journal = a.journal; read = a.read; within = a.within; holds = f a.entries a.holds }
 answers_map input left P Q (Err NotText) f a = record { entries = a.entries; journal = a.journal; read = a.read; within = a.within; holds = f a.entries a.holds }
 answers_map input left P Q (Err (BadNumber x)) f a = record { entries = a.entries; journal = a.journal; read = a.read; within = a.within; holds = f a.entries a.holds }
+answers_map input left P Q (Err (BadOption x)) f a = record { entries = a.entries; journal = a.journal; read = a.read; within = a.within; holds = f a.entries a.holds }
+answers_map input left P Q (Err (ListLine x)) f a = record { entries = a.entries; journal = a.journal; read = a.read; within = a.within; holds = f a.entries a.holds }
+answers_map input left P Q (Err (ListInformation x y)) f a = record { entries = a.entries; journal = a.journal; read = a.read; within = a.within; holds = f a.entries a.holds }
 answers_map input left P Q (Err BadSource) f a = record { entries = a.entries; journal = a.journal; read = a.read; within = a.within; holds = f a.entries a.holds }
 answers_map input left P Q (Err BadKey) f a = record { entries = a.entries; journal = a.journal; read = a.read; within = a.within; holds = f a.entries a.holds }
 answers_map input left P Q (Err TooManyInputs) f a = record { entries = a.entries; journal = a.journal; read = a.read; within = a.within; holds = f a.entries a.holds }

@@ -1,5 +1,14 @@
 pub mod Commands
+pub mod Files
+pub mod MemoryFiles
+pub mod MemoryWorlds
+pub mod Named
+pub mod NamedFiles
 pub mod Opened
 pub mod Outlets
+pub mod Printed
 pub mod Prints
+pub mod Runs
+pub mod Folders
 pub mod Works
+pub mod Worlds

@@ -1,5 +1,6 @@
 -- What the works of the commands write, why they fail, and what they tell.
-use Rattle.std.specs.Prelude.{◌≡◌, ◌⊎◌, ℕ, ◌++◌, ◌∷◌, List, [], if◌then◌else◌, nat_eq, length, flat_map, Option, codes, Ok, Err}
+use Rattle.std.specs.Prelude.{◌≡◌, ℕ, ◌++◌, ◌∷◌, List, [], if◌then◌else◌, nat_eq, length, flat_map}
+use Rattle.std.specs.Prelude.{Option, codes, Ok, Err}
 use Rattle.std.specs.Io.KnownBytes.{Appends}
 use Rattle.flute_parts.specs.Facts.{Same}
 use Rattle.flute_parts.specs.Information.{Information}
@@ -8,18 +9,21 @@ use Rattle.flute_parts.specs.declared.fact.Fact.TheVariants.{Info}
 use Rattle.flute_parts.specs.declared.key.Key.{Key}
 use Rattle.flute_journal.specs.Records.{file_header, record_of, IsFileOf}
 use Rattle.flute_journal.specs.Sessions.{listed_tsis}
+use Rattle.flute_journal.specs.declared.selection.Selection.{Selection}
 use Rattle.flute_journal.specs.declared.sessions.Sessions.{Sessions}
 use Rattle.flutejoin.specs.Carousel.{SendsObject}
 use Rattle.flutejoin.specs.Extract.{AnswersFrom, Extracts}
+use Rattle.flutejoin.specs.Forget.{Forgets}
 use Rattle.flutejoin.specs.Info.{AddsFacts, InfoFails}
+use Rattle.flutejoin.specs.JoinInputs.{AreInputs}
 use Rattle.flutejoin.specs.Joined.{choice_of}
 use Rattle.flutejoin.specs.Joining.{JoinsTo, JoinToFails, NamesOneOf}
 use Rattle.flutejoin.specs.Lines.{count_line}
-use Rattle.flutejoin.specs.Sources.{AreBegun}
-use Rattle.flutejoin.specs.declared.begun_source.BegunSource.{BegunSource}
+use Rattle.flutejoin.specs.declared.forget.ForgetCounts.{ForgetCounts}
 use Rattle.flutejoin.specs.declared.join_counts.JoinCounts.{JoinCounts}
+use Rattle.flutejoin.specs.declared.join_input.JoinInput.{JoinInput}
 use Rattle.flutejoin.specs.declared.command_fault.CommandFault.{CommandFault}
-use Rattle.flutejoin.specs.declared.command_fault.CommandFault.TheVariants.{CannotWrite, OutOfMemory}
+use Rattle.flutejoin.specs.declared.command_fault.CommandFault.TheVariants.{CannotWrite}
 
 -- the one line of a command that tells how many bytes or datagrams it wrote
 abbrev pub bytes_line : ℕ → List ℕ
@@ -37,18 +41,28 @@ join_lines sessions counts =
     else count_line (codes "others") counts.others)
     ++ count_line (codes "entries") counts.entries
 
+-- the lines of a journal of which entries were forgotten
+abbrev pub forget_lines : ForgetCounts → List ℕ
+forget_lines counts =
+    count_line (codes "forgotten") counts.forgotten ++ count_line (codes "entries") counts.entries
+
+-- what a journal is without what is selected
+abbrev pub ForgetsIn : Option (List ℕ) → Selection → ForgetCounts → Option (List ℕ)
+    → Option (List ℕ) → Type 0
+ForgetsIn input selection counts old new = Forgets selection counts input old new
+
 module _ {R : Type 0} (unread : R → Option (List ℕ)) where
-  -- what these sources have, joined
-  abbrev pub JoinsAll : ℕ → Sessions → List (BegunSource R) → JoinCounts
+  -- what these inputs are, joined
+  abbrev pub JoinsAll : ℕ → Sessions → List (JoinInput R) → JoinCounts
       → Option (List ℕ) → Option (List ℕ) → Type 0
   JoinsAll sender sessions inputs counts old new =
-      (contents : List (List ℕ)) → AreBegun unread inputs contents
+      (contents : List (List ℕ)) → AreInputs unread inputs contents
       → JoinsTo (choice_of sender sessions) contents counts old new
 
-  abbrev pub JoinAllFails : ℕ → Sessions → List (BegunSource R) → CommandFault → Type 0
+  abbrev pub JoinAllFails : ℕ → Sessions → List (JoinInput R) → CommandFault → Type 0
   JoinAllFails sender sessions inputs fault =
-      ((contents : List (List ℕ)) → AreBegun unread inputs contents
-      → (fault ≡ OutOfMemory) ⊎ JoinToFails (choice_of sender sessions) contents fault)
+      ((contents : List (List ℕ)) → AreInputs unread inputs contents
+      → JoinToFails (choice_of sender sessions) contents fault)
       × NamesOneOf (length inputs) fault
 
 -- the journal was read to its end, and the object that it makes whole was written: the same
@@ -56,7 +70,8 @@ module _ {R : Type 0} (unread : R → Option (List ℕ)) where
 abbrev pub WritesObject : Option (List ℕ) → Key → ℕ → Option (List ℕ) → Option (List ℕ) → Type 0
 WritesObject input key n old new =
     (left : Option (List ℕ)) × ((others : List Fact)
-    → AnswersFrom input left (λ F. Same F others → Extracts (λ x. x) others key old new (Ok n)) (Ok n))
+    → AnswersFrom input left (λ F. Same F others → Extracts (λ x. x) others key old new (Ok n))
+    (Ok n))
 
 -- why no object is whole in the journal: the same as in any other facts with the same values
 abbrev pub ExtractFails : Option (List ℕ) → Key → CommandFault → Type 0

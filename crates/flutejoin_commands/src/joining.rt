@@ -9,17 +9,16 @@ use crate::work::Work;
 use flute_journal::Sessions;
 use flute_output::Folder;
 use flute_parts::{Sender, Sink, Source};
-use flutejoin::{BegunSource, CommandFault, JoinCounts, Text, join_sources};
+use flutejoin::{CommandFault, JoinCounts, JoinInput, Text, join_to};
 use std::alloc::Global;
-use std::mem;
 
-/// Joins what sources tell, of each of which the first bytes were read.
+/// Joins inputs.
 #[derive(Drop)]
 pub struct JoinWork<R> {
     pub alloc: Global,
     pub sender: Sender,
     pub sessions: Sessions,
-    pub inputs: Vec<BegunSource<R>>,
+    pub inputs: Vec<JoinInput<R>>,
     pub ghost few: { length inputs.items ≤ 64 },
 }
 
@@ -35,8 +34,8 @@ impl<R: Source + Drop> Work for JoinWork<R> {
     ghost clears = { λ w. CouldBeDone (JoinsAll R.unread w.sender w.sessions w.inputs.items) };
 
     fn write<W: Sink>(&mut self, sink: &mut W) -> Result<JoinCounts, CommandFault> {
-        let inputs = mem::replace(&mut self.inputs, Vec::new(self.alloc));
-        join_sources(self.alloc, self.sender, &self.sessions, inputs, sink)
+        let inputs = &mut self.inputs;
+        join_to(self.alloc, self.sender, &self.sessions, inputs, sink)
     }
 
     fn without_output(&mut self, reason: CommandFault) -> CommandFault {
@@ -60,7 +59,7 @@ impl<R: Source + Drop> Work for JoinWork<R> {
 ///
 /// # Errors
 ///
-/// Those of [`join_sources`](flutejoin::join_sources), then `CannotCreate`, then `CannotWrite`, as
+/// Those of [`join_to`], then `CannotCreate`, then `CannotWrite`, as
 /// [`write_into`] says.
 pub fn join_into<F: Folder + Drop, R: Source + Drop, P: Sink>(
     folder: F,

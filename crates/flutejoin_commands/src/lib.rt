@@ -7,51 +7,79 @@
 //! [`write_held`]. [`show_on`], [`gaps_on`] and [`packet_on`] print, and [`open_inputs`] opens
 //! inputs by their names.
 //!
-//! Two journals, merged (from `flutejoin_cli`):
+//! Where an output is at a name, [`leave`] does one of these with what the name leads to, in a
+//! [`World`]; [`join`], [`merge`], [`info`], [`extract`], [`carousel`], [`show`], [`gaps`] and
+//! [`extract_all`] are told by names alone, and [`run`] by the words of a command line.
+//!
+//! Two journals, merged (from `commands.rt`):
 //!
 //! ```
-//! let mut work = MergeWork {
+//! world.look(out);
+//! let (first, second) = open_two(world, a, b)?;
+//! world.guard(out, overwrites)?;
+//! let work = MergeWork {
 //!     alloc,
 //!     first,
 //!     second,
 //! };
-//! match place_at(rt, out, inputs.files()) {
-//!     Place::File(folder, mut report) => merge_into(folder, work, &mut report).0,
-//!     Place::Through(mut output, mut report) => write_through(&mut output, work, &mut report),
-//!     Place::Nowhere(fault) => Err(work.without_output(fault)),
-//! }
+//! leave(world, out, work, output, errors)
 //! ```
 #![tactic(auto)]
 
 mod adding;
+mod adding_list;
 mod begun_output;
+mod changes;
+mod commands;
+mod device_outlet;
 mod extracting;
+mod extracting_all;
+mod forgetting;
 mod joining;
+mod leaving;
 mod memory_report;
+mod memory_world;
 mod merging;
+mod named_bytes;
 mod nothing;
 mod opening;
 mod outlet;
 mod outlet_command;
 mod output_command;
+mod owned_source;
 mod printing;
+mod prints;
 mod report;
+mod running;
 mod sending;
 mod std_report;
+mod told;
 mod work;
+mod world;
 
 pub use adding::{InfoWork, info_into};
+pub use adding_list::{InfoListWork, info_list_into};
+pub use commands::{carousel, extract, forget, info, info_list, join, merge};
 pub use extracting::{ExtractWork, extract_into};
+pub use extracting_all::extract_all_into;
+pub use forgetting::{ForgetWork, forget_into};
 pub use joining::{JoinWork, join_into};
+pub use leaving::{leave, leave_held};
 pub use memory_report::MemoryReport;
+pub use memory_world::MemoryWorld;
 pub use merging::{MergeWork, merge_into};
+pub use named_bytes::NamedBytes;
 pub use nothing::{Nothing, fault_or};
 pub use opening::{Inputs, NotOpened, open_input, open_inputs, open_two};
 pub use outlet::Outlet;
 pub use outlet_command::{write_held, write_through};
 pub use output_command::write_into;
-pub use printing::{gaps_on, packet_on, show_on};
+pub use owned_source::OwnedSource;
+pub use printing::{gaps_on, hand_on, packet_on, show_on};
+pub use prints::{extract_all, gaps, packet, show};
 pub use report::Report;
+pub use running::run;
 pub use sending::{SendWork, carousel_into};
 pub use std_report::StdReport;
 pub use work::Work;
+pub use world::World;

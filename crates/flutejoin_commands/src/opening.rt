@@ -1,11 +1,12 @@
 //! The inputs of a command, opened by their names.
-ghost use Rattle.std.specs.Prelude.{◌≡◌, ◌⊎◌, List, ℕ, Bool, IsTrue, Err, length, map, IfOk, IfErr};
+ghost use Rattle.std.specs.Prelude.{◌≡◌, ◌≤◌, ◌⊎◌, ◌+◌, ℕ, Option, Err, length, map, OnOk, IfOk, IfErr};
 ghost use Rattle.flutejoin.specs.declared.command_fault.CommandFault.TheVariants.{OutOfMemory, CannotOpen};
+ghost use Rattle.flutejoin_commands.specs.Files.{Files, HasBytes, IsNoFile};
 ghost use Rattle.flutejoin_commands.specs.Opened.{AreOpened, IsOpened, IsNotOpened, FirstNotOpened};
 
 use flute_journal::ReadFault;
 use flute_parts::Source;
-use flutejoin::{BegunSource, CommandFault, FirstBytes};
+use flutejoin::{CommandFault, JoinInput};
 use std::alloc::Global;
 
 /// Why an input is not opened.
@@ -21,22 +22,24 @@ pub enum NotOpened {
 pub trait Inputs {
     type Input: Source + Drop;
 
-    // Whether the source is what the name leads to.
-    ghost opens: { Self → List ℕ → Self.Input → Bool };
+    // The files that the names lead to, if that is told.
+    ghost files: { Self → Option Files };
 
-    // Whether the name is refused.
-    ghost refuses: { Self → List ℕ → Bool };
+    // How often an input was to be opened so far.
+    ghost asked: { Self → ℕ };
 
-    /// Opens the input with this name.
+    /// Opens the input with this name: it gives the bytes that the name has. It is one of so many
+    /// that are read together, and share the memory for reading.
     ///
     /// # Errors
     ///
     /// If it is refused, or there is no memory.
-    fn open(&mut self, path: &str) -> Result<Self::Input, NotOpened>
-        ensures opened { IfOk result (λ input. IsTrue (opens self.old path.now input)) }
-        ensures refused { result ≡ Err NotOpened.Refused → IsTrue (refuses self.old path.now) }
-        ensures same_opened { opens self.new ≡ opens self.old }
-        ensures same_refused { refuses self.new ≡ refuses self.old };
+    fn open(&mut self, path: &str, among: usize) -> Result<Self::Input, NotOpened>
+        ensures opened { IfOk result
+            (λ input. HasBytes (files self.old) path.now (Self.Input.unread input)) }
+        ensures refused { result ≡ Err NotOpened.Refused → IsNoFile (files self.old) path.now }
+        ensures same_files { files self.new ≡ files self.old }
+        ensures asked { asked self.new ≡ asked self.old + 1 };
 }
 
 /// Opens the input with this number, from 1.
@@ -49,14 +52,33 @@ pub fn open_input<I: Inputs>(
     number: usize,
     path: &str,
 ) -> Result<I::Input, CommandFault>
-    ensures opened { IfOk result (λ input. IsTrue (I.opens inputs.old path.now input)) }
+    ensures opened { IfOk result
+        (λ input. HasBytes (I.files inputs.old) path.now (I.Input.unread input)) }
     ensures failed { IfErr result (λ fault.
-        ((fault ≡ CannotOpen number) × IsTrue (I.refuses inputs.old path.now))
+        ((fault ≡ CannotOpen number) × IsNoFile (I.files inputs.old) path.now)
         ⊎ (fault ≡ OutOfMemory)) }
-    ensures same_opened { I.opens inputs.new ≡ I.opens inputs.old }
-    ensures same_refused { I.refuses inputs.new ≡ I.refuses inputs.old }
+    ensures same_files { I.files inputs.new ≡ I.files inputs.old }
+    ensures asked { I.asked inputs.new ≡ I.asked inputs.old + 1 }
 {
-    match inputs.open(path) {
+    open_among(inputs, 1, number, path)
+}
+
+// Opens the input with this number, from 1, one of so many that are read together.
+fn open_among<I: Inputs>(
+    inputs: &mut I,
+    among: usize,
+    number: usize,
+    path: &str,
+) -> Result<I::Input, CommandFault>
+    ensures opened { IfOk result
+        (λ input. HasBytes (I.files inputs.old) path.now (I.Input.unread input)) }
+    ensures failed { IfErr result (λ fault.
+        ((fault ≡ CannotOpen number) × IsNoFile (I.files inputs.old) path.now)
+        ⊎ (fault ≡ OutOfMemory)) }
+    ensures same_files { I.files inputs.new ≡ I.files inputs.old }
+    ensures asked { I.asked inputs.new ≡ I.asked inputs.old + 1 }
+{
+    match inputs.open(path, among) {
         Ok(source) => Ok(source),
         Err(NotOpened::Refused) => Err(CommandFault::CannotOpen(number)),
         Err(NotOpened::OutOfMemory) => Err(CommandFault::OutOfMemory),
@@ -74,13 +96,16 @@ pub fn open_two<I: Inputs>(
     second: &str,
 ) -> Result<(I::Input, I::Input), CommandFault>
     ensures opened { IfOk result (λ both.
-        IsTrue (I.opens inputs.old first.now both.0)
-        × IsTrue (I.opens inputs.old second.now both.1)) }
+        HasBytes (I.files inputs.old) first.now (I.Input.unread both.0)
+        × HasBytes (I.files inputs.old) second.now (I.Input.unread both.1)) }
     ensures failed { IfErr result (λ fault.
-        ((fault ≡ CannotOpen 1) × IsTrue (I.refuses inputs.old first.now))
-        ⊎ (((fault ≡ CannotOpen 2) × IsTrue (I.refuses inputs.old second.now)
-        × ((source : I.Input) × IsTrue (I.opens inputs.old first.now source)))
+        ((fault ≡ CannotOpen 1) × IsNoFile (I.files inputs.old) first.now)
+        ⊎ (((fault ≡ CannotOpen 2) × IsNoFile (I.files inputs.old) second.now
+        × ((source : I.Input) × HasBytes (I.files inputs.old) first.now (I.Input.unread source)))
         ⊎ (fault ≡ OutOfMemory))) }
+    ensures same_files { I.files inputs.new ≡ I.files inputs.old }
+    ensures each_once { OnOk result (I.asked inputs.new ≡ I.asked inputs.old + 2) }
+    ensures at_most { I.asked inputs.new ≤ I.asked inputs.old + 2 }
 {
     let opened = open_input(inputs, 1, first)?;
     match open_input(inputs, 2, second) {
@@ -89,48 +114,55 @@ pub fn open_two<I: Inputs>(
     }
 }
 
-/// Opens inputs, and reads the first bytes of each before the next is opened.
+/// Opens the inputs of a join, and reads the first bytes of each before the next is opened.
 ///
 /// # Errors
 ///
-/// The first that is met, with the number of its input, from 1: `CannotOpen`, or `Input` with `Read`
-/// if the source failed. `OutOfMemory` if there was none.
+/// The first that is met, with the number of its input, from 1: `CannotOpen`, or `Input` with
+/// `Read` if the source failed. `OutOfMemory` if there was none.
 pub fn open_inputs<I: Inputs>(
     inputs: &mut I,
     alloc: Global,
     paths: &[&str],
-) -> Result<Vec<BegunSource<I::Input>>, CommandFault>
-    ensures opened { IfOk result (λ opened. AreOpened (I.opens inputs.old) I.Input.unread
+) -> Result<Vec<JoinInput<I::Input>>, CommandFault>
+    ensures opened { IfOk result (λ opened. AreOpened (I.files inputs.old) I.Input.unread
         (map (λ path. path.now) paths.now) opened.items) }
     ensures failed { IfErr result (λ fault.
-        FirstNotOpened (I.opens inputs.old) I.Input.unread (I.refuses inputs.old)
-        (map (λ path. path.now) paths.now) fault
+        FirstNotOpened (I.files inputs.old) I.Input.unread (map (λ path. path.now) paths.now)
+        (I.asked inputs.old) (I.asked inputs.new) fault
         ⊎ (fault ≡ OutOfMemory)) }
+    ensures same_files { I.files inputs.new ≡ I.files inputs.old }
     ensures count { IfOk result (λ opened. length opened.items ≡ length paths.now) }
+    ensures each_once { OnOk result
+        (I.asked inputs.new ≡ I.asked inputs.old + length paths.now) }
+    ensures at_most { I.asked inputs.new ≤ I.asked inputs.old + length paths.now }
 {
     let mut opened = Vec::new(alloc);
     for (k, path) in paths.iter().enumerate() {
-        let begun = open_begun(inputs, k + 1, path)?;
-        opened.push(begun).map_err(|_| CommandFault::OutOfMemory)?;
+        let input = open_one(inputs, paths.len(), k + 1, path)?;
+        if opened.push(input).is_err() {
+            return Err(CommandFault::OutOfMemory);
+        }
     }
     Ok(opened)
 }
 
-// Opens the input with this number, and reads its first bytes.
-fn open_begun<I: Inputs>(
+// Opens the input with this number, one of so many, and reads its first bytes.
+fn open_one<I: Inputs>(
     inputs: &mut I,
+    among: usize,
     number: usize,
     path: &str,
-) -> Result<BegunSource<I::Input>, CommandFault>
-    ensures opened { IfOk result (IsOpened (I.opens inputs.old) I.Input.unread path.now) }
-    ensures failed { IfErr result (IsNotOpened (I.opens inputs.old) I.Input.unread
-        (I.refuses inputs.old) number path.now) }
-    ensures same_opened { I.opens inputs.new ≡ I.opens inputs.old }
-    ensures same_refused { I.refuses inputs.new ≡ I.refuses inputs.old }
+) -> Result<JoinInput<I::Input>, CommandFault>
+    ensures opened { IfOk result (IsOpened (I.files inputs.old) I.Input.unread path.now) }
+    ensures failed { IfErr result (IsNotOpened (I.files inputs.old) I.Input.unread
+        number path.now) }
+    ensures same_files { I.files inputs.new ≡ I.files inputs.old }
+    ensures asked { I.asked inputs.new ≡ I.asked inputs.old + 1 }
 {
-    let mut source = open_input(inputs, number, path)?;
-    match FirstBytes::read(&mut source) {
-        Ok(first) => Ok(BegunSource { first, source }),
+    let source = open_among(inputs, among, number, path)?;
+    match JoinInput::open(source) {
+        Ok(input) => Ok(input),
         Err(_) => Err(CommandFault::Input(number, ReadFault::Read)),
     }
 }

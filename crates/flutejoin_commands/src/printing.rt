@@ -1,6 +1,7 @@
 //! The commands that print and write no file.
-ghost use Rattle.std.specs.Prelude.{◌≡◌, ◌⊎◌, ◌<◌, ◌≤◌, Err, OnOk, OnErr, IfErr};
-ghost use Rattle.std.specs.Io.KnownBytes.{Appends};
+ghost use Rattle.std.specs.Prelude.{◌≡◌, ◌≢◌, ◌⊎◌, ◌<◌, ◌≤◌, ◌+◌, [], Some, Err, OnOk, OnErr, IfErr};
+ghost use Rattle.std.specs.Io.KnownBytes.{Appends, IsAtEnd};
+ghost use Rattle.flute_parts.specs.Devices.{AppendsPart};
 ghost use Rattle.flutejoin.specs.Gaps.{ListsJournal, GapsFail};
 ghost use Rattle.flutejoin.specs.Packet.{HasLines, FailsWith};
 ghost use Rattle.flutejoin.specs.Show.{ShowsAll, ShowFails};
@@ -9,7 +10,7 @@ ghost use Rattle.flutejoin_commands.specs.Prints.{IsHandedOn, FailsToFlush};
 
 use crate::report::Report;
 use flute_parts::Source;
-use flutejoin::{CommandFault, gaps_from, packet_to, show_to};
+use flutejoin::{Aside, CommandFault, gaps_from, packet_to, show_to};
 use std::alloc::Global;
 
 /// Prints what a journal holds, as [`show_to`] writes it, and hands it on: after a fault of the
@@ -37,34 +38,47 @@ pub fn show_on<R: Source, P: Report>(
         → P.failures report.old < P.failures report.new) }
 {
     let shown = show_to(alloc, source, report);
-    flush_after(report, shown)
+    hand_on(report, shown)
 }
 
 /// Prints what is missing of the objects of a journal, as [`gaps_from`] writes it, and hands it on.
+/// The lines are put aside as `lines` and `gap_lines`, which are empty at first.
 ///
 /// # Errors
 ///
 /// Those of [`gaps_from`]; or `CannotWrite` if all was written and not handed on.
-pub fn gaps_on<R: Source, P: Report>(
+pub fn gaps_on<R: Source, A: Aside, P: Report>(
     alloc: Global,
     source: &mut R,
+    lines: &mut A,
+    gap_lines: &mut A,
     report: &mut P,
 ) -> Result<(), CommandFault>
-    ensures listed { OnOk result (ListsJournal (R.unread source.old)
+    ensures listed { A.written lines.old ≡ Some [] → A.written gap_lines.old ≡ Some []
+        → OnOk result (ListsJournal (R.unread source.old)
         (Appends (P.written report.old) (P.written report.new))) }
     ensures failed { IfErr result (λ fault.
-        GapsFail (R.unread source.old) (R.unread source.new)
-        (P.written report.old) (P.written report.new) fault
-        ⊎ FailsToFlush (ListsJournal (R.unread source.old)
-        (Appends (P.written report.old) (P.written report.new))) fault) }
-    ensures flushed { IsHandedOn (P.failures report.old) (P.failures report.new)
-        (P.written report.new) (P.handed_on report.new) }
-    ensures quiet { OnOk result (P.failures report.new ≡ P.failures report.old) }
+        GapsFail (R.unread source.old) (R.unread source.new) fault
+        ⊎ FailsToFlush (IsAtEnd (R.unread source.new)) fault) }
+    ensures part { A.written lines.old ≡ Some [] → A.written gap_lines.old ≡ Some []
+        → IfErr result (λ fault. fault ≡ CannotWrite
+        → (P.written report.new ≡ P.written report.old)
+        ⊎ (ListsJournal (R.unread source.old)
+        (AppendsPart (P.written report.old) (P.written report.new))
+        ⊎ ListsJournal (R.unread source.old)
+        (Appends (P.written report.old) (P.written report.new)))) }
+    ensures kept { IfErr result (λ fault. fault ≢ CannotWrite
+        → P.written report.new ≡ P.written report.old) }
+    ensures handed_on { OnOk result (P.handed_on report.new ≡ P.written report.new) }
+    ensures quiet { OnOk result
+        (A.failures lines.new + A.failures gap_lines.new + P.failures report.new
+        ≡ A.failures lines.old + A.failures gap_lines.old + P.failures report.old) }
     ensures cause { IfErr result (λ fault. fault ≡ CannotWrite
-        → P.failures report.old < P.failures report.new) }
+        → A.failures lines.old + A.failures gap_lines.old + P.failures report.old
+        < A.failures lines.new + A.failures gap_lines.new + P.failures report.new) }
 {
-    let listed = gaps_from(alloc, source, report);
-    flush_after(report, listed)
+    let listed = gaps_from(alloc, source, lines, gap_lines, report);
+    hand_on(report, listed)
 }
 
 /// Prints what a datagram says, as [`packet_to`] writes it, and hands it on.
@@ -86,11 +100,15 @@ pub fn packet_on<P: Report>(alloc: Global, text: &str, report: &mut P) -> Result
         → P.failures report.old < P.failures report.new) }
 {
     let printed = packet_to(alloc, text, report);
-    flush_after(report, printed)
+    hand_on(report, printed)
 }
 
-// Hands on what was printed. The fault of the work comes first.
-fn flush_after<P: Report>(
+/// Hands on what was printed.
+///
+/// # Errors
+///
+/// The fault of the work, which comes first; `CannotWrite` if the report failed.
+pub fn hand_on<P: Report>(
     report: &mut P,
     done: Result<(), CommandFault>,
 ) -> Result<(), CommandFault>

@@ -1,7 +1,7 @@
 //! Streams of each kind, merged.
 
 use super::*;
-use flute_parts::{Fact, MemorySink, MemorySource};
+use flute_parts::{Fact, MemorySink, MemorySource, SymbolId};
 use test_vectors::bytes;
 use test_vectors::journals::WHOLE;
 
@@ -29,9 +29,9 @@ fn a_journal_and_a_store_are_merged(rt: HostRuntime) -> Result<(), Fail> {
     Ok(())
 }
 
-/// One within limits, and one of which a session is taken.
+/// One whole, and one of which a session is taken.
 #[test]
-fn limited_and_chosen_journals_are_merged(rt: HostRuntime) -> Result<(), Fail> {
+fn whole_and_chosen_journals_are_merged(rt: HostRuntime) -> Result<(), Fail> {
     let whole = bytes(rt.alloc(), WHOLE)?;
     let mut first = MemorySource::new(&whole);
     let mut second = MemorySource::new(&whole);
@@ -39,35 +39,69 @@ fn limited_and_chosen_journals_are_merged(rt: HostRuntime) -> Result<(), Fail> {
     assert!(rt; sessions.add(7));
     assert!(rt; sessions.takes(7));
     assert!(rt; !sessions.is_all());
-    let mut limited = Within::<4, 4, 4, _>::new(JournalStream::new(&mut first, MANY));
+    let mut all = JournalStream::new(&mut first, MANY);
     let mut chosen = Chosen::new(JournalStream::new(&mut second, MANY), sessions);
     let mut sink = MemorySink::new(rt.alloc());
-    let joined = merge_two::<4, 4, 4, _, _, _>(rt.alloc(), &mut limited, &mut chosen, &mut sink)?;
+    let joined = merge_two::<4, 4, 4, _, _, _>(rt.alloc(), &mut all, &mut chosen, &mut sink)?;
     assert!(rt; joined.entries == 3);
     Ok(())
 }
 
-/// A fact in the place of a journal that is with its source.
+/// One of which a symbol is left out.
 #[test]
-fn a_fact_in_the_place_of_a_journal_is_joined(rt: HostRuntime) -> Result<(), Fail> {
+fn a_journal_is_written_without_a_symbol(rt: HostRuntime) -> Result<(), Fail> {
+    let whole = bytes(rt.alloc(), WHOLE)?;
+    let mut selection = Selection::all();
+    assert!(rt; selection.is_all());
+    selection.symbol = Some(SymbolId { sbn: 0, esi: 1 });
     let key = file().ok_or("a key")?;
-    let mut journals = [OwnedJournalStream::new(MemorySource::new(&[]), MANY)];
-    let mut facts = [Some(FactStream::new(Fact::InfoConflict { key }))];
-    let mut all = Replaced::new(&mut journals, &mut facts);
+    assert!(rt; !selection.selects(&Fact::InfoConflict { key }.as_ref()));
+    let journal = OwnedJournalStream::new(MemorySource::new(&whole), MANY);
+    let mut rest = Chosen::new(journal, AllBut(selection));
     let mut sink = MemorySink::new(rt.alloc());
-    let joined = join_streams::<4, 4, 4, _, _>(rt.alloc(), &mut all, &mut sink)?;
-    assert!(rt; joined.entries == 1);
+    assert!(rt; write_stream(rt.alloc(), &mut rest, &mut sink)? == 2);
+    assert!(rt; rest.others == 1);
     Ok(())
 }
 
-/// Behind one that ends.
+/// What is selected of one, alone.
 #[test]
-fn a_full_stream_is_told(rt: HostRuntime) -> Result<(), Fail> {
+fn selected_facts_are_merged(rt: HostRuntime) -> Result<(), Fail> {
+    let whole = bytes(rt.alloc(), WHOLE)?;
+    let journal = OwnedJournalStream::new(MemorySource::new(&whole), MANY);
+    let mut selected = Chosen::new(journal, Selection::all());
+    let mut one = One {
+        stream: &mut selected,
+    };
+    let mut sink = MemorySink::new(rt.alloc());
+    let joined = merge_all::<4, 4, 4, _, _>(rt.alloc(), &mut one, &mut sink)?;
+    assert!(rt; joined.entries == 3);
+    Ok(())
+}
+
+/// A fact, and a journal that is with its source.
+#[test]
+fn a_fact_and_a_journal_are_chained(rt: HostRuntime) -> Result<(), Fail> {
     let key = file().ok_or("a key")?;
-    let fact = FactStream::new(Fact::InfoConflict { key });
-    let mut streams = [OrFull::of(fact), OrFull::full()];
+    let whole = bytes(rt.alloc(), WHOLE)?;
+    let mut journals = [OwnedJournalStream::new(MemorySource::new(&whole), MANY)];
+    let mut fact = FactStream::new(Fact::InfoConflict { key });
+    let all = Chained::new(&mut fact, &mut journals);
+    assert!(rt; all.count() == 2);
+    Ok(())
+}
+
+/// A fact twice.
+#[test]
+fn two_facts_are_joined(rt: HostRuntime) -> Result<(), Fail> {
+    let first = file().ok_or("a key")?;
+    let second = file().ok_or("a key")?;
+    let first = FactStream::new(Fact::InfoConflict { key: first });
+    let second = FactStream::new(Fact::InfoConflict { key: second });
+    let mut streams = [first, second];
     let mut all = Slice::new(&mut streams);
     let mut sink = MemorySink::new(rt.alloc());
-    assert!(rt; join_streams::<1, 1, 1, _, _>(rt.alloc(), &mut all, &mut sink).is_err());
+    let joined = join_streams::<4, 4, 4, _, _>(rt.alloc(), &mut all, &mut sink)?;
+    assert!(rt; joined.entries == 1);
     Ok(())
 }

@@ -1,10 +1,11 @@
 //! What commands write.
 
 use super::*;
-use flute_parts::{Info, MemorySink, MemorySource};
+use flute_journal::Selection;
+use flute_parts::{Info, MemorySink, MemorySource, SymbolId};
 use flutejoin::{
-    CommandFault, Line, extract_to, gaps_from, gaps_to, info_to, line_of, load, merge_to,
-    packet_to, save_to, sender_of, show_to,
+    CommandFault, Line, MemoryAside, extract_to, forget_input, forget_to, gaps_from, gaps_to,
+    info_to, line_of, load, merge_to, packet_to, save_to, sender_of, show_to,
 };
 use test_vectors::{bytes, journals};
 
@@ -52,7 +53,16 @@ fn a_journal_is_loaded(rt: HostRuntime) -> Result<(), Fail> {
 fn gaps_are_printed_as_the_journal_is_read(rt: HostRuntime) -> Result<(), Fail> {
     let journal = bytes(rt.alloc(), journals::WHOLE)?;
     let mut sink = MemorySink::new(rt.alloc());
-    gaps_from(rt.alloc(), &mut MemorySource::new(&journal), &mut sink)?;
+    let mut lines = MemoryAside::new(rt.alloc());
+    let mut gap_lines = MemoryAside::new(rt.alloc());
+    let mut source = MemorySource::new(&journal);
+    gaps_from(
+        rt.alloc(),
+        &mut source,
+        &mut lines,
+        &mut gap_lines,
+        &mut sink,
+    )?;
     assert!(rt; !sink.as_slice().is_empty());
     Ok(())
 }
@@ -85,6 +95,18 @@ fn journals_are_merged(rt: HostRuntime) -> Result<(), Fail> {
     let mut second = MemorySource::new(&journal);
     let mut sink = MemorySink::new(rt.alloc());
     assert!(rt; merge_to(rt.alloc(), &mut first, &mut second, &mut sink)? == 3);
+    Ok(())
+}
+
+#[test]
+fn a_symbol_is_forgotten(rt: HostRuntime) -> Result<(), Fail> {
+    let journal = bytes(rt.alloc(), journals::WHOLE)?;
+    let mut selection = Selection::all();
+    selection.symbol = Some(SymbolId { sbn: 0, esi: 1 });
+    let mut input = forget_input(MemorySource::new(&journal), selection);
+    let mut sink = MemorySink::new(rt.alloc());
+    let counts = forget_to(rt.alloc(), &mut input, &mut sink)?;
+    assert!(rt; counts.forgotten == 1 && counts.entries == 2);
     Ok(())
 }
 

@@ -3,7 +3,8 @@
 use super::*;
 use flute_journal::Sessions;
 use flute_parts::{MemorySink, MemorySource};
-use flutejoin::{BegunSource, Blob, FirstBytes, MAX_INPUTS, join_inputs, join_sources};
+use flutejoin::{Blob, JoinCounts, JoinInput, MAX_INPUTS, join_inputs, join_to};
+use std::alloc::Global;
 use test_vectors::{bytes, journals};
 
 #[test]
@@ -18,16 +19,19 @@ fn inputs_in_memory_are_joined(rt: HostRuntime) -> Result<(), Fail> {
 #[test]
 fn inputs_that_are_read_are_joined(rt: HostRuntime) -> Result<(), Fail> {
     let file = bytes(rt.alloc(), journals::DATAGRAMS)?;
-    let mut source = MemorySource::new(&file);
-    let first = FirstBytes::read(&mut source)?;
-    let mut sources = Vec::new(rt.alloc());
-    sources.push(BegunSource { first, source })?;
-    if sources.len() > MAX_INPUTS {
-        return Err(Fail::from("too many inputs"));
-    }
     let mut sink = MemorySink::new(rt.alloc());
-    let all = Sessions::all();
-    let counts = join_sources(rt.alloc(), Sender::new(0), &all, sources, &mut sink)?;
+    let counts = join_file(rt.alloc(), file.as_slice(), &mut sink)?;
     assert!(rt; counts.datagrams == 2);
     Ok(())
+}
+
+// Joins one input alone.
+fn join_file(alloc: Global, file: &[u8], sink: &mut MemorySink) -> Result<JoinCounts, Fail> {
+    let mut inputs = Vec::new(alloc);
+    inputs.push(JoinInput::open(MemorySource::new(file))?)?;
+    if inputs.len() > MAX_INPUTS {
+        return Err(Fail::from("too many inputs"));
+    }
+    let counts = join_to(alloc, Sender::new(0), &Sessions::all(), &mut inputs, sink)?;
+    Ok(counts)
 }

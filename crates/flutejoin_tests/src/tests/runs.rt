@@ -68,4 +68,5 @@ fn laws_stand() {
     laws::the_same_facts_make_the_same();
     laws::runs_leave_what_was_given();
     laws::equal_journals_mean_one_content();
+    laws::forgetting_leaves_the_rest();
 }

@@ -1,5 +1,5 @@
 use Rattle.std.proofs.Common.{refl}
-use Rattle.flutejoin.specs.CommandLine.{found_rows}
+use Rattle.flutejoin.specs.Options.{found_rows}
 use Rattle.flutejoin.proofs.CommandWords.{words_read}
 use Rattle.flutejoin.proofs.JoinLines.{inputs_taken, not_joined}
 use Rattle.flutejoin.proofs.Options.{handed_on}

@@ -4,4 +4,6 @@ use Rattle.flutejoin.proofs.Inspections.{InspectedSoFar}
 use Rattle.flutejoin.proofs.inspecting.inspect_all.Given as goal
 
 abbrev pub invariant-loop-k : goal.invariant-loop-k
-invariant-loop-k g l = InspectedSoFar (choice_of l.fn.sender l.fn.sessions) g.R.Source.unread g.R.Source.failures l.fn.inputs l.inputs l.inspected l.k
+invariant-loop-k g l =
+    InspectedSoFar (choice_of l.fn.sender l.fn.sessions) g.R.Source.unread g.R.Source.failures
+    l.fn.inputs l.inputs l.held l.k

@@ -1,81 +1,115 @@
 -- Each exit is a lemma on the streams.
-use Rattle.std.proofs.Common.{Some, sym, ap, ◌∙◌, length, arith}
-use Rattle.std.proofs.lemmas.Option.{slice_get-get_or}
+use Rattle.std.proofs.Common.{ap, ◌∙◌, arith, length}
 use Rattle.flute_journal.specs.Listed.{listed_behaviour}
 use Rattle.flute_journal.specs.Streams.{fact_in}
-use Rattle.flutejoin.specs.Joined.{everything}
-use Rattle.flutejoin.specs.Joining.{of_inputs}
-use Rattle.flutejoin.proofs.JoinStreams.{all_new, all_few}
-use Rattle.flutejoin.proofs.JoinStops.{nothing_appended, one_more, pushed, stands_of, others_many, joins_inspected, none_failed, first_fails, first_within, first_wants_nothing, names_one, read_failed, known_of, some_wants}
+use Rattle.flutejoin.proofs.JoinStreams.{IsHeld, is_held, all_new, all_few, joins_inspected}
+use Rattle.flutejoin.proofs.JoinStops.{stops_in, first_fails, names_one, no_memory, no_sink}
+use Rattle.flutejoin.proofs.JoinStops.{none_failed, read_failed}
 use Rattle.flutejoin.proofs.joined_inputs.join_inspected.Goals as goal
 
-pub returns-then-is_err-clause-short : goal.returns-then-is_err-clause-short
-returns-then-is_err-clause-short g c = nothing_appended (g.W.Sink.written c.args.sink.now)
+pub join_chained-requires-clause-new : goal.join_chained-requires-clause-new
+join_chained-requires-clause-new g c =
+    let b = listed_behaviour (λ s. fact_in s.held) (λ s. s.walk) (λ _. Unit {0}) in
+    let is = c.new-walk.ensures.facts ∙ c.walk.ensures.value in
+    let size = ap length is in
+    let held : IsHeld b c.new-walk.result c.args.store.now =
+    is_held (λ s. fact_in s.held) (λ s. s.walk) c.new-walk.result c.args.store.now
+    c.new-walk.ensures.new is (omega (arith, size, c.walk.ensures.few)) in
+    all_new g.R.Source.unread g.R.Source.failures b c.args.inputs.now held c.requires.few
+    c.requires.ready
 
-pub loop-file-preserved : goal.loop-file-preserved
-loop-file-preserved g c =
-    one_more _ c.args.files.now c.loop-file.others.items c.push.new.self.items c.loop-file.file-index _ c.stream_of.result c.loop-file.invariant (slice_get-get_or c.args.files.now c.loop-file.file-index c.file-item.result c.loop-file-test.true ∙ ap Some (sym c.file-item.is)) c.stream_of.ensures
-    (pushed c.push.result c.push.new.self.items c.loop-file.others.items c.stream_of.result (sym c.is_err.ensures.value ∙ c.if-is_err.false) c.push.ensures.items)
-
-pub join_replaced-requires-clause-new : goal.join_replaced-requires-clause-new
-join_replaced-requires-clause-new g c =
-    all_new (everything 0) g.R.Source.unread g.R.Source.failures _ c.args.inputs.now c.args.files.now c.deref_mut.result.now
-    (stands_of (everything 0) g.R.Source.unread g.R.Source.failures c.args.inputs.now c.deref_mut.result.now c.loop-file.invariant (omega (arith, c.loop-file-test.false)) c.requires.ready c.deref_mut.ensures.value)
-
-pub join_replaced-requires-clause-few : goal.join_replaced-requires-clause-few
-join_replaced-requires-clause-few g c =
-    let few =
-    all_few (everything 0) g.R.Source.unread g.R.Source.failures _ c.args.inputs.now c.args.files.now c.deref_mut.result.now
-    (stands_of (everything 0) g.R.Source.unread g.R.Source.failures c.args.inputs.now c.deref_mut.result.now c.loop-file.invariant (omega (arith, c.loop-file-test.false)) c.requires.ready c.deref_mut.ensures.value) in
-    omega (arith, few, c.requires.few)
+pub join_chained-requires-clause-most : goal.join_chained-requires-clause-most
+join_chained-requires-clause-most g c =
+    let b = listed_behaviour (λ s. fact_in s.held) (λ s. s.walk) (λ _. Unit {0}) in
+    let is = c.new-walk.ensures.facts ∙ c.walk.ensures.value in
+    let size = ap length is in
+    let held : IsHeld b c.new-walk.result c.args.store.now =
+    is_held (λ s. fact_in s.held) (λ s. s.walk) c.new-walk.result c.args.store.now
+    c.new-walk.ensures.new is (omega (arith, size, c.walk.ensures.few)) in
+    all_few g.R.Source.unread g.R.Source.failures b c.args.inputs.now held c.requires.few
+    c.requires.ready
 
 pub returns-in-Ok-clause-joined : goal.returns-in-Ok-clause-joined
-returns-in-Ok-clause-joined g c = λ sender contents inspected.
-    let stands =
-    stands_of sender g.R.Source.unread g.R.Source.failures c.args.inputs.now c.deref_mut.result.now c.loop-file.invariant (omega (arith, c.loop-file-test.false)) c.requires.ready c.deref_mut.ensures.value in
-    let many = others_many c.deref_mut.result.now c.loop-file.invariant (omega (arith, c.loop-file-test.false)) c.deref_mut.ensures.value ∙ c.requires.ready.as_many in
-    joins_inspected sender g.R.Source.unread g.R.Source.failures _ c.args.inputs.now c.args.files.now c.deref_mut.result.now c.join_replaced.new.inputs c.join_replaced.new.others contents c.in-Ok.joined _ _ stands c.requires.ready.as_many c.requires.few
-    (c.join_replaced.auto.others ∙ many ∙ sym c.join_replaced.auto.inputs) inspected c.in-Ok.ensures.failures c.in-Ok.ensures.ended
+returns-in-Ok-clause-joined g c = λ choice contents datagrams inspected.
+    let b = listed_behaviour (λ s. fact_in s.held) (λ s. s.walk) (λ _. Unit {0}) in
+    let is = c.new-walk.ensures.facts ∙ c.walk.ensures.value in
+    let size = ap length is in
+    let held : IsHeld b c.new-walk.result c.args.store.now =
+    is_held (λ s. fact_in s.held) (λ s. s.walk) c.new-walk.result c.args.store.now
+    c.new-walk.ensures.new is (omega (arith, size, c.walk.ensures.few)) in
+    joins_inspected g.R.Source.unread g.R.Source.failures b choice c.args.inputs.now
+    c.join_chained.new.inputs contents datagrams c.requires.ready inspected held c.in-Ok.joined _ _
+    c.join_chained.new.first c.requires.few c.join_chained.auto.inputs c.in-Ok.ensures.ended
 
 pub returns-in-Ok-clause-none_failed : goal.returns-in-Ok-clause-none_failed
 returns-in-Ok-clause-none_failed g c =
-    let many = others_many c.deref_mut.result.now c.loop-file.invariant (omega (arith, c.loop-file-test.false)) c.deref_mut.ensures.value ∙ c.requires.ready.as_many in
-    none_failed (everything 0) g.R.Source.unread g.R.Source.failures (listed_behaviour (λ s. fact_in s.held) (λ s. s.walk) (λ _. Unit {0})) c.args.inputs.now c.join_replaced.new.inputs c.deref_mut.result.now c.join_replaced.new.others c.join_replaced.auto.inputs many (c.join_replaced.auto.others ∙ many) c.in-Ok.ensures.failures
+    let b = listed_behaviour (λ s. fact_in s.held) (λ s. s.walk) (λ _. Unit {0}) in
+    none_failed g.R.Source.unread g.R.Source.failures b c.new-walk.result
+    c.join_chained.new.first c.args.inputs.now c.join_chained.new.inputs c.requires.few
+    c.join_chained.auto.inputs c.in-Ok.ensures.failures
 
-pub overflow_add-fault : goal.overflow_add-fault
-overflow_add-fault g c =
-    let stands =
-    stands_of (everything 0) g.R.Source.unread g.R.Source.failures c.args.inputs.now c.deref_mut.result.now c.loop-file.invariant (omega (arith, c.loop-file-test.false)) c.requires.ready c.deref_mut.ensures.value in
-    let within = first_within (everything 0) g.R.Source.unread g.R.Source.failures _ c.args.inputs.now c.args.files.now c.deref_mut.result.now _ c.in-Err.fault stands c.in-Err.ensures.first in
-    omega (arith, within, c.requires.few)
-
-pub returns-clause-failed : goal.returns-clause-failed
-returns-clause-failed g c = λ sender contents inspected.
-    let stands =
-    stands_of sender g.R.Source.unread g.R.Source.failures c.args.inputs.now c.deref_mut.result.now c.loop-file.invariant (omega (arith, c.loop-file-test.false)) c.requires.ready c.deref_mut.ensures.value in
+pub returns-in-Err-clause-failed : goal.returns-in-Err-clause-failed
+returns-in-Err-clause-failed g c = λ choice contents datagrams inspected.
+    let b = listed_behaviour (λ s. fact_in s.held) (λ s. s.walk) (λ _. Unit {0}) in
+    let is = c.new-walk.ensures.facts ∙ c.walk.ensures.value in
+    let size = ap length is in
+    let held : IsHeld b c.new-walk.result c.args.store.now =
+    is_held (λ s. fact_in s.held) (λ s. s.walk) c.new-walk.result c.args.store.now
+    c.new-walk.ensures.new is (omega (arith, size, c.walk.ensures.few)) in
     rw c.load_fault.ensures
-    (first_fails sender g.R.Source.unread g.R.Source.failures _ c.args.inputs.now c.args.files.now c.deref_mut.result.now contents _ c.in-Err.fault stands c.requires.ready.as_many inspected c.in-Err.ensures.first)
+    (first_fails g.R.Source.unread g.R.Source.failures b
+    (stops_in g.R.Source.unread g.R.Source.failures b held c.args.inputs.now
+    c.requires.few _ c.in-Err.fault c.in-Err.ensures.first) choice
+    contents datagrams c.requires.ready inspected)
 
-pub returns-clause-names : goal.returns-clause-names
-returns-clause-names g c =
-    let stands =
-    stands_of (everything 0) g.R.Source.unread g.R.Source.failures c.args.inputs.now c.deref_mut.result.now c.loop-file.invariant (omega (arith, c.loop-file-test.false)) c.requires.ready c.deref_mut.ensures.value in
+pub returns-in-Err-clause-names : goal.returns-in-Err-clause-names
+returns-in-Err-clause-names g c =
+    let b = listed_behaviour (λ s. fact_in s.held) (λ s. s.walk) (λ _. Unit {0}) in
+    let is = c.new-walk.ensures.facts ∙ c.walk.ensures.value in
+    let size = ap length is in
+    let held : IsHeld b c.new-walk.result c.args.store.now =
+    is_held (λ s. fact_in s.held) (λ s. s.walk) c.new-walk.result c.args.store.now
+    c.new-walk.ensures.new is (omega (arith, size, c.walk.ensures.few)) in
     rw c.load_fault.ensures
-    (names_one (length c.args.inputs.now) c.in-Err.fault.number c.in-Err.fault.fault (first_within (everything 0) g.R.Source.unread g.R.Source.failures _ c.args.inputs.now c.args.files.now c.deref_mut.result.now _ c.in-Err.fault stands c.in-Err.ensures.first))
+    (names_one g.R.Source.unread g.R.Source.failures b
+    (stops_in g.R.Source.unread g.R.Source.failures b held c.args.inputs.now
+    c.requires.few _ c.in-Err.fault c.in-Err.ensures.first))
 
-pub returns-clause-read_failed : goal.returns-clause-read_failed
-returns-clause-read_failed g c = λ number e.
-    let stands =
-    stands_of (everything 0) g.R.Source.unread g.R.Source.failures c.args.inputs.now c.deref_mut.result.now c.loop-file.invariant (omega (arith, c.loop-file-test.false)) c.requires.ready c.deref_mut.ensures.value in
-    read_failed (everything 0) g.R.Source.unread g.R.Source.failures _ c.args.inputs.now c.join_replaced.new.inputs c.args.files.now c.deref_mut.result.now c.join_replaced.new.others c.in-Err.fault stands c.in-Err.ensures.first number (sym c.load_fault.ensures ∙ e)
+pub returns-in-Err-clause-no_memory : goal.returns-in-Err-clause-no_memory
+returns-in-Err-clause-no_memory g c =
+    let b = listed_behaviour (λ s. fact_in s.held) (λ s. s.walk) (λ _. Unit {0}) in
+    let is = c.new-walk.ensures.facts ∙ c.walk.ensures.value in
+    let size = ap length is in
+    let held : IsHeld b c.new-walk.result c.args.store.now =
+    is_held (λ s. fact_in s.held) (λ s. s.walk) c.new-walk.result c.args.store.now
+    c.new-walk.ensures.new is (omega (arith, size, c.walk.ensures.few)) in
+    rw c.load_fault.ensures
+    (no_memory g.R.Source.unread g.R.Source.failures b
+    (stops_in g.R.Source.unread g.R.Source.failures b held c.args.inputs.now
+    c.requires.few _ c.in-Err.fault c.in-Err.ensures.first))
 
-pub returns-then-is_err-clause-failed : goal.returns-then-is_err-clause-failed
-returns-then-is_err-clause-failed g c = λ choice contents inspected.
-    of_inputs (some_wants contents (omega (arith, c.loop-file-test.true, c.requires.ready.as_many, inspected.as_many))
-    (known_of g.R.Source.unread g.R.Source.failures c.args.inputs.now c.args.files.now contents c.requires.ready.as_many inspected))
+pub returns-in-Err-clause-no_sink : goal.returns-in-Err-clause-no_sink
+returns-in-Err-clause-no_sink g c =
+    let b = listed_behaviour (λ s. fact_in s.held) (λ s. s.walk) (λ _. Unit {0}) in
+    let is = c.new-walk.ensures.facts ∙ c.walk.ensures.value in
+    let size = ap length is in
+    let held : IsHeld b c.new-walk.result c.args.store.now =
+    is_held (λ s. fact_in s.held) (λ s. s.walk) c.new-walk.result c.args.store.now
+    c.new-walk.ensures.new is (omega (arith, size, c.walk.ensures.few)) in
+    rw c.load_fault.ensures
+    (no_sink g.R.Source.unread g.R.Source.failures b
+    (stops_in g.R.Source.unread g.R.Source.failures b held c.args.inputs.now
+    c.requires.few _ c.in-Err.fault c.in-Err.ensures.first))
 
-pub returns-clause-kept : goal.returns-clause-kept
-returns-clause-kept g c = λ e.
-    let stands =
-    stands_of (everything 0) g.R.Source.unread g.R.Source.failures c.args.inputs.now c.deref_mut.result.now c.loop-file.invariant (omega (arith, c.loop-file-test.false)) c.requires.ready c.deref_mut.ensures.value in
-    absurd (first_wants_nothing (everything 0) g.R.Source.unread g.R.Source.failures _ c.args.inputs.now c.args.files.now c.deref_mut.result.now _ c.in-Err.fault _ stands c.in-Err.ensures.first (sym c.load_fault.ensures ∙ e))
+pub returns-in-Err-clause-read_failed : goal.returns-in-Err-clause-read_failed
+returns-in-Err-clause-read_failed g c =
+    let b = listed_behaviour (λ s. fact_in s.held) (λ s. s.walk) (λ _. Unit {0}) in
+    let is = c.new-walk.ensures.facts ∙ c.walk.ensures.value in
+    let size = ap length is in
+    let held : IsHeld b c.new-walk.result c.args.store.now =
+    is_held (λ s. fact_in s.held) (λ s. s.walk) c.new-walk.result c.args.store.now
+    c.new-walk.ensures.new is (omega (arith, size, c.walk.ensures.few)) in
+    rw c.load_fault.ensures
+    (read_failed g.R.Source.unread g.R.Source.failures b held c.join_chained.new.first
+    c.args.inputs.now c.join_chained.new.inputs c.requires.few c.join_chained.auto.inputs
+    c.in-Err.fault c.in-Err.ensures.first)

@@ -1,19 +1,60 @@
-use Rattle.std.proofs.Common.{arith}
-use Rattle.flutejoin.proofs.Scanning.{can_pass, gave_more, gave_all}
+use Rattle.std.proofs.Common.{◌≡◌, ◌∙◌, ◌++◌, List, ℕ, Some, false, flat_map, subst}
+use Rattle.std.proofs.Common.{refl, arith, rules}
+use Rattle.flutejoin.specs.Lines.{gap_line}
+use Rattle.flutejoin.proofs.Asides.{knows_more, knows_nothing}
+use Rattle.flutejoin.proofs.Scanning.{gave_none, can_pass, gave_more, gave_all}
 use Rattle.flutejoin.proofs.listing.pass.Goals as goal
 
+pub loop-gap-init : goal.loop-gap-init
+loop-gap-init g c = record {
+  gave = λ known s gaps h r e l k. (gaps, gave_none s c.args.next c.args.scan.now gaps h e l, k);
+  failures = refl;
+}
+
 pub loop-gap-smaller : goal.loop-gap-smaller
-loop-gap-smaller c = omega (arith, c.in_ok-push_gap.ensures.longer)
+loop-gap-smaller g c =
+    let s = c.requires in
+    let h = c.loop-gap.invariant.gave false s.0 (flat_map gap_line s.0.given) s.1 s.2 s.3 refl
+    (knows_nothing (g.A.Sink.written c.args.gap_lines.now) (flat_map gap_line s.0.given)) in
+    let gave = h.1 in
+    let turned = c.in-Gap.ensures.turned gave.t gave.scans
+    (can_pass s.0 c.args.next c.loop-gap.scan h.0 gave s.2) gave.comes in
+    omega (arith, gave.scans.ahead_is, turned.2.ahead_is, turned.1.fewer)
 
 pub loop-gap-preserved : goal.loop-gap-preserved
-loop-gap-preserved c = λ s h r e l.
-    let g = c.loop-gap.invariant s h r e l in
-    gave_more s c.args.next c.loop-gap.scan c.next.new.self c.loop-gap.gap_lines.items c.push_gap.new.gap_lines.items c.in-Gap.gap g
-    (c.in-Gap.ensures.turned g.t g.scans (can_pass s c.args.next c.loop-gap.scan c.loop-gap.gap_lines.items g r) g.comes)
-    c.in_ok-push_gap.ensures.line
+loop-gap-preserved g c = record {
+  gave = λ known s gaps h r e l k.
+      let m = c.loop-gap.invariant.gave known s gaps h r e l k in
+      let gave = m.1 in
+      let more = m.0 ++ gap_line c.in-Gap.gap in (
+        more,
+        gave_more s c.args.next c.loop-gap.scan c.next.new.self m.0 more c.in-Gap.gap gave
+            (c.in-Gap.ensures.turned gave.t gave.scans (can_pass s c.args.next c.loop-gap.scan m.0 gave
+            r) gave.comes) refl,
+        knows_more (gap_line c.in-Gap.gap) m.2 c.in_ok-put_gap.ensures.line,
+      );
+  failures = omega (arith, c.in_ok-put_gap.ensures.failures, c.loop-gap.invariant.failures);
+}
+
+pub returns-in_err-put_gap-clause-failures : goal.returns-in_err-put_gap-clause-failures
+returns-in_err-put_gap-clause-failures g c = rw (
+  c.in_err-put_gap.ensures.failures,
+  c.loop-gap.invariant.failures,
+) (search rules)
 
 pub returns : goal.returns
-returns c = λ s h r e l.
-    let g = c.loop-gap.invariant s h r e l in
-    gave_all s c.args.next c.loop-gap.scan c.next.new.self c.loop-gap.gap_lines.items c.next.result g
-    (c.next.ensures.turned g.t g.scans (can_pass s c.args.next c.loop-gap.scan c.loop-gap.gap_lines.items g r) g.comes) c.in_default.not-Gap
+returns g c = record {
+  passed = λ known s gaps h r e l k.
+      let m = c.loop-gap.invariant.gave known s gaps h r e l k in
+      let gave = m.1 in
+      let all = gave_all s c.args.next c.loop-gap.scan c.next.new.self m.0 c.next.result gave
+      (c.next.ensures.turned gave.t gave.scans (can_pass s c.args.next c.loop-gap.scan m.0 gave r)
+      gave.comes) c.in_default.not-Gap in (
+        all.0,
+        all.1,
+        all.2,
+        λ is. subst (λ (x : List ℕ). g.A.Sink.written c.loop-gap.gap_lines ≡
+            Some x) all.3 (m.2 is),
+      );
+  failures = c.loop-gap.invariant.failures ∙ omega arith;
+}

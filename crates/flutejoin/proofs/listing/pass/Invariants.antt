@@ -1,15 +1,22 @@
--- The lines of the gaps that were given were appended, and nothing was passed.
-use Rattle.std.proofs.Common.{◌≡◌, ◌-◌, ◌^◌, None, vec_len}
-use Rattle.std.specs.List.{flat_map}
+-- The lines of the gaps that were given were put aside, and nothing was passed.
+use Rattle.std.proofs.Common.{◌≡◌, ◌+◌, [], List, ℕ, Bool, None, flat_map, length}
+use Rattle.flute_store.specs.PartitionScan.{walk_of, symbols_left}
 use Rattle.flute_store.specs.Scan.{Scanned, CanFollow}
-use Rattle.flute_store.specs.Scans.{Scans}
+use Rattle.flute_store.specs.Scans.{Scans, one_run}
 use Rattle.flutejoin.specs.Lines.{gap_line}
+use Rattle.flutejoin.specs.Listing.{Knows}
 use Rattle.flutejoin.proofs.Scanning.{Gave}
 use Rattle.flutejoin.proofs.listing.pass.Given as goal
 
 abbrev pub invariant-loop-gap : goal.invariant-loop-gap
-invariant-loop-gap l =
-    (s : Scanned) → Scans l.initial.scan s → CanFollow s l.next → s.coming ≡ None → l.initial.gap_lines.items ≡ flat_map gap_line s.given → Gave s l.next l.scan l.gap_lines.items
+invariant-loop-gap g l = record {
+  gave : (known : Bool) (s : Scanned) (gaps : List ℕ) → Scans l.initial.scan s
+      → CanFollow s l.next → s.coming ≡ None → gaps ≡ flat_map gap_line s.given
+      → Knows known (g.A.Sink.written l.initial.gap_lines) gaps
+      → (all : List ℕ) × Gave s l.next l.scan all
+      × Knows known (g.A.Sink.written l.gap_lines) all;
+  failures : g.A.Sink.failures l.gap_lines ≡ g.A.Sink.failures l.initial.gap_lines;
+}
 
 abbrev pub decreases-loop-gap : goal.decreases-loop-gap
-decreases-loop-gap l = 2 ^ 64 - vec_len l.gap_lines
+decreases-loop-gap g l = length (symbols_left (walk_of l.scan.walk [])) + one_run l.scan.walk.run

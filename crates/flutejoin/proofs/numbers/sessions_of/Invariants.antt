@@ -1,6 +1,6 @@
 use Rattle.std.proofs.Common.{◌^◌, map, take}
 use Rattle.flute_journal.specs.Sessions.{listed_tsis}
-use Rattle.flutejoin.specs.CommandLine.{AreNumbers}
+use Rattle.flutejoin.specs.Options.{AreNumbers}
 use Rattle.flutejoin.proofs.numbers.sessions_of.Given as goal
 
 abbrev pub invariant-loop-text : goal.invariant-loop-text

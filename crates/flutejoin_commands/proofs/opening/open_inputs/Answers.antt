@@ -1,34 +1,40 @@
 -- One name more.
-use Rattle.std.proofs.Common.{rules, List, ℕ, [], Bor, map, get_or, subst, ◌+◌, ◌∙◌}
+use Rattle.std.proofs.Common.{◌≡◌, rules, arith, List, ℕ, [], Bor, map, get_or, subst, sym, ◌+◌, ◌∙◌}
 use Rattle.flutejoin_commands.specs.Opened.{IsOpened, FirstNotOpened}
 use Rattle.flutejoin_commands.proofs.Openings.{here_is, pushed, one_opened, all_opened, next_not_opened}
 use Rattle.flutejoin_commands.proofs.opening.open_inputs.Goals as goal
 
-pub returns-in_err-begun-clause-failed : goal.returns-in_err-begun-clause-failed
-returns-in_err-begun-clause-failed g c =
-    let opens = g.I.Inputs.opens c.args.inputs.now in
+pub returns-in_err-input-clause-failed : goal.returns-in_err-input-clause-failed
+returns-in_err-input-clause-failed g c =
+    let files = g.I.Inputs.files c.args.inputs.now in
     let paths = c.args.paths.now in
     let first : Bor (List ℕ) = record { ref_ptr = (0, 0); now = [] } in
-    let not : FirstNotOpened opens g.I.Input.Source.unread (g.I.Inputs.refuses c.args.inputs.now) (map (λ path. path.now) paths) c.in_err-begun.field-0.0 =
-    next_not_opened opens g.I.Input.Source.unread (g.I.Inputs.refuses c.args.inputs.now) (g.I.Inputs.opens c.loop-k.inputs) (g.I.Inputs.refuses c.loop-k.inputs) (map (λ path. path.now) paths) c.loop-k.opened.items c.loop-k.k (get_or paths c.loop-k.k first).now c.in_err-begun.field-0.0
-    c.loop-k.invariant.same_opened c.loop-k.invariant.same_refused c.loop-k.invariant.opened (here_is (λ path. path.now) paths c.loop-k.k first c.loop-k-test.true) c.in_err-begun.ensures.failed in
+    let names = map (λ path. path.now) paths in
+    let before = c.loop-k.invariant.asked in
+    let one = c.open_one.ensures.asked in
+    let asked : g.I.Inputs.asked c.open_one.new.inputs ≡ g.I.Inputs.asked c.args.inputs.now + (c.loop-k.k + 1) = omega (arith, before, one) in
+    let not : FirstNotOpened files g.I.Input.Source.unread names (g.I.Inputs.asked c.args.inputs.now) (g.I.Inputs.asked c.open_one.new.inputs) c.in_err-input.field-0.0 =
+    next_not_opened files g.I.Input.Source.unread (g.I.Inputs.files c.loop-k.inputs) names c.loop-k.opened.items c.loop-k.k (get_or paths c.loop-k.k first).now c.in_err-input.field-0.0
+    c.loop-k.invariant.same_files c.loop-k.invariant.opened (here_is (λ path. path.now) paths c.loop-k.k first c.loop-k-test.true) c.in_err-input.ensures.failed asked in
     search rules
 
 pub loop-k-preserved : goal.loop-k-preserved
 loop-k-preserved g c =
-    let opens = g.I.Inputs.opens c.args.inputs.now in
+    let files = g.I.Inputs.files c.args.inputs.now in
     let paths = c.args.paths.now in
     let first : Bor (List ℕ) = record { ref_ptr = (0, 0); now = [] } in
+    let before = c.loop-k.invariant.asked in
+    let one = c.open_one.ensures.asked in
     record {
-      same_opened = c.open_begun.ensures.same_opened ∙ c.loop-k.invariant.same_opened;
-      same_refused = c.open_begun.ensures.same_refused ∙ c.loop-k.invariant.same_refused;
+      same_files = c.open_one.ensures.same_files ∙ c.loop-k.invariant.same_files;
       opened =
-          one_opened opens g.I.Input.Source.unread (map (λ path. path.now) paths) c.loop-k.opened.items c.push.new.self.items c.loop-k.k (get_or paths c.loop-k.k first).now c.in_ok-begun.begun
+          one_opened files g.I.Input.Source.unread (map (λ path. path.now) paths) c.loop-k.opened.items c.push.new.self.items c.loop-k.k (get_or paths c.loop-k.k first).now c.in_ok-input.input
           c.loop-k.invariant.opened (here_is (λ path. path.now) paths c.loop-k.k first c.loop-k-test.true)
-          (subst (λ p. IsOpened p g.I.Input.Source.unread (get_or paths c.loop-k.k first).now c.in_ok-begun.begun) c.loop-k.invariant.same_opened c.in_ok-begun.ensures.opened)
-          (pushed c.push.result c.map_err.result c.in_ok-map_err.field-0 c.push.new.self.items _ _ c.map_err.ensures.variant c.in_ok-map_err.was c.push.ensures.items);
+          (subst (λ f. IsOpened f g.I.Input.Source.unread (get_or paths c.loop-k.k first).now c.in_ok-input.input) c.loop-k.invariant.same_files c.in_ok-input.ensures.opened)
+          (pushed c.push.result c.push.new.self.items _ _ (sym c.is_err.ensures.value ∙ c.if-is_err.false) c.push.ensures.items);
+      asked = omega (arith, before, one);
     }
 
 pub returns-clause-opened : goal.returns-clause-opened
 returns-clause-opened g c =
-    all_opened (g.I.Inputs.opens c.args.inputs.now) g.I.Input.Source.unread (λ path. path.now) c.args.paths.now c.loop-k.opened.items c.loop-k.k c.loop-k.invariant.opened c.loop-k-test.false
+    all_opened (g.I.Inputs.files c.args.inputs.now) g.I.Input.Source.unread (λ path. path.now) c.args.paths.now c.loop-k.opened.items c.loop-k.k c.loop-k.invariant.opened c.loop-k-test.false

@@ -1,11 +1,11 @@
--- What was passed over since the call is of other sessions, and was counted.
+-- What was passed over since the call is not taken, and was counted.
 use Rattle.flute_journal.proofs.{Common.{◌≡◌}, ChosenFacts.{CountsPassed}}
 use Rattle.flute_journal.proofs.chosen.ChosenStream.advance.Given as goal
 
 abbrev pub invariant-loop-alloc : goal.invariant-loop-alloc
 invariant-loop-alloc g l =
-    (l.self.sessions ≡ l.fn.self.sessions)
-    × CountsPassed l.fn.self.sessions g.S.Stream.behaviour l.fn.self.stream l.self.stream l.fn.self.others l.self.others
+    (l.self.choice ≡ l.fn.self.choice)
+    × CountsPassed g.C.Choice.takes l.fn.self.choice g.S.Stream.behaviour l.fn.self.stream l.self.stream l.fn.self.others l.self.others
 
 abbrev pub decreases-loop-alloc : goal.decreases-loop-alloc
 decreases-loop-alloc g l = g.S.Stream.behaviour.most l.self.stream

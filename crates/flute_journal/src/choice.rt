@@ -1,0 +1,16 @@
+//! What of facts is taken.
+ghost use Rattle.std.specs.Prelude.{◌≡◌, Bool};
+ghost use Rattle.flute_parts.specs.Addresses.{fact_of};
+ghost use Rattle.flute_parts.specs.declared.fact.Fact.{Fact};
+
+use flute_parts::FactRef;
+
+/// A choice of facts, of each of which it says alone whether it is taken.
+pub trait Choice {
+    // Whether a fact is taken.
+    ghost takes: { Self → Fact → Bool };
+
+    /// Whether a fact is taken.
+    fn takes_fact(&self, fact: &FactRef<'_>) -> bool
+        ensures { result ≡ takes self.now (fact_of fact.now) };
+}

@@ -1,0 +1,138 @@
+-- A folder that is filled, call after call.
+use Rattle.std.proofs.Common.{◌≡◌, ℕ, List, [], ◌∷◌, ◌++◌, Option, Some, None, refl, sym, ap, ◌∙◌}
+use Rattle.std.proofs.Common.{subst, append_assoc, append-nil}
+use Rattle.std.specs.Prelude.{IsSome, IfSome, option_map}
+use Rattle.flute_output.specs.NewFolders.{NamedFile, Filled, Places, LeadsTo, Makes, Fills}
+use Rattle.flute_output.specs.NewFolders.{FolderStays, IsReady, begins, puts, keeps, keeps_open}
+use Rattle.flute_output.specs.NewFolders.{leaves, with_bytes, with_files, files_in, files_beside}
+
+pub stays_itself : (p : Option Places) → LeadsTo FolderStays p p
+stays_itself None = tt
+stays_itself (Some p) = record { out = refl; past = refl; named = refl }
+
+both_stay : (a b c : Places) → FolderStays a b → FolderStays b c → FolderStays a c
+both_stay a b c h g = record {
+  out = g.out ∙ h.out;
+  past = g.past ∙ h.past;
+  named = g.named ∙
+      h.named;
+}
+
+pub stays_on : (a b c : Option Places) → LeadsTo FolderStays a b → LeadsTo FolderStays b c →
+    LeadsTo FolderStays a c
+stays_on None None None h g = tt
+stays_on None None (Some c) h g = absurd g
+stays_on None (Some b) c h g = absurd h
+stays_on (Some a) None c h g = absurd h
+stays_on (Some a) (Some b) None h g = absurd g
+stays_on (Some a) (Some b) (Some c) h g = both_stay a b c h g
+
+-- by what was done
+pub did_stay : (f : Places → Places) → ((p : Places) → FolderStays p (f p)) → (a b : Option Places)
+    → Makes f a b → LeadsTo FolderStays a b
+did_stay f h None None m = tt
+did_stay f h None (Some b) m = absurd m
+did_stay f h (Some a) None m = absurd m
+did_stay f h (Some a) (Some b) m = subst (FolderStays a) (sym m) (h a)
+
+pub begins_stay : (name : List ℕ) (p : Places) → FolderStays p (begins name p)
+begins_stay name p = record { out = refl; past = refl; named = refl }
+
+pub puts_stay : (more : List ℕ) (p : Places) → FolderStays p (puts more p)
+puts_stay more p = record { out = refl; past = refl; named = refl }
+
+kept_stay : (o : Option NamedFile) (p : Places) → FolderStays p (keeps_open o p)
+kept_stay None p = record { out = refl; past = refl; named = refl }
+kept_stay (Some f) p = record { out = refl; past = refl; named = refl }
+
+pub keeps_stay : (p : Places) → FolderStays p (keeps p)
+keeps_stay p = kept_stay p.open_file p
+
+pub leaves_stay : (p : Places) → FolderStays p (leaves p)
+leaves_stay p = record { out = refl; past = refl; named = refl }
+
+-- nothing was done yet
+pub fills_nothing : (p : Option Places) → IfSome p IsReady → LeadsTo (Fills [] None) p p
+fills_nothing None h = tt
+fills_nothing (Some p) h = record {
+  beside = sym (append-nil (files_beside p));
+  there = h.there;
+  open_is = h.closed;
+  stays = record { out = refl; past = refl; named = refl };
+}
+
+-- what one call makes of a folder that was filled so far
+pub fills_on : (f : Places → Places) (files files' : List NamedFile) (o o' : Option NamedFile)
+    → ((p0 p : Places) → Fills files o p0 p → Fills files' o' p0 (f p))
+    → (p0 p q : Option Places) → LeadsTo (Fills files o) p0 p → Makes f p q → LeadsTo
+    (Fills files' o') p0 q
+fills_on f files files' o o' h None None None l m = tt
+fills_on f files files' o o' h None None (Some q) l m = absurd m
+fills_on f files files' o o' h None (Some p) q l m = absurd l
+fills_on f files files' o o' h (Some p0) None q l m = absurd l
+fills_on f files files' o o' h (Some p0) (Some p) None l m = absurd m
+fills_on f files files' o o' h (Some p0) (Some p) (Some q) l m = subst (Fills files' o' p0) (sym m)
+    (h p0 p l)
+
+pub fills_begins : (name : List ℕ) (files : List NamedFile) (o : Option NamedFile)
+    (p0 p q : Option Places) → LeadsTo (Fills files o) p0 p → Makes (begins name) p q
+    → LeadsTo (Fills files (Some (record { name = name; bytes = [] }))) p0 q
+fills_begins name files o = fills_on (begins name) files files o
+    (Some (record { name = name; bytes = [] }))
+    (λ p0 p l. record {
+      beside = l.beside;
+      there = l.there;
+      open_is = refl;
+      stays = both_stay p0 p
+          (begins name p) l.stays (begins_stay name p);
+    })
+
+pub fills_puts : (more : List ℕ) (files : List NamedFile) (f : NamedFile) (p0 p q : Option Places)
+    → LeadsTo (Fills files (Some f)) p0 p → Makes (puts more) p q
+    → LeadsTo (Fills files (Some (with_bytes more f))) p0 q
+fills_puts more files f = fills_on (puts more) files files (Some f) (Some (with_bytes more f))
+    (λ p0 p l. record {
+      beside = l.beside;
+      there = l.there;
+      open_is = ap
+          (option_map (with_bytes more)) l.open_is;
+      stays = both_stay p0 p (puts more p) l.stays
+          (puts_stay more p);
+    })
+
+pub fills_leaves : (files : List NamedFile) (o : Option NamedFile) (p0 p q : Option Places) →
+    LeadsTo (Fills files o) p0 p → Makes leaves p q → LeadsTo (Fills files None) p0 q
+fills_leaves files o = fills_on leaves files files o None
+    (λ p0 p l. record {
+      beside = l.beside;
+      there = l.there;
+      open_is = refl;
+      stays = both_stay p0 p
+          (leaves p) l.stays (leaves_stay p);
+    })
+
+kept_there : (f : NamedFile) (b : Option Filled) → IsSome b → IsSome
+    (option_map (with_files (f ∷ [])) b)
+kept_there f None h = absurd cc
+kept_there f (Some b) h = refl
+
+kept_files : (f : NamedFile) (b : Option Filled) → IsSome b → files_in
+    (option_map (with_files (f ∷ [])) b) ≡ files_in b ++ f ∷ []
+kept_files f None h = absurd cc
+kept_files f (Some b) h = refl
+
+keeps_as : (files : List NamedFile) (f : NamedFile) (p0 p : Places) → Fills files (Some f) p0 p →
+    Fills (files ++ f ∷ []) None p0 (keeps_open (Some f) p)
+keeps_as files f p0 p l = record {
+  beside = kept_files f p.beside l.there ∙ ap (λ x. x ++ f ∷ []) l.beside ∙ append_assoc
+      (files_beside p0) files (f ∷ []);
+  there = kept_there f p.beside l.there;
+  open_is = refl;
+  stays = both_stay p0 p (keeps_open (Some f) p) l.stays (kept_stay (Some f) p);
+}
+
+pub fills_keeps : (files : List NamedFile) (f : NamedFile) (p0 p q : Option Places) → LeadsTo
+    (Fills files (Some f)) p0 p → Makes keeps p q → LeadsTo (Fills (files ++ f ∷ []) None) p0 q
+fills_keeps files f = fills_on keeps files (files ++ f ∷ []) (Some f) None
+    (λ p0 p l. subst (λ (o : Option NamedFile). Fills (files ++ f ∷ []) None p0 (keeps_open o p))
+    (sym l.open_is) (keeps_as files f p0 p l))

@@ -1,0 +1,78 @@
+-- What a stream writes of a journal from which entries are taken out.
+use Rattle.std.proofs.Common.{◌≡◌, ℕ, ◌+◌, ◌<◌, ◌^◌, Bool, true, false, List}
+use Rattle.std.proofs.Common.{arith, Option, Some, None, refl, ap, ◌∙◌, subst}
+use Rattle.std.specs.Prelude.{IfSome, not}
+use Rattle.std.specs.List.{count_by}
+use Rattle.std.proofs.lemmas.List.Sums.{count_by-le-length}
+use Rattle.flute_parts.specs.declared.fact.Fact.{Fact}
+use Rattle.flute_journal.specs.ChosenStreams.{chosen_behaviour, others_of}
+use Rattle.flute_journal.specs.Journal.{IsJournalWithin}
+use Rattle.flute_journal.specs.JournalWriters.{WritesJournal}
+use Rattle.flute_journal.specs.OneStream.{WritesAll, WritesPart}
+use Rattle.flute_journal.specs.OwnedStreams.{owned_behaviour, owned_limit}
+use Rattle.flute_journal.specs.Selections.{left, leaves, selects}
+use Rattle.flute_journal.specs.Streams.{Behaviour}
+use Rattle.flute_journal.specs.declared.selection.AllBut.{AllBut}
+use Rattle.flutejoin.specs.Forget.{Forgets, ForgetsPart, IsForgetful}
+use Rattle.flutejoin.specs.declared.limits.TheConstants.{MAX_ENTRIES}
+use Rattle.flute_journal.specs.declared.chosen.Chosen.{Chosen}
+use Rattle.flute_journal.specs.declared.owned_journal_stream.OwnedJournalStream.{OwnedJournalStream}
+
+not_not : (b : Bool) → not (not b) ≡ b
+not_not true = refl
+not_not false = refl
+
+-- what is not left is selected
+not_left : (p : Fact → Bool) (facts : List Fact)
+    → count_by (λ f. not (not (p f))) facts ≡ count_by p facts
+not_left p facts = ap (λ (q : Fact → Bool). count_by q facts) (λ i f. not_not (p f) i)
+
+module _ {R : Type 0} (unread : R → Option (List ℕ)) (failures : R → ℕ) where
+  abbrev rests : Behaviour (Chosen (OwnedJournalStream R) AllBut)
+  rests = chosen_behaviour (λ c. leaves c.0) (owned_behaviour unread failures)
+
+  module _ (s t : Chosen (OwnedJournalStream R) AllBut) (limit : owned_limit s.stream ≡ MAX_ENTRIES)
+      (old new : Option (List ℕ)) where
+    journal_of : (input : Option (List ℕ)) (all : List Fact) → s.others ≡ 0
+        → (s.others + others_of (leaves s.choice.0) all < 2 ^ 64
+        → t.others ≡ s.others + others_of (leaves s.choice.0) all)
+        → IfSome input (λ bytes. IsJournalWithin (owned_limit s.stream) bytes all)
+        → IfSome input (IsForgetful s.choice.0 t.others all)
+    journal_of None all none counts is = tt
+    journal_of (Some bytes) all none counts is =
+        let within : IsJournalWithin MAX_ENTRIES bytes all =
+        subst (λ n. IsJournalWithin n bytes all) limit is in
+        let few = count_by-le-length (λ f. not (leaves s.choice.0 f)) all in
+        let same = not_left (selects s.choice.0) all in
+        let count = counts (omega (arith, none, few, within.are_items.few)) in
+        (within, omega (arith, count, none, same))
+
+    pub forgets : (count : ℕ) → s.others ≡ 0 → WritesAll rests s t old new count
+        → Forgets s.choice.0 (record { forgotten = t.others; entries = count })
+        (unread s.stream.source) old new
+    forgets count none w = record {
+      entries = w.ends.0;
+      journal = journal_of (unread s.stream.source) w.ends.0 none w.ends.1.1 w.ends.1.0;
+      writes = subst
+          (λ (facts : List Fact). WritesJournal old new facts count)
+          w.ends.2 w.writes;
+    }
+
+    pub forgets_part : WritesPart rests s old new
+        → ForgetsPart s.choice.0 (unread s.stream.source) old new
+    forgets_part p = record {
+      bytes = p.bytes;
+      appended = p.appended;
+      no_journal = p.no_journal;
+      prefix = λ journal whole entries is within writes.
+          p.prefix (left s.choice.0 entries) (
+            entries,
+            record {
+              version = within.are_items.told;
+              bytes_are = is ∙ ap Some within.bytes_are;
+              valid = within.are_items.valid;
+              rising = within.are_items.in_order;
+            },
+            refl,
+          ) whole writes;
+    }

@@ -1,0 +1,110 @@
+-- A journal from which nothing is taken out, or the same again.
+use Rattle.std.proofs.Common.{◌≡◌, ℕ, suc, Bool, List, [], ◌∷◌, length}
+use Rattle.std.proofs.Common.{arith, refl, sym, ap, ◌∙◌, subst, inl, inr}
+use Rattle.std.specs.Prelude.{not, filter}
+use Rattle.std.proofs.lemmas.Bool.{cases_Bool}
+use Rattle.std.proofs.lemmas.List.{append_cancel_left}
+use Rattle.std.proofs.lemmas.List.Sums.{length-filter}
+use Rattle.flute_parts.specs.Addresses.{address}
+use Rattle.flute_parts.specs.Facts.{IsRising, Same, StandAfter}
+use Rattle.flute_parts.specs.declared.address.Address.{Address}
+use Rattle.flute_parts.specs.declared.fact.Fact.{Fact}
+use Rattle.flute_parts.proofs.Public.{rising_unique}
+use Rattle.flute_journal.specs.Journal.{IsJournalWithin, Journal}
+use Rattle.flute_journal.specs.Selections.{left, leaves, selected_in, selects}
+use Rattle.flute_journal.specs.declared.format.version.Version.TheVariants.{Two}
+use Rattle.flute_journal.specs.declared.selection.Selection.{Selection}
+use Rattle.flutejoin.specs.Laws.{Leaves}
+use Rattle.flutejoin.specs.declared.forget.ForgetCounts.{ForgetCounts}
+use Rattle.flutejoin.specs.declared.limits.TheConstants.{MAX_ENTRIES}
+use Rattle.flutejoin.proofs.Receptions.{IsJournal-from_within, Journal-only, Same-from_journals}
+
+rising_after : (p : Fact → Bool) (a : Address) (facts : List Fact) → StandAfter a facts
+    → StandAfter a (filter p facts)
+rising_after p a [] s = tt
+rising_after p a (f ∷ facts) s = elim (cases_Bool (p f)) [
+  | inl t ↦ rw t (s.0, rising_after p a facts s.1)
+  | inr t ↦ rw t (rising_after p a facts s.1)
+]
+
+rising_left : (p : Fact → Bool) (facts : List Fact) → IsRising facts → IsRising (filter p facts)
+rising_left p [] r = tt
+rising_left p (f ∷ facts) r = elim (cases_Bool (p f)) [
+  | inl t ↦ rw t (rising_after p (address f) facts r.0, rising_left p facts r.1)
+  | inr t ↦ rw t (rising_left p facts r.1)
+]
+
+none_left : (p : Fact → Bool) (facts : List Fact) → length (filter p facts) ≡ 0
+    → filter (λ f. not (p f)) facts ≡ facts
+none_left p [] e = refl
+none_left p (f ∷ facts) e = elim (cases_Bool (p f)) [
+  | inl t ↦ absurd (let h : suc (length (filter p facts)) ≡ 0 = rw t at e in omega (arith, h))
+  | inr t ↦ rw t (ap (λ l. f ∷ l) (none_left p facts (rw t at e)))
+]
+
+none_selected : (p : Fact → Bool) (facts : List Fact)
+    → filter p (filter (λ f. not (p f)) facts) ≡ []
+none_selected p [] = refl
+none_selected p (f ∷ facts) = elim (cases_Bool (p f)) [
+  | inl t ↦ rw t (none_selected p facts)
+  | inr t ↦ simp t (none_selected p facts)
+]
+
+left_of_none : (s : Selection) (facts : List Fact) → selected_in s facts ≡ 0
+    → left s facts ≡ facts
+left_of_none s facts none =
+    none_left (selects s) facts (length-filter (selects s) facts ∙ none)
+
+none_in_left : (s : Selection) (facts : List Fact) → selected_in s (left s facts) ≡ 0
+none_in_left s facts =
+    sym (length-filter (selects s) (left s facts)) ∙ ap length (none_selected (selects s) facts)
+
+module _ (s : Selection) (bytes written : List ℕ) (counts : ForgetCounts)
+    (h : Leaves s bytes written counts) where
+  abbrev pub entries_of : List Fact
+  entries_of = h.1.entries
+
+  pub within_of : IsJournalWithin MAX_ENTRIES bytes entries_of
+  within_of = h.1.journal.0
+
+  pub count_of : counts.forgotten ≡ selected_in s entries_of
+  count_of = h.1.journal.1
+
+  pub journal_left : Journal written (left s entries_of)
+  journal_left =
+      let is : written ≡ h.1.writes.bytes =
+      append_cancel_left h.0 written h.1.writes.bytes h.1.writes.appended in
+      subst (λ l. Journal l (left s entries_of)) (sym is) h.1.writes.journal
+
+-- with nothing to forget the journal is the same
+pub none_forgotten : (s : Selection) (bytes written : List ℕ) (counts : ForgetCounts)
+    (facts : List Fact) → Leaves s bytes written counts → counts.forgotten ≡ 0
+    → Journal bytes facts → written ≡ bytes
+none_forgotten s bytes written counts facts h none journal =
+    let E = entries_of s bytes written counts h in
+    let all : left s E ≡ E = left_of_none s E (sym (count_of s bytes written counts h) ∙ none) in
+    let same : Same E facts =
+    Same-from_journals bytes E facts
+    (IsJournal-from_within bytes E (within_of s bytes written counts h)) (Two, journal) in
+    Journal-only written bytes E facts same
+    (subst (λ (l : List Fact). Journal written l) all (journal_left s bytes written counts h))
+    journal
+
+-- what is left is left again
+pub forgotten_twice : (s : Selection) (bytes once twice : List ℕ) (counts again : ForgetCounts)
+    → Leaves s bytes once counts → Leaves s once twice again
+    → (again.forgotten ≡ 0) × (twice ≡ once)
+forgotten_twice s bytes once twice counts again h k =
+    let E = entries_of s bytes once counts h in
+    let F = entries_of s once twice again k in
+    let within = within_of s once twice again k in
+    let journal = journal_left s bytes once counts h in
+    let same : Same F (left s E) =
+    Same-from_journals once F (left s E) (IsJournal-from_within once F within)
+    (Two, journal) in
+    let one : F ≡ left s E =
+    rising_unique F (left s E) within.are_items.in_order
+    (rising_left (leaves s) E (within_of s bytes once counts h).are_items.in_order) same in
+    let none : again.forgotten ≡ 0 =
+    count_of s once twice again k ∙ ap (selected_in s) one ∙ none_in_left s E in
+    (none, none_forgotten s once twice again (left s E) k none journal)

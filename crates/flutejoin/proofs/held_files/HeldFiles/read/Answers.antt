@@ -1,0 +1,65 @@
+-- Records, one after the other.
+use Rattle.std.proofs.Common.{refl, Some, Ok, ap, ◌∙◌, subst, ◌∷◌, [], ◌++◌, append_assoc, arith}
+use Rattle.std.proofs.lemmas.List.{length-append}
+use Rattle.std.proofs.lemmas.Result.{err_from_is_err_and}
+use Rattle.flute_journal.specs.Framing.{Gives, HasFault}
+use Rattle.flute_journal.specs.FileFraming.{file_framing}
+use Rattle.flutejoin.specs.Joined.{choice_of, HoldsDatagrams}
+use Rattle.flutejoin.proofs.Held.{read_some, read_err, none_failed}
+use Rattle.flutejoin.proofs.held_files.HeldFiles.read.Goals as goal
+
+pub returns-in_err-datagram-clause-failed : goal.returns-in_err-datagram-clause-failed
+returns-in_err-datagram-clause-failed g c =
+    let e = err_from_is_err_and c.from_residual.result c.from_residual.ensures.1 in
+    let why =
+    read_err c.args.number c.next_with.result c.at_input.result c.in_err-datagram.field-0.0
+    c.at_input.ensures c.in_err-datagram.was in
+    let all = c.loop-datagram.invariant.so_far in
+    let gives = subst (Gives file_framing c.loop-datagram.reader.max_records
+    c.loop-datagram.reader.state
+    c.next_with.new.self.state (g.R.Source.unread c.loop-datagram.reader.source.now)
+    (g.R.Source.unread c.next_with.new.self.source.now)) why.was c.next_with.ensures.gives in
+    let stops =
+    c.a_file_is_read_record_by_record.ensures.stops _ _ _ _ _ _ all.0 why.why all.1 gives in
+    rw (e.1, e.2, why.is) (
+      refl,
+      subst (λ n. HasFault file_framing n (g.R.Source.unread c.args.source.now) why.why)
+          c.loop-datagram.invariant.limit stops,
+    )
+
+pub loop-datagram-preserved : goal.loop-datagram-preserved
+loop-datagram-preserved g c =
+    let is =
+    read_some c.args.number c.next_with.result c.at_input.result c.in-Some.datagram
+    c.at_input.ensures (c.in_ok-datagram.was ∙ ap Ok c.in-Some.is) in
+    let all = c.loop-datagram.invariant.so_far in
+    let gives = subst (Gives file_framing c.loop-datagram.reader.max_records
+    c.loop-datagram.reader.state
+    c.next_with.new.self.state (g.R.Source.unread c.loop-datagram.reader.source.now)
+    (g.R.Source.unread c.next_with.new.self.source.now)) is c.next_with.ensures.gives in
+    let more =
+    c.a_file_is_read_record_by_record.ensures.goes_on _ _ _ _ _ _ all.0 c.in-Some.datagram all.1
+    gives in
+    let few = c.in_ok-take.ensures.few in
+    let longer = length-append all.0 (c.in-Some.datagram ∷ []) in
+    record {
+      so_far = (
+        all.0 ++ c.in-Some.datagram ∷ [],
+        rw c.next_with.ensures.limit more,
+        λ before holds.
+            subst
+            (λ l. HoldsDatagrams (choice_of c.args.sender c.args.sessions.now) c.take.new.self l)
+            (append_assoc before all.0 (c.in-Some.datagram ∷ []))
+            (subst
+            (λ d. HoldsDatagrams (choice_of c.args.sender c.args.sessions.now) c.take.new.self
+            ((before ++ all.0) ++ d ∷ [])) c.as_slice.ensures.bytes
+            (c.in_ok-take.ensures.taken (before ++ all.0) (all.2 before holds))),
+        omega (arith, few.0, all.3, longer),
+      );
+      counted = few.1;
+      limit = c.next_with.ensures.limit ∙ c.loop-datagram.invariant.limit;
+      same_source = c.next_with.ensures.source ∙ c.loop-datagram.invariant.same_source;
+      failures =
+          none_failed _ _ _ c.next_with.result (Some c.in-Some.datagram) is
+          c.next_with.ensures.failures ∙ c.loop-datagram.invariant.failures;
+    }

@@ -1,0 +1,9 @@
+-- What is told of the second input is told of the list.
+use Rattle.flute_parts.proofs.Public.{Same-itself}
+use Rattle.flutejoin.proofs.AddedFacts.{never_second}
+use Rattle.flutejoin.proofs.info_list.info_list_to.Goals as goal
+
+pub returns-clause-list_failed : goal.returns-clause-list_failed
+returns-clause-list_failed g c =
+    never_second c.add_store.result (g.R.Source.unread c.args.source.now) c.in_ok-told.told _
+    (c.add_store.ensures.failed c.in_ok-told.told (Same-itself c.in_ok-told.told))

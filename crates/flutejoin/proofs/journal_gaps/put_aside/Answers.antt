@@ -1,0 +1,203 @@
+use Rattle.std.proofs.Common.{◌≡◌, ◌∙◌, List, ℕ, Option, Ok, Err, Bool, true, is_ok, if◌then◌else◌}
+use Rattle.std.proofs.Common.{ap, sym, subst, rules, refl, arith}
+use Rattle.std.proofs.lemmas.Result.{err_from_is_err_and}
+use Rattle.flutejoin.specs.Gaps.{ReadsWithin}
+use Rattle.flutejoin.specs.Load.{LoadFails}
+use Rattle.flutejoin.specs.Packet.{write_failures}
+use Rattle.flutejoin.specs.declared.command_fault.CommandFault.TheVariants.{Input}
+use Rattle.flutejoin.proofs.Asides.{counted, on_done, was_done, on_any, fails_aside}
+use Rattle.flutejoin.proofs.Mapped.{read_failed, read_done}
+use Rattle.flutejoin.proofs.OpenObjects.{on_ok}
+use Rattle.flutejoin.proofs.Shown.{entry_given, end_given, fault_given, no_read_failure}
+use Rattle.flutejoin.proofs.GapsRead.{entry_rises, can_add, within_read, whole_read, one_more_read}
+use Rattle.flutejoin.proofs.GapsRead.{full_read, fault_read, all_read, read_rises, is_open}
+use Rattle.flutejoin.proofs.journal_gaps.put_aside.Goals as goal
+
+pub returns-in_err-fact-clause-failed : goal.returns-in_err-fact-clause-failed
+returns-in_err-fact-clause-failed g c =
+    let u = g.R.Source.unread c.args.source.now in
+    let v = g.R.Source.unread c.loop-fact.reader.source.now in
+    let w = g.R.Source.unread c.next_with.new.self.source.now in
+    let from = c.loop-fact.reader.state in
+    let to = c.next_with.new.self.state in
+    let h = c.loop-fact.invariant in
+    let r = read_failed c.next_with.result c.at_input.result 1 c.in_err-fact.field-0.0
+    c.at_input.ensures c.in_err-fact.was in
+    let e = err_from_is_err_and c.from_residual.result c.from_residual.ensures.1 in
+    let here = fault_read w to h.read r.0
+    (fault_given c.loop-fact.reader.max_entries from to v w c.next_with.result r.0
+    c.next_with.ensures.gives h.limit r.1) in
+    let P : Option (List ℕ) → Type 0 = λ left. LoadFails 1 u left (Input 1 r.0) in
+    let at : (x : g.row.R.Denot) → c.next_with.new.self.source.now ≡ x → P (g.R.Source.unread x) =
+    λ x same. subst (λ (y : g.row.R.Denot). P (g.R.Source.unread y)) same here in
+    rw (e.1 ∙ ap Err (e.2 ∙ r.2)) (at _ (search rules))
+
+pub returns-then-not-count-clause-failed : goal.returns-then-not-count-clause-failed
+returns-then-not-count-clause-failed g c =
+    let v = g.R.Source.unread c.loop-fact.reader.source.now in
+    let w = g.R.Source.unread c.next_with.new.self.source.now in
+    let from = c.loop-fact.reader.state in
+    let to = c.next_with.new.self.state in
+    let h = c.loop-fact.invariant in
+    let f = c.in-Some.fact in
+    let r = read_done c.next_with.result c.at_input.result 1 c.in_ok-fact.field-0
+    c.at_input.ensures c.in_ok-fact.was ∙ ap Ok c.in-Some.is in
+    let gave = entry_given c.loop-fact.reader.max_entries from to v w c.next_with.result f
+    c.next_with.ensures.gives h.limit r in
+    full_read w to h.read f gave
+    (c.count.ensures.over h.read.entries f (sym c.address.ensures) (entry_rises w to h.read f gave)
+    h.read.counts c.if-not-count.true)
+
+pub add-requires : goal.add-requires
+add-requires g c =
+    let v = g.R.Source.unread c.loop-fact.reader.source.now in
+    let w = g.R.Source.unread c.next_with.new.self.source.now in
+    let from = c.loop-fact.reader.state in
+    let to = c.next_with.new.self.state in
+    let h = c.loop-fact.invariant in
+    let f = c.in-Some.fact in
+    let r = read_done c.next_with.result c.at_input.result 1 c.in_ok-fact.field-0
+    c.at_input.ensures c.in_ok-fact.was ∙ ap Ok c.in-Some.is in
+    let gave = entry_given c.loop-fact.reader.max_entries from to v w c.next_with.result f
+    c.next_with.ensures.gives h.limit r in
+    can_add w to h.read f gave
+
+pub returns-in_err-at_aside-clause-failed : goal.returns-in_err-at_aside-clause-failed
+returns-in_err-at_aside-clause-failed g c =
+    let u = g.R.Source.unread c.args.source.now in
+    let v = g.R.Source.unread c.loop-fact.reader.source.now in
+    let w = g.R.Source.unread c.next_with.new.self.source.now in
+    let from = c.loop-fact.reader.state in
+    let to = c.next_with.new.self.state in
+    let h = c.loop-fact.invariant in
+    let f = c.in-Some.fact in
+    let e = err_from_is_err_and c.from_residual-in_err-at_aside.result
+    c.from_residual-in_err-at_aside.ensures.1 in
+    let r = read_done c.next_with.result c.at_input.result 1 c.in_ok-fact.field-0
+    c.at_input.ensures c.in_ok-fact.was ∙ ap Ok c.in-Some.is in
+    let gave = entry_given c.loop-fact.reader.max_entries from to v w c.next_with.result f
+    c.next_with.ensures.gives h.limit r in
+    let here = within_read w to h.read f gave c.count.new.self
+    (c.count.ensures.within h.read.entries f (sym c.address.ensures)
+    (entry_rises w to h.read f gave) h.read.counts c.if-not-count.false) in
+    let at : (x : g.row.R.Denot) → c.next_with.new.self.source.now ≡ x → ReadsWithin u
+    (g.R.Source.unread x) = λ x same. subst (λ (y : g.row.R.Denot). ReadsWithin u
+    (g.R.Source.unread y)) same here in
+    rw (e.1 ∙ ap Err (e.2 ∙ c.in_err-at_aside.ensures.fault)) (at _ (search rules))
+
+pub returns-in_err-at_aside-clause-failures : goal.returns-in_err-at_aside-clause-failures
+returns-in_err-at_aside-clause-failures g c =
+    let e = err_from_is_err_and c.from_residual-in_err-at_aside.result
+    c.from_residual-in_err-at_aside.ensures.1 in
+    let one : ◌≡◌ {A = ℕ} (if is_ok c.add.result then 0 else 1) 1 =
+    counted c.at_aside.result c.add.result c.at_aside.ensures.same c.at_aside.ensures.fault
+    ∙ ap write_failures (c.in_err-at_aside.was ∙ ap Err c.in_err-at_aside.ensures.fault) in
+    rw (e.1 ∙ ap Err (e.2 ∙ c.in_err-at_aside.ensures.fault))
+    (omega (arith, c.add.ensures.failures, one, c.loop-fact.invariant.failures))
+
+pub loop-fact-preserved : goal.loop-fact-preserved
+loop-fact-preserved g c =
+    let v = g.R.Source.unread c.loop-fact.reader.source.now in
+    let w = g.R.Source.unread c.next_with.new.self.source.now in
+    let from = c.loop-fact.reader.state in
+    let to = c.next_with.new.self.state in
+    let h = c.loop-fact.invariant in
+    let f = c.in-Some.fact in
+    let r = read_done c.next_with.result c.at_input.result 1 c.in_ok-fact.field-0
+    c.at_input.ensures c.in_ok-fact.was ∙ ap Ok c.in-Some.is in
+    let gave = entry_given c.loop-fact.reader.max_entries from to v w c.next_with.result f
+    c.next_with.ensures.gives h.limit r in
+    let rises = entry_rises w to h.read f gave in
+    let done : is_ok c.add.result ≡ true = sym c.at_aside.ensures.same ∙ ap is_ok
+    c.in_ok-at_aside.was in
+    let none : ◌≡◌ {A = ℕ} (if is_ok c.add.result then 0 else 1) 0 = ap
+    (λ (b : Bool). if b then 0 else 1) done in
+    record {
+      read =
+          one_more_read w to h.read f gave c.count.new.self c.add.new.self
+          (record {
+            lines = g.A.Sink.written c.add.new.lines;
+            gap_lines = g.A.Sink.written c.add.new.gap_lines;
+          })
+          (c.count.ensures.within h.read.entries f (sym c.address.ensures) rises h.read.counts
+          c.if-not-count.false)
+          (λ known l. was_done c.add.result done (c.add.ensures.added known h.read.entries rises
+          l));
+      limit = c.next_with.ensures.limit ∙ h.limit;
+      source = c.next_with.ensures.source ∙ h.source;
+      reads = no_read_failure c.next_with.result _ _ _ _ _ r c.next_with.ensures.failures h.reads;
+      failures = omega (arith, c.add.ensures.failures, none, h.failures);
+    }
+
+pub finish-requires : goal.finish-requires
+finish-requires g c =
+    let h = c.loop-fact.invariant in
+    let o = is_open (g.R.Source.unread c.args.source.now) c.loop-fact.reader.state h.read in
+    (h.read.entries, o.0, o.1, o.2)
+
+pub returns-clause-listed : goal.returns-clause-listed
+returns-clause-listed g c = λ none no_gaps.
+    let u = g.R.Source.unread c.args.source.now in
+    let v = g.R.Source.unread c.loop-fact.reader.source.now in
+    let w = g.R.Source.unread c.next_with.new.self.source.now in
+    let from = c.loop-fact.reader.state in
+    let to = c.next_with.new.self.state in
+    let h = c.loop-fact.invariant in
+    let r = read_done c.next_with.result c.at_input.result 1 c.in_ok-fact.field-0
+    c.at_input.ensures c.in_ok-fact.was ∙ ap Ok c.in_default.is in
+    let gave = end_given c.loop-fact.reader.max_entries from to v w c.next_with.result
+    c.next_with.ensures.gives r in
+    on_done _ c.at_aside-2.result c.finish.result c.at_aside-2.ensures.same
+    (on_ok c.finish.result (λ l. (
+      l.lines,
+      all_read w to h.read gave l.lines l.listed,
+      l.lines_known refl,
+    ))
+    (c.finish.ensures.finished true h.read.entries (read_rises w to h.read)
+    (h.read.lists true (λ is. (none, no_gaps)))))
+
+pub returns-clause-whole : goal.returns-clause-whole
+returns-clause-whole g c =
+    let u = g.R.Source.unread c.args.source.now in
+    let v = g.R.Source.unread c.loop-fact.reader.source.now in
+    let w = g.R.Source.unread c.next_with.new.self.source.now in
+    let from = c.loop-fact.reader.state in
+    let to = c.next_with.new.self.state in
+    let h = c.loop-fact.invariant in
+    let r = read_done c.next_with.result c.at_input.result 1 c.in_ok-fact.field-0
+    c.at_input.ensures c.in_ok-fact.was ∙ ap Ok c.in_default.is in
+    let gave = end_given c.loop-fact.reader.max_entries from to v w c.next_with.result
+    c.next_with.ensures.gives r in
+    let here = whole_read w to h.read gave in
+    let at : (x : g.row.R.Denot) → c.next_with.new.self.source.now ≡ x → ReadsWithin u
+    (g.R.Source.unread x) = λ x same. subst (λ (y : g.row.R.Denot). ReadsWithin u
+    (g.R.Source.unread y)) same here in
+    on_any c.at_aside-2.result (at _ (search rules))
+
+pub returns-clause-failed : goal.returns-clause-failed
+returns-clause-failed g c =
+    let u = g.R.Source.unread c.args.source.now in
+    let v = g.R.Source.unread c.loop-fact.reader.source.now in
+    let w = g.R.Source.unread c.next_with.new.self.source.now in
+    let from = c.loop-fact.reader.state in
+    let to = c.next_with.new.self.state in
+    let h = c.loop-fact.invariant in
+    let r = read_done c.next_with.result c.at_input.result 1 c.in_ok-fact.field-0
+    c.at_input.ensures c.in_ok-fact.was ∙ ap Ok c.in_default.is in
+    let gave = end_given c.loop-fact.reader.max_entries from to v w c.next_with.result
+    c.next_with.ensures.gives r in
+    let here = whole_read w to h.read gave in
+    let at : (x : g.row.R.Denot) → c.next_with.new.self.source.now ≡ x → ReadsWithin u
+    (g.R.Source.unread x) = λ x same. subst (λ (y : g.row.R.Denot). ReadsWithin u
+    (g.R.Source.unread y)) same here in
+    fails_aside u _ c.at_aside-2.result c.at_aside-2.ensures.fault (at _ (search rules))
+
+pub returns-clause-failures : goal.returns-clause-failures
+returns-clause-failures g c =
+    omega (
+      arith,
+      c.finish.ensures.failures,
+      counted c.at_aside-2.result c.finish.result
+          c.at_aside-2.ensures.same c.at_aside-2.ensures.fault,
+      c.loop-fact.invariant.failures,
+    )

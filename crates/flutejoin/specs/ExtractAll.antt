@@ -1,0 +1,51 @@
+-- What the command `extract --all` writes and answers.
+use Rattle.std.specs.Prelude.{ℕ, Bool, true, ◌&&◌, ◌==◌, List, [], ◌∷◌, ◌++◌, filter, Option, Some}
+use Rattle.std.specs.Prelude.{None, IfSome}
+use Rattle.std.specs.Io.KnownBytes.{IsAtEnd}
+use Rattle.flute_parts.specs.Addresses.{address}
+use Rattle.flute_parts.specs.Facts.{IsRising}
+use Rattle.flute_parts.specs.declared.fact.Fact.{Fact}
+use Rattle.flute_parts.specs.declared.key.Key.{Key}
+use Rattle.flute_output.specs.NewFolders.{Places}
+use Rattle.flute_journal.specs.Journal.{IsJournalWithin}
+use Rattle.flute_journal.specs.Sessions.{listed_tsis, takes}
+use Rattle.flutejoin.specs.Gaps.{GapsFail}
+use Rattle.flutejoin.specs.ObjectFiles.{TakesAll, Knows}
+use Rattle.flutejoin.specs.Shelves.{IsOverShelf}
+use Rattle.flutejoin.specs.declared.object_files.ObjectFiles.{ObjectFiles}
+use Rattle.flutejoin.specs.declared.picked.Picked.{Picked}
+use Rattle.flutejoin.specs.declared.limits.TheConstants.{MAX_ENTRIES}
+use Rattle.flutejoin.specs.declared.command_fault.CommandFault.{CommandFault}
+
+-- the sender is this one, or any
+abbrev pub is_sender : Option ℕ → ℕ → Bool
+is_sender None sender = true
+is_sender (Some one) sender = sender == one
+
+-- the object is of the sender and the sessions that are picked
+abbrev pub is_picked : Picked → Key → Bool
+is_picked p key =
+    is_sender p.sender key.session.sender && takes (listed_tsis p.sessions) key.session.tsi
+
+-- the facts of these objects
+abbrev pub picked_facts : Picked → List Fact → List Fact
+picked_facts p facts = filter (λ f. is_picked p (address f).key) facts
+
+-- A journal within the limits of a store was read. Of the objects that are picked, and of no
+-- others, there is a file for each that is whole, and a line for each; so many files were written.
+pub record ExtractsAll (input left : Option (List ℕ)) (picked : Picked) (old new : Option Places)
+    (lines_old lines_new : Option (List ℕ)) (count : ℕ) : Type 0 where
+  pub entries : List Fact
+  pub journal : IfSome input (λ bytes. IsJournalWithin MAX_ENTRIES bytes entries)
+  pub read : IsAtEnd left
+  pub within : ¬ IsOverShelf entries
+  pub taken : TakesAll (picked_facts picked entries) count old new lines_old lines_new
+
+-- why it failed: as the lines of `gaps` are not written; the folder or the lines failed
+abbrev pub ExtractAllFails : Option (List ℕ) → Option (List ℕ) → CommandFault → Type 0
+ExtractAllFails = GapsFail
+
+-- the fact may come next, and those that are picked of the facts before it came
+abbrev pub CanPick : Picked → ObjectFiles → Fact → Type 0
+CanPick picked objects fact =
+    (F : List Fact) × IsRising (F ++ fact ∷ []) × Knows (picked_facts picked F) objects

@@ -1,0 +1,151 @@
+-- The lines of a list of information, what they tell, and why they tell nothing.
+use Rattle.std.specs.Prelude.{◌≡◌, ℕ, ◌+◌, ◌<◌, ◌≤◌, ◌^◌, List, [], ◌∷◌, ◌++◌, length, ◌≢◌}
+use Rattle.std.specs.Prelude.{Some, Bool, true, false, ⊤}
+use Rattle.std.specs.List.{flat_map, All}
+use Rattle.flute_parts.specs.Facts.{Same}
+use Rattle.flute_parts.specs.Information.{Information, HasInfoFields, information, info_fault}
+use Rattle.flute_parts.specs.Ranges.{IsFact, IsKey}
+use Rattle.flute_parts.specs.declared.fact.Fact.{Fact}
+use Rattle.flute_parts.specs.declared.fact.Fact.TheVariants.{Info}
+use Rattle.flute_parts.specs.declared.info.InfoFault.{InfoFault}
+use Rattle.flute_parts.specs.declared.key.Key.{Key}
+use Rattle.flutejoin.specs.Lines.{line, fact_words}
+use Rattle.flutejoin.specs.Shelves.{IsOverShelf}
+use Rattle.flutejoin.specs.declared.command_fault.CommandFault.{CommandFault}
+use Rattle.flutejoin.specs.declared.command_fault.CommandFault.TheVariants.{ListLine}
+use Rattle.flutejoin.specs.declared.command_fault.CommandFault.TheVariants.{ListInformation, Full}
+use Rattle.flutejoin.specs.declared.command_fault.CommandFault.TheVariants.{OutOfMemory}
+use Rattle.flutejoin.specs.declared.information_line.InfoNumbers.{InfoNumbers}
+use Rattle.flutejoin.specs.declared.information_list.InformationList.{InformationList}
+
+-- numbers that a line may tell of an object, whether or not they are valid
+abbrev pub HasNumbers : Information → Type 0
+HasNumbers i = (i.transfer_length < 2 ^ 64) × HasInfoFields i
+
+-- a line is passed over that is empty, or begins with a number sign
+abbrev pub IsPassedOver : List ℕ → Type 0
+IsPassedOver [] = ⊤
+IsPassedOver (byte ∷ words) = byte ≡ 35
+
+-- the line that `show` prints for information of an object, of these numbers
+pub record Shows (words : List ℕ) (key : Key) (info : Information) : Type 0 where
+  pub key_is : IsKey key
+  pub numbers : HasNumbers info
+  pub words_are : words ≡ fact_words (Info key info)
+
+-- what a line tells: nothing if it is passed over, else the information that it shows
+pub data LineTells (words : List ℕ) (facts : List Fact) : Type 0 where
+  passed_over : IsPassedOver words → facts ≡ [] → LineTells words facts
+  shown : (key : Key) (info : Information) → IsFact (Info key info)
+      → words ≡ fact_words (Info key info) → facts ≡ Info key info ∷ [] → LineTells words facts
+
+-- no line feed is in it
+abbrev pub IsOneLine : List ℕ → Type 0
+IsOneLine words = All (λ byte. byte ≢ 10) words
+
+-- lines, and what they tell together, in their order
+unfoldable pub LinesTell : List (List ℕ) → List Fact → Type 0
+LinesTell [] facts = facts ≡ []
+LinesTell (words ∷ lines) facts =
+    (here : List Fact) × (later : List Fact) × IsOneLine words × LineTells words here
+    × LinesTell lines later × (facts ≡ here ++ later)
+
+-- a list is lines that each end with a line feed, and tell these facts
+pub record ListTells (bytes : List ℕ) (facts : List Fact) : Type 0 where
+  pub lines : List (List ℕ)
+  pub text : bytes ≡ flat_map line lines
+  pub tell : LinesTell lines facts
+
+-- the list begins with lines that tell these facts, as many as are before the line with this
+-- number, from 1, and then has other bytes
+pub record BeginsLine (bytes : List ℕ) (number : ℕ) (facts : List Fact)
+    (rest : List ℕ) : Type 0 where
+  pub lines : List (List ℕ)
+  pub text : bytes ≡ flat_map line lines ++ rest
+  pub tell : LinesTell lines facts
+  pub number_is : number ≡ length lines + 1
+
+-- so it does, and then has a line with P
+pub record HasLine (P : List ℕ → Type 0) (bytes : List ℕ) (number : ℕ) : Type 0 where
+  pub facts : List Fact
+  pub words : List ℕ
+  pub rest : List ℕ
+  pub begins : BeginsLine bytes number facts (line words ++ rest)
+  pub one_line : IsOneLine words
+  pub here : P words
+
+-- a line that is neither passed over nor the line of any information
+pub record TellsNothing (words : List ℕ) : Type 0 where
+  pub some : IsPassedOver words → ⊥
+  pub other : (key : Key) (info : Information) → Shows words key info → ⊥
+
+-- a line of numbers that are no information, for this reason
+pub record TellsInvalid (fault : InfoFault) (words : List ℕ) : Type 0 where
+  pub key : Key
+  pub info : Information
+  pub shows : Shows words key info
+  pub invalid : info_fault info ≡ Some fault
+
+-- the list ends within the line with this number
+pub record EndsWithin (bytes : List ℕ) (number : ℕ) : Type 0 where
+  pub facts : List Fact
+  pub words : List ℕ
+  pub begins : BeginsLine bytes number facts words
+  pub one_line : IsOneLine words
+  pub some : 0 < length words
+
+-- its first lines are over the limits of a store
+pub record ListIsOver (bytes : List ℕ) : Type 0 where
+  pub number : ℕ
+  pub facts : List Fact
+  pub rest : List ℕ
+  pub begins : BeginsLine bytes number facts rest
+  pub over : IsOverShelf facts
+
+-- why a list tells no facts: its first line at fault, which may have no end; a list of 2^64 - 1
+-- bytes or more is not read to its end
+pub data ListFails (bytes : List ℕ) (fault : CommandFault) : Type 0 where
+  nothing : (number : ℕ) → fault ≡ ListLine number → HasLine TellsNothing bytes number
+      → ListFails bytes fault
+  no_end : (number : ℕ) → fault ≡ ListLine number → EndsWithin bytes number
+      → ListFails bytes fault
+  too_long : (number : ℕ) → fault ≡ ListLine number → 2 ^ 64 ≤ length bytes + 1
+      → ListFails bytes fault
+  invalid : (number : ℕ) (why : InfoFault) → fault ≡ ListInformation number why
+      → HasLine (TellsInvalid why) bytes number → ListFails bytes fault
+  over : fault ≡ Full → ListIsOver bytes → ListFails bytes fault
+  no_memory : fault ≡ OutOfMemory → ListFails bytes fault
+
+-- What the parts of a list's reader answer.
+
+abbrev pub numbers_of : InfoNumbers → Information
+numbers_of numbers = information numbers.length numbers.symbol numbers.block
+
+-- how much of a line is kept: all of it; or 512 bytes, and it has more
+abbrev pub IsKept : Bool → List ℕ → List ℕ → Type 0
+IsKept false kept words = kept ≡ words
+IsKept true kept words =
+    (more : List ℕ) × (words ≡ kept ++ more) × (512 ≤ length kept) × (0 < length more)
+
+-- why the line with this number tells nothing
+pub data LineFails (number : ℕ) (words : List ℕ) (fault : CommandFault) : Type 0 where
+  no_line : fault ≡ ListLine number → TellsNothing words → LineFails number words fault
+  not_valid : (why : InfoFault) → fault ≡ ListInformation number why → TellsInvalid why words
+      → LineFails number words fault
+
+-- why what it tells is not taken beside these facts
+pub data TakingFails (told : List Fact) (number : ℕ) (words : List ℕ)
+    (fault : CommandFault) : Type 0 where
+  of_line : LineFails number words fault → TakingFails told number words fault
+  no_room : (facts : List Fact) → fault ≡ Full → LineTells words facts
+      → IsOverShelf (told ++ facts) → TakingFails told number words fault
+  no_memory_for : fault ≡ OutOfMemory → TakingFails told number words fault
+
+-- these bytes were read of a list: whole lines, and the beginning of one
+pub record HoldsList (list : InformationList) (bytes : List ℕ) : Type 0 where
+  pub facts : List Fact
+  pub words : List ℕ
+  pub begins : BeginsLine bytes list.number facts words
+  pub one_line : IsOneLine words
+  pub kept : IsKept list.long list.line words
+  pub content : Same list.told facts

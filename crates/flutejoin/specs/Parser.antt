@@ -1,0 +1,154 @@
+-- What the parser of the command line is told, and what it finds in the words.
+use Rattle.std.specs.Prelude.{◌≡◌, ◌∷◌, ◌++◌, [], List, Option, Some, true, false, codes}
+use Rattle.clap.specs.Faults.{fault_of}
+use Rattle.clap.specs.Kinds.{Kinds}
+use Rattle.clap.specs.Lexer.{usize_max}
+use Rattle.clap.specs.Simple.{App, Shape, new_rule, new_shape, shape_of, subcommand_of}
+use Rattle.clap.specs.Walk.{Row, Rule, Text, rule_of}
+use Rattle.clap.specs.declared.builder.action.ArgAction.TheVariants.{Set, Append, SetTrue}
+use Rattle.clap.specs.declared.builder.arg.Arg.{Arg}
+use Rattle.clap.specs.declared.builder.command.Command.{Command}
+use Rattle.clap.specs.declared.builder.command.Command.TheViews.{out-Command}
+
+-- ---- arguments
+
+-- a word at its place
+abbrev pub place : Text → Rule
+place id = record (new_rule id) { action = Some Set; required = true }
+
+-- an option with one value, by its name
+abbrev pub option : Text → Rule
+option name = record (new_rule name) { long = Some name; action = Some Set; value_names = 1 }
+
+-- one that has to be given
+abbrev pub needed : Rule → Rule
+needed rule = record rule { required = true }
+
+-- `-o`
+abbrev pub out : Rule
+out = record (place (codes "OUT")) { short = Some 111 }
+
+-- `--force`, or `-f`
+abbrev pub force_flag : Rule
+force_flag = record (new_rule (codes "force")) {
+  short = Some 102;
+  long = Some (codes "force");
+  action = Some SetTrue;
+}
+
+-- `--tsi`, as often as one likes
+abbrev pub session_list : Rule
+session_list = record (option (codes "tsi")) { action = Some Append }
+
+-- a flag, by its name
+abbrev pub long_flag : Text → Rule
+long_flag name = record (new_rule name) { long = Some name; action = Some SetTrue }
+
+-- words to the end, one or more
+abbrev pub input_list : Rule
+input_list = record (place (codes "INPUT")) {
+  action = Some Append;
+  range = Some (record { start_inclusive = 1; end_inclusive = usize_max });
+}
+
+-- what names an object
+abbrev pub key_rules : List Rule
+key_rules =
+    needed (option (codes "tsi")) ∷ needed (option (codes "toi")) ∷ option (codes "fdt") ∷ []
+
+-- what selects entries of a journal
+abbrev pub selection_rules : List Rule
+selection_rules =
+    long_flag (codes "conflicts") ∷ option (codes "source") ∷ session_list ∷ option (codes "toi")
+    ∷ option (codes "fdt") ∷ option (codes "symbol") ∷ long_flag (codes "info") ∷ []
+
+-- how it is cut
+abbrev pub size_rules : List Rule
+size_rules = needed (option (codes "symbol")) ∷ needed (option (codes "block")) ∷ []
+
+-- ---- commands
+
+abbrev pub packet_rules : List Rule
+packet_rules = place (codes "HEX") ∷ []
+
+abbrev pub journal_rules : List Rule
+journal_rules = place (codes "J") ∷ []
+
+-- its options are of one object or of all
+abbrev pub extract_rules : List Rule
+extract_rules =
+    out ∷ force_flag ∷ long_flag (codes "all") ∷ option (codes "source") ∷ session_list ∷ option (codes "toi")
+    ∷ option (codes "fdt") ∷ journal_rules
+
+-- of one object or of a list of them
+abbrev pub info_rules : List Rule
+info_rules =
+    out ∷ force_flag ∷ option (codes "list") ∷ option (codes "source") ∷ option (codes "tsi")
+    ∷ option (codes "toi") ∷ option (codes "fdt") ∷ option (codes "length")
+    ∷ option (codes "symbol") ∷ option (codes "block") ∷ journal_rules
+
+abbrev pub join_rules : List Rule
+join_rules = out ∷ force_flag ∷ option (codes "source") ∷ session_list ∷ input_list ∷ []
+
+abbrev pub merge_rules : List Rule
+merge_rules = out ∷ force_flag ∷ place (codes "A") ∷ place (codes "B") ∷ []
+
+-- its options select entries
+abbrev pub forget_rules : List Rule
+forget_rules = out ∷ force_flag ∷ selection_rules ++ journal_rules
+
+abbrev pub carousel_rules : List Rule
+carousel_rules = out ∷ force_flag ∷ key_rules ++ size_rules ++ place (codes "FILE") ∷ []
+
+-- a command with these arguments
+abbrev pub command_with : Text → List Rule → Shape
+command_with name rules = record (new_shape name) { rules = rules }
+
+-- the program without them; its own name is none of its words
+abbrev pub no_commands : App
+no_commands = record {
+  top = record (new_shape (codes "flutejoin")) {
+    no_binary_name = true;
+    has_version = true;
+    has_long_version = true;
+    arg_required_else_help = true;
+    subcommand_required = true;
+  };
+  subs = [];
+}
+
+-- the program
+unfoldable pub program : App
+program = record {
+  top = record no_commands.top { is_leaf = false };
+  subs = command_with (codes "packet") packet_rules
+      ∷ command_with (codes "show") journal_rules
+      ∷ command_with (codes "gaps") journal_rules
+      ∷ command_with (codes "extract") extract_rules
+      ∷ command_with (codes "info") info_rules
+      ∷ command_with (codes "join") join_rules
+      ∷ command_with (codes "merge") merge_rules
+      ∷ command_with (codes "forget") forget_rules
+      ∷ command_with (codes "carousel") carousel_rules
+      ∷ [];
+}
+
+-- the argument is that one, and of its own command alone
+pub record IsArgument (rule : Rule) (arg : Arg) : Type 0 where
+  pub rule_is : rule_of arg ≡ rule
+  pub is_local : arg.global ≡ false
+
+-- the command is that one
+pub record IsCommand (name : Text) (rules : List Rule) (command : Command) : Type 0 where
+  pub shape_is : shape_of command ≡ command_with name rules
+  pub is_local : (out-Command command).has_globals ≡ false
+
+-- ---- words
+
+-- the command that the words name, with what they give for each of its arguments
+unfoldable pub command_in : List Text → Option (Text × List Row)
+command_in words = subcommand_of program words
+
+-- why the parser refuses the words: none if it takes them; help and the version are refusals too
+unfoldable pub refusals_of : List Text → Kinds
+refusals_of words = fault_of program words

@@ -1,0 +1,18 @@
+//! A sink that keeps nothing.
+ghost use Rattle.std.specs.Prelude.{None};
+
+use flute_parts::{DeviceFault, Sink};
+
+/// A sink that takes all bytes, keeps none of them, and never fails.
+#[derive(Clone, Copy, Debug, PartialEq, Eq)]
+pub struct Nothing;
+
+impl Sink for Nothing {
+    ghost failures = { λ _. 0 };
+
+    ghost written = { λ _. None };
+
+    fn write(&mut self, bytes: &[u8]) -> Result<usize, DeviceFault> {
+        Ok(bytes.len())
+    }
+}

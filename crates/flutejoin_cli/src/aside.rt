@@ -1,0 +1,187 @@
+//! Lines that are put aside, in memory and then in a file.
+ghost use Rattle.std.specs.Prelude.{◌≡◌, ◌+◌, None, IfErr, if◌then◌else◌, is_ok};
+ghost use Rattle.flutejoin.specs.declared.command_fault.CommandFault.TheVariants.{OutOfMemory};
+
+use flute_parts::{DeviceFault, Failures, Sink};
+use flutejoin::{Aside, CommandFault};
+use itoa::Buffer;
+use std::env;
+use std::fs::{self, File, OpenOptions};
+use std::io::{self, ErrorKind, Read, Seek, SeekFrom, Write};
+use std::os::unix::fs::OpenOptionsExt;
+
+/// How many bytes are held in memory. What is more goes to a file.
+const HELD: usize = 1_048_576;
+
+/// How many names are tried for that file.
+const NAMES: u32 = 1_000;
+
+/// How many bytes of it are read at once.
+const CHUNK: usize = 65_536;
+
+/// Bytes that are put aside: up to 1 MiB in memory, and what came before them in a file of the
+/// folder for temporary files, which has no name there. It tells contracts nothing of its bytes.
+#[derive(Drop)]
+pub struct FileAside<'a> {
+    rt: &'a HostRuntime,
+    held: Vec<u8>,
+    file: Option<File>,
+    /// How many bytes the file has.
+    spilled: u64,
+    failures: Failures,
+}
+
+impl<'a> FileAside<'a> {
+    /// Nothing is put aside yet, and no file is made.
+    ///
+    /// # Errors
+    ///
+    /// `OutOfMemory` if there is no memory for the bytes that are held.
+    pub fn new(rt: &'a HostRuntime) -> Result<FileAside<'a>, CommandFault>
+        ensures { IfErr result (λ fault. fault ≡ OutOfMemory) }
+    {
+        match Vec::with_capacity(rt.alloc(), HELD) {
+            Ok(held) => Ok(FileAside {
+                rt,
+                held,
+                file: None,
+                spilled: 0,
+                failures: Failures::none(),
+            }),
+            Err(_) => Err(CommandFault::OutOfMemory),
+        }
+    }
+
+    // Counts the failure of a call that failed.
+    fn count<T>(&mut self, done: io::Result<T>) -> Result<T, DeviceFault>
+        ensures { self.new.failures.count
+            ≡ self.old.failures.count + (if is_ok result then 0 else 1) }
+    {
+        match done {
+            Ok(value) => Ok(value),
+            Err(_) => {
+                self.failures = self.failures.and_one();
+                Err(DeviceFault)
+            }
+        }
+    }
+
+    // Holds more bytes, after those that are held went to the file if there is no room for both.
+    fn hold(&mut self, bytes: &[u8]) -> io::Result<()>
+        ensures { self.new.failures ≡ self.old.failures }
+    {
+        if self.held.len().saturating_add(bytes.len()) > HELD {
+            self.spill()?;
+        }
+        self.held.extend_from_slice(bytes)?;
+        Ok(())
+    }
+
+    // Writes the bytes that are held to the file, which is made first if there is none.
+    fn spill(&mut self) -> io::Result<()>
+        ensures { self.new.failures ≡ self.old.failures }
+    {
+        if self.file.is_none() {
+            self.file = Some(unnamed(self.rt)?);
+        }
+        if let Some(file) = &mut self.file {
+            file.write_all(&self.held)?;
+            self.spilled = self.spilled.saturating_add(self.held.len() as u64);
+        }
+        self.held.clear();
+        Ok(())
+    }
+
+    // Empties the file.
+    fn empty(&mut self) -> io::Result<()>
+        ensures { self.new.failures ≡ self.old.failures }
+    {
+        if let Some(file) = &mut self.file {
+            file.set_len(0)?;
+            file.seek(SeekFrom::Start(0))?;
+        }
+        self.spilled = 0;
+        Ok(())
+    }
+}
+
+impl Sink for FileAside<'_> {
+    ghost failures = { λ a. a.failures.count };
+
+    ghost written = { λ _. None };
+
+    fn write(&mut self, bytes: &[u8]) -> Result<usize, DeviceFault> {
+        let held = self.hold(bytes);
+        self.count(held)?;
+        Ok(bytes.len())
+    }
+}
+
+impl Aside for FileAside<'_> {
+    // The bytes that are held come last: if the file failed before, the sink has a proper prefix.
+    fn move_to<W: Sink>(&mut self, sink: &mut W) -> Result<(), DeviceFault> {
+        if let Some(file) = &mut self.file {
+            if !copy(file, self.spilled, sink)? {
+                self.failures = self.failures.and_one();
+                return Err(DeviceFault);
+            }
+            let emptied = self.empty();
+            self.count(emptied)?;
+        }
+        sink.write_all(&self.held)?;
+        self.held.clear();
+        Ok(())
+    }
+}
+
+// Copies the first bytes of a file, so many, to a sink; false if the file failed.
+fn copy<W: Sink>(file: &mut File, count: u64, sink: &mut W) -> Result<bool, DeviceFault>
+    ensures { W.failures sink.new ≡ W.failures sink.old + (if is_ok result then 0 else 1) }
+{
+    if file.seek(SeekFrom::Start(0)).is_err() {
+        return Ok(false);
+    }
+    let mut buffer = [0; CHUNK];
+    let mut left = count;
+    for _ in 0..=count / CHUNK as u64 {
+        let part = left.min(CHUNK as u64) as usize;
+        if !reads(file, &mut buffer[..part]) {
+            return Ok(false);
+        }
+        sink.write_all(&buffer[..part])?;
+        left -= part as u64;
+    }
+    Ok(true)
+}
+
+// Whether the file gives so many bytes.
+fn reads(file: &mut File, buffer: &mut [u8]) -> bool {
+    file.read_exact(buffer).is_ok()
+}
+
+// A new file of the folder for temporary files, whose name is taken away at once.
+fn unnamed(rt: &HostRuntime) -> io::Result<File> {
+    let folder = env::temp_dir(rt)?;
+    let mut digits = Buffer::new();
+    for number in 0..NAMES {
+        let mut name = String::new(rt.alloc());
+        name.push_str("flutejoin.")?;
+        name.push_str(digits.format(number))?;
+        let path = folder.join(rt.alloc(), name.as_str())?;
+        let made = OpenOptions::new()
+            .read(true)
+            .write(true)
+            .create_new(true)
+            .mode(0o600)
+            .open(rt, &path);
+        match made {
+            Ok(file) => {
+                fs::remove_file(rt, &path)?;
+                return Ok(file);
+            }
+            Err(error) if error.kind() == ErrorKind::AlreadyExists => {}
+            Err(error) => return Err(error),
+        }
+    }
+    Err(ErrorKind::AlreadyExists.into())
+}

@@ -1,0 +1,28 @@
+-- A line that words say has few inputs.
+use Rattle.std.proofs.Common.{ℕ, List, Option, Some, None}
+use Rattle.clap.specs.Walk.{Row}
+use Rattle.flutejoin.specs.CommandLine.{IsLineIn, IsLineOf}
+use Rattle.flutejoin.specs.Parser.{command_in}
+use Rattle.flutejoin.specs.declared.command_line.Line.{Line}
+use Rattle.flutejoin.specs.declared.command_line.Line.TheVariants.{Packet, Show, Gaps, Extract}
+use Rattle.flutejoin.specs.declared.command_line.Line.TheVariants.{ExtractAll, Info, InfoList}
+use Rattle.flutejoin.specs.declared.command_line.Line.TheVariants.{Join, Merge, Forget, Carousel}
+use Rattle.flutejoin_commands.specs.Runs.{HasFewInputs}
+
+few_of : (found : Option (List ℕ × List Row)) (line : Line) → IsLineOf found line
+    → HasFewInputs line
+few_of None line h = absurd h
+few_of (Some found) (Packet hex) h = tt
+few_of (Some found) (Show j) h = tt
+few_of (Some found) (Gaps j) h = tt
+few_of (Some found) (Extract out force key j) h = tt
+few_of (Some found) (ExtractAll out sender sessions j) h = tt
+few_of (Some found) (Info out force key len symbol block j) h = tt
+few_of (Some found) (InfoList out force list j) h = tt
+few_of (Some found) (Join out force sender sessions inputs) h = h.6
+few_of (Some found) (Merge out force a b) h = tt
+few_of (Some found) (Forget out force selection j) h = tt
+few_of (Some found) (Carousel out force key symbol block file) h = tt
+
+pub few_inputs : (words : List (List ℕ)) (line : Line) → IsLineIn words line → HasFewInputs line
+few_inputs words line h = few_of (command_in words) line h.1

@@ -1,0 +1,215 @@
+-- A new folder that a command makes, fills and ends.
+use Rattle.std.proofs.Common.{◌≡◌, ℕ, List, [], ◌++◌, length, Option, Some, None, Result, Ok, Err}
+use Rattle.std.proofs.Common.{inl, inr, refl, sym, ap, ◌∙◌, subst}
+use Rattle.std.specs.Prelude.{◌⊎◌, IfSome, OnOk, IfOk, IfErr, codes}
+use Rattle.std.specs.Io.KnownBytes.{Appends}
+use Rattle.std.proofs.KnownBytes.{Appends-trans}
+use Rattle.flute_output.specs.NewFolders.{NamedFile, Places, LeadsTo, IsMade, IsReady, IsNothing}
+use Rattle.flute_output.specs.NewFolders.{HasBeside, FolderStays, Fills, BecomesFolder, StaysThere}
+use Rattle.flute_output.specs.NewFolders.{StaysNothing, NoneBeside, IsWholeOrNothing, folder_of}
+use Rattle.flute_output.specs.NewFolders.{files_beside, EndsAt}
+use Rattle.flute_output.specs.Entries.{IfWork}
+use Rattle.flute_output.specs.declared.output.FinishFault.{FinishFault}
+use Rattle.flute_output.specs.declared.output.FinishFault.TheVariants as finish
+use Rattle.flutejoin.specs.ExtractAll.{ExtractsAll, ExtractAllFails}
+use Rattle.flutejoin.specs.Lines.{count_line}
+use Rattle.flutejoin.specs.declared.picked.Picked.{Picked}
+use Rattle.flutejoin.specs.declared.command_fault.CommandFault.{CommandFault}
+use Rattle.flutejoin.specs.declared.command_fault.CommandFault.TheVariants.{CannotWrite, NotOnDisk}
+use Rattle.flutejoin_commands.specs.Folders.{IsFolderOf, IsKeptFolder, TellsFiles, LeavesFolder}
+use Rattle.flutejoin_commands.specs.Folders.{IsNowhere, FolderFails, of_work, of_device, of_end}
+use Rattle.flutejoin_commands.specs.Folders.{finish_fault}
+
+pub made_ready : (o m : Option Places) → LeadsTo IsMade o m → IfSome m IsReady
+made_ready None None h = tt
+made_ready None (Some m) h = absurd h
+made_ready (Some o) None h = absurd h
+made_ready (Some o) (Some m) h = subst IsReady (sym h.made) (record { there = refl; closed = refl })
+
+module _ (o m f : Places) (h : IsMade o m) (s : FolderStays m f) where
+  out_none : f.out ≡ None
+  out_none = s.out ∙ ap (λ (p : Places). p.out) h.made ∙ h.none
+
+  past_none : f.past ≡ []
+  past_none = s.past ∙ ap (λ (p : Places). p.past) h.made
+
+  named_as : f.named ≡ o.named
+  named_as = s.named ∙ ap (λ (p : Places). p.named) h.made
+
+  nothing_there : IsNothing f
+  nothing_there = record { none = out_none; untouched = past_none }
+
+pub made_nothing : (o m f : Option Places) → LeadsTo IsMade o m → LeadsTo FolderStays m f → IfSome
+    f IsNothing
+made_nothing None None None h s = tt
+made_nothing None None (Some f) h s = absurd s
+made_nothing None (Some m) f h s = absurd h
+made_nothing (Some o) None f h s = absurd h
+made_nothing (Some o) (Some m) None h s = absurd s
+made_nothing (Some o) (Some m) (Some f) h s = nothing_there o m f h s
+
+-- the files that were filled in are all
+pub filled_beside : (files : List NamedFile) (m f : Option Places) → LeadsTo (Fills files None) m f
+    → IfSome f HasBeside
+filled_beside files None None h = tt
+filled_beside files None (Some f) h = absurd h
+filled_beside files (Some m) None h = absurd h
+filled_beside files (Some m) (Some f) h = h.there
+
+all_files : (files : List NamedFile) (o m f : Places) → IsMade o m → Fills files None m f →
+    files_beside f ≡ files
+all_files files o m f h l = l.beside ∙ ap (λ (p : Places). files_beside p ++ files) h.made
+
+-- OUT at the end
+
+pub is_folder : (files : List NamedFile) (o m f n : Option Places) → LeadsTo IsMade o m → LeadsTo
+    (Fills files None) m f
+    → LeadsTo (λ old new. BecomesFolder (folder_of (files_beside old)) old new) f n → LeadsTo
+    (IsFolderOf files) o n
+is_folder files None None None None h l b = tt
+is_folder files None None None (Some n) h l b = absurd b
+is_folder files None None (Some f) n h l b = absurd l
+is_folder files None (Some m) f n h l b = absurd h
+is_folder files (Some o) None f n h l b = absurd h
+is_folder files (Some o) (Some m) None n h l b = absurd l
+is_folder files (Some o) (Some m) (Some f) None h l b = absurd b
+is_folder files (Some o) (Some m) (Some f) (Some n) h l b = record {
+  none = h.none;
+  becomes = record {
+    out = b.out ∙ ap (λ x. Some (folder_of x)) (all_files files o m f h l);
+    past =
+        b.past;
+  };
+}
+
+pub is_kept : (files : List NamedFile) (o m f n : Option Places) → LeadsTo IsMade o m → LeadsTo
+    (Fills files None) m f
+    → LeadsTo (λ old new. StaysThere (files_beside old) new) f n → LeadsTo NoneBeside f n → LeadsTo
+    (IsKeptFolder files) o n
+is_kept files None None None None h l s b = tt
+is_kept files None None None (Some n) h l s b = absurd s
+is_kept files None None (Some f) n h l s b = absurd l
+is_kept files None (Some m) f n h l s b = absurd h
+is_kept files (Some o) None f n h l s b = absurd h
+is_kept files (Some o) (Some m) None n h l s b = absurd l
+is_kept files (Some o) (Some m) (Some f) None h l s b = absurd s
+is_kept files (Some o) (Some m) (Some f) (Some n) h l s b = record
+    { lasts = subst (λ x. StaysThere x n) (all_files files o m f h l) s; beside = b }
+
+pub is_nowhere : (o m f n : Option Places) → LeadsTo IsMade o m → LeadsTo FolderStays m f → LeadsTo
+    StaysNothing f n → LeadsTo IsNowhere o n
+is_nowhere None None None None h s b = tt
+is_nowhere None None None (Some n) h s b = absurd b
+is_nowhere None None (Some f) n h s b = absurd s
+is_nowhere None (Some m) f n h s b = absurd h
+is_nowhere (Some o) None f n h s b = absurd h
+is_nowhere (Some o) (Some m) None n h s b = absurd s
+is_nowhere (Some o) (Some m) (Some f) None h s b = absurd b
+is_nowhere (Some o) (Some m) (Some f) (Some n) h s b = record { none = h.none; out = b.out }
+
+pub one_always : (o m f n : Option Places) → LeadsTo IsMade o m → LeadsTo FolderStays m f
+    → LeadsTo (λ old new. IsWholeOrNothing (folder_of (files_beside old)) old new) f n
+    → LeadsTo (λ before after. (files : List NamedFile) × IsWholeOrNothing (folder_of files) before
+    after) o n
+one_always None None None None h s b = tt
+one_always None None None (Some n) h s b = absurd b
+one_always None None (Some f) n h s b = absurd s
+one_always None (Some m) f n h s b = absurd h
+one_always (Some o) None f n h s b = absurd h
+one_always (Some o) (Some m) None n h s b = absurd s
+one_always (Some o) (Some m) (Some f) None h s b = absurd b
+one_always (Some o) (Some m) (Some f) (Some n) h s b = (
+  files_beside f,
+  record { stopped = b.stopped; lost_power = λ e. b.lost_power (named_as o m f h s ∙ e) },
+)
+
+-- what the journal told
+pub tells_files : (input left : Option (List ℕ)) (picked : Picked) (m f : Option Places)
+    (r r' : Option (List ℕ)) (count : ℕ) (e : ExtractsAll input left picked m f r r' count)
+    → TellsFiles input picked e.taken.files e.taken.told
+tells_files input left picked m f r r' count e = record
+    { entries = e.entries; journal = e.journal; within = e.within; taken = e.taken.taken }
+
+pub leaves_folder : (input left : Option (List ℕ)) (picked : Picked) (o m f n : Option Places)
+    (r r' r'' : Option (List ℕ)) (count : ℕ) → LeadsTo IsMade o m → ExtractsAll input left picked m
+    f r r' count
+    → LeadsTo (λ old new. BecomesFolder (folder_of (files_beside old)) old new) f n → LeadsTo
+    (λ old new. StaysThere (files_beside old) new) f n → LeadsTo NoneBeside f n
+    → Appends r' r'' (count_line (codes "written") count) → LeavesFolder input picked o n r r''
+leaves_folder input left picked o m f n r r' r'' count h e b s g line = record {
+  files = e.taken.files;
+  told = e.taken.told;
+  tells = tells_files input left picked m f r r' count e;
+  out = is_folder e.taken.files o m f n h e.taken.filled b;
+  kept = is_kept e.taken.files o m f n h e.taken.filled s g;
+  report = Appends-trans r r' r'' e.taken.told (count_line (codes "written")
+      (length e.taken.files)) e.taken.written
+      (subst (λ k. Appends r' r'' (count_line (codes "written") k)) e.taken.count_is line);
+}
+
+-- OUT is there, though the command failed
+pub there_failed : (input left : Option (List ℕ)) (picked : Picked) (o m f n : Option Places)
+    (r r' : Option (List ℕ)) (count : ℕ) (fault : CommandFault) → (fault ≡ NotOnDisk) ⊎
+    (fault ≡ CannotWrite)
+    → LeadsTo IsMade o m → ExtractsAll input left picked m f r r' count
+    → LeadsTo (λ old new. BecomesFolder (folder_of (files_beside old)) old new) f n → FolderFails
+    input left picked o n fault
+there_failed input left picked o m f n r r' count fault why h e b =
+    of_end why e.taken.files e.taken.told (tells_files input left picked m f r r' count e)
+    (is_folder e.taken.files o m f n h e.taken.filled b)
+
+-- the work failed
+pub work_failed : (input left : Option (List ℕ)) (picked : Picked) (o n : Option Places)
+    (fault : CommandFault) → ExtractAllFails input left fault ⊎ (fault ≡ CannotWrite) → LeadsTo
+    IsNowhere o n
+    → FolderFails input left picked o n fault
+work_failed input left picked o n fault (inl w) h = of_work w h
+work_failed input left picked o n fault (inr w) h = of_device w h
+
+pub on_ok : {T E A B : Type 0} (r : Result T E) → (A → B) → OnOk r A → OnOk r B
+on_ok (Ok x) f h = f h
+on_ok (Err x) f h = h
+
+pub if_err : {T E : Type 0} {P Q : E → Type 0} (r : Result T E) → ((x : E) → P x → Q x) → IfErr r P
+    → IfErr r Q
+if_err (Ok x) f h = h
+if_err (Err e) f h = f e h
+
+-- the work was done, if the disk alone failed
+pub done_but_disk : {T E : Type 0} (done : Result T E) (r : Result T (FinishFault E)) → IfErr done
+    (λ e. r ≡ Err (finish.Work e)) → r ≡ Err finish.NotOnDisk → (x : T) × (done ≡ Ok x)
+done_but_disk (Ok x) r h e = (x, refl)
+done_but_disk (Err f) r h e = absurd cc
+
+pub on_if_ok : {T E B : Type 0} {P : T → Type 0} (r : Result T E) → ((x : T) → P x → B) → IfOk r P
+    → OnOk r B
+on_if_ok (Ok x) f h = f x h
+on_if_ok (Err e) f h = h
+
+-- the folder was not finished
+pub not_finished : {input left : Option (List ℕ)} {picked : Picked} {o n : Option Places}
+    (m f : Option Places) (r r' : Option (List ℕ)) (done : Result ℕ CommandFault)
+    (result : Result ℕ (FinishFault CommandFault)) (fault : FinishFault CommandFault)
+    → result ≡ Err fault → LeadsTo IsMade o m → LeadsTo FolderStays m f
+    → IfOk done (ExtractsAll input left picked m f r r')
+    → IfErr done (λ x. ExtractAllFails input left x ⊎ (x ≡ CannotWrite))
+    → IfErr done (λ x. result ≡ Err (finish.Work x))
+    → IfErr result (λ e. IfWork e (λ x. done ≡ Err x))
+    → IfErr result (λ e. LeadsTo (EndsAt e) f n)
+    → FolderFails input left picked o n (finish_fault fault)
+not_finished {input} {left} {picked} {o} {n} m f r r' done result fault is h s ok err
+    told work ends = ended fault is
+    (subst (λ x. IfErr x (λ e. IfWork e (λ y. done ≡ Err y))) is work)
+    (subst (λ x. IfErr x (λ e. LeadsTo (EndsAt e) f n)) is ends)
+  where
+    ended : (e : FinishFault CommandFault) → result ≡ Err e → IfWork e (λ y. done ≡ Err y)
+        → LeadsTo (EndsAt e) f n → FolderFails input left picked o n (finish_fault e)
+    ended (finish.Work y) at y_is there =
+        work_failed input left picked o n y
+        (subst (λ d. IfErr d (λ x. ExtractAllFails input left x ⊎ (x ≡ CannotWrite))) y_is err)
+        (is_nowhere o m f n h s there)
+    ended finish.Write at y_is there = of_device refl (is_nowhere o m f n h s there)
+    ended finish.NotOnDisk at y_is there =
+        let d = done_but_disk done result told at in
+        there_failed input left picked o m f n r r' d.0 NotOnDisk (inl refl) h
+        (subst (λ x. IfOk x (ExtractsAll input left picked m f r r')) d.1 ok) there

@@ -1,0 +1,63 @@
+-- What was left, told by the name.
+use Rattle.std.proofs.Common.{IfErr, List, ℕ, Option, subst, sym, ◌∙◌}
+use Rattle.std.specs.Prelude.{OnOk}
+use Rattle.flute_journal.specs.declared.selection.Selection.{Selection}
+use Rattle.flutejoin.specs.Forget.{ForgetFails}
+use Rattle.flutejoin_commands.specs.Files.{HasBytes}
+use Rattle.flutejoin_commands.specs.Named.{ForgetsInName, ForgetInNameFails}
+use Rattle.flutejoin_commands.specs.Works.{ForgetsIn, forget_lines}
+use Rattle.flutejoin_commands.specs.Worlds.{Leaves, FailsToLeave, outside}
+use Rattle.flutejoin_commands.proofs.OfNames.{left_of, not_left_of}
+use Rattle.flutejoin_commands.proofs.commands.forget.Goals as goal
+
+pub returns-clause-forgot : goal.returns-clause-forgot
+returns-clause-forgot g c =
+    let files = g.W.Inputs.files c.args.world.now in
+    let unread = g.W.Input.Source.unread in
+    let a = c.args in
+    let input = c.forget_input-input.result in
+    let x = unread input.stream.source in
+    let o = g.O.Sink.written a.output.now in
+    let e = g.E.Sink.written a.errors.now in
+    let new = outside (g.W.Inputs.files c.leave.new.world) (g.O.Sink.written c.leave.new.output)
+    (g.E.Sink.written c.leave.new.errors) in
+    subst (λ (s : Selection). OnOk c.leave.result (Leaves (ForgetsInName files a.j.now s)
+    (ForgetsInName files a.j.now s) forget_lines a.out.now (outside files o e) new))
+    c.forget_input-input.ensures.selection
+    (left_of (λ (k : Option (List ℕ)). ForgetsIn k input.choice.0)
+    (λ (k : Option (List ℕ)). ForgetsIn k input.choice.0)
+    (λ (k : Option (List ℕ)). ForgetFails k) files a.j.now x
+    (subst (λ s. HasBytes files a.j.now (unread s)) (sym c.forget_input-input.ensures.source)
+    (subst (λ f. HasBytes f a.j.now (unread c.in_ok-source.source)) c.look.ensures.same_files
+    c.in_ok-source.ensures.opened))
+    a.out.now (outside files o e) new forget_lines c.leave.result
+    (subst (λ f. OnOk c.leave.result (Leaves (ForgetsIn x input.choice.0)
+    (ForgetsIn x input.choice.0) forget_lines a.out.now (outside f o e) new))
+    (c.guard.ensures.same_files ∙ c.open_input.ensures.same_files ∙ c.look.ensures.same_files)
+    c.leave.ensures.left))
+
+pub returns-clause-failed : goal.returns-clause-failed
+returns-clause-failed g c =
+    let files = g.W.Inputs.files c.args.world.now in
+    let unread = g.W.Input.Source.unread in
+    let a = c.args in
+    let input = c.forget_input-input.result in
+    let x = unread input.stream.source in
+    let o = g.O.Sink.written a.output.now in
+    let e = g.E.Sink.written a.errors.now in
+    let new = outside (g.W.Inputs.files c.leave.new.world) (g.O.Sink.written c.leave.new.output)
+    (g.E.Sink.written c.leave.new.errors) in
+    subst (λ (s : Selection). IfErr c.leave.result (FailsToLeave (ForgetsInName files a.j.now s)
+    (ForgetInNameFails files a.j.now) a.out.now (outside files o e) new))
+    c.forget_input-input.ensures.selection
+    (not_left_of (λ (k : Option (List ℕ)). ForgetsIn k input.choice.0)
+    (λ (k : Option (List ℕ)). ForgetsIn k input.choice.0)
+    (λ (k : Option (List ℕ)). ForgetFails k) files a.j.now x
+    (subst (λ s. HasBytes files a.j.now (unread s)) (sym c.forget_input-input.ensures.source)
+    (subst (λ f. HasBytes f a.j.now (unread c.in_ok-source.source)) c.look.ensures.same_files
+    c.in_ok-source.ensures.opened))
+    a.out.now (outside files o e) new c.leave.result
+    (subst (λ f. IfErr c.leave.result (FailsToLeave (ForgetsIn x input.choice.0)
+    (ForgetFails x) a.out.now (outside f o e) new))
+    (c.guard.ensures.same_files ∙ c.open_input.ensures.same_files ∙ c.look.ensures.same_files)
+    c.leave.ensures.failed))

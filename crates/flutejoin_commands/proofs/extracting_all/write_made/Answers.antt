@@ -1,0 +1,80 @@
+use Rattle.std.proofs.Common.{Result, ℕ, inr, subst, sym}
+use Rattle.std.specs.Prelude.{IfOk}
+use Rattle.flutejoin.specs.ExtractAll.{ExtractsAll}
+use Rattle.flutejoin.specs.declared.command_fault.CommandFault.{CommandFault}
+use Rattle.flutejoin_commands.proofs.FolderSteps.{made_ready, made_nothing, filled_beside}
+use Rattle.flutejoin_commands.proofs.FolderSteps.{one_always, leaves_folder, there_failed, on_ok}
+use Rattle.flutejoin_commands.specs.Folders.{FolderFails}
+use Rattle.flutejoin_commands.proofs.FolderSteps.{on_if_ok, if_err, not_finished}
+use Rattle.flutejoin_commands.proofs.extracting_all.write_made.Goals as goal
+
+pub fill-filled-requires : goal.fill-filled-requires
+fill-filled-requires g c = made_ready c.requires.made.0 (g.D.NewFolder.places c.args.folder.now) c.requires.made.1
+
+pub finish_folder-requires-clause-nothing : goal.finish_folder-requires-clause-nothing
+finish_folder-requires-clause-nothing g c = made_nothing c.requires.made.0
+    (g.D.NewFolder.places c.args.folder.now) (g.D.NewFolder.places c.fill-filled.new.folder)
+    c.requires.made.1 c.fill-filled.ensures.stays
+
+pub finish_folder-requires-clause-beside : goal.finish_folder-requires-clause-beside
+finish_folder-requires-clause-beside g c =
+    on_if_ok c.fill-filled.result (λ n e. filled_beside e.taken.files
+    (g.D.NewFolder.places c.args.folder.now) (g.D.NewFolder.places c.fill-filled.new.folder)
+    e.taken.filled) c.fill-filled.ensures.filled
+
+pub returns-in-Ok-clause-extracted : goal.returns-in-Ok-clause-extracted
+returns-in-Ok-clause-extracted g c = λ o h.
+    let m = g.D.NewFolder.places c.args.folder.now in
+    let f = g.D.NewFolder.places c.fill-filled.new.folder in
+    let n = g.D.NewFolder.places c.finish_folder.new.folder in
+    let u = g.R.Source.unread c.args.source.now in
+    let w = g.R.Source.unread c.fill-filled.new.source in
+    let picked = c.args.picked.now in
+    let r = g.P.Sink.written c.args.report.now in
+    let r' = g.P.Sink.written c.fill-filled.new.report in
+    let r'' = g.P.Sink.written c.tell.new.report in
+    let e = subst (λ (x : Result ℕ CommandFault). IfOk x (ExtractsAll u w picked m f r r'))
+    c.in-Ok.ensures.done c.fill-filled.ensures.filled in
+    on_ok c.tell.result (λ line. leaves_folder u w picked o m f n r r' r'' c.in-Ok.count h e
+    c.in-Ok.ensures.kept c.in-Ok.ensures.lasts c.in-Ok.ensures.gone_ok line) c.tell.ensures.told
+
+pub returns-in-Ok-clause-failed : goal.returns-in-Ok-clause-failed
+returns-in-Ok-clause-failed g c = λ o h.
+    let m = g.D.NewFolder.places c.args.folder.now in
+    let f = g.D.NewFolder.places c.fill-filled.new.folder in
+    let n = g.D.NewFolder.places c.finish_folder.new.folder in
+    let u = g.R.Source.unread c.args.source.now in
+    let w = g.R.Source.unread c.fill-filled.new.source in
+    let picked = c.args.picked.now in
+    let r = g.P.Sink.written c.args.report.now in
+    let r' = g.P.Sink.written c.fill-filled.new.report in
+    let e = subst (λ (x : Result ℕ CommandFault). IfOk x (ExtractsAll u w picked m f r r'))
+    c.in-Ok.ensures.done c.fill-filled.ensures.filled in
+    if_err c.tell.result (λ fault is. there_failed u w picked o m f n r r' c.in-Ok.count fault
+    (inr is) h e c.in-Ok.ensures.kept) c.tell.ensures.failed
+
+pub returns-in-Ok-clause-any_moment : goal.returns-in-Ok-clause-any_moment
+returns-in-Ok-clause-any_moment g c = λ o h.
+    inr (one_always o (g.D.NewFolder.places c.args.folder.now)
+    (g.D.NewFolder.places c.fill-filled.new.folder)
+    (g.D.NewFolder.places c.finish_folder.new.folder) h c.fill-filled.ensures.stays
+    c.finish_folder.ensures.any_moment)
+
+pub returns-in-Err-clause-failed : goal.returns-in-Err-clause-failed
+returns-in-Err-clause-failed g c = λ o h.
+    let u = g.R.Source.unread c.args.source.now in
+    let w = g.R.Source.unread c.fill-filled.new.source in
+    let e = not_finished (g.D.NewFolder.places c.args.folder.now)
+    (g.D.NewFolder.places c.fill-filled.new.folder) (g.P.Sink.written c.args.report.now)
+    (g.P.Sink.written c.fill-filled.new.report) c.fill-filled.result c.finish_folder.result c.in-Err.fault c.in-Err.is h
+    c.fill-filled.ensures.stays c.fill-filled.ensures.filled c.fill-filled.ensures.failed
+    c.finish_folder.ensures.fault c.finish_folder.ensures.work c.finish_folder.ensures.dropped in
+    subst (λ x. FolderFails u w c.args.picked.now o (g.D.NewFolder.places c.finish_folder.new.folder)
+    x) (sym c.fault_of.ensures) e
+
+pub returns-in-Err-clause-any_moment : goal.returns-in-Err-clause-any_moment
+returns-in-Err-clause-any_moment g c = λ o h.
+    inr (one_always o (g.D.NewFolder.places c.args.folder.now)
+    (g.D.NewFolder.places c.fill-filled.new.folder)
+    (g.D.NewFolder.places c.finish_folder.new.folder) h c.fill-filled.ensures.stays
+    c.finish_folder.ensures.any_moment)

@@ -1,0 +1,131 @@
+-- What the commands write and why they fail, told by the names of their inputs.
+use Rattle.std.specs.Prelude.{◌≡◌, ◌⊎◌, ◌+◌, ◌<◌, ℕ, List, [], ◌∷◌, length, slice_get, Option}
+use Rattle.std.specs.Prelude.{Some, IfSome}
+use Rattle.std.specs.List.{AllZip}
+use Rattle.flute_journal.specs.Merges.{Merged}
+use Rattle.flute_journal.specs.declared.fault.ReadFault.TheVariants.{Read}
+use Rattle.flute_journal.specs.declared.selection.Selection.{Selection}
+use Rattle.flute_journal.specs.declared.sessions.Sessions.{Sessions}
+use Rattle.flute_parts.specs.Information.{Information}
+use Rattle.flute_parts.specs.declared.key.Key.{Key}
+use Rattle.flutejoin.specs.InfoLists.{AddsList, AddListFails}
+use Rattle.flutejoin.specs.Carousel.{SendFails}
+use Rattle.flutejoin.specs.Forget.{ForgetFails}
+use Rattle.flutejoin.specs.Joined.{choice_of}
+use Rattle.flutejoin.specs.Joining.{JoinsTo, JoinToFails, NamesOneOf}
+use Rattle.flutejoin.specs.Merge.{MergeFails}
+use Rattle.flutejoin.specs.OutputGuard.{IsKeptOutput}
+use Rattle.flutejoin.specs.declared.forget.ForgetCounts.{ForgetCounts}
+use Rattle.flutejoin.specs.declared.join_counts.JoinCounts.{JoinCounts}
+use Rattle.flutejoin.specs.declared.limits.TheConstants.{MAX_ENTRIES}
+use Rattle.flutejoin.specs.declared.command_fault.CommandFault.{CommandFault}
+use Rattle.flutejoin.specs.declared.command_fault.CommandFault.TheVariants.{CannotOpen, Input, OutOfMemory, TooLarge}
+use Rattle.flutejoin_commands.specs.Files.{Files, IfFiles, IsNoFile}
+use Rattle.flutejoin_commands.specs.Outlets.{Held, FailsHeld}
+use Rattle.flutejoin_commands.specs.Works.{AddsInformation, AddFails, WritesObject, ExtractFails}
+use Rattle.flutejoin_commands.specs.Works.{ForgetsIn, IsCannotWrite, OfDatagrams, WritesFile}
+
+abbrev pub IsAt : Files → List ℕ → List ℕ → Type 0
+IsAt files name bytes = files name ≡ Some bytes
+
+-- P of what the files of these names have, in their order
+abbrev pub OfContents : Files → List (List ℕ) → (List (List ℕ) → Type 0) → Type 0
+OfContents files names P =
+    (contents : List (List ℕ)) × AllZip (IsAt files) names contents × P contents
+
+-- one of these names, with its number, cannot be opened as there is no such file, or its first
+-- bytes cannot be read
+pub record IsUnopened (files : Option Files) (names : List (List ℕ))
+    (fault : CommandFault) : Type 0 where
+  pub before : ℕ
+  pub name : List ℕ
+  pub here : slice_get names before ≡ Some name
+  pub why : ((fault ≡ CannotOpen (before + 1)) × IsNoFile files name)
+      ⊎ (fault ≡ Input (before + 1) Read)
+
+-- why there is no output before the work: an input was not opened, OUT is not overwritten, or
+-- there was no memory
+abbrev pub IsBefore : Option Files → List (List ℕ) → CommandFault → Type 0
+IsBefore files names fault =
+    IsUnopened files names fault ⊎ (IsKeptOutput fault ⊎ (fault ≡ OutOfMemory))
+
+-- why an object of this content is not sent: the content has too many bytes or cannot be read, or
+-- its datagrams cannot be written
+abbrev pub ContentFails : Option (List ℕ) → Key → ℕ → ℕ → CommandFault → Type 0
+ContentFails content key symbol block fault =
+    ((fault ≡ TooLarge 1) × IfSome content (λ bytes. 4294967295 < length bytes))
+    ⊎ ((fault ≡ Input 1 Read)
+    ⊎ ((fault ≡ OutOfMemory)
+    ⊎ IfSome content (λ bytes. SendFails key symbol block bytes fault)))
+
+module _ (files : Option Files) where
+  -- the one journal of all that the files of these names tell of the chosen sessions
+  abbrev pub JoinsNames : ℕ → Sessions → List (List ℕ) → JoinCounts → Option (List ℕ)
+      → Option (List ℕ) → Type 0
+  JoinsNames sender sessions names counts old new = IfFiles files (λ f. OfContents f names
+      (λ contents. JoinsTo (choice_of sender sessions) contents counts old new))
+
+  abbrev pub JoinNamesFails : ℕ → Sessions → List (List ℕ) → CommandFault → Type 0
+  JoinNamesFails sender sessions names fault =
+      IsBefore files names fault
+      ⊎ (IfFiles files (λ f. OfContents f names (λ contents.
+      JoinToFails (choice_of sender sessions) contents fault))
+      × NamesOneOf (length names) fault)
+
+  -- the journal of all that the files of two names tell
+  abbrev pub MergesNames : List ℕ → List ℕ → ℕ → Option (List ℕ) → Option (List ℕ) → Type 0
+  MergesNames a b n old new = IfFiles files (λ f. Merged MAX_ENTRIES n (f a) (f b) old new)
+
+  abbrev pub MergeNamesFails : List ℕ → List ℕ → CommandFault → Type 0
+  MergeNamesFails a b fault =
+      IsBefore files (a ∷ b ∷ []) fault ⊎ IfFiles files (λ f. MergeFails (f a) (f b) fault)
+
+  -- the journal of all that the file of a name tells and of the information
+  abbrev pub AddsToName : List ℕ → Key → Information → ℕ → Option (List ℕ) → Option (List ℕ)
+      → Type 0
+  AddsToName j key info n old new =
+      IfFiles files (λ f. AddsInformation (f j) key info n old new)
+
+  abbrev pub AddToNameFails : List ℕ → Key → Information → CommandFault → Type 0
+  AddToNameFails j key info fault =
+      IsBefore files (j ∷ []) fault ⊎ IfFiles files (λ f. AddFails (f j) key info fault)
+
+  -- the journal of what the selection leaves of the file of a name
+  abbrev pub ForgetsInName : List ℕ → Selection → ForgetCounts → Option (List ℕ)
+      → Option (List ℕ) → Type 0
+  ForgetsInName j selection counts old new =
+      IfFiles files (λ f. ForgetsIn (f j) selection counts old new)
+
+  abbrev pub ForgetInNameFails : List ℕ → CommandFault → Type 0
+  ForgetInNameFails j fault =
+      IsBefore files (j ∷ []) fault ⊎ IfFiles files (λ f. ForgetFails (f j) fault)
+
+  -- the journal of all that the file of one name tells and of the list that another has
+  abbrev pub AddsListOfNames : List ℕ → List ℕ → ℕ → Option (List ℕ) → Option (List ℕ) → Type 0
+  AddsListOfNames j list n old new = IfFiles files (λ f. AddsList (f j) (f list) n old new)
+
+  abbrev pub AddListOfNamesFails : List ℕ → List ℕ → CommandFault → Type 0
+  AddListOfNamesFails j list fault =
+      IsBefore files (j ∷ list ∷ []) fault ⊎ IfFiles files (λ f. AddListFails (f j) (f list) fault)
+
+  -- the object that the file of a name makes whole
+  abbrev pub WritesOfName : List ℕ → Key → ℕ → Option (List ℕ) → Option (List ℕ) → Type 0
+  WritesOfName j key n old new = IfFiles files (λ f. WritesObject (f j) key n old new)
+
+  -- the same, held in memory first
+  abbrev pub HoldsOfName : List ℕ → Key → ℕ → Option (List ℕ) → Option (List ℕ) → Type 0
+  HoldsOfName j key n old new = IfFiles files (λ f. Held (WritesObject (f j) key) n old new)
+
+  abbrev pub ExtractOfNameFails : List ℕ → Key → CommandFault → Type 0
+  ExtractOfNameFails j key fault =
+      IsBefore files (j ∷ []) fault ⊎ IfFiles files (λ f. FailsHeld (ExtractFails (f j) key) fault)
+
+  -- the file of the datagrams of an object whose content is the file of a name
+  abbrev pub SendsName : List ℕ → Key → ℕ → ℕ → ℕ → Option (List ℕ) → Option (List ℕ) → Type 0
+  SendsName name key symbol block n old new = IfFiles files (λ f. IfSome (f name)
+      (λ content. OfDatagrams key symbol block content (λ d. WritesFile d n old new)))
+
+  abbrev pub SendNameFails : List ℕ → Key → ℕ → ℕ → CommandFault → Type 0
+  SendNameFails name key symbol block fault =
+      IsBefore files (name ∷ []) fault
+      ⊎ IfFiles files (λ f. ContentFails (f name) key symbol block fault ⊎ IsCannotWrite fault)

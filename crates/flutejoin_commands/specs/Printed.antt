@@ -1,0 +1,65 @@
+-- What the commands print that leave no file, and why they fail, told by the names of their inputs.
+use Rattle.std.specs.Prelude.{◌≡◌, ◌≢◌, ◌⊎◌, ℕ, List, [], ◌∷◌, Option}
+use Rattle.std.specs.Io.KnownBytes.{Appends, IsAtEnd}
+use Rattle.flute_output.specs.NewFolders.{Places}
+use Rattle.flutejoin.specs.Gaps.{ListsJournal, GapsFail}
+use Rattle.flutejoin.specs.Packet.{HasLines, FailsWith}
+use Rattle.flutejoin.specs.Show.{ShowsAll, ShowFails}
+use Rattle.flutejoin.specs.declared.picked.Picked.{Picked}
+use Rattle.flutejoin.specs.declared.command_fault.CommandFault.{CommandFault}
+use Rattle.flutejoin.specs.declared.command_fault.CommandFault.TheVariants.{CannotWrite, OutOfMemory}
+use Rattle.flutejoin_commands.specs.Files.{Files, IfFiles}
+use Rattle.flutejoin_commands.specs.Folders.{LeavesFolder, FolderFails}
+use Rattle.flutejoin_commands.specs.Named.{IsUnopened}
+use Rattle.flutejoin_commands.specs.Prints.{FailsToFlush}
+use Rattle.flutejoin_commands.specs.Worlds.{IsNotMade}
+
+-- why nothing was printed: the input was not opened, or there was no memory
+abbrev pub IsUnread : Option Files → List ℕ → CommandFault → Type 0
+IsUnread files name fault = IsUnopened files (name ∷ []) fault ⊎ (fault ≡ OutOfMemory)
+
+-- the lines of the packet were printed
+abbrev pub PrintsPacket : List ℕ → Option (List ℕ) → Option (List ℕ) → Type 0
+PrintsPacket text old new = HasLines text (Appends old new)
+
+-- why not, and what was printed
+abbrev pub PacketFails : List ℕ → Option (List ℕ) → Option (List ℕ) → CommandFault → Type 0
+PacketFails text old new fault =
+    FailsWith text old new fault ⊎ FailsToFlush (PrintsPacket text old new) fault
+
+module _ (files : Option Files) (name : List ℕ) where
+  -- the entries of the journal of this name were printed
+  abbrev pub ShowsName : Option (List ℕ) → Option (List ℕ) → Type 0
+  ShowsName old new = IfFiles files (λ f. ShowsAll (f name) old new)
+
+  -- why not, and what was printed
+  abbrev pub ShowNameFails : Option (List ℕ) → Option (List ℕ) → CommandFault → Type 0
+  ShowNameFails old new fault =
+      (IsUnread files name fault × (new ≡ old))
+      ⊎ IfFiles files (λ f. (left : Option (List ℕ))
+      × (ShowFails (f name) left old new fault
+      ⊎ FailsToFlush (ShowsAll (f name) old new) fault))
+
+  -- what is missing of the objects of the journal of this name was printed
+  abbrev pub ListsName : Option (List ℕ) → Option (List ℕ) → Type 0
+  ListsName old new = IfFiles files (λ f. ListsJournal (f name) (Appends old new))
+
+  -- why not; then nothing was printed, unless the fault is that of writing
+  abbrev pub ListNameFails : Option (List ℕ) → Option (List ℕ) → CommandFault → Type 0
+  ListNameFails old new fault =
+      (IsUnread files name fault ⊎ IfFiles files (λ f. (left : Option (List ℕ))
+      × (GapsFail (f name) left fault ⊎ FailsToFlush (IsAtEnd left) fault)))
+      × (fault ≢ CannotWrite → new ≡ old)
+
+  -- a new folder has a file for each whole object of the journal of this name
+  abbrev pub LeavesFolderOfName : Picked → Option (List ℕ) → Option (List ℕ) → Type 0
+  LeavesFolderOfName picked old new = IfFiles files (λ f.
+      (before : Option Places) × (after : Option Places)
+      × LeavesFolder (f name) picked before after old new)
+
+  -- why not
+  abbrev pub FolderOfNameFails : Picked → CommandFault → Type 0
+  FolderOfNameFails picked fault =
+      (IsUnread files name fault ⊎ IsNotMade fault)
+      ⊎ IfFiles files (λ f. (left : Option (List ℕ)) × ((before : Option Places)
+      × (after : Option Places) × FolderFails (f name) left picked before after fault))

@@ -1,0 +1,333 @@
+//! The commands, from the names of their files to what they leave.
+ghost use Rattle.std.specs.Prelude.{◌≡◌, ◌≤◌, length, map, OnOk, IfOk, IfErr, IfSome};
+ghost use Rattle.flutejoin.specs.Carousel.{SendsObject};
+ghost use Rattle.flutejoin.specs.Lines.{entries_line};
+ghost use Rattle.flutejoin_commands.specs.Named.{AddListOfNamesFails, AddToNameFails, ContentFails};
+ghost use Rattle.flutejoin_commands.specs.Named.{AddsListOfNames, AddsToName, ExtractOfNameFails};
+ghost use Rattle.flutejoin_commands.specs.Named.{HoldsOfName, JoinsNames, JoinNamesFails};
+ghost use Rattle.flutejoin_commands.specs.Named.{ForgetsInName, ForgetInNameFails};
+ghost use Rattle.flutejoin_commands.specs.Named.{MergesNames, MergeNamesFails, SendsName};
+ghost use Rattle.flutejoin_commands.specs.Named.{SendNameFails, WritesOfName};
+ghost use Rattle.flutejoin_commands.specs.Works.{bytes_line, datagrams_line, forget_lines};
+ghost use Rattle.flutejoin_commands.specs.Works.{join_lines};
+ghost use Rattle.flutejoin_commands.specs.Worlds.{Leaves, FailsToLeave, outside};
+
+use crate::adding::InfoWork;
+use crate::adding_list::InfoListWork;
+use crate::extracting::ExtractWork;
+use crate::forgetting::ForgetWork;
+use crate::joining::JoinWork;
+use crate::leaving::{leave, leave_held};
+use crate::merging::MergeWork;
+use crate::opening::{open_input, open_inputs, open_two};
+use crate::outlet::Outlet;
+use crate::sending::SendWork;
+use crate::world::World;
+use flute_journal::{Selection, Sessions};
+use flute_parts::{Info, Key, Sender, Sink, Source};
+use flute_wire::Datagrams;
+use flutejoin::{
+    Blob, CommandFault, Overwrites, blob_fault, datagrams_of, forget_input, is_too_large,
+};
+use std::alloc::Global;
+
+/// Joins what the files of these names tell of the chosen sessions into the output of this name,
+/// which may be one of them, and prints the numbers.
+///
+/// # Errors
+///
+/// The first input that is not opened; why OUT is not overwritten; then those of
+/// [`join_to`](flutejoin::join_to), of the output and of printing, as [`leave`] says.
+pub fn join<W: World, O: Outlet, E: Sink>(
+    world: &mut W,
+    alloc: Global,
+    out: &str,
+    overwrites: Overwrites,
+    sender: Sender,
+    sessions: Sessions,
+    paths: &[&str],
+    output: &mut O,
+    errors: &mut E,
+) -> Result<(), CommandFault>
+    requires { length paths.now ≤ 64 }
+    ensures joined { OnOk result (Leaves
+        (JoinsNames (W.files world.old) sender sessions (map (λ path. path.now) paths.now))
+        (JoinsNames (W.files world.old) sender sessions (map (λ path. path.now) paths.now))
+        (join_lines sessions) out.now
+        (outside (W.files world.old) (O.written output.old) (E.written errors.old))
+        (outside (W.files world.new) (O.written output.new) (E.written errors.new))) }
+    ensures handed_on { OnOk result (O.handed_on output.new ≡ O.written output.new) }
+    ensures failed { IfErr result (FailsToLeave
+        (JoinsNames (W.files world.old) sender sessions (map (λ path. path.now) paths.now))
+        (JoinNamesFails (W.files world.old) sender sessions (map (λ path. path.now) paths.now))
+        out.now
+        (outside (W.files world.old) (O.written output.old) (E.written errors.old))
+        (outside (W.files world.new) (O.written output.new) (E.written errors.new))) }
+{
+    world.look(out);
+    let inputs = open_inputs(world, alloc, paths)?;
+    world.guard(out, overwrites)?;
+    let work = JoinWork {
+        alloc,
+        sender,
+        sessions,
+        inputs,
+    };
+    leave(world, out, work, output, errors)
+}
+
+/// Merges the journals of two names into the output of this name, and prints the number of entries.
+///
+/// # Errors
+///
+/// The first input that is not opened; why OUT is not overwritten; then those of
+/// [`merge_to`](flutejoin::merge_to), of the output and of printing, as [`leave`] says.
+pub fn merge<W: World, O: Outlet, E: Sink>(
+    world: &mut W,
+    alloc: Global,
+    out: &str,
+    overwrites: Overwrites,
+    a: &str,
+    b: &str,
+    output: &mut O,
+    errors: &mut E,
+) -> Result<(), CommandFault>
+    ensures merged { OnOk result (Leaves
+        (MergesNames (W.files world.old) a.now b.now)
+        (MergesNames (W.files world.old) a.now b.now) entries_line out.now
+        (outside (W.files world.old) (O.written output.old) (E.written errors.old))
+        (outside (W.files world.new) (O.written output.new) (E.written errors.new))) }
+    ensures handed_on { OnOk result (O.handed_on output.new ≡ O.written output.new) }
+    ensures failed { IfErr result (FailsToLeave
+        (MergesNames (W.files world.old) a.now b.now)
+        (MergeNamesFails (W.files world.old) a.now b.now) out.now
+        (outside (W.files world.old) (O.written output.old) (E.written errors.old))
+        (outside (W.files world.new) (O.written output.new) (E.written errors.new))) }
+{
+    world.look(out);
+    let (first, second) = open_two(world, a, b)?;
+    world.guard(out, overwrites)?;
+    let work = MergeWork {
+        alloc,
+        first,
+        second,
+    };
+    leave(world, out, work, output, errors)
+}
+
+/// Adds information to the journal of this name, and prints the number of entries.
+///
+/// # Errors
+///
+/// That the input is not opened; why OUT is not overwritten; then those of
+/// [`info_to`](flutejoin::info_to), of the output and of printing, as [`leave`] says.
+pub fn info<W: World, O: Outlet, E: Sink>(
+    world: &mut W,
+    alloc: Global,
+    out: &str,
+    overwrites: Overwrites,
+    key: Key,
+    info: Info,
+    j: &str,
+    output: &mut O,
+    errors: &mut E,
+) -> Result<(), CommandFault>
+    ensures added { OnOk result (Leaves
+        (AddsToName (W.files world.old) j.now key info)
+        (AddsToName (W.files world.old) j.now key info) entries_line out.now
+        (outside (W.files world.old) (O.written output.old) (E.written errors.old))
+        (outside (W.files world.new) (O.written output.new) (E.written errors.new))) }
+    ensures handed_on { OnOk result (O.handed_on output.new ≡ O.written output.new) }
+    ensures failed { IfErr result (FailsToLeave
+        (AddsToName (W.files world.old) j.now key info)
+        (AddToNameFails (W.files world.old) j.now key info) out.now
+        (outside (W.files world.old) (O.written output.old) (E.written errors.old))
+        (outside (W.files world.new) (O.written output.new) (E.written errors.new))) }
+{
+    world.look(out);
+    let source = open_input(world, 1, j)?;
+    world.guard(out, overwrites)?;
+    let work = InfoWork {
+        alloc,
+        key,
+        info,
+        source,
+    };
+    leave(world, out, work, output, errors)
+}
+
+/// Adds the information that a list tells to a journal, both of these names, and prints the number
+/// of entries.
+///
+/// # Errors
+///
+/// The first input that is not opened, the journal or the list; why OUT is not overwritten; then
+/// those of [`info_list_to`](flutejoin::info_list_to), of the output and of printing, as [`leave`]
+/// says.
+pub fn info_list<W: World, O: Outlet, E: Sink>(
+    world: &mut W,
+    alloc: Global,
+    out: &str,
+    overwrites: Overwrites,
+    j: &str,
+    list: &str,
+    output: &mut O,
+    errors: &mut E,
+) -> Result<(), CommandFault>
+    ensures added { OnOk result (Leaves
+        (AddsListOfNames (W.files world.old) j.now list.now)
+        (AddsListOfNames (W.files world.old) j.now list.now) entries_line out.now
+        (outside (W.files world.old) (O.written output.old) (E.written errors.old))
+        (outside (W.files world.new) (O.written output.new) (E.written errors.new))) }
+    ensures handed_on { OnOk result (O.handed_on output.new ≡ O.written output.new) }
+    ensures failed { IfErr result (FailsToLeave
+        (AddsListOfNames (W.files world.old) j.now list.now)
+        (AddListOfNamesFails (W.files world.old) j.now list.now) out.now
+        (outside (W.files world.old) (O.written output.old) (E.written errors.old))
+        (outside (W.files world.new) (O.written output.new) (E.written errors.new))) }
+{
+    world.look(out);
+    let (source, list) = open_two(world, j, list)?;
+    world.guard(out, overwrites)?;
+    let work = InfoListWork {
+        alloc,
+        source,
+        list,
+    };
+    leave(world, out, work, output, errors)
+}
+
+/// Takes the entries that are selected out of the journal of this name, and prints how many were
+/// and how many were not.
+///
+/// # Errors
+///
+/// That the input is not opened; why OUT is not overwritten; then those of
+/// [`forget_to`](flutejoin::forget_to), of the output and of printing, as [`leave`] says.
+pub fn forget<W: World, O: Outlet, E: Sink>(
+    world: &mut W,
+    alloc: Global,
+    out: &str,
+    overwrites: Overwrites,
+    selection: Selection,
+    j: &str,
+    output: &mut O,
+    errors: &mut E,
+) -> Result<(), CommandFault>
+    ensures forgot { OnOk result (Leaves
+        (ForgetsInName (W.files world.old) j.now selection)
+        (ForgetsInName (W.files world.old) j.now selection) forget_lines out.now
+        (outside (W.files world.old) (O.written output.old) (E.written errors.old))
+        (outside (W.files world.new) (O.written output.new) (E.written errors.new))) }
+    ensures handed_on { OnOk result (O.handed_on output.new ≡ O.written output.new) }
+    ensures failed { IfErr result (FailsToLeave
+        (ForgetsInName (W.files world.old) j.now selection)
+        (ForgetInNameFails (W.files world.old) j.now) out.now
+        (outside (W.files world.old) (O.written output.old) (E.written errors.old))
+        (outside (W.files world.new) (O.written output.new) (E.written errors.new))) }
+{
+    world.look(out);
+    let source = open_input(world, 1, j)?;
+    world.guard(out, overwrites)?;
+    let input = forget_input(source, selection);
+    leave(world, out, ForgetWork { alloc, input }, output, errors)
+}
+
+/// Writes the object that the journal of this name makes whole, and prints the number of its bytes.
+/// Nothing goes to a pipe, a device or standard output of an object that is not whole.
+///
+/// # Errors
+///
+/// That the input is not opened; why OUT is not overwritten; then those of
+/// [`extract_to`](flutejoin::extract_to), of the output and of printing, as [`leave_held`] says.
+pub fn extract<W: World, O: Outlet, E: Sink>(
+    world: &mut W,
+    alloc: Global,
+    out: &str,
+    overwrites: Overwrites,
+    key: Key,
+    j: &str,
+    output: &mut O,
+    errors: &mut E,
+) -> Result<(), CommandFault>
+    ensures extracted { OnOk result (Leaves
+        (WritesOfName (W.files world.old) j.now key)
+        (HoldsOfName (W.files world.old) j.now key) bytes_line out.now
+        (outside (W.files world.old) (O.written output.old) (E.written errors.old))
+        (outside (W.files world.new) (O.written output.new) (E.written errors.new))) }
+    ensures handed_on { OnOk result (O.handed_on output.new ≡ O.written output.new) }
+    ensures failed { IfErr result (FailsToLeave
+        (WritesOfName (W.files world.old) j.now key)
+        (ExtractOfNameFails (W.files world.old) j.now key) out.now
+        (outside (W.files world.old) (O.written output.old) (E.written errors.old))
+        (outside (W.files world.new) (O.written output.new) (E.written errors.new))) }
+{
+    world.look(out);
+    let source = open_input(world, 1, j)?;
+    world.guard(out, overwrites)?;
+    let work = ExtractWork { alloc, key, source };
+    leave_held(world, alloc, out, work, output, errors)
+}
+
+/// Writes the datagrams of an object whose content is the file of this name, and prints their
+/// number. A file that is known to be too large is not read.
+///
+/// # Errors
+///
+/// That the input is not opened; why OUT is not overwritten; `TooLarge`, or `Input` with `Read` if
+/// the source failed; then those of [`datagrams_of`], of the output and of printing, as [`leave`]
+/// says.
+pub fn carousel<W: World, O: Outlet, E: Sink>(
+    world: &mut W,
+    alloc: Global,
+    out: &str,
+    overwrites: Overwrites,
+    key: &Key,
+    symbol: u16,
+    block: u32,
+    file: &str,
+    output: &mut O,
+    errors: &mut E,
+) -> Result<(), CommandFault>
+    ensures sent { OnOk result (Leaves
+        (SendsName (W.files world.old) file.now key.now symbol block)
+        (SendsName (W.files world.old) file.now key.now symbol block) datagrams_line out.now
+        (outside (W.files world.old) (O.written output.old) (E.written errors.old))
+        (outside (W.files world.new) (O.written output.new) (E.written errors.new))) }
+    ensures handed_on { OnOk result (O.handed_on output.new ≡ O.written output.new) }
+    ensures failed { IfErr result (FailsToLeave
+        (SendsName (W.files world.old) file.now key.now symbol block)
+        (SendNameFails (W.files world.old) file.now key.now symbol block) out.now
+        (outside (W.files world.old) (O.written output.old) (E.written errors.old))
+        (outside (W.files world.new) (O.written output.new) (E.written errors.new))) }
+{
+    world.look(out);
+    let mut source = open_input(world, 1, file)?;
+    world.guard(out, overwrites)?;
+    if is_too_large(world.size(&source)) {
+        return Err(CommandFault::TooLarge(1));
+    }
+    match datagrams_in(alloc, key, symbol, block, &mut source) {
+        Ok(datagrams) => leave(world, out, SendWork { datagrams }, output, errors),
+        Err(fault) => Err(fault),
+    }
+}
+
+// The datagrams of an object whose content is all that a source has.
+fn datagrams_in<R: Source>(
+    alloc: Global,
+    key: &Key,
+    symbol: u16,
+    block: u32,
+    source: &mut R,
+) -> Result<Datagrams, CommandFault>
+    ensures sent { IfOk result (λ datagrams. IfSome (R.unread source.old)
+        (λ content. SendsObject key.now symbol block content datagrams)) }
+    ensures failed { IfErr result (ContentFails (R.unread source.old) key.now symbol block) }
+{
+    let content = match Blob::read(alloc, source) {
+        Ok(content) => content,
+        Err(fault) => return Err(blob_fault(1, fault)),
+    };
+    datagrams_of(alloc, key, symbol, block, content.as_slice())
+}

@@ -1,0 +1,122 @@
+//! The command `extract --all`.
+ghost use Rattle.std.specs.Prelude.{◌≡◌, ◌+◌, ◌≤◌, ◌⊎◌, ℕ, List, Option, IfOk, IfErr, IfSome, OnOk, Err, codes};
+ghost use Rattle.std.specs.Io.KnownBytes.{Appends};
+ghost use Rattle.flute_output.specs.NewFolders.{Places, LeadsTo, IsMade, FolderStays, IsReady};
+ghost use Rattle.flutejoin.specs.declared.command_fault.CommandFault.TheVariants.{CannotWrite};
+ghost use Rattle.flutejoin.specs.ExtractAll.{ExtractsAll, ExtractAllFails};
+ghost use Rattle.flutejoin.specs.Lines.{count_line};
+ghost use Rattle.flutejoin_commands.specs.Folders.{LeavesFolder, FolderFails, IsOneFolderAlways};
+ghost use Rattle.flutejoin_commands.specs.Folders.{finish_fault};
+
+use crate::report::Report;
+use flute_output::{FinishFault, NewFolder, finish_folder};
+use flute_parts::Source;
+use flutejoin::{CommandFault, Picked, count_to, extract_all_to};
+use std::alloc::Global;
+
+/// Leaves as OUT a new folder with a file for each object that a journal makes whole, of those that
+/// are picked, and no other file; and in the report a line for each of these objects, and the
+/// number of files.
+///
+/// # Errors
+///
+/// `CannotCreate` if the folder could not be made; then those of [`extract_all_to`]; `CannotWrite`
+/// if the report or the disk failed, or the folder could not be put in its place: there is no OUT
+/// then. `NotOnDisk` if OUT is there, but the disk did not tell that it has this name. Last,
+/// `CannotWrite` if the report failed to take the number: OUT is there then.
+pub fn extract_all_into<D: NewFolder, R: Source, P: Report>(
+    alloc: Global,
+    folder: &mut D,
+    source: &mut R,
+    picked: &Picked,
+    report: &mut P,
+) -> Result<(), CommandFault>
+    ensures extracted { OnOk result (LeavesFolder (R.unread source.old) picked.now
+        (D.places folder.old) (D.places folder.new) (P.written report.old) (P.written report.new)) }
+    ensures handed_on { OnOk result (P.handed_on report.new ≡ P.written report.new) }
+    ensures failed { IfErr result (FolderFails (R.unread source.old) (R.unread source.new)
+        picked.now (D.places folder.old) (D.places folder.new)) }
+    ensures any_moment { IsOneFolderAlways (D.places folder.old) (D.places folder.new) }
+{
+    match folder.create() {
+        Ok(()) => write_made(alloc, folder, source, picked, report),
+        Err(_) => Err(CommandFault::CannotCreate),
+    }
+}
+
+// Fills a folder that was made, and ends it.
+fn write_made<D: NewFolder, R: Source, P: Report>(
+    alloc: Global,
+    folder: &mut D,
+    source: &mut R,
+    picked: &Picked,
+    report: &mut P,
+) -> Result<(), CommandFault>
+    requires made { (o : Option Places) × LeadsTo IsMade o (D.places folder.old) }
+    ensures extracted { (o : Option Places) → LeadsTo IsMade o (D.places folder.old)
+        → OnOk result (LeavesFolder (R.unread source.old) picked.now
+        o (D.places folder.new) (P.written report.old) (P.written report.new)) }
+    ensures handed_on { OnOk result (P.handed_on report.new ≡ P.written report.new) }
+    ensures failed { (o : Option Places) → LeadsTo IsMade o (D.places folder.old)
+        → IfErr result (FolderFails (R.unread source.old) (R.unread source.new)
+        picked.now o (D.places folder.new)) }
+    ensures any_moment { (o : Option Places) → LeadsTo IsMade o (D.places folder.old)
+        → IsOneFolderAlways o (D.places folder.new) }
+{
+    let filled = fill(alloc, folder, source, picked, report);
+    match finish_folder(folder, filled) {
+        Ok(count) => tell(report, count),
+        Err(fault) => Err(fault_of(fault)),
+    }
+}
+
+// The fault of a command that did not finish its folder.
+fn fault_of(fault: FinishFault<CommandFault>) -> CommandFault
+    ensures { result ≡ finish_fault fault }
+{
+    match fault {
+        FinishFault::Work(fault) => fault,
+        FinishFault::Write => CommandFault::CannotWrite,
+        FinishFault::NotOnDisk => CommandFault::NotOnDisk,
+    }
+}
+
+// Fills the folder, and hands the lines on: those of the objects before a fault, too.
+fn fill<D: NewFolder, R: Source, P: Report>(
+    alloc: Global,
+    folder: &mut D,
+    source: &mut R,
+    picked: &Picked,
+    report: &mut P,
+) -> Result<u64, CommandFault>
+    requires { IfSome (D.places folder.old) IsReady }
+    ensures filled { IfOk result (ExtractsAll (R.unread source.old) (R.unread source.new)
+        picked.now (D.places folder.old) (D.places folder.new)
+        (P.written report.old) (P.written report.new)) }
+    ensures failed { IfErr result (λ fault.
+        ExtractAllFails (R.unread source.old) (R.unread source.new) fault
+        ⊎ (fault ≡ CannotWrite)) }
+    ensures stays { LeadsTo FolderStays (D.places folder.old) (D.places folder.new) }
+{
+    let extracted = extract_all_to(alloc, source, picked, folder, report);
+    let flushed = report.flush();
+    let count = extracted?;
+    match flushed {
+        Ok(()) => Ok(count),
+        Err(_) => Err(CommandFault::CannotWrite),
+    }
+}
+
+// Tells how many files were written.
+fn tell<P: Report>(report: &mut P, count: u64) -> Result<(), CommandFault>
+    ensures told { OnOk result (Appends (P.written report.old) (P.written report.new)
+        (count_line (codes "written") count)) }
+    ensures handed_on { OnOk result (P.handed_on report.new ≡ P.written report.new) }
+    ensures failed { IfErr result (λ fault. fault ≡ CannotWrite) }
+{
+    count_to("written", count, report)?;
+    match report.flush() {
+        Ok(()) => Ok(()),
+        Err(_) => Err(CommandFault::CannotWrite),
+    }
+}

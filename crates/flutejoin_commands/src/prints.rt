@@ -1,0 +1,99 @@
+//! The commands that leave no file at a name, from the names of their files to what they print.
+ghost use Rattle.std.specs.Prelude.{◌≡◌, OnOk, IfErr};
+ghost use Rattle.flutejoin_commands.specs.Printed.{PrintsPacket, PacketFails, ShowsName};
+ghost use Rattle.flutejoin_commands.specs.Printed.{ShowNameFails, ListsName, ListNameFails};
+ghost use Rattle.flutejoin_commands.specs.Printed.{LeavesFolderOfName, FolderOfNameFails};
+
+use crate::extracting_all::extract_all_into;
+use crate::opening::open_input;
+use crate::printing::{gaps_on, packet_on, show_on};
+use crate::report::Report;
+use crate::world::World;
+use flutejoin::{CommandFault, Picked};
+use std::alloc::Global;
+
+/// Prints what a datagram in hexadecimal says.
+///
+/// # Errors
+///
+/// Those of [`packet_on`].
+pub fn packet<P: Report>(alloc: Global, hex: &str, output: &mut P) -> Result<(), CommandFault>
+    ensures printed { OnOk result
+        (PrintsPacket hex.now (P.written output.old) (P.written output.new)) }
+    ensures handed_on { OnOk result (P.handed_on output.new ≡ P.written output.new) }
+    ensures failed { IfErr result
+        (PacketFails hex.now (P.written output.old) (P.written output.new)) }
+{
+    packet_on(alloc, hex, output)
+}
+
+/// Prints the entries of the journal of this name.
+///
+/// # Errors
+///
+/// That the input is not opened; then those of [`show_on`].
+pub fn show<W: World, P: Report>(
+    world: &mut W,
+    alloc: Global,
+    j: &str,
+    output: &mut P,
+) -> Result<(), CommandFault>
+    ensures shown { OnOk result
+        (ShowsName (W.files world.old) j.now (P.written output.old) (P.written output.new)) }
+    ensures handed_on { OnOk result (P.handed_on output.new ≡ P.written output.new) }
+    ensures failed { IfErr result
+        (ShowNameFails (W.files world.old) j.now (P.written output.old) (P.written output.new)) }
+    ensures same_files { W.files world.new ≡ W.files world.old }
+{
+    let mut source = open_input(world, 1, j)?;
+    show_on(alloc, &mut source, output)
+}
+
+/// Prints what is missing of the objects of the journal of this name.
+///
+/// # Errors
+///
+/// That the input is not opened, or `OutOfMemory`; then those of [`gaps_on`].
+pub fn gaps<W: World, P: Report>(
+    world: &mut W,
+    alloc: Global,
+    j: &str,
+    output: &mut P,
+) -> Result<(), CommandFault>
+    ensures listed { OnOk result
+        (ListsName (W.files world.old) j.now (P.written output.old) (P.written output.new)) }
+    ensures handed_on { OnOk result (P.handed_on output.new ≡ P.written output.new) }
+    ensures failed { IfErr result
+        (ListNameFails (W.files world.old) j.now (P.written output.old) (P.written output.new)) }
+    ensures same_files { W.files world.new ≡ W.files world.old }
+{
+    let mut source = open_input(world, 1, j)?;
+    let mut lines = world.aside()?;
+    let mut gap_lines = world.aside()?;
+    gaps_on(alloc, &mut source, &mut lines, &mut gap_lines, output)
+}
+
+/// Leaves a new folder of this name, with a file for each object that the journal of the other
+/// name makes whole, of those that are picked; and prints their lines and the number of files.
+///
+/// # Errors
+///
+/// That the input is not opened, or the output cannot be made; then those of [`extract_all_into`].
+pub fn extract_all<W: World, P: Report>(
+    world: &mut W,
+    alloc: Global,
+    out: &str,
+    picked: &Picked,
+    j: &str,
+    output: &mut P,
+) -> Result<(), CommandFault>
+    ensures extracted { OnOk result (LeavesFolderOfName (W.files world.old) j.now picked.now
+        (P.written output.old) (P.written output.new)) }
+    ensures handed_on { OnOk result (P.handed_on output.new ≡ P.written output.new) }
+    ensures failed { IfErr result (FolderOfNameFails (W.files world.old) j.now picked.now) }
+    ensures same_files { W.files world.new ≡ W.files world.old }
+{
+    let mut source = open_input(world, 1, j)?;
+    let mut folder = world.new_folder(out)?;
+    extract_all_into(alloc, &mut folder, &mut source, picked, output)
+}

@@ -1,0 +1,146 @@
+//! A run of the program, from its words to what it leaves.
+ghost use Rattle.std.specs.Prelude.{◌≡◌, map, string_bytes, OnOk, IfErr};
+ghost use Rattle.flutejoin_commands.specs.Runs.{Does, DoesWords, FailsToDo, FailsToDoWords};
+ghost use Rattle.flutejoin_commands.specs.Runs.{HasFewInputs};
+ghost use Rattle.flutejoin_commands.specs.Worlds.{outside};
+
+use crate::commands::{carousel, extract, forget, info, info_list, join, merge};
+use crate::outlet::Outlet;
+use crate::prints::{extract_all, gaps, packet, show};
+use crate::world::World;
+use flute_parts::{Info, Sink};
+use flutejoin::{CommandFault, Line, Overwrites, Picked, line_of};
+use std::alloc::Global;
+
+/// Does what the words after the program's name say, in a world whose standard output and standard
+/// error are `output` and `errors`.
+///
+/// # Errors
+///
+/// Those of [`line_of`], and nothing is done then; and those of the command.
+#[tactic(auto, using(crate::proofs::FewInputs::few_inputs))]
+pub fn run<W: World, O: Outlet, E: Sink>(
+    world: &mut W,
+    alloc: Global,
+    words: &[String],
+    output: &mut O,
+    errors: &mut E,
+) -> Result<(), CommandFault>
+    ensures done { OnOk result (DoesWords (map string_bytes words.now)
+        (outside (W.files world.old) (O.written output.old) (E.written errors.old))
+        (outside (W.files world.new) (O.written output.new) (E.written errors.new))) }
+    ensures handed_on { OnOk result (O.handed_on output.new ≡ O.written output.new) }
+    ensures failed { IfErr result (FailsToDoWords (map string_bytes words.now)
+        (outside (W.files world.old) (O.written output.old) (E.written errors.old))
+        (outside (W.files world.new) (O.written output.new) (E.written errors.new))) }
+{
+    let line = line_of(alloc, words)?;
+    run_line(world, alloc, line, output, errors)
+}
+
+// Does what a line says.
+fn run_line<W: World, O: Outlet, E: Sink>(
+    world: &mut W,
+    alloc: Global,
+    line: Line<'_>,
+    output: &mut O,
+    errors: &mut E,
+) -> Result<(), CommandFault>
+    requires { HasFewInputs line }
+    ensures done { OnOk result (Does line.entry
+        (outside (W.files world.old) (O.written output.old) (E.written errors.old))
+        (outside (W.files world.new) (O.written output.new) (E.written errors.new))) }
+    ensures handed_on { OnOk result (O.handed_on output.new ≡ O.written output.new) }
+    ensures failed { IfErr result (FailsToDo line.entry
+        (outside (W.files world.old) (O.written output.old) (E.written errors.old))
+        (outside (W.files world.new) (O.written output.new) (E.written errors.new))) }
+{
+    match line {
+        Line::Packet { hex } => packet(alloc, hex, output),
+        Line::Show { j } => show(world, alloc, j, output),
+        Line::Gaps { j } => gaps(world, alloc, j, output),
+        Line::ExtractAll {
+            out,
+            sender,
+            sessions,
+            j,
+        } => extract_all(world, alloc, out, &Picked { sender, sessions }, j, output),
+        Line::Extract { out, force, key, j } => {
+            let overwrites = Overwrites::of_other(force);
+            extract(world, alloc, out, overwrites, key, j, output, errors)
+        }
+        Line::Info {
+            out,
+            force,
+            key,
+            length,
+            symbol,
+            block,
+            j,
+        } => {
+            let info_given = match Info::new(length, symbol, block) {
+                Ok(given) => given,
+                Err(fault) => return Err(CommandFault::BadInformation(fault)),
+            };
+            let overwrites = Overwrites::of_journal(force);
+            info(
+                world, alloc, out, overwrites, key, info_given, j, output, errors,
+            )
+        }
+        Line::InfoList {
+            out,
+            force,
+            list,
+            j,
+        } => {
+            let overwrites = Overwrites::of_journal(force);
+            info_list(world, alloc, out, overwrites, j, list, output, errors)
+        }
+        Line::Join {
+            out,
+            force,
+            sender,
+            sessions,
+            inputs,
+        } => {
+            let overwrites = Overwrites::of_journal(force);
+            join(
+                world,
+                alloc,
+                out,
+                overwrites,
+                sender,
+                sessions,
+                inputs.as_slice(),
+                output,
+                errors,
+            )
+        }
+        Line::Merge { out, force, a, b } => {
+            let overwrites = Overwrites::of_journal(force);
+            merge(world, alloc, out, overwrites, a, b, output, errors)
+        }
+        Line::Forget {
+            out,
+            force,
+            selection,
+            j,
+        } => {
+            let overwrites = Overwrites::of_journal(force);
+            forget(world, alloc, out, overwrites, selection, j, output, errors)
+        }
+        Line::Carousel {
+            out,
+            force,
+            key,
+            symbol,
+            block,
+            file,
+        } => {
+            let overwrites = Overwrites::of_other(force);
+            carousel(
+                world, alloc, out, overwrites, &key, symbol, block, file, output, errors,
+            )
+        }
+    }
+}

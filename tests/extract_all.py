@@ -1,0 +1,352 @@
+#!/usr/bin/env python3
+"""Runs `extract --all` of the built program: on random journals beside `extract` and `gaps`, on
+journals cut and changed at each byte, on a full disk, killed at many moments, and where the folder
+is there before.
+
+usage: tests/extract_all.py PROGRAM
+"""
+import os
+import random
+import shutil
+import signal
+import struct
+import subprocess
+import sys
+import tempfile
+import time
+import unittest
+from dataclasses import dataclass, field
+from pathlib import Path
+
+PROGRAM = ""
+
+SENDERS = [0, 0xFFFF0A090001, (0x20010DB8 << 96) + 1]
+
+
+@dataclass(frozen=True, order=True)
+class Name:
+    """An object: the tag is 0 of an FDT Instance, and 1 of a file."""
+
+    sender: int
+    tsi: int
+    tag: int
+    number: int
+
+    def file(self) -> str:
+        """The name of its file."""
+        object_name = f"fdt{self.number}" if self.tag == 0 else str(self.number)
+        return f"{self.sender:032x}-{self.tsi}-{object_name}"
+
+    def key(self) -> bytes:
+        tsi, number = self.tsi.to_bytes(6, "big"), self.number.to_bytes(14, "big")
+        return self.sender.to_bytes(16, "big") + tsi + bytes([self.tag]) + number
+
+    def words(self) -> list[str]:
+        """The options that name it."""
+        words = ["--source", f"{self.sender:032x}", "--tsi", str(self.tsi)]
+        if self.tag == 0:
+            return [*words, "--toi", "0", "--fdt", str(self.number)]
+        return [*words, "--toi", str(self.number)]
+
+
+@dataclass
+class Object:
+    """What a journal has of an object. A symbol without a value is in conflict."""
+
+    information: tuple[int, int, int] | None = None
+    is_in_conflict: bool = False
+    symbols: dict[tuple[int, int], bytes | None] = field(default_factory=dict)
+
+
+def entries_of(name: Name, told: Object) -> list[bytes]:
+    entries = []
+    if told.is_in_conflict:
+        entries.append(b"\x02" + name.key())
+    elif told.information:
+        length, symbol, block = told.information
+        numbers = length.to_bytes(6, "big") + struct.pack(">HI", symbol, block)
+        entries.append(b"\x01" + name.key() + numbers)
+    for (sbn, esi), value in sorted(told.symbols.items()):
+        place = struct.pack(">HH", sbn, esi)
+        if value is None:
+            entries.append(b"\x04" + name.key() + place)
+        else:
+            entries.append(b"\x03" + name.key() + place + struct.pack(">H", len(value)) + value)
+    return entries
+
+
+def journal_of(objects: dict[Name, Object]) -> bytes:
+    entries = [entry for name in sorted(objects) for entry in entries_of(name, objects[name])]
+    return b"FLJN\x00\x02" + b"".join(entries) + b"\xff" + struct.pack(">Q", len(entries))
+
+
+def partition(length: int, symbol: int, block: int) -> list[tuple[int, int, int]]:
+    """Block, symbol and length of each symbol (RFC 5052, section 9.1)."""
+    if length == 0:
+        return []
+    symbols = -(-length // symbol)
+    blocks = -(-symbols // block)
+    large, many = -(-symbols // blocks), symbols - symbols // blocks * blocks
+    places, at = [], 0
+    for sbn in range(blocks):
+        for esi in range(large if sbn < many or many == 0 else symbols // blocks):
+            places.append((sbn, esi, min(symbol, length - at)))
+            at += symbol
+    return places
+
+
+def whole(length: int, symbol: int, block: int) -> Object:
+    values = {
+        (sbn, esi): os.urandom(size) for sbn, esi, size in partition(length, symbol, block)
+    }
+    return Object((length, symbol, block), False, dict(values))
+
+
+def random_object(chance: random.Random) -> Object:
+    """Whole, or with one or two things wrong."""
+    length, symbol = chance.choice([0, 1, 7, 8, 40, 123]), chance.choice([1, 4, 8])
+    told = whole(length, symbol, chance.choice([1, 2, 5]))
+    places = sorted(told.symbols)
+    for _ in range(chance.choice([0, 0, 0, 1, 2])):
+        wrong = chance.randrange(6)
+        if wrong == 0:
+            told.information = None
+        elif wrong == 1:
+            told.is_in_conflict = True
+        elif wrong == 2:
+            told.symbols[(chance.randrange(9), chance.randrange(9))] = b"stray"
+        elif places:
+            place = chance.choice(places)
+            if wrong == 3:
+                told.symbols.pop(place, None)
+            elif wrong == 4:
+                told.symbols[place] = None
+            else:
+                told.symbols[place] = b"misfit of another length"
+    if not told.symbols and told.information is None and not told.is_in_conflict:
+        told.information = (0, 1, 1)
+    return told
+
+
+def random_journal(chance: random.Random) -> dict[Name, Object]:
+    objects = {}
+    for _ in range(chance.randrange(12)):
+        tag = chance.randrange(2)
+        number = chance.choice([0, 1, 1_048_575] if tag == 0 else [1, 2, 5, (1 << 112) - 1])
+        name = Name(chance.choice(SENDERS), chance.choice([0, 7, 8, (1 << 48) - 1]), tag, number)
+        objects[name] = random_object(chance)
+    return objects
+
+
+def run(*words: str | Path, **options) -> subprocess.CompletedProcess:
+    return subprocess.run([PROGRAM, *words], capture_output=True, check=False, **options)
+
+
+def is_whole(line: str) -> bool:
+    return " whole " in line
+
+
+class ExtractAll(unittest.TestCase):
+    def setUp(self) -> None:
+        room = tempfile.TemporaryDirectory(prefix="extract-all-")
+        self.addCleanup(room.cleanup)
+        self.room = Path(room.name)
+        self.journal, self.out = self.room / "journal", self.room / "out"
+        self.beside = self.room / "out.partial"
+
+    def files(self) -> dict[str, bytes]:
+        return {path.name: path.read_bytes() for path in self.out.iterdir()}
+
+    def extract(self, *words: str, status: int = 0) -> str:
+        ran = run("extract", "--all", "-o", self.out, *words, self.journal)
+        self.assertEqual(ran.returncode, status, ran.stderr)
+        return ran.stdout.decode()
+
+    def first_lines(self) -> list[str]:
+        """The line of `gaps` for each object."""
+        told = run("gaps", self.journal).stdout.decode().splitlines()
+        return [line for line in told if not line.startswith("gap ")]
+
+    def expect(self, objects: dict[Name, Object], names: list[Name], *words: str) -> None:
+        """The files and lines of these objects, each as `extract` and `gaps` have it."""
+        lines = dict(zip(sorted(objects), self.first_lines(), strict=True))
+        files = {}
+        for name in names:
+            one = self.room / "one"
+            ran = run("extract", "-f", "-o", one, *name.words(), self.journal)
+            self.assertEqual(ran.returncode == 0, is_whole(lines[name]))
+            if ran.returncode == 0:
+                files[name.file()] = one.read_bytes()
+        told = "".join(f"{lines[name]}\n" for name in names) + f"written {len(files)}\n"
+        self.assertEqual(self.extract(*words), told)
+        self.assertEqual(self.files(), files)
+        self.assertFalse(self.beside.exists())
+        shutil.rmtree(self.out)
+
+    def test_random_journals(self) -> None:
+        chance = random.Random(41)
+        for _ in range(300):
+            objects = random_journal(chance)
+            self.journal.write_bytes(journal_of(objects))
+            names = sorted(objects)
+            self.expect(objects, names)
+            sender = chance.choice(SENDERS)
+            words = ["--source", f"{sender:032x}"]
+            self.expect(objects, [name for name in names if name.sender == sender], *words)
+            words += ["--tsi", "7", "--tsi", "8"]
+            some = [name for name in names if name.sender == sender and name.tsi in (7, 8)]
+            self.expect(objects, some, *words)
+            self.expect(objects, [name for name in names if name.tsi == 0], "--tsi", "0")
+
+    def test_objects_of_all_kinds(self) -> None:
+        broken = whole(40, 8, 2)
+        del broken.symbols[(1, 0)]
+        objects = {
+            Name(0xFFFF0A090001, 7, 0, 2): whole(9, 4, 2),
+            Name(0xFFFF0A090001, 7, 1, 20): whole(0, 1, 1),
+            Name(0xFFFF0A090001, 7, 1, 21): broken,
+            Name(0xFFFF0A090001, 7, 1, 22): Object(None, False, {(0, 0): b"a"}),
+            Name(0xFFFF0A090001, 7, 1, 23): Object(None, True, {(0, 0): b"a"}),
+        }
+        self.journal.write_bytes(journal_of(objects))
+        before = "source 00000000000000000000ffff0a090001 session 7 object "
+        self.assertEqual(
+            self.extract(),
+            f"{before}fdt 2 whole 9\n{before}20 whole 0\n"
+            f"{before}21 partial missing 1 conflicting 0 misfit 0\n"
+            f"{before}22 no information\n{before}23 conflicting information\nwritten 2\n",
+        )
+        name = "00000000000000000000ffff0a090001-7-"
+        self.assertEqual(sorted(self.files()), [f"{name}20", f"{name}fdt2"])
+
+    def test_4096_objects(self) -> None:
+        objects = {Name(0, 7, 1, toi): whole(toi % 50, 8, 4) for toi in range(1, 4097)}
+        self.journal.write_bytes(journal_of(objects))
+        told = self.extract().splitlines()
+        self.assertEqual(told[:-1], self.first_lines())
+        self.assertEqual(told[-1], "written 4096")
+        for name, told_of in objects.items():
+            content = b"".join(value or b"" for _, value in sorted(told_of.symbols.items()))
+            self.assertEqual((self.out / name.file()).read_bytes(), content)
+
+    def no_folder(self, *words: str, journal: bytes, status: int = 1) -> None:
+        self.journal.write_bytes(journal)
+        self.extract(*words, status=status)
+        self.assertFalse(self.out.exists())
+        self.assertFalse(self.beside.exists())
+
+    def test_a_fault_at_each_byte(self) -> None:
+        objects = {Name(0, 7, 1, 1): whole(9, 4, 2), Name(0, 7, 1, 2): whole(5, 4, 2)}
+        bytes_of = journal_of(objects)
+        for end in range(len(bytes_of)):
+            self.no_folder(journal=bytes_of[:end])
+        self.no_folder(journal=bytes_of + b"x")
+        self.no_folder(journal=bytes_of[:-1] + b"\x00")
+        many = {Name(0, 7, 1, toi): whole(1, 1, 1) for toi in range(1, 4098)}
+        self.no_folder(journal=journal_of(many))
+
+    def test_there_before(self) -> None:
+        objects = {Name(0, 7, 1, 1): whole(9, 4, 2)}
+        self.journal.write_bytes(journal_of(objects))
+        self.out.mkdir()
+        self.extract(status=3)
+        self.assertEqual(self.files(), {})
+        self.out.rmdir()
+        self.out.write_bytes(b"a file")
+        self.extract(status=3)
+        self.assertEqual(self.out.read_bytes(), b"a file")
+        self.out.unlink()
+        self.out.symlink_to("nowhere")
+        self.extract(status=3)
+        self.assertTrue(self.out.is_symlink())
+        self.out.unlink()
+        self.assertFalse(self.beside.exists())
+        for path in ("", "-", "/", f"{self.room}/none/out"):
+            ran = run("extract", "--all", "-o", path, self.journal)
+            self.assertEqual((ran.returncode, ran.stderr), (3, b"cannot create output\n"), path)
+        ran = run("extract", "--all", "-o", f"{self.out}//", self.journal)
+        self.assertEqual(ran.returncode, 0, ran.stderr)
+        self.assertEqual(len(self.files()), 1)
+
+    def test_what_stands_beside(self) -> None:
+        objects = {Name(0, 7, 1, 1): whole(9, 4, 2)}
+        self.journal.write_bytes(journal_of(objects))
+        self.beside.mkdir()
+        (self.beside / "left by a kill").write_bytes(b"left")
+        self.extract()
+        self.assertEqual(list(self.files()), [f"{0:032x}-7-1"])
+        shutil.rmtree(self.out)
+        self.beside.write_bytes(b"a file")
+        self.extract(status=3)
+        self.assertEqual(self.beside.read_bytes(), b"a file")
+        self.beside.unlink()
+        (self.beside / "folder").mkdir(parents=True)
+        (self.beside / "file").write_bytes(b"a file")
+        self.extract(status=3)
+        self.assertEqual(sorted(os.listdir(self.beside)), ["file", "folder"])
+
+    def test_two_runs(self) -> None:
+        objects = {Name(0, 7, 1, 1): whole(9, 4, 2)}
+        self.journal.write_bytes(journal_of(objects))
+        slow = self.room / "slow"
+        os.mkfifo(slow)
+        first = subprocess.Popen([PROGRAM, "extract", "--all", "-o", self.out, slow])
+        with slow.open("wb") as journal:
+            while not self.beside.exists():
+                time.sleep(0.01)
+            time.sleep(0.1)
+            self.extract(status=3)
+            journal.write(journal_of(objects))
+        self.assertEqual(first.wait(), 0)
+        self.assertEqual(len(self.files()), 1)
+
+    def test_killed(self) -> None:
+        objects = {Name(0, 7, 1, toi): whole(4000, 500, 4) for toi in range(1, 60)}
+        self.journal.write_bytes(journal_of(objects))
+        began = time.monotonic()
+        self.extract()
+        took = time.monotonic() - began
+        files = self.files()
+        shutil.rmtree(self.out)
+        command = [PROGRAM, "extract", "--all", "-o", self.out, self.journal]
+        for step in range(min(200, int(took / 0.005) + 2)):
+            with subprocess.Popen(command, stdout=subprocess.DEVNULL) as running:
+                time.sleep(step * 0.005)
+                running.send_signal(signal.SIGKILL)
+            if self.out.exists():
+                self.assertEqual(self.files(), files)
+                shutil.rmtree(self.out)
+        self.extract()
+        self.assertEqual(self.files(), files)
+
+    def test_full(self) -> None:
+        """A file may have 1,024 bytes more or less, so that a write fails."""
+        objects = {Name(0, 7, 1, toi): whole(700 * toi, 500, 4) for toi in range(1, 4)}
+        self.journal.write_bytes(journal_of(objects))
+        limit = f"ulimit -f 1; trap '' XFSZ; exec '{PROGRAM}' extract --all -o '{self.out}' "
+        ran = subprocess.run(
+            ["bash", "-c", f"{limit} '{self.journal}' | cat; exit ${{PIPESTATUS[0]}}"],
+            capture_output=True,
+            check=False,
+        )
+        self.assertEqual((ran.returncode, ran.stderr), (3, b"cannot write\n"))
+        self.assertFalse(self.out.exists())
+        self.assertFalse(self.beside.exists())
+
+    def test_report_fails(self) -> None:
+        objects = {Name(0, 7, 1, 1): whole(9, 4, 2)}
+        self.journal.write_bytes(journal_of(objects))
+        with open("/dev/full", "wb") as full:
+            ran = subprocess.run(
+                [PROGRAM, "extract", "--all", "-o", self.out, self.journal],
+                stdout=full,
+                stderr=subprocess.PIPE,
+                check=False,
+            )
+        self.assertEqual((ran.returncode, ran.stderr), (3, b"cannot write\n"))
+        self.assertFalse(self.out.exists())
+
+
+if __name__ == "__main__":
+    PROGRAM = os.path.abspath(sys.argv.pop(1))
+    unittest.main()

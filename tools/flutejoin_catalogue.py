@@ -1,0 +1,332 @@
+"""The files of sessions, as FDT Instances describe them and as journals hold their objects."""
+from __future__ import annotations
+
+import ipaddress
+import re
+from typing import Callable, Iterator, NamedTuple, Optional
+
+import flutejoin_fdt as fdt
+import flutejoin_files as files
+import flutejoin_gaps as gaps
+import flutejoin_names as names
+from flutejoin_content import ENCODINGS, Checked, Verdict
+from flutejoin_entries import FDT_INSTANCE, FILE
+from flutejoin_holdings import NOTHING, Held, Key
+from flutejoin_partition import Partition, fault_of
+
+MOST_FILES = 1 << 14  # that are described in all
+MOST_OBJECTS = 4096  # of a session in a store
+MOST_TOLD = 20  # lines of one kind
+KEY = re.compile(r"(?:source ([0-9a-f]{32}) )?session (\d+) object (fdt )?(\d+)")
+
+
+class State(NamedTuple):
+    """What flutejoin tells of an object."""
+
+    words: str
+    wanted: int = 0  # symbols that are not held as one fitting value
+    disputed: int = 0  # those of them that are in conflict
+    is_disputed: bool = False  # whether some of them are in conflict or misfits
+
+    @classmethod
+    def of(cls, line: re.Match) -> State:
+        if line[5]:
+            missing, disputed, misfits = (int(line[at]) for at in (6, 7, 8))
+            wanted = missing + disputed + misfits
+            return cls(gaps.PARTIAL, wanted, disputed, disputed + misfits > 0)
+        words = line[line.lastindex].decode()
+        return cls(words, 0, 0, words == gaps.CONFLICTING_INFORMATION)
+
+    def is_whole(self) -> bool:
+        return self.words == gaps.WHOLE
+
+    def __str__(self) -> str:
+        return f"{self.words} {self.wanted}" if self.words == gaps.PARTIAL else self.words
+
+
+MISSING = State("missing")
+
+
+def key_of(text: str) -> Key:
+    """The object of a line of flutejoin."""
+    source, tsi, is_instance, number = KEY.fullmatch(text).groups()
+    tag = FDT_INSTANCE if is_instance else FILE
+    return Key(bytes.fromhex(source) if source else bytes(16), int(tsi), tag, int(number))
+
+
+class Described(NamedTuple):
+    """A file as the FDT Instance describes it that counts."""
+
+    file: fdt.File
+    rank: tuple[int, int]
+    instance: str
+
+    def left_alone(self) -> str:
+        """Why nothing is made of its object."""
+        if self.file.fec != fdt.NO_CODE:
+            return f"FEC Encoding ID {self.file.fec}"
+        if self.file.encoding and self.file.encoding not in ENCODINGS:
+            return f"Content-Encoding {self.file.encoding}"
+        return ""
+
+
+class Outcome(NamedTuple):
+    """What became of a whole object."""
+
+    checked: Checked
+    path: str  # below the folder
+    put: Optional[str]  # "new" or "changed"; None where the file was there as it is
+
+
+class Told:
+    """Tells lines of one kind, the first of them each and of the others how many there are."""
+
+    def __init__(self, report: files.Report) -> None:
+        self.report, self.count = report, 0
+
+    def tell(self, text: str) -> None:
+        self.count += 1
+        if self.count <= MOST_TOLD:
+            self.report.warn(text)
+
+    def finish(self, what: str) -> None:
+        if self.count > MOST_TOLD:
+            self.report.warn(f"{self.count - MOST_TOLD} more {what}")
+
+
+class Session:
+    """A session: its FDT Instances, its files by TOI, and what is held."""
+
+    def __init__(self, source: bytes, tsi: int) -> None:
+        self.source, self.tsi = source, tsi
+        self.heads: list[fdt.Instance] = []  # without their files
+        self.unread: dict[int, State] = {}  # FDT Instances that are not whole
+        self.newest: Optional[fdt.Instance] = None
+        self.files: dict[int, Described] = {}
+        self.held: dict[int, Held] = {}
+        self.states: dict[int, State] = {}
+        self.outcomes: dict[int, Outcome] = {}
+        self.replaced: set[int] = set()
+        self.resolved: dict[int, int] = {}  # how many conflicting symbols each had
+        self.unresolved: dict[int, str] = {}  # why no values of conflicting symbols were chosen
+
+    def title(self) -> str:
+        address = ipaddress.IPv6Address(self.source)
+        return f"sender {address.ipv4_mapped or address} session {self.tsi}"
+
+    def key(self, toi: int) -> Key:
+        return Key(self.source, self.tsi, FILE, toi)
+
+    def add(self, instance: fdt.Instance, differs: Callable[[str], None]) -> None:
+        """Takes an FDT Instance. Of two the one that expires later counts."""
+        rank = instance.rank()
+        for toi, file in instance.files.items():
+            before = self.files.get(toi)
+            if before and before.file != file:
+                self.tell_difference(before, Described(file, rank, instance.name), differs)
+            if before is None or rank > before.rank:
+                self.files[toi] = Described(file, rank, instance.name)
+        if self.newest is None or rank > self.newest.rank():
+            self.newest = instance
+        self.heads.append(instance._replace(files={}))
+
+    def tell_difference(
+        self, one: Described, other: Described, differs: Callable[[str], None]
+    ) -> None:
+        counts = other if other.rank > one.rank else one
+        why = "was read first"
+        if one.rank != other.rank:
+            why = "has the greater number" if one.rank[0] == other.rank[0] else "expires later"
+        attributes = one.file.differences(other.file)
+        differs(
+            f"{self.title()} object {one.file.toi}: FDT Instances {one.instance} and "
+            f"{other.instance} differ in {attributes}; {counts.instance} counts, which {why}"
+        )
+
+    def tois(self) -> list[int]:
+        """The objects that are described, or of which something is held."""
+        return sorted(self.files.keys() | self.held.keys())
+
+    def state(self, toi: int) -> State:
+        return self.states.get(toi, MISSING)
+
+    def wanted_lines(self) -> Iterator[tuple[Key, tuple[int, int, int]]]:
+        """The transmission information that an FDT Instance has, and the journal not.
+
+        Files of no bytes, of which nothing has to be received, have the room that a store leaves.
+        """
+        room = MOST_OBJECTS - len(self.held) - len(self.heads) - len(self.unread)
+        for toi, described in self.files.items():
+            held = self.held.get(toi, NOTHING)
+            information = described.file.information()
+            if information is None or described.left_alone() or fault_of(*information):
+                continue
+            if held.information or held.is_disputed or not held.symbols and information[0]:
+                continue
+            room -= not held.symbols
+            if held.symbols or room >= 0:
+                yield self.key(toi), information
+
+    def disagreements(self) -> Iterator[str]:
+        """Where packets have other transmission information than the FDT, or that is not valid."""
+        for toi, described in sorted(self.files.items()):
+            front = f"{self.title()} object {toi}"
+            told, fault = described.file.information(), described.file.fault()
+            held = self.held.get(toi, NOTHING).information
+            if described.left_alone():
+                yield f"{front}: {described.left_alone()}: left alone"
+            elif fault:
+                yield f"{front}: the FDT has transmission information that is not valid: {fault}"
+            elif held and told and held != told and held[0] + told[0]:
+                yield f"{front}: packets have {numbers(held)}, and the FDT has {numbers(told)}"
+
+    def information(self, toi: int) -> tuple[int, int, int] | None:
+        """What is known of an object's length, its symbols and its blocks."""
+        held = self.held.get(toi, NOTHING)
+        described = self.files.get(toi)
+        told = described.file.information() if described else None
+        return held.information or told
+
+    def symbols(self, toi: int) -> int | None:
+        """How many symbols an object has."""
+        information = self.information(toi)
+        if information is None or fault_of(*information):
+            return None
+        return Partition(*information).symbols
+
+    def gaps_of_strays(self) -> int:
+        """At most so many gaps are in the objects that nothing describes."""
+        found = 0
+        for toi in self.held.keys() - self.files.keys():
+            information = self.held[toi].information
+            if information and not fault_of(*information):
+                found += Partition(*information).blocks + self.held[toi].symbols
+        return found
+
+    def wanted_bytes(self, toi: int) -> int:
+        """At most so many bytes of an object are missing."""
+        length, symbol, _ = self.information(toi) or (0, 0, 0)
+        return min(length, self.state(toi).wanted * symbol)
+
+    def is_done(self) -> bool:
+        """Whether each file of the newest FDT Instance is here, and none is wrong."""
+        if self.newest is None:
+            return False
+        if any(map(self.may_be_newest, self.unread.items())):
+            return False
+        wrong = (Verdict.WRONG, Verdict.WRONG_MD5)
+        if any(outcome.checked.verdict in wrong for outcome in self.outcomes.values()):
+            return False
+        return all(self.is_here(toi) for toi in self.newest.files)
+
+    def may_be_newest(self, unread: tuple[int, State]) -> bool:
+        """Whether an FDT Instance that is not whole may be newer than those that are.
+
+        One in conflict has its place taken by one that was handed in.
+        """
+        number, state = unread
+        known = [head.number for head in self.heads]
+        if state.is_disputed and None in known:
+            return False
+        return all(other is None or number > other for other in known)
+
+    def is_here(self, toi: int) -> bool:
+        if self.files[toi].left_alone():
+            return False
+        outcome = self.outcomes.get(toi)
+        if outcome:
+            return outcome.checked.verdict is Verdict.VERIFIED
+        return self.state(toi).is_whole()
+
+    def claims(self) -> list[names.Claim]:
+        """The paths that its files ask for, the newest before others."""
+        described = sorted(
+            self.files.values(), key=lambda it: (-it.rank[0], -it.rank[1], it.file.toi)
+        )
+        session = self.source, self.tsi
+        return [
+            names.Claim(
+                self.key(it.file.toi),
+                names.path_of(it.file.location),
+                session,
+                it.instance,
+                f"{self.tsi}-{it.file.toi}",
+            )
+            for it in described
+        ]
+
+
+def numbers(information: tuple[int, int, int]) -> str:
+    return "length {} symbol {} block {}".format(*information)
+
+
+class Catalogue:
+    """All sessions."""
+
+    def __init__(self, report: files.Report) -> None:
+        self.report = report
+        self.sessions: dict[tuple[bytes, int], Session] = {}
+        self.count = self.text = 0  # of the files that are described
+        self.differences, self.notes = Told(report), Told(report)
+
+    def session(self, source: bytes, tsi: int) -> Session:
+        key = source, tsi
+        if key not in self.sessions:
+            self.sessions[key] = Session(source, tsi)
+        return self.sessions[key]
+
+    def describes(self, key: Key) -> bool:
+        session = self.sessions.get((key.source, key.tsi))
+        return session is not None and key.tag == FILE and key.number in session.files
+
+    def hold(self, found: dict[Key, Held]) -> None:
+        """Takes what a journal holds."""
+        for key, held in found.items():
+            session = self.session(key.source, key.tsi)
+            if key.tag == FILE:
+                session.held[key.number] = held
+
+    def read(self, session: Session, path: str, number: Optional[int], name: str) -> None:
+        """Reads an FDT Instance. One that is refused is told, and the others go on."""
+        whose = f"{session.title()}: FDT Instance {name}"
+        try:
+            instance = fdt.read(path, number, name)
+            self.make_room(session, instance)
+        except fdt.Refused as fault:
+            self.report.fault(1, f"{whose}: {fault}")
+            return
+        for note, count in instance.notes.items():
+            self.notes.tell(f"{whose}: {note}" + (f" ({count} times)" if count > 1 else ""))
+        session.add(instance, self.differences.tell)
+
+    def make_room(self, session: Session, instance: fdt.Instance) -> None:
+        """Counts what an FDT Instance adds. The memory of a run has a bound."""
+        count, text, rank = self.count, self.text, instance.rank()
+        for toi, file in instance.files.items():
+            before = session.files.get(toi)
+            if before is None:
+                count, text = count + 1, text + file.text()
+            elif rank > before.rank:
+                text += file.text() - before.file.text()
+        if count > MOST_FILES or text > fdt.MOST_KEPT:
+            raise fdt.Refused(f"more than {MOST_FILES} files in all, or with much text")
+        self.count, self.text = count, text
+
+    def __iter__(self) -> Iterator[Session]:
+        return iter(self.sessions[key] for key in sorted(self.sessions))
+
+    def paths(self) -> dict[Key, str]:
+        """The path of each file below the folder. Which are replaced is known then."""
+        claims = [claim for session in self for claim in session.claims()]
+        paths = names.assign(claims)
+        moved = Told(self.report)
+        for claim in claims:
+            path = paths.get(claim.key, claim.path)
+            if path != claim.path:
+                front = claim.key.text()
+                moved.tell(f"{front}: another file has the name {claim.path}; it is {path}")
+        moved.finish("such names")
+        for claim in claims:
+            if claim.key not in paths:
+                self.sessions[claim.session].replaced.add(claim.key.number)
+        return paths

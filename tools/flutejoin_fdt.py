@@ -1,0 +1,281 @@
+"""FDT Instances: the files of a session that they describe (RFC 6726, section 3.4.2).
+
+Names of elements and attributes are local names, of whatever namespace. What the XML contains is
+text of whoever sent it: a DTD, and what would take much memory, is refused.
+"""
+from __future__ import annotations
+
+import base64
+import collections
+import datetime
+import zlib
+from typing import BinaryIO, Iterator, NamedTuple
+from xml.parsers import expat
+
+from flutejoin_partition import fault_of
+
+MOST_BYTES = 16 << 20  # of an FDT Instance
+MOST_FILES = 1 << 13  # of an FDT Instance
+MOST_KEPT = 4 << 20  # characters of the attributes that are kept of an FDT Instance
+MOST_MARKUP = 1 << 16  # bytes of a tag or a comment
+MOST_NAMES = 1 << 12  # of elements and attributes
+MOST_DEPTH = 16
+MOST_LOCATION, MOST_TYPE = 2048, 100  # characters that are kept of a name and of a type
+PIECE = 1 << 16
+COMPRESSED = b"\x1f", b"x"  # how gzip (RFC 1952) and zlib (RFC 1950) formats begin
+EITHER = 47  # zlib's name of the two
+DIGITS = 39
+NTP_TO_UNIX = 2208988800  # seconds from 1900 to 1970
+ERA = 1 << 32  # seconds of an era of NTP; the second begins in 2036 (RFC 4330, section 3)
+NO_CODE = 0  # the FEC Encoding ID of Compact No-Code FEC
+
+
+class Refused(Exception):
+    """Why an FDT Instance is not taken."""
+
+
+class File(NamedTuple):
+    """How an FDT Instance describes an object. What it does not say is None, or empty."""
+
+    toi: int
+    location: str
+    type: str
+    encoding: str
+    length: int | None  # of the file, in bytes
+    transfer: int | None  # of the object, which may be the file as it is encoded
+    md5: bytes | None
+    fec: int
+    symbol: int | None
+    block: int | None
+
+    def text(self) -> int:
+        """How many characters are kept of it."""
+        return len(self.location) + len(self.type) + len(self.encoding)
+
+    def transfer_length(self) -> int | None:
+        """The object's length. Of an encoded file Content-Length is another one."""
+        return self.length if self.transfer is None and not self.encoding else self.transfer
+
+    def information(self) -> tuple[int, int, int] | None:
+        """The object's length, the bytes of a symbol and the symbols of a block."""
+        length = self.transfer_length()
+        if length == 0:
+            return 0, self.symbol or 0, self.block or 0
+        if length is None or self.symbol is None or self.block is None:
+            return None
+        return length, self.symbol, self.block
+
+    def fault(self) -> str | None:
+        """Why its transmission information is not valid, as flutejoin names it."""
+        information = self.information()
+        return fault_of(*information) if information else None
+
+    def differences(self, other: File) -> str:
+        """The attributes that another description has otherwise."""
+        names = zip(self._fields, ATTRIBUTES)
+        return ", ".join(name for at, name in names if getattr(self, at) != getattr(other, at))
+
+
+# The attributes of a file, in the order of its fields
+ATTRIBUTES = (
+    "TOI",
+    "Content-Location",
+    "Content-Type",
+    "Content-Encoding",
+    "Content-Length",
+    "Transfer-Length",
+    "Content-MD5",
+    "FEC-OTI-FEC-Encoding-ID",
+    "FEC-OTI-Encoding-Symbol-Length",
+    "FEC-OTI-Maximum-Source-Block-Length",
+)
+# Those that the root element may have for all files
+COMMON = frozenset(ATTRIBUTES[2:4] + ATTRIBUTES[7:])
+ENDS = 1 << 112, 1 << 48, 1 << 16, 1 << 32  # of a TOI, a length, a symbol's, a block's
+PLAIN = frozenset(("", "identity", "null"))  # encodings that change nothing
+
+
+class Instance(NamedTuple):
+    """An FDT Instance."""
+
+    number: int | None  # its FDT Instance ID; none of one that was handed in
+    name: str  # as it is told
+    expires: int | None  # in seconds since 1970
+    files: dict[int, File]
+    notes: collections.Counter  # what is wrong in it, and how often
+
+    def rank(self) -> tuple[int, int]:
+        """The one of several Instances that counts has the greatest."""
+        last = -1 if self.number is None else self.number
+        return (-ERA if self.expires is None else self.expires), last
+
+    def expiry(self) -> str:
+        if self.expires is None:
+            return "expires at no known time"
+        time = datetime.datetime.fromtimestamp(self.expires, datetime.timezone.utc)
+        return f"expires {time:%Y-%m-%d %H:%M:%S}Z"
+
+
+def number(text: str, end: int) -> int | None:
+    text = text.strip(" ")
+    if not text.isascii() or not text.isdigit() or len(text) > DIGITS or int(text) >= end:
+        return None
+    return int(text)
+
+
+def expires(text: str) -> int | None:
+    """A time of NTP in seconds since 1970."""
+    seconds = number(text, ERA)
+    if seconds is None:
+        return None
+    return seconds - NTP_TO_UNIX + (ERA if seconds < ERA // 2 else 0)
+
+
+def digest(text: str) -> bytes | None:
+    try:
+        data = base64.b64decode(text.strip(" "), validate=True)
+    except ValueError:
+        return None
+    return data if len(data) == 16 else None
+
+
+def pieces(file: BinaryIO) -> Iterator[bytes]:
+    """The bytes of an FDT Instance. One that is compressed (RFC 6726, section 3.4.3) is decoded.
+
+    A journal does not say which are; gzip and zlib formats begin as no XML does.
+    """
+    data = file.read(PIECE)
+    if data[:1] not in COMPRESSED:
+        while data:
+            yield data
+            data = file.read(PIECE)
+        return
+    stream, piece = zlib.decompressobj(EITHER), b""
+    try:
+        while not stream.eof and (data or len(piece) == PIECE):
+            piece = stream.decompress(data, PIECE)
+            yield piece
+            data = stream.unconsumed_tail or file.read(PIECE)
+    except zlib.error as fault:
+        raise Refused(f"cannot be decoded: {fault}") from None
+    if not stream.eof:
+        raise Refused("cannot be decoded: it ends too early")
+
+
+class Reader:
+    """Reads the XML of an FDT Instance."""
+
+    def __init__(self) -> None:
+        self.parser = expat.ParserCreate()
+        self.parser.StartElementHandler = self.start
+        self.parser.EndElementHandler = self.end
+        self.parser.StartDoctypeDeclHandler = self.doctype
+        self.depth = self.kept = 0
+        self.common: dict[str, str] = {}
+        self.expires: int | None = None
+        self.files: dict[int, File] = {}
+        self.notes: collections.Counter = collections.Counter()
+
+    def read(self, file: BinaryIO) -> None:
+        fed = 0
+        try:
+            for piece in pieces(file):
+                fed += len(piece)
+                if fed > MOST_BYTES:
+                    raise Refused("more than 16 MB of XML")
+                self.parser.Parse(piece, False)
+                if fed - self.parser.CurrentByteIndex > MOST_MARKUP:
+                    raise Refused("a tag or a comment of more than 64 KB")
+            self.parser.Parse(b"", True)
+        except expat.ExpatError as fault:
+            raise Refused(f"is no XML: {fault}") from None
+        except (LookupError, ValueError, TypeError) as fault:  # an encoding that is not known
+            raise Refused(f"is no XML that can be read: {fault}") from None
+        finally:
+            del self.parser  # which refers to this reader
+
+    def doctype(self, *_: object) -> None:
+        raise Refused("has a DTD (<!DOCTYPE), which no FDT Instance needs")
+
+    def start(self, name: str, attributes: dict[str, str]) -> None:
+        self.depth += 1
+        if self.depth > MOST_DEPTH:
+            raise Refused(f"has elements in one another, more than {MOST_DEPTH}")
+        if len(self.parser.intern) > MOST_NAMES:
+            raise Refused(f"has more than {MOST_NAMES} names of elements and attributes")
+        local = name.rpartition(":")[2]
+        if self.depth == 1:
+            if local != "FDT-Instance":
+                raise Refused("is no FDT Instance")
+            self.begin(local_names(attributes))
+        elif self.depth == 2 and local == "File":
+            self.add(local_names(attributes))
+
+    def end(self, _name: str) -> None:
+        self.depth -= 1
+
+    def begin(self, attributes: dict[str, str]) -> None:
+        self.expires = expires(attributes.get("Expires", ""))
+        if self.expires is None:
+            self.notes["Expires is no time"] += 1
+        self.common = {name: text for name, text in attributes.items() if name in COMMON}
+
+    def add(self, attributes: dict[str, str]) -> None:
+        """Takes a File element."""
+        file = self.file({**self.common, **attributes})
+        if not file.toi:
+            self.notes["a File has no TOI"] += 1
+        elif file.toi in self.files:
+            self.notes["a TOI stands twice; the first counts"] += 1
+        else:
+            self.kept += file.text()
+            if len(self.files) >= MOST_FILES or self.kept > MOST_KEPT:
+                raise Refused(f"describes more than {MOST_FILES} files, or with much text")
+            self.files[file.toi] = file
+
+    def file(self, attributes: dict[str, str]) -> File:
+        def numeral(name: str, end: int) -> int | None:
+            text = attributes.get(name)
+            if text is None:
+                return None
+            found = number(text, end)
+            if found is None:
+                self.notes[f"{name} is no number of its range"] += 1
+            return found
+
+        md5 = attributes.get("Content-MD5")
+        found = None if md5 is None else digest(md5)
+        if md5 is not None and found is None:
+            self.notes["Content-MD5 is not 16 bytes in base64"] += 1
+        location = attributes.get("Content-Location", "")
+        if not location:
+            self.notes["a File has no Content-Location"] += 1
+        encoding = attributes.get("Content-Encoding", "").strip(" ").lower()
+        fec = numeral("FEC-OTI-FEC-Encoding-ID", 1 << 8)
+        return File(
+            numeral("TOI", ENDS[0]) or 0,
+            location[:MOST_LOCATION],
+            attributes.get("Content-Type", "")[:MOST_TYPE],
+            "" if encoding in PLAIN else encoding[:MOST_TYPE],
+            numeral("Content-Length", ENDS[1]),
+            numeral("Transfer-Length", ENDS[1]),
+            found,
+            NO_CODE if fec is None else fec,
+            numeral("FEC-OTI-Encoding-Symbol-Length", ENDS[2]),
+            numeral("FEC-OTI-Maximum-Source-Block-Length", ENDS[3]),
+        )
+
+
+def local_names(attributes: dict[str, str]) -> dict[str, str]:
+    """Attributes by their local names. One without a prefix counts before others."""
+    named = {name.rpartition(":")[2]: text for name, text in attributes.items() if ":" in name}
+    named.update({name: text for name, text in attributes.items() if ":" not in name})
+    return named
+
+
+def read(path: str, number: int | None, name: str) -> Instance:
+    """The FDT Instance of a file."""
+    reader = Reader()
+    with open(path, "rb") as file:
+        reader.read(file)
+    return Instance(number, name, reader.expires, reader.files, reader.notes)

@@ -1,0 +1,163 @@
+"""What a journal holds of each object, and a journal of its FDT Instances alone.
+
+One pass over a journal (docs/FORMATS.md) tells the transmission information of each object and how
+many symbols there are. It is quick and checks little: flutejoin reads the same journal, and tells
+what is wrong in it.
+"""
+from __future__ import annotations
+
+import struct
+from typing import BinaryIO, Callable, Iterator, NamedTuple, Optional
+
+from flutejoin_entries import (
+    END,
+    FDT_INSTANCE,
+    HEADER,
+    INFORMATION,
+    INFORMATION_CONFLICT,
+    SYMBOL,
+    SYMBOL_CONFLICT,
+)
+from flutejoin_records import Cut, Fault
+
+PIECE = 1 << 20
+KEY = 37  # bytes of an entry's sender, TSI, tag and number
+TAG = 22  # where the tag stands in them
+SENDER = 16
+SYMBOL_ID, LENGTH, NUMBERS = 4, 2, 12
+# Bytes behind the object of an entry that is no symbol
+SIZES = {INFORMATION: NUMBERS, INFORMATION_CONFLICT: 0, SYMBOL_CONFLICT: SYMBOL_ID}
+LONGEST = 1 + KEY + SYMBOL_ID + LENGTH + (1 << 16)
+MOST_OBJECTS = 64 * 4096  # that a store holds
+
+
+class Key(NamedTuple):
+    """An object of a journal. They are in its order."""
+
+    source: bytes
+    tsi: int
+    tag: int
+    number: int
+
+    def text(self) -> str:
+        """As flutejoin names it in its lines."""
+        source = f"source {self.source.hex()} " if any(self.source) else ""
+        fdt = "fdt " if self.tag == FDT_INSTANCE else ""
+        return f"{source}session {self.tsi} object {fdt}{self.number}"
+
+    def file_name(self) -> str:
+        """As `flutejoin extract --all` names its file."""
+        fdt = "fdt" if self.tag == FDT_INSTANCE else ""
+        return f"{self.source.hex()}-{self.tsi}-{fdt}{self.number}"
+
+
+def key_of(raw: bytes) -> Key:
+    numbers = raw[SENDER:TAG], raw[TAG : TAG + 1], raw[TAG + 1 :]
+    return Key(raw[:SENDER], *(int.from_bytes(number, "big") for number in numbers))
+
+
+class Held:
+    """What is held of an object."""
+
+    __slots__ = "information", "is_disputed", "symbols"
+
+    def __init__(self) -> None:
+        self.information: Optional[tuple[int, int, int]] = None  # its length, symbol's, block's
+        self.is_disputed = False  # whether its information is in conflict
+        self.symbols = 0  # those in conflict too
+
+    def add(self, kind: int, more: memoryview) -> None:
+        if kind == INFORMATION:
+            high, low, symbol, block = struct.unpack(">HIHI", more)
+            self.information = high << 32 | low, symbol, block
+        elif kind == INFORMATION_CONFLICT:
+            self.is_disputed = True
+        else:
+            self.symbols += 1
+
+
+NOTHING = Held()
+# Whether an object counts
+Choice = Callable[[Key], bool]
+
+
+def entries(file: BinaryIO) -> Iterator[tuple[int, bytes, memoryview]]:
+    """Each entry of a journal: its kind, its object and the bytes behind that."""
+    head = file.read(len(HEADER))
+    if head[:4] != HEADER[:4]:
+        raise Fault("Magic" if len(head) >= 4 else "Cut")
+    if head[4:] not in (b"\0\1", b"\0\2"):
+        raise Fault("Version")
+    missing = bytes(SENDER if head[4:] == b"\0\1" else 0)
+    key = KEY - len(missing)
+    data, at = b"", 0
+    while True:
+        if len(data) - at < LONGEST:
+            data, at = data[at:] + file.read(PIECE), 0
+            view = memoryview(data)
+            if not data:
+                raise Cut
+        kind, begin = data[at], at + 1 + key
+        if kind == SYMBOL:
+            place = begin + SYMBOL_ID
+            end = place + LENGTH + int.from_bytes(view[place : place + LENGTH], "big")
+        elif kind in SIZES:
+            end = begin + SIZES[kind]
+        elif kind == END:
+            return
+        else:
+            raise Fault("Kind")
+        if end > len(data):
+            raise Cut
+        yield kind, missing + data[at + 1 : begin], view[begin:end]
+        at = end
+
+
+class Copy:
+    """A journal of some entries of another."""
+
+    def __init__(self, out: BinaryIO) -> None:
+        self.out, self.count = out, 0
+        out.write(HEADER)
+
+    def add(self, kind: int, raw: bytes, more: memoryview) -> None:
+        self.out.write(bytes([kind]) + raw + more)
+        self.count += 1
+
+    def finish(self) -> None:
+        self.out.write(bytes([END]) + self.count.to_bytes(8, "big"))
+
+
+def holdings(file: BinaryIO, choice: Choice, instances: Copy) -> dict[Key, Held]:
+    """What a journal holds of the objects that are chosen. Their FDT Instances are copied."""
+    found: dict[Key, Held] = {}
+    last, key, held = b"", None, NOTHING
+    for kind, raw, more in entries(file):
+        if raw != last:
+            last = raw
+            if key:
+                found[key] = held
+            key, held = key_of(raw), Held()
+            key = key if choice(key) else None
+            if key and len(found) == MOST_OBJECTS:
+                raise Fault("full")
+        if not key:
+            continue
+        if key.tag == FDT_INSTANCE:
+            instances.add(kind, raw, more)
+        held.add(kind, more)
+    if key:
+        found[key] = held
+    instances.finish()
+    return found
+
+
+def copy(file: BinaryIO, choice: Choice, out: BinaryIO) -> None:
+    """Writes the journal of the objects that are chosen."""
+    copied, last, is_chosen = Copy(out), b"", False
+    for kind, raw, more in entries(file):
+        if raw != last:
+            last, is_chosen = raw, choice(key_of(raw))
+        if is_chosen:
+            copied.add(kind, raw, more)
+    copied.finish()

@@ -1,0 +1,162 @@
+"""A folder whose files appear whole under their names, and the work beside it that goes at the end.
+"""
+from __future__ import annotations
+
+import contextlib
+import errno
+import fcntl
+import os
+import shutil
+import stat
+from typing import Iterator
+
+from flutejoin_files import PARTIAL
+
+PIECE = 1 << 18
+FOLDER = os.O_RDONLY | os.O_DIRECTORY | os.O_NOFOLLOW | os.O_CLOEXEC
+REGULAR = os.O_RDONLY | os.O_NOFOLLOW | os.O_NONBLOCK | os.O_CLOEXEC
+
+
+def bring_to_disk(folder: int) -> None:
+    """Has the system bring the file system of an open folder to the disk."""
+    try:
+        import ctypes
+
+        if ctypes.CDLL(None, use_errno=True).syncfs(folder):
+            raise OSError(ctypes.get_errno(), os.strerror(ctypes.get_errno()))
+    except (ImportError, AttributeError, MemoryError):
+        os.sync()
+
+
+class Work:
+    """A folder for what is made on the way, of one run at a time.
+
+    It stands beside another, with `.partial` behind its name, so that files move from one to the
+    other; or in it, where nothing can be made beside it. What a run that was killed left there is
+    removed, and nothing else.
+    """
+
+    NAMES = (
+        *("journal", "fdt.journal", "fdt", "lines", "known", "objects", "decoded"),
+        *("resolved.journal", "resolved", "described"),
+    )
+
+    def __init__(self, path: str) -> None:
+        self.path = path
+        with contextlib.suppress(FileExistsError):
+            os.mkdir(path)
+        self.folder = os.open(path, FOLDER)
+        if os.fstat(self.folder).st_uid != os.geteuid():
+            raise PermissionError(errno.EPERM, "is somebody else's", path)
+        try:
+            fcntl.flock(self.folder, fcntl.LOCK_EX | fcntl.LOCK_NB)
+        except BlockingIOError:
+            os.close(self.folder)
+            raise FileExistsError(errno.EEXIST, "is in use by another run", path) from None
+        self.clear()
+
+    def at(self, name: str) -> str:
+        return os.path.join(self.path, name)
+
+    def remove(self, name: str) -> None:
+        for each in name, name + PARTIAL:
+            path = self.at(each)
+            if os.path.isdir(path) and not os.path.islink(path):
+                shutil.rmtree(path)
+            else:
+                with contextlib.suppress(FileNotFoundError):
+                    os.remove(path)
+
+    def clear(self) -> None:
+        known = {each for name in self.NAMES for each in (name, name + PARTIAL)}
+        others = set(os.listdir(self.folder)) - known
+        if others:
+            told = f"has other files, such as {min(others)}, and is left as it is"
+            raise FileExistsError(errno.EEXIST, told, self.path)
+        for name in self.NAMES:
+            self.remove(name)
+
+    def end(self) -> None:
+        self.clear()
+        os.rmdir(self.path)
+        os.close(self.folder)
+
+
+def work_beside(folder: str) -> str:
+    """Where the work for a folder is done: on its file system."""
+    path = os.path.realpath(folder)
+    above = os.path.dirname(path)
+    if os.path.lexists(path):
+        os.scandir(path).close()  # it is a folder
+        is_other = os.stat(path).st_dev != os.stat(above).st_dev
+        if is_other or not os.access(above, os.W_OK | os.X_OK):
+            return os.path.join(path, PARTIAL)
+    return path + PARTIAL
+
+
+class Place:
+    """A folder that takes files. No link in it is followed, so that none leads out of it."""
+
+    def __init__(self, path: str) -> None:
+        self.path = path
+        with contextlib.suppress(FileExistsError):
+            os.mkdir(path)
+        self.folder = os.open(path, os.O_RDONLY | os.O_DIRECTORY | os.O_CLOEXEC)
+
+    def close(self) -> None:
+        os.close(self.folder)
+
+    @contextlib.contextmanager
+    def parent(self, path: str, is_made: bool) -> Iterator[tuple[int, str]]:
+        """The open folder of a path, and the last part of its name."""
+        *parts, name = path.split("/")
+        folder = os.dup(self.folder)
+        try:
+            for part in parts:
+                if is_made:
+                    with contextlib.suppress(FileExistsError):
+                        os.mkdir(part, dir_fd=folder)
+                inner = os.open(part, FOLDER, dir_fd=folder)
+                os.close(folder)
+                folder = inner
+            yield folder, name
+        finally:
+            os.close(folder)
+
+    def put(self, source: str, path: str) -> str | None:
+        """Gives a file this name, with the bytes of another that moves here.
+
+        Answers whether it is "new" or "changed"; nothing where it was the same before.
+        """
+        with self.parent(path, True) as (folder, name):
+            try:
+                found = os.stat(name, dir_fd=folder, follow_symlinks=False)
+            except FileNotFoundError:
+                os.rename(source, name, dst_dir_fd=folder)
+                return "new"
+            if not stat.S_ISREG(found.st_mode):
+                raise FileExistsError(errno.EEXIST, "is in the way: it is no regular file", name)
+            if self.is_same(source, folder, name):
+                os.remove(source)
+                return None
+            os.rename(source, name, dst_dir_fd=folder)
+            return "changed"
+
+    @staticmethod
+    def is_same(source: str, folder: int, name: str) -> bool:
+        """Whether a file that is here has the bytes of another."""
+        with open(source, "rb", buffering=0) as one:
+            here = os.open(name, REGULAR, dir_fd=folder)
+            with open(here, "rb", buffering=0) as other:
+                if os.fstat(one.fileno()).st_size != os.fstat(here).st_size:
+                    return False
+                while piece := one.read(PIECE):
+                    if piece != other.read(len(piece)):
+                        return False
+        return True
+
+    def remove(self, path: str) -> None:
+        """Removes a file, if it is here."""
+        with contextlib.suppress(FileNotFoundError):
+            with self.parent(path, False) as (folder, name):
+                os.remove(name, dir_fd=folder)

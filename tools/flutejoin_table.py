@@ -1,0 +1,182 @@
+"""What is told of the files of sessions: a table, and a line of numbers."""
+from __future__ import annotations
+
+import collections
+from typing import Iterator
+
+import flutejoin_gaps as gaps
+from flutejoin_catalogue import Catalogue, Outcome, Session
+from flutejoin_content import Verdict
+from flutejoin_holdings import NOTHING
+
+HEAD = ("toi", "bytes", "have", "state", "type", "name")
+RIGHT = 3  # columns whose texts stand at the right
+MOST_NAME = 300  # characters of a name in a line
+
+
+def ranges(numbers: list[int]) -> str:
+    """Numbers as 1-3, 5."""
+    runs: list[list[int]] = []
+    for number in sorted(set(numbers)):
+        if runs and number == runs[-1][1] + 1:
+            runs[-1][1] = number
+        else:
+            runs.append([number, number])
+    return ", ".join(
+        f"{one}-{last}" if last > one + 1 else ", ".join(map(str, range(one, last + 1)))
+        for one, last in runs
+    )
+
+
+def title(session: Session) -> str:
+    """The line of a session: its FDT Instances, and which is the newest."""
+    if session.newest is None:
+        return f"{session.title()}: no FDT Instance"
+    numbers = ranges([head.number for head in session.heads if head.name == str(head.number)])
+    named = [head.name for head in session.heads if head.name != str(head.number)]
+    told = ", ".join([numbers] * bool(numbers) + named)
+    several = "s" if len(session.heads) > 1 else ""
+    newest = session.newest
+    which = f", the newest {newest.name}" if several else ""
+    return f"{session.title()}: FDT Instance{several} {told}{which}, {newest.expiry()}"
+
+
+def share(session: Session, toi: int) -> str:
+    """How much of an object is held. Not everything is never 100.0%."""
+    state, symbols = session.state(toi), session.symbols(toi)
+    if state.is_whole():
+        return "100.0%"
+    if state.words == gaps.PARTIAL and symbols:
+        tenths = 1000 * (symbols - state.wanted) // symbols
+        return f"{tenths // 10}.{tenths % 10}%"
+    return "-" if session.held.get(toi, NOTHING).symbols else "0.0%"
+
+
+def row(session: Session, toi: int) -> list[str]:
+    """The columns of a file; in the fourth stands what is told of an object that is none."""
+    described, information = session.files.get(toi), session.information(toi)
+    length = information[0] if information else None
+    if described and length is None:
+        length = described.file.transfer_length()
+    front = [str(toi), "-" if length is None else f"{length:,}", share(session, toi)]
+    if not described:
+        symbols = session.held[toi].symbols
+        several = "" if symbols == 1 else "s"
+        front[2] = front[2] if information else "-"
+        return [*front, f"in no FDT Instance: {symbols} symbol{several}"]
+    outcome = session.outcomes.get(toi)
+    state = described.left_alone() or str(session.state(toi))
+    if outcome:
+        state = outcome.checked.verdict.value
+    elif toi in session.replaced:
+        state = "replaced"
+    name = location(session, toi) + notes(session, toi, outcome)
+    return [*front, state, described.file.type or "-", name]
+
+
+def location(session: Session, toi: int) -> str:
+    """The name of a file, as its sender has it."""
+    text = session.files[toi].file.location
+    return text if len(text) <= MOST_NAME else f"{text[:MOST_NAME]}.."
+
+
+def notes(session: Session, toi: int, outcome: Outcome | None) -> str:
+    """What stands behind a name."""
+    described = session.files[toi]
+    told = [described.file.encoding] * bool(described.file.encoding)
+    if told and described.file.length is not None:
+        told.append(f"{described.file.length:,}")
+    if toi in session.resolved:
+        told.append(f"{session.resolved[toi]} in conflict, by its MD5")
+    elif session.state(toi).disputed:
+        told.append(f"{session.state(toi).disputed} in conflict")
+    if outcome and outcome.checked.told:
+        told.append(outcome.checked.told)
+    if session.newest and toi not in session.newest.files:
+        told.append(f"FDT Instance {described.instance}")
+    return f" ({', '.join(told)})" if told else ""
+
+
+def table(session: Session) -> Iterator[str]:
+    """The lines of a session."""
+    yield title(session)
+    for number, state in session.unread.items():
+        yield f"  FDT Instance {number}: {state}"
+    rows = [row(session, toi) for toi in session.tois()]
+    if not rows:
+        return
+    full = [list(HEAD), *(columns for columns in rows if len(columns) == len(HEAD))]
+    widths = [max(len(columns[at]) for columns in full) for at in range(len(HEAD))]
+    for at in range(RIGHT):
+        widths[at] = max(len(columns[at]) for columns in [full[0], *rows])
+    for columns in [list(HEAD), *rows]:
+        cells = [
+            text.rjust(width) if at < RIGHT else text.ljust(width)
+            for at, (text, width) in enumerate(zip(columns, widths))
+        ]
+        yield f"  {'  '.join(cells)}".rstrip()
+
+
+def outcome_lines(session: Session) -> Iterator[str]:
+    """A line for each file that is not as the others."""
+    for toi, outcome in sorted(session.outcomes.items()):
+        verdict = outcome.checked.verdict
+        told = f" ({outcome.checked.told})" if outcome.checked.told else ""
+        symbols = session.resolved.get(toi)
+        if symbols:
+            several = "s" if symbols > 1 else ""
+            yield f"resolved: {outcome.path} ({symbols} conflicting symbol{several}, by its MD5)"
+        if verdict is not Verdict.VERIFIED:
+            yield f"{verdict.value}: {outcome.path}{told}"
+        elif outcome.put == "changed":
+            yield f"changed: {outcome.path}"
+    for toi, why in sorted(session.unresolved.items()):
+        yield f"not resolved: {location(session, toi)} ({why})"
+
+
+class Sum:
+    """The numbers of all sessions."""
+
+    def __init__(self, catalogue: Catalogue) -> None:
+        self.counts: collections.Counter = collections.Counter()
+        for session in catalogue:
+            for toi in session.files:
+                self.add(session, toi)
+
+    def add(self, session: Session, toi: int) -> None:
+        outcome, state = session.outcomes.get(toi), session.state(toi)
+        if outcome:
+            self.counts["written" if outcome.put else "unchanged"] += 1
+            self.counts[outcome.checked.verdict] += 1
+        elif toi in session.replaced:
+            self.counts["replaced"] += 1
+        elif session.files[toi].left_alone():
+            self.counts["left alone"] += 1
+        elif state.words == gaps.PARTIAL:
+            self.counts["partial"] += 1
+            self.counts["symbols"] += state.wanted
+            self.counts["bytes"] += session.wanted_bytes(toi)
+        elif state.is_whole():
+            self.counts["not written"] += 1
+        else:
+            self.counts["missing"] += 1
+
+    def line(self) -> str:
+        counts = self.counts
+        told = [f"written {counts['written']}"]
+        told += [f"unchanged {counts['unchanged']}"] * bool(counts["unchanged"])
+        told += [f"verified {counts[Verdict.VERIFIED]}"]
+        told += [f"not verified {counts[Verdict.NO_MD5]}"] * bool(counts[Verdict.NO_MD5])
+        parts = [", ".join(told), self.partial()]
+        for name in ("missing", "replaced", "left alone", "not written"):
+            parts += [f"{name} {counts[name]}"] * bool(counts[name])
+        parts.append(f"wrong MD5 {counts[Verdict.WRONG_MD5]}")
+        parts += [f"wrong {counts[Verdict.WRONG]}"] * bool(counts[Verdict.WRONG])
+        return "; ".join(parts)
+
+    def partial(self) -> str:
+        count, symbols, size = (self.counts[name] for name in ("partial", "symbols", "bytes"))
+        if not count:
+            return "partial 0"
+        several = "" if symbols == 1 else "s"
+        return f"partial {count} ({symbols:,} symbol{several}, {size:,} bytes)"
