@@ -1,6 +1,51 @@
 -- A stream and those of a slice: what stands at a place, and what becomes of it.
-use Rattle.flute_journal.proofs.{Common.{◌≡◌, ℕ, zero, suc, ◌+◌, ◌-◌, ◌<◌, ◌≤◌, List, [], ◌∷◌, length, length-take, take_all, get_or, Some, Option, Result, refl, sym, ap, ◌∙◌, arith, OnOk, IfErr, slice_get, slice_set, Fact, LoadFault, Either, First, Second, Behaviour, GoesOn, StopsAt, Advances, either_behaviour}, Pairs.{second_at}}
-use Rattle.std.proofs.{lemmas.Option.{slice_get-map, slice_get_read}, lemmas.List.{length-map, get_or-take}, Math.Seq.{take-set-lt}}
+use Rattle.flute_journal.proofs.{
+  Common.{
+    ◌≡◌,
+    ℕ,
+    zero,
+    suc,
+    ◌+◌,
+    ◌-◌,
+    ◌<◌,
+    ◌≤◌,
+    List,
+    [],
+    ◌∷◌,
+    length,
+    length-take,
+    take_all,
+    get_or,
+    Some,
+    Option,
+    Result,
+    refl,
+    sym,
+    ap,
+    ◌∙◌,
+    arith,
+    OnOk,
+    IfErr,
+    slice_get,
+    slice_set,
+    Fact,
+    LoadFault,
+    Either,
+    First,
+    Second,
+    Behaviour,
+    GoesOn,
+    StopsAt,
+    Advances,
+    either_behaviour,
+  },
+  Pairs.{second_at},
+}
+use Rattle.std.proofs.{
+  lemmas.Option.{slice_get-map, slice_get_read},
+  lemmas.List.{length-map, get_or-take},
+  Math.Seq.{take-set-lt},
+}
 use Rattle.std.specs.Prelude.{map, min, option_map}
 use Rattle.flute_journal.specs.{Eithers.{held_either}, Chains.{chained, taken}}
 

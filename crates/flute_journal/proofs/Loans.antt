@@ -1,5 +1,6 @@
 -- A stream of which parts are lent goes on as one that holds them.
-use Rattle.flute_journal.proofs.Common.{Result, Ok, Err, OnOk, IfErr, LoadFault, Behaviour, GoesOn, StopsAt}
+use Rattle.flute_journal.proofs.Common.{Result, Ok, Err, OnOk, IfErr, LoadFault, Behaviour, GoesOn}
+use Rattle.flute_journal.proofs.Common.{StopsAt}
 use Rattle.flute_journal.specs.Loans.{lent_as}
 
 module _ {S L : Type 0} (whole : L → S) (Same : L → L → Type 0) (b : Behaviour S) (s t : L)

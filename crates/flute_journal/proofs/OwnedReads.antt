@@ -1,7 +1,39 @@
 -- A journal that is read on with its source is a stream that goes on.
-use Rattle.flute_journal.proofs.{Common.{◌≡◌, ℕ, List, length, Option, Some, Ok, Err, Bool, ap, ◌∙◌, subst, arith, Fact, ReadFault, FailsIf, is_open, Gives, journal_framing, Behaviour, option_list, GoesOn, StopsAt, room, FailsBy}, JournalReads.{gives_on, stops_on, never, fewer}}
+use Rattle.flute_journal.proofs.{
+  Common.{
+    ◌≡◌,
+    ℕ,
+    List,
+    length,
+    Option,
+    Some,
+    Ok,
+    Err,
+    Bool,
+    ap,
+    ◌∙◌,
+    subst,
+    arith,
+    Fact,
+    ReadFault,
+    FailsIf,
+    is_open,
+    Gives,
+    journal_framing,
+    Behaviour,
+    option_list,
+    GoesOn,
+    StopsAt,
+    room,
+    FailsBy,
+  },
+  JournalReads.{gives_on, stops_on, never, fewer},
+}
 use Rattle.flute_journal.specs.declared.fault.LoadFault.TheVariants as load
-use Rattle.flute_journal.specs.{declared.owned_journal_stream.OwnedJournalStream.{OwnedJournalStream}, OwnedStreams.{owned_behaviour}}
+use Rattle.flute_journal.specs.{
+  declared.owned_journal_stream.OwnedJournalStream.{OwnedJournalStream},
+  OwnedStreams.{owned_behaviour},
+}
 
 module _ {R : Type 0} (unread : R → Option (List ℕ)) (failures : R → ℕ) (s t : OwnedJournalStream R)
   where

@@ -5,8 +5,28 @@ pub use Rattle.flute_journal.proofs.Entries.{facts_of}
 pub use Rattle.flute_journal.proofs.Passes.{beyond, without_end-below}
 pub use Rattle.flute_journal.proofs.Framed.{one_given}
 pub use Rattle.flute_journal.proofs.Framings.{file_sound, journal_sound}
-pub use Rattle.flute_journal.proofs.SoFar.{AtEnd, open_after, read_some, side-from, sofar-fault, sofar-next, sofar-none, whole-at}
+pub use Rattle.flute_journal.proofs.SoFar.{
+  AtEnd,
+  open_after,
+  read_some,
+  side-from,
+  sofar-fault,
+  sofar-next,
+  sofar-none,
+  whole-at,
+}
 pub use Rattle.flute_journal.proofs.Whole.{sofar-stops}
-pub use Rattle.flute_journal.proofs.Loading.{entries_at, given-entry, Loaded, loaded-over, loaded-read}
-pub use Rattle.flute_journal.proofs.MergeBytes.{journal_parts, parts_journal, same_journal, written_journal}
+pub use Rattle.flute_journal.proofs.Loading.{
+  entries_at,
+  given-entry,
+  Loaded,
+  loaded-over,
+  loaded-read,
+}
+pub use Rattle.flute_journal.proofs.MergeBytes.{
+  journal_parts,
+  parts_journal,
+  same_journal,
+  written_journal,
+}
 pub use Rattle.flute_journal.proofs.WrittenSoFar.{written-more}

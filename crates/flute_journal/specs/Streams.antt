@@ -1,6 +1,7 @@
 -- Streams of facts in strictly rising order of their addresses: what they give, how they end,
 -- and what is read for that.
-use Rattle.std.specs.Prelude.{◌≡◌, ℕ, ◌+◌, ◌≤◌, List, [], ◌∷◌, ◌++◌, length, Option, Some, None, IfSome, Result, OnOk, IfErr, slice_get, slice_set}
+use Rattle.std.specs.Prelude.{◌≡◌, ℕ, ◌+◌, ◌≤◌, List, [], ◌∷◌, ◌++◌, length, Option, Some, None}
+use Rattle.std.specs.Prelude.{IfSome, Result, OnOk, IfErr, slice_get, slice_set}
 use Rattle.flute_parts.specs.Addresses.{address, fact_of}
 use Rattle.flute_parts.specs.Facts.{IsRising}
 use Rattle.flute_parts.specs.declared.address.Address.{Address}

@@ -24,8 +24,10 @@ from_block i = codes " block " ++ (decimal i.max_block_length ++ [])
 abbrev pub from_symbol : Information → List ℕ
 from_symbol i = codes " symbol " ++ (decimal i.symbol_length ++ from_block i)
 
-pub information_chain : (i : Information) → information_words i ≡ codes "info length " ++ (decimal i.transfer_length ++ from_symbol i)
-information_chain i = six (codes "info length ") (decimal i.transfer_length) (codes " symbol ") (decimal i.symbol_length) (codes " block ") (decimal i.max_block_length)
+pub information_chain : (i : Information)
+    → information_words i ≡ codes "info length " ++ (decimal i.transfer_length ++ from_symbol i)
+information_chain i = six (codes "info length ") (decimal i.transfer_length) (codes " symbol ")
+    (decimal i.symbol_length) (codes " block ") (decimal i.max_block_length)
   where
     six : (a b c d e f : List ℕ) → a ++ b ++ c ++ d ++ e ++ f ≡ a ++
         (b ++ (c ++ (d ++ (e ++ (f ++ [])))))
@@ -41,8 +43,11 @@ abbrev pub from_space : Key → Information → List ℕ
 from_space key info = codes " " ++ from_object key info
 
 pub fact_chain : (key : Key) (info : Information)
-    → fact_words (Info key info) ≡ source_words key.session.sender ++ (codes "session " ++ (decimal key.session.tsi ++ from_space key info))
-fact_chain key info = seven (source_words key.session.sender) (codes "session ") (decimal key.session.tsi) (codes " ") (object_words key.object) (codes " ") (information_words info)
+    → fact_words (Info key info) ≡ source_words key.session.sender
+    ++ (codes "session " ++ (decimal key.session.tsi ++ from_space key info))
+fact_chain key info = seven (source_words key.session.sender) (codes "session ")
+    (decimal key.session.tsi) (codes " ") (object_words key.object) (codes " ")
+    (information_words info)
   where
     seven : (a b c d e f g : List ℕ) → (a ++ b ++ c ++ d ++ e) ++ f ++ g ≡ a ++
         (b ++ (c ++ (d ++ (e ++ (f ++ g)))))
@@ -50,9 +55,11 @@ fact_chain key info = seven (source_words key.session.sender) (codes "session ")
 
 -- what follows the word source, where a sender stands
 pub source_chain : (n : ℕ) (tail : List ℕ) → (n == 0) ≡ false
-    → source_words n ++ tail ≡ codes "source " ++ (encode_lower (bytes_high_first 16 n) ++ (codes " " ++ tail))
+    → source_words n ++ tail ≡ codes "source " ++ (encode_lower (bytes_high_first 16 n)
+    ++ (codes " " ++ tail))
 source_chain n tail some =
-    ap (λ b. (if b then [] else codes "source " ++ encode_lower (bytes_high_first 16 n) ++ codes " ") ++ tail) some
+    ap (λ b. (if b then [] else codes "source " ++ encode_lower (bytes_high_first 16 n)
+    ++ codes " ") ++ tail) some
     ∙ four (codes "source ") (encode_lower (bytes_high_first 16 n)) (codes " ") tail
   where
     four : (a b c d : List ℕ) → a ++ b ++ c ++ d ≡ a ++ (b ++ (c ++ d))
@@ -60,7 +67,8 @@ source_chain n tail some =
 
 pub source_none : (n : ℕ) (tail : List ℕ) → (n == 0) ≡ true → source_words n ++ tail ≡ tail
 source_none n tail none =
-    ap (λ b. (if b then [] else codes "source " ++ encode_lower (bytes_high_first 16 n) ++ codes " ") ++ tail) none
+    ap (λ b. (if b then [] else codes "source " ++ encode_lower (bytes_high_first 16 n)
+    ++ codes " ") ++ tail) none
 
 -- no number begins with the word fdt
 pub no_fdt : (n : ℕ) (x rest : List ℕ) → n < 2 ^ 128 → decimal n ++ x ≡ codes "fdt " ++ rest → ⊥
@@ -73,13 +81,17 @@ apart : (x y : List ℕ) → codes "session " ++ x ≡ codes "source " ++ y → 
 apart x y e = true≢false (ap (λ (l : List ℕ). get_or l 1 0 == 101) e)
 
 -- the digits stand behind the word source
-pub source_rest : (s tail rest : List ℕ) (n : ℕ) → s ≡ source_words n ++ (codes "session " ++ tail) → s ≡ codes "source " ++ rest
+pub source_rest : (s tail rest : List ℕ) (n : ℕ) → s ≡ source_words n ++ (codes "session " ++ tail)
+    → s ≡ codes "source " ++ rest
     → rest ≡ encode_lower (bytes_high_first 16 n) ++ (codes " " ++ (codes "session " ++ tail))
 source_rest s tail rest n is found = go (n == 0) refl
   where
-    go : (b : Bool) → (n == 0) ≡ b → rest ≡ encode_lower (bytes_high_first 16 n) ++ (codes " " ++ (codes "session " ++ tail))
-    go true none = absurd (apart tail rest (sym (source_none n (codes "session " ++ tail) none) ∙ sym is ∙ found))
-    go false some = append_cancel_left (codes "source ") rest _ (sym found ∙ is ∙ source_chain n (codes "session " ++ tail) some)
+    go : (b : Bool) → (n == 0) ≡ b
+        → rest ≡ encode_lower (bytes_high_first 16 n) ++ (codes " " ++ (codes "session " ++ tail))
+    go true none = absurd (apart tail rest (sym (source_none n (codes "session " ++ tail) none)
+        ∙ sym is ∙ found))
+    go false some = append_cancel_left (codes "source ") rest _ (sym found ∙ is
+        ∙ source_chain n (codes "session " ++ tail) some)
 
 pub same_numbers : (info : Information) (n : InfoNumbers) → n.length ≡ info.transfer_length
     → n.symbol ≡ info.symbol_length → n.block ≡ info.max_block_length → numbers_of n ≡ info
@@ -114,6 +126,8 @@ by_name P i t (Instance n) = i n
 by_name P i t (File n) = t n
 
 -- an object behind the words object fdt is no file
-pub no_file : (s tail rest : List ℕ) (n : ℕ) → n < 2 ^ 112 → s ≡ object_words (File n) ++ tail → s ≡ codes "object fdt " ++ rest → ⊥
+pub no_file : (s tail rest : List ℕ) (n : ℕ) → n < 2 ^ 112 → s ≡ object_words (File n) ++ tail
+    → s ≡ codes "object fdt " ++ rest → ⊥
 no_file s tail rest n small is found =
-    no_fdt n tail rest (omega arith) (append_cancel_left (codes "object ") (decimal n ++ tail) (codes "fdt " ++ rest) (sym is ∙ found))
+    no_fdt n tail rest (omega arith) (append_cancel_left (codes "object ") (decimal n ++ tail)
+    (codes "fdt " ++ rest) (sym is ∙ found))

@@ -191,7 +191,8 @@ module _ {P : List Fact} {key : Key} {failed : Bool} {start now : Option (List �
 
       -- what is known of all that follows
       pub settled-next : (first : SymbolId) → IfSome h.scanned.bytes
-          (λ bytes. (F : List Fact) → Follows h.scanned (Some n) F → IsNotWhole F h.scanned.key first)
+          (λ bytes. (F : List Fact) → Follows h.scanned (Some n) F
+          → IsNotWhole F h.scanned.key first)
           → Settled (P ++ next_fact key n ∷ []) (λ F. IsNotWhole F key first)
       settled-next first k = λ F rest e r.
           let Q : Option (List ℕ) → Type 0 = λ o. IfSome o
@@ -257,7 +258,8 @@ module _ {P : List Fact} {key : Key} {failed : Bool} {start now : Option (List �
           (option_map (λ bytes. bytes ++ value_of n) h.scanned.bytes) t → value_of n ≡ more
           → PassedNext h.scanned n (Some (h.bytes ++ more)) t
       fits-next t more p e = subst (λ o. PassedNext h.scanned n o t)
-          (ap (option_map (λ bytes. bytes ++ value_of n)) h.values ∙ ap (λ m. Some (h.bytes ++ m)) e)
+          (ap (option_map (λ bytes. bytes ++ value_of n)) h.values ∙ ap (λ m. Some (h.bytes ++ m))
+          e)
           p
 
       -- or nothing was
@@ -275,7 +277,8 @@ module _ {P : List Fact} {key : Key} {failed : Bool} {start now : Option (List �
           puts-nothing true = Appends-nil now
 
       pub idle-fits : (new : WholeSoFar) (t : Scanned) → value_of n ≡ [] → PassedNext h.scanned n
-          (option_map (λ bytes. bytes ++ value_of n) h.scanned.bytes) t → Scans new.scan t → PartOf t
+          (option_map (λ bytes. bytes ++ value_of n) h.scanned.bytes) t → Scans new.scan t
+          → PartOf t
           → new.size ≡ part.size → new.left ≡ part.left → Scanning (P ++ next_fact key n ∷ []) key
           failed start now new
       idle-fits new t e p scans first size left =

@@ -96,7 +96,8 @@ pub no_slash : (text : List ℕ) → position_or_len is_slash text ≡ length te
     → None ≡ symbol_in text
 unfolding symbol_in
 no_slash text e =
-    let all : after_first is_slash text ≡ [] = drop_all (position_or_len is_slash text + 1) text (omega arith) in
+    let all : after_first is_slash text ≡ [] = drop_all (position_or_len is_slash text + 1) text
+    (omega arith) in
     rw (all, no_digits) (sym (no_second (number_in (before_first is_slash text))))
 
 pub parted : (text before after : List ℕ) (found : Option SymbolId)

@@ -77,7 +77,8 @@ journal_rules = place (codes "J") ∷ []
 -- its options are of one object or of all
 abbrev pub extract_rules : List Rule
 extract_rules =
-    out ∷ force_flag ∷ long_flag (codes "all") ∷ option (codes "source") ∷ session_list ∷ option (codes "toi")
+    out ∷ force_flag ∷ long_flag (codes "all") ∷ option (codes "source") ∷ session_list ∷ option
+    (codes "toi")
     ∷ option (codes "fdt") ∷ journal_rules
 
 -- of one object or of a list of them

@@ -9,7 +9,8 @@ use Rattle.flute_journal.specs.Selections.{is_everything}
 use Rattle.flute_journal.specs.Sessions.{listed_tsis}
 use Rattle.flute_journal.specs.declared.selection.Selection.{Selection}
 use Rattle.flutejoin.specs.Options.{HasSessions, HasSource, IsFlag, IsInstance}
-use Rattle.flutejoin.specs.Options.{IsSourceIf, IsToi, are_sessions, first_wrong, number_in, object_by}
+use Rattle.flutejoin.specs.Options.{IsSourceIf, IsToi, are_sessions, first_wrong, number_in}
+use Rattle.flutejoin.specs.Options.{object_by}
 use Rattle.flutejoin.specs.Options.{word, words}
 use Rattle.flutejoin.specs.declared.command_fault.CommandFault.{CommandFault}
 use Rattle.flutejoin.specs.declared.command_fault.CommandFault.TheVariants.{BadNumber, BadSource}

@@ -5,16 +5,43 @@ use Rattle.flute_parts.specs.declared.key.Key.{Key}
 use Rattle.flute_parts.specs.declared.fact.Fact.{Fact}
 use Rattle.flutejoin.specs.Extract.{AnswersFrom, Extracts}
 use Rattle.flutejoin.specs.declared.command_fault.CommandFault.{CommandFault}
-use Rattle.flutejoin.specs.declared.command_fault.CommandFault.TheVariants.{CommandLine, NotText, BadNumber, BadOption, BadSource, BadKey, TooManyInputs, OutputIsInput, OutputIsDatagrams, OutputIsJournal, BadInformation, BadHex, Refused, CannotSend, TooLarge, ListLine, ListInformation, CannotOpen, Input, UnknownKind, Full, NoObject, NoInformation, ConflictingInformation, NotWhole, OutOfMemory, CannotCreate, CannotWrite, NotOnDisk}
+use Rattle.flutejoin.specs.declared.command_fault.CommandFault.TheVariants.{CommandLine, NotText}
+use Rattle.flutejoin.specs.declared.command_fault.CommandFault.TheVariants.{BadNumber, BadOption}
+use Rattle.flutejoin.specs.declared.command_fault.CommandFault.TheVariants.{BadSource, BadKey}
+use Rattle.flutejoin.specs.declared.command_fault.CommandFault.TheVariants.{TooManyInputs}
+use Rattle.flutejoin.specs.declared.command_fault.CommandFault.TheVariants.{OutputIsInput}
+use Rattle.flutejoin.specs.declared.command_fault.CommandFault.TheVariants.{OutputIsDatagrams}
+use Rattle.flutejoin.specs.declared.command_fault.CommandFault.TheVariants.{OutputIsJournal}
+use Rattle.flutejoin.specs.declared.command_fault.CommandFault.TheVariants.{BadInformation, BadHex}
+use Rattle.flutejoin.specs.declared.command_fault.CommandFault.TheVariants.{Refused, CannotSend}
+use Rattle.flutejoin.specs.declared.command_fault.CommandFault.TheVariants.{TooLarge, ListLine}
+use Rattle.flutejoin.specs.declared.command_fault.CommandFault.TheVariants.{ListInformation}
+use Rattle.flutejoin.specs.declared.command_fault.CommandFault.TheVariants.{CannotOpen, Input}
+use Rattle.flutejoin.specs.declared.command_fault.CommandFault.TheVariants.{UnknownKind, Full}
+use Rattle.flutejoin.specs.declared.command_fault.CommandFault.TheVariants.{NoObject, NoInformation}
+use Rattle.flutejoin.specs.declared.command_fault.CommandFault.TheVariants.{ConflictingInformation}
+use Rattle.flutejoin.specs.declared.command_fault.CommandFault.TheVariants.{NotWhole, OutOfMemory}
+use Rattle.flutejoin.specs.declared.command_fault.CommandFault.TheVariants.{CannotCreate}
+use Rattle.flutejoin.specs.declared.command_fault.CommandFault.TheVariants.{CannotWrite, NotOnDisk}
 use Rattle.flutejoin_commands.specs.Works.{WritesObject, ExtractFails}
 
-of_bytes : {W : Type 0} (written : W → Option (List ℕ)) (F : List Fact) (key : Key) (old new : W) (r : Result ℕ CommandFault) → Extracts written F key old new r → Extracts (λ x. x) F key (written old) (written new) r
-of_bytes written F key old new (Ok n) e = record { info = e.info; whole = e.whole; bytes = e.bytes; length_is = e.length_is; exact = e.exact }
+of_bytes : {W : Type 0} (written : W → Option (List ℕ)) (F : List Fact) (key : Key) (old new : W)
+    (r : Result ℕ CommandFault) → Extracts written F key old new r
+    → Extracts (λ x. x) F key (written old) (written new) r
+of_bytes written F key old new (Ok n) e = record {
+  info = e.info;
+  whole = e.whole;
+  bytes =
+      e.bytes;
+  length_is = e.length_is;
+  exact = e.exact;
+}
 of_bytes written F key old new (Err NoObject) e = (e.0, ap written e.1)
 of_bytes written F key old new (Err NoInformation) e = (e.0, ap written e.1)
 of_bytes written F key old new (Err ConflictingInformation) e = (e.0, ap written e.1)
 of_bytes written F key old new (Err (NotWhole sbn esi)) e = e
-of_bytes written F key old new (Err CannotWrite) e = record { info = e.info; whole = e.whole; bytes = e.bytes }
+of_bytes written F key old new (Err CannotWrite) e =
+    record { info = e.info; whole = e.whole; bytes = e.bytes }
 of_bytes written F key old new (Err (CommandLine x)) e = e
 of_bytes written F key old new (Err NotText) e = e
 of_bytes written F key old new (Err (BadNumber x)) e = e
@@ -41,53 +68,291 @@ of_bytes written F key old new (Err OutOfMemory) e = e
 of_bytes written F key old new (Err CannotCreate) e = e
 
 -- what holds of the entries under one reading holds under a weaker one
-answers_map : (input left : Option (List ℕ)) (P Q : List Fact → Type 0) (r : Result ℕ CommandFault) → ((F : List Fact) → P F → Q F) → AnswersFrom input left P r → AnswersFrom input left Q r
-answers_map input left P Q (Ok n) f a = record { entries = a.entries; journal = a.journal; read = a.read; within = a.within; holds = f a.entries a.holds }
+answers_map : (input left : Option (List ℕ)) (P Q : List Fact → Type 0) (r : Result ℕ CommandFault)
+    → ((F : List Fact) → P F → Q F) → AnswersFrom input left P r → AnswersFrom input left Q r
+answers_map input left P Q (Ok n) f a = record {
+  entries = a.entries;
+  journal = a.journal;
+  read =
+      a.read;
+  within = a.within;
+  holds = f a.entries a.holds;
+}
 answers_map input left P Q (Err (Input x y)) f a = a
 answers_map input left P Q (Err Full) f a = a
-answers_map input left P Q (Err NoObject) f a = record { entries = a.entries; journal = a.journal; read = a.read; within = a.within; holds = f a.entries a.holds }
-answers_map input left P Q (Err NoInformation) f a = record { entries = a.entries; journal = a.journal; read = a.read; within = a.within; holds = f a.entries a.holds }
-answers_map input left P Q (Err ConflictingInformation) f a = record { entries = a.entries; journal = a.journal; read = a.read; within = a.within; holds = f a.entries a.holds }
-answers_map input left P Q (Err (NotWhole sbn esi)) f a = record { entries = a.entries; journal = a.journal; read = a.read; within = a.within; holds = f a.entries a.holds }
-answers_map input left P Q (Err CannotWrite) f a = record { entries = a.entries; journal = a.journal; read = a.read; within = a.within; holds = f a.entries a.holds }
-answers_map input left P Q (Err (CommandLine x)) f a = record { entries = a.entries; journal = a.journal; read = a.read; within = a.within; holds = f a.entries a.holds }
-answers_map input left P Q (Err NotText) f a = record { entries = a.entries; journal = a.journal; read = a.read; within = a.within; holds = f a.entries a.holds }
-answers_map input left P Q (Err (BadNumber x)) f a = record { entries = a.entries; journal = a.journal; read = a.read; within = a.within; holds = f a.entries a.holds }
-answers_map input left P Q (Err (BadOption x)) f a = record { entries = a.entries; journal = a.journal; read = a.read; within = a.within; holds = f a.entries a.holds }
-answers_map input left P Q (Err (ListLine x)) f a = record { entries = a.entries; journal = a.journal; read = a.read; within = a.within; holds = f a.entries a.holds }
-answers_map input left P Q (Err (ListInformation x y)) f a = record { entries = a.entries; journal = a.journal; read = a.read; within = a.within; holds = f a.entries a.holds }
-answers_map input left P Q (Err BadSource) f a = record { entries = a.entries; journal = a.journal; read = a.read; within = a.within; holds = f a.entries a.holds }
-answers_map input left P Q (Err BadKey) f a = record { entries = a.entries; journal = a.journal; read = a.read; within = a.within; holds = f a.entries a.holds }
-answers_map input left P Q (Err TooManyInputs) f a = record { entries = a.entries; journal = a.journal; read = a.read; within = a.within; holds = f a.entries a.holds }
-answers_map input left P Q (Err OutputIsInput) f a = record { entries = a.entries; journal = a.journal; read = a.read; within = a.within; holds = f a.entries a.holds }
-answers_map input left P Q (Err OutputIsDatagrams) f a = record { entries = a.entries; journal = a.journal; read = a.read; within = a.within; holds = f a.entries a.holds }
-answers_map input left P Q (Err OutputIsJournal) f a = record { entries = a.entries; journal = a.journal; read = a.read; within = a.within; holds = f a.entries a.holds }
-answers_map input left P Q (Err NotOnDisk) f a = record { entries = a.entries; journal = a.journal; read = a.read; within = a.within; holds = f a.entries a.holds }
-answers_map input left P Q (Err (BadInformation x)) f a = record { entries = a.entries; journal = a.journal; read = a.read; within = a.within; holds = f a.entries a.holds }
-answers_map input left P Q (Err BadHex) f a = record { entries = a.entries; journal = a.journal; read = a.read; within = a.within; holds = f a.entries a.holds }
-answers_map input left P Q (Err (Refused x)) f a = record { entries = a.entries; journal = a.journal; read = a.read; within = a.within; holds = f a.entries a.holds }
-answers_map input left P Q (Err (CannotSend x)) f a = record { entries = a.entries; journal = a.journal; read = a.read; within = a.within; holds = f a.entries a.holds }
-answers_map input left P Q (Err (TooLarge x)) f a = record { entries = a.entries; journal = a.journal; read = a.read; within = a.within; holds = f a.entries a.holds }
-answers_map input left P Q (Err (CannotOpen x)) f a = record { entries = a.entries; journal = a.journal; read = a.read; within = a.within; holds = f a.entries a.holds }
-answers_map input left P Q (Err (UnknownKind x)) f a = record { entries = a.entries; journal = a.journal; read = a.read; within = a.within; holds = f a.entries a.holds }
-answers_map input left P Q (Err OutOfMemory) f a = record { entries = a.entries; journal = a.journal; read = a.read; within = a.within; holds = f a.entries a.holds }
-answers_map input left P Q (Err CannotCreate) f a = record { entries = a.entries; journal = a.journal; read = a.read; within = a.within; holds = f a.entries a.holds }
+answers_map input left P Q (Err NoObject) f a =
+    record {
+      entries = a.entries;
+      journal = a.journal;
+      read = a.read;
+      within = a.within;
+      holds =
+          f a.entries a.holds;
+    }
+answers_map input left P Q (Err NoInformation) f a =
+    record {
+      entries = a.entries;
+      journal = a.journal;
+      read = a.read;
+      within = a.within;
+      holds =
+          f a.entries a.holds;
+    }
+answers_map input left P Q (Err ConflictingInformation) f a =
+    record {
+      entries = a.entries;
+      journal = a.journal;
+      read = a.read;
+      within = a.within;
+      holds =
+          f a.entries a.holds;
+    }
+answers_map input left P Q (Err (NotWhole sbn esi)) f a =
+    record {
+      entries = a.entries;
+      journal = a.journal;
+      read = a.read;
+      within = a.within;
+      holds =
+          f a.entries a.holds;
+    }
+answers_map input left P Q (Err CannotWrite) f a =
+    record {
+      entries = a.entries;
+      journal = a.journal;
+      read = a.read;
+      within = a.within;
+      holds =
+          f a.entries a.holds;
+    }
+answers_map input left P Q (Err (CommandLine x)) f a =
+    record {
+      entries = a.entries;
+      journal = a.journal;
+      read = a.read;
+      within = a.within;
+      holds =
+          f a.entries a.holds;
+    }
+answers_map input left P Q (Err NotText) f a =
+    record {
+      entries = a.entries;
+      journal = a.journal;
+      read = a.read;
+      within = a.within;
+      holds =
+          f a.entries a.holds;
+    }
+answers_map input left P Q (Err (BadNumber x)) f a =
+    record {
+      entries = a.entries;
+      journal = a.journal;
+      read = a.read;
+      within = a.within;
+      holds =
+          f a.entries a.holds;
+    }
+answers_map input left P Q (Err (BadOption x)) f a =
+    record {
+      entries = a.entries;
+      journal = a.journal;
+      read = a.read;
+      within = a.within;
+      holds =
+          f a.entries a.holds;
+    }
+answers_map input left P Q (Err (ListLine x)) f a =
+    record {
+      entries = a.entries;
+      journal = a.journal;
+      read = a.read;
+      within = a.within;
+      holds =
+          f a.entries a.holds;
+    }
+answers_map input left P Q (Err (ListInformation x y)) f a =
+    record {
+      entries = a.entries;
+      journal = a.journal;
+      read = a.read;
+      within = a.within;
+      holds =
+          f a.entries a.holds;
+    }
+answers_map input left P Q (Err BadSource) f a =
+    record {
+      entries = a.entries;
+      journal = a.journal;
+      read = a.read;
+      within = a.within;
+      holds =
+          f a.entries a.holds;
+    }
+answers_map input left P Q (Err BadKey) f a =
+    record {
+      entries = a.entries;
+      journal = a.journal;
+      read = a.read;
+      within = a.within;
+      holds =
+          f a.entries a.holds;
+    }
+answers_map input left P Q (Err TooManyInputs) f a =
+    record {
+      entries = a.entries;
+      journal = a.journal;
+      read = a.read;
+      within = a.within;
+      holds =
+          f a.entries a.holds;
+    }
+answers_map input left P Q (Err OutputIsInput) f a =
+    record {
+      entries = a.entries;
+      journal = a.journal;
+      read = a.read;
+      within = a.within;
+      holds =
+          f a.entries a.holds;
+    }
+answers_map input left P Q (Err OutputIsDatagrams) f a =
+    record {
+      entries = a.entries;
+      journal = a.journal;
+      read = a.read;
+      within = a.within;
+      holds =
+          f a.entries a.holds;
+    }
+answers_map input left P Q (Err OutputIsJournal) f a =
+    record {
+      entries = a.entries;
+      journal = a.journal;
+      read = a.read;
+      within = a.within;
+      holds =
+          f a.entries a.holds;
+    }
+answers_map input left P Q (Err NotOnDisk) f a =
+    record {
+      entries = a.entries;
+      journal = a.journal;
+      read = a.read;
+      within = a.within;
+      holds =
+          f a.entries a.holds;
+    }
+answers_map input left P Q (Err (BadInformation x)) f a =
+    record {
+      entries = a.entries;
+      journal = a.journal;
+      read = a.read;
+      within = a.within;
+      holds =
+          f a.entries a.holds;
+    }
+answers_map input left P Q (Err BadHex) f a =
+    record {
+      entries = a.entries;
+      journal = a.journal;
+      read = a.read;
+      within = a.within;
+      holds =
+          f a.entries a.holds;
+    }
+answers_map input left P Q (Err (Refused x)) f a =
+    record {
+      entries = a.entries;
+      journal = a.journal;
+      read = a.read;
+      within = a.within;
+      holds =
+          f a.entries a.holds;
+    }
+answers_map input left P Q (Err (CannotSend x)) f a =
+    record {
+      entries = a.entries;
+      journal = a.journal;
+      read = a.read;
+      within = a.within;
+      holds =
+          f a.entries a.holds;
+    }
+answers_map input left P Q (Err (TooLarge x)) f a =
+    record {
+      entries = a.entries;
+      journal = a.journal;
+      read = a.read;
+      within = a.within;
+      holds =
+          f a.entries a.holds;
+    }
+answers_map input left P Q (Err (CannotOpen x)) f a =
+    record {
+      entries = a.entries;
+      journal = a.journal;
+      read = a.read;
+      within = a.within;
+      holds =
+          f a.entries a.holds;
+    }
+answers_map input left P Q (Err (UnknownKind x)) f a =
+    record {
+      entries = a.entries;
+      journal = a.journal;
+      read = a.read;
+      within = a.within;
+      holds =
+          f a.entries a.holds;
+    }
+answers_map input left P Q (Err OutOfMemory) f a =
+    record {
+      entries = a.entries;
+      journal = a.journal;
+      read = a.read;
+      within = a.within;
+      holds =
+          f a.entries a.holds;
+    }
+answers_map input left P Q (Err CannotCreate) f a =
+    record {
+      entries = a.entries;
+      journal = a.journal;
+      read = a.read;
+      within = a.within;
+      holds =
+          f a.entries a.holds;
+    }
 
-told_of_bytes : {W : Type 0} (written : W → Option (List ℕ)) (input left : Option (List ℕ)) (key : Key) (old new : W) (r : Result ℕ CommandFault) (others : List Fact)
+told_of_bytes : {W : Type 0} (written : W → Option (List ℕ)) (input left : Option (List ℕ))
+    (key : Key) (old new : W) (r : Result ℕ CommandFault) (others : List Fact)
     → AnswersFrom input left (λ F. Same F others → Extracts written others key old new r) r
-    → AnswersFrom input left (λ F. Same F others → Extracts (λ x. x) others key (written old) (written new) r) r
+    → AnswersFrom input left (λ F. Same F others
+    → Extracts (λ x. x) others key (written old) (written new) r) r
 told_of_bytes written input left key old new r others a =
-    answers_map input left (λ F. Same F others → Extracts written others key old new r) (λ F. Same F others → Extracts (λ x. x) others key (written old) (written new) r) r
+    answers_map input left (λ F. Same F others → Extracts written others key old new r)
+    (λ F. Same F others → Extracts (λ x. x) others key (written old) (written new) r) r
     (λ F f s. of_bytes written others key old new r (f s)) a
 
-pub object_written : {W : Type 0} (written : W → Option (List ℕ)) (input left : Option (List ℕ)) (key : Key) (old new : W) (r : Result ℕ CommandFault)
-    → ((others : List Fact) → AnswersFrom input left (λ F. Same F others → Extracts written others key old new r) r)
+pub object_written : {W : Type 0} (written : W → Option (List ℕ)) (input left : Option (List ℕ))
+    (key : Key) (old new : W) (r : Result ℕ CommandFault)
+    → ((others : List Fact) → AnswersFrom input left (λ F. Same F others
+    → Extracts written others key old new r) r)
     → IfOk r (λ n. WritesObject input key n (written old) (written new))
-object_written written input left key old new (Ok n) a = (left, λ others. told_of_bytes written input left key old new (Ok n) others (a others))
+object_written written input left key old new (Ok n) a =
+    (left, λ others. told_of_bytes written input left key old new (Ok n) others (a others))
 object_written written input left key old new (Err e) a = tt
 
-pub object_fails : {W : Type 0} (written : W → Option (List ℕ)) (input left : Option (List ℕ)) (key : Key) (old new : W) (r : Result ℕ CommandFault)
-    → ((others : List Fact) → AnswersFrom input left (λ F. Same F others → Extracts written others key old new r) r)
+pub object_fails : {W : Type 0} (written : W → Option (List ℕ)) (input left : Option (List ℕ))
+    (key : Key) (old new : W) (r : Result ℕ CommandFault)
+    → ((others : List Fact) → AnswersFrom input left (λ F. Same F others
+    → Extracts written others key old new r) r)
     → IfErr r (λ fault. ExtractFails input key fault)
 object_fails written input left key old new (Ok n) a = tt
-object_fails written input left key old new (Err e) a = (left, written old, written new, λ others. told_of_bytes written input left key old new (Err e) others (a others))
+object_fails written input left key old new (Err e) a = (
+  left,
+  written old,
+  written new,
+  λ others. told_of_bytes written input left key old new (Err e)
+      others (a others),
+)

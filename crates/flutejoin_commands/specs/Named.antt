@@ -19,7 +19,8 @@ use Rattle.flutejoin.specs.declared.forget.ForgetCounts.{ForgetCounts}
 use Rattle.flutejoin.specs.declared.join_counts.JoinCounts.{JoinCounts}
 use Rattle.flutejoin.specs.declared.limits.TheConstants.{MAX_ENTRIES}
 use Rattle.flutejoin.specs.declared.command_fault.CommandFault.{CommandFault}
-use Rattle.flutejoin.specs.declared.command_fault.CommandFault.TheVariants.{CannotOpen, Input, OutOfMemory, TooLarge}
+use Rattle.flutejoin.specs.declared.command_fault.CommandFault.TheVariants.{CannotOpen, Input}
+use Rattle.flutejoin.specs.declared.command_fault.CommandFault.TheVariants.{OutOfMemory, TooLarge}
 use Rattle.flutejoin_commands.specs.Files.{Files, IfFiles, IsNoFile}
 use Rattle.flutejoin_commands.specs.Outlets.{Held, FailsHeld}
 use Rattle.flutejoin_commands.specs.Works.{AddsInformation, AddFails, WritesObject, ExtractFails}

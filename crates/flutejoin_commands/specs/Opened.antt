@@ -4,7 +4,8 @@ use Rattle.flute_journal.specs.declared.fault.ReadFault.TheVariants.{Read}
 use Rattle.flutejoin.specs.JoinInputs.{IsInput}
 use Rattle.flutejoin.specs.declared.join_input.JoinInput.{JoinInput}
 use Rattle.flutejoin.specs.declared.command_fault.CommandFault.{CommandFault}
-use Rattle.flutejoin.specs.declared.command_fault.CommandFault.TheVariants.{CannotOpen, Input, OutOfMemory}
+use Rattle.flutejoin.specs.declared.command_fault.CommandFault.TheVariants.{CannotOpen, Input}
+use Rattle.flutejoin.specs.declared.command_fault.CommandFault.TheVariants.{OutOfMemory}
 use Rattle.flutejoin_commands.specs.Files.{Files, HasBytes, IsNoFile}
 
 module _ {R : Type 0} (files : Option Files) (unread : R → Option (List ℕ)) where

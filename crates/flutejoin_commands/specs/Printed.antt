@@ -7,7 +7,8 @@ use Rattle.flutejoin.specs.Packet.{HasLines, FailsWith}
 use Rattle.flutejoin.specs.Show.{ShowsAll, ShowFails}
 use Rattle.flutejoin.specs.declared.picked.Picked.{Picked}
 use Rattle.flutejoin.specs.declared.command_fault.CommandFault.{CommandFault}
-use Rattle.flutejoin.specs.declared.command_fault.CommandFault.TheVariants.{CannotWrite, OutOfMemory}
+use Rattle.flutejoin.specs.declared.command_fault.CommandFault.TheVariants.{CannotWrite}
+use Rattle.flutejoin.specs.declared.command_fault.CommandFault.TheVariants.{OutOfMemory}
 use Rattle.flutejoin_commands.specs.Files.{Files, IfFiles}
 use Rattle.flutejoin_commands.specs.Folders.{LeavesFolder, FolderFails}
 use Rattle.flutejoin_commands.specs.Named.{IsUnopened}

@@ -6,7 +6,9 @@ use Rattle.flute_output.specs.Entries.{Entries, Stored}
 use Rattle.flute_output.specs.declared.place.Place.{Place}
 use Rattle.flute_output.specs.declared.place.Place.TheVariants.{File, Device, StandardOutput}
 use Rattle.flutejoin.specs.declared.command_fault.CommandFault.{CommandFault}
-use Rattle.flutejoin.specs.declared.command_fault.CommandFault.TheVariants.{CannotCreate, CannotWrite, NotOnDisk, OutOfMemory}
+use Rattle.flutejoin.specs.declared.command_fault.CommandFault.TheVariants.{CannotCreate}
+use Rattle.flutejoin.specs.declared.command_fault.CommandFault.TheVariants.{CannotWrite, NotOnDisk}
+use Rattle.flutejoin.specs.declared.command_fault.CommandFault.TheVariants.{OutOfMemory}
 use Rattle.flutejoin_commands.specs.Files.{Files}
 
 abbrev pub bytes_of : Stored → List ℕ

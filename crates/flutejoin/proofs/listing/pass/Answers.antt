@@ -29,7 +29,8 @@ loop-gap-preserved g c = record {
       let more = m.0 ++ gap_line c.in-Gap.gap in (
         more,
         gave_more s c.args.next c.loop-gap.scan c.next.new.self m.0 more c.in-Gap.gap gave
-            (c.in-Gap.ensures.turned gave.t gave.scans (can_pass s c.args.next c.loop-gap.scan m.0 gave
+            (c.in-Gap.ensures.turned gave.t gave.scans (can_pass s c.args.next c.loop-gap.scan m.0
+            gave
             r) gave.comes) refl,
         knows_more (gap_line c.in-Gap.gap) m.2 c.in_ok-put_gap.ensures.line,
       );

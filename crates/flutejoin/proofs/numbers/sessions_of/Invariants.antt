@@ -5,4 +5,5 @@ use Rattle.flutejoin.proofs.numbers.sessions_of.Given as goal
 
 abbrev pub invariant-loop-text : goal.invariant-loop-text
 invariant-loop-text l =
-    AreNumbers (2 ^ 48) (map (λ text. text.now) (take l.text-index l.texts)) (listed_tsis l.sessions)
+    AreNumbers (2 ^ 48) (map (λ text. text.now) (take l.text-index l.texts))
+    (listed_tsis l.sessions)

@@ -13,21 +13,41 @@ returns-clause-extracted g c =
     let files = g.W.Inputs.files c.args.world.now in
     let unread = g.W.Input.Source.unread in
     let a = c.args in
-    let new = outside (g.W.Inputs.files c.leave_held.new.world) (g.O.Sink.written c.leave_held.new.output) (g.E.Sink.written c.leave_held.new.errors) in
-    left_of (λ (k : Option (List ℕ)). WritesObject k a.key) (λ (k : Option (List ℕ)). Held (WritesObject k a.key)) (λ (k : Option (List ℕ)). FailsHeld (ExtractFails k a.key)) files a.j.now (unread c.in_ok-source.source)
-    (subst (λ f. HasBytes f a.j.now (unread c.in_ok-source.source)) c.look.ensures.same_files c.in_ok-source.ensures.opened)
-    a.out.now (outside files (g.O.Sink.written a.output.now) (g.E.Sink.written a.errors.now)) new bytes_line c.leave_held.result
-    (subst (λ f. OnOk c.leave_held.result (Leaves (WritesObject (unread c.in_ok-source.source) a.key) (Held (WritesObject (unread c.in_ok-source.source) a.key)) bytes_line a.out.now (outside f (g.O.Sink.written a.output.now) (g.E.Sink.written a.errors.now)) new))
-    (c.guard.ensures.same_files ∙ c.open_input.ensures.same_files ∙ c.look.ensures.same_files) c.leave_held.ensures.left)
+    let new = outside (g.W.Inputs.files c.leave_held.new.world)
+    (g.O.Sink.written c.leave_held.new.output) (g.E.Sink.written c.leave_held.new.errors) in
+    left_of (λ (k : Option (List ℕ)). WritesObject k a.key)
+    (λ (k : Option (List ℕ)). Held (WritesObject k a.key))
+    (λ (k : Option (List ℕ)). FailsHeld (ExtractFails k a.key)) files a.j.now
+    (unread c.in_ok-source.source)
+    (subst (λ f. HasBytes f a.j.now (unread c.in_ok-source.source)) c.look.ensures.same_files
+    c.in_ok-source.ensures.opened)
+    a.out.now (outside files (g.O.Sink.written a.output.now) (g.E.Sink.written a.errors.now)) new
+    bytes_line c.leave_held.result
+    (subst (λ f. OnOk c.leave_held.result
+    (Leaves (WritesObject (unread c.in_ok-source.source) a.key)
+    (Held (WritesObject (unread c.in_ok-source.source) a.key)) bytes_line a.out.now
+    (outside f (g.O.Sink.written a.output.now) (g.E.Sink.written a.errors.now)) new))
+    (c.guard.ensures.same_files ∙ c.open_input.ensures.same_files ∙ c.look.ensures.same_files)
+    c.leave_held.ensures.left)
 
 pub returns-clause-failed : goal.returns-clause-failed
 returns-clause-failed g c =
     let files = g.W.Inputs.files c.args.world.now in
     let unread = g.W.Input.Source.unread in
     let a = c.args in
-    let new = outside (g.W.Inputs.files c.leave_held.new.world) (g.O.Sink.written c.leave_held.new.output) (g.E.Sink.written c.leave_held.new.errors) in
-    not_left_of (λ (k : Option (List ℕ)). WritesObject k a.key) (λ (k : Option (List ℕ)). Held (WritesObject k a.key)) (λ (k : Option (List ℕ)). FailsHeld (ExtractFails k a.key)) files a.j.now (unread c.in_ok-source.source)
-    (subst (λ f. HasBytes f a.j.now (unread c.in_ok-source.source)) c.look.ensures.same_files c.in_ok-source.ensures.opened)
-    a.out.now (outside files (g.O.Sink.written a.output.now) (g.E.Sink.written a.errors.now)) new c.leave_held.result
-    (subst (λ f. IfErr c.leave_held.result (FailsToLeave (WritesObject (unread c.in_ok-source.source) a.key) (FailsHeld (ExtractFails (unread c.in_ok-source.source) a.key)) a.out.now (outside f (g.O.Sink.written a.output.now) (g.E.Sink.written a.errors.now)) new))
-    (c.guard.ensures.same_files ∙ c.open_input.ensures.same_files ∙ c.look.ensures.same_files) c.leave_held.ensures.failed)
+    let new = outside (g.W.Inputs.files c.leave_held.new.world)
+    (g.O.Sink.written c.leave_held.new.output) (g.E.Sink.written c.leave_held.new.errors) in
+    not_left_of (λ (k : Option (List ℕ)). WritesObject k a.key)
+    (λ (k : Option (List ℕ)). Held (WritesObject k a.key))
+    (λ (k : Option (List ℕ)). FailsHeld (ExtractFails k a.key)) files a.j.now
+    (unread c.in_ok-source.source)
+    (subst (λ f. HasBytes f a.j.now (unread c.in_ok-source.source)) c.look.ensures.same_files
+    c.in_ok-source.ensures.opened)
+    a.out.now (outside files (g.O.Sink.written a.output.now) (g.E.Sink.written a.errors.now)) new
+    c.leave_held.result
+    (subst (λ f. IfErr c.leave_held.result
+    (FailsToLeave (WritesObject (unread c.in_ok-source.source) a.key)
+    (FailsHeld (ExtractFails (unread c.in_ok-source.source) a.key)) a.out.now
+    (outside f (g.O.Sink.written a.output.now) (g.E.Sink.written a.errors.now)) new))
+    (c.guard.ensures.same_files ∙ c.open_input.ensures.same_files ∙ c.look.ensures.same_files)
+    c.leave_held.ensures.failed)

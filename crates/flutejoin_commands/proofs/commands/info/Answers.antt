@@ -13,21 +13,41 @@ returns-clause-added g c =
     let files = g.W.Inputs.files c.args.world.now in
     let unread = g.W.Input.Source.unread in
     let a = c.args in
-    let new = outside (g.W.Inputs.files c.leave.new.world) (g.O.Sink.written c.leave.new.output) (g.E.Sink.written c.leave.new.errors) in
-    left_of (λ (k : Option (List ℕ)). AddsInformation k a.key a.info) (λ (k : Option (List ℕ)). AddsInformation k a.key a.info) (λ (k : Option (List ℕ)). AddFails k a.key a.info) files a.j.now (unread c.in_ok-source.source)
-    (subst (λ f. HasBytes f a.j.now (unread c.in_ok-source.source)) c.look.ensures.same_files c.in_ok-source.ensures.opened)
-    a.out.now (outside files (g.O.Sink.written a.output.now) (g.E.Sink.written a.errors.now)) new entries_line c.leave.result
-    (subst (λ f. OnOk c.leave.result (Leaves (AddsInformation (unread c.in_ok-source.source) a.key a.info) (AddsInformation (unread c.in_ok-source.source) a.key a.info) entries_line a.out.now (outside f (g.O.Sink.written a.output.now) (g.E.Sink.written a.errors.now)) new))
-    (c.guard.ensures.same_files ∙ c.open_input.ensures.same_files ∙ c.look.ensures.same_files) c.leave.ensures.left)
+    let new = outside (g.W.Inputs.files c.leave.new.world) (g.O.Sink.written c.leave.new.output)
+    (g.E.Sink.written c.leave.new.errors) in
+    left_of (λ (k : Option (List ℕ)). AddsInformation k a.key a.info)
+    (λ (k : Option (List ℕ)). AddsInformation k a.key a.info)
+    (λ (k : Option (List ℕ)). AddFails k a.key a.info) files a.j.now
+    (unread c.in_ok-source.source)
+    (subst (λ f. HasBytes f a.j.now (unread c.in_ok-source.source)) c.look.ensures.same_files
+    c.in_ok-source.ensures.opened)
+    a.out.now (outside files (g.O.Sink.written a.output.now) (g.E.Sink.written a.errors.now)) new
+    entries_line c.leave.result
+    (subst (λ f. OnOk c.leave.result
+    (Leaves (AddsInformation (unread c.in_ok-source.source) a.key a.info)
+    (AddsInformation (unread c.in_ok-source.source) a.key a.info) entries_line a.out.now
+    (outside f (g.O.Sink.written a.output.now) (g.E.Sink.written a.errors.now)) new))
+    (c.guard.ensures.same_files ∙ c.open_input.ensures.same_files ∙ c.look.ensures.same_files)
+    c.leave.ensures.left)
 
 pub returns-clause-failed : goal.returns-clause-failed
 returns-clause-failed g c =
     let files = g.W.Inputs.files c.args.world.now in
     let unread = g.W.Input.Source.unread in
     let a = c.args in
-    let new = outside (g.W.Inputs.files c.leave.new.world) (g.O.Sink.written c.leave.new.output) (g.E.Sink.written c.leave.new.errors) in
-    not_left_of (λ (k : Option (List ℕ)). AddsInformation k a.key a.info) (λ (k : Option (List ℕ)). AddsInformation k a.key a.info) (λ (k : Option (List ℕ)). AddFails k a.key a.info) files a.j.now (unread c.in_ok-source.source)
-    (subst (λ f. HasBytes f a.j.now (unread c.in_ok-source.source)) c.look.ensures.same_files c.in_ok-source.ensures.opened)
-    a.out.now (outside files (g.O.Sink.written a.output.now) (g.E.Sink.written a.errors.now)) new c.leave.result
-    (subst (λ f. IfErr c.leave.result (FailsToLeave (AddsInformation (unread c.in_ok-source.source) a.key a.info) (AddFails (unread c.in_ok-source.source) a.key a.info) a.out.now (outside f (g.O.Sink.written a.output.now) (g.E.Sink.written a.errors.now)) new))
-    (c.guard.ensures.same_files ∙ c.open_input.ensures.same_files ∙ c.look.ensures.same_files) c.leave.ensures.failed)
+    let new = outside (g.W.Inputs.files c.leave.new.world) (g.O.Sink.written c.leave.new.output)
+    (g.E.Sink.written c.leave.new.errors) in
+    not_left_of (λ (k : Option (List ℕ)). AddsInformation k a.key a.info)
+    (λ (k : Option (List ℕ)). AddsInformation k a.key a.info)
+    (λ (k : Option (List ℕ)). AddFails k a.key a.info) files a.j.now
+    (unread c.in_ok-source.source)
+    (subst (λ f. HasBytes f a.j.now (unread c.in_ok-source.source)) c.look.ensures.same_files
+    c.in_ok-source.ensures.opened)
+    a.out.now (outside files (g.O.Sink.written a.output.now) (g.E.Sink.written a.errors.now)) new
+    c.leave.result
+    (subst (λ f. IfErr c.leave.result
+    (FailsToLeave (AddsInformation (unread c.in_ok-source.source) a.key a.info)
+    (AddFails (unread c.in_ok-source.source) a.key a.info) a.out.now
+    (outside f (g.O.Sink.written a.output.now) (g.E.Sink.written a.errors.now)) new))
+    (c.guard.ensures.same_files ∙ c.open_input.ensures.same_files ∙ c.look.ensures.same_files)
+    c.leave.ensures.failed)

@@ -17,8 +17,11 @@ returns-in_err-source-clause-failed g c =
     let now = g.W.Inputs.files c.open_two.new.inputs in
     let o = g.O.Sink.written a.output.now in
     let e = g.E.Sink.written a.errors.now in
-    let not : FailsToLeave {A = ℕ} (AddsListOfNames files a.j.now a.list.now) (AddListOfNamesFails files a.j.now a.list.now) a.out.now (outside files o e) (outside now o e) c.in_err-source.field-0.0 =
-    as_before (inl (inl (two_unopened files (g.W.Inputs.files c.look.new.self) a.j.now a.list.now c.in_err-source.field-0.0 c.look.ensures.same_files c.in_err-source.ensures.failed)))
+    let not : FailsToLeave {A = ℕ} (AddsListOfNames files a.j.now a.list.now)
+    (AddListOfNamesFails files a.j.now a.list.now) a.out.now (outside files o e)
+    (outside now o e) c.in_err-source.field-0.0 =
+    as_before (inl (inl (two_unopened files (g.W.Inputs.files c.look.new.self) a.j.now a.list.now
+    c.in_err-source.field-0.0 c.look.ensures.same_files c.in_err-source.ensures.failed)))
     (kept_same a.out.now files now (c.open_two.ensures.same_files ∙ c.look.ensures.same_files)) in
     search rules
 
@@ -29,13 +32,19 @@ returns-clause-added g c =
     let a = c.args in
     let x = unread c.in_ok-source.source in
     let y = unread c.in_ok-source.list in
-    let new = outside (g.W.Inputs.files c.leave.new.world) (g.O.Sink.written c.leave.new.output) (g.E.Sink.written c.leave.new.errors) in
-    left_of_two (λ (k l : Option (List ℕ)) (n : ℕ). AddsList k l n) (λ (k l : Option (List ℕ)). AddListFails k l) files a.j.now a.list.now x y
+    let new = outside (g.W.Inputs.files c.leave.new.world) (g.O.Sink.written c.leave.new.output)
+    (g.E.Sink.written c.leave.new.errors) in
+    left_of_two (λ (k l : Option (List ℕ)) (n : ℕ). AddsList k l n)
+    (λ (k l : Option (List ℕ)). AddListFails k l) files a.j.now a.list.now x y
     (subst (λ f. HasBytes f a.j.now x) c.look.ensures.same_files c.in_ok-source.ensures.opened.0)
     (subst (λ f. HasBytes f a.list.now y) c.look.ensures.same_files c.in_ok-source.ensures.opened.1)
-    a.out.now (outside files (g.O.Sink.written a.output.now) (g.E.Sink.written a.errors.now)) new entries_line c.leave.result
-    (subst (λ f. OnOk c.leave.result (Leaves (λ (n : ℕ). AddsList x y n) (λ (n : ℕ). AddsList x y n) entries_line a.out.now (outside f (g.O.Sink.written a.output.now) (g.E.Sink.written a.errors.now)) new))
-    (c.guard.ensures.same_files ∙ c.open_two.ensures.same_files ∙ c.look.ensures.same_files) c.leave.ensures.left)
+    a.out.now (outside files (g.O.Sink.written a.output.now) (g.E.Sink.written a.errors.now)) new
+    entries_line c.leave.result
+    (subst (λ f. OnOk c.leave.result (Leaves (λ (n : ℕ). AddsList x y n) (λ (n : ℕ). AddsList x y n)
+    entries_line a.out.now (outside f (g.O.Sink.written a.output.now)
+    (g.E.Sink.written a.errors.now)) new))
+    (c.guard.ensures.same_files ∙ c.open_two.ensures.same_files ∙ c.look.ensures.same_files)
+    c.leave.ensures.left)
 
 pub returns-clause-failed : goal.returns-clause-failed
 returns-clause-failed g c =
@@ -44,10 +53,15 @@ returns-clause-failed g c =
     let a = c.args in
     let x = unread c.in_ok-source.source in
     let y = unread c.in_ok-source.list in
-    let new = outside (g.W.Inputs.files c.leave.new.world) (g.O.Sink.written c.leave.new.output) (g.E.Sink.written c.leave.new.errors) in
-    not_left_of_two (λ (k l : Option (List ℕ)) (n : ℕ). AddsList k l n) (λ (k l : Option (List ℕ)). AddListFails k l) files a.j.now a.list.now x y
+    let new = outside (g.W.Inputs.files c.leave.new.world) (g.O.Sink.written c.leave.new.output)
+    (g.E.Sink.written c.leave.new.errors) in
+    not_left_of_two (λ (k l : Option (List ℕ)) (n : ℕ). AddsList k l n)
+    (λ (k l : Option (List ℕ)). AddListFails k l) files a.j.now a.list.now x y
     (subst (λ f. HasBytes f a.j.now x) c.look.ensures.same_files c.in_ok-source.ensures.opened.0)
     (subst (λ f. HasBytes f a.list.now y) c.look.ensures.same_files c.in_ok-source.ensures.opened.1)
-    a.out.now (outside files (g.O.Sink.written a.output.now) (g.E.Sink.written a.errors.now)) new c.leave.result
-    (subst (λ f. IfErr c.leave.result (FailsToLeave (λ (n : ℕ). AddsList x y n) (AddListFails x y) a.out.now (outside f (g.O.Sink.written a.output.now) (g.E.Sink.written a.errors.now)) new))
-    (c.guard.ensures.same_files ∙ c.open_two.ensures.same_files ∙ c.look.ensures.same_files) c.leave.ensures.failed)
+    a.out.now (outside files (g.O.Sink.written a.output.now) (g.E.Sink.written a.errors.now)) new
+    c.leave.result
+    (subst (λ f. IfErr c.leave.result (FailsToLeave (λ (n : ℕ). AddsList x y n) (AddListFails x y)
+    a.out.now (outside f (g.O.Sink.written a.output.now) (g.E.Sink.written a.errors.now)) new))
+    (c.guard.ensures.same_files ∙ c.open_two.ensures.same_files ∙ c.look.ensures.same_files)
+    c.leave.ensures.failed)

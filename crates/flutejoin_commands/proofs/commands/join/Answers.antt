@@ -34,12 +34,17 @@ returns-clause-joined g c =
     let names = map (λ path. path.now) c.args.paths.now in
     let a = c.args in
     let all = JoinsAll unread a.sender a.sessions c.in_ok-inputs.inputs.items in
-    let new = outside (g.W.Inputs.files c.leave.new.world) (g.O.Sink.written c.leave.new.output) (g.E.Sink.written c.leave.new.errors) in
+    let new = outside (g.W.Inputs.files c.leave.new.world) (g.O.Sink.written c.leave.new.output)
+    (g.E.Sink.written c.leave.new.errors) in
     joined unread a.sender a.sessions names c.in_ok-inputs.inputs.items files
-    (subst (λ f. AreOpened f unread names c.in_ok-inputs.inputs.items) c.look.ensures.same_files c.in_ok-inputs.ensures.opened)
-    a.out.now (outside files (g.O.Sink.written a.output.now) (g.E.Sink.written a.errors.now)) new (join_lines a.sessions) c.leave.result
-    (subst (λ f. OnOk c.leave.result (Leaves all all (join_lines a.sessions) a.out.now (outside f (g.O.Sink.written a.output.now) (g.E.Sink.written a.errors.now)) new))
-    (c.guard.ensures.same_files ∙ c.open_inputs.ensures.same_files ∙ c.look.ensures.same_files) c.leave.ensures.left)
+    (subst (λ f. AreOpened f unread names c.in_ok-inputs.inputs.items) c.look.ensures.same_files
+    c.in_ok-inputs.ensures.opened)
+    a.out.now (outside files (g.O.Sink.written a.output.now) (g.E.Sink.written a.errors.now)) new
+    (join_lines a.sessions) c.leave.result
+    (subst (λ f. OnOk c.leave.result (Leaves all all (join_lines a.sessions)
+    a.out.now (outside f (g.O.Sink.written a.output.now) (g.E.Sink.written a.errors.now)) new))
+    (c.guard.ensures.same_files ∙ c.open_inputs.ensures.same_files ∙ c.look.ensures.same_files)
+    c.leave.ensures.left)
 
 pub returns-clause-failed : goal.returns-clause-failed
 returns-clause-failed g c =
@@ -49,9 +54,15 @@ returns-clause-failed g c =
     let a = c.args in
     let all = JoinsAll unread a.sender a.sessions c.in_ok-inputs.inputs.items in
     let fails = JoinAllFails unread a.sender a.sessions c.in_ok-inputs.inputs.items in
-    let new = outside (g.W.Inputs.files c.leave.new.world) (g.O.Sink.written c.leave.new.output) (g.E.Sink.written c.leave.new.errors) in
+    let new = outside (g.W.Inputs.files c.leave.new.world) (g.O.Sink.written c.leave.new.output)
+    (g.E.Sink.written c.leave.new.errors) in
     not_joined unread a.sender a.sessions names c.in_ok-inputs.inputs.items files
-    (subst (λ f. AreOpened f unread names c.in_ok-inputs.inputs.items) c.look.ensures.same_files c.in_ok-inputs.ensures.opened)
-    a.out.now (outside files (g.O.Sink.written a.output.now) (g.E.Sink.written a.errors.now)) new c.leave.result
-    (subst (λ f. IfErr c.leave.result (FailsToLeave all fails a.out.now (outside f (g.O.Sink.written a.output.now) (g.E.Sink.written a.errors.now)) new))
-    (c.guard.ensures.same_files ∙ c.open_inputs.ensures.same_files ∙ c.look.ensures.same_files) c.leave.ensures.failed)
+    (subst (λ f. AreOpened f unread names c.in_ok-inputs.inputs.items) c.look.ensures.same_files
+    c.in_ok-inputs.ensures.opened)
+    a.out.now (outside files (g.O.Sink.written a.output.now) (g.E.Sink.written a.errors.now)) new
+    c.leave.result
+    (subst (λ f. IfErr c.leave.result
+    (FailsToLeave all fails a.out.now (outside f (g.O.Sink.written a.output.now)
+    (g.E.Sink.written a.errors.now)) new))
+    (c.guard.ensures.same_files ∙ c.open_inputs.ensures.same_files ∙ c.look.ensures.same_files)
+    c.leave.ensures.failed)

@@ -19,8 +19,12 @@ returns-in_err-first-clause-failed g c =
     let now = g.W.Inputs.files c.open_two.new.inputs in
     let o = g.O.Sink.written a.output.now in
     let e = g.E.Sink.written a.errors.now in
-    let not : FailsToLeave {A = ℕ} (MergesNames files a.a.now a.b.now) (MergeNamesFails files a.a.now a.b.now) a.out.now (outside files o e) (outside now o e) c.in_err-first.field-0.0 =
-    as_before (inl (inl (two_unopened files (g.W.Inputs.files c.look.new.self) a.a.now a.b.now c.in_err-first.field-0.0 c.look.ensures.same_files c.in_err-first.ensures.failed)))
+    let not : FailsToLeave {A = ℕ} (MergesNames files a.a.now a.b.now)
+    (MergeNamesFails files a.a.now a.b.now) a.out.now (outside files o e) (outside now o e)
+    c.in_err-first.field-0.0 =
+    as_before (inl (inl (two_unopened files (g.W.Inputs.files c.look.new.self)
+    a.a.now a.b.now c.in_err-first.field-0.0 c.look.ensures.same_files
+    c.in_err-first.ensures.failed)))
     (kept_same a.out.now files now (c.open_two.ensures.same_files ∙ c.look.ensures.same_files)) in
     search rules
 
@@ -31,13 +35,19 @@ returns-clause-merged g c =
     let a = c.args in
     let x = unread c.in_ok-first.first in
     let y = unread c.in_ok-first.second in
-    let new = outside (g.W.Inputs.files c.leave.new.world) (g.O.Sink.written c.leave.new.output) (g.E.Sink.written c.leave.new.errors) in
-    left_of_two (λ (k l : Option (List ℕ)) (n : ℕ). Merged MAX_ENTRIES n k l) (λ (k l : Option (List ℕ)). MergeFails k l) files a.a.now a.b.now x y
+    let new = outside (g.W.Inputs.files c.leave.new.world) (g.O.Sink.written c.leave.new.output)
+    (g.E.Sink.written c.leave.new.errors) in
+    left_of_two (λ (k l : Option (List ℕ)) (n : ℕ). Merged MAX_ENTRIES n k l)
+    (λ (k l : Option (List ℕ)). MergeFails k l) files a.a.now a.b.now x y
     (subst (λ f. HasBytes f a.a.now x) c.look.ensures.same_files c.in_ok-first.ensures.opened.0)
     (subst (λ f. HasBytes f a.b.now y) c.look.ensures.same_files c.in_ok-first.ensures.opened.1)
-    a.out.now (outside files (g.O.Sink.written a.output.now) (g.E.Sink.written a.errors.now)) new entries_line c.leave.result
-    (subst (λ f. OnOk c.leave.result (Leaves (λ (n : ℕ). Merged MAX_ENTRIES n x y) (λ (n : ℕ). Merged MAX_ENTRIES n x y) entries_line a.out.now (outside f (g.O.Sink.written a.output.now) (g.E.Sink.written a.errors.now)) new))
-    (c.guard.ensures.same_files ∙ c.open_two.ensures.same_files ∙ c.look.ensures.same_files) c.leave.ensures.left)
+    a.out.now (outside files (g.O.Sink.written a.output.now) (g.E.Sink.written a.errors.now)) new
+    entries_line c.leave.result
+    (subst (λ f. OnOk c.leave.result (Leaves (λ (n : ℕ). Merged MAX_ENTRIES n x y)
+    (λ (n : ℕ). Merged MAX_ENTRIES n x y) entries_line a.out.now
+    (outside f (g.O.Sink.written a.output.now) (g.E.Sink.written a.errors.now)) new))
+    (c.guard.ensures.same_files ∙ c.open_two.ensures.same_files ∙ c.look.ensures.same_files)
+    c.leave.ensures.left)
 
 pub returns-clause-failed : goal.returns-clause-failed
 returns-clause-failed g c =
@@ -46,10 +56,16 @@ returns-clause-failed g c =
     let a = c.args in
     let x = unread c.in_ok-first.first in
     let y = unread c.in_ok-first.second in
-    let new = outside (g.W.Inputs.files c.leave.new.world) (g.O.Sink.written c.leave.new.output) (g.E.Sink.written c.leave.new.errors) in
-    not_left_of_two (λ (k l : Option (List ℕ)) (n : ℕ). Merged MAX_ENTRIES n k l) (λ (k l : Option (List ℕ)). MergeFails k l) files a.a.now a.b.now x y
+    let new = outside (g.W.Inputs.files c.leave.new.world) (g.O.Sink.written c.leave.new.output)
+    (g.E.Sink.written c.leave.new.errors) in
+    not_left_of_two (λ (k l : Option (List ℕ)) (n : ℕ). Merged MAX_ENTRIES n k l)
+    (λ (k l : Option (List ℕ)). MergeFails k l) files a.a.now a.b.now x y
     (subst (λ f. HasBytes f a.a.now x) c.look.ensures.same_files c.in_ok-first.ensures.opened.0)
     (subst (λ f. HasBytes f a.b.now y) c.look.ensures.same_files c.in_ok-first.ensures.opened.1)
-    a.out.now (outside files (g.O.Sink.written a.output.now) (g.E.Sink.written a.errors.now)) new c.leave.result
-    (subst (λ f. IfErr c.leave.result (FailsToLeave (λ (n : ℕ). Merged MAX_ENTRIES n x y) (MergeFails x y) a.out.now (outside f (g.O.Sink.written a.output.now) (g.E.Sink.written a.errors.now)) new))
-    (c.guard.ensures.same_files ∙ c.open_two.ensures.same_files ∙ c.look.ensures.same_files) c.leave.ensures.failed)
+    a.out.now (outside files (g.O.Sink.written a.output.now) (g.E.Sink.written a.errors.now)) new
+    c.leave.result
+    (subst (λ f. IfErr c.leave.result (FailsToLeave (λ (n : ℕ). Merged MAX_ENTRIES n x y)
+    (MergeFails x y) a.out.now (outside f (g.O.Sink.written a.output.now)
+    (g.E.Sink.written a.errors.now)) new))
+    (c.guard.ensures.same_files ∙ c.open_two.ensures.same_files ∙ c.look.ensures.same_files)
+    c.leave.ensures.failed)

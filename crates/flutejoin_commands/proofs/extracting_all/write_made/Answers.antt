@@ -9,7 +9,8 @@ use Rattle.flutejoin_commands.proofs.FolderSteps.{on_if_ok, if_err, not_finished
 use Rattle.flutejoin_commands.proofs.extracting_all.write_made.Goals as goal
 
 pub fill-filled-requires : goal.fill-filled-requires
-fill-filled-requires g c = made_ready c.requires.made.0 (g.D.NewFolder.places c.args.folder.now) c.requires.made.1
+fill-filled-requires g c = made_ready c.requires.made.0 (g.D.NewFolder.places c.args.folder.now)
+    c.requires.made.1
 
 pub finish_folder-requires-clause-nothing : goal.finish_folder-requires-clause-nothing
 finish_folder-requires-clause-nothing g c = made_nothing c.requires.made.0
@@ -66,10 +67,12 @@ returns-in-Err-clause-failed g c = λ o h.
     let w = g.R.Source.unread c.fill-filled.new.source in
     let e = not_finished (g.D.NewFolder.places c.args.folder.now)
     (g.D.NewFolder.places c.fill-filled.new.folder) (g.P.Sink.written c.args.report.now)
-    (g.P.Sink.written c.fill-filled.new.report) c.fill-filled.result c.finish_folder.result c.in-Err.fault c.in-Err.is h
+    (g.P.Sink.written c.fill-filled.new.report) c.fill-filled.result c.finish_folder.result
+    c.in-Err.fault c.in-Err.is h
     c.fill-filled.ensures.stays c.fill-filled.ensures.filled c.fill-filled.ensures.failed
     c.finish_folder.ensures.fault c.finish_folder.ensures.work c.finish_folder.ensures.dropped in
-    subst (λ x. FolderFails u w c.args.picked.now o (g.D.NewFolder.places c.finish_folder.new.folder)
+    subst (λ x. FolderFails u w c.args.picked.now o
+    (g.D.NewFolder.places c.finish_folder.new.folder)
     x) (sym c.fault_of.ensures) e
 
 pub returns-in-Err-clause-any_moment : goal.returns-in-Err-clause-any_moment

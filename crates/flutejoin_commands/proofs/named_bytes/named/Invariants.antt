@@ -6,4 +6,5 @@ use Rattle.flutejoin_commands.proofs.named_bytes.named.Given as goal
 
 abbrev pub invariant-loop-file : goal.invariant-loop-file
 invariant-loop-file l =
-    files_of (map with_bytes l.files) l.name ≡ files_of (map with_bytes (drop l.file-index l.files)) l.name
+    files_of (map with_bytes l.files) l.name ≡ files_of (map with_bytes (drop l.file-index l.files))
+    l.name

@@ -1,4 +1,8 @@
-use Rattle.flute_journal.proofs.{Common.{Second, get_or, ap, ◌-◌, rules}, Pairs.{first_advances}, Chaining.{far, other_advances}}
+use Rattle.flute_journal.proofs.{
+  Common.{Second, get_or, ap, ◌-◌, rules},
+  Pairs.{first_advances},
+  Chaining.{far, other_advances},
+}
 use Rattle.std.specs.Prelude.{map}
 use Rattle.flute_journal.specs.Chains.{taken}
 use Rattle.flute_journal.proofs.chained.ChainedStreams.advance.Goals as goal
@@ -6,7 +10,8 @@ use Rattle.flute_journal.proofs.chained.ChainedStreams.advance.Goals as goal
 pub returns-then-number-eq0-clause-advances : goal.returns-then-number-eq0-clause-advances
 returns-then-number-eq0-clause-advances g c =
     first_advances g.A.Stream.behaviour g.B.Stream.behaviour c.args.self.now.first.now
-    c.advance.new.self (map Second (taken c.args.self.now.others.now)) c.args.number c.advance.result
+    c.advance.new.self (map Second (taken c.args.self.now.others.now)) c.args.number
+    c.advance.result
     c.if-number-eq0.true c.advance.ensures.goes_on c.advance.ensures.stops
 
 pub returns-else-number-eq0-clause-advances : goal.returns-else-number-eq0-clause-advances

@@ -23,7 +23,8 @@ pass-requires g c =
     let F = c.requires.next.0 in
     let k = c.requires.next.2 in
     let h = subst (λ (x : Option ObjectFile). HasTaken F k.0 k.1 x k.2) c.in-Some.is k.3 in
-    let r = subst (λ (x : Key). IsRising (F ++ next_fact x n ∷ [])) (sym same) c.requires.next.1 in (
+    let r = subst (λ (x : Key). IsRising (F ++ next_fact x n ∷ [])) (sym same) c.requires.next.1
+    in (
       object.key,
       h.mine,
       k.2,
