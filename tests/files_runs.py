@@ -24,6 +24,22 @@ def processor_time() -> float:
     return used.ru_utime + used.ru_stime
 
 
+def wait_for_answers(child: subprocess.Popen[bytes]) -> None:
+    """Waits until the tool answers signals itself, or has ended.
+
+    Before its first line a Ctrl-C finds Python, which prints a traceback of its own. Python leaves
+    SIGTERM to the system, and the tool catches it first of all, and ignores it at its end.
+    """
+    bit = 1 << (signal.SIGTERM - 1)
+    while child.poll() is None:
+        with contextlib.suppress(FileNotFoundError, ProcessLookupError):
+            with open(f"/proc/{child.pid}/status", encoding="ascii") as status:
+                lines = [line for line in status if line.startswith(("SigCgt:", "SigIgn:"))]
+            if any(int(line.split()[1], 16) & bit for line in lines):
+                return
+        time.sleep(0.002)
+
+
 class Runs(Case):
     """Faults, signals, other runs, and how long it takes."""
 
@@ -118,12 +134,11 @@ class Runs(Case):
         draw = random.Random(5)
         for number in range(12):
             child = self.start("-o", "files", "many")
-            time.sleep(draw.random() * 1.5)
+            wait_for_answers(child)
+            time.sleep(draw.random() * 1.2)
             child.send_signal([signal.SIGINT, signal.SIGTERM, signal.SIGKILL][number % 3])
             _, err = child.communicate()
-            # A signal before the tool's first line finds Python itself, which prints its own.
-            if b"init_import_site" not in err:
-                self.assertNotIn(b"Traceback", err)
+            self.assertNotIn(b"Traceback", err)
             tree = self.tree()
             self.assertEqual(tree, {path: wanted[path] for path in tree})
             if number % 3 < 2:
