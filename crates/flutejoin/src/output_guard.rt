@@ -1,8 +1,9 @@
 //! Which files that are there a command overwrites.
-ghost use Rattle.std.specs.Prelude.{◌≡◌, ◌≢◌, Err, IfErr, is_ok, true, false, if◌then◌else◌};
+ghost use Rattle.std.specs.Prelude.{◌≡◌, ◌≢◌, Err, IfErr, OnOk, is_ok, true, false};
 ghost use Rattle.flute_journal.specs.Kinds.{HasKind, IsNeither};
 ghost use Rattle.flute_journal.specs.declared.kind.Kind.TheVariants.{Journal, Datagrams};
-ghost use Rattle.flutejoin.specs.OutputGuard.{IsKeptOutput};
+ghost use Rattle.flutejoin.specs.OutputGuard.{IsKeptOutput, IsOverwritten};
+ghost use Rattle.flutejoin.specs.OutputGuard.{overwrites_journal, overwrites_other};
 
 use crate::command_fault::CommandFault;
 use flute_journal::{Kind, kind_of};
@@ -21,7 +22,7 @@ pub enum Overwrites {
 impl Overwrites {
     /// Those of a command that writes a journal, with `--force` or without.
     pub fn of_journal(force: bool) -> Overwrites
-        ensures { result ≡ (if force then Overwrites.Any else Overwrites.Journals) }
+        ensures { result ≡ overwrites_journal force }
     {
         if force {
             Overwrites::Any
@@ -32,7 +33,7 @@ impl Overwrites {
 
     /// Those of a command that writes something else, with `--force` or without.
     pub fn of_other(force: bool) -> Overwrites
-        ensures { result ≡ (if force then Overwrites.Any else Overwrites.OtherFiles) }
+        ensures { result ≡ overwrites_other force }
     {
         if force {
             Overwrites::Any
@@ -59,6 +60,7 @@ impl Overwrites {
             → is_ok result ≡ true }
         ensures others { self ≡ Overwrites.OtherFiles → IsNeither first.now → is_input ≡ false
             → is_ok result ≡ true }
+        ensures spared { OnOk result (IsOverwritten self first.now) }
         ensures kept { IfErr result IsKeptOutput }
     {
         match self {

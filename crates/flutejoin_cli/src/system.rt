@@ -78,6 +78,8 @@ impl Inputs for System<'_> {
 
     ghost files = { λ _. None };
 
+    ghost folders = { λ _ _. None };
+
     ghost asked = { λ s. s.asked.count };
 
     fn open(&mut self, path: &str, among: usize) -> Result<Input, NotOpened> {
@@ -123,7 +125,8 @@ impl<'a> World for System<'a> {
     fn guard(&mut self, out: &str, overwrites: Overwrites) -> Result<(), CommandFault> {
         match Found::at(self.rt, out) {
             Some(found) if out != STANDARD => {
-                overwrites.check(found.first_bytes(), self.files.contains(&found.id()))
+                overwrites.check(found.first_bytes(), self.files.contains(&found.id()))?;
+                Ok(())
             }
             _ => Ok(()),
         }

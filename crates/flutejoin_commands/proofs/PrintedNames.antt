@@ -27,9 +27,8 @@ pub both : (P Q : CommandFault → Type 0) (r : Result (Unit {0}) CommandFault) 
 both P Q (Ok u) p q = tt
 both P Q (Err e) p q = (p, q)
 
--- a fault that tells of what a folder was and is
-pub of_places : {S : Type 0} (P : S → S → CommandFault → Type 0) (before after : S)
-    (r : Result (Unit {0}) CommandFault) → IfErr r (P before after)
-    → IfErr r (λ fault. (b : S) × (a : S) × P b a fault)
-of_places P before after (Ok u) p = tt
-of_places P before after (Err e) p = (before, after, p)
+-- a fault that tells of what a folder is
+pub of_place : {S : Type 0} (P : S → CommandFault → Type 0) (after : S)
+    (r : Result (Unit {0}) CommandFault) → IfErr r (P after) → IfErr r (λ fault. (a : S) × P a fault)
+of_place P after (Ok u) p = tt
+of_place P after (Err e) p = (after, p)

@@ -14,7 +14,6 @@ use Rattle.flutejoin.specs.Forget.{ForgetFails}
 use Rattle.flutejoin.specs.Joined.{choice_of}
 use Rattle.flutejoin.specs.Joining.{JoinsTo, JoinToFails, NamesOneOf}
 use Rattle.flutejoin.specs.Merge.{MergeFails}
-use Rattle.flutejoin.specs.OutputGuard.{IsKeptOutput}
 use Rattle.flutejoin.specs.declared.forget.ForgetCounts.{ForgetCounts}
 use Rattle.flutejoin.specs.declared.join_counts.JoinCounts.{JoinCounts}
 use Rattle.flutejoin.specs.declared.limits.TheConstants.{MAX_ENTRIES}
@@ -25,6 +24,7 @@ use Rattle.flutejoin_commands.specs.Files.{Files, IfFiles, IsNoFile}
 use Rattle.flutejoin_commands.specs.Outlets.{Held, FailsHeld}
 use Rattle.flutejoin_commands.specs.Works.{AddsInformation, AddFails, WritesObject, ExtractFails}
 use Rattle.flutejoin_commands.specs.Works.{ForgetsIn, IsCannotWrite, OfDatagrams, WritesFile}
+use Rattle.flutejoin_commands.specs.Worlds.{IsNotOverwritten}
 
 abbrev pub IsAt : Files → List ℕ → List ℕ → Type 0
 IsAt files name bytes = files name ≡ Some bytes
@@ -48,7 +48,7 @@ pub record IsUnopened (files : Option Files) (names : List (List ℕ))
 -- there was no memory
 abbrev pub IsBefore : Option Files → List (List ℕ) → CommandFault → Type 0
 IsBefore files names fault =
-    IsUnopened files names fault ⊎ (IsKeptOutput fault ⊎ (fault ≡ OutOfMemory))
+    IsUnopened files names fault ⊎ IsNotOverwritten fault
 
 -- why an object of this content is not sent: the content has too many bytes or cannot be read, or
 -- its datagrams cannot be written

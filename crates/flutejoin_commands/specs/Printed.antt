@@ -52,15 +52,15 @@ module _ (files : Option Files) (name : List ℕ) where
       × (GapsFail (f name) left fault ⊎ FailsToFlush (IsAtEnd left) fault)))
       × (fault ≢ CannotWrite → new ≡ old)
 
-  -- a new folder has a file for each whole object of the journal of this name
-  abbrev pub LeavesFolderOfName : Picked → Option (List ℕ) → Option (List ℕ) → Type 0
-  LeavesFolderOfName picked old new = IfFiles files (λ f.
-      (before : Option Places) × (after : Option Places)
-      × LeavesFolder (f name) picked before after old new)
+  -- the folder, which is new, has a file for each whole object of the journal of this name
+  abbrev pub LeavesFolderOfName : Picked → Option Places → Option (List ℕ) → Option (List ℕ)
+      → Type 0
+  LeavesFolderOfName picked folder old new = IfFiles files (λ f.
+      (after : Option Places) × LeavesFolder (f name) picked folder after old new)
 
   -- why not
-  abbrev pub FolderOfNameFails : Picked → CommandFault → Type 0
-  FolderOfNameFails picked fault =
+  abbrev pub FolderOfNameFails : Picked → Option Places → CommandFault → Type 0
+  FolderOfNameFails picked folder fault =
       (IsUnread files name fault ⊎ IsNotMade fault)
-      ⊎ IfFiles files (λ f. (left : Option (List ℕ)) × ((before : Option Places)
-      × (after : Option Places) × FolderFails (f name) left picked before after fault))
+      ⊎ IfFiles files (λ f. (left : Option (List ℕ))
+      × ((after : Option Places) × FolderFails (f name) left picked folder after fault))

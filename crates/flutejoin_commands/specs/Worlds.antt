@@ -9,6 +9,8 @@ use Rattle.flutejoin.specs.declared.command_fault.CommandFault.{CommandFault}
 use Rattle.flutejoin.specs.declared.command_fault.CommandFault.TheVariants.{CannotCreate}
 use Rattle.flutejoin.specs.declared.command_fault.CommandFault.TheVariants.{CannotWrite, NotOnDisk}
 use Rattle.flutejoin.specs.declared.command_fault.CommandFault.TheVariants.{OutOfMemory}
+use Rattle.flutejoin.specs.OutputGuard.{IsKeptOutput, IsOverwritten}
+use Rattle.flutejoin.specs.declared.output_guard.Overwrites.{Overwrites}
 use Rattle.flutejoin_commands.specs.Files.{Files}
 
 abbrev pub bytes_of : Stored → List ℕ
@@ -46,6 +48,15 @@ HasSize bytes n = IfSome bytes (λ b. length b ≡ n)
 abbrev pub IsNotMade : CommandFault → Type 0
 IsNotMade fault = (fault ≡ CannotCreate) ⊎ (fault ≡ OutOfMemory)
 
+-- the file of the name, if it is known and there is one, begins as one that is overwritten
+abbrev pub MayOverwrite : Option Files → Overwrites → List ℕ → Type 0
+MayOverwrite None overwrites name = ⊤
+MayOverwrite (Some files) overwrites name = IfSome (files name) (IsOverwritten overwrites)
+
+-- why an output that is there is not overwritten: it is kept, or there was no memory
+abbrev pub IsNotOverwritten : CommandFault → Type 0
+IsNotOverwritten fault = IsKeptOutput fault ⊎ (fault ≡ OutOfMemory)
+
 -- nothing is put aside yet, if the files are known
 abbrev pub IsEmptyAside : Option Files → Option (List ℕ) → Type 0
 IsEmptyAside None aside = ⊤
@@ -76,6 +87,10 @@ KeepsFiles name None new = new ≡ None
 KeepsFiles name (Some old) None = ⊥
 KeepsFiles name (Some old) (Some new) =
     (beside : Option (List ℕ)) × Replaced name (old name) beside old new
+
+-- OUT is as before, and each other name but that of the file beside it; or it may be overwritten
+abbrev pub Spares : Overwrites → List ℕ → Option Files → Option Files → Type 0
+Spares overwrites name old new = KeepsFiles name old new ⊎ MayOverwrite old overwrites name
 
 -- OUT has what is written from nothing, the name beside it these bytes, and each other name is as
 -- before; if the files are not known, so much was written to a sink that does not tell

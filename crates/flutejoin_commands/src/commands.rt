@@ -10,16 +10,16 @@ ghost use Rattle.flutejoin_commands.specs.Named.{MergesNames, MergeNamesFails, S
 ghost use Rattle.flutejoin_commands.specs.Named.{SendNameFails, WritesOfName};
 ghost use Rattle.flutejoin_commands.specs.Works.{bytes_line, datagrams_line, forget_lines};
 ghost use Rattle.flutejoin_commands.specs.Works.{join_lines};
-ghost use Rattle.flutejoin_commands.specs.Worlds.{Leaves, FailsToLeave, outside};
+ghost use Rattle.flutejoin_commands.specs.Worlds.{Leaves, FailsToLeave, Spares, outside};
 
 use crate::adding::InfoWork;
 use crate::adding_list::InfoListWork;
+use crate::beginning::{begin, begin_join, begin_with_two};
 use crate::extracting::ExtractWork;
 use crate::forgetting::ForgetWork;
 use crate::joining::JoinWork;
 use crate::leaving::{leave, leave_held};
 use crate::merging::MergeWork;
-use crate::opening::{open_input, open_inputs, open_two};
 use crate::outlet::Outlet;
 use crate::sending::SendWork;
 use crate::world::World;
@@ -57,6 +57,7 @@ pub fn join<W: World, O: Outlet, E: Sink>(
         (outside (W.files world.old) (O.written output.old) (E.written errors.old))
         (outside (W.files world.new) (O.written output.new) (E.written errors.new))) }
     ensures handed_on { OnOk result (O.handed_on output.new ≡ O.written output.new) }
+    ensures spared { Spares overwrites out.now (W.files world.old) (W.files world.new) }
     ensures failed { IfErr result (FailsToLeave
         (JoinsNames (W.files world.old) sender sessions (map (λ path. path.now) paths.now))
         (JoinNamesFails (W.files world.old) sender sessions (map (λ path. path.now) paths.now))
@@ -64,9 +65,7 @@ pub fn join<W: World, O: Outlet, E: Sink>(
         (outside (W.files world.old) (O.written output.old) (E.written errors.old))
         (outside (W.files world.new) (O.written output.new) (E.written errors.new))) }
 {
-    world.look(out);
-    let inputs = open_inputs(world, alloc, paths)?;
-    world.guard(out, overwrites)?;
+    let inputs = begin_join(world, alloc, out, overwrites, paths)?;
     let work = JoinWork {
         alloc,
         sender,
@@ -98,15 +97,14 @@ pub fn merge<W: World, O: Outlet, E: Sink>(
         (outside (W.files world.old) (O.written output.old) (E.written errors.old))
         (outside (W.files world.new) (O.written output.new) (E.written errors.new))) }
     ensures handed_on { OnOk result (O.handed_on output.new ≡ O.written output.new) }
+    ensures spared { Spares overwrites out.now (W.files world.old) (W.files world.new) }
     ensures failed { IfErr result (FailsToLeave
         (MergesNames (W.files world.old) a.now b.now)
         (MergeNamesFails (W.files world.old) a.now b.now) out.now
         (outside (W.files world.old) (O.written output.old) (E.written errors.old))
         (outside (W.files world.new) (O.written output.new) (E.written errors.new))) }
 {
-    world.look(out);
-    let (first, second) = open_two(world, a, b)?;
-    world.guard(out, overwrites)?;
+    let (first, second) = begin_with_two(world, out, overwrites, a, b)?;
     let work = MergeWork {
         alloc,
         first,
@@ -138,15 +136,14 @@ pub fn info<W: World, O: Outlet, E: Sink>(
         (outside (W.files world.old) (O.written output.old) (E.written errors.old))
         (outside (W.files world.new) (O.written output.new) (E.written errors.new))) }
     ensures handed_on { OnOk result (O.handed_on output.new ≡ O.written output.new) }
+    ensures spared { Spares overwrites out.now (W.files world.old) (W.files world.new) }
     ensures failed { IfErr result (FailsToLeave
         (AddsToName (W.files world.old) j.now key info)
         (AddToNameFails (W.files world.old) j.now key info) out.now
         (outside (W.files world.old) (O.written output.old) (E.written errors.old))
         (outside (W.files world.new) (O.written output.new) (E.written errors.new))) }
 {
-    world.look(out);
-    let source = open_input(world, 1, j)?;
-    world.guard(out, overwrites)?;
+    let source = begin(world, out, overwrites, j)?;
     let work = InfoWork {
         alloc,
         key,
@@ -180,15 +177,14 @@ pub fn info_list<W: World, O: Outlet, E: Sink>(
         (outside (W.files world.old) (O.written output.old) (E.written errors.old))
         (outside (W.files world.new) (O.written output.new) (E.written errors.new))) }
     ensures handed_on { OnOk result (O.handed_on output.new ≡ O.written output.new) }
+    ensures spared { Spares overwrites out.now (W.files world.old) (W.files world.new) }
     ensures failed { IfErr result (FailsToLeave
         (AddsListOfNames (W.files world.old) j.now list.now)
         (AddListOfNamesFails (W.files world.old) j.now list.now) out.now
         (outside (W.files world.old) (O.written output.old) (E.written errors.old))
         (outside (W.files world.new) (O.written output.new) (E.written errors.new))) }
 {
-    world.look(out);
-    let (source, list) = open_two(world, j, list)?;
-    world.guard(out, overwrites)?;
+    let (source, list) = begin_with_two(world, out, overwrites, j, list)?;
     let work = InfoListWork {
         alloc,
         source,
@@ -220,15 +216,14 @@ pub fn forget<W: World, O: Outlet, E: Sink>(
         (outside (W.files world.old) (O.written output.old) (E.written errors.old))
         (outside (W.files world.new) (O.written output.new) (E.written errors.new))) }
     ensures handed_on { OnOk result (O.handed_on output.new ≡ O.written output.new) }
+    ensures spared { Spares overwrites out.now (W.files world.old) (W.files world.new) }
     ensures failed { IfErr result (FailsToLeave
         (ForgetsInName (W.files world.old) j.now selection)
         (ForgetInNameFails (W.files world.old) j.now) out.now
         (outside (W.files world.old) (O.written output.old) (E.written errors.old))
         (outside (W.files world.new) (O.written output.new) (E.written errors.new))) }
 {
-    world.look(out);
-    let source = open_input(world, 1, j)?;
-    world.guard(out, overwrites)?;
+    let source = begin(world, out, overwrites, j)?;
     let input = forget_input(source, selection);
     leave(world, out, ForgetWork { alloc, input }, output, errors)
 }
@@ -256,15 +251,14 @@ pub fn extract<W: World, O: Outlet, E: Sink>(
         (outside (W.files world.old) (O.written output.old) (E.written errors.old))
         (outside (W.files world.new) (O.written output.new) (E.written errors.new))) }
     ensures handed_on { OnOk result (O.handed_on output.new ≡ O.written output.new) }
+    ensures spared { Spares overwrites out.now (W.files world.old) (W.files world.new) }
     ensures failed { IfErr result (FailsToLeave
         (WritesOfName (W.files world.old) j.now key)
         (ExtractOfNameFails (W.files world.old) j.now key) out.now
         (outside (W.files world.old) (O.written output.old) (E.written errors.old))
         (outside (W.files world.new) (O.written output.new) (E.written errors.new))) }
 {
-    world.look(out);
-    let source = open_input(world, 1, j)?;
-    world.guard(out, overwrites)?;
+    let source = begin(world, out, overwrites, j)?;
     let work = ExtractWork { alloc, key, source };
     leave_held(world, alloc, out, work, output, errors)
 }
@@ -295,15 +289,14 @@ pub fn carousel<W: World, O: Outlet, E: Sink>(
         (outside (W.files world.old) (O.written output.old) (E.written errors.old))
         (outside (W.files world.new) (O.written output.new) (E.written errors.new))) }
     ensures handed_on { OnOk result (O.handed_on output.new ≡ O.written output.new) }
+    ensures spared { Spares overwrites out.now (W.files world.old) (W.files world.new) }
     ensures failed { IfErr result (FailsToLeave
         (SendsName (W.files world.old) file.now key.now symbol block)
         (SendNameFails (W.files world.old) file.now key.now symbol block) out.now
         (outside (W.files world.old) (O.written output.old) (E.written errors.old))
         (outside (W.files world.new) (O.written output.new) (E.written errors.new))) }
 {
-    world.look(out);
-    let mut source = open_input(world, 1, file)?;
-    world.guard(out, overwrites)?;
+    let mut source = begin(world, out, overwrites, file)?;
     if is_too_large(world.size(&source)) {
         return Err(CommandFault::TooLarge(1));
     }

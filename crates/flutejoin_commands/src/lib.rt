@@ -28,6 +28,7 @@
 
 mod adding;
 mod adding_list;
+mod beginning;
 mod begun_output;
 mod changes;
 mod commands;

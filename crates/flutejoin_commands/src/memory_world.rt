@@ -1,9 +1,10 @@
 //! A world in memory.
-ghost use Rattle.std.specs.Prelude.{◌≡◌, map, Some, IfOk, IfErr, option_map};
+ghost use Rattle.std.specs.Prelude.{◌≡◌, map, Some, IfOk, IfErr, OnOk, option_map};
 ghost use Rattle.flutejoin_commands.specs.MemoryFiles.{files_of};
 ghost use Rattle.flutejoin_commands.specs.MemoryWorlds.{memory_files};
 ghost use Rattle.flutejoin_commands.specs.NamedFiles.{with_bytes};
-ghost use Rattle.flutejoin.specs.OutputGuard.{IsKeptOutput};
+ghost use Rattle.flutejoin_commands.specs.Worlds.{IsNotOverwritten, MayOverwrite};
+ghost use Rattle.flutejoin.specs.OutputGuard.{IsKeptOutput, IsOverwritten};
 
 use crate::changes::Changes;
 use crate::memory_report::MemoryReport;
@@ -18,9 +19,6 @@ use std::alloc::{AllocError, Global};
 
 /// The name that stands for standard output.
 const STANDARD: &str = "-";
-
-/// How many bytes tell what a file is.
-const FIRST: usize = 4;
 
 /// Files in memory, by their names, for tests: those that were given, and what became of the
 /// outputs that were closed. Each output fails for good after so many calls; none is a device.
@@ -68,17 +66,19 @@ impl<'a> MemoryWorld<'a> {
         }
     }
 
-    // Whether the file of the name, if it is known, may be overwritten.
+    // Whether the file of the name may be overwritten.
     fn check(&self, name: &str, overwrites: Overwrites) -> Result<(), CommandFault>
-        ensures { IfErr result IsKeptOutput }
+        ensures spared { OnOk result
+            (MayOverwrite (Some (memory_files self.now)) overwrites name.now) }
+        ensures kept { IfErr result IsNotOverwritten }
     {
         let Ok(found) = self.bytes_of(name) else {
-            return Ok(());
+            return Err(CommandFault::OutOfMemory);
         };
         match found {
             Some(bytes) => {
-                let first = &bytes[..bytes.len().min(FIRST)];
-                kept(overwrites, first, self.has_opened(name))
+                overwrites.check(bytes, self.has_opened(name))?;
+                Ok(())
             }
             None => Ok(()),
         }
@@ -114,11 +114,13 @@ impl<'a> MemoryWorld<'a> {
 }
 
 impl<'a> Inputs for MemoryWorld<'a> {
-    ghost use Rattle.flutejoin_commands.specs.MemoryWorlds.{memory_files};
+    ghost use Rattle.flutejoin_commands.specs.MemoryWorlds.{memory_files, no_folders};
 
     type Input = OwnedSource;
 
     ghost files = { λ w. Some (memory_files w) };
+
+    ghost folders = { no_folders };
 
     ghost asked = { λ w. w.asked.count };
 
@@ -181,11 +183,4 @@ impl<'a> World for MemoryWorld<'a> {
     fn close(&mut self, out: &str, folder: MemoryFolder) {
         self.changes.close(self.alloc, out, &folder);
     }
-}
-
-// Whether a file is overwritten that begins so.
-fn kept(overwrites: Overwrites, first: &[u8], is_input: bool) -> Result<(), CommandFault>
-    ensures { IfErr result IsKeptOutput }
-{
-    overwrites.check(first, is_input)
 }

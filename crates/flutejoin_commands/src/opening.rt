@@ -1,5 +1,7 @@
 //! The inputs of a command, opened by their names.
-ghost use Rattle.std.specs.Prelude.{◌≡◌, ◌≤◌, ◌⊎◌, ◌+◌, ℕ, Option, Err, length, map, OnOk, IfOk, IfErr};
+ghost use Rattle.std.specs.Prelude.{◌≡◌, ◌≤◌, ◌⊎◌, ◌+◌, ℕ, List, Option, Err, length, map};
+ghost use Rattle.std.specs.Prelude.{OnOk, IfOk, IfErr};
+ghost use Rattle.flute_output.specs.NewFolders.{Places};
 ghost use Rattle.flutejoin.specs.declared.command_fault.CommandFault.TheVariants.{OutOfMemory, CannotOpen};
 ghost use Rattle.flutejoin_commands.specs.Files.{Files, HasBytes, IsNoFile};
 ghost use Rattle.flutejoin_commands.specs.Opened.{AreOpened, IsOpened, IsNotOpened, FirstNotOpened};
@@ -25,6 +27,9 @@ pub trait Inputs {
     // The files that the names lead to, if that is told.
     ghost files: { Self → Option Files };
 
+    // What the name of a new folder leads to, if that is told.
+    ghost folders: { Self → List ℕ → Option Places };
+
     // How often an input was to be opened so far.
     ghost asked: { Self → ℕ };
 
@@ -39,6 +44,7 @@ pub trait Inputs {
             (λ input. HasBytes (files self.old) path.now (Self.Input.unread input)) }
         ensures refused { result ≡ Err NotOpened.Refused → IsNoFile (files self.old) path.now }
         ensures same_files { files self.new ≡ files self.old }
+        ensures same_folders { folders self.new ≡ folders self.old }
         ensures asked { asked self.new ≡ asked self.old + 1 };
 }
 
@@ -58,6 +64,7 @@ pub fn open_input<I: Inputs>(
         ((fault ≡ CannotOpen number) × IsNoFile (I.files inputs.old) path.now)
         ⊎ (fault ≡ OutOfMemory)) }
     ensures same_files { I.files inputs.new ≡ I.files inputs.old }
+    ensures same_folders { I.folders inputs.new ≡ I.folders inputs.old }
     ensures asked { I.asked inputs.new ≡ I.asked inputs.old + 1 }
 {
     open_among(inputs, 1, number, path)
@@ -76,6 +83,7 @@ fn open_among<I: Inputs>(
         ((fault ≡ CannotOpen number) × IsNoFile (I.files inputs.old) path.now)
         ⊎ (fault ≡ OutOfMemory)) }
     ensures same_files { I.files inputs.new ≡ I.files inputs.old }
+    ensures same_folders { I.folders inputs.new ≡ I.folders inputs.old }
     ensures asked { I.asked inputs.new ≡ I.asked inputs.old + 1 }
 {
     match inputs.open(path, among) {

@@ -88,9 +88,10 @@ pub fn extract_all<W: World, P: Report>(
     output: &mut P,
 ) -> Result<(), CommandFault>
     ensures extracted { OnOk result (LeavesFolderOfName (W.files world.old) j.now picked.now
-        (P.written output.old) (P.written output.new)) }
+        (W.folders world.old out.now) (P.written output.old) (P.written output.new)) }
     ensures handed_on { OnOk result (P.handed_on output.new ≡ P.written output.new) }
-    ensures failed { IfErr result (FolderOfNameFails (W.files world.old) j.now picked.now) }
+    ensures failed { IfErr result (FolderOfNameFails (W.files world.old) j.now picked.now
+        (W.folders world.old out.now)) }
     ensures same_files { W.files world.new ≡ W.files world.old }
 {
     let mut source = open_input(world, 1, j)?;

@@ -1,7 +1,7 @@
 //! A run of the program, from its words to what it leaves.
 ghost use Rattle.std.specs.Prelude.{◌≡◌, map, string_bytes, OnOk, IfErr};
 ghost use Rattle.flutejoin_commands.specs.Runs.{Does, DoesWords, FailsToDo, FailsToDoWords};
-ghost use Rattle.flutejoin_commands.specs.Runs.{HasFewInputs};
+ghost use Rattle.flutejoin_commands.specs.Runs.{HasFewInputs, SparesOut};
 ghost use Rattle.flutejoin_commands.specs.Worlds.{outside};
 
 use crate::commands::{carousel, extract, forget, info, info_list, join, merge};
@@ -26,11 +26,11 @@ pub fn run<W: World, O: Outlet, E: Sink>(
     output: &mut O,
     errors: &mut E,
 ) -> Result<(), CommandFault>
-    ensures done { OnOk result (DoesWords (map string_bytes words.now)
+    ensures done { OnOk result (DoesWords (W.folders world.old) (map string_bytes words.now)
         (outside (W.files world.old) (O.written output.old) (E.written errors.old))
         (outside (W.files world.new) (O.written output.new) (E.written errors.new))) }
     ensures handed_on { OnOk result (O.handed_on output.new ≡ O.written output.new) }
-    ensures failed { IfErr result (FailsToDoWords (map string_bytes words.now)
+    ensures failed { IfErr result (FailsToDoWords (W.folders world.old) (map string_bytes words.now)
         (outside (W.files world.old) (O.written output.old) (E.written errors.old))
         (outside (W.files world.new) (O.written output.new) (E.written errors.new))) }
 {
@@ -47,11 +47,12 @@ fn run_line<W: World, O: Outlet, E: Sink>(
     errors: &mut E,
 ) -> Result<(), CommandFault>
     requires { HasFewInputs line }
-    ensures done { OnOk result (Does line.entry
+    ensures spared { SparesOut line.entry (W.files world.old) (W.files world.new) }
+    ensures done { OnOk result (Does (W.folders world.old) line.entry
         (outside (W.files world.old) (O.written output.old) (E.written errors.old))
         (outside (W.files world.new) (O.written output.new) (E.written errors.new))) }
     ensures handed_on { OnOk result (O.handed_on output.new ≡ O.written output.new) }
-    ensures failed { IfErr result (FailsToDo line.entry
+    ensures failed { IfErr result (FailsToDo (W.folders world.old) line.entry
         (outside (W.files world.old) (O.written output.old) (E.written errors.old))
         (outside (W.files world.new) (O.written output.new) (E.written errors.new))) }
 {

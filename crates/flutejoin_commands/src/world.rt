@@ -1,8 +1,8 @@
 //! What lies outside of a command.
-ghost use Rattle.std.specs.Prelude.{◌≡◌, IfOk, IfErr, IfSome};
+ghost use Rattle.std.specs.Prelude.{◌≡◌, IfOk, IfErr, IfSome, OnOk};
 ghost use Rattle.flutejoin.specs.declared.command_fault.CommandFault.TheVariants.{OutOfMemory};
-ghost use Rattle.flutejoin.specs.OutputGuard.{IsKeptOutput};
-ghost use Rattle.flutejoin_commands.specs.Worlds.{HasSize, IsPlaced, IsNotMade, IsEmptyAside, Closes};
+ghost use Rattle.flutejoin_commands.specs.Worlds.{HasSize, IsPlaced, IsNotMade, IsEmptyAside};
+ghost use Rattle.flutejoin_commands.specs.Worlds.{Closes, IsNotOverwritten, MayOverwrite};
 
 use crate::opening::Inputs;
 use crate::outlet::Outlet;
@@ -33,9 +33,11 @@ pub trait World: Inputs {
     ///
     /// # Errors
     ///
-    /// Those of [`Overwrites::check`].
+    /// Those of [`Overwrites::check`], and `OutOfMemory`.
     fn guard(&mut self, out: &str, overwrites: Overwrites) -> Result<(), CommandFault>
-        ensures kept { IfErr result IsKeptOutput }
+        ensures spared { OnOk result
+            (MayOverwrite (Self.files self.old) overwrites out.now) }
+        ensures kept { IfErr result IsNotOverwritten }
         ensures same_files { Self.files self.new ≡ Self.files self.old };
 
     /// What the name of an output leads to. Nothing is made.
@@ -55,6 +57,8 @@ pub trait World: Inputs {
     ///
     /// `CannotCreate` if it cannot be made, and `OutOfMemory`.
     fn new_folder(&mut self, out: &str) -> Result<Self::NewFolder, CommandFault>
+        ensures named { IfOk result
+            (λ folder. Self.NewFolder.places folder ≡ Self.folders self.old out.now) }
         ensures refused { IfErr result IsNotMade }
         ensures same_files { Self.files self.new ≡ Self.files self.old };
 

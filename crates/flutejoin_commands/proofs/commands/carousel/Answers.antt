@@ -1,7 +1,6 @@
 -- What was sent, told by the name of the content.
-use Rattle.std.proofs.Common.{IfErr, inl, subst, ◌∙◌}
+use Rattle.std.proofs.Common.{IfErr, inl, subst}
 use Rattle.std.specs.Prelude.{OnOk}
-use Rattle.flutejoin_commands.specs.Files.{HasBytes}
 use Rattle.flutejoin_commands.specs.Works.{WritesFile, IsCannotWrite, datagrams_line}
 use Rattle.flutejoin_commands.specs.Worlds.{Leaves, FailsToLeave, as_before, outside}
 use Rattle.flutejoin_commands.proofs.LeftFiles.{kept_same}
@@ -14,10 +13,10 @@ returns-clause-failed g c =
     let a = c.args in
     let x = g.W.Input.Source.unread c.in_ok-source.source in
     as_before (inl (content_fails files a.file.now x
-    (subst (λ f. HasBytes f a.file.now x) c.look.ensures.same_files c.in_ok-source.ensures.opened)
+    c.in_ok-source.ensures.opened
     a.key.now a.symbol a.block c.in-Err.fault c.in-Err.ensures.failed))
-    (kept_same a.out.now files (g.W.Inputs.files c.guard.new.self)
-    (c.guard.ensures.same_files ∙ c.open_input.ensures.same_files ∙ c.look.ensures.same_files))
+    (kept_same a.out.now files (g.W.Inputs.files c.begin.new.world)
+    c.begin.ensures.same_files)
 
 pub returns-in-Ok-clause-sent : goal.returns-in-Ok-clause-sent
 returns-in-Ok-clause-sent g c =
@@ -30,12 +29,12 @@ returns-in-Ok-clause-sent g c =
     (g.E.Sink.written c.leave.new.errors) in
     let d = c.in-Ok.datagrams in
     sent files a.file.now x
-    (subst (λ f. HasBytes f a.file.now x) c.look.ensures.same_files c.in_ok-source.ensures.opened)
+    c.in_ok-source.ensures.opened
     a.key.now a.symbol a.block d c.in-Ok.ensures.sent a.out.now (outside files o e) new
     c.leave.result
     (subst (λ f. OnOk c.leave.result (Leaves (WritesFile d) (WritesFile d) datagrams_line a.out.now
     (outside f o e) new))
-    (c.guard.ensures.same_files ∙ c.open_input.ensures.same_files ∙ c.look.ensures.same_files)
+    c.begin.ensures.same_files
     c.leave.ensures.left)
 
 pub returns-in-Ok-clause-failed : goal.returns-in-Ok-clause-failed
@@ -49,10 +48,10 @@ returns-in-Ok-clause-failed g c =
     (g.E.Sink.written c.leave.new.errors) in
     let d = c.in-Ok.datagrams in
     not_sent files a.file.now x
-    (subst (λ f. HasBytes f a.file.now x) c.look.ensures.same_files c.in_ok-source.ensures.opened)
+    c.in_ok-source.ensures.opened
     a.key.now a.symbol a.block d c.in-Ok.ensures.sent a.out.now (outside files o e) new
     c.leave.result
     (subst (λ f. IfErr c.leave.result (FailsToLeave (WritesFile d) IsCannotWrite a.out.now
     (outside f o e) new))
-    (c.guard.ensures.same_files ∙ c.open_input.ensures.same_files ∙ c.look.ensures.same_files)
+    c.begin.ensures.same_files
     c.leave.ensures.failed)

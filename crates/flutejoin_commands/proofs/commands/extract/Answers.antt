@@ -1,7 +1,6 @@
 -- What was left, told by the name.
-use Rattle.std.proofs.Common.{IfErr, List, ℕ, Option, subst, ◌∙◌}
+use Rattle.std.proofs.Common.{IfErr, List, ℕ, Option, subst}
 use Rattle.std.specs.Prelude.{OnOk}
-use Rattle.flutejoin_commands.specs.Files.{HasBytes}
 use Rattle.flutejoin_commands.specs.Outlets.{Held, FailsHeld}
 use Rattle.flutejoin_commands.specs.Works.{WritesObject, ExtractFails, bytes_line}
 use Rattle.flutejoin_commands.specs.Worlds.{Leaves, FailsToLeave, outside}
@@ -19,15 +18,14 @@ returns-clause-extracted g c =
     (λ (k : Option (List ℕ)). Held (WritesObject k a.key))
     (λ (k : Option (List ℕ)). FailsHeld (ExtractFails k a.key)) files a.j.now
     (unread c.in_ok-source.source)
-    (subst (λ f. HasBytes f a.j.now (unread c.in_ok-source.source)) c.look.ensures.same_files
-    c.in_ok-source.ensures.opened)
+    c.in_ok-source.ensures.opened
     a.out.now (outside files (g.O.Sink.written a.output.now) (g.E.Sink.written a.errors.now)) new
     bytes_line c.leave_held.result
     (subst (λ f. OnOk c.leave_held.result
     (Leaves (WritesObject (unread c.in_ok-source.source) a.key)
     (Held (WritesObject (unread c.in_ok-source.source) a.key)) bytes_line a.out.now
     (outside f (g.O.Sink.written a.output.now) (g.E.Sink.written a.errors.now)) new))
-    (c.guard.ensures.same_files ∙ c.open_input.ensures.same_files ∙ c.look.ensures.same_files)
+    c.begin.ensures.same_files
     c.leave_held.ensures.left)
 
 pub returns-clause-failed : goal.returns-clause-failed
@@ -41,13 +39,12 @@ returns-clause-failed g c =
     (λ (k : Option (List ℕ)). Held (WritesObject k a.key))
     (λ (k : Option (List ℕ)). FailsHeld (ExtractFails k a.key)) files a.j.now
     (unread c.in_ok-source.source)
-    (subst (λ f. HasBytes f a.j.now (unread c.in_ok-source.source)) c.look.ensures.same_files
-    c.in_ok-source.ensures.opened)
+    c.in_ok-source.ensures.opened
     a.out.now (outside files (g.O.Sink.written a.output.now) (g.E.Sink.written a.errors.now)) new
     c.leave_held.result
     (subst (λ f. IfErr c.leave_held.result
     (FailsToLeave (WritesObject (unread c.in_ok-source.source) a.key)
     (FailsHeld (ExtractFails (unread c.in_ok-source.source) a.key)) a.out.now
     (outside f (g.O.Sink.written a.output.now) (g.E.Sink.written a.errors.now)) new))
-    (c.guard.ensures.same_files ∙ c.open_input.ensures.same_files ∙ c.look.ensures.same_files)
+    c.begin.ensures.same_files
     c.leave_held.ensures.failed)

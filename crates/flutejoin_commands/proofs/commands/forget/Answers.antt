@@ -1,5 +1,5 @@
 -- What was left, told by the name.
-use Rattle.std.proofs.Common.{IfErr, List, ℕ, Option, subst, sym, ◌∙◌}
+use Rattle.std.proofs.Common.{IfErr, List, ℕ, Option, subst, sym}
 use Rattle.std.specs.Prelude.{OnOk}
 use Rattle.flute_journal.specs.declared.selection.Selection.{Selection}
 use Rattle.flutejoin.specs.Forget.{ForgetFails}
@@ -28,12 +28,11 @@ returns-clause-forgot g c =
     (λ (k : Option (List ℕ)). ForgetsIn k input.choice.0)
     (λ (k : Option (List ℕ)). ForgetFails k) files a.j.now x
     (subst (λ s. HasBytes files a.j.now (unread s)) (sym c.forget_input-input.ensures.source)
-    (subst (λ f. HasBytes f a.j.now (unread c.in_ok-source.source)) c.look.ensures.same_files
-    c.in_ok-source.ensures.opened))
+    c.in_ok-source.ensures.opened)
     a.out.now (outside files o e) new forget_lines c.leave.result
     (subst (λ f. OnOk c.leave.result (Leaves (ForgetsIn x input.choice.0)
     (ForgetsIn x input.choice.0) forget_lines a.out.now (outside f o e) new))
-    (c.guard.ensures.same_files ∙ c.open_input.ensures.same_files ∙ c.look.ensures.same_files)
+    c.begin.ensures.same_files
     c.leave.ensures.left))
 
 pub returns-clause-failed : goal.returns-clause-failed
@@ -54,10 +53,9 @@ returns-clause-failed g c =
     (λ (k : Option (List ℕ)). ForgetsIn k input.choice.0)
     (λ (k : Option (List ℕ)). ForgetFails k) files a.j.now x
     (subst (λ s. HasBytes files a.j.now (unread s)) (sym c.forget_input-input.ensures.source)
-    (subst (λ f. HasBytes f a.j.now (unread c.in_ok-source.source)) c.look.ensures.same_files
-    c.in_ok-source.ensures.opened))
+    c.in_ok-source.ensures.opened)
     a.out.now (outside files o e) new c.leave.result
     (subst (λ f. IfErr c.leave.result (FailsToLeave (ForgetsIn x input.choice.0)
     (ForgetFails x) a.out.now (outside f o e) new))
-    (c.guard.ensures.same_files ∙ c.open_input.ensures.same_files ∙ c.look.ensures.same_files)
+    c.begin.ensures.same_files
     c.leave.ensures.failed))

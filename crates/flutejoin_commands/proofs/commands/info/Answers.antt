@@ -1,8 +1,7 @@
 -- What was left, told by the name.
-use Rattle.std.proofs.Common.{IfErr, List, ℕ, Option, subst, ◌∙◌}
+use Rattle.std.proofs.Common.{IfErr, List, ℕ, Option, subst}
 use Rattle.std.specs.Prelude.{OnOk}
 use Rattle.flutejoin.specs.Lines.{entries_line}
-use Rattle.flutejoin_commands.specs.Files.{HasBytes}
 use Rattle.flutejoin_commands.specs.Works.{AddsInformation, AddFails}
 use Rattle.flutejoin_commands.specs.Worlds.{Leaves, FailsToLeave, outside}
 use Rattle.flutejoin_commands.proofs.OfNames.{left_of, not_left_of}
@@ -19,15 +18,14 @@ returns-clause-added g c =
     (λ (k : Option (List ℕ)). AddsInformation k a.key a.info)
     (λ (k : Option (List ℕ)). AddFails k a.key a.info) files a.j.now
     (unread c.in_ok-source.source)
-    (subst (λ f. HasBytes f a.j.now (unread c.in_ok-source.source)) c.look.ensures.same_files
-    c.in_ok-source.ensures.opened)
+    c.in_ok-source.ensures.opened
     a.out.now (outside files (g.O.Sink.written a.output.now) (g.E.Sink.written a.errors.now)) new
     entries_line c.leave.result
     (subst (λ f. OnOk c.leave.result
     (Leaves (AddsInformation (unread c.in_ok-source.source) a.key a.info)
     (AddsInformation (unread c.in_ok-source.source) a.key a.info) entries_line a.out.now
     (outside f (g.O.Sink.written a.output.now) (g.E.Sink.written a.errors.now)) new))
-    (c.guard.ensures.same_files ∙ c.open_input.ensures.same_files ∙ c.look.ensures.same_files)
+    c.begin.ensures.same_files
     c.leave.ensures.left)
 
 pub returns-clause-failed : goal.returns-clause-failed
@@ -41,13 +39,12 @@ returns-clause-failed g c =
     (λ (k : Option (List ℕ)). AddsInformation k a.key a.info)
     (λ (k : Option (List ℕ)). AddFails k a.key a.info) files a.j.now
     (unread c.in_ok-source.source)
-    (subst (λ f. HasBytes f a.j.now (unread c.in_ok-source.source)) c.look.ensures.same_files
-    c.in_ok-source.ensures.opened)
+    c.in_ok-source.ensures.opened
     a.out.now (outside files (g.O.Sink.written a.output.now) (g.E.Sink.written a.errors.now)) new
     c.leave.result
     (subst (λ f. IfErr c.leave.result
     (FailsToLeave (AddsInformation (unread c.in_ok-source.source) a.key a.info)
     (AddFails (unread c.in_ok-source.source) a.key a.info) a.out.now
     (outside f (g.O.Sink.written a.output.now) (g.E.Sink.written a.errors.now)) new))
-    (c.guard.ensures.same_files ∙ c.open_input.ensures.same_files ∙ c.look.ensures.same_files)
+    c.begin.ensures.same_files
     c.leave.ensures.failed)

@@ -1,29 +1,11 @@
 -- What was added, told by the names of the journal and the list.
-use Rattle.std.proofs.Common.{IfErr, ℕ, List, Option, inl, subst, ◌∙◌, rules}
+use Rattle.std.proofs.Common.{IfErr, ℕ, List, Option, subst}
 use Rattle.std.specs.Prelude.{OnOk}
 use Rattle.flutejoin.specs.InfoLists.{AddsList, AddListFails}
 use Rattle.flutejoin.specs.Lines.{entries_line}
-use Rattle.flutejoin_commands.specs.Files.{HasBytes}
-use Rattle.flutejoin_commands.specs.Named.{AddsListOfNames, AddListOfNamesFails}
-use Rattle.flutejoin_commands.specs.Worlds.{Leaves, FailsToLeave, as_before, outside}
-use Rattle.flutejoin_commands.proofs.LeftFiles.{kept_same}
-use Rattle.flutejoin_commands.proofs.OfNames.{left_of_two, not_left_of_two, two_unopened}
+use Rattle.flutejoin_commands.specs.Worlds.{Leaves, FailsToLeave, outside}
+use Rattle.flutejoin_commands.proofs.OfNames.{left_of_two, not_left_of_two}
 use Rattle.flutejoin_commands.proofs.commands.info_list.Goals as goal
-
-pub returns-in_err-source-clause-failed : goal.returns-in_err-source-clause-failed
-returns-in_err-source-clause-failed g c =
-    let files = g.W.Inputs.files c.args.world.now in
-    let a = c.args in
-    let now = g.W.Inputs.files c.open_two.new.inputs in
-    let o = g.O.Sink.written a.output.now in
-    let e = g.E.Sink.written a.errors.now in
-    let not : FailsToLeave {A = ℕ} (AddsListOfNames files a.j.now a.list.now)
-    (AddListOfNamesFails files a.j.now a.list.now) a.out.now (outside files o e)
-    (outside now o e) c.in_err-source.field-0.0 =
-    as_before (inl (inl (two_unopened files (g.W.Inputs.files c.look.new.self) a.j.now a.list.now
-    c.in_err-source.field-0.0 c.look.ensures.same_files c.in_err-source.ensures.failed)))
-    (kept_same a.out.now files now (c.open_two.ensures.same_files ∙ c.look.ensures.same_files)) in
-    search rules
 
 pub returns-clause-added : goal.returns-clause-added
 returns-clause-added g c =
@@ -36,14 +18,14 @@ returns-clause-added g c =
     (g.E.Sink.written c.leave.new.errors) in
     left_of_two (λ (k l : Option (List ℕ)) (n : ℕ). AddsList k l n)
     (λ (k l : Option (List ℕ)). AddListFails k l) files a.j.now a.list.now x y
-    (subst (λ f. HasBytes f a.j.now x) c.look.ensures.same_files c.in_ok-source.ensures.opened.0)
-    (subst (λ f. HasBytes f a.list.now y) c.look.ensures.same_files c.in_ok-source.ensures.opened.1)
+    c.in_ok-source.ensures.opened.0
+    c.in_ok-source.ensures.opened.1
     a.out.now (outside files (g.O.Sink.written a.output.now) (g.E.Sink.written a.errors.now)) new
     entries_line c.leave.result
     (subst (λ f. OnOk c.leave.result (Leaves (λ (n : ℕ). AddsList x y n) (λ (n : ℕ). AddsList x y n)
     entries_line a.out.now (outside f (g.O.Sink.written a.output.now)
     (g.E.Sink.written a.errors.now)) new))
-    (c.guard.ensures.same_files ∙ c.open_two.ensures.same_files ∙ c.look.ensures.same_files)
+    c.begin_with_two.ensures.same_files
     c.leave.ensures.left)
 
 pub returns-clause-failed : goal.returns-clause-failed
@@ -57,11 +39,11 @@ returns-clause-failed g c =
     (g.E.Sink.written c.leave.new.errors) in
     not_left_of_two (λ (k l : Option (List ℕ)) (n : ℕ). AddsList k l n)
     (λ (k l : Option (List ℕ)). AddListFails k l) files a.j.now a.list.now x y
-    (subst (λ f. HasBytes f a.j.now x) c.look.ensures.same_files c.in_ok-source.ensures.opened.0)
-    (subst (λ f. HasBytes f a.list.now y) c.look.ensures.same_files c.in_ok-source.ensures.opened.1)
+    c.in_ok-source.ensures.opened.0
+    c.in_ok-source.ensures.opened.1
     a.out.now (outside files (g.O.Sink.written a.output.now) (g.E.Sink.written a.errors.now)) new
     c.leave.result
     (subst (λ f. IfErr c.leave.result (FailsToLeave (λ (n : ℕ). AddsList x y n) (AddListFails x y)
     a.out.now (outside f (g.O.Sink.written a.output.now) (g.E.Sink.written a.errors.now)) new))
-    (c.guard.ensures.same_files ∙ c.open_two.ensures.same_files ∙ c.look.ensures.same_files)
+    c.begin_with_two.ensures.same_files
     c.leave.ensures.failed)

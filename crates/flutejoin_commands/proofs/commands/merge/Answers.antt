@@ -1,32 +1,13 @@
 -- What was merged, told by the two names.
-use Rattle.std.proofs.Common.{IfErr, ℕ, List, Option, inl, subst, ◌∙◌, rules}
+use Rattle.std.proofs.Common.{IfErr, ℕ, List, Option, subst}
 use Rattle.std.specs.Prelude.{OnOk}
 use Rattle.flute_journal.specs.Merges.{Merged}
 use Rattle.flutejoin.specs.Lines.{entries_line}
 use Rattle.flutejoin.specs.Merge.{MergeFails}
 use Rattle.flutejoin.specs.declared.limits.TheConstants.{MAX_ENTRIES}
-use Rattle.flutejoin_commands.specs.Files.{HasBytes}
-use Rattle.flutejoin_commands.specs.Named.{MergesNames, MergeNamesFails}
-use Rattle.flutejoin_commands.specs.Worlds.{Leaves, FailsToLeave, as_before, outside}
-use Rattle.flutejoin_commands.proofs.LeftFiles.{kept_same}
-use Rattle.flutejoin_commands.proofs.OfNames.{left_of_two, not_left_of_two, two_unopened}
+use Rattle.flutejoin_commands.specs.Worlds.{Leaves, FailsToLeave, outside}
+use Rattle.flutejoin_commands.proofs.OfNames.{left_of_two, not_left_of_two}
 use Rattle.flutejoin_commands.proofs.commands.merge.Goals as goal
-
-pub returns-in_err-first-clause-failed : goal.returns-in_err-first-clause-failed
-returns-in_err-first-clause-failed g c =
-    let files = g.W.Inputs.files c.args.world.now in
-    let a = c.args in
-    let now = g.W.Inputs.files c.open_two.new.inputs in
-    let o = g.O.Sink.written a.output.now in
-    let e = g.E.Sink.written a.errors.now in
-    let not : FailsToLeave {A = ℕ} (MergesNames files a.a.now a.b.now)
-    (MergeNamesFails files a.a.now a.b.now) a.out.now (outside files o e) (outside now o e)
-    c.in_err-first.field-0.0 =
-    as_before (inl (inl (two_unopened files (g.W.Inputs.files c.look.new.self)
-    a.a.now a.b.now c.in_err-first.field-0.0 c.look.ensures.same_files
-    c.in_err-first.ensures.failed)))
-    (kept_same a.out.now files now (c.open_two.ensures.same_files ∙ c.look.ensures.same_files)) in
-    search rules
 
 pub returns-clause-merged : goal.returns-clause-merged
 returns-clause-merged g c =
@@ -39,14 +20,14 @@ returns-clause-merged g c =
     (g.E.Sink.written c.leave.new.errors) in
     left_of_two (λ (k l : Option (List ℕ)) (n : ℕ). Merged MAX_ENTRIES n k l)
     (λ (k l : Option (List ℕ)). MergeFails k l) files a.a.now a.b.now x y
-    (subst (λ f. HasBytes f a.a.now x) c.look.ensures.same_files c.in_ok-first.ensures.opened.0)
-    (subst (λ f. HasBytes f a.b.now y) c.look.ensures.same_files c.in_ok-first.ensures.opened.1)
+    c.in_ok-first.ensures.opened.0
+    c.in_ok-first.ensures.opened.1
     a.out.now (outside files (g.O.Sink.written a.output.now) (g.E.Sink.written a.errors.now)) new
     entries_line c.leave.result
     (subst (λ f. OnOk c.leave.result (Leaves (λ (n : ℕ). Merged MAX_ENTRIES n x y)
     (λ (n : ℕ). Merged MAX_ENTRIES n x y) entries_line a.out.now
     (outside f (g.O.Sink.written a.output.now) (g.E.Sink.written a.errors.now)) new))
-    (c.guard.ensures.same_files ∙ c.open_two.ensures.same_files ∙ c.look.ensures.same_files)
+    c.begin_with_two.ensures.same_files
     c.leave.ensures.left)
 
 pub returns-clause-failed : goal.returns-clause-failed
@@ -60,12 +41,12 @@ returns-clause-failed g c =
     (g.E.Sink.written c.leave.new.errors) in
     not_left_of_two (λ (k l : Option (List ℕ)) (n : ℕ). Merged MAX_ENTRIES n k l)
     (λ (k l : Option (List ℕ)). MergeFails k l) files a.a.now a.b.now x y
-    (subst (λ f. HasBytes f a.a.now x) c.look.ensures.same_files c.in_ok-first.ensures.opened.0)
-    (subst (λ f. HasBytes f a.b.now y) c.look.ensures.same_files c.in_ok-first.ensures.opened.1)
+    c.in_ok-first.ensures.opened.0
+    c.in_ok-first.ensures.opened.1
     a.out.now (outside files (g.O.Sink.written a.output.now) (g.E.Sink.written a.errors.now)) new
     c.leave.result
     (subst (λ f. IfErr c.leave.result (FailsToLeave (λ (n : ℕ). Merged MAX_ENTRIES n x y)
     (MergeFails x y) a.out.now (outside f (g.O.Sink.written a.output.now)
     (g.E.Sink.written a.errors.now)) new))
-    (c.guard.ensures.same_files ∙ c.open_two.ensures.same_files ∙ c.look.ensures.same_files)
+    c.begin_with_two.ensures.same_files
     c.leave.ensures.failed)

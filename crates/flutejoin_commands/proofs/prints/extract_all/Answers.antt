@@ -1,25 +1,30 @@
--- Why there is no folder, told by the name of the journal.
-use Rattle.std.proofs.Common.{◌⊎◌, List, ℕ, Option}
+-- Why there is no folder, told by the names of the journal and the folder.
+use Rattle.std.proofs.Common.{◌⊎◌, List, ℕ, Option, IfErr, ap, subst, ◌∙◌}
 use Rattle.flute_output.specs.NewFolders.{Places}
 use Rattle.flutejoin.specs.declared.command_fault.CommandFault.{CommandFault}
 use Rattle.flutejoin_commands.specs.Folders.{FolderFails}
 use Rattle.flutejoin_commands.specs.Printed.{IsUnread}
 use Rattle.flutejoin_commands.specs.Worlds.{IsNotMade}
-use Rattle.flutejoin_commands.proofs.PrintedNames.{not_printed, of_places}
+use Rattle.flutejoin_commands.proofs.PrintedNames.{not_printed, of_place}
 use Rattle.flutejoin_commands.proofs.prints.extract_all.Goals as goal
 
 pub returns-clause-failed : goal.returns-clause-failed
 returns-clause-failed g c =
     let files = g.W.Inputs.files c.args.world.now in
+    let folder = g.W.Inputs.folders c.args.world.now c.args.out.now in
     let unread = g.W.Input.Source.unread in
-    let places = g.W.NewFolder.NewFolder.places in
+    let after = g.W.NewFolder.NewFolder.places c.extract_all_into.new.folder in
     let picked = c.args.picked.now in
+    let result = c.extract_all_into.result in
+    let left = unread c.extract_all_into.new.source in
     not_printed files c.args.j.now (unread c.in_ok-source.source) c.in_ok-source.ensures.opened
-    (λ (k l : Option (List ℕ)) (fault : CommandFault). (before : Option Places)
-    × (after : Option Places) × FolderFails k l picked before after fault)
+    (λ (k l : Option (List ℕ)) (fault : CommandFault). (a : Option Places)
+    × FolderFails k l picked folder a fault)
     (λ (fault : CommandFault). IsUnread files c.args.j.now fault ⊎ IsNotMade fault)
-    (unread c.extract_all_into.new.source) c.extract_all_into.result
-    (of_places (λ (b a : Option Places) (fault : CommandFault).
-    FolderFails (unread c.in_ok-source.source) (unread c.extract_all_into.new.source) picked b a
-    fault) (places c.in_ok-folder.folder) (places c.extract_all_into.new.folder)
-    c.extract_all_into.result c.extract_all_into.ensures.failed)
+    left result
+    (of_place (λ (a : Option Places) (fault : CommandFault).
+    FolderFails (unread c.in_ok-source.source) left picked folder a fault) after result
+    (subst (λ b. IfErr result
+    (FolderFails (unread c.in_ok-source.source) left picked b after))
+    (c.in_ok-folder.ensures.named ∙ ap (λ f. f c.args.out.now) c.open_input.ensures.same_folders)
+    c.extract_all_into.ensures.failed))

@@ -20,7 +20,8 @@ returns-in-Ok-clause-failed g c =
     (AddsToName files i.j.now i.key x) (AddToNameFails files i.j.now i.key x) i.out.now old
     new)) c.in-Ok.ensures.0 c.info.ensures.failed in
     let numbers = information i.length i.symbol i.block in
-    subst (λ l. IfErr c.info.result (FailsToDo l old new)) (sym i.is)
+    let fails = FailsToDo (g.W.Inputs.folders a.world.now) in
+    subst (λ l. IfErr c.info.result (fails l old new)) (sym i.is)
     (or_fails (λ (fault : CommandFault).
     (new ≡ old) × IsBadInformation i.length i.symbol i.block fault)
     (FailsToLeave {A = ℕ} (AddsToName files i.j.now i.key numbers)

@@ -1,0 +1,86 @@
+//! What comes before the work of a command with an output: its inputs are opened, and then what
+//! stands at OUT is looked at.
+ghost use Rattle.std.specs.Prelude.{◌≡◌, [], ◌∷◌, length, map, OnOk, IfOk, IfErr};
+ghost use Rattle.flutejoin_commands.specs.Files.{HasBytes};
+ghost use Rattle.flutejoin_commands.specs.Named.{IsBefore};
+ghost use Rattle.flutejoin_commands.specs.Opened.{AreOpened};
+ghost use Rattle.flutejoin_commands.specs.Worlds.{MayOverwrite};
+
+use crate::opening::{open_input, open_inputs, open_two};
+use crate::world::World;
+use flutejoin::{CommandFault, JoinInput, Overwrites};
+use std::alloc::Global;
+
+/// Opens the one input of a command with the output `out`.
+///
+/// # Errors
+///
+/// That it is not opened; then why OUT is not overwritten.
+pub fn begin<W: World>(
+    world: &mut W,
+    out: &str,
+    overwrites: Overwrites,
+    path: &str,
+) -> Result<W::Input, CommandFault>
+    ensures opened { IfOk result
+        (λ input. HasBytes (W.files world.old) path.now (W.Input.unread input)) }
+    ensures spared { OnOk result (MayOverwrite (W.files world.old) overwrites out.now) }
+    ensures failed { IfErr result (IsBefore (W.files world.old) (path.now ∷ [])) }
+    ensures same_files { W.files world.new ≡ W.files world.old }
+{
+    world.look(out);
+    let input = open_input(world, 1, path)?;
+    world.guard(out, overwrites)?;
+    Ok(input)
+}
+
+/// Opens the two inputs of a command with the output `out`, the first and then the second.
+///
+/// # Errors
+///
+/// The first that is not opened; then why OUT is not overwritten.
+pub fn begin_with_two<W: World>(
+    world: &mut W,
+    out: &str,
+    overwrites: Overwrites,
+    first: &str,
+    second: &str,
+) -> Result<(W::Input, W::Input), CommandFault>
+    ensures opened { IfOk result (λ both.
+        HasBytes (W.files world.old) first.now (W.Input.unread both.0)
+        × HasBytes (W.files world.old) second.now (W.Input.unread both.1)) }
+    ensures spared { OnOk result (MayOverwrite (W.files world.old) overwrites out.now) }
+    ensures failed { IfErr result (IsBefore (W.files world.old) (first.now ∷ second.now ∷ [])) }
+    ensures same_files { W.files world.new ≡ W.files world.old }
+{
+    world.look(out);
+    let both = open_two(world, first, second)?;
+    world.guard(out, overwrites)?;
+    Ok(both)
+}
+
+/// Opens the inputs of a join with the output `out`.
+///
+/// # Errors
+///
+/// Those of [`open_inputs`]; then why OUT is not overwritten.
+pub fn begin_join<W: World>(
+    world: &mut W,
+    alloc: Global,
+    out: &str,
+    overwrites: Overwrites,
+    paths: &[&str],
+) -> Result<Vec<JoinInput<W::Input>>, CommandFault>
+    ensures opened { IfOk result (λ opened. AreOpened (W.files world.old) W.Input.unread
+        (map (λ path. path.now) paths.now) opened.items) }
+    ensures spared { OnOk result (MayOverwrite (W.files world.old) overwrites out.now) }
+    ensures failed { IfErr result
+        (IsBefore (W.files world.old) (map (λ path. path.now) paths.now)) }
+    ensures same_files { W.files world.new ≡ W.files world.old }
+    ensures count { IfOk result (λ opened. length opened.items ≡ length paths.now) }
+{
+    world.look(out);
+    let inputs = open_inputs(world, alloc, paths)?;
+    world.guard(out, overwrites)?;
+    Ok(inputs)
+}
