@@ -20,12 +20,14 @@ _flutejoin_words() {
 # The options of a command, or of a tool
 _flutejoin_options() {
     case $1 in
-        packet | show | gaps) echo '--help' ;;
+        packet) echo '--help' ;;
+        show) echo '--conflicts --source --tsi --toi --fdt --help' ;;
+        gaps) echo '--source --tsi --toi --fdt --help' ;;
         extract) echo '-o --all --force --source --tsi --toi --fdt --help' ;;
         info)
             echo '-o --force --list --source --tsi --toi --fdt --length --symbol --block --help'
             ;;
-        join) echo '-o --force --source --tsi --help' ;;
+        join) echo '-o --force --source --tsi --toi --fdt --no-fdt --help' ;;
         merge) echo '-o --force --help' ;;
         forget)
             echo '-o --force --conflicts --source --tsi --toi --fdt --symbol --info --help'

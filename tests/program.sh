@@ -169,6 +169,51 @@ wc -c < out | tr -d ' ' > size
 mv size out
 check 'show of long symbols' 0 524466 ''
 
+# What is chosen of the entries, and of the objects.
+run show --conflicts conflict
+check 'show conflicts' 0 'session 7 object 1 info conflict
+entries 1' ''
+run show --conflicts whole
+check 'show conflicts where there is none' 0 'entries 0' ''
+run show --tsi 8 --tsi 7 --toi 1 symbol
+check 'show an object of one of two sessions' 0 "$first_line
+entries 1" ''
+run show --tsi 7 --toi 2 whole
+check 'show another object' 0 'entries 0' ''
+run show --source 0a000001 whole
+check 'show another sender' 0 'entries 0' ''
+run show --source :: symbol
+check 'show the sender zero' 0 "$first_line
+entries 1" ''
+run show --toi 0 --fdt 3 instance
+check 'show an FDT Instance' 0 'session 7 object fdt 3 symbol 0/0 length 1 3c
+entries 1' ''
+run show --toi 0 --fdt 4 instance
+check 'show another FDT Instance' 0 'entries 0' ''
+run show --fdt 3 whole
+check 'show an FDT Instance without the TOI 0' 2 '' 'bad key'
+run show --tsi x whole
+check 'show a session that is no number' 2 '' 'bad number: --tsi'
+run show --source nobody whole
+check 'show of a sender that is none' 2 '' 'bad source'
+run show --toi 2 bad
+check 'show nothing of a bad journal' 1 '' 'input 1: Trailing'
+run gaps --tsi 7 --toi 1 part
+check 'gaps of an object' 0 'session 7 object 1 partial missing 1 conflicting 0 misfit 0
+gap 0/1-1 missing' ''
+run gaps --toi 2 part
+check 'gaps of another object' 0 '' ''
+run gaps --source 0a000001 part
+check 'gaps of another sender' 0 '' ''
+run gaps --tsi 8 --tsi 9 part
+check 'gaps of other sessions' 0 '' ''
+run gaps --toi 1 --fdt 3 part
+check 'gaps of an FDT Instance that is a file' 2 '' 'bad key'
+run gaps --toi x --source nobody part
+check 'gaps of no object of no sender' 2 '' 'bad number: --toi'
+run gaps --toi 2 bad
+check 'gaps of nothing of a bad journal' 1 '' 'input 1: Trailing'
+
 run gaps whole
 check 'gaps of a whole object' 0 'session 7 object 1 whole 5' ''
 run gaps part
@@ -956,6 +1001,83 @@ check 'join of two sessions' 0 'datagrams 132
 refused 0
 others 128
 entries 6' ''
+# Only the objects that are asked for: an FDT Instance and a file beside them, and a file of the
+# same TOI of another session.
+cut='--symbol 4 --block 2 content'
+"$program" carousel -o instance_sent --tsi 7 --toi 0 --fdt 3 $cut > /dev/null
+"$program" carousel -o second_sent --tsi 7 --toi 2 $cut > /dev/null
+"$program" carousel -o eighth_sent --tsi 8 --toi 1 $cut > /dev/null
+(cat sent; tail -c +7 instance_sent; tail -c +7 second_sent; tail -c +7 eighth_sent) > objects_sent
+"$program" join -o objects_joined objects_sent > /dev/null
+"$program" join -o files_joined sent second_sent eighth_sent > /dev/null
+"$program" join -o instance_joined instance_sent > /dev/null
+"$program" join -o first_joined sent eighth_sent > /dev/null
+# asked OPTIONS DATAGRAMS ENTRIES LEFT WANTED: so many datagrams and entries of others there are,
+# and so many entries are left, as in WANTED: of datagrams, of their journal, and of both
+asked() {
+    : > got
+    run join -o got $1 objects_sent
+    check "join of datagrams with $1" 0 "datagrams 8
+refused 0
+others $2
+entries $4" ''
+    same "the journal of datagrams with $1" got "$5"
+    : > got
+    run join -o got $1 objects_joined
+    check "join of a journal with $1" 0 "datagrams 0
+refused 0
+others $3
+entries $4" ''
+    same "the journal of a journal with $1" got "$5"
+    : > got
+    run join -o got objects_joined $1 objects_sent
+    check "join of a journal and datagrams with $1" 0 "datagrams 8
+refused 0
+others $(($2 + $3))
+entries $4" ''
+    same "the journal of both with $1" got "$5"
+}
+asked '--no-fdt' 2 3 9 files_joined
+asked '--toi 1' 4 6 6 first_joined
+asked '--tsi 7 --toi 1' 6 9 3 whole2
+asked '--tsi 7 --tsi 9 --toi 1 --no-fdt' 6 9 3 whole2
+asked '--toi 0 --fdt 3' 6 9 3 instance_joined
+asked '--tsi 7 --toi 0 --fdt 3' 6 9 3 instance_joined
+asked '--tsi 8 --toi 0 --fdt 3' 8 12 0 empty2
+asked '--toi 0 --fdt 4' 8 12 0 empty2
+asked '--no-fdt --toi 0 --fdt 3' 8 12 0 empty2
+asked '--toi 3' 8 12 0 empty2
+run join -o got --no-fdt sent refused
+check 'join of files alone, and of a refused datagram' 0 'datagrams 3
+refused 1
+others 0
+entries 3' ''
+same 'the journal of files alone' got whole2
+run join -o objects_joined --no-fdt objects_joined
+check 'join of files alone in place' 0 'datagrams 0
+refused 0
+others 3
+entries 9' ''
+same 'the journal of files alone, in place' objects_joined files_joined
+run join -o got8 --toi 9 cut
+check 'join of another object of a file at fault' 1 '' 'input 1: Cut'
+run join -o got8 --no-fdt bad
+check 'join of files alone of a journal at fault' 1 '' 'input 1: Trailing'
+run join -o got8 --toi x --fdt y missing
+check 'join of a TOI that is no number' 2 '' 'bad number: --toi'
+run join -o got8 --toi 0 --fdt 1048576 missing
+check 'join of an FDT Instance of too many bits' 2 '' 'bad number: --fdt'
+run join -o got8 --fdt 3 missing
+check 'join of an FDT Instance without its TOI' 2 '' 'bad key'
+run join -o got8 --toi 1 --fdt 3 missing
+check 'join of an FDT Instance of a file' 2 '' 'bad key'
+run join -o got8 --toi 0 --no-fdt missing
+check 'join of the TOI 0 alone' 2 '' 'bad key'
+run join -o got8 --toi 0 --source x missing
+check 'join of the TOI 0 alone, and of no sender' 2 '' 'bad source'
+run join -o got8 --no-fdt --no-fdt missing
+check 'join of files alone, told twice' 2 '' -
+holds 'no file after a fault of a join of objects' [ ! -e got8 ]
 # The same of journals: 64 sessions, and 65 that no store holds.
 (head -c 6 sent; head -c $(($(wc -c < strays.body) / 65 * 64)) strays.body) > strays64
 run join -o journal64 strays64
@@ -1184,7 +1306,7 @@ run join -o kept --tsi -1 sent
 told_first 'a session that is an option' "unexpected argument '-1' found"
 run join -o kept --tsi=-1 sent
 check 'a session behind its option' 2 '' 'bad number: --tsi'
-for words in 'show three' 'gaps three' 'merge -o kept three three' "packet $symbol" \
+for words in 'merge -o kept three three' "packet $symbol" \
     'carousel -o kept --tsi 7 --toi 1 --symbol 4 --block 2 content'; do
     run $words --source 0A000001
     told_first "a source behind $words" "unexpected argument '--source' found"

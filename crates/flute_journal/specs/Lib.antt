@@ -36,7 +36,8 @@ pub mod FactStreams
 pub mod Kinds
 pub mod OwnedStreams
 pub mod Sessions
+pub mod Scopes
 pub mod Selections
 pub mod ChosenStreams
-pub mod SessionExamples
+pub mod ScopeExamples
 pub mod Chains

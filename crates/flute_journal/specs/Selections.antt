@@ -1,27 +1,21 @@
 -- Facts that are selected by their addresses and kinds.
 use Rattle.std.specs.Prelude.{ℕ, Bool, true, false, not, ◌&&◌, ◌||◌, ◌==◌, Option, Some, None}
-use Rattle.std.specs.Prelude.{List, filter, is_some, length, nat_eq}
+use Rattle.std.specs.Prelude.{List, filter, is_some}
 use Rattle.std.specs.List.{count_by}
 use Rattle.flute_parts.specs.Addresses.{address}
-use Rattle.flute_parts.specs.Order.{same_object}
 use Rattle.flute_parts.specs.declared.address.Part.{Part}
 use Rattle.flute_parts.specs.declared.address.Part.TheVariants.{Info as InfoPart, Symbol}
 use Rattle.flute_parts.specs.declared.fact.Fact.{Fact}
 use Rattle.flute_parts.specs.declared.fact.Fact.TheVariants.{InfoConflict, SymbolConflict}
 use Rattle.flute_parts.specs.declared.key.Key.{Key}
-use Rattle.flute_parts.specs.declared.object_key.ObjectName.{ObjectName}
 use Rattle.flute_parts.specs.declared.symbol_id.SymbolId.{SymbolId}
-use Rattle.flute_journal.specs.Sessions.{listed_tsis, takes}
+use Rattle.flute_journal.specs.Scopes.{is_all, takes_key}
 use Rattle.flute_journal.specs.declared.selection.Selection.{Selection}
 
 -- it is this one, or any is meant
 abbrev pub selects_sender : Option ℕ → ℕ → Bool
 selects_sender None sender = true
 selects_sender (Some one) sender = sender == one
-
-abbrev pub selects_object : Option ObjectName → ObjectName → Bool
-selects_object None object = true
-selects_object (Some one) object = same_object one object
 
 abbrev pub selects_symbol : Option SymbolId → Part → Bool
 selects_symbol None part = true
@@ -46,12 +40,9 @@ is_conflict fact = false
 abbrev pub selects_kind : Bool → Fact → Bool
 selects_kind conflicts fact = not conflicts || is_conflict fact
 
--- the object is of the sender and the sessions, and is the object, that are meant
+-- the object is of the sender that is meant, and is taken
 abbrev pub selects_key : Selection → Key → Bool
-selects_key s key =
-    selects_sender s.sender key.session.sender
-    && takes (listed_tsis s.sessions) key.session.tsi
-    && selects_object s.object key.object
+selects_key s key = selects_sender s.sender key.session.sender && takes_key s.scope key
 
 -- the fact is selected: its object, its part of that, and its kind are meant
 abbrev pub selects : Selection → Fact → Bool
@@ -62,8 +53,8 @@ selects s fact =
 -- nothing narrows it
 abbrev pub is_everything : Selection → Bool
 is_everything s =
-    not (is_some s.sender) && nat_eq (length (listed_tsis s.sessions)) 0
-    && not (is_some s.object) && not (is_some s.symbol) && not s.info && not s.conflicts
+    not (is_some s.sender) && is_all s.scope && not (is_some s.symbol) && not s.info
+    && not s.conflicts
 
 -- a fact is not selected
 abbrev pub leaves : Selection → Fact → Bool

@@ -189,7 +189,7 @@ fn merge_into<const SESSIONS: u32, const OBJECTS: u32, const SYMBOLS: u32, G: St
         }
         let place = fact.address();
         within = count_place(&mut tally, within, &place);
-        if let Err(fault) = lead.advance(alloc, streams, place) {
+        if let Err(fault) = lead.advance::<G, W>(alloc, streams, place) {
             return Err(StreamsFault::Input(fault));
         }
         entries += 1;

@@ -13,7 +13,7 @@ use crate::advance::advance_at;
 use crate::lowest::lowest_held;
 use crate::streams::Streams;
 use crate::streams_fault::InputFault;
-use flute_parts::{Address, FactRef};
+use flute_parts::{Address, FactRef, Sink};
 use std::alloc::Global;
 
 /// The stream that leads: it holds a fact below those of all others.
@@ -57,13 +57,15 @@ impl Lead {
         }
     }
 
-    /// Advances each stream that holds a fact at this address, the lowest, in their order.
+    /// Advances each stream that holds a fact at this address, the lowest, in their order, once it
+    /// was written to a sink of the kind `W`: the loop of each kind has a step of its own, which is
+    /// inlined.
     ///
     /// # Errors
     ///
     /// The fault of the first that stopped. Those after it are as they were.
     #[inline(always)]
-    pub fn advance<G: Streams>(
+    pub fn advance<G: Streams, W: Sink>(
         &mut self,
         alloc: Global,
         streams: &mut G,

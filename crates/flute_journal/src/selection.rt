@@ -3,21 +3,19 @@ ghost use Rattle.std.specs.Prelude.{◌≡◌, true};
 ghost use Rattle.flute_parts.specs.Addresses.{fact_of};
 ghost use Rattle.flute_parts.specs.declared.fact.Fact.{Fact};
 ghost use Rattle.flute_journal.specs.Selections.{is_everything, selects, selects_key, selects_kind};
-ghost use Rattle.flute_journal.specs.Selections.{selects_info, selects_object, selects_symbol};
+ghost use Rattle.flute_journal.specs.Selections.{selects_info, selects_symbol};
 
 use crate::choice::Choice;
-use crate::sessions::Sessions;
-use flute_parts::{FactRef, Key, ObjectKey, Part, Sender, SymbolId};
+use crate::scope::Scope;
+use flute_parts::{FactRef, Key, Part, Sender, SymbolId};
 
 /// Which facts are selected. Each field narrows the others.
 #[derive(Clone, Copy, Debug, PartialEq, Eq)]
 pub struct Selection {
     /// Those of this sender, or of any.
     pub sender: Option<Sender>,
-    /// Those of these sessions.
-    pub sessions: Sessions,
-    /// Those of this object, or of any.
-    pub object: Option<ObjectKey>,
+    /// Those of these objects.
+    pub scope: Scope,
     /// Only this symbol of objects.
     pub symbol: Option<SymbolId>,
     /// Only the information of objects.
@@ -33,8 +31,7 @@ impl Selection {
     {
         Selection {
             sender: None,
-            sessions: Sessions::all(),
-            object: None,
+            scope: Scope::all(),
             symbol: None,
             info: false,
             conflicts: false,
@@ -46,8 +43,7 @@ impl Selection {
         ensures { result ≡ is_everything self.now }
     {
         self.sender.is_none()
-            && self.sessions.is_all()
-            && self.object.is_none()
+            && self.scope.is_all()
             && self.symbol.is_none()
             && !self.info
             && !self.conflicts
@@ -74,17 +70,7 @@ impl Selection {
             Some(sender) => key.session.sender() == sender,
             None => true,
         };
-        is_sender && self.sessions.takes(key.session.tsi()) && self.has_object(&key.object)
-    }
-
-    #[inline(always)]
-    fn has_object(&self, object: &ObjectKey) -> bool
-        ensures { result ≡ selects_object self.now.object object.now }
-    {
-        match self.object {
-            Some(one) => one == *object,
-            None => true,
-        }
+        is_sender && self.scope.takes(key)
     }
 
     // Whether facts of this part may be.

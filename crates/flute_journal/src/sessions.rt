@@ -2,9 +2,6 @@
 ghost use Rattle.std.specs.Prelude.{◌≡◌, ◌++◌, ◌∷◌, [], true, false, length, nat_eq};
 ghost use Rattle.flute_journal.specs.Sessions.{listed_tsis, takes};
 
-use crate::choice::Choice;
-use flute_parts::FactRef;
-
 /// The sessions whose entries and datagrams are taken: all, or those with one of at most 64
 /// Transport Session Identifiers (RFC 5651, section 5.1), whoever their sender is.
 #[derive(Clone, Copy, Debug, PartialEq, Eq)]
@@ -53,17 +50,5 @@ impl Sessions {
     {
         let listed = &self.tsis[..self.count.min(64)];
         listed.is_empty() || listed.contains(&tsi)
-    }
-}
-
-/// The facts of these sessions are taken.
-impl Choice for Sessions {
-    ghost use Rattle.flute_journal.specs.Sessions.{of_sessions};
-
-    ghost takes = { of_sessions };
-
-    #[inline(always)]
-    fn takes_fact(&self, fact: &FactRef<'_>) -> bool {
-        self.takes(fact.address().key.session.tsi())
     }
 }

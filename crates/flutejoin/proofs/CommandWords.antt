@@ -2,6 +2,8 @@
 use Rattle.std.proofs.Common.{◌≡◌, ◌<◌, ◌≤◌, ◌^◌, ℕ, Bool, true, false, ◌&&◌, List, [], length, map}
 use Rattle.std.proofs.Common.{Option, Some, None, option_map, unwrap_or, nat_lt, nat_le, Result, Ok}
 use Rattle.std.proofs.Common.{Err, Bor, refl, sym, ap, ap₂, ◌∙◌, rules, true≢false}
+use Rattle.std.specs.Prelude.{Box}
+use Rattle.std.specs.Box.{box_value}
 use Rattle.std.specs.Char.{is_ascii_digit}
 use Rattle.std.specs.List.{list_all}
 use Rattle.std.specs.Result.{result_ok}
@@ -11,7 +13,11 @@ use Rattle.std.proofs.Math.Bool.{and-false}
 use Rattle.std.proofs.lemmas.List.{length-map}
 use Rattle.std.proofs.lemmas.Str.Parse.{IsNumeralModel, numerals_by_value, parse_digits}
 use Rattle.clap.specs.Matches.{found_of, matched_of, raw_values}
+use Rattle.clap.specs.Simple.{subcommand_rows}
+use Rattle.clap.specs.Walk.{Row, Text, rows_of}
 use Rattle.clap.specs.declared.parser.matches.ArgMatches.{ArgMatches}
+use Rattle.clap.specs.declared.parser.matches.ArgMatches.TheViews.{out-SubCommand}
+use Rattle.clap.specs.declared.parser.matches.SubCommand.{SubCommand}
 use Rattle.clap.proofs.WalkLemmas.{raw_values-rows}
 use Rattle.flutejoin.specs.Options.{found_rows, is_numeral, number_in, times_of, words}
 
@@ -95,3 +101,15 @@ not_digits text is = rw (is, and-false (nat_le (length text) 39)) (and-false _)
 pub no_number : (text : List ℕ) → is_numeral text ≡ false → None ≡ number_in text
 unfolding number_in
 no_number text is = rw is refl
+
+-- the command that was found, by its name and what was found for its arguments
+pub command_found : {Z : Type 0} (found : Option (Box SubCommand Z)) (name : Text)
+    (rows : List Row)
+    → Some name ≡ option_map (λ b. (out-SubCommand (box_value b)).name.now) found
+    → Some rows ≡ option_map (λ p. p.1) (subcommand_rows found)
+    → Some (name, rows) ≡ subcommand_rows found
+command_found None name rows n r = absurd cc
+command_found (Some found) name rows n r =
+    let e : name ≡ (out-SubCommand (box_value found)).name.now = cc in
+    let f : rows ≡ rows_of (found_of (out-SubCommand (box_value found)).matches) = cc in
+    λ i. Some (e i, f i)

@@ -1,17 +1,15 @@
 -- A journal of which the whole objects that are picked become files as it is read.
-use Rattle.std.proofs.Common.{◌≡◌, ℕ, ◌+◌, ◌<◌, ◌≤◌, ◌^◌, Bool, true, false, List, [], ◌∷◌, ◌++◌}
+use Rattle.std.proofs.Common.{◌≡◌, ℕ, ◌+◌, ◌<◌, ◌≤◌, ◌^◌, true, false, List, [], ◌∷◌, ◌++◌}
 use Rattle.std.proofs.Common.{length, arith, Option, None, Result, Ok, Err, inl, inr, refl, sym, ap}
 use Rattle.std.proofs.Common.{◌∙◌, subst, append-nil}
 use Rattle.std.specs.Prelude.{IfSome, IfOk, IfErr, filter}
 use Rattle.std.specs.Io.KnownBytes.{IsAtEnd}
-use Rattle.std.proofs.lemmas.Bool.{cases_Bool}
 use Rattle.std.proofs.lemmas.List.{length-append}
 use Rattle.std.proofs.lemmas.List.Elements.{filter-append}
 use Rattle.flute_parts.specs.Addresses.{address}
-use Rattle.flute_parts.specs.Facts.{IsRising, StandAfter}
+use Rattle.flute_parts.specs.Facts.{IsRising}
 use Rattle.flute_parts.specs.Limits.{Over}
 use Rattle.flute_parts.specs.Tally.{Counts}
-use Rattle.flute_parts.specs.declared.address.Address.{Address}
 use Rattle.flute_parts.specs.declared.fact.Fact.{Fact}
 use Rattle.flute_parts.specs.declared.tally.Tally.{Tally}
 use Rattle.flute_parts.proofs.Public.{Same-itself}
@@ -34,6 +32,7 @@ use Rattle.flutejoin.specs.declared.command_fault.CommandFault.TheVariants.{Inpu
 use Rattle.flutejoin.specs.declared.limits.TheConstants.{MAX_ENTRIES}
 use Rattle.flutejoin.specs.declared.object_files.ObjectFiles.{ObjectFiles}
 use Rattle.flutejoin.specs.declared.picked.Picked.{Picked}
+use Rattle.flutejoin.proofs.SelectedFacts.{rising_picked}
 use Rattle.flutejoin.proofs.Shown.{whole}
 
 pub if_ok : {T E : Type 0} {P Q : T → Type 0} (r : Result T E) → ((x : T) → P x → Q x) → IfOk r P →
@@ -47,22 +46,6 @@ if_err (Ok x) f h = h
 if_err (Err e) f h = f e h
 
 -- ---- the facts that are picked
-
-after_picked : (p : Fact → Bool) (a : Address) (facts : List Fact) → StandAfter a facts →
-    StandAfter a (filter p facts)
-after_picked p a [] s = tt
-after_picked p a (f ∷ facts) s = elim (cases_Bool (p f)) [
-  | inl t ↦ rw t (s.0, after_picked p a facts s.1)
-  | inr t ↦ rw t (after_picked p a facts s.1)
-]
-
-pub rising_picked : (p : Fact → Bool) (facts : List Fact) → IsRising facts → IsRising
-    (filter p facts)
-rising_picked p [] r = tt
-rising_picked p (f ∷ facts) r = elim (cases_Bool (p f)) [
-  | inl t ↦ rw t (after_picked p (address f) facts r.0, rising_picked p facts r.1)
-  | inr t ↦ rw t (rising_picked p facts r.1)
-]
 
 module _ (picked : Picked) (F : List Fact) (f : Fact) where
   pub one_picked : is_picked picked (address f).key ≡ true → picked_facts picked (F ++ f ∷ []) ≡

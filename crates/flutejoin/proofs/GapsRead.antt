@@ -15,17 +15,21 @@ use Rattle.flute_journal.specs.declared.entry_fields.Before.{Before}
 use Rattle.flute_journal.specs.declared.reader_state.ReaderState.TheVariants.{Header}
 use Rattle.flute_journal.specs.Framing.{GivesItem, GivesEnd, GivesFault, Sofar}
 use Rattle.flute_journal.specs.JournalFraming.{journal_framing}
+use Rattle.flute_journal.specs.Selections.{selects}
 use Rattle.flute_journal.specs.declared.format.version.Version.TheVariants.{Two}
+use Rattle.flute_journal.specs.declared.selection.Selection.{Selection}
 use Rattle.flute_journal.proofs.Public.{loaded-over, side-from, journal_sound, sofar-next}
 use Rattle.flute_journal.proofs.Public.{sofar-none, sofar-stops}
 use Rattle.flutejoin.specs.Gaps.{ListsJournal, ReadsWithin}
 use Rattle.flutejoin.specs.Load.{LoadFails}
-use Rattle.flutejoin.specs.Listing.{AreListed, Lists, ListsWith, CanAdd}
+use Rattle.flutejoin.specs.Listing.{AreListed, CanAddSelected, Lists, ListsWith}
+use Rattle.flutejoin.specs.Selected.{selected}
 use Rattle.flutejoin.specs.Shelves.{BeginsOverShelf}
 use Rattle.flutejoin.specs.declared.command_fault.CommandFault.TheVariants.{Input}
 use Rattle.flutejoin.specs.declared.limits.TheConstants.{MAX_ENTRIES}
 use Rattle.flutejoin.specs.declared.listing.Listing.{Listing}
 use Rattle.flutejoin.specs.declared.listing.OpenObject.{OpenObject}
+use Rattle.flutejoin.proofs.SelectedFacts.{rising_picked}
 use Rattle.flutejoin.proofs.Shown.{whole}
 
 -- what is put aside: lines, and those of the gaps of the open object
@@ -43,13 +47,13 @@ ListsAll F listing first aside =
     (known : Bool) → IsKnown known first
     → Lists known F listing.open aside.lines aside.gap_lines
 
--- these entries were read, counted and listed, and nothing else
-pub record ListsRead (first now : Option (List ℕ)) (state : ReaderState Before)
+-- these entries were read and counted, and nothing else; those that are selected were listed
+pub record ListsRead (choice : Selection) (first now : Option (List ℕ)) (state : ReaderState Before)
     (tally : Tally 64 4096 1048576) (listing : Listing) (empty aside : PutAside) : Type 0 where
   pub entries : List Fact
   pub sofar : Sofar journal_framing MAX_ENTRIES first now state entries
   pub counts : Counts 64 4096 1048576 entries tally
-  pub lists : ListsAll entries listing empty aside
+  pub lists : ListsAll (selected choice entries) listing empty aside
 
 pub none_listed_yet : (listing : Listing) (empty : PutAside) → listing.open ≡ None
     → ListsAll [] listing empty empty
@@ -62,11 +66,11 @@ none_listed_yet listing empty e = λ known is. record {
   gap_lines_known = λ k. (is k).1;
 }
 
-pub none_read : (u v : Option (List ℕ)) (state : ReaderState Before) (tally : Tally 64 4096 1048576)
-    (listing : Listing) (empty : PutAside) → v ≡ u → state ≡ Header
-    → Counts 64 4096 1048576 [] tally → listing.open ≡ None
-    → ListsRead u v state tally listing empty empty
-none_read u v state tally listing empty e is c l = record {
+pub none_read : (choice : Selection) (u v : Option (List ℕ)) (state : ReaderState Before)
+    (tally : Tally 64 4096 1048576) (listing : Listing) (empty : PutAside) → v ≡ u
+    → state ≡ Header → Counts 64 4096 1048576 [] tally → listing.open ≡ None
+    → ListsRead choice u v state tally listing empty empty
+none_read choice u v state tally listing empty e is c l = record {
   entries = [];
   sofar = subst (λ (x : Option (List ℕ)). Sofar journal_framing MAX_ENTRIES u x state []) (sym e)
       (subst (λ (x : ReaderState Before). Sofar journal_framing MAX_ENTRIES u u x []) (sym is)
@@ -75,11 +79,12 @@ none_read u v state tally listing empty e is c l = record {
   lists = none_listed_yet listing empty l;
 }
 
-module _ {u v : Option (List ℕ)} (w : Option (List ℕ)) {from : ReaderState Before}
-    (to : ReaderState Before) {tally : Tally 64 4096 1048576} {listing : Listing}
-    {empty aside : PutAside} (h : ListsRead u v from tally listing empty aside) where
+module _ {choice : Selection} {u v : Option (List ℕ)} (w : Option (List ℕ))
+    {from : ReaderState Before} (to : ReaderState Before) {tally : Tally 64 4096 1048576} {listing : Listing}
+    {empty aside : PutAside} (h : ListsRead choice u v from tally listing empty aside) where
   -- what the open object is, whatever is known of what was put aside
-  pub is_open : (lines gap_lines : List ℕ) × ListsWith h.entries lines gap_lines listing.open
+  pub is_open : (lines gap_lines : List ℕ)
+      × ListsWith (selected choice h.entries) lines gap_lines listing.open
   is_open =
       let l = h.lists false (λ is. absurd cc) in
       (l.lines, l.gap_lines, l.lists)
@@ -91,9 +96,10 @@ module _ {u v : Option (List ℕ)} (w : Option (List ℕ)) {from : ReaderState B
 
     pub one_more_read : (tally' : Tally 64 4096 1048576) (listing' : Listing) (aside' : PutAside)
         → Counts 64 4096 1048576 (h.entries ++ f ∷ []) tally'
-        → ((known : Bool) → Lists known h.entries listing.open aside.lines aside.gap_lines
-        → Lists known (h.entries ++ f ∷ []) listing'.open aside'.lines aside'.gap_lines)
-        → ListsRead u w to tally' listing' empty aside'
+        → ((known : Bool)
+        → Lists known (selected choice h.entries) listing.open aside.lines aside.gap_lines
+        → Lists known (selected choice (h.entries ++ f ∷ [])) listing'.open aside'.lines
+        aside'.gap_lines) → ListsRead choice u w to tally' listing' empty aside'
     one_more_read tally' listing' aside' c l = record {
       entries = h.entries ++ f ∷ [];
       sofar = sofar-next journal_sound MAX_ENTRIES u v w from to h.entries f h.sofar g;
@@ -101,7 +107,7 @@ module _ {u v : Option (List ℕ)} (w : Option (List ℕ)) {from : ReaderState B
       lists = λ known is. l known (h.lists known is);
     }
 
-    pub can_add : CanAdd f listing.open
+    pub can_add : CanAddSelected choice f listing.open
     can_add = (h.entries, entry_rises, is_open)
 
     -- an entry more was read, within the limits
@@ -146,8 +152,8 @@ module _ {u v : Option (List ℕ)} (w : Option (List ℕ)) {from : ReaderState B
       read = inr (whole u v w from to h.entries h.sofar g, end_read);
     }
 
-    pub all_read : (lines : List ℕ) → AreListed h.entries lines
-        → ListsJournal u (λ all. lines ≡ all)
+    pub all_read : (lines : List ℕ) → AreListed (selected choice h.entries) lines
+        → ListsJournal choice u (λ all. lines ≡ all)
     all_read lines l = record {
       entries = h.entries;
       journal = whole u v w from to h.entries h.sofar g;
@@ -155,13 +161,13 @@ module _ {u v : Option (List ℕ)} (w : Option (List ℕ)) {from : ReaderState B
       lines = l;
     }
 
-  pub read_rises : IsRising h.entries
-  read_rises = h.sofar.are_items.in_order
+  pub read_rises : IsRising (selected choice h.entries)
+  read_rises = rising_picked (selects choice) h.entries h.sofar.are_items.in_order
 
 -- P holds of the lines, if it does of these
-pub of_lines : (u : Option (List ℕ)) (lines : List ℕ) (P : List ℕ → Type 0)
-    → ListsJournal u (λ all. lines ≡ all) → P lines → ListsJournal u P
-of_lines u lines P h p = record {
+pub of_lines : (choice : Selection) (u : Option (List ℕ)) (lines : List ℕ) (P : List ℕ → Type 0)
+    → ListsJournal choice u (λ all. lines ≡ all) → P lines → ListsJournal choice u P
+of_lines choice u lines P h p = record {
   entries = h.entries;
   journal = h.journal;
   within = h.within;

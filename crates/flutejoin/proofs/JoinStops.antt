@@ -18,7 +18,7 @@ use Rattle.flute_journal.specs.Chains.{chained, taken}
 use Rattle.flute_journal.specs.JournalFraming.{journal_framing}
 use Rattle.flute_journal.specs.JournalWriters.{PutsJournal}
 use Rattle.flute_journal.specs.Kinds.{HasKind, IsNeither}
-use Rattle.flute_journal.specs.Sessions.{is_chosen}
+use Rattle.flute_journal.specs.Scopes.{is_chosen}
 use Rattle.flute_journal.specs.Streams.{Behaviour}
 use Rattle.flute_journal.specs.FirstFaults.{FirstFault, IsStopOf, TellBefore}
 use Rattle.flute_journal.specs.StreamMerges.{IsWithinLimits, NoneFails, AppendsNoJournal}
@@ -393,7 +393,7 @@ not_inspected {choice} inputs fault h = go h.1.here
     go (of_a_file kind fails) =
         file_not_held (λ bytes. InspectionFails h.0 bytes fault) inputs h.0 h.1 fault kind fails
 
--- inputs tell no more than so much of other sessions
+-- inputs tell no more than so much of other objects
 others_few : (choice : Choice) (inputs : List (List ℕ)) (told : List InputContent)
     → TellAll inputs told → sum_by (content_others choice) told ≤ length inputs * 16777216
 unfolding TellAll
@@ -407,7 +407,7 @@ others_few choice (bytes ∷ inputs) (x ∷ told) h =
   where
     one : (x : InputContent) → Tells bytes x → content_others choice x ≤ 16777216
     one (of_journal entries) k =
-        let few = count_by-le-length (λ f. not (is_chosen choice.tsis f)) entries in
+        let few = count_by-le-length (λ f. not (is_chosen choice.takes f)) entries in
         omega (arith, few, k.are_items.few)
     one (of_file datagrams) k =
         let few = count_by-le-length (is_of_others choice) datagrams in

@@ -16,7 +16,7 @@ use Rattle.flute_journal.specs.Chains.{chained, taken}
 use Rattle.flute_journal.specs.FirstFaults.{TellBefore}
 use Rattle.flute_journal.specs.Journal.{IsJournalWithin}
 use Rattle.flute_journal.specs.JournalWriters.{PutsJournal}
-use Rattle.flute_journal.specs.Sessions.{listed_tsis, is_chosen, chosen, others_in}
+use Rattle.flute_journal.specs.Scopes.{takes_key, is_chosen, chosen, others_in}
 use Rattle.flute_journal.specs.StreamMerges.{all_of, EachSince, EndsMerged, IsWithinLimits}
 use Rattle.flute_journal.specs.Listed.{listed_behaviour}
 use Rattle.flute_journal.specs.Streams.{Behaviour, IsNew, most_of, option_list}
@@ -148,12 +148,12 @@ module _ {R : Type 0} (unread : R → Option (List ℕ)) (failures : R → ℕ) 
         let Q : ℕ → Type 0 = λ n. IsJournalWithin n bytes all in
         let journal : IsJournalWithin MAX_ENTRIES bytes all =
         subst Q ready.3 (subst P inspected.2 h.1.0) in
-        let is : F ≡ chosen choice.tsis all =
-        h.2 ∙ ap (λ tsis. chosen tsis all) inspected.3 in
-        let few = count_by-le-length (λ f. not (is_chosen (listed_tsis x.choice) f)) all in
-        let count : y.others ≡ x.others + others_in (listed_tsis x.choice) all =
+        let is : F ≡ chosen choice.takes all =
+        h.2 ∙ ap (λ takes. chosen takes all) inspected.3 in
+        let few = count_by-le-length (λ f. not (is_chosen (takes_key x.choice) f)) all in
+        let count : y.others ≡ x.others + others_in (takes_key x.choice) all =
         h.1.1 (omega (arith, ready.0, few, journal.are_items.few)) in
-        let same = ap (λ tsis. others_in tsis all) inspected.3 in
+        let same = ap (λ takes. others_in takes all) inspected.3 in
         let none = ap (count_by (is_of_others choice)) inspected.0 in
         record {
           told = of_journal all;

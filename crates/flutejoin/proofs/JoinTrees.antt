@@ -1,11 +1,12 @@
 -- Joins of what joins wrote.
 use Rattle.std.proofs.Common.{◌≡◌, ℕ, List, [], ◌∷◌, None, inl, inr, refl, sym, ap, ◌∙◌, subst, append-nil, arith}
-use Rattle.std.specs.Prelude.{slice_index, true, false}
+use Rattle.std.specs.Prelude.{slice_index, Bool, true, false}
 use Rattle.std.specs.List.{flat_map}
 use Rattle.std.proofs.lemmas.Bool.{cases_Bool, false≢true}
 use Rattle.std.proofs.lemmas.List.{append_cancel_left}
 use Rattle.flute_parts.specs.declared.address.Address.{Address}
 use Rattle.flute_parts.specs.declared.fact.Fact.{Fact}
+use Rattle.flute_parts.specs.declared.key.Key.{Key}
 use Rattle.flute_parts.specs.Addresses.{address}
 use Rattle.flute_parts.specs.Equality.{address_same}
 use Rattle.flute_parts.specs.Facts.{fact_at, Same}
@@ -13,25 +14,25 @@ use Rattle.flute_parts.specs.Order.{same_address}
 use Rattle.flute_parts.proofs.Public.{alone, fact_at-cons, fact_at-elsewhere, fact_at-nil, joined, Same-append, Same-itself, Same-sym, Same-trans}
 use Rattle.flute_journal.specs.Journal.{IsJournal, IsJournalWithin, Journal}
 use Rattle.flute_journal.specs.Records.{IsFileOf, IsFileWithin}
-use Rattle.flute_journal.specs.Sessions.{takes, is_chosen, chosen}
+use Rattle.flute_journal.specs.Scopes.{is_chosen, chosen}
 use Rattle.flute_journal.proofs.Public.{written_journal}
 use Rattle.flutejoin.specs.Joined.{Choice, InputContent, of_journal, of_file, content_facts, Tells, TellAll}
 use Rattle.flutejoin.specs.JoinTrees.{Joined, Inputs, none, leaf, node, bytes_of, AreMade, leaf_facts}
 use Rattle.flutejoin.specs.declared.limits.TheConstants.{MAX_ENTRIES}
 use Rattle.flutejoin.proofs.Receptions.{IsJournal-from_within, Journal-only, Same-from_journals}
 
--- What facts come to of the sessions that are taken.
+-- What facts come to of the objects that are taken.
 
-module _ (tsis : List ℕ) (a : Address) where
+module _ (takes : Key → Bool) (a : Address) where
   of_address : (f : Fact) → same_address (address f) a ≡ true
-      → is_chosen tsis f ≡ takes tsis a.key.session.tsi
-  of_address f e = ap (λ b. takes tsis b.key.session.tsi) (address_same (address f) a e)
+      → is_chosen takes f ≡ takes a.key
+  of_address f e = ap (λ b. takes b.key) (address_same (address f) a e)
 
-  taken_at : (F : List Fact) → takes tsis a.key.session.tsi ≡ true
-      → fact_at (chosen tsis F) a ≡ fact_at F a
+  taken_at : (F : List Fact) → takes a.key ≡ true
+      → fact_at (chosen takes F) a ≡ fact_at F a
   taken_at [] t = refl
-  taken_at (f ∷ F) t = elim (cases_Bool (is_chosen tsis f)) [
-    | inl c ↦ rw c (fact_at-cons f (chosen tsis F) a
+  taken_at (f ∷ F) t = elim (cases_Bool (is_chosen takes f)) [
+    | inl c ↦ rw c (fact_at-cons f (chosen takes F) a
         ∙ ap (joined a (alone a f)) (taken_at F t) ∙ sym (fact_at-cons f F a))
     | inr c ↦ rw c (elim (cases_Bool (same_address (address f) a)) [
       | inl e ↦ absurd (false≢true (sym c ∙ of_address f e ∙ t))
@@ -39,23 +40,23 @@ module _ (tsis : List ℕ) (a : Address) where
     ])
   ]
 
-  passed_at : (F : List Fact) → takes tsis a.key.session.tsi ≡ false
-      → fact_at (chosen tsis F) a ≡ None
+  passed_at : (F : List Fact) → takes a.key ≡ false
+      → fact_at (chosen takes F) a ≡ None
   passed_at [] t = fact_at-nil a
-  passed_at (f ∷ F) t = elim (cases_Bool (is_chosen tsis f)) [
+  passed_at (f ∷ F) t = elim (cases_Bool (is_chosen takes f)) [
     | inl c ↦ rw c (elim (cases_Bool (same_address (address f) a)) [
       | inl e ↦ absurd (false≢true (sym t ∙ sym (of_address f e) ∙ c))
-      | inr e ↦ fact_at-elsewhere f (chosen tsis F) a e ∙ passed_at F t
+      | inr e ↦ fact_at-elsewhere f (chosen takes F) a e ∙ passed_at F t
     ])
     | inr c ↦ rw c (passed_at F t)
   ]
 
-pub same_chosen : (tsis : List ℕ) (F G : List Fact) → Same F G
-    → Same (chosen tsis F) (chosen tsis G)
-same_chosen tsis F G h = record {
-  each = λ a. elim (cases_Bool (takes tsis a.key.session.tsi)) [
-    | inl t ↦ taken_at tsis a F t ∙ h.each a ∙ sym (taken_at tsis a G t)
-    | inr t ↦ passed_at tsis a F t ∙ sym (passed_at tsis a G t)
+pub same_chosen : (takes : Key → Bool) (F G : List Fact) → Same F G
+    → Same (chosen takes F) (chosen takes G)
+same_chosen takes F G h = record {
+  each = λ a. elim (cases_Bool (takes a.key)) [
+    | inl t ↦ taken_at takes a F t ∙ h.each a ∙ sym (taken_at takes a G t)
+    | inr t ↦ passed_at takes a F t ∙ sym (passed_at takes a G t)
   ];
 }
 
@@ -83,7 +84,7 @@ module _ (one : OneReading) where
   tells_same : (choice : Choice) (bytes : List ℕ) (x y : InputContent) → Tells bytes x
       → Tells bytes y → Same (content_facts choice x) (content_facts choice y)
   tells_same choice bytes (of_journal es) (of_journal fs) h k =
-      same_chosen choice.tsis es fs (Same-from_journals bytes es fs
+      same_chosen choice.takes es fs (Same-from_journals bytes es fs
       (IsJournal-from_within bytes es h) (IsJournal-from_within bytes fs k))
   tells_same choice bytes (of_journal es) (of_file ds) h k = absurd (not_both bytes es ds h k)
   tells_same choice bytes (of_file ds) (of_journal es) h k = absurd (not_both bytes es ds k h)
@@ -175,9 +176,9 @@ module _ (one : OneReading) where
       let read : Same es (facts_told own j.told) =
       Same-from_journals bytes es (facts_told own j.told) (IsJournal-from_within bytes es k.0)
       (written_journal bytes (facts_told own j.told) (wrote own (bytes_of below) bytes h.0)) in
-      Same-append (chosen choice.tsis es) (chosen choice.tsis (leaf_facts own below))
+      Same-append (chosen choice.takes es) (chosen choice.takes (leaf_facts own below))
       (facts_told choice xs) (leaf_facts choice others)
-      (same_chosen choice.tsis es (leaf_facts own below)
+      (same_chosen choice.takes es (leaf_facts own below)
       (Same-trans es (facts_told own j.told) (leaf_facts own below) read below_is))
       (made_same choice others xs h.2 k.1)
 

@@ -2,6 +2,7 @@ mod Encoded
 mod Sent
 mod Senders
 mod WrittenPieces
+mod SelectedFacts
 mod Shown
 mod Mapped
 mod Written

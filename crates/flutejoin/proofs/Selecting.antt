@@ -31,7 +31,7 @@ module _ (rows : List Row) where
   has_instance None e t = absurd (let p = rw e at t in cc)
   has_instance (Some instance) is t = number_there (codes "fdt") (2 ^ 20) rows instance is
 
-  right_numbers : (numbers : ObjectNumbers) → AreNumbersOf rows numbers
+  pub right_numbers : (numbers : ObjectNumbers) → AreNumbersOf rows numbers
       → first_wrong (object_options rows) rows ≡ None
   right_numbers numbers are = elim (cases_Bool (is_some (first_of (codes "toi") rows))) [
     | inl t ↦ elim (cases_Bool (is_some (first_of (codes "fdt") rows))) [

@@ -1,9 +1,11 @@
 -- A journal whose entries are printed as they are read.
-use Rattle.std.proofs.Common.{◌≡◌, ℕ, ◌+◌, Bool, true, false, List, [], ◌∷◌, ◌++◌, length, Option, Some, None, Result, Ok, Err, subst, arith}
+use Rattle.std.proofs.Common.{◌≡◌, ℕ, ◌+◌, ◌≤◌, Bool, true, false, List, [], ◌∷◌, ◌++◌, length}
+use Rattle.std.proofs.Common.{Option, Some, None, Result, Ok, Err, ap, sym, ◌∙◌, subst, arith}
 use Rattle.std.specs.Prelude.{IfSome}
 use Rattle.std.specs.Io.KnownBytes.{Appends, Consumes}
 use Rattle.std.proofs.KnownBytes.{Appends-trans}
-use Rattle.std.proofs.lemmas.List.{length-append, flat_map_more}
+use Rattle.std.proofs.lemmas.List.{length-append}
+use Rattle.std.proofs.lemmas.Grind.{flat_map-append}
 use Rattle.flute_parts.specs.Devices.{AppendsPart}
 use Rattle.flute_parts.proofs.Public.{AppendsPart-second}
 use Rattle.flute_parts.specs.declared.fact.Fact.{Fact}
@@ -15,60 +17,16 @@ use Rattle.flute_journal.specs.Input.{Fails, FailsIf}
 use Rattle.flute_journal.specs.Journal.{IsJournalWithin}
 use Rattle.flute_journal.specs.JournalFraming.{journal_framing}
 use Rattle.flute_journal.specs.Framing.{is_open, GivesItem, GivesEnd, GivesFault, Gives, Sofar}
-use Rattle.flute_journal.proofs.Public.{whole-at, open_after, read_some, side-from, journal_sound, sofar-next, sofar-stops}
+use Rattle.flute_journal.proofs.Public.{whole-at, open_after, read_some, side-from, journal_sound}
+use Rattle.flute_journal.proofs.Public.{sofar-next, sofar-stops}
+use Rattle.flute_journal.specs.declared.selection.Selection.{Selection}
 use Rattle.flutejoin.specs.Lines.{fact_line, entries_line}
-use Rattle.flutejoin.specs.Show.{entry_lines, FailsToRead, ShowsAll, ShowsUntil, ShowsPart, of_entries, of_journal}
+use Rattle.flutejoin.specs.Selected.{selected}
+use Rattle.flutejoin.specs.Show.{entry_lines, FailsToRead, ShowsAll, ShowsUntil, ShowsPart}
+use Rattle.flutejoin.specs.Show.{of_entries, of_journal}
 use Rattle.flutejoin.specs.declared.command_fault.CommandFault.TheVariants.{Input}
 use Rattle.flutejoin.specs.declared.limits.TheConstants.{MAX_ENTRIES}
-
--- these entries were read, and their lines written, and nothing else
-pub record Shown (first now : Option (List ℕ)) (state : ReaderState Before)
-    (old new : Option (List ℕ)) (count : ℕ) : Type 0 where
-  pub entries : List Fact
-  pub sofar : Sofar journal_framing MAX_ENTRIES first now state entries
-  pub counted : count ≡ length entries
-  pub written : Appends old new (entry_lines entries)
-
--- one line more
-line_more : (es : List Fact) (f : Fact) → entry_lines es ++ fact_line f ≡ entry_lines (es ++ f ∷ [])
-line_more es f = flat_map_more fact_line [] es f
-
-pub shown-next : (u v w : Option (List ℕ)) (from to : ReaderState Before) (s t t' : Option (List ℕ))
-    (count : ℕ) (f : Fact) → Shown u v from s t count
-    → GivesItem journal_framing MAX_ENTRIES from to v w f → Appends t t' (fact_line f)
-    → Shown u w to s t' (count + 1)
-shown-next u v w from to s t t' count f h g line = record {
-  entries = h.entries ++ f ∷ [];
-  sofar = sofar-next journal_sound MAX_ENTRIES u v w from to h.entries f h.sofar g;
-  counted = omega (arith, h.counted, length-append h.entries (f ∷ []));
-  written =
-      subst (λ (x : List ℕ). Appends s t' x) (line_more h.entries f)
-      (Appends-trans s t t' (entry_lines h.entries) (fact_line f) h.written line);
-}
-
--- a line was written in part
-pub shown-part : (u v w : Option (List ℕ)) (from to : ReaderState Before) (s t t' : Option (List ℕ))
-    (count : ℕ) (f : Fact) → Shown u v from s t count
-    → GivesItem journal_framing MAX_ENTRIES from to v w f → AppendsPart t t' (fact_line f)
-    → ShowsPart u w s t'
-shown-part u v w from to s t t' count f h g part =
-    let all = sofar-next journal_sound MAX_ENTRIES u v w from to h.entries f h.sofar g in
-    of_entries (h.entries ++ f ∷ []) all.are_items
-    (subst (Consumes u w) (read_some journal_framing all.are_items.told h.entries f) all.read)
-    (subst (λ (x : List ℕ). AppendsPart s t' x) (line_more h.entries f)
-    (AppendsPart-second s t t' (entry_lines h.entries) (fact_line f) h.written part))
-
--- The fault behind the entries.
-
-pub shown-fault : (u v w : Option (List ℕ)) (from to : ReaderState Before) (s t : Option (List ℕ))
-    (count : ℕ) (f : ReadFault) → Shown u v from s t count
-    → GivesFault journal_framing MAX_ENTRIES from to v w f → ShowsUntil u w s t f
-shown-fault u v w from to s t count f h g = record {
-  entries = h.entries;
-  are_items = h.sofar.are_items;
-  stops = (sofar-stops MAX_ENTRIES u v w from to h.entries f h.sofar g).0;
-  written = h.written;
-}
+use Rattle.flutejoin.proofs.SelectedFacts.{few_selected, selected_more}
 
 -- The end behind the entries.
 
@@ -79,25 +37,88 @@ whole u v w from to es h g =
     whole-at journal_sound MAX_ENTRIES u w es
     (side-from journal_sound MAX_ENTRIES u v w from to es None h g)
 
-pub shown-all : (u v w : Option (List ℕ)) (from to : ReaderState Before) (s t t' : Option (List ℕ))
-    (count : ℕ) → Shown u v from s t count
-    → GivesEnd journal_framing from to v w → Appends t t' (entries_line count) → ShowsAll u s t'
-shown-all u v w from to s t t' count h g line = record {
-  entries = h.entries;
-  journal = whole u v w from to h.entries h.sofar g;
-  written =
-      Appends-trans s t t' (entry_lines h.entries) (entries_line (length h.entries)) h.written
-      (subst (λ n. Appends t t' (entries_line n)) h.counted line);
-}
+-- these entries were read, and the lines of those that are selected written, and nothing else
+pub record Shown (choice : Selection) (first now : Option (List ℕ)) (state : ReaderState Before)
+    (old new : Option (List ℕ)) (count : ℕ) : Type 0 where
+  pub entries : List Fact
+  pub sofar : Sofar journal_framing MAX_ENTRIES first now state entries
+  pub counted : count ≡ length (selected choice entries)
+  pub written : Appends old new (entry_lines (selected choice entries))
 
-pub shown-cut : (u v w : Option (List ℕ)) (from to : ReaderState Before) (s t t' : Option (List ℕ))
-    (count : ℕ) → Shown u v from s t count
-    → GivesEnd journal_framing from to v w → AppendsPart t t' (entries_line count)
-    → ShowsPart u w s t'
-shown-cut u v w from to s t t' count h g part =
-    of_journal h.entries (whole u v w from to h.entries h.sofar g)
-    (AppendsPart-second s t t' (entry_lines h.entries) (entries_line (length h.entries)) h.written
-    (subst (λ n. AppendsPart t t' (entries_line n)) h.counted part))
+lines_more : (choice : Selection) (es : List Fact) (f : Fact)
+    → entry_lines (selected choice es) ++ entry_lines (selected choice (f ∷ []))
+    ≡ entry_lines (selected choice (es ++ f ∷ []))
+lines_more choice es f =
+    sym (ap entry_lines (selected_more choice f es)
+    ∙ flat_map-append fact_line (selected choice es) (selected choice (f ∷ [])))
+
+module _ {choice : Selection} {u v : Option (List ℕ)} (w : Option (List ℕ))
+    {from : ReaderState Before} (to : ReaderState Before) {s t : Option (List ℕ)} {count : ℕ}
+    (h : Shown choice u v from s t count) where
+  -- no more lines than entries
+  pub few_shown : count ≤ 16777216
+  few_shown =
+      let few = few_selected choice h.entries in
+      let most : length h.entries ≤ 16777216 = h.sofar.are_items.few in
+      omega (arith, h.counted, few, most)
+
+  module _ (f : Fact) (g : GivesItem journal_framing MAX_ENTRIES from to v w f)
+      (t' : Option (List ℕ)) where
+    pub shown-next : (lines : ℕ) → lines ≡ length (selected choice (f ∷ []))
+        → Appends t t' (entry_lines (selected choice (f ∷ [])))
+        → Shown choice u w to s t' (count + lines)
+    shown-next lines are line = record {
+      entries = h.entries ++ f ∷ [];
+      sofar = sofar-next journal_sound MAX_ENTRIES u v w from to h.entries f h.sofar g;
+      counted =
+          let more = ap length (selected_more choice f h.entries) in
+          let all = length-append (selected choice h.entries) (selected choice (f ∷ [])) in
+          omega (arith, h.counted, are, more, all);
+      written =
+          subst (λ (x : List ℕ). Appends s t' x) (lines_more choice h.entries f)
+          (Appends-trans s t t' (entry_lines (selected choice h.entries))
+          (entry_lines (selected choice (f ∷ []))) h.written line);
+    }
+
+    -- a line was written in part
+    pub shown-part : AppendsPart t t' (entry_lines (selected choice (f ∷ [])))
+        → ShowsPart choice u w s t'
+    shown-part part =
+        let all = sofar-next journal_sound MAX_ENTRIES u v w from to h.entries f h.sofar g in
+        of_entries (h.entries ++ f ∷ []) all.are_items
+        (subst (Consumes u w) (read_some journal_framing all.are_items.told h.entries f) all.read)
+        (subst (λ (x : List ℕ). AppendsPart s t' x) (lines_more choice h.entries f)
+        (AppendsPart-second s t t' (entry_lines (selected choice h.entries))
+        (entry_lines (selected choice (f ∷ []))) h.written part))
+
+  -- The fault behind the entries.
+  pub shown-fault : (f : ReadFault) → GivesFault journal_framing MAX_ENTRIES from to v w f
+      → ShowsUntil choice u w s t f
+  shown-fault f g = record {
+    entries = h.entries;
+    are_items = h.sofar.are_items;
+    stops = (sofar-stops MAX_ENTRIES u v w from to h.entries f h.sofar g).0;
+    written = h.written;
+  }
+
+  module _ (g : GivesEnd journal_framing from to v w) (t' : Option (List ℕ)) where
+    pub shown-all : Appends t t' (entries_line count) → ShowsAll choice u s t'
+    shown-all line =
+        let chosen = selected choice h.entries in
+        record {
+          entries = h.entries;
+          journal = whole u v w from to h.entries h.sofar g;
+          written =
+              Appends-trans s t t' (entry_lines chosen) (entries_line (length chosen)) h.written
+              (subst (λ n. Appends t t' (entries_line n)) h.counted line);
+        }
+
+    pub shown-cut : AppendsPart t t' (entries_line count) → ShowsPart choice u w s t'
+    shown-cut part =
+        let chosen = selected choice h.entries in
+        of_journal h.entries (whole u v w from to h.entries h.sofar g)
+        (AppendsPart-second s t t' (entry_lines chosen) (entries_line (length chosen)) h.written
+        (subst (λ n. AppendsPart t t' (entries_line n)) h.counted part))
 
 -- What a call of the reader gave, and a write did.
 

@@ -12,12 +12,15 @@ use Rattle.clap.specs.declared.error.Error.{Error}
 use Rattle.clap.specs.declared.error.kind.ErrorKind.TheVariants as kind
 use Rattle.flute_journal.specs.Selections.{is_everything}
 use Rattle.flute_journal.specs.Sessions.{listed_tsis}
+use Rattle.flute_journal.specs.declared.scope.Scope.{Scope}
 use Rattle.flutejoin.specs.Options.{HasObject, HasSessions, HasSource, IsFlag, IsFormFault, IsKey}
 use Rattle.flutejoin.specs.Options.{IsNumber, IsSourceIf, IsZero, all_form, are_sessions}
 use Rattle.flutejoin.specs.Options.{carousel_options, extract_form, first_unfit, first_wrong}
 use Rattle.flutejoin.specs.Options.{info_form, info_options, key_options, list_form, word, words}
 use Rattle.flutejoin.specs.Parser.{command_in, refusals_of}
-use Rattle.flutejoin.specs.Selecting.{IsChoiceFault, IsSelection}
+use Rattle.flutejoin.specs.Scoping.{AreScopeNumbers, IsScope, IsWrongOfScope}
+use Rattle.flutejoin.specs.Selecting.{IsChoiceFault, IsSelection, IsSelectionFault}
+use Rattle.flutejoin.specs.Selecting.{NamesObject}
 use Rattle.flutejoin.specs.declared.command_fault.CommandFault.{CommandFault}
 use Rattle.flutejoin.specs.declared.command_fault.CommandFault.TheVariants.{CommandLine, BadNumber}
 use Rattle.flutejoin.specs.declared.command_fault.CommandFault.TheVariants.{BadOption, BadSource}
@@ -45,8 +48,10 @@ is_out_an_input rows =
 -- the line is what these rows of the command with this name say
 abbrev pub IsLine : List ℕ → List Row → Line → Type 0
 IsLine name rows (Packet hex) = (name ≡ codes "packet") × IsWord (codes "HEX") rows hex
-IsLine name rows (Show j) = (name ≡ codes "show") × IsWord (codes "J") rows j
-IsLine name rows (Gaps j) = (name ≡ codes "gaps") × IsWord (codes "J") rows j
+IsLine name rows (Show selection j) =
+    (name ≡ codes "show") × IsSelection rows selection × IsWord (codes "J") rows j
+IsLine name rows (Gaps selection j) =
+    (name ≡ codes "gaps") × IsSelection rows selection × IsWord (codes "J") rows j
 IsLine name rows (Extract out force key j) =
     (name ≡ codes "extract") × IsFlag (codes "all") rows false
     × (first_unfit extract_form rows ≡ None)
@@ -69,10 +74,9 @@ IsLine name rows (Info out force key len symbol block j) =
     × IsKey (HasSource rows) rows key × IsNumber (codes "length") (2 ^ 64) rows len
     × IsNumber (codes "symbol") (2 ^ 16) rows symbol
     × IsNumber (codes "block") (2 ^ 32) rows block × IsWord (codes "J") rows j
-IsLine name rows (Join out force sender sessions inputs) =
+IsLine name rows (Join out force sender scope inputs) =
     (name ≡ codes "join") × IsWord (codes "OUT") rows out × IsFlag (codes "force") rows force
-    × HasSource rows sender
-    × HasSessions rows (listed_tsis sessions)
+    × HasSource rows sender × IsScope rows scope
     × (map (λ input. input.now) inputs.items ≡ words (codes "INPUT") rows)
     × (length inputs.items ≤ 64)
 IsLine name rows (Merge out force a b) =
@@ -104,12 +108,13 @@ IsManyInputs count OutOfMemory = count ≤ 64
 IsManyInputs count _ = ⊥
 
 abbrev pub IsJoinFault : List Row → CommandFault → Type 0
-IsJoinFault rows (BadNumber option) =
-    (option.now ≡ codes "tsi") × (are_sessions (words (codes "tsi") rows) ≡ false)
+IsJoinFault rows (BadNumber option) = IsWrongOfScope rows option.now
 IsJoinFault rows BadSource =
-    ((tsis : List ℕ) × HasSessions rows tsis) × ((sender : ℕ) → HasSource rows sender → ⊥)
+    AreScopeNumbers rows × ((sender : ℕ) → HasSource rows sender → ⊥)
+IsJoinFault rows BadKey =
+    AreScopeNumbers rows × ((sender : ℕ) × HasSource rows sender) × NamesObject rows None
 IsJoinFault rows fault =
-    ((tsis : List ℕ) × HasSessions rows tsis) × ((sender : ℕ) × HasSource rows sender)
+    ((scope : Scope) × IsScope rows scope) × ((sender : ℕ) × HasSource rows sender)
     × IsManyInputs (length (words (codes "INPUT") rows)) fault
 
 -- of `extract --all`, which takes no `--force`
@@ -168,7 +173,9 @@ IsFault name rows fault =
     ⊎ (((name ≡ codes "join") × IsJoinFault rows fault)
     ⊎ (((name ≡ codes "merge") × IsMergeFault rows fault)
     ⊎ (((name ≡ codes "forget") × IsChoiceFault rows fault)
-    ⊎ ((is_command name ≡ false) × (fault ≡ OutOfMemory)))))))
+    ⊎ (((name ≡ codes "show") × IsSelectionFault rows fault)
+    ⊎ (((name ≡ codes "gaps") × IsSelectionFault rows fault)
+    ⊎ ((is_command name ≡ false) × (fault ≡ OutOfMemory)))))))))
 
 -- the line is what the parser found for its command
 abbrev pub IsLineOf : Option (List ℕ × List Row) → Line → Type 0

@@ -6,20 +6,24 @@ use Rattle.flute_journal.specs.Frame.{AreItems}
 use Rattle.flute_journal.specs.Framing.{read_of}
 use Rattle.flute_journal.specs.Journal.{IsJournalWithin, journal_frame}
 use Rattle.flute_journal.specs.JournalFraming.{journal_framing}
+use Rattle.flute_journal.specs.declared.selection.Selection.{Selection}
 use Rattle.flutejoin.specs.declared.limits.TheConstants.{MAX_ENTRIES}
 use Rattle.flutejoin.specs.declared.command_fault.CommandFault.{CommandFault}
 use Rattle.flutejoin.specs.declared.command_fault.CommandFault.TheVariants.{OutOfMemory}
 use Rattle.flutejoin.specs.declared.command_fault.CommandFault.TheVariants.{CannotWrite}
 use Rattle.flutejoin.specs.Load.{LoadFails}
 use Rattle.flutejoin.specs.Objects.{OfObjects}
+use Rattle.flutejoin.specs.Selected.{selected}
 use Rattle.flutejoin.specs.Shelves.{IsOverShelf}
 
--- the input is a journal within the limits of a store, and P holds of the lines of its objects
-pub record ListsJournal (input : Option (List ℕ)) (P : List ℕ → Type 0) : Type 0 where
+-- the input is a journal within the limits of a store, and P holds of the lines of its objects,
+-- of which only what is selected counts
+pub record ListsJournal (s : Selection) (input : Option (List ℕ)) (P : List ℕ → Type 0)
+    : Type 0 where
   pub entries : List Fact
   pub journal : IfSome input (λ bytes. IsJournalWithin MAX_ENTRIES bytes entries)
   pub within : ¬ IsOverShelf entries
-  pub lines : OfObjects entries P
+  pub lines : OfObjects (selected s entries) P
 
 -- entries within the limits were read, and nothing after them but the end
 pub record ReadsWithin (input left : Option (List ℕ)) : Type 0 where

@@ -7,19 +7,19 @@ use Rattle.flute_journal.specs.declared.chosen.Chosen.{Chosen}
 use Rattle.flute_journal.specs.declared.fault.LoadFault.{LoadFault}
 use Rattle.flute_journal.specs.declared.kind.Kind.TheVariants as kinds
 use Rattle.flute_journal.specs.declared.owned_journal_stream.OwnedJournalStream.{OwnedJournalStream}
-use Rattle.flute_journal.specs.declared.sessions.Sessions.{Sessions}
+use Rattle.flute_journal.specs.declared.scope.Scope.{Scope}
 use Rattle.flute_journal.specs.ChosenStreams.{chosen_behaviour}
 use Rattle.flute_journal.specs.Kinds.{HasKind, IsNeither}
 use Rattle.flute_journal.specs.OwnedStreams.{owned_behaviour}
-use Rattle.flute_journal.specs.Sessions.{of_sessions}
+use Rattle.flute_journal.specs.Scopes.{of_scope}
 use Rattle.flute_journal.specs.Streams.{Behaviour}
 use Rattle.flutejoin.specs.declared.join_input.JoinInput.{JoinInput}
 use Rattle.flutejoin.specs.declared.join_input.JoinInput.TheVariants.{Journal, Datagrams, Unknown}
 use Rattle.flutejoin.specs.declared.peeked_source.PeekedSource.{PeekedSource}
 
--- a journal of which some sessions are taken
+-- a journal of which some objects are taken
 abbrev pub JournalInput : Type 0 → Type 0
-JournalInput R = Chosen (OwnedJournalStream (PeekedSource R)) Sessions
+JournalInput R = Chosen (OwnedJournalStream (PeekedSource R)) Scope
 
 -- the bytes of a source that were read ahead
 abbrev pub front_of : {R : Type 0} → PeekedSource R → List ℕ
@@ -53,7 +53,7 @@ module _ {R : Type 0} (unread : R → Option (List ℕ)) where
     -- what is said of a journal as a stream
     abbrev pub journal_behaviour : Behaviour (JournalInput R)
     journal_behaviour =
-        chosen_behaviour of_sessions (owned_behaviour left (λ source. failures source.source))
+        chosen_behaviour of_scope (owned_behaviour left (λ source. failures source.source))
 
     -- the entry that an input holds: no other than a journal holds any
     abbrev pub held_input : JoinInput R → Option Fact

@@ -1,7 +1,7 @@
 -- Joins of what joins wrote.
 use Rattle.std.specs.Prelude.{ℕ, List, [], ◌∷◌, ◌++◌, Some}
 use Rattle.flute_parts.specs.declared.fact.Fact.{Fact}
-use Rattle.flute_journal.specs.Sessions.{chosen}
+use Rattle.flute_journal.specs.Scopes.{chosen}
 use Rattle.flutejoin.specs.Joined.{Choice, InputContent, content_facts, Tells}
 use Rattle.flutejoin.specs.Joining.{JoinsTo}
 use Rattle.flutejoin.specs.declared.join_counts.JoinCounts.{JoinCounts}
@@ -37,4 +37,4 @@ leaf_facts choice none = []
 leaf_facts choice (leaf bytes content others) =
     content_facts choice content ++ leaf_facts choice others
 leaf_facts choice (node bytes own below others) =
-    chosen choice.tsis (leaf_facts own below) ++ leaf_facts choice others
+    chosen choice.takes (leaf_facts own below) ++ leaf_facts choice others

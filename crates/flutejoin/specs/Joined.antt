@@ -4,12 +4,14 @@ use Rattle.std.specs.Prelude.{None, Bool, true, false, if◌then◌else◌, not,
 use Rattle.std.specs.List.{flat_map, count_by, AllByRecursion}
 use Rattle.flute_parts.specs.Facts.{Same}
 use Rattle.flute_parts.specs.declared.fact.Fact.{Fact}
+use Rattle.flute_parts.specs.declared.key.Key.{Key}
 use Rattle.flute_wire.specs.Content.{Content}
+use Rattle.flute_wire.specs.Facts.{key_of}
 use Rattle.flute_wire.specs.Reading.{packet, facts}
 use Rattle.flute_journal.specs.Journal.{IsJournalWithin}
 use Rattle.flute_journal.specs.JournalFraming.{journal_framing}
-use Rattle.flute_journal.specs.Sessions.{listed_tsis, takes, chosen, others_in}
-use Rattle.flute_journal.specs.declared.sessions.Sessions.{Sessions}
+use Rattle.flute_journal.specs.Scopes.{takes_key, chosen, others_in}
+use Rattle.flute_journal.specs.declared.scope.Scope.{Scope}
 use Rattle.flute_journal.specs.Records.{IsFileWithin}
 use Rattle.flute_journal.specs.FileFraming.{file_framing}
 use Rattle.flute_journal.specs.Framing.{HasFault}
@@ -31,45 +33,44 @@ pub data InputContent : Type 0 where
   of_journal : (entries : List Fact) → InputContent
   of_file : (datagrams : List (List ℕ)) → InputContent
 
--- what of the inputs is joined: the sender that datagrams have, and the identifiers of the sessions
--- that are taken, all if none is listed
+-- what of the inputs is joined: the sender that datagrams have, and which objects are taken
 pub record Choice : Type 0 where
   pub sender : ℕ
-  pub tsis : List ℕ
+  pub takes : Key → Bool
 
--- this sender and these sessions
-abbrev pub choice_of : ℕ → Sessions → Choice
-choice_of sender sessions = record { sender = sender; tsis = listed_tsis sessions }
+-- this sender and these objects
+abbrev pub choice_of : ℕ → Scope → Choice
+choice_of sender scope = record { sender = sender; takes = takes_key scope }
 
--- all sessions
+-- all objects
 abbrev pub everything : ℕ → Choice
-everything sender = record { sender = sender; tsis = [] }
+everything sender = record { sender = sender; takes = λ _. true }
 
 -- the facts of a datagram that are joined
 abbrev pub facts_by : Choice → List ℕ → List Fact
-facts_by choice datagram = chosen choice.tsis (facts choice.sender datagram)
+facts_by choice datagram = chosen choice.takes (facts choice.sender datagram)
 
 -- those of an input
 abbrev pub content_facts : Choice → InputContent → List Fact
-content_facts choice (of_journal entries) = chosen choice.tsis entries
+content_facts choice (of_journal entries) = chosen choice.takes entries
 content_facts choice (of_file datagrams) = flat_map (facts_by choice) datagrams
 
 abbrev pub content_datagrams : InputContent → List (List ℕ)
 content_datagrams (of_journal entries) = []
 content_datagrams (of_file datagrams) = datagrams
 
--- it is a packet of a session that is not taken
-abbrev pub is_other_packet : List ℕ → Option Content → Bool
-is_other_packet tsis None = false
-is_other_packet tsis (Some content) = not (takes tsis content.tsi)
+-- it is a packet of an object that is not taken
+abbrev pub is_other_packet : Choice → Option Content → Bool
+is_other_packet choice None = false
+is_other_packet choice (Some content) = not (choice.takes (key_of choice.sender content))
 
 -- the datagram is one; of a refused one it is not known
 abbrev pub is_of_others : Choice → List ℕ → Bool
-is_of_others choice datagram = is_other_packet choice.tsis (packet datagram)
+is_of_others choice datagram = is_other_packet choice (packet datagram)
 
--- how much of an input is of sessions that are not taken: entries of a journal, packets of a file
+-- how much of an input is of objects that are not taken: entries of a journal, packets of a file
 abbrev pub content_others : Choice → InputContent → ℕ
-content_others choice (of_journal entries) = others_in choice.tsis entries
+content_others choice (of_journal entries) = others_in choice.takes entries
 content_others choice (of_file datagrams) = count_by (is_of_others choice) datagrams
 
 -- the input is the journal of these facts, or the file of these datagrams

@@ -6,7 +6,7 @@ use Rattle.flute_parts.specs.declared.fact.Fact.{Fact}
 use Rattle.flute_journal.specs.JournalWriters.{PutsJournal, WritesJournal}
 use Rattle.flute_journal.specs.Kinds.{HasKind, IsNeither}
 use Rattle.flute_journal.specs.Records.{IsFileWithin}
-use Rattle.flute_journal.specs.Sessions.{listed_tsis}
+use Rattle.flute_journal.specs.Scopes.{takes_key}
 use Rattle.flute_journal.specs.StreamMerges.{IsWithinLimits}
 use Rattle.flute_journal.specs.Streams.{Behaviour, IsNew}
 use Rattle.flute_journal.specs.Eithers.{either_behaviour}
@@ -91,13 +91,13 @@ SomeInspectionFails inputs fault =
     × FirstInput HasKnownKind (λ bytes. InspectionFails number bytes fault) number inputs
 
 module _ {R : Type 0} (unread : R → Option (List ℕ)) where
-  -- what was found of an input: a journal is still to be read, of the chosen sessions, and a
+  -- what was found of an input: a journal is still to be read, of the chosen objects, and a
   -- datagram file has these datagrams
   abbrev pub IsInspected : Choice → JoinInput R → List ℕ → List (List ℕ) → Type 0
   IsInspected choice (Journal journal) bytes datagrams =
       (datagrams ≡ []) × HasKind kinds.Journal bytes
       × (left unread journal.stream.source ≡ Some bytes)
-      × (listed_tsis journal.choice ≡ choice.tsis)
+      × (takes_key journal.choice ≡ choice.takes)
   IsInspected choice (Datagrams source) bytes datagrams =
       IsFileWithin MAX_ENTRIES bytes datagrams
   IsInspected choice Unknown bytes datagrams = ⊥

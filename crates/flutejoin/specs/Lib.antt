@@ -3,6 +3,7 @@ pub mod Lines
 pub mod Pieces
 pub mod Status
 pub mod Packet
+pub mod Selected
 pub mod Show
 pub mod Objects
 pub mod Shelves
@@ -42,4 +43,5 @@ pub mod ObjectFiles
 pub mod Parser
 pub mod Options
 pub mod Selecting
+pub mod Scoping
 pub mod CommandLine

@@ -10,12 +10,14 @@ use Rattle.flute_parts.specs.declared.key.Key.{Key}
 use Rattle.flute_parts.specs.declared.symbol_id.SymbolId.{SymbolId}
 use Rattle.flute_parts.specs.declared.fact.Fact.{Fact}
 use Rattle.flute_parts.specs.declared.fact.Fact.TheVariants.{InfoConflict}
+use Rattle.flute_journal.specs.declared.selection.Selection.{Selection}
 use Rattle.flute_store.specs.declared.status.Status.{Status}
 use Rattle.flute_store.specs.Scan.{Scanned, next_fact, Follows, GaveAll}
 use Rattle.flute_store.specs.Scans.{Scans}
 use Rattle.flute_store.specs.Status.{TellsStatus}
 use Rattle.flutejoin.specs.Lines.{gap_line}
 use Rattle.flutejoin.specs.Objects.{gaps_at, OfObjects}
+use Rattle.flutejoin.specs.Selected.{selected}
 use Rattle.flutejoin.specs.declared.listing.ObjectState.{ObjectState}
 use Rattle.flutejoin.specs.declared.listing.ObjectState.TheVariants.{NoInformation}
 use Rattle.flutejoin.specs.declared.listing.ObjectState.TheVariants.{ConflictingInformation}
@@ -86,6 +88,12 @@ abbrev pub CanAdd : Fact → Option OpenObject → Type 0
 CanAdd f last =
     (F : List Fact) × IsRising (F ++ f ∷ [])
     × ((lines gap_lines : List ℕ) × ListsWith F lines gap_lines last)
+
+-- the fact may be the next of those of which some are listed, if it is selected
+abbrev pub CanAddSelected : Selection → Fact → Option OpenObject → Type 0
+CanAddSelected s f last =
+    (F : List Fact) × IsRising (F ++ f ∷ [])
+    × ((lines gap_lines : List ℕ) × ListsWith (selected s F) lines gap_lines last)
 
 -- some facts of an object tell this
 abbrev pub IsState : ObjectState → Type 0

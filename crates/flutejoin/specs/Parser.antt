@@ -56,11 +56,16 @@ abbrev pub key_rules : List Rule
 key_rules =
     needed (option (codes "tsi")) ∷ needed (option (codes "toi")) ∷ option (codes "fdt") ∷ []
 
--- what selects entries of a journal
+-- what selects objects of a journal
+abbrev pub object_rules : List Rule
+object_rules =
+    option (codes "source") ∷ session_list ∷ option (codes "toi") ∷ option (codes "fdt") ∷ []
+
+-- what selects its entries
 abbrev pub selection_rules : List Rule
 selection_rules =
-    long_flag (codes "conflicts") ∷ option (codes "source") ∷ session_list ∷ option (codes "toi")
-    ∷ option (codes "fdt") ∷ option (codes "symbol") ∷ long_flag (codes "info") ∷ []
+    long_flag (codes "conflicts")
+    ∷ object_rules ++ option (codes "symbol") ∷ long_flag (codes "info") ∷ []
 
 -- how it is cut
 abbrev pub size_rules : List Rule
@@ -73,6 +78,14 @@ packet_rules = place (codes "HEX") ∷ []
 
 abbrev pub journal_rules : List Rule
 journal_rules = place (codes "J") ∷ []
+
+-- its options select entries
+abbrev pub show_rules : List Rule
+show_rules = long_flag (codes "conflicts") ∷ object_rules ++ journal_rules
+
+-- its options select objects
+abbrev pub gaps_rules : List Rule
+gaps_rules = object_rules ++ journal_rules
 
 -- its options are of one object or of all
 abbrev pub extract_rules : List Rule
@@ -89,7 +102,9 @@ info_rules =
     ∷ option (codes "symbol") ∷ option (codes "block") ∷ journal_rules
 
 abbrev pub join_rules : List Rule
-join_rules = out ∷ force_flag ∷ option (codes "source") ∷ session_list ∷ input_list ∷ []
+join_rules =
+    out ∷ force_flag ∷ option (codes "source") ∷ session_list ∷ option (codes "toi")
+    ∷ option (codes "fdt") ∷ long_flag (codes "no-fdt") ∷ input_list ∷ []
 
 abbrev pub merge_rules : List Rule
 merge_rules = out ∷ force_flag ∷ place (codes "A") ∷ place (codes "B") ∷ []
@@ -123,8 +138,8 @@ unfoldable pub program : App
 program = record {
   top = record no_commands.top { is_leaf = false };
   subs = command_with (codes "packet") packet_rules
-      ∷ command_with (codes "show") journal_rules
-      ∷ command_with (codes "gaps") journal_rules
+      ∷ command_with (codes "show") show_rules
+      ∷ command_with (codes "gaps") gaps_rules
       ∷ command_with (codes "extract") extract_rules
       ∷ command_with (codes "info") info_rules
       ∷ command_with (codes "join") join_rules

@@ -82,8 +82,9 @@ NamesObject rows object =
 -- what the options select
 pub record IsSelection (rows : List Row) (s : Selection) : Type 0 where
   pub sender : IsSourceIf rows s.sender
-  pub sessions : HasSessions rows (listed_tsis s.sessions)
-  pub object : NamesObject rows (Some s.object)
+  pub sessions : HasSessions rows (listed_tsis s.scope.sessions)
+  pub object : NamesObject rows (Some s.scope.object)
+  pub kinds : s.scope.files ≡ false
   pub symbol : IsSymbolIf rows s.symbol
   pub info : IsFlag (codes "info") rows s.info
   pub conflicts : IsFlag (codes "conflicts") rows s.conflicts

@@ -9,7 +9,8 @@ use std::alloc::Global;
 
 const SOURCE_HELP: &str = "\
 The sender's address, as 10.0.0.1, 2001:db8::1 or its 8 or 32 hexadecimal digits; left out, it \
-is ::, and not 0.0.0.0 (but any sender with `forget` and `extract --all`)";
+is ::, and not 0.0.0.0 (but any sender with `show`, `gaps`, \
+`forget` and `extract --all`)";
 
 /// The journal that is read.
 pub fn journal<'a>(alloc: Global) -> Arg<'a>
@@ -96,6 +97,13 @@ pub fn conflicts<'a>(alloc: Global) -> Arg<'a>
         "conflicts",
         "Only symbols and information of which two values were told",
     )
+}
+
+/// The flag for files alone.
+pub fn no_fdt<'a>(alloc: Global) -> Arg<'a>
+    ensures { IsArgument (long_flag (codes "no-fdt")) result }
+{
+    long_flag(alloc, "no-fdt", "No FDT Instances, which have the TOI 0")
 }
 
 /// The flag for information alone.

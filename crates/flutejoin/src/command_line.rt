@@ -6,6 +6,7 @@ ghost use Rattle.flutejoin.specs.CommandLine.{IsKeyFault, IsLine, IsLineIn, IsLi
 ghost use Rattle.flutejoin.specs.CommandLine.{IsMergeFault, IsParserFault, IsRefusal};
 ghost use Rattle.flutejoin.specs.Options.{IsZero, carousel_options, found_rows};
 ghost use Rattle.flutejoin.specs.Parser.{command_in, refusals_of};
+ghost use Rattle.flutejoin.specs.Selecting.{IsSelectionFault};
 
 use crate::command_fault::CommandFault;
 use crate::extract_line::extract_of;
@@ -14,11 +15,13 @@ use crate::info_line::info_of;
 use crate::key_numbers::KeyNumbers;
 use crate::limits::MAX_INPUTS;
 use crate::numbers::{number_below, sessions, source};
+use crate::object_numbers::ObjectNumbers;
 use crate::parser::command;
+use crate::selection_options::selection;
 use crate::words::{flag, text};
 use clap::ArgMatches;
 use clap::error::ErrorKind;
-use flute_journal::{Selection, Sessions};
+use flute_journal::{Scope, Selection, Sessions};
 use flute_parts::{Key, Sender};
 use std::alloc::Global;
 
@@ -33,12 +36,14 @@ pub enum Line<'a> {
     Packet {
         hex: &'a str,
     },
-    /// Print the entries of the journal `j`.
+    /// Print the selected entries of the journal `j`.
     Show {
+        selection: Selection,
         j: &'a str,
     },
-    /// Print how much of each object the journal `j` has, and what is missing.
+    /// Print how much of each selected object the journal `j` has, and what is missing.
     Gaps {
+        selection: Selection,
         j: &'a str,
     },
     /// Write the object `key` of the journal `j` to the file `out`.
@@ -74,13 +79,13 @@ pub enum Line<'a> {
         list: &'a str,
         j: &'a str,
     },
-    /// Join what the journals and datagram files `inputs`, 1 to 64 of them, have of these sessions
+    /// Join what the journals and datagram files `inputs`, 1 to 64 of them, have of these objects
     /// into the journal `out`. The datagrams of the files are of this sender.
     Join {
         out: &'a str,
         force: bool,
         sender: Sender,
-        sessions: Sessions,
+        scope: Scope,
         inputs: Vec<&'a str>,
     },
     /// Merge the journals `a` and `b` into the journal `out`.
@@ -164,12 +169,8 @@ fn line_by_name<'a>(
         "packet" => Ok(Line::Packet {
             hex: text(matches, "HEX"),
         }),
-        "show" => Ok(Line::Show {
-            j: text(matches, "J"),
-        }),
-        "gaps" => Ok(Line::Gaps {
-            j: text(matches, "J"),
-        }),
+        "show" => show_of(matches),
+        "gaps" => gaps_of(matches),
         "extract" => extract_of(matches),
         "info" => info_of(matches),
         "join" => join_of(alloc, matches),
@@ -181,18 +182,43 @@ fn line_by_name<'a>(
     }
 }
 
+fn show_of<'a>(matches: &ArgMatches<'a>) -> Result<Line<'a>, CommandFault>
+    ensures { let rows = found_rows matches.now in
+        MatchResult result (IsLine (codes "show") rows) (IsSelectionFault rows) }
+{
+    let selection = selection(matches)?;
+    let j = text(matches, "J");
+    Ok(Line::Show { selection, j })
+}
+
+fn gaps_of<'a>(matches: &ArgMatches<'a>) -> Result<Line<'a>, CommandFault>
+    ensures { let rows = found_rows matches.now in
+        MatchResult result (IsLine (codes "gaps") rows) (IsSelectionFault rows) }
+{
+    let selection = selection(matches)?;
+    let j = text(matches, "J");
+    Ok(Line::Gaps { selection, j })
+}
+
 fn join_of<'a>(alloc: Global, matches: &ArgMatches<'a>) -> Result<Line<'a>, CommandFault>
     ensures { let rows = found_rows matches.now in
         MatchResult result (IsLine (codes "join") rows) (IsJoinFault rows) }
 {
     let sessions = sessions(matches)?;
+    let numbers = ObjectNumbers::of(matches)?;
     let sender = source(matches)?;
+    let object = numbers.object()?;
+    let scope = Scope {
+        sessions,
+        object,
+        files: flag(matches, "no-fdt"),
+    };
     let inputs = inputs_of(alloc, matches.get_strs("INPUT").unwrap_or(&[]))?;
     Ok(Line::Join {
         out: text(matches, "OUT"),
         force: flag(matches, "force"),
         sender,
-        sessions,
+        scope,
         inputs,
     })
 }

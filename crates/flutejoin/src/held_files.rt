@@ -3,7 +3,7 @@ ghost use Rattle.std.specs.Prelude.{◌≡◌, true, false, ◌<◌, ◌+◌, �
 ghost use Rattle.flute_journal.specs.Records.{IsFileWithin};
 ghost use Rattle.flutejoin.specs.declared.limits.TheConstants.{MAX_ENTRIES};
 ghost use Rattle.flutejoin.specs.declared.command_fault.CommandFault.TheVariants as faults;
-ghost use Rattle.flute_journal.specs.Sessions.{listed_tsis, chosen};
+ghost use Rattle.flute_journal.specs.Scopes.{takes_key, chosen};
 ghost use Rattle.flute_wire.specs.Reading.{facts};
 ghost use Rattle.flutejoin.specs.Joined.{Choice, choice_of, is_of_others, HoldsDatagrams, HoldsMore, IsCounted, CountsUpTo, FileFails};
 ghost use Rattle.flutejoin.specs.Refused.{is_refused};
@@ -13,7 +13,7 @@ use crate::command_fault::{CommandFault, at_input};
 use crate::joined::Joined;
 use crate::limits::MAX_ENTRIES;
 use flute_journal::laws::a_file_is_read_record_by_record;
-use flute_journal::{DatagramReader, Sessions};
+use flute_journal::{DatagramReader, Scope};
 use flute_parts::{Sender, Source};
 use flute_wire::{computed_reading, read};
 use std::alloc::Global;
@@ -26,7 +26,7 @@ pub(crate) struct HeldFiles {
     pub(crate) told: Joined,
     /// Whether all the facts are held.
     pub(crate) fits: bool,
-    /// How many of the datagrams are of other sessions.
+    /// How many of the datagrams are of other objects.
     pub(crate) others: u64,
 }
 
@@ -45,17 +45,17 @@ impl HeldFiles {
     }
 
     // Takes a datagram of this sender, if what came before was held, and it is of one of these
-    // sessions.
+    // objects.
     fn take(
         &mut self,
         alloc: Global,
         sender: Sender,
-        sessions: &Sessions,
+        scope: &Scope,
         datagram: &[u8],
     ) -> Result<(), CommandFault>
         requires room { self.now.told.datagrams + 1 < 2 ^ 64 }
         requires counted { IsCounted self.now }
-        ensures taken { OnOk result (HoldsMore (choice_of sender sessions.now) self.old self.new
+        ensures taken { OnOk result (HoldsMore (choice_of sender scope.now) self.old self.new
             (datagram.now ∷ [])) }
         ensures few { OnOk result (CountsUpTo 1 self.old self.new) }
         ensures memory { IfErr result (λ fault. fault ≡ faults.OutOfMemory) }
@@ -63,7 +63,7 @@ impl HeldFiles {
         if !self.fits {
             return Ok(());
         }
-        if is_of_others(sessions, datagram) {
+        if is_of_others(sender, scope, datagram) {
             self.told.datagrams += 1;
             self.others += 1;
             return Ok(());
@@ -77,7 +77,7 @@ impl HeldFiles {
         }
     }
 
-    /// Takes the datagrams that the source holds as a file, at most 16,777,216, of these sessions
+    /// Takes the datagrams that the source holds as a file, at most 16,777,216, of these objects
     /// of this sender. It is read record by record, and one record of it is held beside what they
     /// tell.
     ///
@@ -90,14 +90,14 @@ impl HeldFiles {
         alloc: Global,
         number: usize,
         sender: Sender,
-        sessions: &Sessions,
+        scope: &Scope,
         source: &mut R,
     ) -> Result<(), CommandFault>
         requires room { self.now.told.datagrams < 2 ^ 63 }
         requires counted { IsCounted self.now }
         ensures held { OnOk result (IfSome (R.unread source.old) (λ bytes.
             (datagrams : List (List ℕ)) × IsFileWithin MAX_ENTRIES bytes datagrams
-            × HoldsMore (choice_of sender sessions.now) self.old self.new datagrams)) }
+            × HoldsMore (choice_of sender scope.now) self.old self.new datagrams)) }
         ensures few { OnOk result (CountsUpTo MAX_ENTRIES self.old self.new) }
         ensures failed { IfErr result (FileFails number (R.unread source.old)) }
         ensures failures { FailsToRead (R.failures source.old) (R.failures source.new) result }
@@ -107,31 +107,30 @@ impl HeldFiles {
         let mut reader = DatagramReader::new(source, MAX_ENTRIES);
         let mut spare = Vec::new(alloc);
         while let Some(datagram) = at_input(number, reader.next_with(alloc, spare))? {
-            self.take(alloc, sender, sessions, datagram.as_slice())?;
+            self.take(alloc, sender, scope, datagram.as_slice())?;
             spare = datagram.into_vec();
         }
         Ok(())
     }
 }
 
-// Whether a datagram is a packet of a session that is not taken.
-fn is_of_others(sessions: &Sessions, datagram: &[u8]) -> bool
-    ensures others { result ≡ true → (sender : ℕ)
-        → chosen (listed_tsis sessions.now) (facts sender datagram.now) ≡ [] }
+// Whether a datagram is a packet of an object that is not taken.
+fn is_of_others(sender: Sender, scope: &Scope, datagram: &[u8]) -> bool
+    ensures others { result ≡ true
+        → chosen (takes_key scope.now) (facts sender datagram.now) ≡ [] }
     ensures packet { result ≡ true → is_refused datagram.now ≡ false }
-    ensures exact { (sender : ℕ)
-        → result ≡ is_of_others (choice_of sender sessions.now) datagram.now }
-    ensures taken { result ≡ false → (sender : ℕ)
-        → chosen (listed_tsis sessions.now) (facts sender datagram.now)
+    ensures exact { result ≡ is_of_others (choice_of sender scope.now) datagram.now }
+    ensures taken { result ≡ false
+        → chosen (takes_key scope.now) (facts sender datagram.now)
         ≡ facts sender datagram.now }
 {
     // By this the proof knows what a datagram tells.
     computed_reading();
-    if sessions.is_all() {
+    if scope.is_all() {
         return false;
     }
     match read(datagram) {
-        Ok(packet) => !sessions.takes(packet.tsi()),
+        Ok(packet) => !scope.takes(&packet.key(sender)),
         Err(_) => false,
     }
 }

@@ -14,12 +14,12 @@ use crate::command_fault::CommandFault;
 use crate::held_files::HeldFiles;
 use crate::join_input::{JoinInput, JournalInput};
 use crate::limits::MAX_ENTRIES;
-use flute_journal::Sessions;
+use flute_journal::Scope;
 use flute_parts::{Sender, Source};
 use std::alloc::Global;
 
 /// Reads the datagram files among inputs, in their order, and holds what they tell of these
-/// sessions of this sender. The journals are then to be read from their first bytes.
+/// objects of this sender. The journals are then to be read from their first bytes.
 ///
 /// # Errors
 ///
@@ -29,13 +29,13 @@ use std::alloc::Global;
 pub(crate) fn inspect_all<R: Source>(
     alloc: Global,
     sender: Sender,
-    sessions: &Sessions,
+    scope: &Scope,
     inputs: &mut [JoinInput<R>],
 ) -> Result<HeldFiles, CommandFault>
     requires { length inputs.old ≤ 64 }
     ensures ready { OnOk result (AllByRecursion (IsReady R.unread R.failures) inputs.new) }
     ensures inspected { (contents : List (List ℕ)) → AreInputs R.unread inputs.old contents
-        → IfOk result (Finds R.unread (choice_of sender sessions.now) inputs.new contents) }
+        → IfOk result (Finds R.unread (choice_of sender scope.now) inputs.new contents) }
     ensures failed { (contents : List (List ℕ)) → AreInputs R.unread inputs.old contents
         → IfErr result (SomeInspectionFails contents) }
     ensures names { IfErr result (NamesOneOf (length inputs.old)) }
@@ -46,7 +46,7 @@ pub(crate) fn inspect_all<R: Source>(
 {
     let mut held = HeldFiles::new(alloc);
     for k in 0..inputs.len() {
-        inspect(alloc, k + 1, sender, sessions, &mut inputs[k], &mut held)?;
+        inspect(alloc, k + 1, sender, scope, &mut inputs[k], &mut held)?;
     }
     Ok(held)
 }
@@ -57,7 +57,7 @@ fn inspect<R: Source>(
     alloc: Global,
     number: usize,
     sender: Sender,
-    sessions: &Sessions,
+    scope: &Scope,
     input: &mut JoinInput<R>,
     held: &mut HeldFiles,
 ) -> Result<(), CommandFault>
@@ -66,8 +66,8 @@ fn inspect<R: Source>(
     ensures ready { OnOk result (IsReady R.unread R.failures input.new) }
     ensures inspected { (bytes : List ℕ) → IsInput R.unread input.old bytes
         → OnOk result ((datagrams : List (List ℕ))
-        × IsInspected R.unread (choice_of sender sessions.now) input.new bytes datagrams
-        × HoldsMore (choice_of sender sessions.now) held.old held.new datagrams) }
+        × IsInspected R.unread (choice_of sender scope.now) input.new bytes datagrams
+        × HoldsMore (choice_of sender scope.now) held.old held.new datagrams) }
     ensures few { OnOk result (CountsUpTo MAX_ENTRIES held.old held.new) }
     ensures failed { (bytes : List ℕ) → IsInput R.unread input.old bytes
         → IfErr result (InspectionFails number bytes) }
@@ -77,24 +77,24 @@ fn inspect<R: Source>(
 {
     match input {
         JoinInput::Journal(journal) => {
-            restart(sessions, journal);
+            restart(scope, journal);
             Ok(())
         }
-        JoinInput::Datagrams(source) => held.read(alloc, number, sender, sessions, source),
+        JoinInput::Datagrams(source) => held.read(alloc, number, sender, scope, source),
         JoinInput::Unknown => Err(CommandFault::UnknownKind(number)),
     }
 }
 
-// A journal of which nothing was read or passed over, and these sessions are taken.
-fn restart<R: Source>(sessions: &Sessions, journal: &mut JournalInput<R>)
+// A journal of which nothing was read or passed over, and these objects are taken.
+fn restart<R: Source>(scope: &Scope, journal: &mut JournalInput<R>)
     ensures source { journal.new.stream.source ≡ journal.old.stream.source }
-    ensures sessions { journal.new.choice ≡ sessions.now }
+    ensures scope { journal.new.choice ≡ scope.now }
     ensures others { journal.new.others ≡ 0 }
     ensures new { IsNew (journal_behaviour R.unread R.failures) journal.new }
     ensures most { (journal_behaviour R.unread R.failures).most journal.new ≡ MAX_ENTRIES }
     ensures limit { journal.new.stream.max_entries ≡ MAX_ENTRIES }
 {
-    journal.choice = *sessions;
+    journal.choice = *scope;
     journal.others = 0;
     journal.stream.restart(MAX_ENTRIES);
 }

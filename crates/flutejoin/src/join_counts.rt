@@ -7,7 +7,7 @@ pub struct JoinCounts {
     pub datagrams: u64,
     /// How many of these datagrams are refused. They tell nothing.
     pub refused: u64,
-    /// How many entries and datagrams were passed over, since they are of sessions that were not
+    /// How many entries and datagrams were passed over, since they are of objects that were not
     /// asked for. What is refused is not among them.
     pub others: u64,
     /// The number of the entries of the journal.

@@ -7,13 +7,13 @@ use crate::first_bytes::FirstBytes;
 use crate::limits::MAX_ENTRIES;
 use crate::peeked_source::PeekedSource;
 use flute_journal::{
-    Chosen, Kind, LoadFault, OwnedJournalStream, ReadFault, Sessions, Stream, kind_of,
+    Chosen, Kind, LoadFault, OwnedJournalStream, ReadFault, Scope, Stream, kind_of,
 };
 use flute_parts::{FactRef, Source};
 use std::alloc::Global;
 
-/// A journal of which some sessions are taken.
-pub type JournalInput<R> = Chosen<OwnedJournalStream<PeekedSource<R>>, Sessions>;
+/// A journal of which some objects are taken.
+pub type JournalInput<R> = Chosen<OwnedJournalStream<PeekedSource<R>>, Scope>;
 
 /// An input of a join, of the kind that its first four bytes tell.
 #[derive(Debug, Drop)]
@@ -43,7 +43,7 @@ impl<R: Source + Drop> JoinInput<R> {
             Some(Kind::Journal) => {
                 let source = PeekedSource::new(first, source);
                 let journal = OwnedJournalStream::new(source, MAX_ENTRIES);
-                Ok(JoinInput::Journal(Chosen::new(journal, Sessions::all())))
+                Ok(JoinInput::Journal(Chosen::new(journal, Scope::all())))
             }
             Some(Kind::Datagrams) => Ok(JoinInput::Datagrams(PeekedSource::new(first, source))),
             None => Ok(JoinInput::Unknown),
@@ -63,7 +63,7 @@ impl<R> JoinInput<R> {
     }
 }
 
-/// A journal gives its entries of the sessions that are taken. Nothing else gives any.
+/// A journal gives its entries of the objects that are taken. Nothing else gives any.
 impl<R: Source> Stream for JoinInput<R> {
     ghost use Rattle.flutejoin.specs.JoinInputs.{input_behaviour};
 

@@ -19,15 +19,13 @@ use crate::inspecting::inspect_all;
 use crate::join_counts::JoinCounts;
 use crate::join_input::JoinInput;
 use crate::nothing::Nothing;
-use flute_journal::{
-    Chained, InputFault, MergedJournal, Sessions, Stream, WalkStream, join_streams,
-};
+use flute_journal::{Chained, InputFault, MergedJournal, Scope, Stream, WalkStream, join_streams};
 use flute_parts::{Sender, Sink, Source};
 use flute_store::Shelf;
 use std::alloc::Global;
 
-/// Writes the journal of all that the inputs tell together of these sessions, each a journal or a
-/// datagram file, as its first four bytes say. What they tell of other sessions is passed over, and
+/// Writes the journal of all that the inputs tell together of these objects, each a journal or a
+/// datagram file, as its first four bytes say. What they tell of other objects is passed over, and
 /// counted: entries, and datagrams that are packets.
 /// There may be up to 64 inputs, and none tells nothing. A datagram that is refused tells nothing,
 /// and is counted. Whatever else tells the same facts, in any order, number and grouping: its
@@ -53,17 +51,17 @@ use std::alloc::Global;
 pub fn join_to<R: Source, W: Sink>(
     alloc: Global,
     sender: Sender,
-    sessions: &Sessions,
+    scope: &Scope,
     inputs: &mut [JoinInput<R>],
     sink: &mut W,
 ) -> Result<JoinCounts, CommandFault>
     requires few { length inputs.old ≤ 64 }
     ensures joined { (contents : List (List ℕ)) → AreInputs R.unread inputs.old contents
         → IfOk result
-        (λ counts. JoinsTo (choice_of sender sessions.now) contents counts
+        (λ counts. JoinsTo (choice_of sender scope.now) contents counts
         (W.written sink.old) (W.written sink.new)) }
     ensures failed { (contents : List (List ℕ)) → AreInputs R.unread inputs.old contents
-        → IfErr result (JoinToFails (choice_of sender sessions.now) contents) }
+        → IfErr result (JoinToFails (choice_of sender scope.now) contents) }
     ensures short { IfErr result
         (λ _. AppendsNoJournal (W.written sink.old) (W.written sink.new)) }
     ensures kept { IfErr result (λ fault. fault ≡ OutOfMemory → sink.new ≡ sink.old) }
@@ -75,7 +73,7 @@ pub fn join_to<R: Source, W: Sink>(
     ensures write_failed { IfErr result
         (λ fault. fault ≡ CannotWrite → W.failures sink.new ≡ W.failures sink.old + 1) }
 {
-    let held = inspect_all(alloc, sender, sessions, inputs)?;
+    let held = inspect_all(alloc, sender, scope, inputs)?;
     if !held.fits {
         return Err(fault_or_full(alloc, inputs, &held.told.store));
     }
@@ -94,7 +92,7 @@ pub fn join_to<R: Source, W: Sink>(
     })
 }
 
-// How many entries and datagrams were of other sessions.
+// How many entries and datagrams were of other objects.
 fn others_of<R>(of_files: u64, inputs: &[JoinInput<R>]) -> u64
     ensures { result ≡ min (of_files + sum_by passed_over inputs.now) (2 ^ 64 - 1) }
 {

@@ -79,7 +79,7 @@ pub fn forgetting_leaves_the_rest()
 /// - `bytes`: so it is with two joins of any inputs.
 /// - `read`: what a join wrote is read as what its inputs told, conflicts of them as conflicts.
 /// - `trees`: so it is with joins of what joins wrote, to any depth, each of its own sender and
-///   sessions, if the facts of all that was joined in the first place come to the same.
+///   objects, if the facts of all that was joined in the first place come to the same.
 pub fn joins_of_the_same_write_the_same()
     ensures bytes { (one two : Choice) (inputs others : List (List ℕ))
         (told further : List InputContent) (bs cs : List ℕ)

@@ -11,7 +11,7 @@ use crate::join_input::JoinInput;
 use crate::joined::Joined;
 use crate::joined_inputs::join_to;
 use flute_journal::laws::{a_journal_has_one_content, a_journal_within_a_bound_is_one};
-use flute_journal::{ReadFault, Sessions, read_store};
+use flute_journal::{ReadFault, Scope, read_store};
 use flute_parts::{MemorySink, MemorySource, Sender, Sink};
 use std::alloc::Global;
 
@@ -65,7 +65,7 @@ fn join_blobs(
             return Err(CommandFault::OutOfMemory);
         }
     }
-    match join_to(alloc, sender, &Sessions::all(), &mut opened, sink) {
+    match join_to(alloc, sender, &Scope::all(), &mut opened, sink) {
         Ok(counts) => Ok(counts),
         Err(fault) => Err(in_memory(fault)),
     }

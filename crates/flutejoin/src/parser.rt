@@ -2,13 +2,13 @@
 ghost use Rattle.std.specs.Prelude.{◌≡◌, [], IfOk, codes};
 ghost use Rattle.clap.specs.Simple.{app_of};
 ghost use Rattle.flutejoin.specs.Parser.{IsCommand, carousel_rules, extract_rules, forget_rules};
-ghost use Rattle.flutejoin.specs.Parser.{info_rules};
-ghost use Rattle.flutejoin.specs.Parser.{join_rules, journal_rules, merge_rules, packet_rules};
+ghost use Rattle.flutejoin.specs.Parser.{gaps_rules, info_rules, show_rules};
+ghost use Rattle.flutejoin.specs.Parser.{join_rules, merge_rules, packet_rules};
 ghost use Rattle.flutejoin.specs.Parser.{no_commands, program};
 
 use crate::arguments::{
     all, block, conflicts, force, force_all, information, input, inputs, instance, journal, length,
-    list, object, output, required, session, sessions, source, symbol, symbol_id,
+    list, no_fdt, object, output, required, session, sessions, source, symbol, symbol_id,
 };
 use clap::Command;
 use std::alloc::{AllocError, Global};
@@ -58,13 +58,15 @@ info and symbol.",
 
 const SHOW_HELP: &str = help_of!(
     "\
-Prints a line for each entry, and then: entries N. The journal may have up to 16,777,216 entries.",
+Prints a line for each entry, and then: entries N. The journal may have up to 16,777,216 entries.
+The options choose entries, and narrow one another. An FDT Instance is --toi 0 --fdt N.",
     "show station1"
 );
 
 const GAPS_HELP: &str = help_of!(
     "\
 Prints a line for each object: whole, partial, no information or conflicting information.
+The options choose objects, and narrow one another. An FDT Instance is --toi 0 --fdt N.
 Behind partial a line for each gap follows: gap BLOCK/FIRST-LAST, and whether these symbols are
 missing, conflicting or misfit.
 A line that begins with `source` is of a sender that is not ::, and `extract` takes it by --source.
@@ -93,7 +95,9 @@ The journal may have as much as a store holds (flutejoin --help).",
 const JOIN_HELP: &str = help_of!(
     "\
 Prints: datagrams N, refused N (those of them that are not taken) and entries N.
-With --tsi only these sessions are taken; others N then counts the entries and datagrams of others.
+With --tsi only these sessions are taken, with --toi only this object of each (an FDT Instance is
+--toi 0 --fdt N), with --no-fdt no FDT Instance; others N then counts the entries and datagrams of
+others.
 --source is the sender of all datagram files of the call; journals keep theirs.
 All inputs, at most 64, may together have as much as a store holds (flutejoin --help).",
     "join -o all station1 station2"
@@ -181,7 +185,7 @@ fn packet_command<'a>(alloc: Global) -> Result<Command<'a>, AllocError>
 }
 
 fn show_command<'a>(alloc: Global) -> Result<Command<'a>, AllocError>
-    ensures { IfOk result (IsCommand (codes "show") journal_rules) }
+    ensures { IfOk result (IsCommand (codes "show") show_rules) }
 {
     let command = named(
         alloc,
@@ -189,12 +193,17 @@ fn show_command<'a>(alloc: Global) -> Result<Command<'a>, AllocError>
         "Prints the entries of a journal, a line each",
         SHOW_HELP,
     )
+    .arg(conflicts(alloc))?
+    .arg(source(alloc))?
+    .arg(sessions(alloc))?
+    .arg(object(alloc))?
+    .arg(instance(alloc))?
     .arg(journal(alloc))?;
     Ok(command)
 }
 
 fn gaps_command<'a>(alloc: Global) -> Result<Command<'a>, AllocError>
-    ensures { IfOk result (IsCommand (codes "gaps") journal_rules) }
+    ensures { IfOk result (IsCommand (codes "gaps") gaps_rules) }
 {
     let command = named(
         alloc,
@@ -202,6 +211,10 @@ fn gaps_command<'a>(alloc: Global) -> Result<Command<'a>, AllocError>
         "Prints how much of each object a journal has, and which symbols are missing",
         GAPS_HELP,
     )
+    .arg(source(alloc))?
+    .arg(sessions(alloc))?
+    .arg(object(alloc))?
+    .arg(instance(alloc))?
     .arg(journal(alloc))?;
     Ok(command)
 }
@@ -262,6 +275,9 @@ fn join_command<'a>(alloc: Global) -> Result<Command<'a>, AllocError>
     .arg(force(alloc))?
     .arg(source(alloc))?
     .arg(sessions(alloc))?
+    .arg(object(alloc))?
+    .arg(instance(alloc))?
+    .arg(no_fdt(alloc))?
     .arg(inputs(alloc))?;
     Ok(command)
 }

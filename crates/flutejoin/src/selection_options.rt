@@ -9,7 +9,7 @@ use crate::numbers::{decimal, sessions, source_if};
 use crate::object_numbers::ObjectNumbers;
 use crate::words::{flag, word};
 use clap::ArgMatches;
-use flute_journal::Selection;
+use flute_journal::{Scope, Selection};
 use flute_parts::SymbolId;
 
 /// What `--source`, `--tsi`, `--toi` and `--fdt`, `--symbol`, `--info` and `--conflicts` select.
@@ -28,10 +28,14 @@ pub fn selection(matches: &ArgMatches<'_>) -> Result<Selection, CommandFault>
     let symbol = symbol(matches)?;
     let sender = source_if(matches)?;
     let object = numbers.object()?;
-    Ok(Selection {
-        sender,
+    let scope = Scope {
         sessions,
         object,
+        files: false,
+    };
+    Ok(Selection {
+        sender,
+        scope,
         symbol,
         info: flag(matches, "info"),
         conflicts: flag(matches, "conflicts"),

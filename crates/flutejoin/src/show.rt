@@ -1,9 +1,11 @@
 //! The command `show`: a line for each entry of a journal.
-ghost use Rattle.std.specs.Prelude.{◌≡◌, ◌+◌, if◌then◌else◌, is_ok, IfErr, OnOk};
+ghost use Rattle.std.specs.Prelude.{◌≡◌, ◌+◌, ◌∷◌, [], length, if◌then◌else◌, is_ok};
+ghost use Rattle.std.specs.Prelude.{IfErr, IfOk, OnOk};
 ghost use Rattle.flute_parts.specs.Devices.{Writes};
 ghost use Rattle.flutejoin.specs.Lines.{fact_line};
 ghost use Rattle.flutejoin.specs.Pieces.{fact_head, fact_bytes};
-ghost use Rattle.flutejoin.specs.Show.{FailsToRead, ShowsAll, ShowFails};
+ghost use Rattle.flutejoin.specs.Selected.{selected};
+ghost use Rattle.flutejoin.specs.Show.{FailsToRead, ShowsAll, ShowFails, entry_lines};
 ghost use Rattle.flutejoin.specs.Packet.{write_failures};
 
 use crate::command_fault::{CommandFault, at_input};
@@ -12,28 +14,29 @@ use crate::hex_digits::HexDigits;
 use crate::limits::MAX_ENTRIES;
 use crate::report_lines::{write_count, write_line};
 use crate::text::Text;
-use flute_journal::JournalReader;
+use flute_journal::{JournalReader, Selection};
 use flute_parts::{DeviceFault, Fact, Sink, Source};
 use std::alloc::Global;
 
-/// Writes what the journal holds that the source gives: a line for each entry as it is read, and
-/// then the number of the entries. The journal may have at most 16,777,216 entries.
+/// Writes what is selected of the journal that the source gives: a line for each entry as it is
+/// read, and then the number of these entries. The journal may have at most 16,777,216 entries.
 ///
 /// # Errors
 ///
 /// `Input` with the fault of the journal, or if the source failed or there was no memory for a
-/// symbol: the lines of the entries that were read before it were written, and no more.
-/// `CannotWrite` if the sink failed: it took a first part of the lines of the entries that
-/// were read, and not all.
+/// symbol: the lines of the selected entries that were read before it were written, and no more.
+/// `CannotWrite` if the sink failed: it took a first part of the lines of the selected entries
+/// that were read, and not all.
 pub fn show_to<R: Source, W: Sink>(
     alloc: Global,
     source: &mut R,
+    selection: &Selection,
     sink: &mut W,
 ) -> Result<(), CommandFault>
-    ensures printed { OnOk result
-        (ShowsAll (R.unread source.old) (W.written sink.old) (W.written sink.new)) }
-    ensures failed { IfErr result (ShowFails (R.unread source.old) (R.unread source.new)
-        (W.written sink.old) (W.written sink.new)) }
+    ensures printed { OnOk result (ShowsAll selection.now
+        (R.unread source.old) (W.written sink.old) (W.written sink.new)) }
+    ensures failed { IfErr result (ShowFails selection.now (R.unread source.old)
+        (R.unread source.new) (W.written sink.old) (W.written sink.new)) }
     ensures read_failures { FailsToRead (R.failures source.old) (R.failures source.new) result }
     ensures failures { W.failures sink.new ≡ W.failures sink.old + write_failures result }
 {
@@ -42,16 +45,36 @@ pub fn show_to<R: Source, W: Sink>(
     let mut count = 0;
     let mut spare = Vec::new(alloc);
     while let Some(fact) = at_input(1, reader.next_with(alloc, spare))? {
-        if write_fact(sink, &digits, &fact).is_err() {
-            return Err(CommandFault::CannotWrite);
+        match write_selected(sink, &digits, selection, &fact) {
+            Ok(lines) => count += lines,
+            Err(_) => return Err(CommandFault::CannotWrite),
         }
-        count += 1;
         spare = fact.into_vec(alloc);
     }
     match write_count(sink, "entries", count) {
         Ok(()) => Ok(()),
         Err(_) => Err(CommandFault::CannotWrite),
     }
+}
+
+// Writes the line of an entry if that is selected, and answers how many lines these are.
+fn write_selected<W: Sink>(
+    sink: &mut W,
+    digits: &HexDigits,
+    selection: &Selection,
+    fact: &Fact,
+) -> Result<u64, DeviceFault>
+    ensures lines { Writes (W.written sink.old) (W.written sink.new)
+        (entry_lines (selected selection.now (fact.now ∷ []))) result }
+    ensures count { IfOk result (λ lines.
+        lines ≡ length (selected selection.now (fact.now ∷ []))) }
+    ensures failures { W.failures sink.new ≡ W.failures sink.old + (if is_ok result then 0 else 1) }
+{
+    if !selection.selects(&fact.as_ref()) {
+        return Ok(0);
+    }
+    write_fact(sink, digits, fact)?;
+    Ok(1)
 }
 
 fn write_fact<W: Sink>(sink: &mut W, digits: &HexDigits, fact: &Fact) -> Result<(), DeviceFault>

@@ -13,13 +13,13 @@ few_of : (found : Option (List ℕ × List Row)) (line : Line) → IsLineOf foun
     → HasFewInputs line
 few_of None line h = absurd h
 few_of (Some found) (Packet hex) h = tt
-few_of (Some found) (Show j) h = tt
-few_of (Some found) (Gaps j) h = tt
+few_of (Some found) (Show selection j) h = tt
+few_of (Some found) (Gaps selection j) h = tt
 few_of (Some found) (Extract out force key j) h = tt
 few_of (Some found) (ExtractAll out sender sessions j) h = tt
 few_of (Some found) (Info out force key len symbol block j) h = tt
 few_of (Some found) (InfoList out force list j) h = tt
-few_of (Some found) (Join out force sender sessions inputs) h = h.6
+few_of (Some found) (Join out force sender scope inputs) h = h.6
 few_of (Some found) (Merge out force a b) h = tt
 few_of (Some found) (Forget out force selection j) h = tt
 few_of (Some found) (Carousel out force key symbol block file) h = tt

@@ -4,8 +4,8 @@ use Rattle.std.specs.Prelude.{Some, IfSome}
 use Rattle.std.specs.List.{AllZip}
 use Rattle.flute_journal.specs.Merges.{Merged}
 use Rattle.flute_journal.specs.declared.fault.ReadFault.TheVariants.{Read}
+use Rattle.flute_journal.specs.declared.scope.Scope.{Scope}
 use Rattle.flute_journal.specs.declared.selection.Selection.{Selection}
-use Rattle.flute_journal.specs.declared.sessions.Sessions.{Sessions}
 use Rattle.flute_parts.specs.Information.{Information}
 use Rattle.flute_parts.specs.declared.key.Key.{Key}
 use Rattle.flutejoin.specs.InfoLists.{AddsList, AddListFails}
@@ -60,17 +60,17 @@ ContentFails content key symbol block fault =
     ⊎ IfSome content (λ bytes. SendFails key symbol block bytes fault)))
 
 module _ (files : Option Files) where
-  -- the one journal of all that the files of these names tell of the chosen sessions
-  abbrev pub JoinsNames : ℕ → Sessions → List (List ℕ) → JoinCounts → Option (List ℕ)
+  -- the one journal of all that the files of these names tell of the chosen objects
+  abbrev pub JoinsNames : ℕ → Scope → List (List ℕ) → JoinCounts → Option (List ℕ)
       → Option (List ℕ) → Type 0
-  JoinsNames sender sessions names counts old new = IfFiles files (λ f. OfContents f names
-      (λ contents. JoinsTo (choice_of sender sessions) contents counts old new))
+  JoinsNames sender scope names counts old new = IfFiles files (λ f. OfContents f names
+      (λ contents. JoinsTo (choice_of sender scope) contents counts old new))
 
-  abbrev pub JoinNamesFails : ℕ → Sessions → List (List ℕ) → CommandFault → Type 0
-  JoinNamesFails sender sessions names fault =
+  abbrev pub JoinNamesFails : ℕ → Scope → List (List ℕ) → CommandFault → Type 0
+  JoinNamesFails sender scope names fault =
       IsBefore files names fault
       ⊎ (IfFiles files (λ f. OfContents f names (λ contents.
-      JoinToFails (choice_of sender sessions) contents fault))
+      JoinToFails (choice_of sender scope) contents fault))
       × NamesOneOf (length names) fault)
 
   -- the journal of all that the files of two names tell

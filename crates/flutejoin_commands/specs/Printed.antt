@@ -1,6 +1,7 @@
 -- What the commands print that leave no file, and why they fail, told by the names of their inputs.
 use Rattle.std.specs.Prelude.{◌≡◌, ◌≢◌, ◌⊎◌, ℕ, List, [], ◌∷◌, Option}
 use Rattle.std.specs.Io.KnownBytes.{Appends, IsAtEnd}
+use Rattle.flute_journal.specs.declared.selection.Selection.{Selection}
 use Rattle.flute_output.specs.NewFolders.{Places}
 use Rattle.flutejoin.specs.Gaps.{ListsJournal, GapsFail}
 use Rattle.flutejoin.specs.Packet.{HasLines, FailsWith}
@@ -29,21 +30,22 @@ PacketFails text old new fault =
     FailsWith text old new fault ⊎ FailsToFlush (PrintsPacket text old new) fault
 
 module _ (files : Option Files) (name : List ℕ) where
-  -- the entries of the journal of this name were printed
-  abbrev pub ShowsName : Option (List ℕ) → Option (List ℕ) → Type 0
-  ShowsName old new = IfFiles files (λ f. ShowsAll (f name) old new)
+  -- what is selected of the entries of the journal of this name was printed
+  abbrev pub ShowsName : Selection → Option (List ℕ) → Option (List ℕ) → Type 0
+  ShowsName selection old new = IfFiles files (λ f. ShowsAll selection (f name) old new)
 
   -- why not, and what was printed
-  abbrev pub ShowNameFails : Option (List ℕ) → Option (List ℕ) → CommandFault → Type 0
-  ShowNameFails old new fault =
+  abbrev pub ShowNameFails : Selection → Option (List ℕ) → Option (List ℕ) → CommandFault → Type 0
+  ShowNameFails selection old new fault =
       (IsUnread files name fault × (new ≡ old))
       ⊎ IfFiles files (λ f. (left : Option (List ℕ))
-      × (ShowFails (f name) left old new fault
-      ⊎ FailsToFlush (ShowsAll (f name) old new) fault))
+      × (ShowFails selection (f name) left old new fault
+      ⊎ FailsToFlush (ShowsAll selection (f name) old new) fault))
 
-  -- what is missing of the objects of the journal of this name was printed
-  abbrev pub ListsName : Option (List ℕ) → Option (List ℕ) → Type 0
-  ListsName old new = IfFiles files (λ f. ListsJournal (f name) (Appends old new))
+  -- what is missing of the selected objects of the journal of this name was printed
+  abbrev pub ListsName : Selection → Option (List ℕ) → Option (List ℕ) → Type 0
+  ListsName selection old new =
+      IfFiles files (λ f. ListsJournal selection (f name) (Appends old new))
 
   -- why not; then nothing was printed, unless the fault is that of writing
   abbrev pub ListNameFails : Option (List ℕ) → Option (List ℕ) → CommandFault → Type 0

@@ -28,7 +28,7 @@ use Rattle.flutejoin_commands.specs.Worlds.{FailsToLeave, Leaves, Outside, Spare
 
 -- no more inputs than are joined
 abbrev pub HasFewInputs : Line → Type 0
-HasFewInputs (Join out force sender sessions inputs) = length inputs.items ≤ 64
+HasFewInputs (Join out force sender scope inputs) = length inputs.items ≤ 64
 HasFewInputs _ = ⊤
 
 -- only standard output changed, and as P says
@@ -38,8 +38,10 @@ OnlyPrints old new P = (new.files ≡ old.files) × (new.errors ≡ old.errors) 
 -- what is outside changes as the line says
 abbrev pub Does : (List ℕ → Option Places) → Line → Outside → Outside → Type 0
 Does folders (Packet hex) old new = OnlyPrints old new (PrintsPacket hex.now old.output new.output)
-Does folders (Show j) old new = OnlyPrints old new (ShowsName old.files j.now old.output new.output)
-Does folders (Gaps j) old new = OnlyPrints old new (ListsName old.files j.now old.output new.output)
+Does folders (Show selection j) old new =
+    OnlyPrints old new (ShowsName old.files j.now selection old.output new.output)
+Does folders (Gaps selection j) old new =
+    OnlyPrints old new (ListsName old.files j.now selection old.output new.output)
 Does folders (ExtractAll out sender sessions j) old new = OnlyPrints old new
     (LeavesFolderOfName old.files j.now (record { sender = sender; sessions = sessions })
     (folders out.now) old.output new.output)
@@ -52,9 +54,9 @@ Does folders (Info out force key l s b j) old new =
 Does folders (InfoList out force list j) old new =
     let adds = AddsListOfNames old.files j.now list.now in
     Leaves adds adds entries_line out.now old new
-Does folders (Join out force sender sessions inputs) old new =
-    let joins = JoinsNames old.files sender sessions (map (λ path. path.now) inputs.items) in
-    Leaves joins joins (join_lines sessions) out.now old new
+Does folders (Join out force sender scope inputs) old new =
+    let joins = JoinsNames old.files sender scope (map (λ path. path.now) inputs.items) in
+    Leaves joins joins (join_lines scope) out.now old new
 Does folders (Merge out force a b) old new =
     let merges = MergesNames old.files a.now b.now in
     Leaves merges merges entries_line out.now old new
@@ -74,9 +76,9 @@ IsBadInformation l s b fault =
 abbrev pub FailsToDo : (List ℕ → Option Places) → Line → Outside → Outside → CommandFault → Type 0
 FailsToDo folders (Packet hex) old new fault =
     OnlyPrints old new (PacketFails hex.now old.output new.output fault)
-FailsToDo folders (Show j) old new fault =
-    OnlyPrints old new (ShowNameFails old.files j.now old.output new.output fault)
-FailsToDo folders (Gaps j) old new fault =
+FailsToDo folders (Show selection j) old new fault =
+    OnlyPrints old new (ShowNameFails old.files j.now selection old.output new.output fault)
+FailsToDo folders (Gaps selection j) old new fault =
     OnlyPrints old new (ListNameFails old.files j.now old.output new.output fault)
 FailsToDo folders (ExtractAll out sender sessions j) old new fault = OnlyPrints old new
     (FolderOfNameFails old.files j.now (record { sender = sender; sessions = sessions })
@@ -91,10 +93,10 @@ FailsToDo folders (Info out force key l s b j) old new fault =
 FailsToDo folders (InfoList out force list j) old new fault =
     FailsToLeave (AddsListOfNames old.files j.now list.now)
     (AddListOfNamesFails old.files j.now list.now) out.now old new fault
-FailsToDo folders (Join out force sender sessions inputs) old new fault =
+FailsToDo folders (Join out force sender scope inputs) old new fault =
     let names = map (λ path. path.now) inputs.items in
-    FailsToLeave (JoinsNames old.files sender sessions names)
-    (JoinNamesFails old.files sender sessions names) out.now old new fault
+    FailsToLeave (JoinsNames old.files sender scope names)
+    (JoinNamesFails old.files sender scope names) out.now old new fault
 FailsToDo folders (Merge out force a b) old new fault =
     FailsToLeave (MergesNames old.files a.now b.now) (MergeNamesFails old.files a.now b.now) out.now
     old new fault
@@ -112,7 +114,7 @@ SparesOut (Info out force key l s b j) old new =
     Spares (overwrites_journal force) out.now old new
 SparesOut (InfoList out force list j) old new =
     Spares (overwrites_journal force) out.now old new
-SparesOut (Join out force sender sessions inputs) old new =
+SparesOut (Join out force sender scope inputs) old new =
     Spares (overwrites_journal force) out.now old new
 SparesOut (Merge out force a b) old new = Spares (overwrites_journal force) out.now old new
 SparesOut (Forget out force selection j) old new =

@@ -1,5 +1,5 @@
 -- What the works of the commands write, why they fail, and what they tell.
-use Rattle.std.specs.Prelude.{◌≡◌, ℕ, ◌++◌, ◌∷◌, List, [], if◌then◌else◌, nat_eq, length, flat_map}
+use Rattle.std.specs.Prelude.{◌≡◌, ℕ, ◌++◌, ◌∷◌, List, [], if◌then◌else◌, length, flat_map}
 use Rattle.std.specs.Prelude.{Option, codes, Ok, Err}
 use Rattle.std.specs.Io.KnownBytes.{Appends}
 use Rattle.flute_parts.specs.Facts.{Same}
@@ -8,9 +8,9 @@ use Rattle.flute_parts.specs.declared.fact.Fact.{Fact}
 use Rattle.flute_parts.specs.declared.fact.Fact.TheVariants.{Info}
 use Rattle.flute_parts.specs.declared.key.Key.{Key}
 use Rattle.flute_journal.specs.Records.{file_header, record_of, IsFileOf}
-use Rattle.flute_journal.specs.Sessions.{listed_tsis}
+use Rattle.flute_journal.specs.Scopes.{is_all}
+use Rattle.flute_journal.specs.declared.scope.Scope.{Scope}
 use Rattle.flute_journal.specs.declared.selection.Selection.{Selection}
-use Rattle.flute_journal.specs.declared.sessions.Sessions.{Sessions}
 use Rattle.flutejoin.specs.Carousel.{SendsObject}
 use Rattle.flutejoin.specs.Extract.{AnswersFrom, Extracts}
 use Rattle.flutejoin.specs.Forget.{Forgets}
@@ -32,13 +32,12 @@ bytes_line n = count_line (codes "bytes") n
 abbrev pub datagrams_line : ℕ → List ℕ
 datagrams_line n = count_line (codes "datagrams") n
 
--- the lines of a join: of all sessions, or of some
-abbrev pub join_lines : Sessions → JoinCounts → List ℕ
-join_lines sessions counts =
+-- the lines of a join: of all objects, or of some
+abbrev pub join_lines : Scope → JoinCounts → List ℕ
+join_lines scope counts =
     count_line (codes "datagrams") counts.datagrams
     ++ count_line (codes "refused") counts.refused
-    ++ (if nat_eq (length (listed_tsis sessions)) 0 then []
-    else count_line (codes "others") counts.others)
+    ++ (if is_all scope then [] else count_line (codes "others") counts.others)
     ++ count_line (codes "entries") counts.entries
 
 -- the lines of a journal of which entries were forgotten
@@ -53,16 +52,16 @@ ForgetsIn input selection counts old new = Forgets selection counts input old ne
 
 module _ {R : Type 0} (unread : R → Option (List ℕ)) where
   -- what these inputs are, joined
-  abbrev pub JoinsAll : ℕ → Sessions → List (JoinInput R) → JoinCounts
+  abbrev pub JoinsAll : ℕ → Scope → List (JoinInput R) → JoinCounts
       → Option (List ℕ) → Option (List ℕ) → Type 0
-  JoinsAll sender sessions inputs counts old new =
+  JoinsAll sender scope inputs counts old new =
       (contents : List (List ℕ)) → AreInputs unread inputs contents
-      → JoinsTo (choice_of sender sessions) contents counts old new
+      → JoinsTo (choice_of sender scope) contents counts old new
 
-  abbrev pub JoinAllFails : ℕ → Sessions → List (JoinInput R) → CommandFault → Type 0
-  JoinAllFails sender sessions inputs fault =
+  abbrev pub JoinAllFails : ℕ → Scope → List (JoinInput R) → CommandFault → Type 0
+  JoinAllFails sender scope inputs fault =
       ((contents : List (List ℕ)) → AreInputs unread inputs contents
-      → JoinToFails (choice_of sender sessions) contents fault)
+      → JoinToFails (choice_of sender scope) contents fault)
       × NamesOneOf (length inputs) fault
 
 -- the journal was read to its end, and the object that it makes whole was written: the same

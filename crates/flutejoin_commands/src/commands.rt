@@ -23,7 +23,7 @@ use crate::merging::MergeWork;
 use crate::outlet::Outlet;
 use crate::sending::SendWork;
 use crate::world::World;
-use flute_journal::{Selection, Sessions};
+use flute_journal::{Scope, Selection};
 use flute_parts::{Info, Key, Sender, Sink, Source};
 use flute_wire::Datagrams;
 use flutejoin::{
@@ -31,7 +31,7 @@ use flutejoin::{
 };
 use std::alloc::Global;
 
-/// Joins what the files of these names tell of the chosen sessions into the output of this name,
+/// Joins what the files of these names tell of the chosen objects into the output of this name,
 /// which may be one of them, and prints the numbers.
 ///
 /// # Errors
@@ -44,23 +44,23 @@ pub fn join<W: World, O: Outlet, E: Sink>(
     out: &str,
     overwrites: Overwrites,
     sender: Sender,
-    sessions: Sessions,
+    scope: Scope,
     paths: &[&str],
     output: &mut O,
     errors: &mut E,
 ) -> Result<(), CommandFault>
     requires { length paths.now ≤ 64 }
     ensures joined { OnOk result (Leaves
-        (JoinsNames (W.files world.old) sender sessions (map (λ path. path.now) paths.now))
-        (JoinsNames (W.files world.old) sender sessions (map (λ path. path.now) paths.now))
-        (join_lines sessions) out.now
+        (JoinsNames (W.files world.old) sender scope (map (λ path. path.now) paths.now))
+        (JoinsNames (W.files world.old) sender scope (map (λ path. path.now) paths.now))
+        (join_lines scope) out.now
         (outside (W.files world.old) (O.written output.old) (E.written errors.old))
         (outside (W.files world.new) (O.written output.new) (E.written errors.new))) }
     ensures handed_on { OnOk result (O.handed_on output.new ≡ O.written output.new) }
     ensures spared { Spares overwrites out.now (W.files world.old) (W.files world.new) }
     ensures failed { IfErr result (FailsToLeave
-        (JoinsNames (W.files world.old) sender sessions (map (λ path. path.now) paths.now))
-        (JoinNamesFails (W.files world.old) sender sessions (map (λ path. path.now) paths.now))
+        (JoinsNames (W.files world.old) sender scope (map (λ path. path.now) paths.now))
+        (JoinNamesFails (W.files world.old) sender scope (map (λ path. path.now) paths.now))
         out.now
         (outside (W.files world.old) (O.written output.old) (E.written errors.old))
         (outside (W.files world.new) (O.written output.new) (E.written errors.new))) }
@@ -69,7 +69,7 @@ pub fn join<W: World, O: Outlet, E: Sink>(
     let work = JoinWork {
         alloc,
         sender,
-        sessions,
+        scope,
         inputs,
     };
     leave(world, out, work, output, errors)

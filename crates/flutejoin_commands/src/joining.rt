@@ -6,7 +6,7 @@ ghost use Rattle.flutejoin_commands.specs.Works.{JoinsAll, JoinAllFails, join_li
 use crate::nothing::{Nothing, fault_or};
 use crate::output_command::write_into;
 use crate::work::Work;
-use flute_journal::Sessions;
+use flute_journal::Scope;
 use flute_output::Folder;
 use flute_parts::{Sender, Sink, Source};
 use flutejoin::{CommandFault, JoinCounts, JoinInput, Text, join_to};
@@ -17,7 +17,7 @@ use std::alloc::Global;
 pub struct JoinWork<R> {
     pub alloc: Global,
     pub sender: Sender,
-    pub sessions: Sessions,
+    pub scope: Scope,
     pub inputs: Vec<JoinInput<R>>,
     pub ghost few: { length inputs.items ≤ 64 },
 }
@@ -25,17 +25,17 @@ pub struct JoinWork<R> {
 impl<R: Source + Drop> Work for JoinWork<R> {
     type Answer = JoinCounts;
 
-    ghost writes = { λ w. JoinsAll R.unread w.sender w.sessions w.inputs.items };
+    ghost writes = { λ w. JoinsAll R.unread w.sender w.scope w.inputs.items };
 
-    ghost fails = { λ w. JoinAllFails R.unread w.sender w.sessions w.inputs.items };
+    ghost fails = { λ w. JoinAllFails R.unread w.sender w.scope w.inputs.items };
 
-    ghost tells = { λ w. join_lines w.sessions };
+    ghost tells = { λ w. join_lines w.scope };
 
-    ghost clears = { λ w. CouldBeDone (JoinsAll R.unread w.sender w.sessions w.inputs.items) };
+    ghost clears = { λ w. CouldBeDone (JoinsAll R.unread w.sender w.scope w.inputs.items) };
 
     fn write<W: Sink>(&mut self, sink: &mut W) -> Result<JoinCounts, CommandFault> {
         let inputs = &mut self.inputs;
-        join_to(self.alloc, self.sender, &self.sessions, inputs, sink)
+        join_to(self.alloc, self.sender, &self.scope, inputs, sink)
     }
 
     fn without_output(&mut self, reason: CommandFault) -> CommandFault {
@@ -46,7 +46,7 @@ impl<R: Source + Drop> Work for JoinWork<R> {
         let mut lines = Text::new();
         lines.push_count("datagrams", counts.datagrams);
         lines.push_count("refused", counts.refused);
-        if !self.sessions.is_all() {
+        if !self.scope.is_all() {
             lines.push_count("others", counts.others);
         }
         lines.push_count("entries", counts.entries);
@@ -54,7 +54,7 @@ impl<R: Source + Drop> Work for JoinWork<R> {
     }
 }
 
-/// Leaves as OUT the journal of all that the inputs tell of the chosen sessions, and in the
+/// Leaves as OUT the journal of all that the inputs tell of the chosen objects, and in the
 /// report its numbers. OUT may be one of the inputs.
 ///
 /// # Errors
@@ -67,17 +67,17 @@ pub fn join_into<F: Folder + Drop, R: Source + Drop, P: Sink>(
     report: &mut P,
 ) -> (Result<(), CommandFault>, F)
     ensures joined { OnOk result.0 (Succeeds
-        (JoinsAll R.unread work.sender work.sessions work.inputs.items)
-        (join_lines work.sessions)
+        (JoinsAll R.unread work.sender work.scope work.inputs.items)
+        (join_lines work.scope)
         (with_beside (devices (F.entries folder) (F.failures folder)
         (P.written report.old) (P.failures report.old)))
         (devices (F.entries result.1) (F.failures result.1)
         (P.written report.new) (P.failures report.new))) }
     ensures failed { IfErr result.0 (Fails
-        (JoinsAll R.unread work.sender work.sessions work.inputs.items)
-        (JoinAllFails R.unread work.sender work.sessions work.inputs.items)
-        (join_lines work.sessions)
-        (CouldBeDone (JoinsAll R.unread work.sender work.sessions work.inputs.items))
+        (JoinsAll R.unread work.sender work.scope work.inputs.items)
+        (JoinAllFails R.unread work.sender work.scope work.inputs.items)
+        (join_lines work.scope)
+        (CouldBeDone (JoinsAll R.unread work.sender work.scope work.inputs.items))
         (devices (F.entries folder) (F.failures folder)
         (P.written report.old) (P.failures report.old))
         (devices (F.entries result.1) (F.failures result.1)

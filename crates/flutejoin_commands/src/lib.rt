@@ -14,9 +14,7 @@
 //! Two journals, merged (from `commands.rt`):
 //!
 //! ```
-//! world.look(out);
-//! let (first, second) = open_two(world, a, b)?;
-//! world.guard(out, overwrites)?;
+//! let (first, second) = begin_with_two(world, out, overwrites, a, b)?;
 //! let work = MergeWork {
 //!     alloc,
 //!     first,

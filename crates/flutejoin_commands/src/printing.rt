@@ -9,12 +9,13 @@ ghost use Rattle.flutejoin.specs.declared.command_fault.CommandFault.TheVariants
 ghost use Rattle.flutejoin_commands.specs.Prints.{IsHandedOn, FailsToFlush};
 
 use crate::report::Report;
+use flute_journal::Selection;
 use flute_parts::Source;
 use flutejoin::{Aside, CommandFault, gaps_from, packet_to, show_to};
 use std::alloc::Global;
 
-/// Prints what a journal holds, as [`show_to`] writes it, and hands it on: after a fault of the
-/// journal too.
+/// Prints what is selected of a journal, as [`show_to`] writes it, and hands it on: after a fault
+/// of the journal too.
 ///
 /// # Errors
 ///
@@ -22,14 +23,15 @@ use std::alloc::Global;
 pub fn show_on<R: Source, P: Report>(
     alloc: Global,
     source: &mut R,
+    selection: &Selection,
     report: &mut P,
 ) -> Result<(), CommandFault>
-    ensures shown { OnOk result
-        (ShowsAll (R.unread source.old) (P.written report.old) (P.written report.new)) }
+    ensures shown { OnOk result (ShowsAll selection.now
+        (R.unread source.old) (P.written report.old) (P.written report.new)) }
     ensures failed { IfErr result (λ fault.
-        ShowFails (R.unread source.old) (R.unread source.new)
+        ShowFails selection.now (R.unread source.old) (R.unread source.new)
         (P.written report.old) (P.written report.new) fault
-        ⊎ FailsToFlush (ShowsAll (R.unread source.old)
+        ⊎ FailsToFlush (ShowsAll selection.now (R.unread source.old)
         (P.written report.old) (P.written report.new)) fault) }
     ensures flushed { IsHandedOn (P.failures report.old) (P.failures report.new)
         (P.written report.new) (P.handed_on report.new) }
@@ -37,11 +39,12 @@ pub fn show_on<R: Source, P: Report>(
     ensures cause { IfErr result (λ fault. fault ≡ CannotWrite
         → P.failures report.old < P.failures report.new) }
 {
-    let shown = show_to(alloc, source, report);
+    let shown = show_to(alloc, source, selection, report);
     hand_on(report, shown)
 }
 
-/// Prints what is missing of the objects of a journal, as [`gaps_from`] writes it, and hands it on.
+/// Prints what is missing of the selected objects of a journal, as [`gaps_from`] writes it, and
+/// hands it on.
 /// The lines are put aside as `lines` and `gap_lines`, which are empty at first.
 ///
 /// # Errors
@@ -50,12 +53,13 @@ pub fn show_on<R: Source, P: Report>(
 pub fn gaps_on<R: Source, A: Aside, P: Report>(
     alloc: Global,
     source: &mut R,
+    selection: &Selection,
     lines: &mut A,
     gap_lines: &mut A,
     report: &mut P,
 ) -> Result<(), CommandFault>
     ensures listed { A.written lines.old ≡ Some [] → A.written gap_lines.old ≡ Some []
-        → OnOk result (ListsJournal (R.unread source.old)
+        → OnOk result (ListsJournal selection.now (R.unread source.old)
         (Appends (P.written report.old) (P.written report.new))) }
     ensures failed { IfErr result (λ fault.
         GapsFail (R.unread source.old) (R.unread source.new) fault
@@ -63,9 +67,9 @@ pub fn gaps_on<R: Source, A: Aside, P: Report>(
     ensures part { A.written lines.old ≡ Some [] → A.written gap_lines.old ≡ Some []
         → IfErr result (λ fault. fault ≡ CannotWrite
         → (P.written report.new ≡ P.written report.old)
-        ⊎ (ListsJournal (R.unread source.old)
+        ⊎ (ListsJournal selection.now (R.unread source.old)
         (AppendsPart (P.written report.old) (P.written report.new))
-        ⊎ ListsJournal (R.unread source.old)
+        ⊎ ListsJournal selection.now (R.unread source.old)
         (Appends (P.written report.old) (P.written report.new)))) }
     ensures kept { IfErr result (λ fault. fault ≢ CannotWrite
         → P.written report.new ≡ P.written report.old) }
@@ -77,7 +81,7 @@ pub fn gaps_on<R: Source, A: Aside, P: Report>(
         → A.failures lines.old + A.failures gap_lines.old + P.failures report.old
         < A.failures lines.new + A.failures gap_lines.new + P.failures report.new) }
 {
-    let listed = gaps_from(alloc, source, lines, gap_lines, report);
+    let listed = gaps_from(alloc, source, selection, lines, gap_lines, report);
     hand_on(report, listed)
 }
 

@@ -9,6 +9,7 @@ use crate::opening::open_input;
 use crate::printing::{gaps_on, packet_on, show_on};
 use crate::report::Report;
 use crate::world::World;
+use flute_journal::Selection;
 use flutejoin::{CommandFault, Picked};
 use std::alloc::Global;
 
@@ -27,7 +28,7 @@ pub fn packet<P: Report>(alloc: Global, hex: &str, output: &mut P) -> Result<(),
     packet_on(alloc, hex, output)
 }
 
-/// Prints the entries of the journal of this name.
+/// Prints what is selected of the entries of the journal of this name.
 ///
 /// # Errors
 ///
@@ -35,21 +36,22 @@ pub fn packet<P: Report>(alloc: Global, hex: &str, output: &mut P) -> Result<(),
 pub fn show<W: World, P: Report>(
     world: &mut W,
     alloc: Global,
+    selection: &Selection,
     j: &str,
     output: &mut P,
 ) -> Result<(), CommandFault>
-    ensures shown { OnOk result
-        (ShowsName (W.files world.old) j.now (P.written output.old) (P.written output.new)) }
+    ensures shown { OnOk result (ShowsName (W.files world.old) j.now selection.now
+        (P.written output.old) (P.written output.new)) }
     ensures handed_on { OnOk result (P.handed_on output.new ≡ P.written output.new) }
-    ensures failed { IfErr result
-        (ShowNameFails (W.files world.old) j.now (P.written output.old) (P.written output.new)) }
+    ensures failed { IfErr result (ShowNameFails (W.files world.old) j.now selection.now
+        (P.written output.old) (P.written output.new)) }
     ensures same_files { W.files world.new ≡ W.files world.old }
 {
     let mut source = open_input(world, 1, j)?;
-    show_on(alloc, &mut source, output)
+    show_on(alloc, &mut source, selection, output)
 }
 
-/// Prints what is missing of the objects of the journal of this name.
+/// Prints what is missing of the selected objects of the journal of this name.
 ///
 /// # Errors
 ///
@@ -57,11 +59,12 @@ pub fn show<W: World, P: Report>(
 pub fn gaps<W: World, P: Report>(
     world: &mut W,
     alloc: Global,
+    selection: &Selection,
     j: &str,
     output: &mut P,
 ) -> Result<(), CommandFault>
-    ensures listed { OnOk result
-        (ListsName (W.files world.old) j.now (P.written output.old) (P.written output.new)) }
+    ensures listed { OnOk result (ListsName (W.files world.old) j.now selection.now
+        (P.written output.old) (P.written output.new)) }
     ensures handed_on { OnOk result (P.handed_on output.new ≡ P.written output.new) }
     ensures failed { IfErr result
         (ListNameFails (W.files world.old) j.now (P.written output.old) (P.written output.new)) }
@@ -70,7 +73,14 @@ pub fn gaps<W: World, P: Report>(
     let mut source = open_input(world, 1, j)?;
     let mut lines = world.aside()?;
     let mut gap_lines = world.aside()?;
-    gaps_on(alloc, &mut source, &mut lines, &mut gap_lines, output)
+    gaps_on(
+        alloc,
+        &mut source,
+        selection,
+        &mut lines,
+        &mut gap_lines,
+        output,
+    )
 }
 
 /// Leaves a new folder of this name, with a file for each object that the journal of the other

@@ -58,8 +58,8 @@ fn run_line<W: World, O: Outlet, E: Sink>(
 {
     match line {
         Line::Packet { hex } => packet(alloc, hex, output),
-        Line::Show { j } => show(world, alloc, j, output),
-        Line::Gaps { j } => gaps(world, alloc, j, output),
+        Line::Show { selection, j } => show(world, alloc, &selection, j, output),
+        Line::Gaps { selection, j } => gaps(world, alloc, &selection, j, output),
         Line::ExtractAll {
             out,
             sender,
@@ -101,7 +101,7 @@ fn run_line<W: World, O: Outlet, E: Sink>(
             out,
             force,
             sender,
-            sessions,
+            scope,
             inputs,
         } => {
             let overwrites = Overwrites::of_journal(force);
@@ -111,7 +111,7 @@ fn run_line<W: World, O: Outlet, E: Sink>(
                 out,
                 overwrites,
                 sender,
-                sessions,
+                scope,
                 inputs.as_slice(),
                 output,
                 errors,

@@ -29,7 +29,7 @@ fn a_journal_and_a_store_are_merged(rt: HostRuntime) -> Result<(), Fail> {
     Ok(())
 }
 
-/// One whole, and one of which a session is taken.
+/// One whole, and one of which a file of a session is taken.
 #[test]
 fn whole_and_chosen_journals_are_merged(rt: HostRuntime) -> Result<(), Fail> {
     let whole = bytes(rt.alloc(), WHOLE)?;
@@ -40,7 +40,13 @@ fn whole_and_chosen_journals_are_merged(rt: HostRuntime) -> Result<(), Fail> {
     assert!(rt; sessions.takes(7));
     assert!(rt; !sessions.is_all());
     let mut all = JournalStream::new(&mut first, MANY);
-    let mut chosen = Chosen::new(JournalStream::new(&mut second, MANY), sessions);
+    let mut scope = Scope::all();
+    assert!(rt; scope.is_all());
+    scope.sessions = sessions;
+    scope.files = true;
+    let key = file().ok_or("a key")?;
+    assert!(rt; scope.takes(&key) && !scope.is_all());
+    let mut chosen = Chosen::new(JournalStream::new(&mut second, MANY), scope);
     let mut sink = MemorySink::new(rt.alloc());
     let joined = merge_two::<4, 4, 4, _, _, _>(rt.alloc(), &mut all, &mut chosen, &mut sink)?;
     assert!(rt; joined.entries == 3);

@@ -12,7 +12,7 @@ use test_vectors::{bytes, journals};
 #[test]
 fn a_line_is_read(rt: HostRuntime) -> Result<(), Fail> {
     let words = ["show".to_string(rt.alloc())?, "J".to_string(rt.alloc())?];
-    assert!(rt; matches!(line_of(rt.alloc(), &words)?, Line::Show { j: "J" }));
+    assert!(rt; matches!(line_of(rt.alloc(), &words)?, Line::Show { j: "J", .. }));
     Ok(())
 }
 
@@ -34,7 +34,12 @@ fn a_packet_is_printed(rt: HostRuntime) -> Result<(), Fail> {
 fn a_journal_is_shown(rt: HostRuntime) -> Result<(), Fail> {
     let journal = bytes(rt.alloc(), journals::CONFLICT)?;
     let mut sink = MemorySink::new(rt.alloc());
-    show_to(rt.alloc(), &mut MemorySource::new(&journal), &mut sink)?;
+    show_to(
+        rt.alloc(),
+        &mut MemorySource::new(&journal),
+        &Selection::all(),
+        &mut sink,
+    )?;
     assert!(rt; !sink.as_slice().is_empty());
     Ok(())
 }
@@ -59,6 +64,7 @@ fn gaps_are_printed_as_the_journal_is_read(rt: HostRuntime) -> Result<(), Fail> 
     gaps_from(
         rt.alloc(),
         &mut source,
+        &Selection::all(),
         &mut lines,
         &mut gap_lines,
         &mut sink,

@@ -1,7 +1,7 @@
 //! What inputs come to together, in memory and as they are read.
 
 use super::*;
-use flute_journal::Sessions;
+use flute_journal::Scope;
 use flute_parts::{MemorySink, MemorySource};
 use flutejoin::{Blob, JoinCounts, JoinInput, MAX_INPUTS, join_inputs, join_to};
 use std::alloc::Global;
@@ -32,6 +32,6 @@ fn join_file(alloc: Global, file: &[u8], sink: &mut MemorySink) -> Result<JoinCo
     if inputs.len() > MAX_INPUTS {
         return Err(Fail::from("too many inputs"));
     }
-    let counts = join_to(alloc, Sender::new(0), &Sessions::all(), &mut inputs, sink)?;
+    let counts = join_to(alloc, Sender::new(0), &Scope::all(), &mut inputs, sink)?;
     Ok(counts)
 }

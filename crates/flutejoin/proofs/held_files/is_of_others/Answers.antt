@@ -1,23 +1,23 @@
--- A packet is of one session.
+-- A packet is of one object.
 use Rattle.std.proofs.Common.{sym, ap, ◌∙◌, not}
 use Rattle.std.specs.Prelude.{is_none}
-use Rattle.flute_journal.specs.Sessions.{listed_tsis, takes}
+use Rattle.flute_journal.specs.Scopes.{takes_key}
 use Rattle.flute_wire.specs.Reading.{packet, facts}
-use Rattle.flutejoin.specs.Joined.{is_other_packet}
+use Rattle.flutejoin.specs.Joined.{choice_of, is_other_packet}
 use Rattle.flutejoin.proofs.Chosen.{all_chosen, packet_taken, packet_passed, taken_if, passed_if}
 use Rattle.flutejoin.proofs.Chosen.{none_other, refused_no_other}
 use Rattle.flutejoin.proofs.held_files.is_of_others.Goals as goal
 
 pub returns-then-is_all-clause-taken : goal.returns-then-is_all-clause-taken
-returns-then-is_all-clause-taken c = λ e sender. all_chosen (listed_tsis c.args.sessions.now)
-    (facts sender c.args.datagram.now) (sym c.is_all.ensures ∙ c.if-is_all.true)
+returns-then-is_all-clause-taken c = λ e. all_chosen (takes_key c.args.scope.now)
+    (facts c.args.sender c.args.datagram.now) (c.is_all.ensures.all c.if-is_all.true)
 
 pub returns-in-Ok-clause-others : goal.returns-in-Ok-clause-others
-returns-in-Ok-clause-others c = λ e sender.
-    packet_passed (listed_tsis c.args.sessions.now) sender c.in-Ok.packet _
-    (c.computed_reading.ensures.facts sender c.args.datagram.now c.in-Ok.packet
+returns-in-Ok-clause-others c = λ e.
+    packet_passed (takes_key c.args.scope.now) c.args.sender c.in-Ok.packet _
+    (c.computed_reading.ensures.facts c.args.sender c.args.datagram.now c.in-Ok.packet
     c.in-Ok.ensures.spelled)
-    (ap (takes (listed_tsis c.args.sessions.now)) (sym c.tsi.ensures) ∙ sym c.takes.ensures ∙
+    (ap (takes_key c.args.scope.now) (sym c.key.ensures) ∙ sym c.takes.ensures ∙
     passed_if c.takes.result e)
 
 pub returns-in-Ok-clause-packet : goal.returns-in-Ok-clause-packet
@@ -25,26 +25,26 @@ returns-in-Ok-clause-packet c = λ e. ap is_none ((c.computed_reading.ensures.pa
     c.args.datagram.now c.in-Ok.packet).1 c.in-Ok.ensures.spelled)
 
 pub returns-in-Ok-clause-taken : goal.returns-in-Ok-clause-taken
-returns-in-Ok-clause-taken c = λ e sender.
-    packet_taken (listed_tsis c.args.sessions.now) sender c.in-Ok.packet _
-    (c.computed_reading.ensures.facts sender c.args.datagram.now c.in-Ok.packet
+returns-in-Ok-clause-taken c = λ e.
+    packet_taken (takes_key c.args.scope.now) c.args.sender c.in-Ok.packet _
+    (c.computed_reading.ensures.facts c.args.sender c.args.datagram.now c.in-Ok.packet
     c.in-Ok.ensures.spelled)
-    (ap (takes (listed_tsis c.args.sessions.now)) (sym c.tsi.ensures) ∙ sym c.takes.ensures ∙
+    (ap (takes_key c.args.scope.now) (sym c.key.ensures) ∙ sym c.takes.ensures ∙
     taken_if c.takes.result e)
 
 pub returns-then-is_all-clause-exact : goal.returns-then-is_all-clause-exact
-returns-then-is_all-clause-exact c = λ sender. none_other (listed_tsis c.args.sessions.now)
-    (packet c.args.datagram.now) (sym c.is_all.ensures ∙ c.if-is_all.true)
+returns-then-is_all-clause-exact c = none_other (choice_of c.args.sender c.args.scope.now)
+    (packet c.args.datagram.now) (c.is_all.ensures.all c.if-is_all.true)
 
 pub returns-in-Ok-clause-exact : goal.returns-in-Ok-clause-exact
-returns-in-Ok-clause-exact c = λ sender.
-    ap not (c.takes.ensures ∙ ap (takes (listed_tsis c.args.sessions.now)) c.tsi.ensures)
-    ∙ sym (ap (is_other_packet (listed_tsis c.args.sessions.now))
+returns-in-Ok-clause-exact c =
+    ap not (c.takes.ensures ∙ ap (takes_key c.args.scope.now) c.key.ensures)
+    ∙ sym (ap (is_other_packet (choice_of c.args.sender c.args.scope.now))
     ((c.computed_reading.ensures.packet c.args.datagram.now c.in-Ok.packet).1
     c.in-Ok.ensures.spelled))
 
 pub returns-in-Err-clause-exact : goal.returns-in-Err-clause-exact
-returns-in-Err-clause-exact c = λ sender.
-    refused_no_other (listed_tsis c.args.sessions.now) (packet c.args.datagram.now) (λ p e.
-    let ok = (c.in-Err.ensures.packet p).1 ((c.computed_reading.ensures.packet c.args.datagram.now
-    p).0 e) in cc)
+returns-in-Err-clause-exact c =
+    refused_no_other (choice_of c.args.sender c.args.scope.now) (packet c.args.datagram.now)
+    (λ p e. let ok = (c.in-Err.ensures.packet p).1 ((c.computed_reading.ensures.packet
+    c.args.datagram.now p).0 e) in cc)

@@ -5,5 +5,5 @@ use Rattle.flutejoin.proofs.inspecting.inspect_all.Given as goal
 
 abbrev pub invariant-loop-k : goal.invariant-loop-k
 invariant-loop-k g l =
-    InspectedSoFar (choice_of l.fn.sender l.fn.sessions) g.R.Source.unread g.R.Source.failures
+    InspectedSoFar (choice_of l.fn.sender l.fn.scope) g.R.Source.unread g.R.Source.failures
     l.fn.inputs l.inputs l.held l.k

@@ -25,9 +25,9 @@ returns-then-not-held-clause-failed g c = λ contents inputs.
     let found = c.in_ok-held.ensures.inspected contents inputs in
     let over =
     subst
-    (λ b. HoldsAll (choice_of c.args.sender c.args.sessions.now) b c.in_ok-held.held.told found.0)
+    (λ b. HoldsAll (choice_of c.args.sender c.args.scope.now) b c.in_ok-held.held.told found.0)
     c.if-not-held.true found.2.holds in
-    c.fault_or_full.ensures.failed (choice_of c.args.sender c.args.sessions.now) contents found.0
+    c.fault_or_full.ensures.failed (choice_of c.args.sender c.args.scope.now) contents found.0
     found.1 over
 
 pub returns-then-not-held-clause-read_failed : goal.returns-then-not-held-clause-read_failed
@@ -43,7 +43,7 @@ returns-in_err-joined-clause-failed g c = λ contents inputs.
     c.from_residual-in_err-joined.ensures.1 in
     let found = c.in_ok-held.ensures.inspected contents inputs in
     rw (e.1, e.2)
-    (c.in_err-joined.ensures.failed (choice_of c.args.sender c.args.sessions.now) contents found.0
+    (c.in_err-joined.ensures.failed (choice_of c.args.sender c.args.scope.now) contents found.0
     found.1)
 
 pub returns-in_err-joined-clause-read_failed : goal.returns-in_err-joined-clause-read_failed
@@ -60,7 +60,7 @@ pub returns-then-not-joined-clause-failed : goal.returns-then-not-joined-clause-
 returns-then-not-joined-clause-failed g c = λ contents inputs.
     let found = c.in_ok-held.ensures.inspected contents inputs in
     full_together
-    (c.in_ok-joined.ensures.joined (choice_of c.args.sender c.args.sessions.now) contents found.0
+    (c.in_ok-joined.ensures.joined (choice_of c.args.sender c.args.scope.now) contents found.0
     found.1)
     c.if-not-held.false found.2
     (not_true c.in_ok-joined.joined.within c.if-not-joined.true)
@@ -69,7 +69,7 @@ pub returns-then-joined-clause-failed : goal.returns-then-joined-clause-failed
 returns-then-joined-clause-failed g c = λ contents inputs.
     let found = c.in_ok-held.ensures.inspected contents inputs in
     not_written
-    (c.in_ok-joined.ensures.joined (choice_of c.args.sender c.args.sessions.now) contents found.0
+    (c.in_ok-joined.ensures.joined (choice_of c.args.sender c.args.scope.now) contents found.0
     found.1)
     c.if-not-held.false found.2
     (not_false c.in_ok-joined.joined.within c.if-not-joined.false)
@@ -78,7 +78,7 @@ pub returns-clause-joined : goal.returns-clause-joined
 returns-clause-joined g c = λ contents inputs.
     let found = c.in_ok-held.ensures.inspected contents inputs in
     joins_to
-    (c.in_ok-joined.ensures.joined (choice_of c.args.sender c.args.sessions.now) contents found.0
+    (c.in_ok-joined.ensures.joined (choice_of c.args.sender c.args.scope.now) contents found.0
     found.1)
     c.if-not-held.false found.2
     (subst (λ n. n ≤ 64) inputs.as_many c.requires.few)

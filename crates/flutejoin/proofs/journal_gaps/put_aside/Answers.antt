@@ -4,6 +4,7 @@ use Rattle.std.proofs.lemmas.Result.{err_from_is_err_and}
 use Rattle.flutejoin.specs.Gaps.{ReadsWithin}
 use Rattle.flutejoin.specs.Load.{LoadFails}
 use Rattle.flutejoin.specs.Packet.{write_failures}
+use Rattle.flutejoin.specs.Selected.{selected}
 use Rattle.flutejoin.specs.declared.command_fault.CommandFault.TheVariants.{Input}
 use Rattle.flutejoin.proofs.Asides.{counted, on_done, was_done, on_any, fails_aside}
 use Rattle.flutejoin.proofs.Mapped.{read_failed, read_done}
@@ -48,8 +49,8 @@ returns-then-not-count-clause-failed g c =
     (c.count.ensures.over h.read.entries f (sym c.address.ensures) (entry_rises w to h.read f gave)
     h.read.counts c.if-not-count.true)
 
-pub add-requires : goal.add-requires
-add-requires g c =
+pub add_selected-requires : goal.add_selected-requires
+add_selected-requires g c =
     let v = g.R.Source.unread c.loop-fact.reader.source.now in
     let w = g.R.Source.unread c.next_with.new.self.source.now in
     let from = c.loop-fact.reader.state in
@@ -89,11 +90,11 @@ pub returns-in_err-at_aside-clause-failures : goal.returns-in_err-at_aside-claus
 returns-in_err-at_aside-clause-failures g c =
     let e = err_from_is_err_and c.from_residual-in_err-at_aside.result
     c.from_residual-in_err-at_aside.ensures.1 in
-    let one : ◌≡◌ {A = ℕ} (if is_ok c.add.result then 0 else 1) 1 =
-    counted c.at_aside.result c.add.result c.at_aside.ensures.same c.at_aside.ensures.fault
+    let one : ◌≡◌ {A = ℕ} (if is_ok c.add_selected.result then 0 else 1) 1 =
+    counted c.at_aside.result c.add_selected.result c.at_aside.ensures.same c.at_aside.ensures.fault
     ∙ ap write_failures (c.in_err-at_aside.was ∙ ap Err c.in_err-at_aside.ensures.fault) in
     rw (e.1 ∙ ap Err (e.2 ∙ c.in_err-at_aside.ensures.fault))
-    (omega (arith, c.add.ensures.failures, one, c.loop-fact.invariant.failures))
+    (omega (arith, c.add_selected.ensures.failures, one, c.loop-fact.invariant.failures))
 
 pub loop-fact-preserved : goal.loop-fact-preserved
 loop-fact-preserved g c =
@@ -108,32 +109,32 @@ loop-fact-preserved g c =
     let gave = entry_given c.loop-fact.reader.max_entries from to v w c.next_with.result f
     c.next_with.ensures.gives h.limit r in
     let rises = entry_rises w to h.read f gave in
-    let done : is_ok c.add.result ≡ true = sym c.at_aside.ensures.same ∙ ap is_ok
+    let done : is_ok c.add_selected.result ≡ true = sym c.at_aside.ensures.same ∙ ap is_ok
     c.in_ok-at_aside.was in
-    let none : ◌≡◌ {A = ℕ} (if is_ok c.add.result then 0 else 1) 0 = ap
+    let none : ◌≡◌ {A = ℕ} (if is_ok c.add_selected.result then 0 else 1) 0 = ap
     (λ (b : Bool). if b then 0 else 1) done in
     record {
       read =
-          one_more_read w to h.read f gave c.count.new.self c.add.new.self
+          one_more_read w to h.read f gave c.count.new.self c.add_selected.new.listing
           (record {
-            lines = g.A.Sink.written c.add.new.lines;
-            gap_lines = g.A.Sink.written c.add.new.gap_lines;
+            lines = g.A.Sink.written c.add_selected.new.lines;
+            gap_lines = g.A.Sink.written c.add_selected.new.gap_lines;
           })
           (c.count.ensures.within h.read.entries f (sym c.address.ensures) rises h.read.counts
           c.if-not-count.false)
-          (λ known l. was_done c.add.result done (c.add.ensures.added known h.read.entries rises
-          l));
+          (λ known l. was_done c.add_selected.result done
+          (c.add_selected.ensures.added known h.read.entries rises l));
       limit = c.next_with.ensures.limit ∙ h.limit;
       source = c.next_with.ensures.source ∙ h.source;
       reads = no_read_failure c.next_with.result _ _ _ _ _ r c.next_with.ensures.failures h.reads;
-      failures = omega (arith, c.add.ensures.failures, none, h.failures);
+      failures = omega (arith, c.add_selected.ensures.failures, none, h.failures);
     }
 
 pub finish-requires : goal.finish-requires
 finish-requires g c =
     let h = c.loop-fact.invariant in
     let o = is_open (g.R.Source.unread c.args.source.now) c.loop-fact.reader.state h.read in
-    (h.read.entries, o.0, o.1, o.2)
+    (selected c.args.selection.now h.read.entries, o.0, o.1, o.2)
 
 pub returns-clause-listed : goal.returns-clause-listed
 returns-clause-listed g c = λ none no_gaps.
@@ -153,7 +154,8 @@ returns-clause-listed g c = λ none no_gaps.
       all_read w to h.read gave l.lines l.listed,
       l.lines_known refl,
     ))
-    (c.finish.ensures.finished true h.read.entries (read_rises w to h.read)
+    (c.finish.ensures.finished true (selected c.args.selection.now h.read.entries)
+    (read_rises w to h.read)
     (h.read.lists true (λ is. (none, no_gaps)))))
 
 pub returns-clause-whole : goal.returns-clause-whole

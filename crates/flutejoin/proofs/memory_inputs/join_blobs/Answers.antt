@@ -1,5 +1,6 @@
 -- One input more is opened.
 use Rattle.std.proofs.Common.{ℕ, List, Option, Some, sym, ap, ◌∙◌, subst, arith}
+use Rattle.std.proofs.Math.Path.{fun_ext}
 use Rattle.std.proofs.lemmas.Option.{slice_get-get_or}
 use Rattle.std.specs.Prelude.{IfSome}
 use Rattle.flutejoin.specs.JoinInputs.{IsInput}
@@ -26,9 +27,9 @@ returns-in-Ok-join_to-clause-joined c =
     all_opened (λ s. Some s.unread.now) c.loop-input.invariant
     (omega (arith, c.loop-input-test.false)) c.deref_mut.result.now c.deref_mut.ensures.value in
     subst
-    (λ tsis. JoinsTo (record { sender = c.args.sender; tsis = tsis }) c.args.inputs.now
+    (λ takes. JoinsTo (record { sender = c.args.sender; takes = takes }) c.args.inputs.now
     c.in-Ok-join_to.counts (Some c.args.sink.now.bytes.items) (Some c.join_to.new.sink.bytes.items))
-    c.all.ensures (c.in-Ok-join_to.ensures.joined c.args.inputs.now opened)
+    (fun_ext c.all.ensures) (c.in-Ok-join_to.ensures.joined c.args.inputs.now opened)
 
 pub returns-clause-failed : goal.returns-clause-failed
 returns-clause-failed c =
@@ -38,5 +39,5 @@ returns-clause-failed c =
     rw c.in_memory.ensures
     (memory_fails c.args.inputs.now c.in-Err.fault
     (subst
-    (λ tsis. JoinToFails (record { sender = c.args.sender; tsis = tsis }) c.args.inputs.now
-    c.in-Err.fault) c.all.ensures (c.in-Err.ensures.failed c.args.inputs.now opened)))
+    (λ takes. JoinToFails (record { sender = c.args.sender; takes = takes }) c.args.inputs.now
+    c.in-Err.fault) (fun_ext c.all.ensures) (c.in-Err.ensures.failed c.args.inputs.now opened)))

@@ -7,4 +7,7 @@ returns c =
     let with_force = argument_added with_output c.force.ensures c.in_ok-arg-2.ensures in
     let with_source = argument_added with_force c.source.ensures c.in_ok-arg-3.ensures in
     let with_sessions = argument_added with_source c.sessions.ensures c.in_ok-arg-4.ensures in
-    argument_added with_sessions c.inputs.ensures c.in_ok-command.ensures
+    let with_object = argument_added with_sessions c.object.ensures c.in_ok-arg-5.ensures in
+    let with_instance = argument_added with_object c.instance.ensures c.in_ok-arg-6.ensures in
+    let with_kind = argument_added with_instance c.no_fdt.ensures c.in_ok-arg-7.ensures in
+    argument_added with_kind c.inputs.ensures c.in_ok-command.ensures

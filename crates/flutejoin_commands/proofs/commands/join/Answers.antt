@@ -12,14 +12,14 @@ returns-clause-joined g c =
     let unread = g.W.Input.Source.unread in
     let names = map (λ path. path.now) c.args.paths.now in
     let a = c.args in
-    let all = JoinsAll unread a.sender a.sessions c.in_ok-inputs.inputs.items in
+    let all = JoinsAll unread a.sender a.scope c.in_ok-inputs.inputs.items in
     let new = outside (g.W.Inputs.files c.leave.new.world) (g.O.Sink.written c.leave.new.output)
     (g.E.Sink.written c.leave.new.errors) in
-    joined unread a.sender a.sessions names c.in_ok-inputs.inputs.items files
+    joined unread a.sender a.scope names c.in_ok-inputs.inputs.items files
     c.in_ok-inputs.ensures.opened
     a.out.now (outside files (g.O.Sink.written a.output.now) (g.E.Sink.written a.errors.now)) new
-    (join_lines a.sessions) c.leave.result
-    (subst (λ f. OnOk c.leave.result (Leaves all all (join_lines a.sessions)
+    (join_lines a.scope) c.leave.result
+    (subst (λ f. OnOk c.leave.result (Leaves all all (join_lines a.scope)
     a.out.now (outside f (g.O.Sink.written a.output.now) (g.E.Sink.written a.errors.now)) new))
     c.begin_join.ensures.same_files
     c.leave.ensures.left)
@@ -30,11 +30,11 @@ returns-clause-failed g c =
     let unread = g.W.Input.Source.unread in
     let names = map (λ path. path.now) c.args.paths.now in
     let a = c.args in
-    let all = JoinsAll unread a.sender a.sessions c.in_ok-inputs.inputs.items in
-    let fails = JoinAllFails unread a.sender a.sessions c.in_ok-inputs.inputs.items in
+    let all = JoinsAll unread a.sender a.scope c.in_ok-inputs.inputs.items in
+    let fails = JoinAllFails unread a.sender a.scope c.in_ok-inputs.inputs.items in
     let new = outside (g.W.Inputs.files c.leave.new.world) (g.O.Sink.written c.leave.new.output)
     (g.E.Sink.written c.leave.new.errors) in
-    not_joined unread a.sender a.sessions names c.in_ok-inputs.inputs.items files
+    not_joined unread a.sender a.scope names c.in_ok-inputs.inputs.items files
     c.in_ok-inputs.ensures.opened
     a.out.now (outside files (g.O.Sink.written a.output.now) (g.E.Sink.written a.errors.now)) new
     c.leave.result

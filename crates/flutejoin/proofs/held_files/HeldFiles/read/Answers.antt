@@ -48,10 +48,10 @@ loop-datagram-preserved g c =
         rw c.next_with.ensures.limit more,
         λ before holds.
             subst
-            (λ l. HoldsDatagrams (choice_of c.args.sender c.args.sessions.now) c.take.new.self l)
+            (λ l. HoldsDatagrams (choice_of c.args.sender c.args.scope.now) c.take.new.self l)
             (append_assoc before all.0 (c.in-Some.datagram ∷ []))
             (subst
-            (λ d. HoldsDatagrams (choice_of c.args.sender c.args.sessions.now) c.take.new.self
+            (λ d. HoldsDatagrams (choice_of c.args.sender c.args.scope.now) c.take.new.self
             ((before ++ all.0) ++ d ∷ [])) c.as_slice.ensures.bytes
             (c.in_ok-take.ensures.taken (before ++ all.0) (all.2 before holds))),
         omega (arith, few.0, all.3, longer),

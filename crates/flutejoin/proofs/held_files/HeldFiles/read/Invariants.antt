@@ -10,7 +10,7 @@ invariant-loop-datagram g l = record {
   so_far : (datagrams : List (List ℕ)) × Sofar file_framing l.reader.max_records
       (g.R.Source.unread l.fn.source) (g.R.Source.unread l.reader.source.now) l.reader.state
       datagrams
-      × HoldsMore (choice_of l.fn.sender l.fn.sessions) l.fn.self l.self datagrams
+      × HoldsMore (choice_of l.fn.sender l.fn.scope) l.fn.self l.self datagrams
       × (l.self.told.datagrams ≤ l.fn.self.told.datagrams + length datagrams);
   counted : IsCounted l.self;
   limit : l.reader.max_records ≡ 16777216;

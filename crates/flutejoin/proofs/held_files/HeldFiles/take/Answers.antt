@@ -6,34 +6,34 @@ use Rattle.flutejoin.proofs.held_files.HeldFiles.take.Goals as goal
 
 pub returns-then-not-self-clause-taken : goal.returns-then-not-self-clause-taken
 returns-then-not-self-clause-taken c = λ ds h. holds_past
-    (choice_of c.args.sender c.args.sessions.now) c.args.self.now ds c.args.datagram.now
+    (choice_of c.args.sender c.args.scope.now) c.args.self.now ds c.args.datagram.now
     c.if-not-self.true h
 
 pub returns-then-is_of_others-clause-taken : goal.returns-then-is_of_others-clause-taken
 returns-then-is_of_others-clause-taken c = λ ds h.
-    holds_passed (choice_of c.args.sender c.args.sessions.now) c.args.self.now _ ds
+    holds_passed (choice_of c.args.sender c.args.scope.now) c.args.self.now _ ds
     c.args.datagram.now c.if-not-self.false c.if-not-self.false
-    (c.is_of_others.ensures.others c.if-is_of_others.true c.args.sender)
+    (c.is_of_others.ensures.others c.if-is_of_others.true)
     (c.is_of_others.ensures.packet c.if-is_of_others.true) refl refl
-    (sym (c.is_of_others.ensures.exact c.args.sender) ∙ c.if-is_of_others.true) h
+    (sym c.is_of_others.ensures.exact ∙ c.if-is_of_others.true) h
 
 pub returns-in-Err-Full-clause-taken : goal.returns-in-Err-Full-clause-taken
 returns-in-Err-Full-clause-taken c = λ ds h.
-    holds_over (choice_of c.args.sender c.args.sessions.now) c.args.self.now
+    holds_over (choice_of c.args.sender c.args.scope.now) c.args.self.now
     (record { told = c.take.new.self; fits = false; others = c.args.self.now.others }) ds
     c.args.datagram.now _ c.in-Err-Full.field-0 c.if-not-self.false refl
-    (c.is_of_others.ensures.taken c.if-is_of_others.false c.args.sender)
+    (c.is_of_others.ensures.taken c.if-is_of_others.false)
     c.in-Err-Full.ensures.failed c.in-Err-Full.field-0-is c.in-Err-Full.ensures.counts refl h
 
 pub returns-in_default-2-clause-taken : goal.returns-in_default-2-clause-taken
 returns-in_default-2-clause-taken c =
-    holds_taken (choice_of c.args.sender c.args.sessions.now) c.take.result c.args.self.now
+    holds_taken (choice_of c.args.sender c.args.scope.now) c.take.result c.args.self.now
     (record {
       told = c.take.new.self;
       fits = c.args.self.now.fits;
       others =
           c.args.self.now.others;
     }) c.args.datagram.now _ c.if-not-self.false c.if-not-self.false
-    (c.is_of_others.ensures.taken c.if-is_of_others.false c.args.sender) refl
-    (sym (c.is_of_others.ensures.exact c.args.sender) ∙ c.if-is_of_others.false)
+    (c.is_of_others.ensures.taken c.if-is_of_others.false) refl
+    (sym c.is_of_others.ensures.exact ∙ c.if-is_of_others.false)
     c.take.ensures.taken

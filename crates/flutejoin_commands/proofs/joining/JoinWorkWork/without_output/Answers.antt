@@ -6,7 +6,7 @@ use Rattle.flutejoin_commands.proofs.joining.JoinWorkWork.without_output.Goals a
 pub returns-clause-first : goal.returns-clause-first
 returns-clause-first g c =
     let w = c.args.self.now in
-    first_fault (JoinsAll g.R.Source.unread w.sender w.sessions w.inputs.items)
-    (JoinAllFails g.R.Source.unread w.sender w.sessions w.inputs.items)
+    first_fault (JoinsAll g.R.Source.unread w.sender w.scope w.inputs.items)
+    (JoinAllFails g.R.Source.unread w.sender w.scope w.inputs.items)
     None None c.write.result c.args.reason c.fault_or.result
     c.write.ensures.written c.write.ensures.failed c.fault_or.ensures

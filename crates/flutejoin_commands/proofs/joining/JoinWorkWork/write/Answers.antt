@@ -12,7 +12,7 @@ returns-clause-failed g c =
     let w = c.args.self.now in
     IfErr-both c.join_to.result (AreInputs g.R.Source.unread w.inputs.items)
     (λ (contents : List (List ℕ)) (e : CommandFault).
-    JoinToFails (choice_of w.sender w.sessions) contents e)
+    JoinToFails (choice_of w.sender w.scope) contents e)
     (λ (e : CommandFault). NamesOneOf (length w.inputs.items) e)
     (λ contents inputs. c.join_to.ensures.failed contents
     (subst (λ l. AreInputs g.R.Source.unread l contents) (sym c.deref_mut.ensures.value) inputs))

@@ -1,0 +1,63 @@
+-- The entries that are selected.
+use Rattle.std.proofs.Common.{◌≡◌, ◌≤◌, Bool, true, false, List, [], ◌∷◌, ◌++◌, length, inl, inr}
+use Rattle.std.proofs.Common.{refl, sym, ap, ◌∙◌, subst, append-nil}
+use Rattle.std.specs.Prelude.{filter}
+use Rattle.std.proofs.lemmas.Bool.{cases_Bool}
+use Rattle.std.proofs.lemmas.List.Elements.{filter-append}
+use Rattle.std.proofs.lemmas.List.Sums.{count_by-le-length, length-filter}
+use Rattle.flute_parts.specs.Addresses.{address}
+use Rattle.flute_parts.specs.Facts.{IsRising, StandAfter}
+use Rattle.flute_parts.specs.declared.address.Address.{Address}
+use Rattle.flute_parts.specs.declared.fact.Fact.{Fact}
+use Rattle.flute_journal.specs.Selections.{selects}
+use Rattle.flute_journal.specs.declared.selection.Selection.{Selection}
+use Rattle.flutejoin.specs.Lines.{fact_line}
+use Rattle.flutejoin.specs.Selected.{selected}
+use Rattle.flutejoin.specs.Show.{entry_lines}
+
+after_picked : (p : Fact → Bool) (a : Address) (facts : List Fact) → StandAfter a facts →
+    StandAfter a (filter p facts)
+after_picked p a [] s = tt
+after_picked p a (f ∷ facts) s = elim (cases_Bool (p f)) [
+  | inl t ↦ rw t (s.0, after_picked p a facts s.1)
+  | inr t ↦ rw t (after_picked p a facts s.1)
+]
+
+pub rising_picked : (p : Fact → Bool) (facts : List Fact) → IsRising facts → IsRising
+    (filter p facts)
+rising_picked p [] r = tt
+rising_picked p (f ∷ facts) r = elim (cases_Bool (p f)) [
+  | inl t ↦ rw t (after_picked p (address f) facts r.0, rising_picked p facts r.1)
+  | inr t ↦ rw t (rising_picked p facts r.1)
+]
+
+module _ (s : Selection) where
+  pub few_selected : (F : List Fact) → length (selected s F) ≤ length F
+  few_selected F = subst (λ n. n ≤ length F) (sym (length-filter (selects s) F))
+      (count_by-le-length (selects s) F)
+
+  module _ (f : Fact) where
+    pub just_selected : selects s f ≡ true → selected s (f ∷ []) ≡ f ∷ []
+    just_selected e = rw e refl
+
+    pub just_none : selects s f ≡ false → selected s (f ∷ []) ≡ []
+    just_none e = rw e refl
+
+    pub just_line : selects s f ≡ true → entry_lines (selected s (f ∷ [])) ≡ fact_line f
+    just_line e = ap entry_lines (just_selected e) ∙ append-nil (fact_line f)
+
+    module _ (F : List Fact) where
+      pub selected_more : selected s (F ++ f ∷ []) ≡ selected s F ++ selected s (f ∷ [])
+      selected_more = filter-append (selects s) F (f ∷ [])
+
+      pub one_selected : selects s f ≡ true → selected s (F ++ f ∷ []) ≡ selected s F ++ f ∷ []
+      one_selected e = selected_more ∙ ap (λ l. selected s F ++ l) (just_selected e)
+
+      pub none_selected : selects s f ≡ false → selected s (F ++ f ∷ []) ≡ selected s F
+      none_selected e =
+          selected_more ∙ ap (λ l. selected s F ++ l) (just_none e) ∙ append-nil (selected s F)
+
+      pub selected_rises : selects s f ≡ true → IsRising (F ++ f ∷ [])
+          → IsRising (selected s F ++ f ∷ [])
+      selected_rises e r =
+          subst IsRising (one_selected e) (rising_picked (selects s) (F ++ f ∷ []) r)
