@@ -1,14 +1,18 @@
 -- The bytes that a walk gives.
-use Rattle.std.proofs.Common.{◌≡◌, ℕ, zero, suc, ◌+◌, ◌-◌, List, [], ◌∷◌, ◌++◌, length, take, Option, Some, None, refl, sym, ap, ◌∙◌, subst, arith, append_assoc}
+use Rattle.std.proofs.Common.{◌≡◌, ℕ, zero, suc, ◌+◌, ◌-◌, List, [], ◌∷◌, ◌++◌, length, take}
+use Rattle.std.proofs.Common.{Option, Some, None, refl, sym, ap, ◌∙◌, subst, arith, append_assoc}
 use Rattle.flute_store.proofs.Lookups.{Above, above-before, blocks_from-all, blocks_from-next}
+use Rattle.flute_store.proofs.Lookups.{blocks_from-end, Entry, value-past, value-here}
 use Rattle.std.{specs.Io.KnownBytes.{Appends}, proofs.KnownBytes.{Appends-trans}}
 use Rattle.flute_join.proofs.Public.{not_cons_nil}
 use Rattle.flute_parts.specs.Devices.{AppendsPart}
 use Rattle.flute_parts.proofs.Public.{AppendsPart-first, AppendsPart-second}
-use Rattle.flute_store.proofs.Lookups.{blocks_from-end, Entry, value-past, value-here}
-use Rattle.flute_store.proofs.{Runs.{runs-listed}, ToldObjects.{wants-told, told-information}}
+use Rattle.flute_store.proofs.Runs.{runs-listed}
+use Rattle.flute_store.proofs.ToldObjects.{ToldGaps, wants-told, told-information}
 use Rattle.flute_store.proofs.{WholeObjects.{gapless-whole}, ObjectLength.{object-length}}
-use Rattle.flute_store.proofs.Upcoming.{here, AtHere, AtPassed, Tells, told, others_left, symbols-first, symbols-end, others-above, inside-less, block-left, taken, taken-left}
+use Rattle.flute_store.proofs.Upcoming.{here, AtHere, AtPassed, Tells, told, others_left}
+use Rattle.flute_store.proofs.Upcoming.{symbols-first, symbols-end, others-above, inside-less}
+use Rattle.flute_store.proofs.Upcoming.{block-left, taken, taken-left}
 use Rattle.flute_store.proofs.Common
 use Common.{flat_map, value_at, Cell, One, Information, IsValid, symbol_id_cmp, ids, symbol_id, Key}
 use Common.{SymbolId, Fact, Reason, Gap, Object, End, BlockEnd, Passed, Fitting, Wanted, HeldScan}
@@ -16,7 +20,7 @@ use Common.{Turn, Whole, object, value_bytes, runs, gaps, listed, symbol_fact, I
 use Common.{blocks_from, Walk, at_start, left, pending, all_left, gaps_left, IsWalk, after_pass}
 use Common.{after_take, after_begin, upcoming_of, Keeps, walk_in, bound, IsHeldScan, Turns}
 use Common.{cell_bytes, found_bytes, held_bytes, bytes_left, KeepsBytes, GivesFirst, IsNotWhole}
-use Common.{WritesWhole, WritesPart}
+use Common.{WritesWhole, WritesPart, info_address, Info, fact_at}
 
 -- no bytes are given
 abbrev pub GivesNone : Option Turn → Type 0
@@ -25,27 +29,39 @@ GivesNone (Some Turn.Fitting) = ⊥
 GivesNone (Some Turn.Passed) = ⊥
 GivesNone turn = Unit {0}
 
-bytes-past : (e : Entry) (es : List Entry) (xs : List SymbolId) → Above e.0 xs → held_bytes (e ∷ es) xs ≡ held_bytes es xs
+bytes-past : (e : Entry) (es : List Entry) (xs : List SymbolId) → Above e.0 xs
+    → held_bytes (e ∷ es) xs ≡ held_bytes es xs
 unfolding held_bytes
 bytes-past e es [] a = refl
-bytes-past e es (x ∷ xs) a = (λ i. found_bytes (value-past e es x a.0 i) ++ bytes-past e es xs a.1 i)
+bytes-past e es (x ∷ xs) a =
+    (λ i. found_bytes (value-past e es x a.0 i) ++ bytes-past e es xs a.1 i)
 
-bytes-here : (e : Entry) (es : List Entry) (q : SymbolId) (xs : List SymbolId) → e.0 ≡ q → Above q xs → held_bytes (e ∷ es) (q ∷ xs) ≡ cell_bytes e.1 ++ held_bytes es xs
+bytes-here : (e : Entry) (es : List Entry) (q : SymbolId) (xs : List SymbolId) → e.0 ≡ q
+    → Above q xs → held_bytes (e ∷ es) (q ∷ xs) ≡ cell_bytes e.1 ++ held_bytes es xs
 unfolding held_bytes
-bytes-here e es q xs h a = (λ i. found_bytes (value-here e es q h i) ++ bytes-past e es xs (subst (λ z. Above z xs) (sym h) a) i)
+bytes-here e es q xs h a =
+    (λ i. found_bytes (value-here e es q h i) ++ bytes-past e es xs
+    (subst (λ z. Above z xs) (sym h) a) i)
 
 pass-bytes : (w : Walk) → IsWalk w → AtPassed w → bytes_left (after_pass w) ≡ bytes_left w
 unfolding bytes_left
 pass-bytes w p t =
     let l = inside-less w p t.inside in
     let a = above-before t.first.0 (here w) (others_left w) t.before (others-above w p l) in
-    rw (t.held, symbols-first w l, bytes-past t.first t.others (here w ∷ others_left w) (t.before, a))
+    rw (
+      t.held,
+      symbols-first w l,
+      bytes-past t.first t.others (here w ∷ others_left w) (t.before, a),
+    )
 
 begin-bytes : (w : Walk) → IsWalk w → Tells w BlockEnd → bytes_left (after_begin w) ≡ bytes_left w
 unfolding bytes_left
-begin-bytes w p t = ap (held_bytes w.held) (sym (blocks_from-next w.partition w.begun (block-left w p t)) ∙ sym (symbols-end w t.0))
+begin-bytes w p t =
+    ap (held_bytes w.held) (sym (blocks_from-next w.partition w.begun (block-left w p t))
+    ∙ sym (symbols-end w t.0))
 
-take-bytes : (w : Walk) → IsWalk w → (t : AtHere w None) → bytes_left w ≡ cell_bytes t.first.1 ++ bytes_left (after_take w)
+take-bytes : (w : Walk) → IsWalk w → (t : AtHere w None)
+    → bytes_left w ≡ cell_bytes t.first.1 ++ bytes_left (after_take w)
 unfolding bytes_left
 take-bytes w p t =
     let l = inside-less w p t.inside in
@@ -54,7 +70,9 @@ take-bytes w p t =
 
 end-bytes : (w : Walk) → Tells w End → bytes_left w ≡ []
 unfolding bytes_left held_bytes
-end-bytes w t = ap (held_bytes w.held) (symbols-end w t.0 ∙ ap (blocks_from w.partition) t.1 ∙ blocks_from-end w.partition)
+end-bytes w t =
+    ap (held_bytes w.held) (symbols-end w t.0 ∙ ap (blocks_from w.partition) t.1
+    ∙ blocks_from-end w.partition)
 
 -- where nothing is wanted, no gap is given, and no wanted symbol passed
 no-gap : (v : Walk) (g : Gap) (gs : List Gap) → all_left v ≡ [] → gaps_left v ≡ g ∷ gs → ⊥
@@ -66,30 +84,56 @@ no-rest [] b h = h
 no-rest (x ∷ a) b h = absurd (not_cons_nil x (a ++ b) h)
 
 no-wanted : (v : Walk) (r : Reason) → IsWalk v → all_left v ≡ [] → upcoming_of v ≡ Wanted r → ⊥
-no-wanted v r p h e = not_cons_nil (here v, r) (left (taken None v)) (sym (taken-left None v (Some r) p (told v (Wanted r) e)) ∙ no-rest (pending v.run) (left v) h)
+no-wanted v r p h e =
+    not_cons_nil (here v, r) (left (taken None v))
+    (sym (taken-left None v (Some r) p (told v (Wanted r) e)) ∙ no-rest (pending v.run) (left v) h)
 
 -- what a turn gives where nothing is wanted
-pub no-bytes : (v w : HeldScan) (t : Option Turn) → IsHeldScan v → all_left (walk_in v) ≡ [] → Turns v t w → GivesNone t → bytes_left (walk_in v) ≡ []
-no-bytes v w (Some (Turn.Gap g)) p h s n = absurd (no-gap (walk_in v) g (gaps_left (walk_in w)) h s.turns.first)
-no-bytes v w (Some Turn.Wanted) p h s n = absurd (no-wanted (walk_in v) s.turns.1.0 p.walk h s.turns.1.1)
+pub no-bytes : (v w : HeldScan) (t : Option Turn) → IsHeldScan v → all_left (walk_in v) ≡ []
+    → Turns v t w → GivesNone t → bytes_left (walk_in v) ≡ []
+no-bytes v w (Some (Turn.Gap g)) p h s n =
+    absurd (no-gap (walk_in v) g (gaps_left (walk_in w)) h s.turns.first)
+no-bytes v w (Some Turn.Wanted) p h s n =
+    absurd (no-wanted (walk_in v) s.turns.1.0 p.walk h s.turns.1.1)
 no-bytes v w (Some Turn.End) p h s n = end-bytes (walk_in v) (told (walk_in v) End s.turns.1)
 no-bytes v w t p h s n = absurd n
 
-same-bytes : (v w : HeldScan) → Keeps (walk_in v) (walk_in w) → IsHeldScan w → bound w ≡ bound v → w.ticks ≡ v.ticks + 1 → all_left (walk_in v) ≡ [] → bytes_left (walk_in w) ≡ bytes_left (walk_in v) → KeepsBytes v w
-same-bytes v w k p b t h e = record { walk = p; whole = k.left_is ∙ h; bytes = e; bound_is = b; onward = omega (arith, t) }
+same-bytes : (v w : HeldScan) → Keeps (walk_in v) (walk_in w) → IsHeldScan w → bound w ≡ bound v
+    → w.ticks ≡ v.ticks + 1 → all_left (walk_in v) ≡ []
+    → bytes_left (walk_in w) ≡ bytes_left (walk_in v) → KeepsBytes v w
+same-bytes v w k p b t h e = record {
+  walk = p;
+  whole = k.left_is ∙ h;
+  bytes = e;
+  bound_is = b;
+  onward = omega (arith, t);
+}
 
-pub pass-keeps : (v w : HeldScan) → IsHeldScan v → all_left (walk_in v) ≡ [] → Turns v (Some Turn.Passed) w → KeepsBytes v w
-pass-keeps v w p h s = same-bytes v w s.turns.0 s.walk s.bound_is s.ticks h (ap bytes_left s.turns.2 ∙ pass-bytes (walk_in v) p.walk (told (walk_in v) Passed s.turns.1))
+pub pass-keeps : (v w : HeldScan) → IsHeldScan v → all_left (walk_in v) ≡ []
+    → Turns v (Some Turn.Passed) w → KeepsBytes v w
+pass-keeps v w p h s =
+    same-bytes v w s.turns.0 s.walk s.bound_is s.ticks h
+    (ap bytes_left s.turns.2 ∙ pass-bytes (walk_in v) p.walk (told (walk_in v) Passed s.turns.1))
 
-pub begin-keeps : (v w : HeldScan) → IsHeldScan v → all_left (walk_in v) ≡ [] → Turns v None w → KeepsBytes v w
-begin-keeps v w p h s = same-bytes v w s.turns.0 s.walk s.bound_is s.ticks h (ap bytes_left s.turns.2 ∙ begin-bytes (walk_in v) p.walk (told (walk_in v) BlockEnd s.turns.1))
+pub begin-keeps : (v w : HeldScan) → IsHeldScan v → all_left (walk_in v) ≡ [] → Turns v None w
+    → KeepsBytes v w
+begin-keeps v w p h s =
+    same-bytes v w s.turns.0 s.walk s.bound_is s.ticks h
+    (ap bytes_left s.turns.2 ∙ begin-bytes (walk_in v) p.walk (told (walk_in v) BlockEnd s.turns.1))
 
 pub keeps-on : (u v w : HeldScan) → KeepsBytes u v → KeepsBytes v w → KeepsBytes u w
 keeps-on u v w k l =
-    record { walk = l.walk; whole = l.whole; bytes = l.bytes ∙ k.bytes; bound_is = l.bound_is ∙ k.bound_is; onward = omega arith }
+    record {
+      walk = l.walk;
+      whole = l.whole;
+      bytes = l.bytes ∙ k.bytes;
+      bound_is = l.bound_is ∙ k.bound_is;
+      onward = omega arith;
+    }
 
 -- a fitting symbol is given
-pub gives-first : (u v w : HeldScan) (e : Entry) (es : List Entry) → KeepsBytes u v → v.held ≡ e ∷ es → Turns v (Some Turn.Fitting) w → GivesFirst u (cell_bytes e.1) w
+pub gives-first : (u v w : HeldScan) (e : Entry) (es : List Entry) → KeepsBytes u v
+    → v.held ≡ e ∷ es → Turns v (Some Turn.Fitting) w → GivesFirst u (cell_bytes e.1) w
 gives-first u v w e es k h s =
     let t = told (walk_in v) Fitting s.turns.1 in
     let f : t.first ≡ e = let held = sym t.held ∙ h in cc in
@@ -105,7 +149,8 @@ gives-first u v w e es k h s =
 
 -- ---- writing
 
-pub take-both : (n : ℕ) (a b : List ℕ) → take n (a ++ b) ≡ take n a ++ take (n - length (take n a)) b
+pub take-both : (n : ℕ) (a b : List ℕ)
+    → take n (a ++ b) ≡ take n a ++ take (n - length (take n a)) b
 take-both zero [] b = refl
 take-both zero (x ∷ a) b = refl
 take-both (suc n) [] b = let e : suc n ≡ suc n - 0 = omega arith in ap (λ k. take k b) e
@@ -113,14 +158,20 @@ take-both (suc n) (x ∷ a) b =
     let e : n - length (take n a) ≡ suc n - length (take (suc n) (x ∷ a)) = omega arith in
     ap (λ ys. x ∷ ys) (take-both n a b) ∙ ap (λ k. x ∷ (take n a ++ take k b)) e
 
-pub found-of : (key : Key) (id : SymbolId) (found : Option (Cell (List ℕ))) → value_bytes (symbol_fact key id found) ≡ found_bytes found
+pub found-of : (key : Key) (id : SymbolId) (found : Option (Cell (List ℕ)))
+    → value_bytes (symbol_fact key id found) ≡ found_bytes found
 found-of key id (Some (One b)) = refl
 found-of key id found = refl
 
 -- the object is told by the held symbols
-pub object-told : {n : ℕ} (F : List Fact) (key : Key) (x : Object n) (info : Information) → IsTold F key x → object F key info ≡ take info.transfer_length (held_bytes x.symbols (ids info))
+pub object-told : {n : ℕ} (F : List Fact) (key : Key) (x : Object n) (info : Information)
+    → IsTold F key x
+    → object F key info ≡ take info.transfer_length (held_bytes x.symbols (ids info))
 unfolding object held_bytes
-object-told F key x info t = λ i. take info.transfer_length (flat_map (λ id. (ap value_bytes (t.each id) ∙ found-of key id (value_at symbol_id_cmp x.symbols id)) i) (ids info))
+object-told F key x info t =
+    λ i. take info.transfer_length
+    (flat_map (λ id. (ap value_bytes (t.each id)
+    ∙ found-of key id (value_at symbol_id_cmp x.symbols id)) i) (ids info))
 
 pub no-want : (ws : List (SymbolId × Reason)) → runs ws ≡ [] → ws ≡ []
 no-want ws e = sym (runs-listed ws) ∙ ap (flat_map listed) e
@@ -131,61 +182,106 @@ pub record IsWriting (old now : Option (List ℕ)) (all rest : List ℕ) : Type 
   pub appended : Appends old now part
   pub whole : all ≡ part ++ rest
 
+-- of what is left, x comes first and then more; b are the first bytes of x, at most n
+pub record Cuts (left x more : List ℕ) (n : ℕ) (b : List ℕ) : Type 0 where
+  pub left_is : left ≡ x ++ more
+  pub bytes_are : b ≡ take n x
+
 -- what comes after the first bytes that are written
-cut-left : (w all b left more : List ℕ) (x : List ℕ) (n : ℕ) → all ≡ w ++ take n left → left ≡ x ++ more → b ≡ take n x → all ≡ (w ++ b) ++ take (n - length b) more
-cut-left w all b left more x n h e f =
-    h ∙ ap (λ l. w ++ take n l) e ∙ ap (λ l. w ++ l) (take-both n x more) ∙ ap (λ (y : List ℕ). w ++ (y ++ take (n - length y) more)) (sym f) ∙ sym (append_assoc w b (take (n - length b) more))
+cut-left : (w : List ℕ) {all left x more b : List ℕ} {n : ℕ} → all ≡ w ++ take n left
+    → Cuts left x more n b → all ≡ (w ++ b) ++ take (n - length b) more
+cut-left w {all} {left} {x} {more} {b} {n} h c =
+    h ∙ ap (λ l. w ++ take n l) c.left_is ∙ ap (λ l. w ++ l) (take-both n x more)
+    ∙ ap (λ (y : List ℕ). w ++ (y ++ take (n - length y) more)) (sym c.bytes_are)
+    ∙ sym (append_assoc w b (take (n - length b) more))
 
 -- the first bytes of what is left are written
-pub writing-more : (old now new : Option (List ℕ)) (all b left more x : List ℕ) (n : ℕ) → IsWriting old now all (take n left) → left ≡ x ++ more → b ≡ take n x → Appends now new b → IsWriting old new all (take (n - length b) more)
-writing-more old now new all b left more x n w e f a = record {
+pub writing-more : {old now new : Option (List ℕ)} {all left x more b : List ℕ} {n : ℕ}
+    → IsWriting old now all (take n left) → Cuts left x more n b → Appends now new b
+    → IsWriting old new all (take (n - length b) more)
+writing-more {old} {now} {new} {all} {left} {x} {more} {b} w c a = record {
   part = w.part ++ b;
   appended = Appends-trans old now new w.part b w.appended a;
-  whole = cut-left w.part all b left more x n w.whole e f;
+  whole = cut-left w.part w.whole c;
 }
 
 -- or a part of them
-pub writing-fails : (old now new : Option (List ℕ)) (all b left more x : List ℕ) (n : ℕ) → IsWriting old now all (take n left) → left ≡ x ++ more → b ≡ take n x → AppendsPart now new b → AppendsPart old new all
-writing-fails old now new all b left more x n w e f a =
-    subst (AppendsPart old new) (sym (cut-left w.part all b left more x n w.whole e f))
-    (AppendsPart-first old new (w.part ++ b) (take (n - length b) more) (AppendsPart-second old now new w.part b w.appended a))
+pub writing-fails : {old now : Option (List ℕ)} (new : Option (List ℕ)) {all left x more b : List ℕ}
+    {n : ℕ} → IsWriting old now all (take n left) → Cuts left x more n b → AppendsPart now new b
+    → AppendsPart old new all
+writing-fails {old} {now} new {all} {left} {x} {more} {b} {n} w c a =
+    subst (AppendsPart old new) (sym (cut-left w.part w.whole c))
+    (AppendsPart-first old new (w.part ++ b) (take (n - length b) more)
+    (AppendsPart-second old now new w.part b w.appended a))
 
 -- ---- the object
 
-pub left-start : (info : Information) (held : List Entry) → all_left (at_start info held) ≡ wanted info held (ids info)
+pub left-start : (info : Information) (held : List Entry)
+    → all_left (at_start info held) ≡ wanted info held (ids info)
 unfolding left
 left-start info held = ap (wanted info held) (blocks_from-all info)
 
-pub bytes-start : (info : Information) (held : List Entry) → bytes_left (at_start info held) ≡ held_bytes held (ids info)
+pub bytes-start : (info : Information) (held : List Entry)
+    → bytes_left (at_start info held) ≡ held_bytes held (ids info)
 unfolding bytes_left
 bytes-start info held = ap (held_bytes held) (blocks_from-all info)
 
-pub none-wanted : (info : Information) (s held again : List Entry) (gs : List Gap) → gs ≡ runs (wanted info held (ids info)) → gs ≡ [] → held ≡ s → again ≡ s → wanted info again (ids info) ≡ []
-none-wanted info s held again gs g n h a = ap (λ (x : List Entry). wanted info x (ids info)) (a ∙ sym h) ∙ no-want (wanted info held (ids info)) (sym g ∙ n)
+pub none-wanted : (info : Information) {s held again : List Entry} {gs : List Gap}
+    → gs ≡ runs (wanted info held (ids info)) → gs ≡ [] → held ≡ s → again ≡ s
+    → wanted info again (ids info) ≡ []
+none-wanted info {s} {held} g n h a =
+    ap (λ (x : List Entry). wanted info x (ids info)) (a ∙ sym h)
+    ∙ no-want (wanted info held (ids info)) (sym g ∙ n)
 
-module _ {n : ℕ} (F : List Fact) (key : Key) (x : Object n) (info : Information) (held : List Entry) (gs : List Gap)
-    (t : IsTold F key x) (e : x.info ≡ One info) (h : held ≡ x.symbols) (g : gs ≡ runs (wanted info held (ids info))) where
+module _ {n : ℕ} {F : List Fact} {key : Key} {x : Object n} {info : Information} {held : List Entry}
+    {gs : List Gap} (t : ToldGaps F key x info held gs) where
+  information : fact_at F (info_address key) ≡ Some (Info key info)
+  information = told-information F key x info t.told t.info_is
+
   are_gaps : gaps F key info ≡ gs
-  are_gaps = ap runs (wants-told F key x info t ∙ ap (λ (s : List Entry). wanted info s (ids info)) (sym h)) ∙ sym g
+  are_gaps =
+      ap runs (wants-told F key x info t.told
+      ∙ ap (λ (s : List Entry). wanted info s (ids info)) (sym t.held_is)) ∙ sym t.gaps_are
 
-  pub not-whole : (gap : Gap) (others : List Gap) → gs ≡ gap ∷ others → IsNotWhole F key (symbol_id gap.sbn gap.first)
-  not-whole gap others f = record { info = info; information = told-information F key x info t e; gap = gap; others = others; gaps_are = are_gaps ∙ f; first_is = refl }
+  pub not-whole : (gap : Gap) (others : List Gap) → gs ≡ gap ∷ others
+      → IsNotWhole F key (symbol_id gap.sbn gap.first)
+  not-whole gap others f = record {
+    info = info;
+    information = information;
+    gap = gap;
+    others = others;
+    gaps_are = are_gaps ∙ f;
+    first_is = refl;
+  }
 
   pub whole-object : gs ≡ [] → Whole F key info
-  whole-object f = gapless-whole F key info (told-information F key x info t e) (are_gaps ∙ f)
+  whole-object f = gapless-whole F key info information (are_gaps ∙ f)
 
-  pub writes-whole : {W : Type 0} (written : W → Option (List ℕ)) (old new : W) (again : List Entry) (length : ℕ) → gs ≡ [] → again ≡ x.symbols → Appends (written old) (written new) (take info.transfer_length (held_bytes again (ids info))) → length ≡ info.transfer_length → IsValid info → WritesWhole written F key old new length
-  writes-whole written old new again length f a w l v = record {
-    info = info;
-    whole = whole-object f;
-    bytes = subst (Appends (written old) (written new)) (ap (λ (s : List Entry). take info.transfer_length (held_bytes s (ids info))) a ∙ sym (object-told F key x info t)) w;
-    length_is = l;
-    exact = object-length F key info v (whole-object f) ∙ sym l;
-  }
+  -- the bytes of the symbols are those of the object
+  told-bytes : (again : List Entry) → again ≡ x.symbols
+      → take info.transfer_length (held_bytes again (ids info)) ≡ object F key info
+  told-bytes again a =
+      ap (λ (s : List Entry). take info.transfer_length (held_bytes s (ids info))) a
+      ∙ sym (object-told F key x info t.told)
 
-  pub writes-part : {W : Type 0} (written : W → Option (List ℕ)) (old new : W) (again : List Entry) → gs ≡ [] → again ≡ x.symbols → AppendsPart (written old) (written new) (take info.transfer_length (held_bytes again (ids info))) → WritesPart written F key old new
-  writes-part written old new again f a w = record {
-    info = info;
-    whole = whole-object f;
-    bytes = subst (AppendsPart (written old) (written new)) (ap (λ (s : List Entry). take info.transfer_length (held_bytes s (ids info))) a ∙ sym (object-told F key x info t)) w;
-  }
+  module _ {W : Type 0} {written : W → Option (List ℕ)} {old new : W} (again : List Entry)
+      (f : gs ≡ []) (a : again ≡ x.symbols) where
+    pub writes-whole : {length : ℕ}
+        → Appends (written old) (written new)
+        (take info.transfer_length (held_bytes again (ids info))) → length ≡ info.transfer_length
+        → IsValid info → WritesWhole written F key old new length
+    writes-whole w l v = record {
+      info = info;
+      whole = whole-object f;
+      bytes = subst (Appends (written old) (written new)) (told-bytes again a) w;
+      length_is = l;
+      exact = object-length F key info v (whole-object f) ∙ sym l;
+    }
+
+    pub writes-part : AppendsPart (written old) (written new)
+        (take info.transfer_length (held_bytes again (ids info))) → WritesPart written F key old new
+    writes-part w = record {
+      info = info;
+      whole = whole-object f;
+      bytes = subst (AppendsPart (written old) (written new)) (told-bytes again a) w;
+    }

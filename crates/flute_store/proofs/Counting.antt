@@ -1,17 +1,17 @@
 -- How many sessions, objects and symbols the content of a store names.
-use Rattle.std.proofs.Common.{append-nil, ◌≡◌, ◌≢◌, ℕ, ◌≤◌, List, [], ◌∷◌, ◌++◌, length, Bool, true, ◌||◌, Option, Some, None, refl, sym, ap, ◌∙◌, subst, inl, inr, arith}
-use Rattle.flute_store.proofs.StoreJoin.{at-entries, OrderedObject, OrderedSession, OrderedStore}
-use Rattle.flute_store.proofs.StoreJoin.{ordered-store, in_session, in_store, entry_facts}
-use Rattle.flute_store.proofs.StoreJoin.{symbols_apart, objects_apart, sessions_apart}
+use Rattle.std.proofs.Common.{append-nil, ◌≡◌, ◌≢◌, ℕ, ◌≤◌, List, [], ◌∷◌, ◌++◌, length, Bool, true}
+use Rattle.std.proofs.Common.{Option, Some, None, refl, sym, ap, ◌∙◌, subst, inl, inr, arith}
+use Rattle.flute_store.proofs.FactEntries.{session_keys, object_keys, symbol_keys, at-entries}
+use Rattle.flute_store.proofs.StoreJoin.{OrderedObject, OrderedSession, OrderedStore, ordered-store}
+use Rattle.flute_store.proofs.StoreJoin.{in_session, in_store, entry_facts, symbols_apart}
+use Rattle.flute_store.proofs.StoreJoin.{objects_apart, sessions_apart, object-symbol, object-info}
 use Rattle.flute_parts.proofs.Public.{object_of-some, symbol_of-some}
-use Rattle.flute_store.proofs.StoreJoin.{object-symbol, object-info}
 use Rattle.flute_store.proofs.Common
 use Common.{Ordering, is_eq, option_map_or, keys_of, length-keys_of, none-some, same_Some, Session}
 use Common.{ObjectName, Key, SymbolId, Address, Fact, session_cmp, object_cmp, symbol_id_cmp}
-use Common.{same_symbol_id, same_session, same_object, symbol_address, address, session_total}
-use Common.{object_total, symbol_id_total, fact_at, session_place, object_place, symbol_id_place}
-use Common.{firsts, named, session_of, object_of, symbol_of, sessions, objects, symbols, Over}
-use Common.{more_sessions, more_objects, more_symbols, Tells, has, has-firsts, Distinct, cases_Bool}
+use Common.{same_symbol_id, same_session, same_object, symbol_address, address, fact_at, firsts}
+use Common.{named, session_of, object_of, symbol_of, sessions, objects, symbols, Over}
+use Common.{more_sessions, more_objects, more_symbols, Tells, has, has-firsts, Distinct}
 use Common.{Distinct-firsts, length-Distinct, Member, fact_at-member_some, named-member}
 use Common.{named-names, session_tells, object_tells, symbol_id_tells, value_at, each-value_at}
 use Common.{Object, key_in, symbol_cell_facts, object_facts, session_facts, content, IsObject}
@@ -24,20 +24,23 @@ pub some-value : {X : Type 0} (o : Option X) → o ≢ None → (v : X) × (o �
 some-value None h = absurd (h refl)
 some-value (Some v) h = (v, refl)
 
-pub a_fact : (F : List Fact) (a : Address) → fact_at F a ≢ None → (f : Fact) × Member f F × (address f ≡ a)
+pub a_fact : (F : List Fact) (a : Address) → fact_at F a ≢ None
+    → (f : Fact) × Member f F × (address f ≡ a)
 a_fact F a h = elim (fact_at-some_named F a) [ inl n ↦ n | inr e ↦ absurd (h e) ]
 
 module _ {K X : Type 0} (cmp : K → K → Ordering) (t : Tells (λ a b. is_eq (cmp a b))) where
   abbrev is_key : K → List (K × X) → Bool
   is_key k es = has (λ a b. is_eq (cmp a b)) t k (keys_of es)
 
-  pub value_at-has : (es : List (K × X)) (k : K) (v : X) → value_at cmp es k ≡ Some v → is_key k es ≡ true
+  pub value_at-has : (es : List (K × X)) (k : K) (v : X) → value_at cmp es k ≡ Some v
+      → is_key k es ≡ true
   value_at-has [] k v f = absurd (none-some v f)
   value_at-has (e ∷ es) k v f = grind (arith, value_at-has es k v)
 
 -- ---- counting
 
-module _ {X : Type 0} (same : X → X → Bool) (t : Tells same) (part : Address → Option X) (F : List Fact) where
+module _ {X : Type 0} (same : X → X → Bool) (t : Tells same) (part : Address → Option X)
+    (F : List Fact) where
   pub count-Below : (ks : List X)
       → ((x : X) (a : Address) → fact_at F a ≢ None → part a ≡ Some x → has same t x ks ≡ true)
       → length (firsts same (named part F)) ≤ length ks
@@ -52,7 +55,8 @@ module _ {X : Type 0} (same : X → X → Bool) (t : Tells same) (part : Address
   none-named h = count-Below [] (λ x a k e. absurd (k (h x a e)))
 
   pub count-ge : (ks : List X) → Distinct same t ks
-      → ((x : X) → has same t x ks ≡ true → (a : Address) × (fact_at F a ≢ None) × (part a ≡ Some x))
+      → ((x : X) → has same t x ks ≡ true
+      → (a : Address) × (fact_at F a ≢ None) × (part a ≡ Some x))
       → length ks ≤ length (firsts same (named part F))
   count-ge ks d h =
       length-Distinct same t ks (firsts same (named part F)) d
@@ -63,53 +67,88 @@ module _ {X : Type 0} (same : X → X → Bool) (t : Tells same) (part : Address
 
 -- ---- what addresses name
 
-pub named_symbol : (key : Key) (a : Address) (x : SymbolId) → symbol_of key a ≡ Some x → a ≡ symbol_address key x
-named_symbol key a x e = let p = symbol_of-some key a x e in λ i. record { key = p.0 i; part = p.1 i }
+pub named_symbol : (key : Key) (a : Address) (x : SymbolId) → symbol_of key a ≡ Some x
+    → a ≡ symbol_address key x
+named_symbol key a x e = let p = symbol_of-some key a x e in λ i. record {
+  key = p.0 i;
+  part = p.1 i;
+}
 
 module _ {n : ℕ} where
   -- ---- what stands at an address
-  pub at-content : (m : List (Session × List (ObjectName × Object n))) (a : Address) → OrderedStore m → fact_at (content m) a ≡ option_map_or (λ os. fact_at (session_facts a.key.session os) a) (value_at session_cmp m a.key.session) None
-  at-content m a p = at-entries session_total session_place in_store a a.key.session (sessions_apart a) m p.ordered
+  pub at-content : (m : List (Session × List (ObjectName × Object n))) (a : Address)
+      → OrderedStore m
+      → fact_at (content m) a ≡ option_map_or (λ os. fact_at (session_facts a.key.session os) a)
+      (value_at session_cmp m a.key.session) None
+  at-content m a p = at-entries session_keys in_store a a.key.session (sessions_apart a) m p.ordered
 
-  pub at-session : (os : List (ObjectName × Object n)) (a : Address) → OrderedSession os → fact_at (session_facts a.key.session os) a ≡ option_map_or (λ x. fact_at (object_facts (key_in a.key.session a.key.object) x) a) (value_at object_cmp os a.key.object) None
-  at-session os a p = at-entries object_total object_place (in_session a.key.session) a a.key.object (objects_apart a) os p.ordered
+  pub at-session : (os : List (ObjectName × Object n)) (a : Address) → OrderedSession os
+      → fact_at (session_facts a.key.session os) a
+      ≡ option_map_or (λ x. fact_at (object_facts (key_in a.key.session a.key.object) x) a)
+      (value_at object_cmp os a.key.object) None
+  at-session os a p =
+      at-entries object_keys (in_session a.key.session) a a.key.object (objects_apart a) os
+      p.ordered
 
-  pub at-object : (x : Object n) (key : Key) (id : SymbolId) → OrderedObject x → fact_at (object_facts key x) (symbol_address key id) ≡ option_map_or (λ c. fact_at (symbol_cell_facts key id c) (symbol_address key id)) (value_at symbol_id_cmp x.symbols id) None
-  at-object x key id p = object-symbol key id x ∙ at-entries symbol_id_total symbol_id_place (entry_facts key) (symbol_address key id) id (symbols_apart key id) x.symbols p
+  pub at-object : (x : Object n) (key : Key) (id : SymbolId) → OrderedObject x
+      → fact_at (object_facts key x) (symbol_address key id)
+      ≡ option_map_or (λ c. fact_at (symbol_cell_facts key id c) (symbol_address key id))
+      (value_at symbol_id_cmp x.symbols id) None
+  at-object x key id p =
+      object-symbol key id x
+      ∙ at-entries symbol_keys (entry_facts key) (symbol_address key id) id (symbols_apart key id)
+      x.symbols p
 
-  -- at an address of a session that is not held nothing stands, and at one of an object what the object tells
-  module _ (m : List (Session × List (ObjectName × Object n))) (q : OrderedStore m) where
-    pub at-unheard : (a : Address) → value_at session_cmp m a.key.session ≡ None → fact_at (content m) a ≡ None
-    at-unheard a f = at-content m a q ∙ ap (λ z. option_map_or (λ os. fact_at (session_facts a.key.session os) a) z None) f
+  -- at an address of a session that is not held nothing stands, and at one of an object what the
+  -- object tells
+  module _ {m : List (Session × List (ObjectName × Object n))} (q : OrderedStore m) where
+    pub at-unheard : (a : Address) → value_at session_cmp m a.key.session ≡ None
+        → fact_at (content m) a ≡ None
+    at-unheard a f =
+        at-content m a q
+        ∙ ap (λ z. option_map_or (λ os. fact_at (session_facts a.key.session os) a) z None) f
 
-    module _ (key : Key) (os : List (ObjectName × Object n)) (f : value_at session_cmp m key.session ≡ Some os) where
-      pub at-found : (part : Part) (found : Option (Object n)) → value_at object_cmp os key.object ≡ found
+    module _ (key : Key) {os : List (ObjectName × Object n)}
+        (f : value_at session_cmp m key.session ≡ Some os) where
+      pub at-found : (part : Part) (found : Option (Object n))
+          → value_at object_cmp os key.object ≡ found
           → fact_at (content m) (record { key = key; part = part })
-          ≡ option_map_or (λ x. fact_at (object_facts key x) (record { key = key; part = part })) found None
+          ≡ option_map_or (λ x. fact_at (object_facts key x) (record {
+            key = key;
+            part = part;
+          })) found None
       at-found part found h =
           let a : Address = record { key = key; part = part } in
-          at-content m a q ∙ ap (λ z. option_map_or (λ os. fact_at (session_facts key.session os) a) z None) f
+          at-content m a q
+          ∙ ap (λ z. option_map_or (λ os. fact_at (session_facts key.session os) a) z None) f
           ∙ at-session os a (each-value_at session_cmp OrderedSession m key.session os q.each f)
           ∙ ap (λ z. option_map_or (λ x. fact_at (object_facts key x) a) z None) h
 
-      module _ (x : Object n) (h : value_at object_cmp os key.object ≡ Some x) where
-        pub at-info : fact_at (content m) (info_address key) ≡ fact_at (info_cell_facts key x.info) (info_address key)
+      module _ {x : Object n} (h : value_at object_cmp os key.object ≡ Some x) where
+        pub at-info : fact_at (content m) (info_address key)
+            ≡ fact_at (info_cell_facts key x.info) (info_address key)
         at-info = at-found InfoPart (Some x) h ∙ object-info key x
 
-        pub at-symbol : (id : SymbolId) (found : Option (Cell (List ℕ))) → value_at symbol_id_cmp x.symbols id ≡ found
+        pub at-symbol : (id : SymbolId) (found : Option (Cell (List ℕ)))
+            → value_at symbol_id_cmp x.symbols id ≡ found
             → fact_at (content m) (symbol_address key id)
-            ≡ option_map_or (λ c. fact_at (symbol_cell_facts key id c) (symbol_address key id)) found None
+            ≡ option_map_or (λ c. fact_at (symbol_cell_facts key id c) (symbol_address key id))
+            found None
         at-symbol id found g =
             let session = each-value_at session_cmp OrderedSession m key.session os q.each f in
             at-found (SymbolPart id) (Some x) h
-            ∙ at-object x key id (each-value_at object_cmp OrderedObject os key.object x session.each h)
-            ∙ ap (λ z. option_map_or (λ c. fact_at (symbol_cell_facts key id c) (symbol_address key id)) z None) g
+            ∙ at-object x key id (each-value_at object_cmp OrderedObject os key.object x
+            session.each h)
+            ∙ ap (λ z. option_map_or (λ c. fact_at (symbol_cell_facts key id c)
+            (symbol_address key id)) z None) g
 
         -- no more symbols are named than are held
         pub symbols-held : length (symbols (content m) key) ≤ length x.symbols
         unfolding symbols
         symbols-held =
-            let c = count-Below same_symbol_id symbol_id_tells (symbol_of key) (content m) (keys_of x.symbols) (λ id a k e.
+            let c =
+            count-Below same_symbol_id symbol_id_tells (symbol_of key) (content m)
+            (keys_of x.symbols) (λ id a k e.
             let found = some-value (value_at symbol_id_cmp x.symbols id)
             (λ z. k (ap (fact_at (content m)) (named_symbol key a id e) ∙ at-symbol id None z)) in
             value_at-has symbol_id_cmp symbol_id_tells x.symbols id found.0 found.1) in
@@ -123,51 +162,70 @@ module _ {n : ℕ} where
     few_sessions : length (sessions (content m)) ≤ s
     unfolding sessions
     few_sessions =
-        let c = count-Below same_session session_tells session_of (content m) (keys_of m) (λ x a k e.
-        let found = some-value (value_at session_cmp m a.key.session) (λ z. k (at-unheard m q a z)) in
-        value_at-has session_cmp session_tells m x found.0 (subst (λ q. value_at session_cmp m q ≡ Some found.0) (same_Some a.key.session x e) found.1)) in
+        let c =
+        count-Below same_session session_tells session_of (content m) (keys_of m) (λ x a k e.
+        let found = some-value (value_at session_cmp m a.key.session) (λ z. k (at-unheard q a z)) in
+        value_at-has session_cmp session_tells m x found.0
+        (subst (λ q. value_at session_cmp m q ≡ Some found.0) (same_Some a.key.session x e)
+        found.1)) in
         omega (arith, c, length-keys_of m)
 
-    few_objects_of : (session : Session) (found : Option (List (ObjectName × Object n))) → value_at session_cmp m session ≡ found → length (objects (content m) session) ≤ o
+    few_objects_of : (session : Session) (found : Option (List (ObjectName × Object n)))
+        → value_at session_cmp m session ≡ found → length (objects (content m) session) ≤ o
     unfolding objects
     few_objects_of session None f =
         let c = none-named same_object object_tells (object_of session) (content m)
-        (λ x a e. at-unheard m q a (ap (value_at session_cmp m) (object_of-some session a x e).0 ∙ f)) in
+        (λ x a e. at-unheard q a (ap (value_at session_cmp m) (object_of-some session a x e).0
+        ∙ f)) in
         omega (arith, c)
     few_objects_of session (Some os) f =
         let sound = each-value_at session_cmp (IsSession o) m session os p.each f in
-        let c = count-Below same_object object_tells (object_of session) (content m) (keys_of os) (λ x a k e.
+        let c =
+        count-Below same_object object_tells (object_of session) (content m) (keys_of os)
+        (λ x a k e.
         let r = object_of-some session a x e in
         let found = some-value (value_at object_cmp os a.key.object)
-        (λ z. k (at-found m q a.key os (ap (value_at session_cmp m) r.0 ∙ f) a.part None z)) in
-        value_at-has object_cmp object_tells os x found.0 (subst (λ z. value_at object_cmp os z ≡ Some found.0) r.1 found.1)) in
+        (λ z. k (at-found q a.key (ap (value_at session_cmp m) r.0 ∙ f) a.part None z)) in
+        value_at-has object_cmp object_tells os x found.0
+        (subst (λ z. value_at object_cmp os z ≡ Some found.0) r.1 found.1)) in
         omega (arith, c, length-keys_of os)
 
-    few_in : (key : Key) (os : List (ObjectName × Object n)) → value_at session_cmp m key.session ≡ Some os → IsSession o os → (found : Option (Object n)) → value_at object_cmp os key.object ≡ found → length (symbols (content m) key) ≤ n
+    few_in : (key : Key) (os : List (ObjectName × Object n))
+        → value_at session_cmp m key.session ≡ Some os → IsSession o os
+        → (found : Option (Object n)) → value_at object_cmp os key.object ≡ found
+        → length (symbols (content m) key) ≤ n
     unfolding symbols
     few_in key os f sound None h =
         let c = none-named same_symbol_id symbol_id_tells (symbol_of key) (content m)
-        (λ x a e. ap (fact_at (content m)) (named_symbol key a x e) ∙ at-found m q key os f (SymbolPart x) None h) in
+        (λ x a e. ap (fact_at (content m)) (named_symbol key a x e)
+        ∙ at-found q key f (SymbolPart x) None h) in
         omega (arith, c)
     few_in key os f sound (Some v) h =
         let known = each-value_at object_cmp IsObject os key.object v sound.each h in
-        let c = symbols-held m q key os f v h in
+        let c = symbols-held q key f h in
         omega (arith, c, known.symbols_are.within)
 
-    few_symbols_of : (key : Key) (found : Option (List (ObjectName × Object n))) → value_at session_cmp m key.session ≡ found → length (symbols (content m) key) ≤ n
+    few_symbols_of : (key : Key) (found : Option (List (ObjectName × Object n)))
+        → value_at session_cmp m key.session ≡ found → length (symbols (content m) key) ≤ n
     unfolding symbols
     few_symbols_of key None f =
         let c = none-named same_symbol_id symbol_id_tells (symbol_of key) (content m)
-        (λ x a e. ap (fact_at (content m)) (named_symbol key a x e) ∙ at-unheard m q (symbol_address key x) f) in
+        (λ x a e. ap (fact_at (content m)) (named_symbol key a x e)
+        ∙ at-unheard q (symbol_address key x) f) in
         omega (arith, c)
     few_symbols_of key (Some os) f =
-        few_in key os f (each-value_at session_cmp (IsSession o) m key.session os p.each f) (value_at object_cmp os key.object) refl
+        few_in key os f (each-value_at session_cmp (IsSession o) m key.session os p.each f)
+        (value_at object_cmp os key.object) refl
 
     pub not_over : Over (content m) s o n → ⊥
     not_over (more_sessions l) = let c = few_sessions in omega (arith, l, c)
-    not_over (more_objects session l) = let c = few_objects_of session (value_at session_cmp m session) refl in omega (arith, l, c)
-    not_over (more_symbols key l) = let c = few_symbols_of key (value_at session_cmp m key.session) refl in omega (arith, l, c)
+    not_over (more_objects session l) =
+        let c = few_objects_of session (value_at session_cmp m session) refl in omega (arith, l, c)
+    not_over (more_symbols key l) =
+        let c = few_symbols_of key (value_at session_cmp m key.session) refl in omega (arith, l, c)
 
     -- nor with nothing more
     pub not_over_more : (G : List Fact) → G ≡ [] → Over (content m ++ G) s o n → ⊥
-    not_over_more G e over = not_over (subst (λ H. Over H s o n) (ap (λ H. content m ++ H) e ∙ append-nil (content m)) over)
+    not_over_more G e over =
+        not_over (subst (λ H. Over H s o n) (ap (λ H. content m ++ H) e ∙ append-nil (content m))
+        over)

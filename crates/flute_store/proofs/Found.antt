@@ -1,8 +1,10 @@
 -- Whether something stands at an address, and what the content of a store tells.
-use Rattle.std.proofs.Common.{◌≡◌, ◌≢◌, ℕ, List, [], ◌∷◌, ◌++◌, Bool, true, false, Option, Some, None, refl, ap, ◌∙◌}
-use Rattle.std.proofs.Common.{sym, arith}
-use Rattle.flute_store.proofs.StoreJoin.{at-one_here, ordered-store}
-use Rattle.flute_store.proofs.Counting.{some-value, at-unheard, at-found, at-info, at-symbol, symbols-held}
+use Rattle.std.proofs.Common.{◌≡◌, ◌≢◌, ℕ, List, [], ◌∷◌, ◌++◌, Bool, true, false, Option, Some}
+use Rattle.std.proofs.Common.{None, refl, ap, ◌∙◌, sym, arith}
+use Rattle.flute_store.proofs.FactEntries.{at-one_here}
+use Rattle.flute_store.proofs.StoreJoin.{ordered-store, OrderedStore}
+use Rattle.flute_store.proofs.Counting.{some-value, at-unheard, at-found, at-info, at-symbol}
+use Rattle.flute_store.proofs.Counting.{symbols-held}
 use Rattle.flute_store.proofs.Exceeding.{solid-store, object_stands, symbols_named}
 use Rattle.flute_store.proofs.Common
 use Common.{is_some, option_map_or, IsKnown, value_at, EachValue, each-value_at, Cell, Absent, One}
@@ -19,12 +21,14 @@ abbrev pub is_known : {T : Type 0} → Cell T → Bool
 is_known Absent = false
 is_known _ = true
 
-info-held : (key : Key) (c : Cell Information) → is_some (fact_at (info_cell_facts key c) (info_address key)) ≡ is_known c
+info-held : (key : Key) (c : Cell Information)
+    → is_some (fact_at (info_cell_facts key c) (info_address key)) ≡ is_known c
 info-held key Absent = ap is_some (fact_at-nil (info_address key))
 info-held key (One i) = ap is_some (at-one_here (Info key i))
 info-held key Conflict = ap is_some (at-one_here (InfoConflict key))
 
-symbol-held : (key : Key) (id : SymbolId) (c : Cell (List ℕ)) → is_some (fact_at (symbol_cell_facts key id c) (symbol_address key id)) ≡ is_known c
+symbol-held : (key : Key) (id : SymbolId) (c : Cell (List ℕ))
+    → is_some (fact_at (symbol_cell_facts key id c) (symbol_address key id)) ≡ is_known c
 symbol-held key id Absent = ap is_some (fact_at-nil (symbol_address key id))
 symbol-held key id (One b) = ap is_some (at-one_here (Symbol key id b))
 symbol-held key id Conflict = ap is_some (at-one_here (SymbolConflict key id))
@@ -32,99 +36,147 @@ symbol-held key id Conflict = ap is_some (at-one_here (SymbolConflict key id))
 pub known-is : {T : Type 0} (c : Cell T) → IsKnown c → is_known c ≡ true
 known-is c h = grind arith
 
-module _ {n : ℕ} (s o : ℕ) (m : List (Session × List (ObjectName × Object n))) (p : IsStore s o m) where
-  pub no_session : (a : Address) → value_at session_cmp m a.key.session ≡ None → is_some (fact_at (content m) a) ≡ false
-  no_session a f = ap is_some (at-unheard m (ordered-store s o m p) a f)
+module _ {n s o : ℕ} {m : List (Session × List (ObjectName × Object n))} (p : IsStore s o m) where
+  in_order : OrderedStore m
+  in_order = ordered-store s o m p
 
-  module _ (os : List (ObjectName × Object n)) where
-    pub no_object : (a : Address) → value_at session_cmp m a.key.session ≡ Some os → value_at object_cmp os a.key.object ≡ None → is_some (fact_at (content m) a) ≡ false
-    no_object a f h = ap is_some (at-found m (ordered-store s o m p) a.key os f a.part None h)
+  pub no_session : (a : Address) → value_at session_cmp m a.key.session ≡ None
+      → is_some (fact_at (content m) a) ≡ false
+  no_session a f = ap is_some (at-unheard in_order a f)
 
-    pub of_info : (key : Key) (x : Object n) → value_at session_cmp m key.session ≡ Some os → value_at object_cmp os key.object ≡ Some x → is_some (fact_at (content m) (info_address key)) ≡ is_known x.info
-    of_info key x f h = ap is_some (at-info m (ordered-store s o m p) key os f x h) ∙ info-held key x.info
+  of_symbol : (key : Key) (id : SymbolId) (x : Object n) (found : Option (Cell (List ℕ)))
+      → EachValue IsKnown x.symbols → value_at symbol_id_cmp x.symbols id ≡ found
+      → is_some (option_map_or (λ c. fact_at (symbol_cell_facts key id c) (symbol_address key id))
+      found None) ≡ is_some found
+  of_symbol key id x None a f = refl
+  of_symbol key id x (Some c) a f =
+      symbol-held key id c ∙ known-is c (each-value_at symbol_id_cmp IsKnown x.symbols id c a f)
 
-    of_symbol : (key : Key) (id : SymbolId) (x : Object n) (found : Option (Cell (List ℕ))) → EachValue IsKnown x.symbols → value_at symbol_id_cmp x.symbols id ≡ found → is_some (option_map_or (λ c. fact_at (symbol_cell_facts key id c) (symbol_address key id)) found None) ≡ is_some found
-    of_symbol key id x None a f = refl
-    of_symbol key id x (Some c) a f = symbol-held key id c ∙ known-is c (each-value_at symbol_id_cmp IsKnown x.symbols id c a f)
+  module _ {os : List (ObjectName × Object n)} where
+    pub no_object : (a : Address) → value_at session_cmp m a.key.session ≡ Some os
+        → value_at object_cmp os a.key.object ≡ None → is_some (fact_at (content m) a) ≡ false
+    no_object a f h = ap is_some (at-found in_order a.key f a.part None h)
 
-    pub of_symbols : (key : Key) (id : SymbolId) (x : Object n) → value_at session_cmp m key.session ≡ Some os → value_at object_cmp os key.object ≡ Some x → is_some (fact_at (content m) (symbol_address key id)) ≡ is_some (value_at symbol_id_cmp x.symbols id)
-    of_symbols key id x f h =
-        let sound = each-value_at object_cmp IsObject os key.object x (each-value_at session_cmp (IsSession o) m key.session os p.each f).each h in
-        ap is_some (at-symbol m (ordered-store s o m p) key os f x h id (value_at symbol_id_cmp x.symbols id) refl)
+    pub of_info : (key : Key) {x : Object n} → value_at session_cmp m key.session ≡ Some os
+        → value_at object_cmp os key.object ≡ Some x
+        → is_some (fact_at (content m) (info_address key)) ≡ is_known x.info
+    of_info key {x} f h = ap is_some (at-info in_order key f h) ∙ info-held key x.info
+
+    pub of_symbols : (key : Key) (id : SymbolId) {x : Object n}
+        → value_at session_cmp m key.session ≡ Some os → value_at object_cmp os key.object ≡ Some x
+        → is_some (fact_at (content m) (symbol_address key id))
+        ≡ is_some (value_at symbol_id_cmp x.symbols id)
+    of_symbols key id {x} f h =
+        let sound =
+        each-value_at object_cmp IsObject os key.object x
+        (each-value_at session_cmp (IsSession o) m key.session os p.each f).each h in
+        ap is_some (at-symbol in_order key f h id (value_at symbol_id_cmp x.symbols id) refl)
         ∙ of_symbol key id x (value_at symbol_id_cmp x.symbols id) sound.symbols_are.each refl
 
   -- where something stands at an address, its session and its object are held
   pub object_held : (key : Key) → HoldsObject (content m) key
-      → (os : List (ObjectName × Object n)) × (x : Object n) × (value_at session_cmp m key.session ≡ Some os) × (value_at object_cmp os key.object ≡ Some x)
+      → (os : List (ObjectName × Object n)) × (x : Object n)
+      × (value_at session_cmp m key.session ≡ Some os)
+      × (value_at object_cmp os key.object ≡ Some x)
   object_held key (part, h) =
-      let q = ordered-store s o m p in
-      let session = some-value (value_at session_cmp m key.session) (λ z. h (at-unheard m q (record { key = key; part = part }) z)) in
-      let object = some-value (value_at object_cmp session.0 key.object) (λ z. h (at-found m q key session.0 session.1 part None z)) in
+      let session =
+      some-value (value_at session_cmp m key.session) (λ z. h (at-unheard in_order (record {
+        key = key;
+        part = part;
+      }) z)) in
+      let object =
+      some-value (value_at object_cmp session.0 key.object)
+      (λ z. h (at-found in_order key session.1 part None z)) in
       (session.0, object.0, session.1, object.1)
 
-  held_symbol : (key : Key) (id : SymbolId) (told : SymbolUpdate) → fact_at (content m) (symbol_address key id) ≢ None → (info : Cell Information) → IsHeldSession m key (record { info = info; symbol = Some (id, told) })
+  held_symbol : (key : Key) (id : SymbolId) (told : SymbolUpdate)
+      → fact_at (content m) (symbol_address key id) ≢ None → (info : Cell Information)
+      → IsHeldSession m key (record { info = info; symbol = Some (id, told) })
   held_symbol key id told h info =
       let r = object_held key (SymbolPart id, h) in
-      let found = some-value (value_at symbol_id_cmp r.1.symbols id) (λ z. h (at-symbol m (ordered-store s o m p) key r.0 r.2 r.1 r.3 id None z)) in
+      let found =
+      some-value (value_at symbol_id_cmp r.1.symbols id)
+      (λ z. h (at-symbol in_order key r.2 r.3 id None z)) in
       (r.0, r.2, (r.1, r.3, ap is_some found.1))
 
-  held_info : (key : Key) → HoldsObject (content m) key → (info : Cell Information) → IsHeldSession m key (record { info = info; symbol = None })
+  held_info : (key : Key) → HoldsObject (content m) key → (info : Cell Information)
+      → IsHeldSession m key (record { info = info; symbol = None })
   held_info key h info = let r = object_held key h in (r.0, r.2, (r.1, r.3, tt))
 
-  of_told : (key : Key) (id : SymbolId) (told : SymbolUpdate) (F : List Fact) → AllByRecursion (HasCell (content m)) (F ++ symbols_facts key (update_symbols (Some (id, told)))) → fact_at (content m) (symbol_address key id) ≢ None
+  of_told : (key : Key) (id : SymbolId) (told : SymbolUpdate) (F : List Fact)
+      → AllByRecursion (HasCell (content m))
+      (F ++ symbols_facts key (update_symbols (Some (id, told))))
+      → fact_at (content m) (symbol_address key id) ≢ None
   of_told key id (BorrowedUpdate bytes) [] h = h.0
   of_told key id (OwnedUpdate bytes) [] h = h.0
   of_told key id ConflictUpdate [] h = h.0
   of_told key id told (f ∷ F) h = of_told key id told F h.1
 
   -- where each fact that is told has a cell, its session, its object and its symbol are held
-  pub news_held : (key : Key) (info : Cell Information) (symbol : Option (SymbolId × SymbolUpdate)) → (info ≡ Absent → symbol ≢ None)
-      → AllByRecursion (HasCell (content m)) (update_facts key (record { info = info; symbol = symbol })) → IsHeldSession m key (record { info = info; symbol = symbol })
-  news_held key info (Some (id, told)) some h = held_symbol key id told (of_told key id told (info_cell_facts key info) h) info
+  pub news_held : (key : Key) (info : Cell Information) (symbol : Option (SymbolId × SymbolUpdate))
+      → (info ≡ Absent → symbol ≢ None)
+      → AllByRecursion (HasCell (content m)) (update_facts key (record {
+        info = info;
+        symbol = symbol;
+      })) → IsHeldSession m key (record { info = info; symbol = symbol })
+  news_held key info (Some (id, told)) some h =
+      held_symbol key id told (of_told key id told (info_cell_facts key info) h) info
   news_held key Absent None some h = absurd (some refl refl)
   news_held key (One i) None some h = held_info key h.0 (One i)
   news_held key Conflict None some h = held_info key h.0 Conflict
 
 -- ---- what the content of a store tells of an object
 
-info-cell : (key : Key) (c : Cell Information) → fact_at (info_cell_facts key c) (info_address key) ≡ cell_fact (Info key) (InfoConflict key) c
+info-cell : (key : Key) (c : Cell Information)
+    → fact_at (info_cell_facts key c) (info_address key) ≡ cell_fact (Info key) (InfoConflict key) c
 info-cell key Absent = fact_at-nil (info_address key)
 info-cell key (One i) = at-one_here (Info key i)
 info-cell key Conflict = at-one_here (InfoConflict key)
 
-symbol-cell : (key : Key) (id : SymbolId) (found : Option (Cell (List ℕ))) → option_map_or (λ c. fact_at (symbol_cell_facts key id c) (symbol_address key id)) found None ≡ symbol_fact key id found
+symbol-cell : (key : Key) (id : SymbolId) (found : Option (Cell (List ℕ)))
+    → option_map_or (λ c. fact_at (symbol_cell_facts key id c) (symbol_address key id)) found None
+    ≡ symbol_fact key id found
 symbol-cell key id None = refl
 symbol-cell key id (Some Absent) = fact_at-nil (symbol_address key id)
 symbol-cell key id (Some (One b)) = at-one_here (Symbol key id b)
 symbol-cell key id (Some Conflict) = at-one_here (SymbolConflict key id)
 
-pub known-fact : (key : Key) (id : SymbolId) (c : Cell (List ℕ)) → IsKnown c → symbol_fact key id (Some c) ≢ None
+pub known-fact : (key : Key) (id : SymbolId) (c : Cell (List ℕ)) → IsKnown c
+    → symbol_fact key id (Some c) ≢ None
 known-fact key id c k e = grind arith
 
-module _ {n : ℕ} (s o : ℕ) (m : List (Session × List (ObjectName × Object n))) (p : IsStore s o m) (key : Key) where
+module _ {n s o : ℕ} {m : List (Session × List (ObjectName × Object n))} (p : IsStore s o m)
+    (key : Key) where
   pub unheard-session : value_at session_cmp m key.session ≡ None → IsUnheard (content m) key
-  unheard-session f part = at-unheard m (ordered-store s o m p) (record { key = key; part = part }) f
+  unheard-session f part = at-unheard (ordered-store s o m p) (record { key = key; part = part }) f
 
-  module _ (os : List (ObjectName × Object n)) (f : value_at session_cmp m key.session ≡ Some os) where
+  module _ {os : List (ObjectName × Object n)}
+      (f : value_at session_cmp m key.session ≡ Some os) where
     pub unheard-object : value_at object_cmp os key.object ≡ None → IsUnheard (content m) key
-    unheard-object h part = at-found m (ordered-store s o m p) key os f part None h
+    unheard-object h part = at-found (ordered-store s o m p) key f part None h
 
-    pub told-object : (x : Object n) → value_at object_cmp os key.object ≡ Some x
+    pub told-object : {x : Object n} → value_at object_cmp os key.object ≡ Some x
         → IsTold (content m) key x
-    told-object x h =
+    told-object {x} h =
         let q = ordered-store s o m p in
         let solid = solid-store s o m p in
-        let a = symbols-held m q key os f x h in
-        let b = symbols_named m solid key.session os f key.object x h in
+        let a = symbols-held q key f h in
+        let b = symbols_named solid key.session f key.object h in
         record {
-          heard = object_stands m solid key.session os f key.object x h;
-          info = at-info m q key os f x h ∙ info-cell key x.info;
-          each = λ id. at-symbol m q key os f x h id (value_at symbol_id_cmp x.symbols id) refl ∙ symbol-cell key id (value_at symbol_id_cmp x.symbols id);
+          heard = object_stands solid key.session f key.object h;
+          info = at-info q key f h ∙ info-cell key x.info;
+          each =
+              λ id. at-symbol q key f h id (value_at symbol_id_cmp x.symbols id) refl
+              ∙ symbol-cell key id (value_at symbol_id_cmp x.symbols id);
           count = omega (arith, a, b);
-          object = each-value_at object_cmp IsObject os key.object x (each-value_at session_cmp (IsSession o) m key.session os p.each f).each h;
+          object =
+              each-value_at object_cmp IsObject os key.object x
+              (each-value_at session_cmp (IsSession o) m key.session os p.each f).each h;
         }
 
     -- what a look-up finds
-    pub found-object : (r : Option (Bor (Object n))) → option_copied r ≡ value_at object_cmp os key.object → MatchOption r (IsUnheard (content m) key) (λ x. IsTold (content m) key x.now)
+    pub found-object : (r : Option (Bor (Object n)))
+        → option_copied r ≡ value_at object_cmp os key.object
+        → MatchOption r (IsUnheard (content m) key) (λ x. IsTold (content m) key x.now)
     found-object None e = unheard-object (sym e)
-    found-object (Some x) e = told-object x.now (sym e)
+    found-object (Some x) e = told-object (sym e)

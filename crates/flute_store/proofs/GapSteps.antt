@@ -1,18 +1,21 @@
 -- The gaps that a walk gives.
-use Rattle.std.proofs.Common.{◌≡◌, ◌≢◌, ℕ, zero, suc, ◌+◌, ◌-◌, ◌<◌, ◌≤◌, Bool, true, false, cond, ◌&&◌, List, [], ◌∷◌, ◌++◌, length, map, Option, Some, None, refl, sym, ap, ◌∙◌, subst, inl, inr, ◌⊎◌, arith, append_assoc}
+use Rattle.std.proofs.Common.{◌≡◌, ◌≢◌, ℕ, zero, suc, ◌+◌, ◌-◌, ◌<◌, ◌≤◌, false, cond, ◌&&◌, List}
+use Rattle.std.proofs.Common.{[], ◌∷◌, ◌++◌, map, Option, Some, None, refl, sym, ap, ◌∙◌, subst}
+use Rattle.std.proofs.Common.{inl, inr, ◌⊎◌, arith, append_assoc}
 use Rattle.flute_store.proofs.Lookups.{Above, sbn-less, esi-less, above-before, above-later}
 use Rattle.flute_store.proofs.Lookups.{above-block, blocks_from-end, Entry, Elsewhere, value-before}
+use Rattle.flute_store.proofs.Lookups.{value-here, wanted-missing, elsewhere-above, elsewhere-here}
 use Rattle.std.proofs.Math.Nat.{zero-add, add-zero, suc-add}
 use Rattle.std.{proofs.lemmas.List.FromFn.{map-range_with_len_more}, specs.Prelude.{nat_lt}}
-use Rattle.flute_store.proofs.Lookups.{value-here, wanted-missing, elsewhere-above, elsewhere-here}
 use Rattle.flute_store.proofs.Runs.{runs-first, reason_same, reason_itself}
-use Rattle.flute_store.proofs.Upcoming.{here, AtHere, FirstAfter, Tells, told, others_left, symbols-first, symbols-end, blocks-later, others-above, inside-less, sorted-first, taken, taken-left, taken-keeps}
+use Rattle.flute_store.proofs.Upcoming.{here, AtHere, FirstAfter, Tells, told, others_left}
+use Rattle.flute_store.proofs.Upcoming.{symbols-first, symbols-end, blocks-later, others-above}
+use Rattle.flute_store.proofs.Upcoming.{inside-less, sorted-first, taken, taken-left, taken-keeps}
 use Rattle.flute_store.proofs.Common
-use Common.{◌==◌, range_with_len, keys_of, Ordering, Less, Equal, Greater, nat_cmp, ordering_then}
-use Common.{ordering_reverse, cases_Bool, eqb-true, ltb-true, nat_tests, same_Some, none-some}
-use Common.{IsKnown, IsOrdered, EachValue, value_at, Cell, Absent, One, Conflict, Information}
-use Common.{symbol_id_cmp, both, symbol_id_total, symbol_id, fits, SymbolId, Reason, Missing}
-use Common.{Misfit, Gap, Upcoming, End, BlockEnd, Passed, Fitting, Wanted, NotHeld, runs}
+use Common.{◌==◌, range_with_len, keys_of, Less, Greater, ordering_reverse, cases_Bool, eqb-true}
+use Common.{ltb-true, nat_tests, same_Some, none-some, IsKnown, IsOrdered, EachValue, value_at}
+use Common.{Cell, Information, symbol_id_cmp, both, symbol_id_total, symbol_id, SymbolId, Reason}
+use Common.{Missing, Gap, Upcoming, End, BlockEnd, Passed, Fitting, Wanted, NotHeld, runs}
 use Common.{same_reason, want_cell, wanted, block_from, blocks_from, Walk, left, pending, gaps_left}
 use Common.{IsBehind, EndsBefore, IsWalk, after_take, after_want, run_with, upcoming_of, until_held}
 use Common.{until_of, ended_run, Keeps, GivesGap}
@@ -21,7 +24,9 @@ use Common.{until_of, ended_run, Keeps, GivesGap}
 
 pub end-left : (w : Walk) → Tells w End → left w ≡ []
 unfolding left wanted
-end-left w t = ap (wanted w.partition w.held) (symbols-end w t.0 ∙ ap (blocks_from w.partition) t.1 ∙ blocks_from-end w.partition)
+end-left w t =
+    ap (wanted w.partition w.held)
+    (symbols-end w t.0 ∙ ap (blocks_from w.partition) t.1 ∙ blocks_from-end w.partition)
 
 pub gaps-end : (w : Walk) → upcoming_of w ≡ End → w.run ≡ None → gaps_left w ≡ []
 unfolding runs
@@ -36,33 +41,44 @@ same_run : (g : Gap) (r : Reason) → ended_run (Some g) (Wanted r) ≡ None →
 same_run g r h = grind (arith, reason_same g.reason r)
 
 -- a run and the symbol behind it are the run with that
-run-more : (n i : ℕ) (r : Reason) (run : Option Gap) (ws : List (SymbolId × Reason)) → EndsBefore n i run → ended_run run (Wanted r) ≡ None → pending (Some (run_with n i r run)) ++ ws ≡ pending run ++ (entry n r i ∷ ws)
-run-more n i r None ws e h = let k : i + 1 - i ≡ 1 = omega arith in ap (λ k. map (entry n r) (range_with_len i k) ++ ws) k
+run-more : (n i : ℕ) (r : Reason) (run : Option Gap) (ws : List (SymbolId × Reason))
+    → EndsBefore n i run → ended_run run (Wanted r) ≡ None
+    → pending (Some (run_with n i r run)) ++ ws ≡ pending run ++ (entry n r i ∷ ws)
+run-more n i r None ws e h =
+    let k : i + 1 - i ≡ 1 = omega arith in ap (λ k. map (entry n r) (range_with_len i k) ++ ws) k
 run-more n i r (Some g) ws e h =
     let k : i + 1 - g.first ≡ g.last + 1 - g.first + 1 = omega arith in
     let n = g.last + 1 - g.first in
     rw (k, map-range_with_len_more (entry g.sbn g.reason) g.first n i (omega arith), append_assoc)
     (λ x. pending (Some g) ++ (entry (e.0 x) (same_run g r h x) i ∷ ws))
 
-pub run-ends : (n i : ℕ) (r : Reason) (run : Option Gap) → EndsBefore n i run → ended_run run (Wanted r) ≡ None → r ≢ Missing → EndsBefore n (i + 1) (Some (run_with n i r run))
+pub run-ends : (n i : ℕ) (r : Reason) (run : Option Gap) → EndsBefore n i run
+    → ended_run run (Wanted r) ≡ None → r ≢ Missing
+    → EndsBefore n (i + 1) (Some (run_with n i r run))
 run-ends n i r None e h d = (refl, omega arith, refl, d)
 run-ends n i r (Some g) e h d = let a = e.1 in let b = e.2 in (e.0, omega (arith, a, b), refl, e.3)
 
-first-above : (p : SymbolId) (held : List Entry) → IsOrdered symbol_id_cmp held → FirstAfter p held → Above p (keys_of held)
+first-above : (p : SymbolId) (held : List Entry) → IsOrdered symbol_id_cmp held → FirstAfter p held
+    → Above p (keys_of held)
 first-above p [] s f = tt
 first-above p (e ∷ es) s f =
     let l : symbol_id_cmp p e.0 ≡ Less = symbol_id_total.antisymm p e.0 ∙ ap ordering_reverse f in
     (l, above-before p e.0 (keys_of es) l (sorted-first e es s))
 
 -- what is known is not missing
-known-not_missing : (info : Information) (id : SymbolId) (c : Cell (List ℕ)) → IsKnown c → want_cell info id (Some c) ≡ Some Missing → ⊥
+known-not_missing : (info : Information) (id : SymbolId) (c : Cell (List ℕ)) → IsKnown c
+    → want_cell info id (Some c) ≡ Some Missing → ⊥
 known-not_missing info id c k e = grind arith
 
-first-known : (held : List Entry) (e : Entry) (es : List Entry) → held ≡ e ∷ es → EachValue IsKnown held → IsKnown e.1
-first-known held e es h k = let a : EachValue IsKnown (e ∷ es) = subst (EachValue IsKnown) h k in a.0
+first-known : (held : List Entry) (e : Entry) (es : List Entry) → held ≡ e ∷ es
+    → EachValue IsKnown held → IsKnown e.1
+first-known held e es h k =
+    let a : EachValue IsKnown (e ∷ es) = subst (EachValue IsKnown) h k in a.0
 
 here-known : (w : Walk) (r : Reason) → IsWalk w → AtHere w (Some r) → r ≢ Missing
-here-known w r p t = λ e. known-not_missing w.partition (here w) t.first.1 (first-known w.held t.first t.others t.held p.known) (t.why_is ∙ ap Some e)
+here-known w r p t =
+    λ e. known-not_missing w.partition (here w) t.first.1
+    (first-known w.held t.first t.others t.held p.known) (t.why_is ∙ ap Some e)
 
 -- no symbol that is wanted for the reason comes next
 abbrev EndsRun : Reason → Upcoming → Type 0
@@ -75,11 +91,14 @@ module _ (w : Walk) (r : Reason) (p : IsWalk w) (h : 0 < w.esi) (d : r ≢ Missi
   at_end : w.esi ≡ w.size → Elsewhere (here w) r (left w)
   unfolding left
   at_end e =
-      rw (symbols-end w e) (elsewhere-above w.partition w.held (here w) r _ (above-later (here w) _ (blocks-later w p (omega (arith, e)))))
+      rw (symbols-end w e) (elsewhere-above w.partition w.held (here w) r _
+      (above-later (here w) _ (blocks-later w p (omega (arith, e)))))
 
   at_fitting : AtHere w None → Elsewhere (here w) r (left (after_take w))
   unfolding left
-  at_fitting t = elsewhere-above w.partition (after_take w).held (here w) r (others_left w) (others-above w p (inside-less w p t.inside))
+  at_fitting t =
+      elsewhere-above w.partition (after_take w).held (here w) r (others_left w)
+      (others-above w p (inside-less w p t.inside))
 
   at_not_held : Tells w NotHeld → Elsewhere (here w) r (left w)
   unfolding left
@@ -87,31 +106,43 @@ module _ (w : Walk) (r : Reason) (p : IsWalk w) (h : 0 < w.esi) (d : r ≢ Missi
       let l = inside-less w p t.0 in
       subst (λ xs. Elsewhere (here w) r (wanted w.partition w.held xs)) (sym (symbols-first w l))
       (elsewhere-here w.partition w.held (here w) r (others_left w)
-      (λ e. d (sym (same_Some Missing r (sym (ap (want_cell w.partition (here w)) (value-before w.held (here w) (first-above (here w) w.held p.ordered t.1))) ∙ e))))
+      (λ e. d (sym (same_Some Missing r
+      (sym (ap (want_cell w.partition (here w))
+      (value-before w.held (here w) (first-above (here w) w.held p.ordered t.1))) ∙ e))))
       (others-above w p l))
 
-  pub stop-elsewhere : (l : Upcoming) → upcoming_of w ≡ l → EndsRun r l → Elsewhere (here w) r (left w)
+  pub stop-elsewhere : (l : Upcoming) → upcoming_of w ≡ l → EndsRun r l
+      → Elsewhere (here w) r (left w)
   stop-elsewhere End e s = at_end (told w End e).0
   stop-elsewhere BlockEnd e s = at_end (told w BlockEnd e).0
   stop-elsewhere Passed e s = absurd s
-  stop-elsewhere Fitting e s = let t = told w Fitting e in subst (Elsewhere (here w) r) (sym (taken-left w.run w None p t)) (at_fitting t)
-  stop-elsewhere (Wanted q) e s = subst (Elsewhere (here w) r) (sym (taken-left w.run w (Some q) p (told w (Wanted q) e))) (λ f g. s g)
+  stop-elsewhere Fitting e s =
+      let t = told w Fitting e in
+      subst (Elsewhere (here w) r) (sym (taken-left w.run w None p t)) (at_fitting t)
+  stop-elsewhere (Wanted q) e s =
+      subst (Elsewhere (here w) r) (sym (taken-left w.run w (Some q) p (told w (Wanted q) e)))
+      (λ f g. s g)
   stop-elsewhere NotHeld e s = at_not_held (told w NotHeld e)
 
 -- a wanted symbol is put to the run
-pub step-want : (w : Walk) (r : Reason) → IsWalk w → AtHere w (Some r) → ended_run w.run (Wanted r) ≡ None → Keeps w (after_want r w)
+pub step-want : (w : Walk) (r : Reason) → IsWalk w → AtHere w (Some r)
+    → ended_run w.run (Wanted r) ≡ None → Keeps w (after_want r w)
 step-want w r p t h =
     let run = Some (run_with w.sbn w.esi r w.run) in
     taken-keeps run w (Some r) p t (run-ends w.sbn w.esi r w.run p.running h (here-known w r p t))
-    (run-more w.sbn w.esi r w.run (left (taken run w)) p.running h ∙ ap (λ ws. pending w.run ++ ws) (sym (taken-left run w (Some r) p t)))
+    (run-more w.sbn w.esi r w.run (left (taken run w)) p.running h
+    ∙ ap (λ ws. pending w.run ++ ws) (sym (taken-left run w (Some r) p t)))
 
 -- the run that ends is given
 ends-upcoming : (g : Gap) (l : Upcoming) → ended_run (Some g) l ≡ Some g → EndsRun g.reason l
 ends-upcoming g Passed h = absurd (none-some g h)
-ends-upcoming g (Wanted r) h = λ e. absurd (none-some g (sym (ap (λ b. cond b None (Some g)) (ap (same_reason g.reason) e ∙ reason_itself g.reason)) ∙ h))
+ends-upcoming g (Wanted r) h =
+    λ e. absurd (none-some g (sym
+    (ap (λ b. cond b None (Some g)) (ap (same_reason g.reason) e ∙ reason_itself g.reason)) ∙ h))
 ends-upcoming g l h = tt
 
-pub gap-run : (w : Walk) (g : Gap) → IsWalk w → w.run ≡ Some g → ended_run w.run (upcoming_of w) ≡ Some g → GivesGap w g (record w { run = None })
+pub gap-run : (w : Walk) (g : Gap) → IsWalk w → w.run ≡ Some g
+    → ended_run w.run (upcoming_of w) ≡ Some g → GivesGap w g (record w { run = None })
 unfolding left
 gap-run w g p e h =
     let q : EndsBefore w.sbn w.esi (Some g) = subst (EndsBefore w.sbn w.esi) e p.running in
@@ -120,22 +151,41 @@ gap-run w g p e h =
     let k : g.last + 1 - 1 ≡ g.last = omega arith in
     let j : w.esi - 1 ≡ g.last = omega arith in
     let f : here w ≡ symbol_id g.sbn (g.last + 1) = λ i. symbol_id (sym q.0 i) (y i) in
-    let x : Elsewhere (here w) g.reason (left w) = stop-elsewhere w g.reason p z q.3 (upcoming_of w) refl (ends-upcoming g (upcoming_of w) (ap (λ o. ended_run o (upcoming_of w)) (sym e) ∙ h)) in
+    let x : Elsewhere (here w) g.reason (left w) =
+    stop-elsewhere w g.reason p z q.3 (upcoming_of w) refl
+    (ends-upcoming g (upcoming_of w) (ap (λ o. ended_run o (upcoming_of w)) (sym e) ∙ h)) in
     record {
-      walk = record { ordered = p.ordered; known = p.known; begun = p.begun; within = p.within; longest = p.longest; in_block = p.in_block; behind = p.behind; running = tt };
-      first = ap (λ o. runs (pending o ++ left w)) e ∙ runs-first g.sbn g.first (g.last + 1) g.reason (left w) (omega arith) (subst (λ x. Elsewhere x g.reason (left w)) f x) ∙ (λ i. record g { last = k i } ∷ runs (left w));
+      walk = record {
+        ordered = p.ordered;
+        known = p.known;
+        begun = p.begun;
+        within = p.within;
+        longest = p.longest;
+        in_block = p.in_block;
+        behind = p.behind;
+        running = tt;
+      };
+      first =
+          ap (λ o. runs (pending o ++ left w)) e
+          ∙ runs-first g.sbn g.first (g.last + 1) g.reason (left w) (omega arith)
+          (subst (λ x. Elsewhere x g.reason (left w)) f x)
+          ∙ (λ i. record g { last = k i } ∷ runs (left w));
       held_is = refl;
       begun_is = refl;
       partition_is = refl;
       passes = record {
-        begun = sym (p.in_block (let n = p.within in omega (arith, n, z))) ∙ ap (λ n. n + 1) (sym q.0);
-        behind = subst (λ n. IsBehind n g.last w.held) (sym q.0) (subst (λ i. IsBehind w.sbn i w.held) j (p.behind z));
+        begun =
+            sym (p.in_block (let n = p.within in omega (arith, n, z))) ∙ ap (λ n. n + 1) (sym q.0);
+        behind =
+            subst (λ n. IsBehind n g.last w.held) (sym q.0)
+            (subst (λ i. IsBehind w.sbn i w.held) j (p.behind z));
       };
     }
 
 -- ---- symbols that are not held
 
-pub greater-cases : (p q : SymbolId) → symbol_id_cmp p q ≡ Greater → (q.sbn < p.sbn) ⊎ ((p.sbn ≡ q.sbn) × (q.esi < p.esi))
+pub greater-cases : (p q : SymbolId) → symbol_id_cmp p q ≡ Greater
+    → (q.sbn < p.sbn) ⊎ ((p.sbn ≡ q.sbn) × (q.esi < p.esi))
 greater-cases p q h = grind (arith, nat_tests)
 
 -- up to u nothing of the block is held, and u is its end or the first held symbol
@@ -143,9 +193,11 @@ record Until (n a size u : ℕ) (held : List Entry) : Type 0 where
   less : a < u
   within : u ≤ size
   before : (i : ℕ) → i < u → IsBehind n i held
-  next : (u ≡ size) ⊎ ((u < size) × (e : Entry) × (es : List Entry) × (held ≡ e ∷ es) × (e.0 ≡ symbol_id n u))
+  next : (u ≡ size)
+      ⊎ ((u < size) × (e : Entry) × (es : List Entry) × (held ≡ e ∷ es) × (e.0 ≡ symbol_id n u))
 
-first-less : (n i : ℕ) (e : Entry) (es : List Entry) → IsOrdered symbol_id_cmp (e ∷ es) → symbol_id_cmp (symbol_id n i) e.0 ≡ Less → IsBehind n i (e ∷ es)
+first-less : (n i : ℕ) (e : Entry) (es : List Entry) → IsOrdered symbol_id_cmp (e ∷ es)
+    → symbol_id_cmp (symbol_id n i) e.0 ≡ Less → IsBehind n i (e ∷ es)
 first-less n i e es s l = (l, above-before (symbol_id n i) e.0 (keys_of es) l (sorted-first e es s))
 
 less_in : (n i : ℕ) (p : SymbolId) → p.sbn ≡ n → i < p.esi → symbol_id_cmp (symbol_id n i) p ≡ Less
@@ -154,15 +206,23 @@ less_in n i p e l = ap (λ m. symbol_id_cmp (symbol_id m i) p) (sym e) ∙ esi-l
 beyond : (m n j size : ℕ) → ((m == n) && nat_lt j size) ≡ false → m ≡ n → size ≤ j
 beyond m n j size t e = grind (arith, nat_tests)
 
-until-is : (n a size : ℕ) (held : List Entry) → a < size → IsOrdered symbol_id_cmp held → FirstAfter (symbol_id n a) held → Until n a size (until_held n size held) held
-until-is n a size [] l s f = record { less = l; within = omega arith; before = λ i h. tt; next = inl refl }
+until-is : (n a size : ℕ) (held : List Entry) → a < size → IsOrdered symbol_id_cmp held
+    → FirstAfter (symbol_id n a) held → Until n a size (until_held n size held) held
+until-is n a size [] l s f = record {
+  less = l;
+  within = omega arith;
+  before = λ i h. tt;
+  next = inl refl;
+}
 until-is n a size (e ∷ es) l s f = elim (cases_Bool ((e.0.sbn == n) && nat_lt e.0.esi size)) [
   | inl t ↦
       let b = both (e.0.sbn == n) (nat_lt e.0.esi size) t in
       let m = eqb-true e.0.sbn n b.0 in
       let j = ltb-true e.0.esi size b.1 in
       subst (λ b. Until n a size (cond b e.0.esi size) (e ∷ es)) (sym t) (record {
-        less = elim (greater-cases e.0 (symbol_id n a) f) [ inl g ↦ absurd (omega (arith, g, m)) | inr g ↦ g.1 ];
+        less =
+            elim (greater-cases e.0 (symbol_id n a) f)
+            [ inl g ↦ absurd (omega (arith, g, m)) | inr g ↦ g.1 ];
         within = omega (arith, j);
         before = λ i h. first-less n i e es s (less_in n i e.0 m h);
         next = inr (j, e, es, refl, λ i. record { sbn = m i; esi = e.0.esi });
@@ -173,19 +233,24 @@ until-is n a size (e ∷ es) l s f = elim (cases_Bool ((e.0.sbn == n) && nat_lt 
         within = omega arith;
         before = λ i h. first-less n i e es s (elim (greater-cases e.0 (symbol_id n a) f) [
           | inl g ↦ sbn-less (symbol_id n i) e.0 g
-          | inr g ↦ less_in n i e.0 g.0 (let k = beyond e.0.sbn n e.0.esi size t g.0 in omega (arith, k, h))
+          | inr g ↦
+              less_in n i e.0 g.0 (let k = beyond e.0.sbn n e.0.esi size t g.0 in
+              omega (arith, k, h))
         ]);
         next = inl refl;
       })
 ]
 
-block-append : (n a k j : ℕ) → map (symbol_id n) (range_with_len a (k + j)) ≡ map (symbol_id n) (range_with_len a k) ++ map (symbol_id n) (range_with_len (a + k) j)
+block-append : (n a k j : ℕ)
+    → map (symbol_id n) (range_with_len a (k + j))
+    ≡ map (symbol_id n) (range_with_len a k) ++ map (symbol_id n) (range_with_len (a + k) j)
 block-append n a zero j = simp (zero-add, add-zero)
 block-append n a (suc k) j =
     let f : a + 1 + k ≡ a + suc k = omega arith in
     rw (suc-add k j, block-append n (a + 1) k j, f)
 
-block-split : (n a u size : ℕ) → a ≤ u → u ≤ size → block_from n a size ≡ block_from n a u ++ block_from n u size
+block-split : (n a u size : ℕ) → a ≤ u → u ≤ size
+    → block_from n a size ≡ block_from n a u ++ block_from n u size
 block-split n a u size l m =
     let e : size - a ≡ u - a + (size - u) = omega arith in
     let f : a + (u - a) ≡ u = omega arith in
@@ -195,13 +260,30 @@ block-split n a u size l m =
 abbrev pub after_missing : Walk → Walk
 after_missing w = record w { esi = until_of w }
 
-until-walk : (w : Walk) → IsWalk w → upcoming_of w ≡ NotHeld → Until w.sbn w.esi w.size (until_of w) w.held
-until-walk w p e = let t = told w NotHeld e in until-is w.sbn w.esi w.size w.held (inside-less w p t.0) p.ordered t.1
+until-walk : (w : Walk) → IsWalk w → upcoming_of w ≡ NotHeld
+    → Until w.sbn w.esi w.size (until_of w) w.held
+until-walk w p e =
+    let t = told w NotHeld e in
+    until-is w.sbn w.esi w.size w.held (inside-less w p t.0) p.ordered t.1
 
-missing-walk : (w : Walk) → IsWalk w → w.run ≡ None → until_of w ≤ w.size → IsBehind w.sbn (until_of w - 1) w.held → IsWalk (after_missing w)
-missing-walk w p r l b = record { ordered = p.ordered; known = p.known; begun = p.begun; within = l; longest = p.longest; in_block = p.in_block; behind = λ z. b; running = subst (EndsBefore w.sbn (until_of w)) (sym r) tt }
+missing-walk : (w : Walk) → IsWalk w → w.run ≡ None → until_of w ≤ w.size
+    → IsBehind w.sbn (until_of w - 1) w.held → IsWalk (after_missing w)
+missing-walk w p r l b = record {
+  ordered = p.ordered;
+  known = p.known;
+  begun = p.begun;
+  within = l;
+  longest = p.longest;
+  in_block = p.in_block;
+  behind = λ z. b;
+  running = subst (EndsBefore w.sbn (until_of w)) (sym r) tt;
+}
 
-missing-elsewhere : (w : Walk) → IsWalk w → 0 < w.size → ((until_of w ≡ w.size) ⊎ ((until_of w < w.size) × (e : Entry) × (es : List Entry) × (w.held ≡ e ∷ es) × (e.0 ≡ symbol_id w.sbn (until_of w)))) → Elsewhere (symbol_id w.sbn (until_of w)) Missing (left (after_missing w))
+missing-elsewhere : (w : Walk) → IsWalk w → 0 < w.size
+    → ((until_of w ≡ w.size)
+    ⊎ ((until_of w < w.size) × (e : Entry) × (es : List Entry) × (w.held ≡ e ∷ es)
+    × (e.0 ≡ symbol_id w.sbn (until_of w))))
+    → Elsewhere (symbol_id w.sbn (until_of w)) Missing (left (after_missing w))
 unfolding left
 missing-elsewhere w p l (inl e) =
     let q = symbol_id w.sbn (until_of w) in
@@ -210,24 +292,38 @@ missing-elsewhere w p l (inl e) =
 missing-elsewhere w p l (inr n) =
     let q = symbol_id w.sbn (until_of w) in
     let e = n.1 in
-    subst (λ xs. Elsewhere q Missing (wanted w.partition w.held xs)) (sym (symbols-first (after_missing w) n.0))
+    subst (λ xs. Elsewhere q Missing (wanted w.partition w.held xs))
+    (sym (symbols-first (after_missing w) n.0))
     (elsewhere-here w.partition w.held q Missing (others_left (after_missing w))
-    (λ z. known-not_missing w.partition q e.1 (first-known w.held e n.2 n.3 p.known) (sym (ap (want_cell w.partition q) (ap (λ (x : List Entry). value_at symbol_id_cmp x q) n.3 ∙ value-here e n.2 q n.4)) ∙ z))
+    (λ z. known-not_missing w.partition q e.1 (first-known w.held e n.2 n.3 p.known)
+    (sym (ap (want_cell w.partition q)
+    (ap (λ (x : List Entry). value_at symbol_id_cmp x q) n.3 ∙ value-here e n.2 q n.4)) ∙ z))
     (above-block w.sbn (until_of w) w.size (blocks_from w.partition w.begun) (blocks-later w p l)))
 
-missing-left : (w : Walk) → Until w.sbn w.esi w.size (until_of w) w.held → left w ≡ map (λ i. (symbol_id w.sbn i, Missing)) (range_with_len w.esi (until_of w - w.esi)) ++ left (after_missing w)
+missing-left : (w : Walk) → Until w.sbn w.esi w.size (until_of w) w.held
+    → left w ≡ map (λ i. (symbol_id w.sbn i, Missing)) (range_with_len w.esi (until_of w - w.esi))
+    ++ left (after_missing w)
 unfolding left
 missing-left w u =
     let rest = blocks_from w.partition w.begun in
-    ap (λ xs. wanted w.partition w.held (xs ++ rest)) (block-split w.sbn w.esi (until_of w) w.size (omega arith) u.within)
-    ∙ ap (wanted w.partition w.held) (append_assoc (block_from w.sbn w.esi (until_of w)) (block_from w.sbn (until_of w) w.size) rest)
-    ∙ wanted-missing w.partition w.held w.sbn w.esi (until_of w - w.esi) (block_from w.sbn (until_of w) w.size ++ rest)
+    ap (λ xs. wanted w.partition w.held (xs ++ rest))
+    (block-split w.sbn w.esi (until_of w) w.size (omega arith) u.within)
+    ∙ ap (wanted w.partition w.held)
+    (append_assoc (block_from w.sbn w.esi (until_of w)) (block_from w.sbn (until_of w) w.size) rest)
+    ∙ wanted-missing w.partition w.held w.sbn w.esi (until_of w - w.esi)
+    (block_from w.sbn (until_of w) w.size ++ rest)
     (λ i h. value-before w.held (symbol_id w.sbn i) (u.before i (omega (arith, h))))
 
 abbrev missing_gap_of : Walk → Gap
 missing_gap_of w = record { sbn = w.sbn; first = w.esi; last = until_of w - 1; reason = Missing }
 
-pub gap-missing : (w : Walk) → IsWalk w → w.run ≡ None → upcoming_of w ≡ NotHeld → GivesGap w (record { sbn = w.sbn; first = w.esi; last = until_of w - 1; reason = Missing }) (after_missing w)
+pub gap-missing : (w : Walk) → IsWalk w → w.run ≡ None → upcoming_of w ≡ NotHeld
+    → GivesGap w (record {
+      sbn = w.sbn;
+      first = w.esi;
+      last = until_of w - 1;
+      reason = Missing;
+    }) (after_missing w)
 gap-missing w p r e =
     let u = until-walk w p e in
     let behind = u.before (until_of w - 1) (omega arith) in
@@ -240,6 +336,7 @@ gap-missing w p r e =
       first =
           ap (λ o. runs (pending o ++ left w)) r
           ∙ ap runs (missing-left w u)
-          ∙ runs-first w.sbn w.esi (until_of w) Missing (left (after_missing w)) u.less (missing-elsewhere w p (omega arith) u.next)
+          ∙ runs-first w.sbn w.esi (until_of w) Missing (left (after_missing w)) u.less
+          (missing-elsewhere w p (omega arith) u.next)
           ∙ ap (λ o. missing_gap_of w ∷ runs (pending o ++ left (after_missing w))) (sym r);
     }

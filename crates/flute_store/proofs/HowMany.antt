@@ -1,16 +1,17 @@
 -- How many symbols are wanted for each reason.
-use Rattle.std.proofs.Common.{◌≡◌, ℕ, zero, suc, ◌+◌, ◌-◌, ◌<◌, ◌≤◌, ◌^◌, Bool, true, false, List, [], ◌∷◌, ◌++◌, length, map, Some, refl, sym, ap, ◌∙◌, subst, arith, inl, inr}
+use Rattle.std.proofs.Common.{◌≡◌, ℕ, zero, suc, ◌+◌, ◌-◌, ◌<◌, ◌≤◌, ◌^◌, Bool, true, false, List}
+use Rattle.std.proofs.Common.{[], ◌∷◌, ◌++◌, length, map, Some, refl, sym, ap, ◌∙◌, subst, arith}
+use Rattle.std.proofs.Common.{inl, inr}
 use Rattle.std.proofs.lemmas.List.{Elements.{filter-append}, nil_from_length, length-append}
 use Rattle.std.{proofs.lemmas.List.FromFn.{length-map-range_with_len}, specs.Prelude.{◌&&◌}}
-use Rattle.flute_store.{specs.declared.status.Wanted.{Wanted}, proofs.Runs.{runs-are, runs-listed}}
+use Rattle.flute_store.{specs.declared.status.Wanted.{Wanted}, proofs.Runs.{runs-listed}}
 use Rattle.flute_store.proofs.WholeObjects.{gapless-whole}
-use Rattle.flute_store.proofs.ToldObjects.{wants-told, told-information}
+use Rattle.flute_store.proofs.ToldObjects.{ToldGaps, wants-told, told-information}
 use Rattle.flute_store.proofs.Common
-use Common.{◌==◌, flat_map, range_with_len, cases_Bool, eqb-true, false≢true, Cell, One}
-use Common.{Information, both, fact_at, info_address, Info, symbol_id, ids, Key, SymbolId, Fact}
-use Common.{Reason, Missing, Conflicting, Misfit, Gap, Object, Whole, wants, runs, listed}
-use Common.{same_reason, AreRuns, wanted, IsTold, how_many, IsCount, Adds, IsPartial, status_of}
-use Common.{TellsStatus}
+use Common.{◌==◌, flat_map, range_with_len, cases_Bool, eqb-true, false≢true, Cell, Information}
+use Common.{both, fact_at, info_address, Info, symbol_id, ids, Key, SymbolId, Fact, Reason, Missing}
+use Common.{Conflicting, Misfit, Gap, Object, Whole, wants, runs, listed, same_reason, AreRuns}
+use Common.{wanted, how_many, IsCount, Adds, IsPartial, status_of, TellsStatus}
 
 abbrev Want : Type 0
 Want = SymbolId × Reason
@@ -22,12 +23,14 @@ pub how-nil : (r : Reason) → how_many r [] ≡ 0
 unfolding how_many
 how-nil r = refl
 
-pub how-append : (r : Reason) (ws vs : List Want) → how_many r (ws ++ vs) ≡ how_many r ws + how_many r vs
+pub how-append : (r : Reason) (ws vs : List Want)
+    → how_many r (ws ++ vs) ≡ how_many r ws + how_many r vs
 unfolding how_many
 how-append r ws vs = simp (filter-append, length-append)
 
 -- each is wanted for one of the three reasons
-pub how-all : (ws : List Want) → how_many Missing ws + how_many Conflicting ws + how_many Misfit ws ≡ length ws
+pub how-all : (ws : List Want)
+    → how_many Missing ws + how_many Conflicting ws + how_many Misfit ws ≡ length ws
 unfolding how_many
 how-all [] = omega arith
 how-all ((id, Missing) ∷ ws) = omega (arith, how-all ws)
@@ -47,14 +50,18 @@ how-range r s true e n a (suc k) = rw e (ap (λ n. suc n) (how-range r s true e 
 how-range r s false e n a zero = refl
 how-range r s false e n a (suc k) = rw e (how-range r s false e n (a + 1) k)
 
-pub how-listed : (r : Reason) (g : Gap) → how_many r (listed g) ≡ times (same_reason r g.reason) (g.last + 1 - g.first)
+pub how-listed : (r : Reason) (g : Gap)
+    → how_many r (listed g) ≡ times (same_reason r g.reason) (g.last + 1 - g.first)
 how-listed r g = how-range r g.reason _ refl g.sbn g.first (g.last + 1 - g.first)
 
 pub listed-length : (g : Gap) → length (listed g) ≡ g.last + 1 - g.first
-listed-length g = length-map-range_with_len (λ i. (symbol_id g.sbn i, g.reason)) g.first (g.last + 1 - g.first)
+listed-length g =
+    length-map-range_with_len (λ i. (symbol_id g.sbn i, g.reason)) g.first (g.last + 1 - g.first)
 
-pub adds-reason : (g : Gap) (old new : Wanted) (r : Reason) → g.reason ≡ r → new.missing ≡ old.missing + times (same_reason Missing r) (g.last + 1 - g.first)
-    → new.conflicting ≡ old.conflicting + times (same_reason Conflicting r) (g.last + 1 - g.first) → new.misfit ≡ old.misfit + times (same_reason Misfit r) (g.last + 1 - g.first) → Adds g old new
+pub adds-reason : (g : Gap) (old new : Wanted) (r : Reason) → g.reason ≡ r
+    → new.missing ≡ old.missing + times (same_reason Missing r) (g.last + 1 - g.first)
+    → new.conflicting ≡ old.conflicting + times (same_reason Conflicting r) (g.last + 1 - g.first)
+    → new.misfit ≡ old.misfit + times (same_reason Misfit r) (g.last + 1 - g.first) → Adds g old new
 adds-reason g old new r e m n f =
     omega (arith, how-listed, rw (← e) at m, rw (← e) at n, rw (← e) at f)
 
@@ -64,48 +71,69 @@ pub record Counts (count : Wanted) (all rest : List Want) : Type 0 where
   pub conflicting : count.conflicting + how_many Conflicting rest ≡ how_many Conflicting all
   pub misfit : count.misfit + how_many Misfit rest ≡ how_many Misfit all
 
-pub counts-more : (g : Gap) (count new : Wanted) (all rest : List Want) → Counts count all (listed g ++ rest) → Adds g count new → Counts new all rest
+pub counts-more : (g : Gap) (count new : Wanted) (all rest : List Want)
+    → Counts count all (listed g ++ rest) → Adds g count new → Counts new all rest
 counts-more g count new all rest c a = omega (arith, how-append)
 
-pub counts-few : (count : Wanted) (all rest : List Want) → Counts count all rest → length all ≤ 2 ^ 32 → (count.missing < 2 ^ 33) × (count.conflicting < 2 ^ 33) × (count.misfit < 2 ^ 33)
+pub counts-few : (count : Wanted) (all rest : List Want) → Counts count all rest
+    → length all ≤ 2 ^ 32
+    → (count.missing < 2 ^ 33) × (count.conflicting < 2 ^ 33) × (count.misfit < 2 ^ 33)
 counts-few count all rest c l = omega (arith, how-all all)
 
 -- nothing was counted yet
 pub counts-none : (count : Wanted) (all : List Want) → IsCount count [] → Counts count all all
 counts-none count all i = omega (arith, how-nil)
 
-pub none-counted : (count : Wanted) → count.missing ≡ 0 → count.conflicting ≡ 0 → count.misfit ≡ 0 → IsCount count []
-none-counted count m c f = record { missing = m ∙ sym (how-nil Missing); conflicting = c ∙ sym (how-nil Conflicting); misfit = f ∙ sym (how-nil Misfit) }
+pub none-counted : (count : Wanted) → count.missing ≡ 0 → count.conflicting ≡ 0 → count.misfit ≡ 0
+    → IsCount count []
+none-counted count m c f = record {
+  missing = m ∙ sym (how-nil Missing);
+  conflicting = c ∙ sym (how-nil Conflicting);
+  misfit = f ∙ sym (how-nil Misfit);
+}
 
 pub counts-all : (count : Wanted) (all : List Want) → Counts count all [] → IsCount count all
 unfolding how_many
 counts-all count all c = omega arith
 
 -- no more symbols are wanted than there are
-length-wanted : (info : Information) (held : List (SymbolId × Cell (List ℕ))) (xs : List SymbolId) → length (wanted info held xs) ≤ length xs
+length-wanted : (info : Information) (held : List (SymbolId × Cell (List ℕ))) (xs : List SymbolId)
+    → length (wanted info held xs) ≤ length xs
 unfolding wanted
 length-wanted info held [] = omega arith
 length-wanted info held (x ∷ xs) = grind (arith, length-wanted info held xs)
 
-pub few-wanted : (info : Information) (held : List (SymbolId × Cell (List ℕ))) (gs : List Gap) → gs ≡ runs (wanted info held (ids info)) → length (ids info) ≤ 2 ^ 32 → length (flat_map listed gs) ≤ 2 ^ 32
+pub few-wanted : (info : Information) (held : List (SymbolId × Cell (List ℕ))) (gs : List Gap)
+    → gs ≡ runs (wanted info held (ids info)) → length (ids info) ≤ 2 ^ 32
+    → length (flat_map listed gs) ≤ 2 ^ 32
 few-wanted info held gs e l =
     rw (e, runs-listed) (omega (arith, length-wanted info held (ids info)))
 
 -- ---- the status of an object
 
-module _ (F : List Fact) (key : Key) (info : Information) (count : Wanted) (i : fact_at F (info_address key) ≡ Some (Info key info)) (c : IsCount count (wants F key info)) where
+module _ (F : List Fact) (key : Key) (info : Information) (count : Wanted)
+    (i : fact_at F (info_address key) ≡ Some (Info key info))
+    (c : IsCount count (wants F key info)) where
   total : length (wants F key info) ≡ count.missing + count.conflicting + count.misfit
   total = omega (arith, how-all (wants F key info))
 
   is-whole : count.missing ≡ 0 → count.conflicting ≡ 0 → count.misfit ≡ 0 → Whole F key info
   unfolding runs
-  is-whole a b d = let s = total in gapless-whole F key info i (ap runs (nil_from_length (wants F key info) (omega (arith, s, a, b, d))))
+  is-whole a b d =
+      let s = total in
+      gapless-whole F key info i
+      (ap runs (nil_from_length (wants F key info) (omega (arith, s, a, b, d))))
 
-  is-partial : (count.missing ≡ 0 → count.conflicting ≡ 0 → count.misfit ≡ 0 → ⊥) → IsPartial F key count.missing count.conflicting count.misfit
+  is-partial : (count.missing ≡ 0 → count.conflicting ≡ 0 → count.misfit ≡ 0 → ⊥)
+      → IsPartial F key count.missing count.conflicting count.misfit
   is-partial z = record {
     info = info;
     information = i;
-    some = λ w. let s = total in let l : length (wants F key info) ≡ 0 = ap (λ (x : List Want). length x) w in z (omega (arith, s, l)) (omega (arith, s, l)) (omega (arith, s, l));
+    some =
+        λ w. let s = total in
+        let l : length (wants F key info) ≡ 0 =
+        ap (λ (x : List Want). length x) w in
+        z (omega (arith, s, l)) (omega (arith, s, l)) (omega (arith, s, l));
     missing_are = c.missing;
     conflicting_are = c.conflicting;
     misfit_are = c.misfit;
@@ -120,12 +148,17 @@ module _ (F : List Fact) (key : Key) (info : Information) (count : Wanted) (i : 
     | inr t ↦ rw t (is-partial (λ a b d. false≢true (sym t ∙ rw (a, b, d))))
   ]
 
-module _ {n : ℕ} (F : List Fact) (key : Key) (x : Object n) (info : Information) (held : List (SymbolId × Cell (List ℕ))) (gs : List Gap) (count : Wanted)
-    (t : IsTold F key x) (e : x.info ≡ One info) (h : held ≡ x.symbols) (g : gs ≡ runs (wanted info held (ids info))) (c : IsCount count (flat_map listed gs)) where
-  pub store-status : (n : ℕ) → n ≡ info.transfer_length → TellsStatus F key (status_of count n)
-  store-status =
-      tells-status F key info count (told-information F key x info t e)
-      (subst (IsCount count) (ap (flat_map listed) g ∙ runs-listed (wanted info held (ids info)) ∙ ap (λ s. wanted info s (ids info)) h ∙ sym (wants-told F key x info t)) c)
+-- the wanted symbols of all gaps were counted
+pub store-status : {n : ℕ} {F : List Fact} {key : Key} {x : Object n} {info : Information}
+    {held : List (SymbolId × Cell (List ℕ))} {gs : List Gap} → ToldGaps F key x info held gs
+    → (count : Wanted) → IsCount count (flat_map listed gs) → (length : ℕ)
+    → length ≡ info.transfer_length → TellsStatus F key (status_of count length)
+store-status {n} {F} {key} {x} {info} {held} {gs} t count c =
+    let told = wants-told F key x info t.told in
+    let all = ap (flat_map listed) t.gaps_are ∙ runs-listed (wanted info held (ids info))
+    ∙ ap (λ s. wanted info s (ids info)) t.held_is ∙ sym told in
+    tells-status F key info count (told-information F key x info t.told t.info_is)
+    (subst (IsCount count) all c)
 
 -- ---- gap after gap
 
@@ -134,8 +167,13 @@ pub record FirstGap (g : Gap) (gs : List Gap) (count : Wanted) (all : List Want)
   pub runs_are : AreRuns gs
   pub counted : Counts count all (listed g ++ flat_map listed gs)
 
-pub first-gap : (g : Gap) (gs rest : List Gap) (count : Wanted) (all : List Want) → gs ≡ g ∷ rest → AreRuns gs → Counts count all (flat_map listed gs) → FirstGap g rest count all
+pub first-gap : (g : Gap) (gs rest : List Gap) (count : Wanted) (all : List Want) → gs ≡ g ∷ rest
+    → AreRuns gs → Counts count all (flat_map listed gs) → FirstGap g rest count all
 unfolding AreRuns
 first-gap g gs rest count all e r c =
     let s : AreRuns (g ∷ rest) = subst AreRuns e r in
-    record { order = s.0; runs_are = s.2; counted = subst (λ (x : List Gap). Counts count all (flat_map listed x)) e c }
+    record {
+      order = s.0;
+      runs_are = s.2;
+      counted = subst (λ (x : List Gap). Counts count all (flat_map listed x)) e c;
+    }

@@ -1,8 +1,10 @@
 mod Common
+mod FactEntries
 mod StoreJoin
 mod OnePair
 mod Counting
 mod Exceeding
+mod NewFacts
 mod Rises
 mod Spelled
 mod Refused
@@ -18,6 +20,9 @@ mod Turns
 mod Shown
 mod Places
 mod ScanTurns
+mod ScanFacts
+mod ScanGaps
+mod ScanSymbols
 mod ScanSteps
 mod HowMany
 mod ObjectLength

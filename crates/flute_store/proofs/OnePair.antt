@@ -1,88 +1,141 @@
 -- One pair joined into a map: the outcome is sound, or passes a limit.
-use Rattle.std.proofs.Common.{◌≡◌, ◌≢◌, ℕ, ◌+◌, ◌<◌, ◌≤◌, List, [], ◌∷◌, length, Bool, true, false, cond, Option, Some, None, refl, sym, ap, ◌∙◌, subst, inl, inr, arith}
+use Rattle.std.proofs.Common.{◌≡◌, ◌≢◌, ℕ, ◌+◌, ◌<◌, ◌≤◌, List, [], ◌∷◌, length, Bool, Option, Some}
+use Rattle.std.proofs.Common.{None, refl, sym, ap, ◌∙◌, subst, inl, inr, arith, bytes_eq}
 use Rattle.std.proofs.lemmas.Map.{length-set_value}
 use Rattle.flute_join.proofs.Public.{ordered_one}
+use Rattle.flute_store.proofs.FactEntries.{AreKeys, session_keys, object_keys, symbol_keys}
 use Rattle.flute_store.proofs.Common
-use Common.{cases_Bool, same_Some, Ordering, Equal, IsTotalOrder, is_at, none-some, IsJoin, IsBelow}
-use Common.{map_join, value_at, IsOrdered, EachValue, IsSound, map_join_laws, below_join}
-use Common.{ordered-map_join, each-set_value, each-insert_entry, some_above, single_held}
-use Common.{single_new, length_new, cell_join, IsKnown, Cell, Absent, One, Conflict, SymbolId}
-use Common.{SymbolUpdate, BorrowedUpdate, OwnedUpdate, ConflictUpdate, update_cell, update_symbols}
-use Common.{AnyValue, value_at-map_join, join_values, tied_itself}
+use Common.{cases_Bool, same_Some, Ordering, is_at, none-some, IsJoin, IsBelow, map_join, value_at}
+use Common.{IsOrdered, EachValue, IsSound, map_join_laws, below_join, ordered-map_join}
+use Common.{each-set_value, each-insert_entry, some_above, single_held, single_new, length_new}
+use Common.{cell_join, IsKnown, Cell, Absent, SymbolId, SymbolUpdate, update_cell, update_symbols}
+use Common.{AnyValue, value_at-map_join, join_values, tied_itself, cells, object_cmp, session_cmp}
+use Common.{symbol_id_cmp, object_join, session_join, object_join_laws, session_laws}
 
 module _ {K X : Type 0} (cmp : K → K → Ordering) (B : X → Type 0) where
-  pub any-value_at : (es : List (K × X)) (k : K) (v : X) → value_at cmp es k ≡ Some v → B v → AnyValue B es
+  pub any-value_at : (es : List (K × X)) (k : K) (v : X) → value_at cmp es k ≡ Some v → B v
+      → AnyValue B es
   any-value_at [] k v f p = absurd (none-some v f)
   any-value_at (e ∷ es) k v f p = elim (cases_Bool (is_at (cmp k) e.0)) [
     | inl b ↦ inl (subst B (sym (same_Some e.1 v (rw b at f))) p)
     | inr b ↦ inr (any-value_at es k v (rw b at f) p)
   ]
 
-module _ {K X : Type 0} {cmp : K → K → Ordering} (order : IsTotalOrder cmp) (same : (x y : K) → cmp x y ≡ Equal → x ≡ y) {join : X → X → X} (laws : IsJoin join) where
+-- keys in their order, and a join of what they lead to
+pub record AreJoined {K X : Type 0} (cmp : K → K → Ordering) (join : X → X → X) : Type 0 where
+  pub keys : AreKeys cmp
+  pub laws : IsJoin join
+
+pub symbols_joined : AreJoined symbol_id_cmp (cell_join bytes_eq)
+symbols_joined = record { keys = symbol_keys; laws = cells }
+
+pub objects_joined : (n : ℕ) → AreJoined object_cmp (object_join {n = n})
+objects_joined n = record { keys = object_keys; laws = object_join_laws n }
+
+pub sessions_joined : (n : ℕ) → AreJoined session_cmp (session_join {n = n})
+sessions_joined n = record { keys = session_keys; laws = session_laws n }
+
+-- a map within a limit, in the order of its keys, of all whose values this holds
+pub record IsMap {K X : Type 0} (cmp : K → K → Ordering) (limit : ℕ) (P : X → Type 0)
+    (es : List (K × X)) : Type 0 where
+  pub ordered : IsOrdered cmp es
+  pub within : length es ≤ limit
+  pub each : EachValue P es
+
+pub has-room : {K X : Type 0} {cmp : K → K → Ordering} {limit : ℕ} {P : X → Type 0}
+    (es : List (K × X)) → IsOrdered cmp es → EachValue P es → length es < limit
+    → IsMap cmp limit P es
+has-room es s a room = record { ordered = s; within = omega (arith, room); each = a }
+
+module _ {K X : Type 0} {cmp : K → K → Ordering} {join : X → X → X} (all : AreJoined cmp join) where
   pub some-right : (es fs : List (K × X)) → fs ≢ [] → map_join cmp join es fs ≢ []
   some-right es fs h =
-      let all = map_join_laws order same laws in
-      some_above order join fs (map_join cmp join es fs) (subst (IsBelow (map_join cmp join) fs) (all.commutative fs es) (below_join all fs es)) h
+      let laws = map_join_laws all.keys.order all.keys.same all.laws in
+      some_above all.keys.order join fs (map_join cmp join es fs)
+      (subst (IsBelow (map_join cmp join) fs) (laws.commutative fs es) (below_join laws fs es)) h
 
-module _ {K X : Type 0} {cmp : K → K → Ordering} (order : IsTotalOrder cmp) (same : (x y : K) → cmp x y ≡ Equal → x ≡ y) {join : X → X → X} (laws : IsJoin join) (es : List (K × X)) (k : K) (w : X) where
-  abbrev J : List (K × X)
-  J = map_join cmp join es ((k, w) ∷ [])
+  -- one pair is joined into a map
+  abbrev pub with_pair : List (K × X) → K → X → List (K × X)
+  with_pair es k w = map_join cmp join es ((k, w) ∷ [])
 
-  module _ (s : IsOrdered cmp es) where
-    joined-ordered : IsOrdered cmp J
-    joined-ordered = ordered-map_join order join es ((k, w) ∷ []) s (ordered_one order same laws (k, w))
+  pair-ordered : (es : List (K × X)) (k : K) (w : X) → IsOrdered cmp es
+      → IsOrdered cmp (with_pair es k w)
+  pair-ordered es k w s =
+      ordered-map_join all.keys.order join es ((k, w) ∷ []) s
+      (ordered_one all.keys.order all.keys.same all.laws (k, w))
 
-    joined-some : J ≢ []
-    joined-some = some-right order same laws es ((k, w) ∷ []) (λ e. cc)
+  pair-some : (es : List (K × X)) (k : K) (w : X) → with_pair es k w ≢ []
+  pair-some es k w = some-right es ((k, w) ∷ []) (λ e. cc)
 
-    pub held-sound : (limit : ℕ) (P : X → Type 0) (v : X) → value_at cmp es k ≡ Some v → length es ≤ limit → EachValue P es → P (join v w) → IsSound cmp limit P J
-    held-sound limit P v f within a p =
-        let is = single_held order laws es k v w s f in
-        let same_length : length J ≡ length es = ap length is ∙ length-set_value (is_at (cmp k)) es (join v w) in
+  pair-longer : (es : List (K × X)) (k : K) (w : X) (limit : ℕ) → value_at cmp es k ≡ None
+      → length (with_pair es k w) ≡ length es + 1
+  pair-longer es k w limit f =
+      ap length (single_new all.keys.order all.laws es k w f)
+      ∙ length_new all.keys.order all.laws all.keys.same limit (λ _ _. ⊥) es k w f
+
+  module _ {limit : ℕ} {P : X → Type 0} {es : List (K × X)} (m : IsMap cmp limit P es) (k : K)
+      (w : X) where
+    pub held-sound : {v : X} → value_at cmp es k ≡ Some v → P (join v w)
+        → IsSound cmp limit P (with_pair es k w)
+    held-sound {v} f p =
+        let is = single_held all.keys.order all.laws es k v w m.ordered f in
+        let same_length : length (with_pair es k w) ≡ length es =
+        ap length is ∙ length-set_value (is_at (cmp k)) es (join v w) in
         record {
-          ordered = joined-ordered;
-          within = omega arith;
-          some = joined-some;
-          each = subst (EachValue P) (sym is) (each-set_value cmp P (is_at (cmp k)) es (join v w) a p);
+          ordered = pair-ordered es k w m.ordered;
+          within = (let l = m.within in omega (arith, l, same_length));
+          some = pair-some es k w;
+          each =
+              subst (EachValue P) (sym is)
+              (each-set_value cmp P (is_at (cmp k)) es (join v w) m.each p);
         }
 
-    pub new-sound : (limit : ℕ) (P : X → Type 0) → value_at cmp es k ≡ None → length es < limit → EachValue P es → P w → IsSound cmp limit P J
-    new-sound limit P f room a p =
-        let is = single_new order laws es k w f in
-        let longer : length J ≡ length es + 1 = ap length is ∙ length_new order laws same limit (λ _ _. ⊥) es k w f in
+    pub new-sound : value_at cmp es k ≡ None → length es < limit → P w
+        → IsSound cmp limit P (with_pair es k w)
+    new-sound f room p =
+        let longer = pair-longer es k w limit f in
         record {
-          ordered = joined-ordered;
-          within = omega arith;
-          some = joined-some;
-          each = subst (EachValue P) (sym is) (each-insert_entry cmp P es k w a p);
+          ordered = pair-ordered es k w m.ordered;
+          within = omega (arith, longer, room);
+          some = pair-some es k w;
+          each =
+              subst (EachValue P) (sym (single_new all.keys.order all.laws es k w f))
+              (each-insert_entry cmp P es k w m.each p);
         }
 
-    joined_there : (found : Option X) → value_at cmp es k ≡ found
-        → value_at cmp J k ≡ join_values join found (Some w)
-    joined_there found f =
-        value_at-map_join order join es ((k, w) ∷ []) k s (ordered_one order same laws (k, w))
-        ∙ rw (f, tied_itself order k)
+  module _ (es : List (K × X)) (k : K) (w : X) where
+    joined_there : (found : Option X) → IsOrdered cmp es → value_at cmp es k ≡ found
+        → value_at cmp (with_pair es k w) k ≡ join_values join found (Some w)
+    joined_there found s f =
+        value_at-map_join all.keys.order join es ((k, w) ∷ []) k s
+        (ordered_one all.keys.order all.keys.same all.laws (k, w))
+        ∙ rw (f, tied_itself all.keys.order k)
 
-    pub held-beyond : (B : X → Type 0) (v : X) → value_at cmp es k ≡ Some v → B (join v w) → AnyValue B J
-    held-beyond B v f p = any-value_at cmp B J k (join v w) (joined_there (Some v) f) p
+    pub held-beyond : (B : X → Type 0) {v : X} → IsOrdered cmp es → value_at cmp es k ≡ Some v
+        → B (join v w) → AnyValue B (with_pair es k w)
+    held-beyond B {v} s f p =
+        any-value_at cmp B (with_pair es k w) k (join v w) (joined_there (Some v) s f) p
 
-    pub new-beyond : (B : X → Type 0) → value_at cmp es k ≡ None → B w → AnyValue B J
-    new-beyond B f p = any-value_at cmp B J k w (joined_there None f) p
+    pub new-beyond : (B : X → Type 0) → IsOrdered cmp es → value_at cmp es k ≡ None → B w
+        → AnyValue B (with_pair es k w)
+    new-beyond B s f p = any-value_at cmp B (with_pair es k w) k w (joined_there None s f) p
 
-  pub full-beyond : (limit : ℕ) → value_at cmp es k ≡ None → length es ≡ limit → limit < length J
-  full-beyond limit f full =
-      let longer : length J ≡ length es + 1 = ap length (single_new order laws es k w f) ∙ length_new order laws same limit (λ _ _. ⊥) es k w f in
-      omega arith
+    pub full-beyond : (limit : ℕ) → value_at cmp es k ≡ None → length es ≡ limit
+        → limit < length (with_pair es k w)
+    full-beyond limit f full =
+        let longer = pair-longer es k w limit f in omega (arith, longer, full)
 
 -- ---- cells
 pub update-some : (o : Option (SymbolId × SymbolUpdate)) → o ≢ None → update_symbols o ≢ []
 update-some None h = λ e. h refl
 update-some (Some t) h = λ e. cc
 
-pub known-join : {T : Type 0} (eq : T → T → Bool) (c d : Cell T) → IsKnown c → IsKnown (cell_join eq c d)
+pub known-join : {T : Type 0} (eq : T → T → Bool) (c d : Cell T) → IsKnown c
+    → IsKnown (cell_join eq c d)
 known-join eq c d h = grind arith
 
-pub absent-right : {T : Type 0} (eq : T → T → Bool) (c d : Cell T) → cell_join eq c d ≡ Absent → d ≡ Absent
+pub absent-right : {T : Type 0} (eq : T → T → Bool) (c d : Cell T) → cell_join eq c d ≡ Absent
+    → d ≡ Absent
 absent-right eq c d e = grind arith
 
 pub known-update : (t : SymbolUpdate) → IsKnown (update_cell t)

@@ -1,36 +1,54 @@
 -- Where the turns of a walk lead, whatever is held behind the next symbol.
-use Common.{nat_tests}
-use Rattle.std.proofs.Common.{◌≡◌, ◌≢◌, ℕ, ◌+◌, ◌-◌, ◌*◌, ◌<◌, ◌≤◌, ◌^◌, ◌⊎◌, Bool, true, false, cond, ◌&&◌, Option, Some, None, refl, sym, ap, ◌∙◌, subst, arith, inl, inr}
-use Rattle.std.specs.Prelude.{nat_lt, length}
+use Common.{nat_tests, ◌==◌, Ordering, Less, Equal, Greater, match_ordering, ne_eqb, eq-eqb, sizes}
+use Common.{symbol_id_cmp, symbol_id_place, symbol_id, fits, SymbolId, Reason, Missing, Misfit, Gap}
+use Common.{Turn, Upcoming, End, BlockEnd, Passed, Fitting, Wanted, NotHeld, PartitionScan}
+use Common.{EndsBefore, IsPlace, want_length, upcoming_wanted, upcoming_next, upcoming_at, until_at}
+use Common.{ended_run, run_with, missing_gap, after_missing, after_wanted, after_block, turn_after}
+use Common.{turn_of, run_length, CountsWithin, Counted}
+use Rattle.std.proofs.Common.{◌≡◌, ◌≢◌, ℕ, ◌+◌, ◌-◌, ◌*◌, ◌<◌, ◌≤◌, ◌^◌, ◌⊎◌, Bool, true, false}
+use Rattle.std.proofs.Common.{cond, Option, Some, None, refl, sym, ap, ◌∙◌, subst, arith, inl, inr}
+use Rattle.std.specs.Prelude.{length}
 use Rattle.flute_store.proofs.Upcoming.{by-place}
 use Rattle.flute_store.proofs.{GapSteps.{greater-cases, run-ends}, Turns.{run-is, no-run}}
 use Rattle.flute_store.proofs.Common
-use Common.{◌==◌, Ordering, Less, Equal, Greater, match_ordering, cases_Bool, eqb-true, ne_eqb}
-use Common.{eq-eqb, ltb-true, sizes, symbol_id_cmp, both, symbol_id_place, symbol_id, fits}
-use Common.{SymbolId, Reason, Missing, Misfit, Gap, Turn, Upcoming, End, BlockEnd, Passed, Fitting}
-use Common.{Wanted, NotHeld, PartitionScan, EndsBefore, IsPlace, want_length, upcoming_wanted}
-use Common.{upcoming_next, upcoming_at, until_at, ended_run, run_with, missing_gap, after_missing}
-use Common.{after_wanted, after_block, turn_after, turn_of, run_length, CountsWithin, Counted}
 
 abbrev Next : Type 0
 Next = Option (SymbolId × Option ℕ)
 
 -- ---- what comes next, from its parts
 
-pub at-end : (w : PartitionScan) (next : Next) → w.esi ≡ w.size → w.begun ≡ length (sizes w.partition) → End ≡ upcoming_at w next
+pub at-end : (w : PartitionScan) (next : Next) → w.esi ≡ w.size
+    → w.begun ≡ length (sizes w.partition) → End ≡ upcoming_at w next
 unfolding upcoming_at
-at-end w next e f = sym ((λ i. cond (eq-eqb w.esi w.size e i) (cond (w.begun == length (sizes w.partition)) End BlockEnd) (upcoming_next w.partition (symbol_id w.sbn w.esi) next)) ∙ ap (λ b. cond b End BlockEnd) (eq-eqb w.begun (length (sizes w.partition)) f))
+at-end w next e f =
+    sym ((λ i. cond (eq-eqb w.esi w.size e i)
+    (cond (w.begun == length (sizes w.partition)) End BlockEnd)
+    (upcoming_next w.partition (symbol_id w.sbn w.esi) next))
+    ∙ ap (λ b. cond b End BlockEnd) (eq-eqb w.begun (length (sizes w.partition)) f))
 
-pub at-block_end : (w : PartitionScan) (next : Next) → w.esi ≡ w.size → w.begun ≢ length (sizes w.partition) → BlockEnd ≡ upcoming_at w next
+pub at-block_end : (w : PartitionScan) (next : Next) → w.esi ≡ w.size
+    → w.begun ≢ length (sizes w.partition) → BlockEnd ≡ upcoming_at w next
 unfolding upcoming_at
-at-block_end w next e f = sym ((λ i. cond (eq-eqb w.esi w.size e i) (cond (w.begun == length (sizes w.partition)) End BlockEnd) (upcoming_next w.partition (symbol_id w.sbn w.esi) next)) ∙ ap (λ b. cond b End BlockEnd) (ne_eqb w.begun (length (sizes w.partition)) f))
+at-block_end w next e f =
+    sym ((λ i. cond (eq-eqb w.esi w.size e i)
+    (cond (w.begun == length (sizes w.partition)) End BlockEnd)
+    (upcoming_next w.partition (symbol_id w.sbn w.esi) next))
+    ∙ ap (λ b. cond b End BlockEnd) (ne_eqb w.begun (length (sizes w.partition)) f))
 
-pub at-inside : (w : PartitionScan) (next : Next) → w.esi ≢ w.size → upcoming_next w.partition (symbol_id w.sbn w.esi) next ≡ upcoming_at w next
+pub at-inside : (w : PartitionScan) (next : Next) → w.esi ≢ w.size
+    → upcoming_next w.partition (symbol_id w.sbn w.esi) next ≡ upcoming_at w next
 unfolding upcoming_at
-at-inside w next i = sym (ap (λ b. cond b (cond (w.begun == length (sizes w.partition)) End BlockEnd) (upcoming_next w.partition (symbol_id w.sbn w.esi) next)) (ne_eqb w.esi w.size i))
+at-inside w next i =
+    sym (ap (λ b. cond b (cond (w.begun == length (sizes w.partition)) End BlockEnd)
+    (upcoming_next w.partition (symbol_id w.sbn w.esi) next)) (ne_eqb w.esi w.size i))
 
-pub at-first : (w : PartitionScan) (id : SymbolId) (n : Option ℕ) (o : Ordering) → w.esi ≢ w.size → symbol_id_cmp id (symbol_id w.sbn w.esi) ≡ o → match_ordering o Passed (upcoming_wanted (want_length w.partition id n)) NotHeld ≡ upcoming_at w (Some (id, n))
-at-first w id n o i c = ap (λ o. match_ordering o Passed (upcoming_wanted (want_length w.partition id n)) NotHeld) (sym c) ∙ at-inside w (Some (id, n)) i
+pub at-first : (w : PartitionScan) (id : SymbolId) (n : Option ℕ) (o : Ordering) → w.esi ≢ w.size
+    → symbol_id_cmp id (symbol_id w.sbn w.esi) ≡ o
+    → match_ordering o Passed (upcoming_wanted (want_length w.partition id n)) NotHeld
+    ≡ upcoming_at w (Some (id, n))
+at-first w id n o i c =
+    ap (λ o. match_ordering o Passed (upcoming_wanted (want_length w.partition id n)) NotHeld)
+    (sym c) ∙ at-inside w (Some (id, n)) i
 
 -- ---- and what it tells
 
@@ -42,38 +60,51 @@ abbrev TellsAt : PartitionScan → Next → Upcoming → Type 0
 TellsAt w next End = (w.esi ≡ w.size) × (w.begun ≡ length (sizes w.partition))
 TellsAt w next BlockEnd = (w.esi ≡ w.size) × (w.begun ≢ length (sizes w.partition))
 TellsAt w next Passed = (n : SymbolId × Option ℕ) × (next ≡ Some n)
-TellsAt w next Fitting = (w.esi ≢ w.size) × ((n : ℕ) × (next ≡ Some (symbol_id w.sbn w.esi, Some n)) × (fits w.partition (symbol_id w.sbn w.esi) n ≡ true))
-TellsAt w next (Wanted r) = (w.esi ≢ w.size) × (r ≢ Missing) × ((n : Option ℕ) × (next ≡ Some (symbol_id w.sbn w.esi, n)))
+TellsAt w next Fitting =
+    (w.esi ≢ w.size)
+    × ((n : ℕ) × (next ≡ Some (symbol_id w.sbn w.esi, Some n))
+    × (fits w.partition (symbol_id w.sbn w.esi) n ≡ true))
+TellsAt w next (Wanted r) =
+    (w.esi ≢ w.size) × (r ≢ Missing) × ((n : Option ℕ) × (next ≡ Some (symbol_id w.sbn w.esi, n)))
 TellsAt w next NotHeld = (w.esi ≢ w.size) × IsAfter (symbol_id w.sbn w.esi) next
 
-tells-wanted : (w : PartitionScan) (next : Next) (n : Option ℕ) → w.esi ≢ w.size → next ≡ Some (symbol_id w.sbn w.esi, n) → TellsAt w next (upcoming_wanted (want_length w.partition (symbol_id w.sbn w.esi) n))
+tells-wanted : (w : PartitionScan) (next : Next) (n : Option ℕ) → w.esi ≢ w.size
+    → next ≡ Some (symbol_id w.sbn w.esi, n)
+    → TellsAt w next (upcoming_wanted (want_length w.partition (symbol_id w.sbn w.esi) n))
 tells-wanted w next None i e = (i, (λ e. cc), (None, e))
 tells-wanted w next (Some n) i e = by_test (fits w.partition (symbol_id w.sbn w.esi) n) refl
   where
-    by_test : (b : Bool) → fits w.partition (symbol_id w.sbn w.esi) n ≡ b → TellsAt w next (upcoming_wanted (cond b None (Some Misfit)))
+    by_test : (b : Bool) → fits w.partition (symbol_id w.sbn w.esi) n ≡ b
+        → TellsAt w next (upcoming_wanted (cond b None (Some Misfit)))
     by_test true f = (i, (n, e, f))
     by_test false f = (i, (λ e. cc), (Some n, e))
 
-tells-next : (w : PartitionScan) (next : Next) → w.esi ≢ w.size → TellsAt w next (upcoming_next w.partition (symbol_id w.sbn w.esi) next)
+tells-next : (w : PartitionScan) (next : Next) → w.esi ≢ w.size
+    → TellsAt w next (upcoming_next w.partition (symbol_id w.sbn w.esi) next)
 tells-next w None i = (i, tt)
 tells-next w (Some next) i = by_order (symbol_id_cmp next.0 (symbol_id w.sbn w.esi)) refl
   where
-    by_order : (o : Ordering) → symbol_id_cmp next.0 (symbol_id w.sbn w.esi) ≡ o → TellsAt w (Some next) (match_ordering o Passed (upcoming_wanted (want_length w.partition next.0 next.1)) NotHeld)
+    by_order : (o : Ordering) → symbol_id_cmp next.0 (symbol_id w.sbn w.esi) ≡ o
+        → TellsAt w (Some next) (match_ordering o Passed
+        (upcoming_wanted (want_length w.partition next.0 next.1)) NotHeld)
     by_order Less e = (next, refl)
     by_order Equal e =
         let h = symbol_id_place next.0 (symbol_id w.sbn w.esi) e in
-        subst (λ id. TellsAt w (Some next) (upcoming_wanted (want_length w.partition id next.1))) (sym h) (tells-wanted w (Some next) next.1 i (ap (λ id. Some (id, next.1)) h))
+        subst (λ id. TellsAt w (Some next) (upcoming_wanted (want_length w.partition id next.1)))
+        (sym h) (tells-wanted w (Some next) next.1 i (ap (λ id. Some (id, next.1)) h))
     by_order Greater e = (i, e)
 
-pub told-at : (w : PartitionScan) (next : Next) (l : Upcoming) → upcoming_at w next ≡ l → TellsAt w next l
+pub told-at : (w : PartitionScan) (next : Next) (l : Upcoming) → upcoming_at w next ≡ l
+    → TellsAt w next l
 unfolding upcoming_at
 told-at w next l h =
-    subst (TellsAt w next) h (by-place w.esi w.size w.begun (length (sizes w.partition)) _
+    subst (TellsAt w next) h (by-place w.esi w.size w.begun (length (sizes w.partition))
     (TellsAt w next) (tells-next w next) (λ e f. (e, f)) (λ e f. (e, f)))
 
 -- ---- where the next held symbol is
 
-until-beyond : (w : PartitionScan) (next : Next) → w.esi < w.size → IsAfter (symbol_id w.sbn w.esi) next → (w.esi < until_at w next) × (until_at w next ≤ w.size)
+until-beyond : (w : PartitionScan) (next : Next) → w.esi < w.size
+    → IsAfter (symbol_id w.sbn w.esi) next → (w.esi < until_at w next) × (until_at w next ≤ w.size)
 until-beyond w None l a = (l, omega arith)
 until-beyond w (Some next) l a = grind (arith, nat_tests, greater-cases)
 
@@ -81,35 +112,71 @@ module _ (w : PartitionScan) (next : Next) (p : IsPlace w) where
   inside : w.esi ≢ w.size → w.esi < w.size
   inside i = let l = p.within in omega (arith, l, i)
 
-  pub until-within : upcoming_at w next ≡ NotHeld → (w.esi < until_at w next) × (until_at w next ≤ w.size)
+  pub until-within : upcoming_at w next ≡ NotHeld
+      → (w.esi < until_at w next) × (until_at w next ≤ w.size)
   until-within h = let t = told-at w next NotHeld h in until-beyond w next (inside t.0) t.1
 
   pub block-next : upcoming_at w next ≡ BlockEnd → w.begun < length (sizes w.partition)
-  block-next h = let t = told-at w next BlockEnd h in let l = p.begun in let n = t.1 in omega (arith, l, n)
+  block-next h =
+      let t = told-at w next BlockEnd h in let l = p.begun in let n = t.1 in omega (arith, l, n)
 
   pub wanted-small : (r : Reason) → upcoming_at w next ≡ Wanted r → w.esi < 65536
-  wanted-small r h = let t = told-at w next (Wanted r) h in let l = inside t.0 in let m = p.longest in omega (arith, l, m)
+  wanted-small r h =
+      let t = told-at w next (Wanted r) h in let l = inside t.0 in let m = p.longest in
+      omega (arith, l, m)
 
   -- behind a turn a walk is in its place
-  place-on : (l : Upcoming) (o : Option Gap) → upcoming_at w next ≡ l → ended_run w.run l ≡ o → (turn_after w next l o).1.size ≤ 65536 → IsPlace (turn_after w next l o).1
-  place-on l (Some g) e h s = record { blocks = p.blocks; begun = p.begun; within = p.within; longest = s; running = tt }
+  place-on : (l : Upcoming) (o : Option Gap) → upcoming_at w next ≡ l → ended_run w.run l ≡ o
+      → (turn_after w next l o).1.size ≤ 65536 → IsPlace (turn_after w next l o).1
+  place-on l (Some g) e h s = record {
+    blocks = p.blocks;
+    begun = p.begun;
+    within = p.within;
+    longest = s;
+    running = tt;
+  }
   place-on End None e h s = p
   place-on BlockEnd None e h s =
       let b = block-next e in
-      record { blocks = p.blocks; begun = omega (arith, b); within = omega arith; longest = s; running = subst (EndsBefore w.begun 0) (sym (no-run w.run BlockEnd tt h)) tt }
+      record {
+        blocks = p.blocks;
+        begun = omega (arith, b);
+        within = omega arith;
+        longest = s;
+        running = subst (EndsBefore w.begun 0) (sym (no-run w.run BlockEnd tt h)) tt;
+      }
   place-on Passed None e h s = p
   place-on Fitting None e h s =
       let l = inside (told-at w next Fitting e).0 in
-      record { blocks = p.blocks; begun = p.begun; within = omega (arith, l); longest = s; running = subst (EndsBefore w.sbn (w.esi + 1)) (sym (no-run w.run Fitting tt h)) tt }
+      record {
+        blocks = p.blocks;
+        begun = p.begun;
+        within = omega (arith, l);
+        longest = s;
+        running = subst (EndsBefore w.sbn (w.esi + 1)) (sym (no-run w.run Fitting tt h)) tt;
+      }
   place-on (Wanted r) None e h s =
       let t = told-at w next (Wanted r) e in
       let l = inside t.0 in
-      record { blocks = p.blocks; begun = p.begun; within = omega (arith, l); longest = s; running = run-ends w.sbn w.esi r w.run p.running h t.1 }
+      record {
+        blocks = p.blocks;
+        begun = p.begun;
+        within = omega (arith, l);
+        longest = s;
+        running = run-ends w.sbn w.esi r w.run p.running h t.1;
+      }
   place-on NotHeld None e h s =
-      record { blocks = p.blocks; begun = p.begun; within = (until-within e).1; longest = s; running = subst (EndsBefore w.sbn (until_at w next)) (sym (no-run w.run NotHeld tt h)) tt }
+      record {
+        blocks = p.blocks;
+        begun = p.begun;
+        within = (until-within e).1;
+        longest = s;
+        running = subst (EndsBefore w.sbn (until_at w next)) (sym (no-run w.run NotHeld tt h)) tt;
+      }
 
   -- and a walk that a turn led to is
-  pub placed : (answer : Option Turn) (x : PartitionScan) → (answer, x) ≡ turn_of w next → x.size ≤ 65536 → IsPlace x
+  pub placed : (answer : Option Turn) (x : PartitionScan) → (answer, x) ≡ turn_of w next
+      → x.size ≤ 65536 → IsPlace x
   unfolding turn_of
   placed answer x e s =
       let p = ap (λ (t : Option Turn × PartitionScan). t.1) e in
@@ -120,13 +187,20 @@ module _ (w : PartitionScan) (next : Next) (p : IsPlace w) where
 -- how the walk x came about
 abbrev pub Kind : PartitionScan → Next → Option Turn → PartitionScan → Type 0
 Kind w next None x = (upcoming_at w next ≡ BlockEnd) × (w.run ≡ None) × (x ≡ after_block w)
-Kind w next (Some (Turn.Gap g)) x = ((w.run ≡ Some g) × (x ≡ record w { run = None })) ⊎ ((w.run ≡ None) × (upcoming_at w next ≡ NotHeld) × (x ≡ after_missing w next) × (g ≡ missing_gap w next))
-Kind w next (Some Turn.Fitting) x = (upcoming_at w next ≡ Fitting) × (w.run ≡ None) × (x ≡ record w { esi = w.esi + 1 })
-Kind w next (Some Turn.Wanted) x = (r : Reason) × (upcoming_at w next ≡ Wanted r) × (ended_run w.run (Wanted r) ≡ None) × (x ≡ after_wanted w r)
+Kind w next (Some (Turn.Gap g)) x =
+    ((w.run ≡ Some g) × (x ≡ record w { run = None }))
+    ⊎ ((w.run ≡ None) × (upcoming_at w next ≡ NotHeld) × (x ≡ after_missing w next)
+    × (g ≡ missing_gap w next))
+Kind w next (Some Turn.Fitting) x =
+    (upcoming_at w next ≡ Fitting) × (w.run ≡ None) × (x ≡ record w { esi = w.esi + 1 })
+Kind w next (Some Turn.Wanted) x =
+    (r : Reason) × (upcoming_at w next ≡ Wanted r) × (ended_run w.run (Wanted r) ≡ None)
+    × (x ≡ after_wanted w r)
 Kind w next (Some Turn.Passed) x = (upcoming_at w next ≡ Passed) × (x ≡ w)
 Kind w next (Some Turn.End) x = (upcoming_at w next ≡ End) × (w.run ≡ None) × (x ≡ w)
 
-kind-on : (w : PartitionScan) (next : Next) (l : Upcoming) (o : Option Gap) → upcoming_at w next ≡ l → ended_run w.run l ≡ o → Kind w next (turn_after w next l o).0 (turn_after w next l o).1
+kind-on : (w : PartitionScan) (next : Next) (l : Upcoming) (o : Option Gap) → upcoming_at w next ≡ l
+    → ended_run w.run l ≡ o → Kind w next (turn_after w next l o).0 (turn_after w next l o).1
 kind-on w next l (Some g) e h = inl (run-is w.run l g h, refl)
 kind-on w next End None e h = (e, no-run w.run End tt h, refl)
 kind-on w next BlockEnd None e h = (e, no-run w.run BlockEnd tt h, refl)
@@ -135,9 +209,12 @@ kind-on w next Fitting None e h = (e, no-run w.run Fitting tt h, refl)
 kind-on w next (Wanted r) None e h = (r, e, h, refl)
 kind-on w next NotHeld None e h = inr (no-run w.run NotHeld tt h, e, refl, refl)
 
-pub kind : (w : PartitionScan) (next : Next) (t : Option Turn) (x : PartitionScan) → (t, x) ≡ turn_of w next → Kind w next t x
+pub kind : (w : PartitionScan) (next : Next) (t : Option Turn) (x : PartitionScan)
+    → (t, x) ≡ turn_of w next → Kind w next t x
 unfolding turn_of
-kind w next t x e = subst (λ (r : Option Turn × PartitionScan). Kind w next r.0 r.1) (sym e) (kind-on w next (upcoming_at w next) (ended_run w.run (upcoming_at w next)) refl refl)
+kind w next t x e =
+    subst (λ (r : Option Turn × PartitionScan). Kind w next r.0 r.1) (sym e)
+    (kind-on w next (upcoming_at w next) (ended_run w.run (upcoming_at w next)) refl refl)
 
 -- ---- no more is counted than was passed
 
@@ -146,21 +223,30 @@ abbrev pub NoGap : Option Turn → Type 0
 NoGap (Some (Turn.Gap g)) = ⊥
 NoGap t = Unit {0}
 
-module _ (w : PartitionScan) (next : Next) (c : Counted) (p : IsPlace w) (h : CountsWithin w c) where
-  pub within-turn : (t : Option Turn) (x : PartitionScan) → NoGap t → Kind w next t x → CountsWithin x c
+module _ {w : PartitionScan} (next : Next) (c : Counted) (p : IsPlace w)
+    (h : CountsWithin w c) where
+  pub within-turn : (t : Option Turn) (x : PartitionScan) → NoGap t → Kind w next t x
+      → CountsWithin x c
   within-turn None x n k = rw (k.2, k.1) (omega (arith, rw k.1 at h))
   within-turn (Some (Turn.Gap g)) x n k = absurd n
-  within-turn (Some Turn.Fitting) x n k = subst (λ y. CountsWithin y c) (sym k.2) (let l = h in omega (arith, l))
-  within-turn (Some Turn.Wanted) x n k = subst (λ y. CountsWithin y c) (sym k.3) (by_run w.run refl)
+  within-turn (Some Turn.Fitting) x n k =
+      subst (λ y. CountsWithin y c) (sym k.2) (let l = h in omega (arith, l))
+  within-turn (Some Turn.Wanted) x n k =
+      subst (λ y. CountsWithin y c) (sym k.3) (by_run w.run refl)
     where
-      by_run : (o : Option Gap) → w.run ≡ o → c.missing + c.conflicting + c.misfit + run_length (Some (run_with w.sbn w.esi k.0 w.run)) ≤ w.begun * 65536 + (w.esi + 1)
+      by_run : (o : Option Gap) → w.run ≡ o
+          → c.missing + c.conflicting + c.misfit + run_length
+          (Some (run_with w.sbn w.esi k.0 w.run)) ≤ w.begun * 65536 + (w.esi + 1)
       by_run None e = rw e (omega (arith, rw e at h))
       by_run (Some g) e = rw e (omega (arith, rw e at h, rw e at p.running))
   within-turn (Some Turn.Passed) x n k = subst (λ y. CountsWithin y c) (sym k.1) h
   within-turn (Some Turn.End) x n k = subst (λ y. CountsWithin y c) (sym k.2) h
 
   -- a gap has a symbol, and with its symbols counted this holds too
-  pub within-gap : (g : Gap) (x : PartitionScan) → Kind w next (Some (Turn.Gap g)) x → (g.first ≤ g.last) × (c.missing + c.conflicting + c.misfit + (g.last + 1 - g.first) + run_length x.run ≤ x.begun * 65536 + x.esi)
+  pub within-gap : (g : Gap) (x : PartitionScan) → Kind w next (Some (Turn.Gap g)) x
+      → (g.first ≤ g.last)
+      × (c.missing + c.conflicting + c.misfit + (g.last + 1 - g.first) + run_length x.run
+      ≤ x.begun * 65536 + x.esi)
   within-gap g x (inl k) =
       rw k.1 (omega (arith, rw k.0 at h, rw k.0 at p.running))
   within-gap g x (inr k) =
@@ -168,4 +254,6 @@ module _ (w : PartitionScan) (next : Next) (c : Counted) (p : IsPlace w) (h : Co
 
   -- so a count is small
   pub small : c.missing + c.conflicting + c.misfit < 2 ^ 33
-  small = let a = p.begun in let b = p.blocks in let l = p.within in let m = p.longest in let r = h in omega (arith, a, b, l, m, r)
+  small =
+      let a = p.begun in let b = p.blocks in let l = p.within in let m = p.longest in let r = h in
+      omega (arith, a, b, l, m, r)

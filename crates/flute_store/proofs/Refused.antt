@@ -11,18 +11,23 @@ IsFull r = r ≡ Err Full
 abbrev IsFault : {T : Type 0} → TakeFault → Result T TakeFault → Type 0
 IsFault f r = r ≡ Err f
 
-pub still_full : {S T : Type 0} (why : JoinRefusal) (P : Type 0) → IsFull {T = S} (Err why) ↔ P → IsFull {T = T} (Err why) ↔ P
+pub still_full : {S T : Type 0} (why : JoinRefusal) (P : Type 0) → IsFull {T = S} (Err why) ↔ P
+    → IsFull {T = T} (Err why) ↔ P
 still_full Full P h = (λ e. h.0 refl, λ p. refl)
 still_full OutOfMemory P h = ((λ e. cc), (λ p. let e = h.1 p in cc))
 
-pub full_fault : {S T : Type 0} (why : JoinRefusal) (P : Type 0) → IsFull {T = S} (Err why) ↔ P → IsFault {T = T} fault.Full (Err (fault_of why)) ↔ P
+pub full_fault : {S T : Type 0} (why : JoinRefusal) (P : Type 0) → IsFull {T = S} (Err why) ↔ P
+    → IsFault {T = T} fault.Full (Err (fault_of why)) ↔ P
 full_fault Full P h = (λ e. h.0 refl, λ p. refl)
 full_fault OutOfMemory P h = ((λ e. cc), (λ p. let e = h.1 p in cc))
 
-pub no_datagram_fault : {T : Type 0} (why : JoinRefusal) (r : Refusal) → IsFault {T = T} (fault.Datagram r) (Err (fault_of why)) → ⊥
+pub no_datagram_fault : {T : Type 0} (why : JoinRefusal) (r : Refusal)
+    → IsFault {T = T} (fault.Datagram r) (Err (fault_of why)) → ⊥
 no_datagram_fault Full r e = cc
 no_datagram_fault OutOfMemory r e = cc
 
 -- a success is full exactly where the limits are passed, if they are not passed
-pub not_full : {S T E F : Type 0} (x : S) (y : T) (e : E) (f : F) (P : Type 0) → (Ok x ≡ Err e) ↔ P → (Ok y ≡ Err f) ↔ P
-not_full x y e f P h = ((λ q. absurd (ok_is_not_err y f q)), (λ p. absurd (ok_is_not_err x e (h.1 p))))
+pub not_full : {S T E F : Type 0} (x : S) (y : T) (e : E) (f : F) (P : Type 0) → (Ok x ≡ Err e) ↔ P
+    → (Ok y ≡ Err f) ↔ P
+not_full x y e f P h =
+    ((λ q. absurd (ok_is_not_err y f q)), (λ p. absurd (ok_is_not_err x e (h.1 p))))

@@ -1,6 +1,7 @@
 -- What is held of an object whose datagrams were all taken.
-use Rattle.std.proofs.Common.{◌≡◌, ℕ, zero, suc, inl, inr, List, [], ◌∷◌, ◌++◌, length, map, take, true, cond, Bool, Some, refl, sym, ap, subst, ◌∙◌, arith}
-use Rattle.std.proofs.lemmas.List.{Concat.{flat_map-cons}, Folds.{flat_map-map}, take_all}
+use Rattle.std.proofs.Common.{◌≡◌, ℕ, zero, suc, inl, inr, List, [], ◌∷◌, ◌++◌, length, map, take}
+use Rattle.std.proofs.Common.{true, cond, Bool, Some, refl, sym, ap, subst, ◌∙◌, arith}
+use Rattle.std.proofs.lemmas.List.{Folds.{flat_map-map}, take_all}
 use Rattle.flute_parts.proofs.Public.{fact_at-one}
 use Rattle.flute_store.specs.Sent.{facts_at_key}
 use Rattle.flute_wire.specs.{Writing.{IsWritten}, Carousel.{symbols_of, packets_of, facts_sent}}
@@ -9,7 +10,7 @@ use Rattle.flute_wire.proofs.Public.{told-iff}
 use Rattle.flute_store.proofs.Common
 use Common.{flat_map, Contains, filter, AllZip, cases_Bool, Information, IsValid, same_key}
 use Common.{key_itself, address, info_address, symbol_address, fact_at, SameMembers, ids, fits}
-use Common.{SymbolId, InfoPart, SymbolPart, Address, Key, Fact, Info, Symbol, Member, Member-from}
+use Common.{SymbolId, SymbolPart, Address, Key, Fact, Info, Symbol, Member, Member-from}
 use Common.{Contains-from, facts, Whole, value_bytes, object}
 
 -- the facts that pass a test are those of the list that do
@@ -17,56 +18,82 @@ kept : (p : Fact → Bool) (F : List Fact) (f : Fact) → Member f (filter p F) 
 unfolding Member
 kept p [] f m = absurd m
 kept p (g ∷ F) f m = elim (cases_Bool (p g)) [
-  | inl passed ↦ elim (subst (λ b. Member f (cond b (g ∷ filter p F) (filter p F))) passed m) [ inl e ↦ inl e | inr more ↦ inr (kept p F f more) ]
+  | inl passed ↦
+      elim (subst (λ b. Member f (cond b (g ∷ filter p F) (filter p F))) passed m)
+      [ inl e ↦ inl e | inr more ↦ inr (kept p F f more) ]
   | inr no' ↦ inr (kept p F f (subst (λ b. Member f (cond b (g ∷ filter p F) (filter p F))) no' m))
 ]
 
-keeps : (p : Fact → Bool) (F : List Fact) (f : Fact) → p f ≡ true → Member f F → Member f (filter p F)
+keeps : (p : Fact → Bool) (F : List Fact) (f : Fact) → p f ≡ true → Member f F
+    → Member f (filter p F)
 unfolding Member
 keeps p [] f passed m = absurd m
-keeps p (g ∷ F) f passed (inl e) = subst (λ b. Member f (cond b (g ∷ filter p F) (filter p F))) (sym (ap p (sym e) ∙ passed)) (inl e)
+keeps p (g ∷ F) f passed (inl e) =
+    subst (λ b. Member f (cond b (g ∷ filter p F) (filter p F))) (sym (ap p (sym e) ∙ passed))
+    (inl e)
 keeps p (g ∷ F) f passed (inr m) = elim (cases_Bool (p g)) [
-  | inl here ↦ subst (λ b. Member f (cond b (g ∷ filter p F) (filter p F))) (sym here) (inr (keeps p F f passed m))
-  | inr gone ↦ subst (λ b. Member f (cond b (g ∷ filter p F) (filter p F))) (sym gone) (keeps p F f passed m)
+  | inl here ↦
+      subst (λ b. Member f (cond b (g ∷ filter p F) (filter p F))) (sym here)
+      (inr (keeps p F f passed m))
+  | inr gone ↦
+      subst (λ b. Member f (cond b (g ∷ filter p F) (filter p F))) (sym gone) (keeps p F f passed m)
 ]
 
 -- what is known of the object is what was sent
 record Holds (F : List Fact) (key : Key) (info : Information) (content : List ℕ) : Type 0 where
   told : (f : Fact) → IsSent key info (symbols_of info content) f → Contains F f
-  only : (f : Fact) → Contains F f → (address f).key ≡ key → IsSent key info (symbols_of info content) f
+  only : (f : Fact) → Contains F f → (address f).key ≡ key
+      → IsSent key info (symbols_of info content) f
 
-holds : (F : List Fact) (key : Key) (info : Information) (content : List ℕ) → IsValid info → SameMembers (facts_at_key key F) (facts_sent key info content) → Holds F key info content
+holds : (F : List Fact) (key : Key) (info : Information) (content : List ℕ) → IsValid info
+    → SameMembers (facts_at_key key F) (facts_sent key info content) → Holds F key info content
 holds F key info content v same =
     let test : Fact → Bool = λ f. same_key (address f).key key in
     record {
-      told = λ f sent. Contains-from F f (kept test F f (Member-from (filter test F) f ((same f).1 ((told-iff key info content f v).1 sent))));
+      told =
+          λ f sent. Contains-from F f
+          (kept test F f (Member-from (filter test F) f
+          ((same f).1 ((told-iff key info content f v).1 sent))));
       only = λ f c at'.
           let here : test f ≡ true = ap (λ k. same_key k key) at' ∙ key_itself key in
-          (told-iff key info content f v).0 ((same f).0 (Contains-from (filter test F) f (keeps test F f here (Member-from F f c))));
+          (told-iff key info content f v).0
+          ((same f).0 (Contains-from (filter test F) f (keeps test F f here (Member-from F f c))));
     }
 
-module _ (F : List Fact) (key : Key) (info : Information) (content : List ℕ) (h : Holds F key info content) where
+module _ (F : List Fact) (key : Key) (info : Information) (content : List ℕ)
+    (h : Holds F key info content) where
   info_there : fact_at F (info_address key) ≡ Some (Info key info)
-  info_there = fact_at-one F (info_address key) (Info key info) (h.told (Info key info) (inl refl)) refl (λ g c at'. only_info g (h.only g c (ap (λ (a : Address). a.key) at')) at')
+  info_there =
+      fact_at-one F (info_address key) (Info key info) (h.told (Info key info) (inl refl)) refl
+      (λ g c at'. only_info g (h.only g c (ap (λ (a : Address). a.key) at')) at')
     where
-      only_info : (g : Fact) → IsSent key info (symbols_of info content) g → address g ≡ info_address key → g ≡ Info key info
+      only_info : (g : Fact) → IsSent key info (symbols_of info content) g
+          → address g ≡ info_address key → g ≡ Info key info
       only_info g (inl e) at' = e
       only_info g (inr (s, c, e)) at' =
           let a = ap (λ f. (address f).part) (sym e) ∙ ap (λ (a : Address). a.part) at' in cc
 
-  symbol_there : (s : SymbolId × List ℕ) → Contains (symbols_of info content) s → fact_at F (symbol_address key s.0) ≡ Some (Symbol key s.0 s.1)
-  symbol_there s there = fact_at-one F (symbol_address key s.0) (Symbol key s.0 s.1) (h.told (Symbol key s.0 s.1) (inr (s, there, refl))) refl (λ g c at'. only_symbol g (h.only g c (ap (λ (a : Address). a.key) at')) at')
+  symbol_there : (s : SymbolId × List ℕ) → Contains (symbols_of info content) s
+      → fact_at F (symbol_address key s.0) ≡ Some (Symbol key s.0 s.1)
+  symbol_there s there =
+      fact_at-one F (symbol_address key s.0) (Symbol key s.0 s.1)
+      (h.told (Symbol key s.0 s.1) (inr (s, there, refl))) refl
+      (λ g c at'. only_symbol g (h.only g c (ap (λ (a : Address). a.key) at')) at')
     where
-      only_symbol : (g : Fact) → IsSent key info (symbols_of info content) g → address g ≡ symbol_address key s.0 → g ≡ Symbol key s.0 s.1
+      only_symbol : (g : Fact) → IsSent key info (symbols_of info content) g
+          → address g ≡ symbol_address key s.0 → g ≡ Symbol key s.0 s.1
       only_symbol g (inl e) at' =
           let a = ap (λ f. (address f).part) (sym e) ∙ ap (λ (a : Address). a.part) at' in cc
       only_symbol g (inr (t, c, e)) at' =
-          let same : SymbolPart t.0 ≡ SymbolPart s.0 = ap (λ (a : Address). a.part) (ap address (sym e) ∙ at') in
+          let same : SymbolPart t.0 ≡ SymbolPart s.0 =
+          ap (λ (a : Address). a.part) (ap address (sym e) ∙ at') in
           let id : t.0 ≡ s.0 = cc in
-          e ∙ ap (λ (x : SymbolId × List ℕ). Symbol key x.0 x.1) (cut-one info content t s c there id)
+          e
+          ∙ ap (λ (x : SymbolId × List ℕ). Symbol key x.0 x.1) (cut-one info content t s c there id)
 
   -- each symbol of the partition is one of those that were sent
-  sent_as : (ss : List (SymbolId × List ℕ)) (id : SymbolId) → Contains (map (λ s. s.0) ss) id → (s : SymbolId × List ℕ) × Contains ss s × (s.0 ≡ id)
+  sent_as : (ss : List (SymbolId × List ℕ)) (id : SymbolId) → Contains (map (λ s. s.0) ss) id
+      → (s : SymbolId × List ℕ) × Contains ss s × (s.0 ≡ id)
   sent_as [] id c = absurd (omega (arith, c.1))
   sent_as (s ∷ ss) id (zero, l, e) = (s, (0, omega arith, refl), e)
   sent_as (s ∷ ss) id (suc k, l, e) =
@@ -77,15 +104,23 @@ module _ (F : List Fact) (key : Key) (info : Information) (content : List ℕ) (
   is_whole v whole = record {
     information = info_there;
     each = λ id c.
-        let s = sent_as (symbols_of info content) id (subst (λ xs. Contains xs id) (sym (cut-ids info content)) c) in
+        let s =
+        sent_as (symbols_of info content) id
+        (subst (λ xs. Contains xs id) (sym (cut-ids info content)) c) in
         record {
           bytes = s.0.1;
-          value = subst (λ (x : SymbolId). fact_at F (symbol_address key x) ≡ Some (Symbol key x s.0.1)) s.2 (symbol_there s.0 s.1);
-          fitting = subst (λ (x : SymbolId). fits info x (length s.0.1) ≡ true) s.2 (cut-fit info content s.0 v whole s.1);
+          value =
+              subst (λ (x : SymbolId). fact_at F (symbol_address key x) ≡ Some (Symbol key x s.0.1))
+              s.2 (symbol_there s.0 s.1);
+          fitting =
+              subst (λ (x : SymbolId). fits info x (length s.0.1) ≡ true) s.2
+              (cut-fit info content s.0 v whole s.1);
         };
   }
 
-  agree : (ss : List (SymbolId × List ℕ)) → ((s : SymbolId × List ℕ) → Contains ss s → fact_at F (symbol_address key s.0) ≡ Some (Symbol key s.0 s.1))
+  agree : (ss : List (SymbolId × List ℕ))
+      → ((s : SymbolId × List ℕ) → Contains ss s
+      → fact_at F (symbol_address key s.0) ≡ Some (Symbol key s.0 s.1))
       → flat_map (λ s. value_bytes (fact_at F (symbol_address key s.0))) ss ≡ flat_map (λ s. s.1) ss
   agree [] each = refl
   agree (s ∷ ss) each =
@@ -103,12 +138,17 @@ module _ (F : List Fact) (key : Key) (info : Information) (content : List ℕ) (
       ∙ agree (symbols_of info content) symbol_there
       ∙ cut-joined info content v whole
       in
-      ap (take info.transfer_length) joined ∙ take_all info.transfer_length content (omega (arith, whole))
+      ap (take info.transfer_length) joined
+      ∙ take_all info.transfer_length content (omega (arith, whole))
 
-pub datagrams_give_the_object : (F : List Fact) (key : Key) (info : Information) (content : List ℕ) (datagrams : List (List ℕ)) → IsValid info → length content ≡ info.transfer_length
-    → AllZip IsWritten datagrams (packets_of key info content) → SameMembers (facts_at_key key F) (flat_map (facts key.session.sender) datagrams)
+pub datagrams_give_the_object : (F : List Fact) (key : Key) (info : Information) (content : List ℕ)
+    (datagrams : List (List ℕ)) → IsValid info → length content ≡ info.transfer_length
+    → AllZip IsWritten datagrams (packets_of key info content)
+    → SameMembers (facts_at_key key F) (flat_map (facts key.session.sender) datagrams)
     → Whole F key info × (object F key info ≡ content)
 datagrams_give_the_object F key info content datagrams v whole written same =
-    let sent : SameMembers (facts_at_key key F) (facts_sent key info content) = subst (SameMembers (facts_at_key key F)) (facts_are_sent key info content datagrams written) same in
+    let sent : SameMembers (facts_at_key key F) (facts_sent key info content) =
+    subst (SameMembers (facts_at_key key F)) (facts_are_sent key info content datagrams written)
+    same in
     let h = holds F key info content v sent in
     (is_whole F key info content h v whole, is_object F key info content h v whole)

@@ -1,26 +1,30 @@
 -- What rising facts show of the symbols of an object.
-use Rattle.std.proofs.Common.{◌≡◌, ℕ, Bool, false, cond, List, [], ◌∷◌, ◌++◌, Some, refl, sym, ap, ◌∙◌, subst, inl, inr, append_assoc}
+use Rattle.std.proofs.Common.{◌≡◌, ℕ, Bool, cond, List, [], ◌∷◌, ◌++◌, Some, refl, sym, ap, ◌∙◌}
+use Rattle.std.proofs.Common.{subst, inl, inr, append_assoc}
 use Rattle.flute_parts.proofs.Public.{fact_at-after}
-use Rattle.flute_store.proofs.{StoreJoin.{not_same, not_symbol, same_id}, Lookups.{Entry, Above}}
+use Rattle.flute_store.proofs.{FactEntries.{not_same}, StoreJoin.{not_symbol, same_id}}
+use Rattle.flute_store.proofs.Lookups.{Entry, Above}
 use Rattle.flute_store.proofs.Common
 use Common.{AllByRecursion, IsStrictlySortedBy, keys_of, Equal, is_eq, ordering_then, Equal-is}
 use Common.{cases_Bool, false≢true, IsKnown, value_at, IsOrdered, EachValue, Cell, One, Conflict}
 use Common.{symbol_address, address, fact_at, IsRising, StandAfter, key_cmp, symbol_id_cmp}
-use Common.{address_cmp, same_key, same_address, key_same, key_itself, symbol_id_place}
-use Common.{address_same, Key, SymbolId, Address, Fact, Info, InfoConflict, Symbol, SymbolConflict}
-use Common.{fact_at-nil, fact_at-here, fact_at-elsewhere, symbol_id_itself, symbol_fact, shown_by}
-use Common.{shown}
+use Common.{address_cmp, same_key, key_same, key_itself, symbol_id_place, Key, SymbolId, Address}
+use Common.{Fact, Info, InfoConflict, Symbol, SymbolConflict, fact_at-nil, fact_at-here}
+use Common.{fact_at-elsewhere, symbol_id_itself, symbol_fact, shown_by, shown}
 
 pub shown-append : (key : Key) (F G : List Fact) → shown key (F ++ G) ≡ shown key F ++ shown key G
 unfolding shown
 shown-append key [] G = refl
-shown-append key (f ∷ F) G = ap (λ es. shown_by key f ++ es) (shown-append key F G) ∙ sym (append_assoc (shown_by key f) (shown key F) (shown key G))
+shown-append key (f ∷ F) G =
+    ap (λ es. shown_by key f ++ es) (shown-append key F G)
+    ∙ sym (append_assoc (shown_by key f) (shown key F) (shown key G))
 
 -- ---- what a fact shows
 
 -- of a symbol of the object it shows one cell, and of another object none
 shown-if : (key k : Key) (id : SymbolId) (c : Cell (List ℕ)) (P : List Entry → Type 0)
-    → ((k ≡ key → ⊥) → P []) → (k ≡ key → P ((id, c) ∷ [])) → P (cond (same_key k key) ((id, c) ∷ []) [])
+    → ((k ≡ key → ⊥) → P []) → (k ≡ key → P ((id, c) ∷ []))
+    → P (cond (same_key k key) ((id, c) ∷ []) [])
 shown-if key k id c P n s = elim (cases_Bool (same_key k key)) [
   | inl t ↦ rw t (s (key_same k key t))
   | inr t ↦ rw t (n (λ e. false≢true (sym t ∙ ap (λ k. same_key k key) e ∙ key_itself key)))
@@ -36,17 +40,21 @@ shown-cases key (Info k i) P n s = n (λ id. not_symbol k key id)
 shown-cases key (InfoConflict k) P n s = n (λ id. not_symbol k key id)
 shown-cases key (Symbol k id b) P n s =
     shown-if key k id (One b) P (λ d. n (λ j e. d (ap (λ (a : Address). a.key) e)))
-    (λ e. s id (One b) (λ z. cc) (ap (λ k. symbol_address k id) e) (ap (λ k. Some (Symbol k id b)) e))
+    (λ e. s id (One b) (λ z. cc) (ap (λ k. symbol_address k id) e)
+    (ap (λ k. Some (Symbol k id b)) e))
 shown-cases key (SymbolConflict k id) P n s =
     shown-if key k id Conflict P (λ d. n (λ j e. d (ap (λ (a : Address). a.key) e)))
-    (λ e. s id Conflict (λ z. cc) (ap (λ k. symbol_address k id) e) (ap (λ k. Some (SymbolConflict k id)) e))
+    (λ e. s id Conflict (λ z. cc) (ap (λ k. symbol_address k id) e)
+    (ap (λ k. Some (SymbolConflict k id)) e))
 
-pub shown-none : (key : Key) (F : List Fact) → AllByRecursion (λ f. (address f).key ≡ key → ⊥) F → shown key F ≡ []
+pub shown-none : (key : Key) (F : List Fact) → AllByRecursion (λ f. (address f).key ≡ key → ⊥) F
+    → shown key F ≡ []
 unfolding shown
 shown-none key [] n = refl
 shown-none key (f ∷ F) n =
     ap (λ es. es ++ shown key F)
-    (shown-cases key f (λ es. es ≡ []) (λ _. refl) (λ id c k e g. absurd (n.0 (ap (λ (a : Address). a.key) e))))
+    (shown-cases key f (λ es. es ≡ []) (λ _. refl)
+    (λ id c k e g. absurd (n.0 (ap (λ (a : Address). a.key) e))))
     ∙ shown-none key F n.1
 
 -- ---- all that is shown is known, and in order
@@ -56,12 +64,14 @@ unfolding shown
 shown-known key [] = tt
 shown-known key (f ∷ F) =
     let rest = shown-known key F in
-    shown-cases key f (λ es. EachValue IsKnown (es ++ shown key F)) (λ _. rest) (λ id c k e g. (k, rest))
+    shown-cases key f (λ es. EachValue IsKnown (es ++ shown key F)) (λ _. rest)
+    (λ id c k e g. (k, rest))
 
 pub equal_keys : (key : Key) → key_cmp key key ≡ Equal
 equal_keys key = (Equal-is (key_cmp key key)).0 (key_itself key)
 
-above-shown : (key : Key) (id : SymbolId) (F : List Fact) → StandAfter (symbol_address key id) F → Above id (keys_of (shown key F))
+above-shown : (key : Key) (id : SymbolId) (F : List Fact) → StandAfter (symbol_address key id) F
+    → Above id (keys_of (shown key F))
 unfolding shown
 above-shown key id [] s = tt
 above-shown key id (f ∷ F) s =
@@ -81,16 +91,21 @@ shown-ordered key (f ∷ F) r =
 
 -- ---- and is what stands at the addresses
 
-pub shown-at : (key : Key) (id : SymbolId) (F : List Fact) → IsRising F → fact_at F (symbol_address key id) ≡ symbol_fact key id (value_at symbol_id_cmp (shown key F) id)
+pub shown-at : (key : Key) (id : SymbolId) (F : List Fact) → IsRising F
+    → fact_at F (symbol_address key id)
+    ≡ symbol_fact key id (value_at symbol_id_cmp (shown key F) id)
 unfolding shown
 shown-at key id [] r = fact_at-nil (symbol_address key id)
 shown-at key id (f ∷ F) r =
     let a = symbol_address key id in
     let rest = shown-at key id F r.1 in
-    shown-cases key f (λ es. fact_at (f ∷ F) a ≡ symbol_fact key id (value_at symbol_id_cmp (es ++ shown key F) id))
+    shown-cases key f (λ es. fact_at (f ∷ F) a
+    ≡ symbol_fact key id (value_at symbol_id_cmp (es ++ shown key F) id))
     (λ n. fact_at-elsewhere f F a (not_same (address f) a (n id)) ∙ rest)
     (λ j c k e g.
-    let looked = λ (b : Bool). symbol_fact key id (cond b (Some c) (value_at symbol_id_cmp (shown key F) id)) in
+    let looked =
+    λ (b : Bool). symbol_fact key id
+    (cond b (Some c) (value_at symbol_id_cmp (shown key F) id)) in
     elim (cases_Bool (is_eq (symbol_id_cmp id j))) [
       | inl t ↦
           let p : id ≡ j = symbol_id_place id j ((Equal-is (symbol_id_cmp id j)).0 t) in
@@ -100,6 +115,8 @@ shown-at key id (f ∷ F) r =
       | inr t ↦
           fact_at-elsewhere f F a
           (not_same (address f) a (λ q.
-          false≢true (sym t ∙ ap (λ x. is_eq (symbol_id_cmp id x)) (same_id key key j id (sym e ∙ q)) ∙ symbol_id_itself id)))
+          false≢true (sym t
+          ∙ ap (λ x. is_eq (symbol_id_cmp id x)) (same_id key key j id (sym e ∙ q))
+          ∙ symbol_id_itself id)))
           ∙ rest ∙ ap looked (sym t)
     ])

@@ -1,138 +1,48 @@
--- What facts come to at an address, and the content of the join of two stores.
-use Rattle.std.proofs.Common.{◌≡◌, List, [], ◌∷◌, ◌++◌, Bool, true, false, cond, Some, None, refl, sym, ap, ◌∙◌, subst, inl, inr}
-use Rattle.std.proofs.Common.{ℕ, append-nil, Option, arith}
-use Rattle.flute_join.proofs.Public.{reading_at}
+-- The content of the join of two stores.
+use Rattle.flute_store.proofs.FactEntries.{Apart, Elsewhere, elsewhere-none, each-append}
+use Rattle.flute_store.proofs.FactEntries.{each-flat_map, cell-stands, at-cell_join, session_keys}
+use Rattle.flute_store.proofs.FactEntries.{object_keys, symbol_keys, at-map_join}
+use Rattle.std.proofs.Common.{◌≡◌, List, [], ◌∷◌, ◌++◌, Some, None, refl, sym, ap, ◌∙◌, subst, ℕ}
+use Rattle.std.proofs.Common.{append-nil, Option}
 use Rattle.std.specs.Prelude.{bytes_eq, ◌&&◌}
 use Rattle.flute_store.proofs.Common
-use Common.{AllByRecursion, flat_map, Ordering, Equal, is_eq, IsTotalOrder, Equal-is, tied_itself}
-use Common.{false≢true, cases_Bool, Address, Fact, same_address, address, fact_at, agreed}
-use Common.{same_fact, conflict_at, address_same, address_itself, joined, joined-none, joined_fact}
-use Common.{joined-conflict_left, joined-conflict_right, joined-itself, fact_at-append, fact_at-nil}
-use Common.{option_map_or, keys_of, is_at, sorted_tail, cell_join, map_join, value_at, IsOrdered}
-use Common.{EachValue, ordered-map_join, Cell, Absent, One, Conflict, absent_past, cell_facts}
-use Common.{session_total, object_total, symbol_id_total, Session, ObjectName, Key, SymbolId, Part}
-use Common.{InfoPart, SymbolPart, Info, Symbol, Information, session_cmp, object_cmp, symbol_id_cmp}
-use Common.{same_symbol_id, info_address, symbol_address, Same, Below, same_information}
-use Common.{session_place, object_place, symbol_id_place, key_itself, symbol_id_itself, Below-trans}
-use Common.{Below-from_Same, Same-sym, IsBelow, EachValue-map_join, Object, object_join}
-use Common.{symbols_join, session_join, store_join, key_in, info_cell_facts, symbol_cell_facts}
-use Common.{symbols_facts, object_facts, session_facts, content, IsObject, IsSession, IsStore}
-use Common.{IsStrictlySortedBy, SymbolUpdate, Update, update_symbols, update_object, update_facts}
-
--- ---- facts that stand elsewhere
-
-pub at-one_here : (f : Fact) → fact_at (f ∷ []) (address f) ≡ Some f
-unfolding fact_at
-at-one_here f = ap (λ b. agreed (address f) (cond b (f ∷ []) [])) (address_itself (address f))
-
-at-one_elsewhere : (f : Fact) (a : Address) → same_address (address f) a ≡ false → fact_at (f ∷ []) a ≡ None
-unfolding fact_at
-at-one_elsewhere f a e = ap (λ b. agreed a (cond b (f ∷ []) [])) e
-
-abbrev pub Apart : Address → Fact → Type 0
-Apart a f = address f ≡ a → ⊥
-
--- no fact of the list stands at the address
-abbrev pub Elsewhere : Address → List Fact → Type 0
-Elsewhere a F = AllByRecursion (Apart a) F
-
-pub not_same : (a b : Address) → (a ≡ b → ⊥) → same_address a b ≡ false
-not_same a b n = elim (cases_Bool (same_address a b)) [ inl t ↦ absurd (n (address_same a b t)) | inr t ↦ t ]
-
-pub elsewhere-none : (a : Address) (F : List Fact) → Elsewhere a F → fact_at F a ≡ None
-elsewhere-none a [] h = fact_at-nil a
-elsewhere-none a (f ∷ F) h =
-    let apart = at-one_elsewhere f a (not_same (address f) a h.0) in
-    rw (fact_at-append (f ∷ []) F a, apart) (elsewhere-none a F h.1)
-
-pub each-append : {X : Type 0} (P : X → Type 0) (xs ys : List X) → AllByRecursion P xs → AllByRecursion P ys → AllByRecursion P (xs ++ ys)
-each-append P [] ys h k = k
-each-append P (x ∷ xs) ys h k = (h.0, each-append P xs ys h.1 k)
-
-pub each-flat_map : {E X : Type 0} (P : X → Type 0) (f : E → List X) → ((e : E) → AllByRecursion P (f e)) → (es : List E) → AllByRecursion P (flat_map f es)
-each-flat_map P f h [] = tt
-each-flat_map P f h (e ∷ es) = each-append P (f e) (flat_map f es) (h e) (each-flat_map P f h es)
-
--- each fact of a cell stands where this holds
-pub cell-stands : {T : Type 0} (P : Address → Type 0) (told : T → Fact) (clash : Fact)
-    → ((v : T) → P (address (told v))) → P (address clash) → (c : Cell T)
-    → AllByRecursion (λ f. P (address f)) (cell_facts told clash c)
-cell-stands P told clash h k Absent = tt
-cell-stands P told clash h k (One v) = (h v, tt)
-cell-stands P told clash h k Conflict = (k, tt)
-
-pub any_value : {K X : Type 0} (es : List (K × X)) → EachValue (λ _. Unit {0}) es
-any_value [] = tt
-any_value (e ∷ es) = (tt, any_value es)
-
--- ---- a cell
-module _ {T : Type 0} (told : T → Fact) (here : Address) where
-  module _ (eq : T → T → Bool) (stands : (v : T) → address (told v) ≡ here) (clash : address (conflict_at here) ≡ here) (decides : (v w : T) → same_fact (told v) (told w) ≡ eq v w) where
-    abbrev facts : Cell T → List Fact
-    facts c = cell_facts told (conflict_at here) c
-
-    value : (v : T) → fact_at (told v ∷ []) here ≡ Some (told v)
-    value v = subst (λ a. fact_at (told v ∷ []) a ≡ Some (told v)) (stands v) (at-one_here (told v))
-
-    conflict : fact_at (conflict_at here ∷ []) here ≡ Some (conflict_at here)
-    conflict = subst (λ a. fact_at (conflict_at here ∷ []) a ≡ Some (conflict_at here)) clash (at-one_here (conflict_at here))
-
-    two_values : (v w : T) (b : Bool) → eq v w ≡ b → fact_at (facts (cond b (One v) Conflict)) here ≡ Some (cond b (told v) (conflict_at here))
-    two_values v w true e = value v
-    two_values v w false e = conflict
-
-    pub at-cell_join : (c d : Cell T) → fact_at (facts (cell_join eq c d)) here ≡ joined here (fact_at (facts c) here) (fact_at (facts d) here)
-    unfolding joined_fact
-    at-cell_join Absent d = sym (ap (λ x. joined here x (fact_at (facts d) here)) (fact_at-nil here))
-    at-cell_join (One v) Absent = sym (ap (joined here (fact_at (facts (One v)) here)) (fact_at-nil here) ∙ joined-none here (fact_at (facts (One v)) here))
-    at-cell_join (One v) (One w) =
-        two_values v w (eq v w) refl ∙ ap (λ b. Some (cond b (told v) (conflict_at here))) (sym (decides v w)) ∙ sym (λ i. joined here (value v i) (value w i))
-    at-cell_join (One v) Conflict = conflict ∙ sym ((λ i. joined here (value v i) (conflict i)) ∙ ap Some (joined-conflict_right here (told v)))
-    at-cell_join Conflict Absent = sym (ap (joined here (fact_at (facts Conflict) here)) (fact_at-nil here) ∙ joined-none here (fact_at (facts Conflict) here))
-    at-cell_join Conflict (One w) = conflict ∙ sym ((λ i. joined here (conflict i) (value w i)) ∙ ap Some (joined-conflict_left here (told w)))
-    at-cell_join Conflict Conflict = sym (joined-itself here (fact_at (facts Conflict) here))
-
--- ---- the entries of a map
-module _ {K X : Type 0} {cmp : K → K → Ordering} (order : IsTotalOrder cmp) (same : (x y : K) → cmp x y ≡ Equal → x ≡ y) (f : K × X → List Fact) (a : Address) (q : K) (apart : (e : K × X) → (q ≡ e.0 → ⊥) → Elsewhere a (f e)) where
-  not_at : (e : K × X) → is_at (cmp q) e.0 ≡ false → q ≡ e.0 → ⊥
-  not_at e t p = false≢true (sym t ∙ ap (λ k. is_eq (cmp q k)) (sym p) ∙ ap is_eq (tied_itself order q))
-
-  pub at-entries : (es : List (K × X)) → IsOrdered cmp es → fact_at (flat_map f es) a ≡ option_map_or (λ v. fact_at (f (q, v)) a) (value_at cmp es q) None
-  at-entries [] s = fact_at-nil a
-  at-entries (e ∷ es) s =
-      let more = at-entries es (sorted_tail cmp e.0 (keys_of es) s) in
-      let both = fact_at-append (f e) (flat_map f es) a in
-      elim (cases_Bool (is_at (cmp q) e.0)) [
-        | inl t ↦
-            let here = same q e.0 ((Equal-is (cmp q e.0)).0 t) in
-            let none = rw (absent_past order e es q s t) at more in
-            rw (t, both, none, joined-none a (fact_at (f e) a)) (ap (λ k. fact_at (f (k, e.1)) a) (sym here))
-        | inr t ↦ rw (t, both, elsewhere-none a (f e) (apart e (not_at e t))) more
-      ]
-
-  module _ (join : X → X → X) (P : X → Type 0) (keeps : (v w : X) → P v → P w → fact_at (f (q, join v w)) a ≡ joined a (fact_at (f (q, v)) a) (fact_at (f (q, w)) a)) where
-    pub at-map_join : (es fs : List (K × X)) → IsOrdered cmp es → IsOrdered cmp fs → EachValue P es → EachValue P fs → fact_at (flat_map f (map_join cmp join es fs)) a ≡ joined a (fact_at (flat_map f es) a) (fact_at (flat_map f fs) a)
-    at-map_join es fs s t x y =
-        at-entries (map_join cmp join es fs) (ordered-map_join order join es fs s t)
-        ∙ reading_at order join P (λ v. fact_at (f (q, v)) a) None (joined a) (λ c. refl) (joined-none a) keeps es fs q s t x y
-        ∙ sym (λ i. joined a (at-entries es s i) (at-entries fs t i))
+use Common.{Address, Fact, fact_at, joined, joined-none, fact_at-append, cell_join, IsOrdered}
+use Common.{EachValue, ordered-map_join, Cell, session_total, object_total, symbol_id_total}
+use Common.{Session, ObjectName, Key, SymbolId, Part, InfoPart, SymbolPart, Info, Symbol}
+use Common.{Information, session_cmp, object_cmp, symbol_id_cmp, same_symbol_id, info_address}
+use Common.{symbol_address, Same, Below, same_information, key_itself, symbol_id_itself}
+use Common.{Below-trans, Below-from_Same, Same-sym, IsBelow, EachValue-map_join, Object}
+use Common.{object_join, symbols_join, session_join, store_join, key_in, info_cell_facts}
+use Common.{symbol_cell_facts, symbols_facts, object_facts, session_facts, content, IsObject}
+use Common.{IsSession, IsStore, IsStrictlySortedBy, SymbolUpdate, Update, update_symbols}
+use Common.{update_object, update_facts}
 
 -- ---- where the facts of a cell stand
 
-elsewhere-info : (a : Address) (key : Key) → (info_address key ≡ a → ⊥) → (c : Cell Information) → Elsewhere a (info_cell_facts key c)
+elsewhere-info : (a : Address) (key : Key) → (info_address key ≡ a → ⊥) → (c : Cell Information)
+    → Elsewhere a (info_cell_facts key c)
 elsewhere-info a key h c = cell-stands (λ b. b ≡ a → ⊥) (Info key) _ (λ v. h) h c
 
-elsewhere-symbol : (a : Address) (key : Key) (id : SymbolId) → (symbol_address key id ≡ a → ⊥) → (c : Cell (List ℕ)) → Elsewhere a (symbol_cell_facts key id c)
+elsewhere-symbol : (a : Address) (key : Key) (id : SymbolId) → (symbol_address key id ≡ a → ⊥)
+    → (c : Cell (List ℕ)) → Elsewhere a (symbol_cell_facts key id c)
 elsewhere-symbol a key id h c = cell-stands (λ b. b ≡ a → ⊥) (Symbol key id) _ (λ v. h) h c
 
-info-join : (key : Key) (c d : Cell Information) → fact_at (info_cell_facts key (cell_join same_information c d)) (info_address key) ≡ joined (info_address key) (fact_at (info_cell_facts key c) (info_address key)) (fact_at (info_cell_facts key d) (info_address key))
-info-join key = at-cell_join (Info key) (info_address key) same_information (λ v. refl) refl (λ v w. ap (λ b. b && same_information v w) (key_itself key))
+info-join : (key : Key) (c d : Cell Information)
+    → fact_at (info_cell_facts key (cell_join same_information c d)) (info_address key)
+    ≡ joined (info_address key) (fact_at (info_cell_facts key c) (info_address key))
+    (fact_at (info_cell_facts key d) (info_address key))
+info-join key =
+    at-cell_join (Info key) (info_address key) same_information (λ v. refl) refl
+    (λ v w. ap (λ b. b && same_information v w) (key_itself key))
 
 symbol-join : (key : Key) (id : SymbolId) (c d : Cell (List ℕ))
-    → fact_at (symbol_cell_facts key id (cell_join bytes_eq c d)) (symbol_address key id) ≡ joined (symbol_address key id) (fact_at (symbol_cell_facts key id c) (symbol_address key id)) (fact_at (symbol_cell_facts key id d) (symbol_address key id))
+    → fact_at (symbol_cell_facts key id (cell_join bytes_eq c d)) (symbol_address key id)
+    ≡ joined (symbol_address key id) (fact_at (symbol_cell_facts key id c) (symbol_address key id))
+    (fact_at (symbol_cell_facts key id d) (symbol_address key id))
 symbol-join key id =
     at-cell_join (Symbol key id) (symbol_address key id) bytes_eq (λ v. refl) refl
-    (λ v w. ap (λ b. b && (same_symbol_id id id && bytes_eq v w)) (key_itself key) ∙ ap (λ b. b && bytes_eq v w) (symbol_id_itself id))
+    (λ v w. ap (λ b. b && (same_symbol_id id id && bytes_eq v w)) (key_itself key)
+    ∙ ap (λ b. b && bytes_eq v w) (symbol_id_itself id))
 
 -- ---- the symbols of an object
 
@@ -152,22 +62,41 @@ any_cell (e ∷ es) = (tt, any_cell es)
 abbrev pub entry_facts : Key → SymbolId × Cell (List ℕ) → List Fact
 entry_facts key e = symbol_cell_facts key e.0 e.1
 
-pub symbols_apart : (key : Key) (id : SymbolId) (e : SymbolId × Cell (List ℕ)) → (id ≡ e.0 → ⊥) → Elsewhere (symbol_address key id) (entry_facts key e)
-symbols_apart key id e h = elsewhere-symbol (symbol_address key id) key e.0 (λ p. h (sym (same_id key key e.0 id p))) e.1
+pub symbols_apart : (key : Key) (id : SymbolId) (e : SymbolId × Cell (List ℕ)) → (id ≡ e.0 → ⊥)
+    → Elsewhere (symbol_address key id) (entry_facts key e)
+symbols_apart key id e h =
+    elsewhere-symbol (symbol_address key id) key e.0 (λ p. h (sym (same_id key key e.0 id p))) e.1
 
-symbols-join : (key : Key) (id : SymbolId) (es fs : List (SymbolId × Cell (List ℕ))) → IsOrdered symbol_id_cmp es → IsOrdered symbol_id_cmp fs
-    → fact_at (symbols_facts key (symbols_join es fs)) (symbol_address key id) ≡ joined (symbol_address key id) (fact_at (symbols_facts key es) (symbol_address key id)) (fact_at (symbols_facts key fs) (symbol_address key id))
+symbols-join : (key : Key) (id : SymbolId) (es fs : List (SymbolId × Cell (List ℕ)))
+    → IsOrdered symbol_id_cmp es → IsOrdered symbol_id_cmp fs
+    → fact_at (symbols_facts key (symbols_join es fs)) (symbol_address key id)
+    ≡ joined (symbol_address key id) (fact_at (symbols_facts key es) (symbol_address key id))
+    (fact_at (symbols_facts key fs) (symbol_address key id))
 symbols-join key id es fs s t =
-    at-map_join symbol_id_total symbol_id_place (entry_facts key) (symbol_address key id) id (symbols_apart key id) (cell_join bytes_eq) (λ _. Unit {0})
-    (λ v w x y. symbol-join key id v w) es fs s t (any_cell es) (any_cell fs)
+    at-map_join symbol_keys (entry_facts key) (symbol_address key id) id (symbols_apart key id)
+    (cell_join bytes_eq) {P = λ _. Unit {0}}
+    (λ v w x y. symbol-join key id v w) (record {
+      first = s;
+      second = t;
+      first_each = any_cell es;
+      second_each = any_cell fs;
+    })
 
-symbols-info : (key : Key) (es : List (SymbolId × Cell (List ℕ))) → fact_at (symbols_facts key es) (info_address key) ≡ None
-symbols-info key es = elsewhere-none (info_address key) (symbols_facts key es) (each-flat_map (Apart (info_address key)) (entry_facts key) (λ e. elsewhere-symbol (info_address key) key e.0 (not_info key key e.0) e.1) es)
+symbols-info : (key : Key) (es : List (SymbolId × Cell (List ℕ)))
+    → fact_at (symbols_facts key es) (info_address key) ≡ None
+symbols-info key es =
+    elsewhere-none (info_address key) (symbols_facts key es)
+    (each-flat_map (Apart (info_address key)) (entry_facts key)
+    (λ e. elsewhere-symbol (info_address key) key e.0 (not_info key key e.0) e.1) es)
 
-info-symbol : (key : Key) (id : SymbolId) (c : Cell Information) → fact_at (info_cell_facts key c) (symbol_address key id) ≡ None
-info-symbol key id c = elsewhere-none (symbol_address key id) (info_cell_facts key c) (elsewhere-info (symbol_address key id) key (not_symbol key key id) c)
+info-symbol : (key : Key) (id : SymbolId) (c : Cell Information)
+    → fact_at (info_cell_facts key c) (symbol_address key id) ≡ None
+info-symbol key id c =
+    elsewhere-none (symbol_address key id) (info_cell_facts key c)
+    (elsewhere-info (symbol_address key id) key (not_symbol key key id) c)
 
-pub EachValue-weaker : {K X : Type 0} (P Q : X → Type 0) → ((x : X) → P x → Q x) → (es : List (K × X)) → EachValue P es → EachValue Q es
+pub EachValue-weaker : {K X : Type 0} (P Q : X → Type 0) → ((x : X) → P x → Q x)
+    → (es : List (K × X)) → EachValue P es → EachValue Q es
 EachValue-weaker P Q h [] a = tt
 EachValue-weaker P Q h (e ∷ es) a = (h e.1 a.0, EachValue-weaker P Q h es a.1)
 
@@ -184,25 +113,39 @@ module _ {n : ℕ} where
     pub ordered : IsOrdered session_cmp m
     pub each : EachValue OrderedSession m
 
-  pub ordered-session : (o : ℕ) (objects : List (ObjectName × Object n)) → IsSession o objects → OrderedSession objects
-  ordered-session o objects p = record { ordered = p.ordered; each = EachValue-weaker IsObject OrderedObject (λ x q. q.symbols_are.ordered) objects p.each }
+  pub ordered-session : (o : ℕ) (objects : List (ObjectName × Object n)) → IsSession o objects
+      → OrderedSession objects
+  ordered-session o objects p = record {
+    ordered = p.ordered;
+    each = EachValue-weaker IsObject OrderedObject (λ x q. q.symbols_are.ordered) objects p.each;
+  }
 
-  pub ordered-store : (s o : ℕ) (m : List (Session × List (ObjectName × Object n))) → IsStore s o m → OrderedStore m
-  ordered-store s o m p = record { ordered = p.ordered; each = EachValue-weaker (IsSession o) OrderedSession (ordered-session o) m p.each }
+  pub ordered-store : (s o : ℕ) (m : List (Session × List (ObjectName × Object n))) → IsStore s o m
+      → OrderedStore m
+  ordered-store s o m p = record {
+    ordered = p.ordered;
+    each = EachValue-weaker (IsSession o) OrderedSession (ordered-session o) m p.each;
+  }
 
-  object_ordered : (v w : Object n) → OrderedObject v → OrderedObject w → OrderedObject (object_join v w)
-  object_ordered v w p q = ordered-map_join symbol_id_total (cell_join bytes_eq) v.symbols w.symbols p q
+  object_ordered : (v w : Object n) → OrderedObject v → OrderedObject w
+      → OrderedObject (object_join v w)
+  object_ordered v w p q =
+      ordered-map_join symbol_id_total (cell_join bytes_eq) v.symbols w.symbols p q
 
-  session_ordered : (v w : List (ObjectName × Object n)) → OrderedSession v → OrderedSession w → OrderedSession (session_join v w)
+  session_ordered : (v w : List (ObjectName × Object n)) → OrderedSession v → OrderedSession w
+      → OrderedSession (session_join v w)
   session_ordered v w p q = record {
     ordered = ordered-map_join object_total object_join v w p.ordered q.ordered;
     each = EachValue-map_join object_cmp object_join OrderedObject object_ordered v w p.each q.each;
   }
 
-  pub store_ordered : (v w : List (Session × List (ObjectName × Object n))) → OrderedStore v → OrderedStore w → OrderedStore (store_join v w)
+  pub store_ordered : (v w : List (Session × List (ObjectName × Object n))) → OrderedStore v
+      → OrderedStore w → OrderedStore (store_join v w)
   store_ordered v w p q = record {
     ordered = ordered-map_join session_total session_join v w p.ordered q.ordered;
-    each = EachValue-map_join session_cmp session_join OrderedSession session_ordered v w p.each q.each;
+    each =
+        EachValue-map_join session_cmp session_join OrderedSession session_ordered v w p.each
+        q.each;
   }
 
   abbrev pub in_session : Session → ObjectName × Object n → List Fact
@@ -213,67 +156,124 @@ module _ {n : ℕ} where
 
 module _ {n : ℕ} where
   -- ---- an object
-  pub object-info : (key : Key) (x : Object n) → fact_at (object_facts key x) (info_address key) ≡ fact_at (info_cell_facts key x.info) (info_address key)
+  pub object-info : (key : Key) (x : Object n)
+      → fact_at (object_facts key x) (info_address key)
+      ≡ fact_at (info_cell_facts key x.info) (info_address key)
   object-info key x =
       fact_at-append (info_cell_facts key x.info) (symbols_facts key x.symbols) (info_address key)
-      ∙ ap (joined (info_address key) (fact_at (info_cell_facts key x.info) (info_address key))) (symbols-info key x.symbols)
+      ∙ ap (joined (info_address key) (fact_at (info_cell_facts key x.info) (info_address key)))
+      (symbols-info key x.symbols)
       ∙ joined-none (info_address key) (fact_at (info_cell_facts key x.info) (info_address key))
 
-  pub object-symbol : (key : Key) (id : SymbolId) (x : Object n) → fact_at (object_facts key x) (symbol_address key id) ≡ fact_at (symbols_facts key x.symbols) (symbol_address key id)
+  pub object-symbol : (key : Key) (id : SymbolId) (x : Object n)
+      → fact_at (object_facts key x) (symbol_address key id)
+      ≡ fact_at (symbols_facts key x.symbols) (symbol_address key id)
   object-symbol key id x =
-      fact_at-append (info_cell_facts key x.info) (symbols_facts key x.symbols) (symbol_address key id)
-      ∙ ap (λ o. joined (symbol_address key id) o (fact_at (symbols_facts key x.symbols) (symbol_address key id))) (info-symbol key id x.info)
+      fact_at-append (info_cell_facts key x.info) (symbols_facts key x.symbols)
+      (symbol_address key id)
+      ∙ ap (λ o. joined (symbol_address key id) o
+      (fact_at (symbols_facts key x.symbols) (symbol_address key id))) (info-symbol key id x.info)
 
   object-join : (key : Key) (part : Part) (v w : Object n) → OrderedObject v → OrderedObject w
-      → fact_at (object_facts key (object_join v w)) (record { key = key; part = part }) ≡ joined (record { key = key; part = part }) (fact_at (object_facts key v) (record { key = key; part = part })) (fact_at (object_facts key w) (record { key = key; part = part }))
+      → fact_at (object_facts key (object_join v w)) (record {
+        key = key;
+        part = part;
+      }
+      ) ≡ joined (record {
+        key = key;
+        part = part;
+      }
+      ) (fact_at (object_facts key v) (record {
+        key = key;
+        part = part;
+      })) (fact_at (object_facts key w) (record { key = key; part = part }))
   object-join key InfoPart v w p q =
-      object-info key (object_join v w) ∙ info-join key v.info w.info ∙ sym (λ i. joined (info_address key) (object-info key v i) (object-info key w i))
+      object-info key (object_join v w) ∙ info-join key v.info w.info
+      ∙ sym (λ i. joined (info_address key) (object-info key v i) (object-info key w i))
   object-join key (SymbolPart id) v w p q =
       object-symbol key id (object_join v w) ∙ symbols-join key id v.symbols w.symbols p q
-      ∙ sym (λ i. joined (symbol_address key id) (object-symbol key id v i) (object-symbol key id w i))
+      ∙ sym (λ i. joined (symbol_address key id) (object-symbol key id v i)
+      (object-symbol key id w i))
 
-  pub elsewhere-object : (a : Address) (key : Key) → (key ≡ a.key → ⊥) → (x : Object n) → Elsewhere a (object_facts key x)
+  pub elsewhere-object : (a : Address) (key : Key) → (key ≡ a.key → ⊥) → (x : Object n)
+      → Elsewhere a (object_facts key x)
   elsewhere-object a key h x =
-      each-append (Apart a) (info_cell_facts key x.info) (symbols_facts key x.symbols) (elsewhere-info a key (λ p. h (ap (λ (b : Address). b.key) p)) x.info)
-      (each-flat_map (Apart a) (entry_facts key) (λ e. elsewhere-symbol a key e.0 (λ p. h (ap (λ (b : Address). b.key) p)) e.1) x.symbols)
+      each-append (Apart a) (info_cell_facts key x.info) (symbols_facts key x.symbols)
+      (elsewhere-info a key (λ p. h (ap (λ (b : Address). b.key) p)) x.info)
+      (each-flat_map (Apart a) (entry_facts key)
+      (λ e. elsewhere-symbol a key e.0 (λ p. h (ap (λ (b : Address). b.key) p)) e.1) x.symbols)
 
   -- ---- a session
-  pub objects_apart : (a : Address) (e : ObjectName × Object n) → (a.key.object ≡ e.0 → ⊥) → Elsewhere a (in_session a.key.session e)
-  objects_apart a e h = elsewhere-object a (key_in a.key.session e.0) (λ p. h (sym (ap (λ (k : Key). k.object) p))) e.1
+  pub objects_apart : (a : Address) (e : ObjectName × Object n) → (a.key.object ≡ e.0 → ⊥)
+      → Elsewhere a (in_session a.key.session e)
+  objects_apart a e h =
+      elsewhere-object a (key_in a.key.session e.0) (λ p. h (sym (ap (λ (k : Key). k.object) p)))
+      e.1
 
-  session-join : (a : Address) (v w : List (ObjectName × Object n)) → OrderedSession v → OrderedSession w
-      → fact_at (session_facts a.key.session (session_join v w)) a ≡ joined a (fact_at (session_facts a.key.session v) a) (fact_at (session_facts a.key.session w) a)
+  session-join : (a : Address) (v w : List (ObjectName × Object n)) → OrderedSession v
+      → OrderedSession w
+      → fact_at (session_facts a.key.session (session_join v w)) a
+      ≡ joined a (fact_at (session_facts a.key.session v) a)
+      (fact_at (session_facts a.key.session w) a)
   session-join a v w p q =
-      at-map_join object_total object_place (in_session a.key.session) a a.key.object (objects_apart a) object_join OrderedObject (object-join a.key a.part) v w p.ordered q.ordered p.each q.each
+      at-map_join object_keys (in_session a.key.session) a a.key.object (objects_apart a)
+      object_join (object-join a.key a.part) (record {
+        first = p.ordered;
+        second = q.ordered;
+        first_each = p.each;
+        second_each = q.each;
+      })
 
-  elsewhere-session : (a : Address) (session : Session) → (session ≡ a.key.session → ⊥) → (objects : List (ObjectName × Object n)) → Elsewhere a (session_facts session objects)
+  elsewhere-session : (a : Address) (session : Session) → (session ≡ a.key.session → ⊥)
+      → (objects : List (ObjectName × Object n)) → Elsewhere a (session_facts session objects)
   elsewhere-session a session h objects =
-      each-flat_map (Apart a) (in_session session) (λ e. elsewhere-object a (key_in session e.0) (λ p. h (ap (λ (k : Key). k.session) p)) e.1) objects
+      each-flat_map (Apart a) (in_session session)
+      (λ e. elsewhere-object a (key_in session e.0) (λ p. h (ap (λ (k : Key). k.session) p)) e.1)
+      objects
 
   -- ---- a store
-  pub sessions_apart : (a : Address) (e : Session × List (ObjectName × Object n)) → (a.key.session ≡ e.0 → ⊥) → Elsewhere a (in_store e)
+  pub sessions_apart : (a : Address) (e : Session × List (ObjectName × Object n))
+      → (a.key.session ≡ e.0 → ⊥) → Elsewhere a (in_store e)
   sessions_apart a e h = elsewhere-session a e.0 (λ p. h (sym p)) e.1
 
-  store-join : (v w : List (Session × List (ObjectName × Object n))) → OrderedStore v → OrderedStore w → (a : Address) → fact_at (content (store_join v w)) a ≡ joined a (fact_at (content v) a) (fact_at (content w) a)
+  store-join : (v w : List (Session × List (ObjectName × Object n))) → OrderedStore v
+      → OrderedStore w → (a : Address)
+      → fact_at (content (store_join v w)) a
+      ≡ joined a (fact_at (content v) a) (fact_at (content w) a)
   store-join v w p q a =
-      at-map_join session_total session_place in_store a a.key.session (sessions_apart a) session_join OrderedSession (session-join a) v w p.ordered q.ordered p.each q.each
+      at-map_join session_keys in_store a a.key.session (sessions_apart a) session_join
+      (session-join a) (record {
+        first = p.ordered;
+        second = q.ordered;
+        first_each = p.each;
+        second_each = q.each;
+      })
 
   -- the content of a join comes to the contents appended
-  pub content-join : (v w : List (Session × List (ObjectName × Object n))) → OrderedStore v → OrderedStore w → Same (content (store_join v w)) (content v ++ content w)
-  content-join v w p q = record { each = λ a. store-join v w p q a ∙ sym (fact_at-append (content v) (content w) a) }
+  pub content-join : (v w : List (Session × List (ObjectName × Object n))) → OrderedStore v
+      → OrderedStore w → Same (content (store_join v w)) (content v ++ content w)
+  content-join v w p q =
+      record { each = λ a. store-join v w p q a ∙ sym (fact_at-append (content v) (content w) a) }
 
   -- the content of a lower store is below
-  pub content-below : (v w : List (Session × List (ObjectName × Object n))) → OrderedStore v → OrderedStore w → IsBelow store_join v w → Below (content v) (content w)
-  content-below v w p q b = subst (λ m. Same (content v ++ content w) (content m)) b (Same-sym (content (store_join v w)) (content v ++ content w) (content-join v w p q))
+  pub content-below : (v w : List (Session × List (ObjectName × Object n))) → OrderedStore v
+      → OrderedStore w → IsBelow store_join v w → Below (content v) (content w)
+  content-below v w p q b =
+      subst (λ m. Same (content v ++ content w) (content m)) b
+      (Same-sym (content (store_join v w)) (content v ++ content w) (content-join v w p q))
 
-  pub content-below_join : (u v w : List (Session × List (ObjectName × Object n))) → OrderedStore u → OrderedStore v → OrderedStore w → IsBelow store_join u (store_join v w) → Below (content u) (content v ++ content w)
+  pub content-below_join : (u v w : List (Session × List (ObjectName × Object n))) → OrderedStore u
+      → OrderedStore v → OrderedStore w → IsBelow store_join u (store_join v w)
+      → Below (content u) (content v ++ content w)
   content-below_join u v w o p q b =
-      Below-trans (content u) (content (store_join v w)) (content v ++ content w) (content-below u (store_join v w) o (store_ordered v w p q) b)
+      Below-trans (content u) (content (store_join v w)) (content v ++ content w)
+      (content-below u (store_join v w) o (store_ordered v w p q) b)
       (Below-from_Same (content (store_join v w)) (content v ++ content w) (content-join v w p q))
 
 -- ---- the store of one object
 
-pub told-ordered : (o : Option (SymbolId × SymbolUpdate)) → IsOrdered symbol_id_cmp (update_symbols o)
+pub told-ordered : (o : Option (SymbolId × SymbolUpdate))
+    → IsOrdered symbol_id_cmp (update_symbols o)
 unfolding IsStrictlySortedBy
 told-ordered None = tt
 told-ordered (Some t) = (tt, tt)
@@ -283,7 +283,12 @@ one_object n key update = (key.session, (key.object, update_object update) ∷ [
 
 pub one-ordered : (n : ℕ) (key : Key) (update : Update) → OrderedStore (one_object n key update)
 unfolding IsStrictlySortedBy
-one-ordered n key update = record { ordered = (tt, tt); each = (record { ordered = (tt, tt); each = (told-ordered update.symbol, tt) }, tt) }
+one-ordered n key update = record {
+  ordered = (tt, tt);
+  each = (record { ordered = (tt, tt); each = (told-ordered update.symbol, tt) }, tt);
+}
 
-pub one-content : (n : ℕ) (key : Key) (update : Update) → content (one_object n key update) ≡ update_facts key update
-one-content n key update = append-nil (update_facts key update ++ []) ∙ append-nil (update_facts key update)
+pub one-content : (n : ℕ) (key : Key) (update : Update)
+    → content (one_object n key update) ≡ update_facts key update
+one-content n key update =
+    append-nil (update_facts key update ++ []) ∙ append-nil (update_facts key update)

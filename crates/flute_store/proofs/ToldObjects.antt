@@ -1,6 +1,6 @@
 -- What is told of an object: its symbols, and what is wanted of it.
-use Rattle.std.proofs.Common.{◌≡◌, ◌≢◌, ℕ, List, ◌∷◌, false, Option, Some, None, refl, sym, ap, ◌∙◌, subst, ◌↔◌}
-use Rattle.std.proofs.Common.{◌+◌, length, arith}
+use Rattle.std.proofs.Common.{◌≡◌, ◌≢◌, ℕ, List, false, Option, Some, None, refl, sym, ap, ◌∙◌}
+use Rattle.std.proofs.Common.{subst, ◌↔◌, ◌+◌, length, arith}
 use Rattle.std.specs.Ordering.{eq_by_cmp}
 use Rattle.flute_store.specs.GapsLeft.{GapsLeft}
 use Rattle.std.proofs.lemmas.Cmp.{eq_by_cmp_equiv}
@@ -8,18 +8,21 @@ use Rattle.flute_store.proofs.Found.{known-fact}
 use Rattle.std.proofs.lemmas.Map.Views.{IsSome-lookup_from_Contains, Contains-keys_from_lookup}
 use Rattle.flute_store.{specs.GapAnswers.{GivesGaps}, proofs.Lookups.{blocks_from-all}}
 use Rattle.flute_store.proofs.Common
-use Common.{Contains, Equal-is, keys_of, IsKnown, value_at, Cell, each-value_at, false≢true}
+use Common.{Contains, Equal-is, keys_of, IsKnown, value_at, Cell, each-value_at, false≢true, Gap}
 use Common.{symbol_address, fact_at, symbol_id_cmp, symbol_id_place, symbol_id_total, Key, SymbolId}
 use Common.{Fact, Object, symbol_fact, IsTold, filter_map, option_map, IsStrictlySortedBy}
 use Common.{info_address, One, Information, sizes, ids, Info, InfoConflict, want, wants, runs}
 use Common.{want_cell, with_reason, wanted, cell_fact, at_start, left, gaps_left}
 
-pub ids_told : {n : ℕ} (F : List Fact) (key : Key) (x : Object n) → IsTold F key x → (id : SymbolId) → Contains (keys_of x.symbols) id ↔ (fact_at F (symbol_address key id) ≢ None)
+pub ids_told : {n : ℕ} (F : List Fact) (key : Key) (x : Object n) → IsTold F key x → (id : SymbolId)
+    → Contains (keys_of x.symbols) id ↔ (fact_at F (symbol_address key id) ≢ None)
 ids_told F key x t id = by_found (value_at symbol_id_cmp x.symbols id) refl
   where
-    by_found : (found : Option (Cell (List ℕ))) → value_at symbol_id_cmp x.symbols id ≡ found → Contains (keys_of x.symbols) id ↔ (fact_at F (symbol_address key id) ≢ None)
+    by_found : (found : Option (Cell (List ℕ))) → value_at symbol_id_cmp x.symbols id ≡ found
+        → Contains (keys_of x.symbols) id ↔ (fact_at F (symbol_address key id) ≢ None)
     by_found None e = (
-      λ c. absurd (false≢true (rw e at (IsSome-lookup_from_Contains (eq_by_cmp_equiv symbol_id_total) id x.symbols c))),
+      λ c. absurd (false≢true (rw e at
+          (IsSome-lookup_from_Contains (eq_by_cmp_equiv symbol_id_total) id x.symbols c))),
       λ h. absurd (h (t.each id ∙ ap (symbol_fact key id) e)),
     )
     by_found (Some c) e =
@@ -31,37 +34,71 @@ ids_told F key x t id = by_found (value_at symbol_id_cmp x.symbols id) refl
 
 -- ---- what is wanted of an object, and its bytes, from the symbols that are held
 
-pub want-symbol : (info : Information) (key : Key) (id : SymbolId) (found : Option (Cell (List ℕ))) → want info id (symbol_fact key id found) ≡ want_cell info id found
+pub want-symbol : (info : Information) (key : Key) (id : SymbolId) (found : Option (Cell (List ℕ)))
+    → want info id (symbol_fact key id found) ≡ want_cell info id found
 want-symbol info key id (Some (One b)) = refl
 want-symbol info key id found = refl
 
 -- what is wanted is told by the held symbols
-pub wants-told : {n : ℕ} (F : List Fact) (key : Key) (x : Object n) (info : Information) → IsTold F key x → wants F key info ≡ wanted info x.symbols (ids info)
+pub wants-told : {n : ℕ} (F : List Fact) (key : Key) (x : Object n) (info : Information)
+    → IsTold F key x → wants F key info ≡ wanted info x.symbols (ids info)
 unfolding wants wanted
-wants-told F key x info t = λ i. filter_map (λ id. option_map (with_reason id) ((ap (want info id) (t.each id) ∙ want-symbol info key id (value_at symbol_id_cmp x.symbols id)) i)) (ids info)
+wants-told F key x info t =
+    λ i. filter_map (λ id. option_map (with_reason id)
+    ((ap (want info id) (t.each id) ∙ want-symbol info key id (value_at symbol_id_cmp x.symbols id))
+    i)) (ids info)
 
 -- a walk begins with all symbols of the partition
-pub start-left : (info : Information) (held : List (SymbolId × Cell (List ℕ))) → gaps_left (at_start info held) ≡ runs (wanted info held (ids info))
+pub start-left : (info : Information) (held : List (SymbolId × Cell (List ℕ)))
+    → gaps_left (at_start info held) ≡ runs (wanted info held (ids info))
 unfolding left
 start-left info held = ap (λ xs. runs (wanted info held xs)) (blocks_from-all info)
 
-pub told-information : {n : ℕ} (F : List Fact) (key : Key) (x : Object n) (info : Information) → IsTold F key x → x.info ≡ One info → fact_at F (info_address key) ≡ Some (Info key info)
+pub told-information : {n : ℕ} (F : List Fact) (key : Key) (x : Object n) (info : Information)
+    → IsTold F key x → x.info ≡ One info → fact_at F (info_address key) ≡ Some (Info key info)
 told-information F key x info t e = t.info ∙ ap (cell_fact (Info key) (InfoConflict key)) e
 
-pub gives-gaps : {n : ℕ} (F : List Fact) (key : Key) (x : Object n) (info : Information) (held : List (SymbolId × Cell (List ℕ))) (g : GapsLeft) → IsTold F key x → x.info ≡ One info → held ≡ x.symbols
-    → g.gaps ≡ runs (wanted info held (ids info)) → g.held ≡ keys_of held → g.begun ≡ 0 → g.blocks ≡ length (sizes info) → g.ended ≡ false → g.ticks ≡ 0 → g.bound ≡ length (sizes info) + length held + 1 → GivesGaps F key g
-gives-gaps F key x info held g t e h a s u v w b c =
-    let k : g.held ≡ keys_of x.symbols = s ∙ ap keys_of h in
-    let m : length held ≡ length x.symbols = ap (λ (s : List (SymbolId × Cell (List ℕ))). length s) h in
+-- the facts tell of an object this one information and the symbols that are held, whose gaps these
+-- are
+pub record ToldGaps {n : ℕ} (F : List Fact) (key : Key) (x : Object n) (info : Information)
+    (held : List (SymbolId × Cell (List ℕ))) (gs : List Gap) : Type 0 where
+  pub told : IsTold F key x
+  pub info_is : x.info ≡ One info
+  pub held_is : held ≡ x.symbols
+  pub gaps_are : gs ≡ runs (wanted info held (ids info))
+
+-- no symbol was passed, no block begun, and no tick taken
+pub record Begins (info : Information) (held : List (SymbolId × Cell (List ℕ))) (g : GapsLeft)
+    : Type 0 where
+  pub held_is : g.held ≡ keys_of held
+  pub begun_is : g.begun ≡ 0
+  pub blocks_are : g.blocks ≡ length (sizes info)
+  pub ended_is : g.ended ≡ false
+  pub ticks_are : g.ticks ≡ 0
+  pub bound_is : g.bound ≡ length (sizes info) + length held + 1
+
+pub gives-gaps : {n : ℕ} {F : List Fact} {key : Key} {x : Object n} {info : Information}
+    {held : List (SymbolId × Cell (List ℕ))} (g : GapsLeft) → ToldGaps F key x info held g.gaps
+    → Begins info held g → GivesGaps F key g
+gives-gaps {n} {F} {key} {x} {info} {held} g t b =
+    let told = t.told in
+    let k : g.held ≡ keys_of x.symbols = b.held_is ∙ ap keys_of t.held_is in
+    let m : length held ≡ length x.symbols =
+    ap (λ (s : List (SymbolId × Cell (List ℕ))). length s) t.held_is in
     record {
       info = info;
-      information = told-information F key x info t e;
-      gaps_are = a ∙ ap (λ s. runs (wanted info s (ids info))) h ∙ ap runs (sym (wants-told F key x info t));
-      rising = subst (IsStrictlySortedBy symbol_id_cmp) (sym k) t.object.symbols_are.ordered;
-      held_are = subst (λ (l : List SymbolId). (id : SymbolId) → Contains l id ↔ (fact_at F (symbol_address key id) ≢ None)) (sym k) (ids_told F key x t);
-      begun_is = u;
-      blocks_are = v;
-      ended_is = w;
-      ticks_are = b;
-      bound_is = omega (arith, c, m);
+      information = told-information F key x info told t.info_is;
+      gaps_are =
+          t.gaps_are ∙ ap (λ s. runs (wanted info s (ids info))) t.held_is
+          ∙ ap runs (sym (wants-told F key x info told));
+      rising = subst (IsStrictlySortedBy symbol_id_cmp) (sym k) told.object.symbols_are.ordered;
+      held_are =
+          subst (λ (l : List SymbolId). (id : SymbolId)
+          → Contains l id ↔ (fact_at F (symbol_address key id) ≢ None)) (sym k)
+          (ids_told F key x told);
+      begun_is = b.begun_is;
+      blocks_are = b.blocks_are;
+      ended_is = b.ended_is;
+      ticks_are = b.ticks_are;
+      bound_is = let c = b.bound_is in omega (arith, c, told.count, m);
     }

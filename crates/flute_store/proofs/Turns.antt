@@ -1,19 +1,18 @@
 -- What the turns of a walk do.
-use Rattle.std.proofs.Common.{◌≡◌, ℕ, ◌-◌, cond, List, ◌∷◌, Option, Some, None, refl, sym, ap, ◌∙◌, subst, inl, inr}
-use Rattle.std.proofs.Common.{rules, ◌+◌, ◌<◌, ◌^◌, false, length, arith, Bool}
+use Rattle.std.proofs.Common.{◌≡◌, ℕ, ◌-◌, cond, List, ◌∷◌, Option, Some, None, refl, sym, ap, ◌∙◌}
+use Rattle.std.proofs.Common.{subst, rules, ◌+◌, ◌<◌, ◌^◌, false, length, arith, Bool}
 use Rattle.std.specs.Prelude.{length}
 use Rattle.flute_store.proofs.Lookups.{Entry}
 use Rattle.flute_store.proofs.Upcoming.{told, step-pass, step-take, step-begin, ahead-trans}
 use Rattle.flute_store.proofs.GapSteps.{step-want, gap-run, gap-missing, gaps-end}
 use Rattle.flute_store.proofs.Common
-use Common.{◌==◌, match_ordering, cases_Bool, none-some, IsKnown, EachValue, Cell, Absent, One}
-use Common.{Conflict, Information, sizes, symbol_id_cmp, symbol_id, SymbolId, Missing, Gap, Turn}
-use Common.{Upcoming, End, BlockEnd, Passed, Fitting, Wanted, NotHeld, PartitionScan, same_reason}
-use Common.{want_cell, walk_of, IsPlace, IsWalk, length_of, ShowsNext, want_length, upcoming_wanted}
-use Common.{upcoming_held, upcoming_next, upcoming_at, upcoming_of, until_held, until_next}
-use Common.{ended_run, turn_on, turn_after, turn_of, GivesGap, held_after, TurnsTo, IsOrdered}
-use Common.{HeldScan, runs, Walk, remaining, at_start, Keeps, walk_in, last_tick, bound, IsHeldScan}
-use Common.{Turns, KeepsGaps, with_end, counted}
+use Common.{◌==◌, match_ordering, none-some, IsKnown, EachValue, Cell, Information, sizes}
+use Common.{symbol_id_cmp, symbol_id, SymbolId, Missing, Gap, Turn, Upcoming, End, BlockEnd, Passed}
+use Common.{Fitting, Wanted, NotHeld, PartitionScan, want_cell, walk_of, IsPlace, IsWalk, length_of}
+use Common.{ShowsNext, want_length, upcoming_wanted, upcoming_held, upcoming_next, upcoming_at}
+use Common.{upcoming_of, until_held, until_next, ended_run, turn_on, turn_after, turn_of, GivesGap}
+use Common.{held_after, TurnsTo, IsOrdered, HeldScan, runs, Walk, remaining, at_start, Keeps}
+use Common.{walk_in, last_tick, bound, IsHeldScan, Turns, KeepsGaps, with_end, counted}
 
 -- the run that ends, if one does, is the run
 pub run-is : (run : Option Gap) (l : Upcoming) (g : Gap) → ended_run run l ≡ Some g → run ≡ Some g
@@ -31,51 +30,93 @@ no-run (Some f) Passed e h = absurd e
 no-run (Some f) (Wanted r) e h = absurd e
 no-run (Some f) l e h = absurd (none-some f (sym h))
 
-want-same : (info : Information) (id : SymbolId) (cell : Cell (List ℕ)) → IsKnown cell → want_length info id (length_of cell) ≡ want_cell info id (Some cell)
+want-same : (info : Information) (id : SymbolId) (cell : Cell (List ℕ)) → IsKnown cell
+    → want_length info id (length_of cell) ≡ want_cell info id (Some cell)
 want-same info id cell k = grind arith
 
-upcoming_next-same : (info : Information) (here : SymbolId) (held : List Entry) (next : Option (SymbolId × Option ℕ)) → EachValue IsKnown held → ShowsNext held next → upcoming_next info here next ≡ upcoming_held info here held
+upcoming_next-same : (info : Information) (here : SymbolId) (held : List Entry)
+    (next : Option (SymbolId × Option ℕ)) → EachValue IsKnown held → ShowsNext held next
+    → upcoming_next info here next ≡ upcoming_held info here held
 upcoming_next-same info here held None k n = ap (upcoming_held info here) (sym n)
 upcoming_next-same info here held (Some next) k n =
     let known : EachValue IsKnown ((next.0, n.0) ∷ n.1) = subst (EachValue IsKnown) n.2 k in
-    ap (λ o. match_ordering (symbol_id_cmp next.0 here) Passed (upcoming_wanted o) NotHeld) (ap (want_length info next.0) (sym n.3) ∙ want-same info next.0 n.0 known.0)
+    ap (λ o. match_ordering (symbol_id_cmp next.0 here) Passed (upcoming_wanted o) NotHeld)
+    (ap (want_length info next.0) (sym n.3) ∙ want-same info next.0 n.0 known.0)
     ∙ ap (upcoming_held info here) (sym n.2)
 
-until-same : (sbn size : ℕ) (held : List Entry) (next : Option (SymbolId × Option ℕ)) → ShowsNext held next → until_next sbn size next ≡ until_held sbn size held
+until-same : (sbn size : ℕ) (held : List Entry) (next : Option (SymbolId × Option ℕ))
+    → ShowsNext held next → until_next sbn size next ≡ until_held sbn size held
 until-same sbn size held None n = ap (until_held sbn size) (sym n)
 until-same sbn size held (Some next) n = ap (until_held sbn size) (sym n.2)
 
-module _ (w : PartitionScan) (held : List Entry) (next : Option (SymbolId × Option ℕ)) (n : ShowsNext held next) (p : IsWalk (walk_of w held)) where
+module _ (w : PartitionScan) (held : List Entry) (next : Option (SymbolId × Option ℕ))
+    (n : ShowsNext held next) (p : IsWalk (walk_of w held)) where
   pub upcoming-same : upcoming_at w next ≡ upcoming_of (walk_of w held)
   unfolding upcoming_at upcoming_of
-  upcoming-same = ap (λ l. cond (w.esi == w.size) (cond (w.begun == length (sizes w.partition)) End BlockEnd) l) (upcoming_next-same w.partition (symbol_id w.sbn w.esi) held next p.known n)
+  upcoming-same =
+      ap (λ l. cond (w.esi == w.size) (cond (w.begun == length (sizes w.partition)) End BlockEnd) l)
+      (upcoming_next-same w.partition (symbol_id w.sbn w.esi) held next p.known n)
 
   abbrev Gives : Upcoming → Option Gap → Type 0
-  Gives l o = TurnsTo (walk_of w held) (turn_after w next l o).0 (walk_of (turn_after w next l o).1 (held_after (turn_after w next l o).0 held))
+  Gives l o =
+      TurnsTo (walk_of w held) (turn_after w next l o).0
+      (walk_of (turn_after w next l o).1 (held_after (turn_after w next l o).0 held))
 
-  by_run : (l : Upcoming) (o : Option Gap) → upcoming_of (walk_of w held) ≡ l → ended_run w.run l ≡ o → IsPlace (turn_after w next l o).1 → Gives l o
-  by_run l (Some g) e h q = gap-run (walk_of w held) g p (run-is w.run l g h) (ap (ended_run w.run) e ∙ h)
-  by_run End None e h q = (refl, e, record { begun = (told (walk_of w held) End e).1; none = gaps-end (walk_of w held) e (no-run w.run End tt h) })
-  by_run BlockEnd None e h q = (step-begin (walk_of w held) p (told (walk_of w held) BlockEnd e) (no-run w.run BlockEnd tt h) q.longest, e, refl)
-  by_run Passed None e h q = (step-pass (walk_of w held) p (told (walk_of w held) Passed e), e, refl)
-  by_run Fitting None e h q = (step-take (walk_of w held) p (told (walk_of w held) Fitting e) (no-run w.run Fitting tt h), e, refl)
-  by_run (Wanted r) None e h q = (step-want (walk_of w held) r p (told (walk_of w held) (Wanted r) e) h, (r, e, refl))
+  by_run : (l : Upcoming) (o : Option Gap) → upcoming_of (walk_of w held) ≡ l
+      → ended_run w.run l ≡ o → IsPlace (turn_after w next l o).1 → Gives l o
+  by_run l (Some g) e h q =
+      gap-run (walk_of w held) g p (run-is w.run l g h) (ap (ended_run w.run) e ∙ h)
+  by_run End None e h q = (
+    refl,
+    e,
+    record {
+      begun = (told (walk_of w held) End e).1;
+      none = gaps-end (walk_of w held) e (no-run w.run End tt h);
+    },
+  )
+  by_run BlockEnd None e h q = (
+    step-begin (walk_of w held) p (told (walk_of w held) BlockEnd e) (no-run w.run BlockEnd tt h)
+        q.longest,
+    e,
+    refl,
+  )
+  by_run Passed None e h q =
+      (step-pass (walk_of w held) p (told (walk_of w held) Passed e), e, refl)
+  by_run Fitting None e h q = (
+    step-take (walk_of w held) p (told (walk_of w held) Fitting e) (no-run w.run Fitting tt h),
+    e,
+    refl,
+  )
+  by_run (Wanted r) None e h q =
+      (step-want (walk_of w held) r p (told (walk_of w held) (Wanted r) e) h, (r, e, refl))
   by_run NotHeld None e h q =
-      subst (λ u. GivesGap (walk_of w held) (record { sbn = w.sbn; first = w.esi; last = u - 1; reason = Missing }) (walk_of (record w { esi = u }) held)) (sym (until-same w.sbn w.size held next n))
+      subst (λ u. GivesGap (walk_of w held) (record {
+        sbn = w.sbn;
+        first = w.esi;
+        last = u - 1;
+        reason = Missing;
+      }) (walk_of (record w { esi = u }) held)) (sym (until-same w.sbn w.size held next n))
       (gap-missing (walk_of w held) p (no-run w.run NotHeld tt h) e)
 
   -- a turn, given the next held symbol
-  pub turn-turns : IsPlace (turn_of w next).1 → TurnsTo (walk_of w held) (turn_of w next).0 (walk_of (turn_of w next).1 (held_after (turn_of w next).0 held))
+  pub turn-turns : IsPlace (turn_of w next).1
+      → TurnsTo (walk_of w held) (turn_of w next).0
+      (walk_of (turn_of w next).1 (held_after (turn_of w next).0 held))
   unfolding turn_of
-  turn-turns q = by_run (upcoming_at w next) (ended_run w.run (upcoming_at w next)) (sym upcoming-same) refl q
+  turn-turns q =
+      by_run (upcoming_at w next) (ended_run w.run (upcoming_at w next)) (sym upcoming-same) refl q
 
 -- ---- the parts of a turn
 
-pub turn-ended : (w : PartitionScan) (next : Option (SymbolId × Option ℕ)) (g : Gap) → ended_run w.run (upcoming_at w next) ≡ Some g → (Some (Turn.Gap g), record w { run = None }) ≡ turn_of w next
+pub turn-ended : (w : PartitionScan) (next : Option (SymbolId × Option ℕ)) (g : Gap)
+    → ended_run w.run (upcoming_at w next) ≡ Some g
+    → (Some (Turn.Gap g), record w { run = None }) ≡ turn_of w next
 unfolding turn_of
 turn-ended w next g h = sym (ap (turn_after w next (upcoming_at w next)) h)
 
-pub turn-at : (w : PartitionScan) (next : Option (SymbolId × Option ℕ)) (l : Upcoming) → upcoming_at w next ≡ l → ended_run w.run (upcoming_at w next) ≡ None → turn_on w next l ≡ turn_of w next
+pub turn-at : (w : PartitionScan) (next : Option (SymbolId × Option ℕ)) (l : Upcoming)
+    → upcoming_at w next ≡ l → ended_run w.run (upcoming_at w next) ≡ None
+    → turn_on w next l ≡ turn_of w next
 unfolding turn_of
 turn-at w next l e h = sym (ap (turn_after w next (upcoming_at w next)) h ∙ ap (turn_on w next) e)
 
@@ -92,33 +133,62 @@ step-keeps v (Some (Turn.Gap g)) w s h = absurd s
 step-keeps v (Some Turn.End) w s h = absurd s
 step-keeps v t w s h = h.0
 
-walked : (v : HeldScan) (next : Option (SymbolId × Option ℕ)) (t : Option Turn) (x : PartitionScan) → IsHeldScan v → ShowsNext v.held next → (t, x) ≡ turn_of v.walk next → IsPlace x → TurnsTo (walk_in v) t (walk_of x (held_after t v.held))
+walked : (v : HeldScan) (next : Option (SymbolId × Option ℕ)) (t : Option Turn) (x : PartitionScan)
+    → IsHeldScan v → ShowsNext v.held next → (t, x) ≡ turn_of v.walk next → IsPlace x
+    → TurnsTo (walk_in v) t (walk_of x (held_after t v.held))
 walked v next t x p n e q =
-    subst (λ (r : Option Turn × PartitionScan). TurnsTo (walk_in v) r.0 (walk_of r.1 (held_after r.0 v.held))) (sym e)
-    (turn-turns v.walk v.held next n p.walk (subst (λ (r : Option Turn × PartitionScan). IsPlace r.1) e q))
+    subst (λ (r : Option Turn × PartitionScan). TurnsTo (walk_in v) r.0
+    (walk_of r.1 (held_after r.0 v.held))) (sym e)
+    (turn-turns v.walk v.held next n p.walk
+    (subst (λ (r : Option Turn × PartitionScan). IsPlace r.1) e q))
 
 last-ended : (b : Bool) (t r : ℕ) → t + last_tick b + r + 0 ≡ t + r + last_tick b
 last-ended b t r = omega arith
 
 module _ (v : HeldScan) (x : PartitionScan) (p : IsHeldScan v) (q : IsPlace x) where
-  stepped : (t : Option Turn) (w : HeldScan) → Steps t → w.walk ≡ x → w.ticks ≡ v.ticks + 1 → w.ended ≡ v.ended → TurnsTo (walk_in v) t (walk_in w) → IsHeldScan w × (bound w ≡ bound v)
+  stepped : (t : Option Turn) (w : HeldScan) → Steps t → w.walk ≡ x → w.ticks ≡ v.ticks + 1
+      → w.ended ≡ v.ended → TurnsTo (walk_in v) t (walk_in w) → IsHeldScan w × (bound w ≡ bound v)
   stepped t w s e k d h =
       let keeps = step-keeps (walk_in v) t (walk_in w) s h in
-      let b : bound w ≡ bound v = (λ i. k i + remaining (walk_in w) + last_tick (d i)) ∙ omega arith in
+      let b : bound w ≡ bound v =
+      (λ i. k i + remaining (walk_in w) + last_tick (d i)) ∙ omega arith in
       (record { walk = keeps.walk; place = subst IsPlace (sym e) q; few = omega (arith, b) }, b)
 
-  turned : (t : Option Turn) → TurnsTo (walk_in v) t (walk_of x (held_after t v.held)) → Turns v t (counted t (record v { walk = x }))
+  turned : (t : Option Turn) → TurnsTo (walk_in v) t (walk_of x (held_after t v.held))
+      → Turns v t (counted t (record v { walk = x }))
   turned (Some (Turn.Gap g)) h =
-      let b : bound (record v { walk = x }) ≡ bound v = λ i. v.ticks + remaining (record (walk_in v) { begun = h.begun_is i; partition = h.partition_is i }) + last_tick v.ended in
-      record { turns = h; walk = record { walk = h.walk; place = q; few = omega (arith, b) }; bound_is = b; ticks = refl }
+      let b : bound (record v {
+        walk =
+            x;
+      }) ≡ bound v =
+      λ i. v.ticks + remaining (record (walk_in v)
+      { begun = h.begun_is i; partition = h.partition_is i }) + last_tick v.ended in
+      record {
+        turns = h;
+        walk = record { walk = h.walk; place = q; few = omega (arith, b) };
+        bound_is = b;
+        ticks = refl;
+      }
   turned (Some Turn.End) h =
       let w : HeldScan = with_end (record v { walk = x }) in
-      let b : bound w ≡ bound v = last-ended v.ended v.ticks (remaining (walk_of x v.held)) ∙ ap (λ (y : Walk). v.ticks + remaining y + last_tick v.ended) h.0 in
-      record { turns = h; walk = record { walk = subst IsWalk (sym h.0) p.walk; place = q; few = omega (arith, b) }; bound_is = b; ticks = refl }
-  turned t h = let s = stepped t (counted t (record v { walk = x })) tt refl refl refl h in record { turns = h; walk = s.0; bound_is = s.1; ticks = refl }
+      let b : bound w ≡ bound v =
+      last-ended v.ended v.ticks (remaining (walk_of x v.held))
+      ∙ ap (λ (y : Walk). v.ticks + remaining y + last_tick v.ended) h.0 in
+      record {
+        turns = h;
+        walk = record { walk = subst IsWalk (sym h.0) p.walk; place = q; few = omega (arith, b) };
+        bound_is = b;
+        ticks = refl;
+      }
+  turned t h =
+      let s = stepped t (counted t (record v { walk = x })) tt refl refl refl h in
+      record { turns = h; walk = s.0; bound_is = s.1; ticks = refl }
 
-pub held-turn : (v : HeldScan) (next : Option (SymbolId × Option ℕ)) (t : Option Turn) (x : PartitionScan) (w : HeldScan) → IsHeldScan v → ShowsNext v.held next → (t, x) ≡ turn_of v.walk next → IsPlace x → w ≡ counted t (record v { walk = x }) → Turns v t w
-held-turn v next t x w p n e q h = subst (Turns v t) (sym h) (turned v x p q t (walked v next t x p n e q))
+pub held-turn : {v : HeldScan} (next : Option (SymbolId × Option ℕ)) {t : Option Turn}
+    {x : PartitionScan} {w : HeldScan} → IsHeldScan v → ShowsNext v.held next
+    → (t, x) ≡ turn_of v.walk next → IsPlace x → w ≡ counted t (record v { walk = x }) → Turns v t w
+held-turn {v} next {t} {x} p n e q h =
+    subst (Turns v t) (sym h) (turned v x p q t (walked v next t x p n e q))
 
 ticked : (v w : HeldScan) (t : Option Turn) → Steps t → Turns v t w → w.ticks ≡ v.ticks + 1
 ticked v w (Some (Turn.Gap g)) s h = absurd s
@@ -127,17 +197,30 @@ ticked v w t s h = h.ticks
 
 -- ---- the start
 
-pub start-walk : (info : Information) (held : List Entry) → IsOrdered symbol_id_cmp held → EachValue IsKnown held → IsWalk (at_start info held)
+pub start-walk : (info : Information) (held : List Entry) → IsOrdered symbol_id_cmp held
+    → EachValue IsKnown held → IsWalk (at_start info held)
 start-walk info held o k = search rules
 
-pub start-held : (info : Information) (held : List Entry) (w : PartitionScan) (left : List Entry) → walk_of w left ≡ at_start info held → IsPlace w → IsOrdered symbol_id_cmp held → EachValue IsKnown held → length held < 2 ^ 32 → IsHeldScan (record { walk = w; held = left; ticks = 0; ended = false })
-start-held info held w left e q o k f =
+pub start-held : (info : Information) (held : List Entry) {w : PartitionScan} (left : List Entry)
+    → walk_of w left ≡ at_start info held → IsPlace w → IsOrdered symbol_id_cmp held
+    → EachValue IsKnown held → length held < 2 ^ 32 → IsHeldScan (record {
+      walk = w;
+      held = left;
+      ticks = 0;
+      ended = false;
+    })
+start-held info held left e q o k f =
     let n : length left ≡ length held = ap (λ (y : Walk). length y.held) e in
-    record { walk = subst IsWalk (sym e) (start-walk info held o k); place = q; few = omega (arith, n, f) }
+    record {
+      walk = subst IsWalk (sym e) (start-walk info held o k);
+      place = q;
+      few = omega (arith, n, f);
+    }
 
 -- ---- some turns
 
-pub keeps-step : (u v w : HeldScan) (t : Option Turn) → Steps t → KeepsGaps u v → Turns v t w → KeepsGaps u w
+pub keeps-step : (u v w : HeldScan) (t : Option Turn) → Steps t → KeepsGaps u v → Turns v t w
+    → KeepsGaps u w
 keeps-step u v w t s k h =
     let l = step-keeps (walk_in v) t (walk_in w) s h.turns in
     record {

@@ -1,6 +1,7 @@
 -- What comes next on a walk, and what is left then.
-use Rattle.std.proofs.Common.{rules}
-use Rattle.std.proofs.Common.{◌≡◌, ◌≢◌, ℕ, ◌+◌, ◌<◌, ◌≤◌, cond, List, [], ◌∷◌, ◌++◌, length, drop, Option, Some, None, refl, sym, ap, ◌∙◌, subst, inl, inr, arith, append_assoc, ◌-◌}
+use Rattle.std.proofs.Common.{rules, ◌≡◌, ◌≢◌, ℕ, ◌+◌, ◌<◌, ◌≤◌, cond, List, [], ◌∷◌, ◌++◌, length}
+use Rattle.std.proofs.Common.{drop, Option, Some, None, refl, sym, ap, ◌∙◌, subst, inl, inr, arith}
+use Rattle.std.proofs.Common.{append_assoc, ◌-◌}
 use Rattle.flute_store.proofs.Lookups.{Above, Later, above-before, above-block, later-blocks}
 use Rattle.flute_store.proofs.Lookups.{block_from-first, block_from-end, blocks_from-next, Entry}
 use Rattle.flute_store.proofs.Lookups.{wanted-past, wanted-here}
@@ -49,22 +50,33 @@ tells-wanted : (w : Walk) (o : Option Reason) → AtHere w o → Tells w (upcomi
 tells-wanted w None h = h
 tells-wanted w (Some r) h = h
 
-tells-held : (w : Walk) (held : List Entry) → w.held ≡ held → w.esi ≢ w.size → Tells w (upcoming_held w.partition (here w) held)
+tells-held : (w : Walk) (held : List Entry) → w.held ≡ held → w.esi ≢ w.size
+    → Tells w (upcoming_held w.partition (here w) held)
 tells-held w [] h i = (i, subst (FirstAfter (here w)) (sym h) tt)
 tells-held w (e ∷ es) h i = by_order (symbol_id_cmp e.0 (here w)) refl
   where
-    by_order : (o : Ordering) → symbol_id_cmp e.0 (here w) ≡ o → Tells w (match_ordering o Passed (upcoming_wanted (want_cell w.partition e.0 (Some e.1))) NotHeld)
+    by_order : (o : Ordering) → symbol_id_cmp e.0 (here w) ≡ o
+        → Tells w (match_ordering o Passed (upcoming_wanted (want_cell w.partition e.0 (Some e.1)))
+        NotHeld)
     by_order Less l = record { inside = i; first = e; others = es; held = h; before = l }
     by_order Equal l =
         let p = symbol_id_place e.0 (here w) l in
-        tells-wanted w (want_cell w.partition e.0 (Some e.1)) (record { inside = i; first = e; others = es; held = h; at_here = p; why_is = ap (λ x. want_cell w.partition x (Some e.1)) (sym p) })
+        tells-wanted w (want_cell w.partition e.0 (Some e.1)) (record {
+          inside = i;
+          first = e;
+          others = es;
+          held = h;
+          at_here = p;
+          why_is = ap (λ x. want_cell w.partition x (Some e.1)) (sym p);
+        })
     by_order Greater l = (i, subst (FirstAfter (here w)) (sym h) l)
 
 -- what comes next where a block ends, where the last one does, and within one
-pub by-place : (esi size begun blocks : ℕ) (l : Upcoming) (P : Upcoming → Type 0)
-    → (esi ≢ size → P l) → (esi ≡ size → begun ≡ blocks → P End) → (esi ≡ size → begun ≢ blocks → P BlockEnd)
+pub by-place : (esi size begun blocks : ℕ) {l : Upcoming} (P : Upcoming → Type 0)
+    → (esi ≢ size → P l) → (esi ≡ size → begun ≡ blocks → P End)
+    → (esi ≡ size → begun ≢ blocks → P BlockEnd)
     → P (cond (esi == size) (cond (begun == blocks) End BlockEnd) l)
-by-place esi size begun blocks l P i e b = elim (cases_Bool (esi == size)) [
+by-place esi size begun blocks P i e b = elim (cases_Bool (esi == size)) [
   | inr f ↦ rw f (i (eqb-false esi size f))
   | inl t ↦ rw t (elim (cases_Bool (begun == blocks)) [
     | inl u ↦ rw u (e (eqb-true esi size t) (eqb-true begun blocks u))
@@ -75,7 +87,7 @@ by-place esi size begun blocks l P i e b = elim (cases_Bool (esi == size)) [
 pub told : (w : Walk) (l : Upcoming) → upcoming_of w ≡ l → Tells w l
 unfolding upcoming_of
 told w l h =
-    subst (Tells w) h (by-place w.esi w.size w.begun (length (sizes w.partition)) _ (Tells w)
+    subst (Tells w) h (by-place w.esi w.size w.begun (length (sizes w.partition)) (Tells w)
     (tells-held w w.held refl) (λ e f. (e, f)) (λ e f. (e, f)))
 
 -- ---- the symbols that are left
@@ -84,31 +96,40 @@ abbrev pub others_left : Walk → List SymbolId
 others_left w = block_from w.sbn (w.esi + 1) w.size ++ blocks_from w.partition w.begun
 
 pub symbols-first : (w : Walk) → w.esi < w.size → symbols_left w ≡ here w ∷ others_left w
-symbols-first w l = ap (λ xs. xs ++ blocks_from w.partition w.begun) (block_from-first w.sbn w.esi w.size l)
+symbols-first w l =
+    ap (λ xs. xs ++ blocks_from w.partition w.begun) (block_from-first w.sbn w.esi w.size l)
 
-pub blocks-later : (w : Walk) → IsWalk w → 0 < w.size → Later w.sbn (blocks_from w.partition w.begun)
-blocks-later w p l = let e = p.in_block l in later-blocks w.partition w.sbn w.begun (omega (arith, e))
+pub blocks-later : (w : Walk) → IsWalk w → 0 < w.size
+    → Later w.sbn (blocks_from w.partition w.begun)
+blocks-later w p l =
+    let e = p.in_block l in later-blocks w.partition w.sbn w.begun (omega (arith, e))
 
 pub others-above : (w : Walk) → IsWalk w → w.esi < w.size → Above (here w) (others_left w)
-others-above w p l = above-block w.sbn w.esi w.size (blocks_from w.partition w.begun) (blocks-later w p (omega (arith, l)))
+others-above w p l =
+    above-block w.sbn w.esi w.size (blocks_from w.partition w.begun)
+    (blocks-later w p (omega (arith, l)))
 
 pub inside-less : (w : Walk) → IsWalk w → w.esi ≢ w.size → w.esi < w.size
 inside-less w p i = let l = p.within in omega (arith, l, i)
 
 -- ---- steps
 
-held-ordered : (held : List Entry) (e : Entry) (es : List Entry) → held ≡ e ∷ es → IsOrdered symbol_id_cmp held → IsOrdered symbol_id_cmp (drop 1 held)
+held-ordered : (held : List Entry) (e : Entry) (es : List Entry) → held ≡ e ∷ es
+    → IsOrdered symbol_id_cmp held → IsOrdered symbol_id_cmp (drop 1 held)
 held-ordered held e es h s = rw h (sorted_tail symbol_id_cmp e.0 (keys_of es) (rw h at s))
 
-held-known : (held : List Entry) (e : Entry) (es : List Entry) → held ≡ e ∷ es → EachValue IsKnown held → EachValue IsKnown (drop 1 held)
+held-known : (held : List Entry) (e : Entry) (es : List Entry) → held ≡ e ∷ es
+    → EachValue IsKnown held → EachValue IsKnown (drop 1 held)
 held-known held e es h k = rw h ((rw h at k).1)
 
 -- the other held symbols stand behind the first
-pub sorted-first : (e : Entry) (es : List Entry) → IsOrdered symbol_id_cmp (e ∷ es) → Above e.0 (keys_of es)
+pub sorted-first : (e : Entry) (es : List Entry) → IsOrdered symbol_id_cmp (e ∷ es)
+    → Above e.0 (keys_of es)
 unfolding IsStrictlySortedBy
 sorted-first e es s = s.0
 
-behind-first : (w : Walk) (e : Entry) (es : List Entry) → w.held ≡ e ∷ es → e.0 ≡ here w → IsOrdered symbol_id_cmp w.held → IsBehind w.sbn (w.esi + 1 - 1) (drop 1 w.held)
+behind-first : (w : Walk) (e : Entry) (es : List Entry) → w.held ≡ e ∷ es → e.0 ≡ here w
+    → IsOrdered symbol_id_cmp w.held → IsBehind w.sbn (w.esi + 1 - 1) (drop 1 w.held)
 behind-first w e es h p s =
     let k : w.esi + 1 - 1 ≡ w.esi = omega arith in
     rw (k, h) (subst (λ id. Above id (keys_of es)) p (sorted-first e es (rw h at s)))
@@ -119,15 +140,24 @@ pub ahead-trans : (u v w : Walk) → IsAhead u v → IsAhead v w → IsAhead u w
 ahead-trans u v w a b =
     record {
       passed = a.passed ++ b.passed;
-      held_is = a.held_is ∙ ap (λ x. a.passed ++ x) b.held_is ∙ sym (append_assoc a.passed b.passed w.held);
+      held_is =
+          a.held_is ∙ ap (λ x. a.passed ++ x) b.held_is
+          ∙ sym (append_assoc a.passed b.passed w.held);
       onward = omega arith;
       partition_is = b.partition_is ∙ a.partition_is;
     }
 
-pub ahead-first : (w x : Walk) (e : Entry) (es : List Entry) → w.held ≡ e ∷ es → x.held ≡ drop 1 w.held → x.begun ≡ w.begun → x.partition ≡ w.partition → IsAhead w x
-ahead-first w x e es h d b p = record { passed = e ∷ []; held_is = rw (d, h); onward = omega (arith, b); partition_is = p }
+pub ahead-first : (w x : Walk) (e : Entry) (es : List Entry) → w.held ≡ e ∷ es
+    → x.held ≡ drop 1 w.held → x.begun ≡ w.begun → x.partition ≡ w.partition → IsAhead w x
+ahead-first w x e es h d b p = record {
+  passed = e ∷ [];
+  held_is = rw (d, h);
+  onward = omega (arith, b);
+  partition_is = p;
+}
 
-step-behind : (w : Walk) (t : AtPassed w) → IsBehind w.sbn (w.esi - 1) w.held → IsBehind w.sbn (w.esi - 1) (drop 1 w.held)
+step-behind : (w : Walk) (t : AtPassed w) → IsBehind w.sbn (w.esi - 1) w.held
+    → IsBehind w.sbn (w.esi - 1) (drop 1 w.held)
 step-behind w t b = rw t.held ((rw t.held at b).1)
 
 pub step-pass : (w : Walk) → IsWalk w → AtPassed w → Keeps w (after_pass w)
@@ -143,7 +173,11 @@ step-pass w p t =
       ahead = ahead-first w (after_pass w) t.first t.others t.held refl refl refl;
       left_is =
           let a = above-before t.first.0 (here w) (others_left w) t.before (others-above w p l) in
-          rw (t.held, symbols-first w l, wanted-past w.partition t.first t.others (here w ∷ others_left w) (t.before, a));
+          rw (
+            t.held,
+            symbols-first w l,
+            wanted-past w.partition t.first t.others (here w ∷ others_left w) (t.before, a),
+          );
       fewer = rw t.held (omega arith);
     }
 
@@ -151,7 +185,8 @@ step-pass w p t =
 abbrev pub taken : Option Gap → Walk → Walk
 taken run w = record w { held = drop 1 w.held; esi = w.esi + 1; run = run }
 
-pub taken-walk : (run : Option Gap) (w : Walk) (why : Option Reason) → IsWalk w → AtHere w why → EndsBefore w.sbn (w.esi + 1) run → IsWalk (taken run w)
+pub taken-walk : (run : Option Gap) (w : Walk) (why : Option Reason) → IsWalk w → AtHere w why
+    → EndsBefore w.sbn (w.esi + 1) run → IsWalk (taken run w)
 taken-walk run w why p t r =
     let l = inside-less w p t.inside in
     let inside : w.esi + 1 ≤ w.size = omega (arith, l) in
@@ -161,18 +196,28 @@ taken-walk run w why p t r =
       behind-first w t.first t.others t.held t.at_here p.ordered,
     )
 
-pub taken-left : (run : Option Gap) (w : Walk) (why : Option Reason) → IsWalk w → AtHere w why → left w ≡ cons_option (option_map (with_reason (here w)) why) (left (taken run w))
+pub taken-left : (run : Option Gap) (w : Walk) (why : Option Reason) → IsWalk w → AtHere w why
+    → left w ≡ cons_option (option_map (with_reason (here w)) why) (left (taken run w))
 unfolding left
 taken-left run w why p t =
     let l = inside-less w p t.inside in
-    let h = wanted-here w.partition t.first t.others (here w) (others_left w) t.at_here (others-above w p l) in
+    let h =
+    wanted-here w.partition t.first t.others (here w) (others_left w) t.at_here
+    (others-above w p l) in
     rw (t.held, symbols-first w l, h, t.why_is)
 
-pub taken-keeps : (run : Option Gap) (w : Walk) (why : Option Reason) → IsWalk w → AtHere w why → EndsBefore w.sbn (w.esi + 1) run → pending run ++ left (taken run w) ≡ pending w.run ++ left w → Keeps w (taken run w)
+pub taken-keeps : (run : Option Gap) (w : Walk) (why : Option Reason) → IsWalk w → AtHere w why
+    → EndsBefore w.sbn (w.esi + 1) run → pending run ++ left (taken run w) ≡ pending w.run ++ left w
+    → Keeps w (taken run w)
 taken-keeps run w why p t r e =
     let l = inside-less w p t.inside in
     let a = ahead-first w (taken run w) t.first t.others t.held refl refl refl in
-    record { walk = taken-walk run w why p t r; left_is = e; fewer = rw t.held (omega arith); ahead = a }
+    record {
+      walk = taken-walk run w why p t r;
+      left_is = e;
+      fewer = rw t.held (omega arith);
+      ahead = a;
+    }
 
 pub step-take : (w : Walk) → IsWalk w → AtHere w None → w.run ≡ None → Keeps w (after_take w)
 step-take w p t r =
@@ -181,9 +226,12 @@ step-take w p t r =
 
 -- where the block has no symbol left, those of the other blocks are
 pub symbols-end : (w : Walk) → w.esi ≡ w.size → symbols_left w ≡ blocks_from w.partition w.begun
-symbols-end w e = ap (λ k. block_from w.sbn k w.size ++ blocks_from w.partition w.begun) e ∙ ap (λ xs. xs ++ blocks_from w.partition w.begun) (block_from-end w.sbn w.size)
+symbols-end w e =
+    ap (λ k. block_from w.sbn k w.size ++ blocks_from w.partition w.begun) e
+    ∙ ap (λ xs. xs ++ blocks_from w.partition w.begun) (block_from-end w.sbn w.size)
 
-pub step-begin : (w : Walk) → IsWalk w → Tells w BlockEnd → w.run ≡ None → (after_begin w).size ≤ 65536 → Keeps w (after_begin w)
+pub step-begin : (w : Walk) → IsWalk w → Tells w BlockEnd → w.run ≡ None
+    → (after_begin w).size ≤ 65536 → Keeps w (after_begin w)
 unfolding left
 step-begin w p t r s =
     let l : w.begun < length (sizes w.partition) = omega arith in
@@ -191,15 +239,21 @@ step-begin w p t r s =
     record {
       walk = search (rules, p.ordered, p.known, s, running, l);
       ahead = record { passed = []; held_is = refl; onward = omega arith; partition_is = refl };
-      left_is = ap (λ xs. pending w.run ++ wanted w.partition w.held xs) (sym (blocks_from-next w.partition w.begun l) ∙ sym (symbols-end w t.0));
+      left_is =
+          ap (λ xs. pending w.run ++ wanted w.partition w.held xs)
+          (sym (blocks_from-next w.partition w.begun l) ∙ sym (symbols-end w t.0));
       fewer = omega (arith, l);
     }
 
 -- ---- what comes next, from its parts
 
-pub upcoming-end : (w : Walk) → w.esi ≡ w.size → w.begun ≡ length (sizes w.partition) → End ≡ upcoming_of w
+pub upcoming-end : (w : Walk) → w.esi ≡ w.size → w.begun ≡ length (sizes w.partition)
+    → End ≡ upcoming_of w
 unfolding upcoming_of
-upcoming-end w e f = sym (ap (λ b. cond b (cond (w.begun == length (sizes w.partition)) End BlockEnd) (upcoming_held w.partition (here w) w.held)) (eq-eqb w.esi w.size e) ∙ ap (λ b. cond b End BlockEnd) (eq-eqb w.begun (length (sizes w.partition)) f))
+upcoming-end w e f =
+    sym (ap (λ b. cond b (cond (w.begun == length (sizes w.partition)) End BlockEnd)
+    (upcoming_held w.partition (here w) w.held)) (eq-eqb w.esi w.size e)
+    ∙ ap (λ b. cond b End BlockEnd) (eq-eqb w.begun (length (sizes w.partition)) f))
 
 pub block-left : (w : Walk) → IsWalk w → Tells w BlockEnd → w.begun < length (sizes w.partition)
 block-left w p t = let c = p.begun in let d = t.1 in omega (arith, c, d)

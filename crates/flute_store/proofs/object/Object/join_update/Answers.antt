@@ -1,21 +1,28 @@
 use Rattle.std.proofs.Common.{◌≡◌, ◌≢◌, None, ℕ}
 use Rattle.flute_store.proofs.Common
-use Common.{err_from_is_err_and, Absent, same_information, symbol_id_total, symbol_id_place, Object}
-use Common.{Update, object_join, symbols_join, cells, update_object, update_symbols, AreSymbols}
-use Common.{IsObject}
-use Rattle.flute_store.proofs.OnePair.{absent-right, some-right, update-some}
+use Common.{err_from_is_err_and, Absent, same_information, Object, Update, object_join}
+use Common.{symbols_join, update_object, update_symbols, AreSymbols, IsObject}
+use Rattle.flute_store.proofs.OnePair.{symbols_joined, absent-right, some-right, update-some}
 use Rattle.flute_store.proofs.object.Object.join_update.Goals as goal
 
-sound : (n : ℕ) (x : Object n) (update : Update) → (update.info ≡ Absent → update.symbol ≢ None) → AreSymbols n (symbols_join x.symbols (update_symbols update.symbol)) → IsObject (object_join x (update_object update))
+sound : (n : ℕ) (x : Object n) (update : Update) → (update.info ≡ Absent → update.symbol ≢ None)
+    → AreSymbols n (symbols_join x.symbols (update_symbols update.symbol))
+    → IsObject (object_join x (update_object update))
 sound n x update some are = record {
   symbols_are = are;
-  some = λ e. some-right symbol_id_total symbol_id_place cells x.symbols (update_symbols update.symbol) (update-some update.symbol (some (absent-right same_information x.info update.info e)));
+  some =
+      λ e. some-right symbols_joined x.symbols (update_symbols update.symbol)
+      (update-some update.symbol (some (absent-right same_information x.info update.info e)));
 }
 
 pub returns-in_err-join_symbols-clause-room : goal.returns-in_err-join_symbols-clause-room
 returns-in_err-join_symbols-clause-room g c =
     let refused = err_from_is_err_and c.from_residual.result c.from_residual.ensures.1 in
-    rw (refused.1, refused.2) (λ n. sound g.row.SYMBOLS c.args.self.now c.args.update c.requires.update.some (c.in_err-join_symbols.ensures.room n))
+    rw (refused.1, refused.2)
+    (λ n. sound g.row.SYMBOLS c.args.self.now c.args.update c.requires.update.some
+    (c.in_err-join_symbols.ensures.room n))
 
 pub returns-clause-room : goal.returns-clause-room
-returns-clause-room g c = λ n. sound g.row.SYMBOLS c.args.self.now c.args.update c.requires.update.some (c.in_ok-join_symbols.ensures.room (λ e. cc))
+returns-clause-room g c =
+    λ n. sound g.row.SYMBOLS c.args.self.now c.args.update c.requires.update.some
+    (c.in_ok-join_symbols.ensures.room (λ e. cc))

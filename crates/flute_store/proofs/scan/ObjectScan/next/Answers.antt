@@ -11,7 +11,8 @@ returns-in-Some-clause-blocks c = begins-more _ _ _ c.loop-turn.invariant.1 c.in
 
 pub loop-turn-preserved : goal.loop-turn-preserved
 loop-turn-preserved c = (
-  λ s q f g. c.in_default.ensures.step s c.args.next c.held_next-held.ensures (c.loop-turn.invariant.0 s q f g) f,
+  λ s q f g. c.in_default.ensures.step s c.args.next c.held_next-held.ensures
+      (c.loop-turn.invariant.0 s q f g) f,
   begins-more _ _ _ c.loop-turn.invariant.1 c.in_default.ensures.blocks,
 )
 

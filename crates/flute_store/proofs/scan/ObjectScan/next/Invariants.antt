@@ -5,7 +5,8 @@ use Rattle.flute_store.proofs.scan.ObjectScan.next.Given as goal
 
 abbrev pub invariant-loop-turn : goal.invariant-loop-turn
 invariant-loop-turn l =
-    ((s : Scanned) → Scans l.initial.self s → CanFollow s l.fn.next → CanCome s l.fn.next → Scans l.self (announced s l.fn.next))
+    ((s : Scanned) → Scans l.initial.self s → CanFollow s l.fn.next → CanCome s l.fn.next
+    → Scans l.self (announced s l.fn.next))
     × BeginsBlocks l.initial.self l.self
 
 abbrev pub decreases-loop-turn : goal.decreases-loop-turn

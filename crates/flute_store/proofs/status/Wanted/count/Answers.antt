@@ -3,7 +3,9 @@ use Rattle.flute_store.proofs.HowMany.{first-gap, counts-all, counts-few, counts
 use Rattle.flute_store.proofs.status.Wanted.count.Goals as goal
 
 pub add-requires-clause-order : goal.add-requires-clause-order
-add-requires-clause-order c = (first-gap _ _ _ _ _ c.in-Some.ensures.steps c.loop-gap.invariant.0 c.loop-gap.invariant.1).order
+add-requires-clause-order c =
+    (first-gap _ _ _ _ _ c.in-Some.ensures.steps c.loop-gap.invariant.0
+    c.loop-gap.invariant.1).order
 
 pub add-requires-clause-missing : goal.add-requires-clause-missing
 add-requires-clause-missing c = (counts-few _ _ _ c.loop-gap.invariant.1 c.requires.few).0
@@ -16,8 +18,12 @@ add-requires-clause-misfit c = (counts-few _ _ _ c.loop-gap.invariant.1 c.requir
 
 pub loop-gap-preserved : goal.loop-gap-preserved
 loop-gap-preserved c =
-    let f = first-gap _ _ _ _ _ c.in-Some.ensures.steps c.loop-gap.invariant.0 c.loop-gap.invariant.1 in
-    (f.runs_are, counts-more c.in-Some.gap c.loop-gap.wanted c.add.new.self (flat_map listed c.args.gaps.gaps) (flat_map listed c.next.new.self.gaps) f.counted c.add.ensures)
+    let f =
+    first-gap _ _ _ _ _ c.in-Some.ensures.steps c.loop-gap.invariant.0 c.loop-gap.invariant.1 in (
+      f.runs_are,
+      counts-more c.in-Some.gap c.loop-gap.wanted c.add.new.self (flat_map listed c.args.gaps.gaps)
+          (flat_map listed c.next.new.self.gaps) f.counted c.add.ensures,
+    )
 
 pub returns : goal.returns
 returns c = counts-all _ _ (rw c.in_default.ensures.steps.0 at c.loop-gap.invariant.1)

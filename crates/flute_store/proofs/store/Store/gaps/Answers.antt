@@ -3,5 +3,17 @@ use Rattle.flute_store.proofs.store.Store.gaps.Goals as goal
 
 pub returns-in-One : goal.returns-in-One
 returns-in-One g c =
-    gives-gaps c.args.self.now c.args.key.now c.in-Some.object.now c.in-One.info c.iter.result c.new.result c.in-Some.ensures c.in-One.is c.iter.ensures.rest
-    c.new.ensures.gaps c.new.ensures.held c.new.ensures.begun c.new.ensures.total c.new.ensures.ended c.new.ensures.ticks c.new.ensures.bound
+    gives-gaps c.new.result (record {
+      told = c.in-Some.ensures;
+      info_is = c.in-One.is;
+      held_is = c.iter.ensures.rest;
+      gaps_are = c.new.ensures.gaps;
+    })
+    (record {
+      held_is = c.new.ensures.held;
+      begun_is = c.new.ensures.begun;
+      blocks_are = c.new.ensures.total;
+      ended_is = c.new.ensures.ended;
+      ticks_are = c.new.ensures.ticks;
+      bound_is = c.new.ensures.bound;
+    })

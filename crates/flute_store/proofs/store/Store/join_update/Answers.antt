@@ -11,9 +11,12 @@ pub returns-clause-ok : goal.returns-clause-ok
 returns-clause-ok g c =
     let one = one-ordered g.row.SYMBOLS c.args.key.now c.args.update in
     let join = content-join _ _ (ordered-store _ _ _ c.self.invariant) one in
-    let both = content c.self.inside.sessions ++ content (one_object g.row.SYMBOLS c.args.key.now c.args.update) in
+    let both =
+    content c.self.inside.sessions ++ content
+    (one_object g.row.SYMBOLS c.args.key.now c.args.update) in
     rw (← c.self.view_is, ← one-content g.row.SYMBOLS c.args.key.now c.args.update)
-    (on_ok_weaker c.join_session.result (λ p. subst (λ m. Same (content m) both) (sym p) join) c.join_session.ensures.ok)
+    (on_ok_weaker c.join_session.result (λ p. subst (λ m. Same (content m) both) (sym p) join)
+    c.join_session.ensures.ok)
 
 is_full : (r : Result (Unit {0}) JoinRefusal) → ((r ≡ Err Full → ⊥) → ⊥) → r ≡ Err Full
 is_full (Ok x) h = absurd (h (λ e. cc))
@@ -28,14 +31,21 @@ returns-clause-full g c =
     let join = content-join old one (ordered-store _ _ _ c.self.invariant) ordered in
     let solid = solid-one g.row.SYMBOLS c.args.key.now c.args.update c.requires in
     rw (← c.self.view_is, ← one-content g.row.SYMBOLS c.args.key.now c.args.update) (
-      λ e. beyond-joined _ _ _ _ (solid-store _ _ _ c.self.invariant) solid (c.join_session.ensures.full e),
+      λ e. beyond-joined _ _ _ _ (solid-store _ _ _ c.self.invariant) solid
+          (c.join_session.ensures.full e),
       λ over. is_full c.join_session.result (λ h.
           let r = c.join_session.ensures.room h in
-          not_over g.row.SESSIONS g.row.OBJECTS (store_join old one) (record { ordered = r.ordered; within = r.within; each = r.each })
+          not_over g.row.SESSIONS g.row.OBJECTS (store_join old one) (record {
+            ordered = r.ordered;
+            within = r.within;
+            each = r.each;
+          })
           (Over-below _ _ _ _ _ (Below-from_Same _ _ (Same-sym _ _ join)) over)),
     )
 
 pub returns-clause-held : goal.returns-clause-held
 returns-clause-held g c =
-    let news = news_held _ _ _ c.self.invariant c.args.key.now c.args.update.info c.args.update.symbol c.requires.some in
+    let news =
+    news_held c.self.invariant c.args.key.now c.args.update.info c.args.update.symbol
+    c.requires.some in
     rw (← c.self.view_is) (λ h. c.join_session.ensures.held (news h))

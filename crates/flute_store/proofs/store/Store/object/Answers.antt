@@ -5,9 +5,10 @@ use Rattle.flute_store.proofs.store.Store.object.Goals as goal
 pub returns-in_err-objects : goal.returns-in_err-objects
 returns-in_err-objects g c =
     rw (← c.self.view_is, c.from_residual.ensures)
-    (unheard-session g.row.SESSIONS g.row.OBJECTS c.self.inside.sessions c.self.invariant c.args.key.now (sym c.in_err-objects.ensures.value))
+    (unheard-session c.self.invariant c.args.key.now (sym c.in_err-objects.ensures.value))
 
 pub returns : goal.returns
 returns g c =
     rw (← c.self.view_is)
-    (found-object g.row.SESSIONS g.row.OBJECTS c.self.inside.sessions c.self.invariant c.args.key.now c.in_ok-objects.objects.now (sym c.in_ok-objects.ensures.value) c.get-2.result c.get-2.ensures.value)
+    (found-object c.self.invariant c.args.key.now (sym c.in_ok-objects.ensures.value) c.get-2.result
+    c.get-2.ensures.value)

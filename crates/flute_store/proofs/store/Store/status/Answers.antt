@@ -12,5 +12,10 @@ count-wanted-requires-clause-few g c = few-wanted _ _ _ c.new.ensures.gaps c.new
 pub returns : goal.returns
 returns g c =
     subst (TellsStatus c.args.self.now c.args.key.now) (sym c.status.ensures)
-    (store-status c.args.self.now c.args.key.now c.in-Some.object.now c.in-One.info c.iter.result c.new.result.gaps c.count-wanted.result c.in-Some.ensures c.in-One.is c.iter.ensures.rest c.new.ensures.gaps c.count-wanted.ensures
-    _ c.length.ensures.value)
+    (store-status (record {
+      told = c.in-Some.ensures;
+      info_is = c.in-One.is;
+      held_is = c.iter.ensures.rest;
+      gaps_are = c.new.ensures.gaps;
+    })
+    c.count-wanted.result c.count-wanted.ensures _ c.length.ensures.value)
