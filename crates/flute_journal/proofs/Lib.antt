@@ -33,6 +33,8 @@ mod OwnedReads
 mod GoingOn
 mod LowestFacts
 mod LeadFacts
+mod RankFacts
+mod RankedStreams
 mod Finished
 mod WrittenSoFar
 mod StreamTurns

@@ -1,6 +1,11 @@
 -- The lowest address of facts, and what they come to there, fact by fact.
-use Rattle.flute_journal.proofs.Common.{Address, AllByRecursion, Behaviour, Equal, Fact, Greater, IsNotBefore, Key, Less, List, Lowest, Option, Ordering, Part, Some, StandAfter, [], address, address_cmp, address_itself, address_same, address_total, alone-at, alone-elsewhere, ap, append-nil, append_assoc, arith, conflict_at, conflict_in, fact_at, fact_at-after, fact_at-append, fact_same, false, get_or, get_or_from_slice_get, heads, is_eq, is_lt, joined, joined-apart, joined-none, joined-same, length, option_list, refl, rules, same_fact, slice_get, subst, sym, take, take_more, true, ℕ, ◌++◌, ◌+◌, ◌<◌, ◌∙◌, ◌∷◌, ◌≡◌, ◌≢◌}
+use Rattle.flute_journal.proofs.Common.{Bool, Info, InfoConflict, Symbol, SymbolConflict, SymbolId, bytes_eq, ◌&&◌, Address, AllByRecursion, Behaviour, Equal, Fact, Greater, IsNotBefore, Key, Less, List, Lowest, Option, Ordering, Part, Some, StandAfter, [], address, address_cmp, address_itself, address_same, address_total, alone-at, alone-elsewhere, ap, append-nil, append_assoc, arith, conflict_at, conflict_in, fact_at, fact_at-after, fact_at-append, fact_same, false, get_or, get_or_from_slice_get, heads, is_eq, is_lt, joined, joined-apart, joined-none, joined-same, length, option_list, refl, rules, same_fact, slice_get, subst, sym, take, take_more, true, ℕ, ◌++◌, ◌+◌, ◌<◌, ◌∙◌, ◌∷◌, ◌≡◌, ◌≢◌}
 use Rattle.flute_journal.proofs.{Each.{all_append, all_map}, GoingOn.{item_at}}
+use Rattle.flute_parts.specs.{
+  Equality.{key_itself, symbol_id_itself},
+  Facts.{same_information},
+  Order.{same_key, same_symbol_id},
+}
 use Rattle.flute_parts.specs.declared.address.Part.TheVariants.{Info as InfoPart, Symbol as SymbolPart}
 
 -- addresses
@@ -58,7 +63,7 @@ conflict-part : (key : Key) (part : Part) → address (conflict_in key part) ≡
 conflict-part key InfoPart = refl
 conflict-part key (SymbolPart id) = refl
 
-conflict-place : (a : Address) → address (conflict_at a) ≡ a
+pub conflict-place : (a : Address) → address (conflict_at a) ≡ a
 conflict-place a = conflict-part a.key a.part
 
 -- what stands at the lowest address, and one more fact
@@ -104,3 +109,41 @@ lowest_apart facts f g h equal apart =
       comes = ap (fact_at (facts ++ f ∷ [])) is ∙ with_more facts f g h e ∙ ap Some (joined-apart (address g) g f apart ∙ ap conflict_at (sym e));
       first = subst (λ x. AllByRecursion (IsNotBefore x) (facts ++ f ∷ [])) (sym is) (first_more facts f g h e);
     }
+
+-- the value of two facts at one address
+
+-- they tell the same of it
+abbrev pub same_value : Fact → Fact → Bool
+same_value (Info k i) (Info l j) = same_information i j
+same_value (InfoConflict k) (InfoConflict l) = true
+same_value (Symbol k i b) (Symbol l j c) = bytes_eq b c
+same_value (SymbolConflict k i) (SymbolConflict l j) = true
+same_value _ _ = false
+
+and_first : (a b : Bool) → a ≡ true → (a && b) ≡ b
+and_first a b h = ap (λ x. x && b) h
+
+key_alike : (k l : Key) → k ≡ l → same_key k l ≡ true
+key_alike k l e = subst (λ x. same_key k x ≡ true) e (key_itself k)
+
+id_alike : (i j : SymbolId) → SymbolPart i ≡ SymbolPart j → same_symbol_id i j ≡ true
+id_alike i j e =
+    let p : i ≡ j = cc in
+    subst (λ x. same_symbol_id i x ≡ true) p (symbol_id_itself i)
+
+same_keys : (f g : Fact) → address f ≡ address g → same_key (address f).key (address g).key ≡ true
+same_keys f g e = key_alike (address f).key (address g).key (ap (λ a. a.key) e)
+
+pub same_at : (f g : Fact) → address f ≡ address g → same_fact f g ≡ same_value f g
+same_at (Info k i) (Info l j) e =
+    and_first (same_key k l) (same_information i j) (same_keys (Info k i) (Info l j) e)
+same_at (InfoConflict k) (InfoConflict l) e = same_keys (InfoConflict k) (InfoConflict l) e
+same_at (Symbol k i b) (Symbol l j c) e =
+    and_first (same_key k l) (same_symbol_id i j && bytes_eq b c)
+    (same_keys (Symbol k i b) (Symbol l j c) e)
+    ∙ and_first (same_symbol_id i j) (bytes_eq b c) (id_alike i j (ap (λ a. a.part) e))
+same_at (SymbolConflict k i) (SymbolConflict l j) e =
+    and_first (same_key k l) (same_symbol_id i j)
+    (same_keys (SymbolConflict k i) (SymbolConflict l j) e)
+    ∙ id_alike i j (ap (λ a. a.part) e)
+same_at f g e = refl

@@ -26,6 +26,7 @@ pub mod Advances
 pub mod Lowest
 pub mod Changes
 pub mod Leads
+pub mod Ranks
 pub mod JournalWriters
 pub mod FirstFaults
 pub mod StreamMerges

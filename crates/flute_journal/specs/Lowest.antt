@@ -1,5 +1,5 @@
 -- The value of facts at the lowest of their addresses.
-use Rattle.std.specs.Prelude.{◌≡◌, ◌≢◌, List, [], Option, Some, None}
+use Rattle.std.specs.Prelude.{◌≡◌, ◌≢◌, List, [], Option, Some, None, IfSome}
 use Rattle.std.specs.List.{AllByRecursion}
 use Rattle.std.specs.declared.cmp.Ordering.TheVariants.{Greater}
 use Rattle.flute_parts.specs.Order.{address_cmp}
@@ -20,3 +20,9 @@ pub record Lowest (facts : List Fact) (g : Fact) : Type 0 where
 abbrev pub IsLowest : List Fact → Option Fact → Type 0
 IsLowest facts None = facts ≡ []
 IsLowest facts (Some g) = Lowest facts g
+
+-- the facts at that address come to this value, if any is there, and none of them is before that
+pub record ComesTo (a : Address) (facts : List Fact) (value : Option Fact) : Type 0 where
+  pub comes : fact_at facts a ≡ value
+  pub place : IfSome value (λ g. address g ≡ a)
+  pub first : AllByRecursion (IsNotBefore a) facts

@@ -1,5 +1,5 @@
 //! Streams that go on together.
-ghost use Rattle.std.specs.Prelude.{◌≡◌, ◌≢◌, ◌<◌, true, false, length, IfSome, IfOk, IfErr};
+ghost use Rattle.std.specs.Prelude.{◌≡◌, ◌≢◌, ◌<◌, true, false, length, IfOk, IfErr};
 ghost use Rattle.flute_journal.specs.Streams.{fact_in, place_of};
 ghost use Rattle.flute_journal.specs.Advances.{GoOnAt, StopsIn};
 
@@ -8,8 +8,16 @@ use crate::streams_fault::InputFault;
 use flute_parts::{Address, FactRef};
 use std::alloc::Global;
 
+/// Which streams were advanced.
+#[derive(Clone, Copy, Debug)]
+pub struct Advanced {
+    /// How many.
+    pub count: usize,
+    /// The number of the last of them. 0 if none was.
+    pub last: usize,
+}
+
 /// Advances each stream that holds a fact at this address, or each that holds none, in their order.
-/// Answers the number of the one that was advanced, if it was one only.
 ///
 /// # Errors
 ///
@@ -20,40 +28,31 @@ pub fn advance_at<G: Streams>(
     alloc: Global,
     streams: &mut G,
     place: Option<Address>,
-) -> Result<Option<usize>, InputFault>
+) -> Result<Advanced, InputFault>
     ensures go_on { IfOk result (λ _. GoOnAt G.Stream.behaviour place (G.streams streams.old)
         (G.streams streams.new)) }
-    ensures number { IfOk result (λ one. IfSome one
-        (λ number. number < length (G.streams streams.new))) }
+    ensures last { IfOk result (λ moved.
+        0 < moved.count → moved.last < length (G.streams streams.new)) }
     ensures stops { IfErr result
         (StopsIn G.Stream.behaviour place (G.streams streams.old) (G.streams streams.new)) }
     ensures names { G.names streams.new ≡ G.names streams.old }
 {
-    let mut one = None;
-    let mut any = false;
+    let mut moved = Advanced { count: 0, last: 0 };
     for number in 0..streams.count() {
         if is_at(&streams.head(number), &place) {
             if let Err(fault) = streams.advance(number, alloc) {
                 return Err(InputFault { number, fault });
             }
-            one = first_of(any, number);
-            any = true;
+            moved.count += 1;
+            moved.last = number;
         }
     }
-    Ok(one)
+    Ok(moved)
 }
 
-// This number, unless there was one before.
+/// Whether a stream that holds this is at this address, or holds nothing if there is none.
 #[inline(always)]
-fn first_of(any: bool, number: usize) -> Option<usize>
-    ensures { IfSome result (λ n. n ≡ number) }
-{
-    if any { None } else { Some(number) }
-}
-
-// Whether a stream that holds this is at this address, or holds nothing if there is none.
-#[inline(always)]
-fn is_at(head: &Option<FactRef<'_>>, place: &Option<Address>) -> bool
+pub fn is_at(head: &Option<FactRef<'_>>, place: &Option<Address>) -> bool
     ensures at { result ≡ true → place_of (fact_in head.now) ≡ place.now }
     ensures elsewhere { result ≡ false → place_of (fact_in head.now) ≢ place.now }
 {

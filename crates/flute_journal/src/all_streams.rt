@@ -13,6 +13,7 @@ ghost use Rattle.flute_journal.specs.StreamMerges.{MergedAll, AppendsPartOf, Rea
 use crate::advance::advance_at;
 use crate::journal_writer::JournalWriter;
 use crate::leading::Lead;
+use crate::ranks::Ranks;
 use crate::stopped::first_fault;
 use crate::stream::Stream;
 use crate::streams::{Slice, Streams};
@@ -182,14 +183,15 @@ fn merge_into<const SESSIONS: u32, const OBJECTS: u32, const SYMBOLS: u32, G: St
     let mut within = true;
     let mut entries = 0;
     let mut lead = Lead::new();
-    while let Some(fact) = lead.lowest(streams) {
+    let mut ranks = Ranks::new();
+    while let Some(fact) = lead.lowest(&ranks, streams) {
         writer.entry(&fact);
         if stops(writer, patient) {
             return Err(StreamsFault::Write);
         }
         let place = fact.address();
         within = count_place(&mut tally, within, &place);
-        if let Err(fault) = lead.advance::<G, W>(alloc, streams, place) {
+        if let Err(fault) = lead.advance::<G, W>(&mut ranks, alloc, streams, place) {
             return Err(StreamsFault::Input(fault));
         }
         entries += 1;

@@ -1,5 +1,6 @@
-//! The stream that holds a fact below all others, so that they needn't be looked at until it has
-//! passed the next address.
+//! What is known of the lowest address, so that not each stream has to be looked at: the stream
+//! that holds a fact below all others leads until it has passed the next address; and many streams
+//! have ranks if few at a time were advanced of late.
 ghost use Rattle.std.specs.Prelude.{◌≡◌, ◌<◌, true, false, Some, length, OnOk, IfErr};
 ghost use Rattle.std.specs.Ordering.{is_lt};
 ghost use Rattle.flute_parts.specs.Order.{address_cmp};
@@ -7,10 +8,12 @@ ghost use Rattle.flute_parts.specs.Addresses.{address, fact_of};
 ghost use Rattle.flute_journal.specs.Streams.{fact_in, place_of, heads};
 ghost use Rattle.flute_journal.specs.Lowest.{IsLowest};
 ghost use Rattle.flute_journal.specs.Leads.{Leads, IsBelowNext, StandsAt, lower_of, lower_next};
+ghost use Rattle.flute_journal.specs.Ranks.{IsLed, IsRanking};
 ghost use Rattle.flute_journal.specs.Advances.{GoOnAt, StopsIn};
 
 use crate::advance::advance_at;
 use crate::lowest::lowest_held;
+use crate::ranks::{MANY, MOST, Ranks};
 use crate::streams::Streams;
 use crate::streams_fault::InputFault;
 use flute_parts::{Address, FactRef, Sink};
@@ -42,24 +45,27 @@ impl Lead {
     /// The value of the facts that streams hold at the lowest of their addresses.
     /// None if none is held.
     #[inline(always)]
-    pub fn lowest<'a, G: Streams>(&self, streams: &'a G) -> Option<FactRef<'a>>
-        requires { self.now.known ≡ true
-            → Leads G.Stream.behaviour (G.streams streams.now) self.now.number self.now.next }
+    pub fn lowest<'a, G: Streams>(&self, ranks: &Ranks, streams: &'a G) -> Option<FactRef<'a>>
+        requires { IsLed G.Stream.behaviour (G.streams streams.now) self.now ranks.now }
         ensures lowest { IsLowest (heads G.Stream.behaviour (G.streams streams.now))
             (fact_in result) }
         ensures held { self.now.known ≡ true → StandsAt G.Stream.behaviour
             (place_of (fact_in result)) (G.streams streams.now) self.now.number }
     {
         if self.known {
-            streams.head(self.number)
-        } else {
-            lowest_held(streams)
+            return streams.head(self.number);
         }
+        if streams.count() >= MANY && ranks.are_known() {
+            if let Some(fact) = ranks.lowest_held(streams) {
+                return Some(fact);
+            }
+        }
+        lowest_held(streams)
     }
 
     /// Advances each stream that holds a fact at this address, the lowest, in their order, once it
     /// was written to a sink of the kind `W`: the loop of each kind has a step of its own, which is
-    /// inlined.
+    /// inlined. Streams that have ranks get new ones.
     ///
     /// # Errors
     ///
@@ -67,29 +73,71 @@ impl Lead {
     #[inline(always)]
     pub fn advance<G: Streams, W: Sink>(
         &mut self,
+        ranks: &mut Ranks,
         alloc: Global,
         streams: &mut G,
         place: Address,
     ) -> Result<(), InputFault>
-        requires leads { self.old.known ≡ true
-            → Leads G.Stream.behaviour (G.streams streams.old) self.old.number self.old.next }
+        requires led { IsLed G.Stream.behaviour (G.streams streams.old) self.old ranks.old }
         requires held { self.old.known ≡ true
             → StandsAt G.Stream.behaviour (Some place) (G.streams streams.old) self.old.number }
         ensures go_on { OnOk result (GoOnAt G.Stream.behaviour (Some place) (G.streams streams.old)
             (G.streams streams.new)) }
-        ensures leads { OnOk result (self.new.known ≡ true
-            → Leads G.Stream.behaviour (G.streams streams.new) self.new.number self.new.next) }
+        ensures led { OnOk result
+            (IsLed G.Stream.behaviour (G.streams streams.new) self.new ranks.new) }
         ensures stops { IfErr result (StopsIn G.Stream.behaviour (Some place)
             (G.streams streams.old) (G.streams streams.new)) }
         ensures names { G.names streams.new ≡ G.names streams.old }
     {
         if self.known {
-            self.follow(alloc, streams)?;
-        } else if let Some(number) = advance_at(alloc, streams, Some(place))? {
-            // of two streams each is looked at as fast as a lead
-            if streams.count() > 2 {
-                self.look(streams, number);
-            }
+            return self.follow(alloc, streams);
+        }
+        if streams.count() >= MANY {
+            return self.advance_many::<G, W>(ranks, alloc, streams, place);
+        }
+        ranks.forget();
+        let moved = advance_at(alloc, streams, Some(place))?;
+        // of two streams each is looked at as fast as a lead
+        if moved.count == 1 && streams.count() > 2 {
+            self.look(streams, moved.last);
+        }
+        Ok(())
+    }
+
+    // Advances each of many streams that holds a fact at this address, and chooses how the next
+    // address is found: by one that leads, or by ranks. It is no part of the step of few streams,
+    // which would take longer.
+    #[inline(never)]
+    fn advance_many<G: Streams, W: Sink>(
+        &mut self,
+        ranks: &mut Ranks,
+        alloc: Global,
+        streams: &mut G,
+        place: Address,
+    ) -> Result<(), InputFault>
+        requires unknown { self.old.known ≡ false }
+        requires ranking { IsRanking G.Stream.behaviour (G.streams streams.old) ranks.old }
+        ensures go_on { OnOk result (GoOnAt G.Stream.behaviour (Some place) (G.streams streams.old)
+            (G.streams streams.new)) }
+        ensures led { OnOk result
+            (IsLed G.Stream.behaviour (G.streams streams.new) self.new ranks.new) }
+        ensures stops { IfErr result (StopsIn G.Stream.behaviour (Some place)
+            (G.streams streams.old) (G.streams streams.new)) }
+        ensures names { G.names streams.new ≡ G.names streams.old }
+    {
+        let moved = if ranks.are_of(&place.key) {
+            ranks.advance(alloc, streams, place)?
+        } else {
+            ranks.forget();
+            advance_at(alloc, streams, Some(place))?
+        };
+        if moved.count == 1 && ranks.may_lead(moved.last) {
+            self.look(streams, moved.last);
+        }
+        if self.known {
+            ranks.forget();
+        } else if streams.count() <= MOST {
+            ranks.renew(streams, moved.count, place.key);
         }
         Ok(())
     }

@@ -40,6 +40,7 @@ mod lent;
 mod lowest;
 mod one_stream;
 mod owned_journal_stream;
+mod ranks;
 mod reader_state;
 mod scope;
 mod selection;

@@ -83,16 +83,27 @@ fn order_of(first: &FactRef<'_>, second: &FactRef<'_>) -> Ordering
     first.address().cmp(&second.address())
 }
 
+/// Whether two facts at one address are the same. The address is not compared again.
+#[tactic(auto, using(crate::proofs::LowestFacts::same_at))]
 #[inline(always)]
-fn is_same(first: &FactRef<'_>, second: &FactRef<'_>) -> bool
+pub fn is_same(first: &FactRef<'_>, second: &FactRef<'_>) -> bool
+    requires { address (fact_of first.now) ≡ address (fact_of second.now) }
     ensures { result ≡ same_fact (fact_of first.now) (fact_of second.now) }
 {
-    first == second
+    match (first, second) {
+        (FactRef::Symbol { bytes: first, .. }, FactRef::Symbol { bytes: second, .. }) => {
+            first == second
+        }
+        (FactRef::Info { info: first, .. }, FactRef::Info { info: second, .. }) => first == second,
+        (FactRef::InfoConflict { .. }, FactRef::InfoConflict { .. }) => true,
+        (FactRef::SymbolConflict { .. }, FactRef::SymbolConflict { .. }) => true,
+        _ => false,
+    }
 }
 
-// The fact that there is a conflict at an address.
+/// The fact that there is a conflict at an address.
 #[inline(always)]
-fn conflict_at<'a>(place: &Address) -> FactRef<'a>
+pub fn conflict_at<'a>(place: &Address) -> FactRef<'a>
     ensures { fact_of result ≡ conflict_at place.now }
 {
     let key = place.key;

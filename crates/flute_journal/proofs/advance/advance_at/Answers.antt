@@ -1,10 +1,7 @@
 -- One stream more, by whether it stands there.
-use Rattle.flute_journal.proofs.{Common.{◌≡◌, ℕ, ◌+◌, ◌<◌, length, Option, Some, None, subst, sym, ap, ◌∙◌, arith, IfSome, place_of}, GoingOn.{WentSoFar, item_at, one_stays, one_goes, same_length}, advance.advance_at.Goals.{then-is_at+in_default, else-is_at}}
+use Rattle.flute_journal.proofs.{Common.{◌≡◌, ◌+◌, length, subst, sym, ap, ◌∙◌, arith, place_of}, GoingOn.{WentSoFar, item_at, one_stays, one_goes, same_length}, advance.advance_at.Goals.{then-is_at+in_default, else-is_at}}
+use Rattle.flute_journal.specs.declared.{advance.Advanced.{Advanced}}
 use Rattle.flute_journal.proofs.advance.advance_at.Goals as goal
-
-below_more : (P : ℕ → Type 0) (k : ℕ) (o : Option ℕ) → IfSome o P → ((n : ℕ) → P n → n < k + 1) → IfSome o (λ n. n < k + 1)
-below_more P k None h m = tt
-below_more P k (Some n) h m = m n h
 
 pub loop-number-preserved : goal.loop-number-preserved
 loop-number-preserved g c =
@@ -24,7 +21,8 @@ loop-number-preserved g c =
                 (sym (ap place_of (c.head.ensures a.before a.was)) ∙ c.is_at.ensures.at w.if-is_at.true));
             all = subst Q (sym w.streams-is) (same_length g.G.Stream.Stream.behaviour k now (g.G.Streams.streams w.advance.new.self) a ∙ c.loop-number.invariant.all);
             names = subst N (sym w.streams-is) (w.advance.ensures.names ∙ c.loop-number.invariant.names);
-            one = subst (λ o. IfSome o (λ n. n < k + 1)) (sym w.one-is) (below_more (λ n. n ≡ k) k w.first_of-one.result w.first_of-one.ensures (λ n e. omega (arith, e)));
+            count = let m = ap (λ (m : Advanced). m.count) w.moved-is in omega (arith, m, c.loop-number.invariant.count);
+            last = λ h. let m = ap (λ (m : Advanced). m.last) w.moved-is in omega (arith, m);
           }
       | else-is_at w ↦
           let P = λ (s : g.row.G.Denot). WentSoFar g.G.Stream.Stream.behaviour c.args.place (k + 1) old (g.G.Streams.streams s) in
@@ -36,6 +34,10 @@ loop-number-preserved g c =
                 (λ e. c.is_at.ensures.elsewhere w.if-is_at.false (ap place_of (c.head.ensures x.0 x.1) ∙ e)));
             all = subst Q (sym w.streams-is) c.loop-number.invariant.all;
             names = subst N (sym w.streams-is) c.loop-number.invariant.names;
-            one = subst (λ o. IfSome o (λ n. n < k + 1)) (sym w.one-is) (below_more (λ n. n < k) k c.loop-number.one c.loop-number.invariant.one (λ n e. omega (arith, e)));
+            count = let m = ap (λ (m : Advanced). m.count) w.moved-is in omega (arith, m, c.loop-number.invariant.count);
+            last = λ h.
+                let m = ap (λ (m : Advanced). m.last) w.moved-is in
+                let d = ap (λ (m : Advanced). m.count) w.moved-is in
+                omega (arith, h, m, d, c.loop-number.invariant.last);
           }
     ]

@@ -1,5 +1,6 @@
 -- Between two turns, the sink has not failed, or the merge is patient.
-use Rattle.flute_journal.proofs.{Common.{◌≡◌, ◌+◌, true, false, most_of, times_failed, Leads, IsCounted}, StreamStates.{State}}
+use Rattle.flute_journal.proofs.{Common.{◌≡◌, ◌+◌, false, most_of, times_failed, IsCounted}, StreamStates.{State}}
+use Rattle.flute_journal.specs.Ranks.{IsLed}
 use Rattle.flute_journal.proofs.all_streams.merge_into.Given as goal
 
 abbrev pub invariant-loop-fact : goal.invariant-loop-fact
@@ -9,7 +10,7 @@ invariant-loop-fact g l = record {
   sink_failures : g.W.Sink.failures l.writer.sink.now ≡ g.W.Sink.failures l.fn.writer.sink.now + times_failed l.writer.failed;
   eager : l.fn.patient ≡ false → l.writer.failed ≡ false;
   same_sink : l.writer.sink.ghost_name ≡ l.fn.writer.sink.ghost_name;
-  lead : l.lead.known ≡ true → Leads g.G.Stream.Stream.behaviour (g.G.Streams.streams l.streams) l.lead.number l.lead.next;
+  led : IsLed g.G.Stream.Stream.behaviour (g.G.Streams.streams l.streams) l.lead l.ranks;
   names : g.G.Streams.names l.streams ≡ g.G.Streams.names l.fn.streams;
 }
 

@@ -1,0 +1,51 @@
+-- Where streams stand among the parts of one object, and what is known of the lowest address.
+use Rattle.std.specs.Prelude.{◌≡◌, true, false, ◌≤◌, ◌<◌, ℕ, zero, suc, ◌/◌, ◌%◌, List, length, Option, Some, None, IfSome, slice_get, slice_index}
+use Rattle.std.specs.declared.cmp.Ordering.TheVariants.{Less}
+use Rattle.flute_parts.specs.Order.{address_cmp}
+use Rattle.flute_parts.specs.Addresses.{address}
+use Rattle.flute_parts.specs.declared.address.Address.{Address}
+use Rattle.flute_parts.specs.declared.address.Part.{Part}
+use Rattle.flute_parts.specs.declared.address.Part.TheVariants.{Info as InfoPart, Symbol as SymbolPart}
+use Rattle.flute_parts.specs.declared.fact.Fact.{Fact}
+use Rattle.flute_parts.specs.declared.key.Key.{Key}
+use Rattle.flute_journal.specs.declared.leading.Lead.{Lead}
+use Rattle.flute_journal.specs.declared.ranks.Ranks.{Ranks}
+use Rattle.flute_journal.specs.Leads.{Leads}
+use Rattle.flute_journal.specs.Lowest.{IsNotBefore}
+use Rattle.flute_journal.specs.Streams.{Behaviour}
+
+-- the part of an object with this rank: the information, and then each symbol there may be
+unfoldable pub part_at : ℕ → Part
+part_at zero = InfoPart
+part_at (suc n) = SymbolPart (record { sbn = n / 65536; esi = n % 65536 })
+
+-- its address
+abbrev pub place_at_rank : Key → ℕ → Address
+place_at_rank key rank = record { key = key; part = part_at rank }
+
+-- a fact is above all parts of an object before this rank, and not before the one that has it
+pub record IsFrom (key : Key) (rank : ℕ) (f : Fact) : Type 0 where
+  pub above : (n : ℕ) → n < rank → address_cmp (place_at_rank key n) (address f) ≡ Less
+  pub not_before : IsNotBefore (place_at_rank key rank) f
+
+-- so is what is held, if anything is
+abbrev pub HoldsFrom : Key → ℕ → Option Fact → Type 0
+HoldsFrom key rank None = Unit {0}
+HoldsFrom key rank (Some f) = IsFrom key rank f
+
+module _ {S : Type 0} (b : Behaviour S) where
+  -- what each of at most 128 streams holds is not before the part whose rank stands at its number
+  pub record AreRanked (streams : List S) (key : Key) (ranks : List ℕ) : Type 0 where
+    pub few : length streams ≤ 128
+    pub from : (k : ℕ) (s : S) → slice_get streams k ≡ Some s
+        → HoldsFrom key (slice_index ranks k) (b.held s)
+
+  -- so it is, if there are ranks
+  abbrev pub IsRanking : List S → Ranks → Type 0
+  IsRanking streams ranks = IfSome ranks.key (λ key. AreRanked streams key ranks.ranks)
+
+  -- a stream leads, or the streams may have ranks
+  pub record IsLed (streams : List S) (lead : Lead) (ranks : Ranks) : Type 0 where
+    pub leads : lead.known ≡ true → Leads b streams lead.number lead.next
+    pub ranking : lead.known ≡ false → IsRanking streams ranks
+    pub unranked : lead.known ≡ true → ranks.key ≡ None
