@@ -31,6 +31,7 @@ use Rattle.flutejoin.specs.declared.command_fault.CommandFault.TheVariants.{Inpu
 use Rattle.flutejoin.specs.declared.limits.TheConstants.{MAX_ENTRIES}
 use Rattle.flutejoin.specs.Info.{AddsFacts, InfoFails}
 use Rattle.flutejoin.specs.InfoLists.{TellsSame}
+use Rattle.flutejoin.specs.Limits.{Limits}
 use Rattle.flutejoin.specs.Show.{FailsToRead}
 use Rattle.flutejoin.specs.Status.{of_load}
 
@@ -39,7 +40,7 @@ if_some : (o : Option (List ℕ)) (P Q : List ℕ → Type 0) → ((x : List ℕ
 if_some None P Q f h = tt
 if_some (Some x) P Q f h = f x h
 
--- facts that are the same have one journal, and are within the limits of a store together
+-- facts that are the same have one journal, and are within the limits together
 puts_same : (cut : Bool) (old new : Option (List ℕ)) (F G : List Fact) (count : ℕ) → Same F G
     → PutsJournal cut old new F count → PutsJournal cut old new G count
 puts_same cut old new F G count same p = record {
@@ -58,11 +59,16 @@ puts_same cut old new F G count same p = record {
   appended = p.appended;
 }
 
-within_same : (F G : List Fact) (within : Bool) → Same F G
-    → IsWithinLimits 64 4096 1048576 F within → IsWithinLimits 64 4096 1048576 G within
-within_same F G true same h = λ over.
-    h (Over-below G F 64 4096 1048576 (Below-from_Same G F (Same-sym F G same)) over)
-within_same F G false same h = Over-below F G 64 4096 1048576 (Below-from_Same F G same) h
+abbrev IsWithin : Limits → List Fact → Bool → Type 0
+IsWithin most F within = IsWithinLimits most.sessions most.objects most.symbols F within
+
+within_same : (most : Limits) (F G : List Fact) (within : Bool) → Same F G
+    → IsWithin most F within → IsWithin most G within
+within_same most F G true same h = λ over.
+    h (Over-below G F most.sessions most.objects most.symbols
+    (Below-from_Same G F (Same-sym F G same)) over)
+within_same most F G false same h =
+    Over-below F G most.sessions most.objects most.symbols (Below-from_Same F G same) h
 
 -- The stream of a journal that is lent, and one of facts.
 module _ {R : Type 0} (unread : R → Option (List ℕ)) (failures : R → ℕ) {S : Type 0}
@@ -101,8 +107,8 @@ module _ {R : Type 0} (unread : R → Option (List ℕ)) (failures : R → ℕ) 
       two (F ∷ G ∷ H ∷ told) h = absurd h.1.1
 
       -- Both were joined.
-      module _ (joined : MergedJournal) (w w' : Option (List ℕ))
-          (m : MergedAll both inputs 64 4096 1048576 joined w w') where
+      module _ (most : Limits) (joined : MergedJournal) (w w' : Option (List ℕ))
+          (m : MergedAll both inputs most.sessions most.objects most.symbols joined w w') where
         t : Two m.told
         t = two m.told m.tell
 
@@ -110,10 +116,10 @@ module _ {R : Type 0} (unread : R → Option (List ℕ)) (failures : R → ℕ) 
         together = t.entries ++ facts
 
         in_limits : (within : Bool) → joined.within ≡ within
-            → IsWithinLimits 64 4096 1048576 together within
+            → IsWithin most together within
         in_limits within e =
-            within_same (all_of m.told) together within t.all
-            (subst (λ c. IsWithinLimits 64 4096 1048576 (all_of m.told) c) e m.limits)
+            within_same most (all_of m.told) together within t.all
+            (subst (λ c. IsWithin most (all_of m.told) c) e m.limits)
 
         pub adds_facts : joined.cut ≡ false → AddsFacts bytes_of facts w w' joined.entries
         adds_facts whole =
@@ -123,11 +129,11 @@ module _ {R : Type 0} (unread : R → Option (List ℕ)) (failures : R → ℕ) 
             in
             if_some bytes_of _ _ (λ bytes is. (t.entries, is, writes)) t.tells
 
-        pub over_with : joined.within ≡ false → InfoFails bytes_of facts Full
+        pub over_with : joined.within ≡ false → InfoFails most bytes_of facts Full
         over_with out =
             if_some bytes_of _ _ (λ bytes is. (t.entries, is, in_limits false out)) t.tells
 
-        pub within_with : joined.within ≡ true → InfoFails bytes_of facts CannotWrite
+        pub within_with : joined.within ≡ true → InfoFails most bytes_of facts CannotWrite
         within_with within =
             if_some bytes_of _ _ (λ bytes is. (t.entries, is, in_limits true within)) t.tells
 
@@ -144,23 +150,23 @@ module _ {R : Type 0} (unread : R → Option (List ℕ)) (failures : R → ℕ) 
           absurd (goes_on fault (subst (λ z. both.stops z fault) p h))
       stop_at (suc (suc number)) fault s was h = absurd (let e : None ≡ Some s = was in cc)
 
-      journal_stops : (facts : List Fact) (fault : LoadFault)
+      journal_stops : (most : Limits) (facts : List Fact) (fault : LoadFault)
           → limit_of j.reader.now ≡ MAX_ENTRIES → journals.stops j fault
-          → InfoFails bytes_of facts (of_load 1 fault)
-      journal_stops facts (load.Read r) limit h =
+          → InfoFails most bytes_of facts (of_load 1 fault)
+      journal_stops most facts (load.Read r) limit h =
           (refl, subst (λ n. HasFault journal_framing n bytes_of r) limit h)
-      journal_stops facts load.Full limit h = absurd h
-      journal_stops facts load.OutOfMemory limit h = absurd h
+      journal_stops most facts load.Full limit h = absurd h
+      journal_stops most facts load.OutOfMemory limit h = absurd h
 
-      pub first_fails : (facts : List Fact) (after : List (Either (LentStream R) S))
-          (first : InputFault) → limit_of j.reader.now ≡ MAX_ENTRIES
-          → FirstFault both inputs after first
-          → InfoFails bytes_of facts (of_load (first.number + 1) first.fault)
-      first_fails facts after first limit h =
+      pub first_fails : (most : Limits) (facts : List Fact)
+          (after : List (Either (LentStream R) S)) (first : InputFault)
+          → limit_of j.reader.now ≡ MAX_ENTRIES → FirstFault both inputs after first
+          → InfoFails most bytes_of facts (of_load (first.number + 1) first.fault)
+      first_fails most facts after first limit h =
           let o = stop_at first.number first.fault h.stopped.new h.stopped.was
           h.stopped.stop.stops in
-          subst (λ n. InfoFails bytes_of facts (of_load (n + 1) first.fault)) (sym o.0)
-          (journal_stops facts first.fault limit o.1)
+          subst (λ n. InfoFails most bytes_of facts (of_load (n + 1) first.fault)) (sym o.0)
+          (journal_stops most facts first.fault limit o.1)
 
       -- its source failed as the fault tells, and it is lent as before
       module _ (j' : LentStream R) (f' : S) where
@@ -205,17 +211,18 @@ load_failures number old new load.Full h = h
 load_failures number old new load.OutOfMemory h = h
 
 -- No fault of a journal is told of the second input.
-pub never_second : (r : Result ℕ CommandFault) (input : Option (List ℕ)) (facts : List Fact)
-    (Q : Type 0) → IfErr r (InfoFails input facts)
+pub never_second : (most : Limits) (r : Result ℕ CommandFault) (input : Option (List ℕ))
+    (facts : List Fact) (Q : Type 0) → IfErr r (InfoFails most input facts)
     → IfErr r (λ fault. fault ≡ Input 2 read.Read → Q)
-never_second (Ok count) input facts Q h = tt
-never_second (Err fault) input facts Q h = λ e.
-    let k : InfoFails input facts (Input 2 read.Read) = subst (InfoFails input facts) e h in
+never_second most (Ok count) input facts Q h = tt
+never_second most (Err fault) input facts Q h = λ e.
+    let k : InfoFails most input facts (Input 2 read.Read) =
+    subst (InfoFails most input facts) e h in
     absurd (omega (arith, k.0))
 
 -- the same of the source that the journal is read of
-pub of_source : {R : Type 0} (unread : R → Option (List ℕ)) (source now : R) (facts : List Fact)
-    (r : Result ℕ CommandFault) → now ≡ source → IfErr r (InfoFails (unread now) facts)
-    → IfErr r (InfoFails (unread source) facts)
-of_source unread source now facts r e h =
-    subst (λ x. IfErr r (InfoFails (unread x) facts)) e h
+pub of_source : {R : Type 0} (unread : R → Option (List ℕ)) (most : Limits) (source now : R)
+    (facts : List Fact) (r : Result ℕ CommandFault) → now ≡ source
+    → IfErr r (InfoFails most (unread now) facts) → IfErr r (InfoFails most (unread source) facts)
+of_source unread most source now facts r e h =
+    subst (λ x. IfErr r (InfoFails most (unread x) facts)) e h

@@ -23,6 +23,7 @@ use Rattle.flute_journal.specs.declared.reader_state.ReaderState.{ReaderState}
 use Rattle.flute_journal.specs.declared.entry_fields.Before.{Before}
 use Rattle.flute_journal.proofs.Public.{Loaded, loaded-over, whole-at, side-from, journal_sound, sofar-next, sofar-stops}
 use Rattle.flutejoin.specs.Extract.{OfJournal, AnswersFrom, Extracts, FirstWritten, WritesFirst, SinkFails}
+use Rattle.flutejoin.specs.Limits.{Limits, at_most}
 use Rattle.flutejoin.specs.ObjectWriters.{WroteFirst, WritesNothing, TellsUntouched, FailedBy, Stands, PassesAll}
 use Rattle.flutejoin.specs.Show.{FailsToRead}
 use Rattle.flutejoin.specs.Status.{of_load}
@@ -35,13 +36,12 @@ use Rattle.flutejoin.proofs.ObjectWriters.{wrote-some}
 use Rattle.flutejoin.proofs.Shown.{fails_same}
 
 -- these entries were read, counted and passed, and nothing else
-pub record Passing (input left : Option (List ℕ)) (state : ReaderState Before)
-    (tally : Tally 64 4096 1048576) (writer : ObjectWriter) (start now : Option (List ℕ)) : Type 0
-  where
-    pub entries : List Fact
-    pub sofar : Sofar journal_framing MAX_ENTRIES input left state entries
-    pub counts : Counts 64 4096 1048576 entries tally
-    pub stands : Stands entries writer start now
+pub record Passing {a b d : ℕ} (input left : Option (List ℕ)) (state : ReaderState Before)
+    (tally : Tally a b d) (writer : ObjectWriter) (start now : Option (List ℕ)) : Type 0 where
+  pub entries : List Fact
+  pub sofar : Sofar journal_framing MAX_ENTRIES input left state entries
+  pub counts : Counts a b d entries tally
+  pub stands : Stands entries writer start now
 
 begins_at : (u v : Option (List ℕ)) (state : ReaderState Before) (es : List Fact)
     → Sofar journal_framing MAX_ENTRIES u v state es
@@ -52,12 +52,12 @@ begins_at (Some x) None state (e ∷ es) s = absurd s.read
 begins_at (Some x) (Some z) state (e ∷ es) s =
     inr (record { are_items = s.are_items; rest = z; whole = s.read })
 
-module _ {u v w : Option (List ℕ)} {from to : ReaderState Before} {tally : Tally 64 4096 1048576}
+module _ {a b d : ℕ} {u v w : Option (List ℕ)} {from to : ReaderState Before} {tally : Tally a b d}
     {writer : ObjectWriter} {s t : Option (List ℕ)} (p : Passing u v from tally writer s t) where
-  pub passing-next : (f : Fact) (next : Tally 64 4096 1048576) (new : ObjectWriter)
+  pub passing-next : (f : Fact) (next : Tally a b d) (new : ObjectWriter)
       (t' : Option (List ℕ)) → GivesItem journal_framing MAX_ENTRIES from to v w f
-      → ((F : List Fact) → IsRising (F ++ f ∷ []) → Counts 64 4096 1048576 F tally
-      → Counts 64 4096 1048576 (F ++ f ∷ []) next)
+      → ((F : List Fact) → IsRising (F ++ f ∷ []) → Counts a b d F tally
+      → Counts a b d (F ++ f ∷ []) next)
       → ((P : List Fact) → IsRising (P ++ f ∷ []) → Stands P writer s t
       → Stands (P ++ f ∷ []) new s t') → Passing u w to next new s t'
   passing-next f next new t' g counts stands =
@@ -70,7 +70,7 @@ module _ {u v w : Option (List ℕ)} {from to : ReaderState Before} {tally : Tal
       }
 
   pub passing-fault : (f : ReadFault) → GivesFault journal_framing MAX_ENTRIES from to v w f
-      → PassesAll u w writer s t (Err (load.Read f))
+      → PassesAll (at_most a b d) u w writer s t (Err (load.Read f))
   passing-fault f g = record {
     entries = p.entries;
     rising = p.sofar.are_items.in_order;
@@ -84,11 +84,11 @@ module _ {u v w : Option (List ℕ)} {from to : ReaderState Before} {tally : Tal
   }
 
   pub passing-full : (f : Fact) → GivesItem journal_framing MAX_ENTRIES from to v w f
-      → ((F : List Fact) → IsRising (F ++ f ∷ []) → Counts 64 4096 1048576 F tally
-      → Over (F ++ f ∷ []) 64 4096 1048576) → PassesAll u w writer s t (Err load.Full)
+      → ((F : List Fact) → IsRising (F ++ f ∷ []) → Counts a b d F tally
+      → Over (F ++ f ∷ []) a b d) → PassesAll (at_most a b d) u w writer s t (Err load.Full)
   passing-full f g over =
       let more = sofar-next journal_sound MAX_ENTRIES u v w from to p.entries f p.sofar g in
-      let loaded : Loaded 64 4096 1048576 MAX_ENTRIES u v from p.entries =
+      let loaded : Loaded a b d MAX_ENTRIES u v from p.entries =
       record {
         entries = p.entries;
         sofar = p.sofar;
@@ -101,11 +101,12 @@ module _ {u v w : Option (List ℕ)} {from to : ReaderState Before} {tally : Tal
         rising = p.sofar.are_items.in_order;
         begins = begins_at u v from p.entries p.sofar;
         stands = p.stands;
-        ended = loaded-over 64 4096 1048576 MAX_ENTRIES u v w from to p.entries f loaded g
+        ended = loaded-over a b d MAX_ENTRIES u v w from to p.entries f loaded g
             (over p.entries more.are_items.in_order p.counts);
       }
 
-  pub passing-end : GivesEnd journal_framing from to v w → PassesAll u w writer s t (Ok tt)
+  pub passing-end : GivesEnd journal_framing from to v w → PassesAll (at_most a b d) u w writer s t
+      (Ok tt)
   passing-end g =
       let end = side-from journal_sound MAX_ENTRIES u v w from to p.entries None p.sofar g in
       let journal = whole-at journal_sound MAX_ENTRIES u w p.entries end in
@@ -133,11 +134,12 @@ given-end bound v w old new given e h =
 
 -- What the command answers.
 
-pub of_source : {R : Type 0} (unread : R → Option (List ℕ)) (x y : R) (left : Option (List ℕ))
+pub of_source : {R : Type 0} {most : Limits} (unread : R → Option (List ℕ)) (x y : R) (left :
+    Option (List ℕ))
     (writer : ObjectWriter) (s t : Option (List ℕ)) (r : Result (Unit {0}) LoadFault) → x ≡ y
-    → PassesAll (unread x) left writer s t r → PassesAll (unread y) left writer s t r
-of_source {R} unread x y left writer s t r e p =
-    subst (λ (z : R). PassesAll (unread z) left writer s t r) e p
+    → PassesAll most (unread x) left writer s t r → PassesAll most (unread y) left writer s t r
+of_source {R} {most} unread x y left writer s t r e p =
+    subst (λ (z : R). PassesAll most (unread z) left writer s t r) e p
 
 pub if_err : (r : Result ℕ CommandFault) (X : Type 0) → X → IfErr r (λ _. X)
 if_err (Ok n) X x = tt
@@ -208,19 +210,21 @@ module _ {W : Type 0} (written : W → Option (List ℕ)) (key : Key) (old new :
   alike F G (Err fault) same h = absurd h
 
   -- of a journal that was read to its end
-  pub answered : (input left : Option (List ℕ)) (F : List Fact) (r : Result ℕ CommandFault)
-      (P : List Fact → Type 0) → Extracts written F key old new r → OfJournal input left P
-      → AnswersFrom input left P r
+  pub answered : {most : Limits} (input left : Option (List ℕ)) (F : List Fact)
+      (r : Result ℕ CommandFault) (P : List Fact → Type 0) → Extracts written F key old new r
+      → OfJournal most input left P → AnswersFrom most input left P r
   answered input left F (Ok n) P h o = o
   answered input left F (Err (Input number fault)) P h o = absurd h
   answered input left F (Err Full) P h o = absurd h
   answered input left F (Err fault) P h o = o
 
   -- what is told by facts that are told the same
-  pub record Answers (input left : Option (List ℕ)) (r : Result ℕ CommandFault) : Type 0 where
-    pub extracts : AnswersFrom input left (λ F. Extracts written F key old new r) r
+  pub record Answers (most : Limits) (input left : Option (List ℕ))
+      (r : Result ℕ CommandFault) : Type 0 where
+    pub extracts : AnswersFrom most input left (λ F. Extracts written F key old new r) r
     pub as_others : (others : List Fact)
-        → AnswersFrom input left (λ F. Same F others → Extracts written others key old new r) r
+        → AnswersFrom most input left
+        (λ F. Same F others → Extracts written others key old new r) r
     pub reads : (n m : ℕ) → m ≡ n → FailsToRead n m r
 
   read_none : (F : List Fact) (r : Result ℕ CommandFault) → Extracts written F key old new r
@@ -229,13 +233,14 @@ module _ {W : Type 0} (written : W → Option (List ℕ)) (key : Key) (old new :
   read_none F (Err (Input number fault)) h k m e = absurd h
   read_none F (Err fault) h k m e = e
 
-  pub answers : (input left : Option (List ℕ)) (writer : ObjectWriter) (x : Unit {0})
-      (r : Result ℕ CommandFault) → PassesAll input left writer (written old) (written new) (Ok x)
+  pub answers : {most : Limits} (input left : Option (List ℕ)) (writer : ObjectWriter)
+      (x : Unit {0}) (r : Result ℕ CommandFault)
+      → PassesAll most input left writer (written old) (written new) (Ok x)
       → writer.key ≡ key
       → (WritesNothing writer.found → new ≡ old)
       → ((P : List Fact) (start now : Option (List ℕ)) → IsRising P → Stands P writer start now
       → Extracts (λ x. x) P writer.key start now r) → IfErr r (TellsUntouched writer.found)
-      → Answers input left r
+      → Answers most input left r
   answers input left writer x r p is same tells t =
       let F = p.entries in
       let here =
@@ -266,8 +271,9 @@ module _ {W : Type 0} (written : W → Option (List ℕ)) (key : Key) (old new :
         reads = read_none F r h;
       }
 
-  pub first_part : (input left : Option (List ℕ)) (writer : ObjectWriter)
-      (r : Result (Unit {0}) LoadFault) → PassesAll input left writer (written old) (written new) r
+  pub first_part : {most : Limits} (input left : Option (List ℕ)) (writer : ObjectWriter)
+      (r : Result (Unit {0}) LoadFault)
+      → PassesAll most input left writer (written old) (written new) r
       → writer.key ≡ key
       → (WritesNothing writer.found → new ≡ old) → WritesFirst written input key old new
   first_part input left writer r p is same =
@@ -309,14 +315,15 @@ sink_fails n m true (Err fault) e f = inr e
 
 -- The fault is that of the journal.
 
-pub journal_fault : (input left : Option (List ℕ)) (writer : ObjectWriter) (s t : Option (List ℕ))
-    (f : LoadFault) (fault : CommandFault) → fault ≡ of_load 1 f → (P : List Fact → Type 0)
-    → PassesAll input left writer s t (Err f) → AnswersFrom input left P (Err fault)
-journal_fault input left writer s t f fault e P p =
-    subst (λ x. AnswersFrom input left P (Err x)) (sym e) (told f p)
+pub journal_fault : {most : Limits} (input left : Option (List ℕ)) (writer : ObjectWriter)
+    (s t : Option (List ℕ)) (f : LoadFault) (fault : CommandFault) → fault ≡ of_load 1 f
+    → (P : List Fact → Type 0)
+    → PassesAll most input left writer s t (Err f) → AnswersFrom most input left P (Err fault)
+journal_fault {most} input left writer s t f fault e P p =
+    subst (λ x. AnswersFrom most input left P (Err x)) (sym e) (told f p)
   where
-    told : (g : LoadFault) → PassesAll input left writer s t (Err g)
-        → AnswersFrom input left P (Err (of_load 1 g))
+    told : (g : LoadFault) → PassesAll most input left writer s t (Err g)
+        → AnswersFrom most input left P (Err (of_load 1 g))
     told (load.Read g) p = (refl, p.ended)
     told load.Full p = p.ended
     told load.OutOfMemory p = absurd p.ended

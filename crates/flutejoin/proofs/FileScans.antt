@@ -44,7 +44,7 @@ comes_first s next e = subst (λ (x : Option (Option Fact)). IfSome x
 
 -- no gap was given since
 abbrev pub gave_nothing : (s : Scanned) (next : Next) (scan : ScanState) → Scans scan s → CanCome s
-    next → (lines : List ℕ) × Gave s next scan lines
+    next → (lines : List ℕ) × Gave gap_line s next scan lines
 gave_nothing s next scan h c = (
   flat_map gap_line s.given,
   record
@@ -52,18 +52,20 @@ gave_nothing s next scan h c = (
 )
 
 pub gave_one : (s : Scanned) (next : Next) (scan scan' : ScanState) (gap : Gap)
-    (h : (lines : List ℕ) × Gave s next scan lines) → (u : Scanned) × GaveGap h.1.t next gap u ×
+    (h : (lines : List ℕ) × Gave gap_line s next scan lines)
+    → (u : Scanned) × GaveGap h.1.t next gap u ×
     Scans scan' u
-    → (lines : List ℕ) × Gave s next scan' lines
+    → (lines : List ℕ) × Gave gap_line s next scan' lines
 gave_one s next scan scan' gap h n = (
   h.0 ++ gap_line gap,
-  gave_more s next scan scan' h.0
+  gave_more gap_line s next scan scan' h.0
       (h.0 ++ gap_line gap) gap h.1 n refl,
 )
 
 pub follows_still : (s : Scanned) (next : Next) (scan : ScanState)
-    (h : (lines : List ℕ) × Gave s next scan lines) → CanFollow s next → CanFollow h.1.t next
-follows_still s next scan h r = can_pass s next scan h.0 h.1 r
+    (h : (lines : List ℕ) × Gave gap_line s next scan lines) → CanFollow s next
+    → CanFollow h.1.t next
+follows_still s next scan h r = can_pass gap_line s next scan h.0 h.1 r
 
 -- after a gap the same may come
 pub gave_gap : (s : Scanned) (next : Next) (scan scan' : ScanState) (gap : Gap) → Scans scan s →
@@ -83,10 +85,12 @@ gave_gap s next scan scan' gap h c u g k r = (
         (subst (λ x. IsRising (x ++ next_fact s.key n ∷ [])) (sym f) r)
 
 pub gave_then : (s : Scanned) (next : Next) (scan scan' : ScanState) (turn : Turn)
-    (h : (lines : List ℕ) × Gave s next scan lines) → (u : Scanned) × Turned h.1.t next turn u ×
+    (h : (lines : List ℕ) × Gave gap_line s next scan lines)
+    → (u : Scanned) × Turned h.1.t next turn u ×
     Scans scan' u
     → ((gap : Gap) → turn ≡ Turn.Gap gap → ⊥) → (t : Scanned) × Passes s next t × Scans scan' t
-gave_then s next scan scan' turn h n none = let u = gave_all s next scan scan' h.0 turn h.1 n none
+gave_then s next scan scan' turn h n none = let u = gave_all gap_line s next scan scan' h.0 turn h.1
+    n none
     in (u.0, u.1, u.2)
 
 -- ---- how it was passed

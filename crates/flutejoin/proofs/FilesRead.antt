@@ -2,7 +2,7 @@
 use Rattle.std.proofs.Common.{◌≡◌, ℕ, ◌+◌, ◌<◌, ◌≤◌, ◌^◌, true, false, List, [], ◌∷◌, ◌++◌}
 use Rattle.std.proofs.Common.{length, arith, Option, None, Result, Ok, Err, inl, inr, refl, sym, ap}
 use Rattle.std.proofs.Common.{◌∙◌, subst, append-nil}
-use Rattle.std.specs.Prelude.{IfSome, IfOk, IfErr, filter}
+use Rattle.std.specs.Prelude.{IfSome, IfOk, IfErr}
 use Rattle.std.specs.Io.KnownBytes.{IsAtEnd}
 use Rattle.std.proofs.lemmas.List.{length-append}
 use Rattle.std.proofs.lemmas.List.Elements.{filter-append}
@@ -27,7 +27,7 @@ use Rattle.flutejoin.specs.ExtractAll.{ExtractsAll, CanPick, is_picked, picked_f
 use Rattle.flutejoin.specs.Gaps.{ReadsWithin}
 use Rattle.flutejoin.specs.Load.{LoadFails}
 use Rattle.flutejoin.specs.ObjectFiles.{Takes, TakesAll, KnowsSome}
-use Rattle.flutejoin.specs.Shelves.{BeginsOverShelf}
+use Rattle.flutejoin.specs.Limits.{at_most, BeginsOverLimits}
 use Rattle.flutejoin.specs.declared.command_fault.CommandFault.TheVariants.{Input}
 use Rattle.flutejoin.specs.declared.limits.TheConstants.{MAX_ENTRIES}
 use Rattle.flutejoin.specs.declared.object_files.ObjectFiles.{ObjectFiles}
@@ -70,19 +70,20 @@ module _ (picked : Picked) (F : List Fact) (f : Fact) where
 -- ---- what was read
 
 -- these entries were read and counted, and nothing else; those that are picked were taken
-pub record FilesRead (first now : Option (List ℕ)) (state : ReaderState Before)
-    (tally : Tally 64 4096 1048576) (picked : Picked) (objects : ObjectFiles)
+pub record FilesRead {s o y : ℕ} (first now : Option (List ℕ)) (state : ReaderState Before)
+    (tally : Tally s o y) (picked : Picked) (objects : ObjectFiles)
     (places : Option Places × Option Places) (lines : Option (List ℕ) × Option (List ℕ)) : Type
     0 where
   pub entries : List Fact
   pub sofar : Sofar journal_framing MAX_ENTRIES first now state entries
-  pub counts : Counts 64 4096 1048576 entries tally
+  pub counts : Counts s o y entries tally
   pub takes : Takes (picked_facts picked entries) objects places.0 places.1 lines.0 lines.1
   pub few : objects.written ≤ length entries
 
-pub none_read : (u v : Option (List ℕ)) (state : ReaderState Before) (tally : Tally 64 4096 1048576)
+pub none_read : {s o y : ℕ} (u v : Option (List ℕ)) (state : ReaderState Before)
+    (tally : Tally s o y)
     (picked : Picked) (objects : ObjectFiles) (p : Option Places) (w : Option (List ℕ)) → v ≡ u →
-    state ≡ Header → Counts 64 4096 1048576 [] tally
+    state ≡ Header → Counts s o y [] tally
     → Takes [] objects p p w w → objects.written ≡ 0 → FilesRead u v state tally picked objects
     (p, p) (w, w)
 none_read u v state tally picked objects p w e is c l n = record {
@@ -95,7 +96,7 @@ none_read u v state tally picked objects p w e is c l n = record {
   few = omega (arith, n);
 }
 
-module _ (u v w : Option (List ℕ)) (from to : ReaderState Before) (tally : Tally 64 4096 1048576)
+module _ {s o y : ℕ} (u v w : Option (List ℕ)) (from to : ReaderState Before) (tally : Tally s o y)
     (picked : Picked) (objects : ObjectFiles) (ps : Option Places × Option Places)
     (ws : Option (List ℕ) × Option (List ℕ))
     (h : FilesRead u v from tally picked objects ps ws) where
@@ -130,7 +131,7 @@ module _ (u v w : Option (List ℕ)) (from to : ReaderState Before) (tally : Tal
       ),
     )
 
-    module _ (tally' : Tally 64 4096 1048576) (c : Counts 64 4096 1048576 (h.entries ++ f ∷ [])
+    module _ (tally' : Tally s o y) (c : Counts s o y (h.entries ++ f ∷ [])
         tally') where
       pub more_read : (objects' : ObjectFiles) (p' : Option Places) (w' : Option (List ℕ)) → Takes
           (picked_facts picked (h.entries ++ f ∷ [])) objects' ps.0 p' ws.0 w' → objects'.written ≤
@@ -145,7 +146,7 @@ module _ (u v w : Option (List ℕ)) (from to : ReaderState Before) (tally : Tal
       }
 
       -- an entry more was read, within the limits
-      pub within_read : ReadsWithin u w
+      pub within_read : ReadsWithin (at_most s o y) u w
       within_read =
           let all = sofar-next journal_sound MAX_ENTRIES u v w from to h.entries f h.sofar g in
           record {
@@ -155,9 +156,9 @@ module _ (u v w : Option (List ℕ)) (from to : ReaderState Before) (tally : Tal
             read = inl all.read;
           }
 
-    pub full_read : Over (h.entries ++ f ∷ []) 64 4096 1048576 → IfSome u BeginsOverShelf
+    pub full_read : Over (h.entries ++ f ∷ []) s o y → IfSome u (BeginsOverLimits (at_most s o y))
     full_read over =
-        loaded-over 64 4096 1048576 MAX_ENTRIES u v w from to h.entries f
+        loaded-over s o y MAX_ENTRIES u v w from to h.entries f
         (record {
           entries = h.entries;
           sofar = h.sofar;
@@ -167,7 +168,7 @@ module _ (u v w : Option (List ℕ)) (from to : ReaderState Before) (tally : Tal
         }) g over
 
   pub fault_read : (f : ReadFault) → GivesFault journal_framing MAX_ENTRIES from to v w f
-      → LoadFails 1 u w (Input 1 f)
+      → LoadFails (at_most s o y) 1 u w (Input 1 f)
   fault_read f g = (
     refl,
     (h.entries, h.counts.within, (sofar-stops MAX_ENTRIES u v w from to h.entries f h.sofar g).0),
@@ -177,7 +178,7 @@ module _ (u v w : Option (List ℕ)) (from to : ReaderState Before) (tally : Tal
     end_read : IsAtEnd w
     end_read = (side-from journal_sound MAX_ENTRIES u v w from to h.entries None h.sofar g).at_end
 
-    pub whole_read : ReadsWithin u w
+    pub whole_read : ReadsWithin (at_most s o y) u w
     whole_read = record {
       entries = h.entries;
       are_items = h.sofar.are_items;
@@ -187,7 +188,7 @@ module _ (u v w : Option (List ℕ)) (from to : ReaderState Before) (tally : Tal
 
     pub all_read : (count : ℕ) (p : Option Places) (lines : Option (List ℕ)) → TakesAll
         (picked_facts picked h.entries) count ps.0 p ws.0 lines
-        → ExtractsAll u w picked ps.0 p ws.0 lines count
+        → ExtractsAll (at_most s o y) u w picked ps.0 p ws.0 lines count
     all_read count p lines t = record {
       entries = h.entries;
       journal = whole u v w from to h.entries h.sofar g;

@@ -18,19 +18,20 @@ use Rattle.flutejoin.specs.declared.command_fault.CommandFault.{CommandFault}
 use Rattle.flutejoin.specs.declared.command_fault.CommandFault.TheVariants.{Full, Input}
 use Rattle.flutejoin.specs.declared.joined.Joined.{Joined}
 use Rattle.flutejoin.specs.declared.held_files.HeldFiles.{HeldFiles}
-use Rattle.flutejoin.specs.Joined.{Choice, facts_by, is_of_others, TakesDatagram, TakesDatagrams}
-use Rattle.flutejoin.specs.Joined.{StoreFails, HoldsAll, HoldsDatagrams}
+use Rattle.flutejoin.specs.Joined.{Choice, facts_by, is_of_others}
+use Rattle.flutejoin.specs.JoinParts.{TakesDatagram, TakesDatagrams}
+use Rattle.flutejoin.specs.JoinParts.{StoreFails, HoldsAll, HoldsDatagrams}
 use Rattle.flutejoin.specs.Refused.{is_refused}
-use Rattle.flutejoin.specs.Shelves.{IsOverShelf}
+use Rattle.flutejoin.specs.Limits.{Limits, IsOver}
 use Rattle.flutejoin.proofs.Receptions.{Below-left}
 
-abbrev none : Joined
+abbrev none : {s o y : ℕ} → Joined s o y
 none = record { store = []; datagrams = 0; refused = 0 }
 
-store_over : (F : List Fact) (fault : CommandFault) → StoreFails F fault → fault ≡ Full →
-    IsOverShelf F
-store_over F fault (inl full) is = full.1
-store_over F fault (inr memory) is = let e = sym memory ∙ is in absurd cc
+store_over : (most : Limits) (F : List Fact) (fault : CommandFault) → StoreFails most F fault
+    → fault ≡ Full → IsOver most F
+store_over most F fault (inl full) is = full.1
+store_over most F fault (inr memory) is = let e = sym memory ∙ is in absurd cc
 
 -- the choice of all datagrams
 module _ (choice : Choice) where
@@ -39,7 +40,8 @@ module _ (choice : Choice) where
   flat_more ds d = flat_map-append (facts_by choice) ds (d ∷ []) ∙ ap
       (λ F. flat_map (facts_by choice) ds ++ F) (append-nil (facts_by choice d))
 
-  takes_more : (before now after : Joined) (ds : List (List ℕ)) (d : List ℕ) → TakesDatagrams
+  takes_more : {s o y : ℕ} (before now after : Joined s o y) (ds : List (List ℕ)) (d : List ℕ) →
+      TakesDatagrams
       choice before ds now → TakesDatagram (facts_by choice d) now d after → TakesDatagrams choice
       before (ds ++ d ∷ []) after
   takes_more before now after ds d all one =
@@ -63,33 +65,39 @@ module _ (choice : Choice) where
       counted m n k true e = omega (arith, e)
       counted m n k false e = omega (arith, e)
 
-  over_more : (ds : List (List ℕ)) (d : List ℕ) → IsOverShelf (flat_map (facts_by choice) ds) →
-      IsOverShelf (flat_map (facts_by choice) (ds ++ d ∷ []))
+  over_more : (ds : List (List ℕ)) (d : List ℕ) → IsOver choice.most (flat_map (facts_by choice)
+      ds) →
+      IsOver choice.most (flat_map (facts_by choice) (ds ++ d ∷ []))
   over_more ds d over = rw (flat_more ds d) (Over-below (flat_map (facts_by choice) ds)
-      (flat_map (facts_by choice) ds ++ facts_by choice d) 64 4096 1048576
+      (flat_map (facts_by choice) ds ++ facts_by choice d) choice.most.sessions choice.most.objects
+      choice.most.symbols
       (Below-left (flat_map (facts_by choice) ds) (facts_by choice d)) over)
 
-  over_with : (told : Joined) (ds : List (List ℕ)) (d : List ℕ) → TakesDatagrams choice none ds
-      told → IsOverShelf (told.store ++ facts_by choice d) → IsOverShelf
+  over_with : {s o y : ℕ} (told : Joined s o y) (ds : List (List ℕ)) (d : List ℕ) → TakesDatagrams
+      choice none ds
+      told → IsOver choice.most (told.store ++ facts_by choice d) → IsOver choice.most
       (flat_map (facts_by choice) (ds ++ d ∷ []))
   over_with told ds d all over =
       rw (flat_more ds d)
       (Over-below (told.store ++ facts_by choice d) (flat_map (facts_by choice) ds ++ facts_by
-      choice d) 64 4096 1048576
+      choice d) choice.most.sessions choice.most.objects choice.most.symbols
       (Below-from_Same (told.store ++ facts_by choice d)
       (flat_map (facts_by choice) ds ++ facts_by choice d)
       (Same-append told.store (flat_map (facts_by choice) ds) (facts_by choice d)
       (facts_by choice d) all.content (Same-itself (facts_by choice d)))) over)
 
-  holding : (b c : Bool) (told : Joined) (ds : List (List ℕ)) → b ≡ c → HoldsAll choice c told ds →
+  holding : {s o y : ℕ} (b c : Bool) (told : Joined s o y) (ds : List (List ℕ)) → b ≡ c → HoldsAll
+      choice c told ds →
       HoldsAll choice b told ds
   holding b c told ds e h = subst (λ x. HoldsAll choice x told ds) (sym e) h
 
-  held_as : (b c : Bool) (told : Joined) (ds : List (List ℕ)) → b ≡ c → HoldsAll choice b told ds →
+  held_as : {s o y : ℕ} (b c : Bool) (told : Joined s o y) (ds : List (List ℕ)) → b ≡ c → HoldsAll
+      choice b told ds →
       HoldsAll choice c told ds
   held_as b c told ds e h = subst (λ x. HoldsAll choice x told ds) e h
 
-  pub holds_none : (file : HeldFiles) → file.told.store ≡ [] → file.told.datagrams ≡ 0 →
+  pub holds_none : {s o y : ℕ} (file : HeldFiles s o y) → file.told.store ≡ [] →
+      file.told.datagrams ≡ 0 →
       file.told.refused ≡ 0 → file.others ≡ 0 → file.fits ≡ true → HoldsDatagrams choice file []
   holds_none file store datagrams refused others fits = record {
     others = λ e. others;
@@ -102,7 +110,8 @@ module _ (choice : Choice) where
   }
 
   -- a datagram more was taken
-  pub holds_more : (old new : HeldFiles) (ds : List (List ℕ)) (d : List ℕ) → old.fits ≡ true →
+  pub holds_more : {s o y : ℕ} (old new : HeldFiles s o y) (ds : List (List ℕ)) (d : List ℕ) →
+      old.fits ≡ true →
       new.fits ≡ true → TakesDatagram (facts_by choice d) old.told d new.told
       → new.others ≡ old.others + cond (is_of_others choice d) 1 0 → HoldsDatagrams choice old ds →
       HoldsDatagrams choice new (ds ++ d ∷ [])
@@ -115,9 +124,10 @@ module _ (choice : Choice) where
   }
 
   -- it found no room
-  pub holds_over : (old new : HeldFiles) (ds : List (List ℕ)) (d : List ℕ) (told : List Fact)
+  pub holds_over : {s o y : ℕ} (old new : HeldFiles s o y) (ds : List (List ℕ)) (d : List ℕ) (told
+      : List Fact)
       (fault : CommandFault) → old.fits ≡ true → new.fits ≡ false → facts_by choice d ≡ told →
-      StoreFails (old.told.store ++ told) fault → fault ≡ Full
+      StoreFails choice.most (old.told.store ++ told) fault → fault ≡ Full
       → (new.told.datagrams ≡ old.told.datagrams) × (new.told.refused ≡ old.told.refused) →
       new.others ≡ old.others → HoldsDatagrams choice old ds → HoldsDatagrams choice new
       (ds ++ d ∷ [])
@@ -125,11 +135,13 @@ module _ (choice : Choice) where
     others = λ fitting. absurd (false≢true (sym over ∙ fitting));
     holds = holding new.fits false new.told (ds ++ d ∷ []) over
         (over_with old.told ds d (held_as old.fits true old.told ds fits h.holds)
-        (subst (λ F. IsOverShelf (old.told.store ++ F)) (sym e) (store_over _ fault fails full)));
+        (subst (λ F. IsOver choice.most (old.told.store ++ F)) (sym e) (store_over choice.most _
+        fault fails full)));
   }
 
   -- there had been none before
-  pub holds_past : (file : HeldFiles) (ds : List (List ℕ)) (d : List ℕ) → file.fits ≡ false →
+  pub holds_past : {s o y : ℕ} (file : HeldFiles s o y) (ds : List (List ℕ)) (d : List ℕ) →
+      file.fits ≡ false →
       HoldsDatagrams choice file ds → HoldsDatagrams choice file (ds ++ d ∷ [])
   holds_past file ds d fits h = record {
     others = λ fitting. absurd (false≢true (sym fits ∙ fitting));
@@ -138,7 +150,8 @@ module _ (choice : Choice) where
   }
 
   -- a datagram of another session was counted
-  pub holds_passed : (old new : HeldFiles) (ds : List (List ℕ)) (d : List ℕ) → old.fits ≡ true →
+  pub holds_passed : {s o y : ℕ} (old new : HeldFiles s o y) (ds : List (List ℕ)) (d : List ℕ) →
+      old.fits ≡ true →
       new.fits ≡ true → facts_by choice d ≡ [] → is_refused d ≡ false → new.told ≡ record
       { store = old.told.store; datagrams = old.told.datagrams + 1; refused = old.told.refused }
       → new.others ≡ old.others + 1 → is_of_others choice d ≡ true → HoldsDatagrams choice old ds →
@@ -153,7 +166,8 @@ module _ (choice : Choice) where
       (rw other count) h
 
   -- what a taken datagram comes to
-  pub holds_taken : (r : Result (Unit {0}) CommandFault) (old new : HeldFiles) (d : List ℕ)
+  pub holds_taken : {s o y : ℕ} (r : Result (Unit {0}) CommandFault) (old new : HeldFiles s o y) (d
+      : List ℕ)
       (told : List Fact) → old.fits ≡ true → new.fits ≡ true → facts_by choice d ≡ told →
       new.others ≡ old.others → is_of_others choice d ≡ false
       → OnOk r (TakesDatagram told old.told d new.told) → OnOk r

@@ -8,7 +8,9 @@ use Rattle.flute_journal.specs.declared.fault.LoadFault.{LoadFault}
 use Rattle.flutejoin.specs.Begins.{Begins}
 use Rattle.flutejoin.specs.declared.join_input.JoinInput.{JoinInput}
 use Rattle.flutejoin.specs.declared.join_input.JoinInput.TheVariants.{Journal, Datagrams, Unknown}
-use Rattle.flutejoin.specs.JoinInputs.{JournalInput, IsInput, journal_behaviour, input_behaviour}
+use Rattle.flutejoin.specs.InputStreams.{JournalInput}
+use Rattle.flutejoin.specs.JoinInputs.{IsInput}
+use Rattle.flutejoin.specs.InputStreams.{journal_behaviour, input_behaviour}
 use Rattle.flutejoin.proofs.Inspections.{same_neither}
 
 module _ {R : Type 0} (unread : R → Option (List ℕ)) (failures : R → ℕ) where

@@ -18,14 +18,17 @@ use Rattle.flutejoin.specs.declared.command_fault.CommandFault.TheVariants.{Cann
 use Rattle.flutejoin.specs.declared.held_files.HeldFiles.{HeldFiles}
 use Rattle.flutejoin.specs.declared.join_input.JoinInput.{JoinInput}
 use Rattle.flutejoin.specs.declared.join_input.JoinInput.TheVariants.{Journal, Datagrams, Unknown}
-use Rattle.flutejoin.specs.JoinInputs.{IsInput, AreInputs, failures_of, NoneFailed, OneFailed}
-use Rattle.flutejoin.specs.Joined.{Choice, HasKnownKind, IsOfAKind, HoldsDatagrams, HoldsMore}
-use Rattle.flutejoin.specs.Joined.{IsCounted, CountsUpTo}
-use Rattle.flutejoin.specs.Joining.{NamesOnly, NamesOneOf, InspectionFails, SomeInspectionFails}
-use Rattle.flutejoin.specs.Joining.{IsInspected, AreInspected, Finds, IsReady}
+use Rattle.flutejoin.specs.JoinInputs.{IsInput, AreInputs}
+use Rattle.flutejoin.specs.InputStreams.{failures_of, NoneFailed, OneFailed}
+use Rattle.flutejoin.specs.Joined.{Choice}
+use Rattle.flutejoin.specs.JoinFaults.{HasKnownKind, IsOfAKind}
+use Rattle.flutejoin.specs.JoinParts.{HoldsDatagrams, HoldsMore}
+use Rattle.flutejoin.specs.JoinParts.{IsCounted, CountsUpTo}
+use Rattle.flutejoin.specs.JoinParts.{NamesOnly, InspectionFails, SomeInspectionFails}
+use Rattle.flutejoin.specs.JoinFaults.{NamesOneOf}
+use Rattle.flutejoin.specs.JoinParts.{IsInspected, AreInspected, Finds, IsReady}
 use Rattle.flutejoin.specs.Show.{FailsToRead}
-use Rattle.flutejoin.proofs.DriveSteps.{slice_get-set_other, slice_get-set_same}
-use Rattle.flutejoin.proofs.RunSteps.{some_same}
+use Rattle.flutejoin.proofs.Slots.{slice_get-set_other, slice_get-set_same, some_same}
 use Rattle.flutejoin.proofs.Firsts.{at_place, first_at}
 
 pub same_kind : (kind : Kind) (xs ys : List ℕ) → take 4 xs ≡ take 4 ys → HasKind kind xs
@@ -98,7 +101,7 @@ module _ (choice : Choice) {R : Type 0} (unread : R → Option (List ℕ)) where
 
   module _ (failures : R → ℕ) where
     -- the first inputs were inspected, and the others are as they were
-    pub record InspectedSoFar (start now : List (JoinInput R)) (held : HeldFiles)
+    pub record InspectedSoFar {s o y : ℕ} (start now : List (JoinInput R)) (held : HeldFiles s o y)
         (k : ℕ) : Type 0 where
       pub as_many : length now ≡ length start
       pub later : (j : ℕ) → k ≤ j → slice_get now j ≡ slice_get start j
@@ -109,7 +112,7 @@ module _ (choice : Choice) {R : Type 0} (unread : R → Option (List ℕ)) where
       pub counted : IsCounted held
       pub none_failed : NoneFailed failures start now
 
-    pub inspected_none : (start : List (JoinInput R)) (held : HeldFiles)
+    pub inspected_none : {s o y : ℕ} (start : List (JoinInput R)) (held : HeldFiles s o y)
         → ((c : Choice) → HoldsDatagrams c held []) → IsCounted held → held.told.datagrams ≡ 0
         → InspectedSoFar start start held 0
     inspected_none start held holds counted none = record {
@@ -126,7 +129,7 @@ module _ (choice : Choice) {R : Type 0} (unread : R → Option (List ℕ)) where
       };
     }
 
-    module _ {start now : List (JoinInput R)} {held : HeldFiles} {k : ℕ}
+    module _ {s o y : ℕ} {start now : List (JoinInput R)} {held : HeldFiles s o y} {k : ℕ}
         (h : InspectedSoFar start now held k) (one : JoinInput R)
         (at : slice_get now k ≡ Some one) where
       was : slice_get start k ≡ Some one
@@ -162,7 +165,7 @@ module _ (choice : Choice) {R : Type 0} (unread : R → Option (List ℕ)) where
                 ];
           }
 
-      pub inspected_more : (new : JoinInput R) (after : HeldFiles)
+      pub inspected_more : (new : JoinInput R) (after : HeldFiles s o y)
           → IsReady unread failures new
           → ((bytes : List ℕ) → IsInput unread one bytes → (datagrams : List (List ℕ))
           × IsInspected unread choice new bytes datagrams
@@ -244,7 +247,7 @@ module _ (choice : Choice) {R : Type 0} (unread : R → Option (List ℕ)) where
     inspect_reads k fault names e = subst (NamesOnly (k + 1)) e names
 
     -- all were inspected
-    module _ {start now : List (JoinInput R)} {held : HeldFiles} {k : ℕ}
+    module _ {s o y : ℕ} {start now : List (JoinInput R)} {held : HeldFiles s o y} {k : ℕ}
         (h : InspectedSoFar start now held k) (past : length start ≤ k) where
       all_of_them : take k now ≡ now
       all_of_them = take_all k now (omega (arith, past, h.as_many))

@@ -1,9 +1,8 @@
 -- How a join of inputs ends: which input stops it, what has failed, and what it comes to.
 use Rattle.std.proofs.Common.{◌≡◌, ℕ, zero, suc, ◌+◌, ◌-◌, ◌*◌, ◌^◌, ◌≤◌, Bool, true, false}
-use Rattle.std.proofs.Common.{if◌then◌else◌, List, [], ◌∷◌, ◌++◌, length, count_by, Option, Some}
+use Rattle.std.proofs.Common.{List, [], ◌∷◌, ◌++◌, length, count_by, Option, Some}
 use Rattle.std.proofs.Common.{None, Result, Ok, Err, inl, inr, refl, sym, ap, ◌∙◌, subst, arith}
-use Rattle.std.specs.Prelude.{min, not, sum_by, slice_get, ◌⊎◌, is_ok, IfErr}
-use Rattle.std.specs.Result.{is_err}
+use Rattle.std.specs.Prelude.{min, not, sum_by, slice_get, ◌⊎◌, IfErr}
 use Rattle.std.specs.List.{flat_map, AllByRecursion}
 use Rattle.std.proofs.KnownBytes.{Appends-nil}
 use Rattle.std.proofs.lemmas.List.Sums.{count_by-le-length, sum_by-cons}
@@ -40,17 +39,19 @@ use Rattle.flutejoin.specs.declared.command_fault.CommandFault.TheVariants.{Cann
 use Rattle.flutejoin.specs.declared.held_files.HeldFiles.{HeldFiles}
 use Rattle.flutejoin.specs.declared.join_input.JoinInput.{JoinInput}
 use Rattle.flutejoin.specs.declared.join_input.JoinInput.TheVariants.{Journal, Datagrams, Unknown}
-use Rattle.flutejoin.specs.JoinInputs.{failures_of, NoneFailed, OneFailed}
+use Rattle.flutejoin.specs.InputStreams.{failures_of, NoneFailed, OneFailed}
 use Rattle.flutejoin.specs.Joined.{Choice, facts_by, InputContent, of_journal, of_file}
 use Rattle.flutejoin.specs.Joined.{content_facts, content_others, is_of_others, Tells, TellAll}
-use Rattle.flutejoin.specs.Joined.{IsValid, FirstInput, HasKnownKind, IsOfAKind, IsJournalAt}
-use Rattle.flutejoin.specs.Joined.{IsFileAt, JoinFails, HoldsAll, HoldsDatagrams, FileFails}
-use Rattle.flutejoin.specs.Joining.{JoinsTo, JoinToFails, of_inputs, of_source, of_sink, NamesOneOf}
-use Rattle.flutejoin.specs.Joining.{InspectionFails, of_kind, of_file as of_a_file}
-use Rattle.flutejoin.specs.Joining.{SomeInspectionFails, IsInspected, AreInspected, IsReady}
-use Rattle.flutejoin.specs.Joining.{JoinsInspected}
+use Rattle.flutejoin.specs.JoinFaults.{IsValid, FirstInput, HasKnownKind, IsOfAKind, IsJournalAt}
+use Rattle.flutejoin.specs.JoinFaults.{IsFileAt, JoinFails}
+use Rattle.flutejoin.specs.JoinParts.{HoldsAll, HoldsDatagrams, FileFails}
+use Rattle.flutejoin.specs.Joining.{JoinsTo}
+use Rattle.flutejoin.specs.JoinFaults.{JoinToFails, of_inputs, of_source, of_sink, NamesOneOf}
+use Rattle.flutejoin.specs.JoinParts.{InspectionFails, of_kind, of_file as of_a_file}
+use Rattle.flutejoin.specs.JoinParts.{SomeInspectionFails, IsInspected, AreInspected, IsReady}
+use Rattle.flutejoin.specs.JoinParts.{JoinsInspected}
 use Rattle.flutejoin.specs.Refused.{is_refused}
-use Rattle.flutejoin.specs.Shelves.{IsOverShelf}
+use Rattle.flutejoin.specs.Limits.{IsOver}
 use Rattle.flutejoin.specs.Status.{of_load}
 use Rattle.flutejoin.proofs.Firsts.{at_place, first_at, first_with}
 use Rattle.flutejoin.proofs.Inspections.{all_known}
@@ -81,11 +82,6 @@ no_journal_of_part b (Err f) xs u v h =
 read_or_not : (f : ReadFault) → (f ≡ Read) ⊎ (f ≡ Read → ⊥)
 read_or_not Read = inl refl
 read_or_not f = inr (λ e. cc)
-
-pub pushed : {X T E : Type 0} (r : Result T E) (new old : List X) (x : X) → is_err r ≡ false
-    → new ≡ (if is_ok r then old ++ x ∷ [] else old) → new ≡ old ++ x ∷ []
-pushed (Ok t) new old x e h = h
-pushed (Err f) new old x e h = absurd cc
 
 -- Which input stops.
 
@@ -417,18 +413,20 @@ others_few choice (bytes ∷ inputs) (x ∷ told) h =
 pub full_of_files : {choice : Choice} {inputs datagrams : List (List ℕ)} {store : List Fact}
     {passed : ℕ} {joined : MergedJournal} {w w' : Option (List ℕ)}
     → JoinsInspected choice inputs datagrams store passed joined w w'
-    → IsOverShelf (flat_map (facts_by choice) datagrams) → JoinToFails choice inputs Full
+    → IsOver choice.most (flat_map (facts_by choice) datagrams) → JoinToFails choice inputs Full
 full_of_files {choice} {inputs} {datagrams} h over =
     let files = flat_map (facts_by choice) datagrams in
     let told = flat_map (content_facts choice) h.told in
     of_inputs (
       h.told,
       h.tell,
-      over_same (files ++ h.entries) told (Same-sym told (files ++ h.entries) h.same)
-          (Over-below files (files ++ h.entries) 64 4096 1048576 (Below-left files h.entries) over),
+      over_same choice.most (files ++ h.entries) told (Same-sym told (files ++ h.entries) h.same)
+          (Over-below files (files ++ h.entries) choice.most.sessions choice.most.objects
+          choice.most.symbols (Below-left files h.entries) over),
     )
 
-module _ {choice : Choice} {inputs datagrams : List (List ℕ)} {held : HeldFiles} {passed : ℕ}
+module _ {choice : Choice} {inputs datagrams : List (List ℕ)} {s o y : ℕ}
+    {held : HeldFiles s o y} {passed : ℕ}
     {joined : MergedJournal} {w w' : Option (List ℕ)} where
   -- all of them are held
   module _ (h : JoinsInspected choice inputs datagrams held.told.store passed joined w w')
@@ -450,13 +448,15 @@ module _ {choice : Choice} {inputs datagrams : List (List ℕ)} {held : HeldFile
         all_held.content (Same-itself h.entries)))
 
     within_limits : (within : Bool) → joined.within ≡ within
-        → IsWithinLimits 64 4096 1048576 told within
+        → IsWithinLimits choice.most.sessions choice.most.objects choice.most.symbols told within
     within_limits true e = λ over.
-        subst (IsWithinLimits 64 4096 1048576 written) e h.limits
-        (over_same told written same_told over)
+        subst (IsWithinLimits choice.most.sessions choice.most.objects choice.most.symbols written)
+        e h.limits
+        (over_same choice.most told written same_told over)
     within_limits false e =
-        over_same written told (Same-sym told written same_told)
-        (subst (IsWithinLimits 64 4096 1048576 written) e h.limits)
+        over_same choice.most written told (Same-sym told written same_told)
+        (subst (IsWithinLimits choice.most.sessions choice.most.objects choice.most.symbols
+        written) e h.limits)
 
     pub full_together : joined.within ≡ false → JoinToFails choice inputs Full
     full_together over = of_inputs (h.told, h.tell, within_limits false over)

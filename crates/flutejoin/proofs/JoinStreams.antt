@@ -27,16 +27,18 @@ use Rattle.flute_journal.specs.declared.either.Either.TheVariants.{Second}
 use Rattle.flutejoin.specs.declared.join_input.JoinInput.{JoinInput}
 use Rattle.flutejoin.specs.declared.join_input.JoinInput.TheVariants.{Journal, Datagrams, Unknown}
 use Rattle.flutejoin.specs.declared.limits.TheConstants.{MAX_ENTRIES}
-use Rattle.flutejoin.specs.JoinInputs.{passed_over, input_behaviour}
+use Rattle.flutejoin.specs.InputStreams.{passed_over, input_behaviour}
 use Rattle.flutejoin.specs.Joined.{Choice, facts_by, is_of_others, InputContent, of_journal}
 use Rattle.flutejoin.specs.Joined.{of_file, content_facts, content_datagrams, content_others, Tells}
-use Rattle.flutejoin.specs.Joined.{TellAll, IsValid}
-use Rattle.flutejoin.specs.Joining.{IsInspected, AreInspected, IsReady, JoinsInspected}
-use Rattle.flutejoin.specs.Joining.{joined_behaviour}
-use Rattle.flutejoin.specs.Shelves.{IsOverShelf}
+use Rattle.flutejoin.specs.Joined.{TellAll}
+use Rattle.flutejoin.specs.JoinFaults.{IsValid}
+use Rattle.flutejoin.specs.JoinParts.{IsInspected, AreInspected, IsReady, JoinsInspected}
+use Rattle.flutejoin.specs.JoinParts.{joined_behaviour}
+use Rattle.flutejoin.specs.Limits.{Limits, at_most, IsOver}
 
-pub over_same : (F G : List Fact) → Same F G → IsOverShelf F → IsOverShelf G
-over_same F G same over = Over-below F G 64 4096 1048576 (Below-from_Same F G same) over
+pub over_same : (most : Limits) (F G : List Fact) → Same F G → IsOver most F → IsOver most G
+over_same most F G same over =
+    Over-below F G most.sessions most.objects most.symbols (Below-from_Same F G same) over
 
 -- facts in front of others, in two ways
 regroup : (O D F G R : List Fact) → Same R (D ++ G)
@@ -59,13 +61,13 @@ all_taken xs many = taken_all xs (omega (arith, many))
 -- the stream of what is held: it is in memory
 pub record IsHeld {S : Type 0} (b : Behaviour S) (w : S) (store : List Fact) : Type 0 where
   pub new : IsNew b w
-  pub few : b.most w ≤ 2 ^ 40
+  pub few : b.most w ≤ 2 ^ 63
   pub ends : (now : S) (F : List Fact) → b.ends w now F → F ≡ store
   pub never : (fault : LoadFault) → b.stops w fault → ⊥
 
 pub is_held : {S : Type 0} (held : S → Option Fact) (rest : S → List Fact) (w : S)
     (store : List Fact) → IsNew (listed_behaviour held rest (λ _. Unit {0})) w → rest w ≡ store
-    → length (rest w) ≤ 2 ^ 40 → IsHeld (listed_behaviour held rest (λ _. Unit {0})) w store
+    → length (rest w) ≤ 2 ^ 63 → IsHeld (listed_behaviour held rest (λ _. Unit {0})) w store
 is_held held rest w store new is few = record {
   new = new;
   few = let e = ap (λ o. length (option_list o)) new.held in omega (arith, e, few);
@@ -277,7 +279,8 @@ module _ {R : Type 0} (unread : R → Option (List ℕ)) (failures : R → ℕ) 
       of_told : (now : S) (told : List (List Fact))
           → EachSince joins.ends (chained w xs) (chained now ys) told
           → PutsJournal joined.cut u v (all_of told) joined.entries
-          → IsWithinLimits 64 4096 1048576 (all_of told) joined.within → Joins
+          → IsWithinLimits choice.most.sessions choice.most.objects choice.most.symbols
+          (all_of told) joined.within → Joins
       of_told now [] h puts limits = absurd h
       of_told now (F ∷ given) h puts limits =
           let is = held.ends now F h.0 in
@@ -291,16 +294,16 @@ module _ {R : Type 0} (unread : R → Option (List ℕ)) (failures : R → ℕ) 
             puts =
                 subst (λ l. PutsJournal joined.cut u v (l ++ all_of given) joined.entries) is puts;
             limits =
-                subst (λ l. IsWithinLimits 64 4096 1048576 (l ++ all_of given) joined.within) is
-                limits;
+                subst (λ l. IsWithinLimits choice.most.sessions choice.most.objects
+                choice.most.symbols (l ++ all_of given) joined.within) is limits;
             others = all.others;
           }
 
       pub joins_inspected : (now : S) → length xs ≤ 64 → length ys ≡ length xs
-          → EndsMerged joins (chained w (taken xs)) (chained now (taken ys)) 64 4096 1048576 joined
-          u v
+          → (s o y : ℕ) → choice.most ≡ at_most s o y
+          → EndsMerged joins (chained w (taken xs)) (chained now (taken ys)) s o y joined u v
           → Joins
-      joins_inspected now many same h =
+      joins_inspected now many same s o y e h =
           of_told now h.merged.told
           (subst
           (λ l. EachSince joins.ends (chained w l) (chained now ys) h.merged.told)
@@ -308,4 +311,6 @@ module _ {R : Type 0} (unread : R → Option (List ℕ)) (failures : R → ℕ) 
           (subst
           (λ l. EachSince joins.ends (chained w (taken xs)) (chained now l) h.merged.told)
           (all_taken ys (omega (arith, many, same))) h.ends))
-          h.merged.puts h.merged.limits
+          h.merged.puts
+          (subst (λ (most : Limits). IsWithinLimits most.sessions most.objects most.symbols
+          (all_of h.merged.told) joined.within) (sym e) h.merged.limits)

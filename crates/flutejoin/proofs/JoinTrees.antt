@@ -16,7 +16,8 @@ use Rattle.flute_journal.specs.Journal.{IsJournal, IsJournalWithin, Journal}
 use Rattle.flute_journal.specs.Records.{IsFileOf, IsFileWithin}
 use Rattle.flute_journal.specs.Scopes.{is_chosen, chosen}
 use Rattle.flute_journal.proofs.Public.{written_journal}
-use Rattle.flutejoin.specs.Joined.{Choice, InputContent, of_journal, of_file, content_facts, Tells, TellAll}
+use Rattle.flutejoin.specs.Joined.{Choice, InputContent, of_journal, of_file, content_facts, Tells}
+use Rattle.flutejoin.specs.Joined.{TellAll}
 use Rattle.flutejoin.specs.JoinTrees.{Joined, Inputs, none, leaf, node, bytes_of, AreMade, leaf_facts}
 use Rattle.flutejoin.specs.declared.limits.TheConstants.{MAX_ENTRIES}
 use Rattle.flutejoin.proofs.Receptions.{IsJournal-from_within, Journal-only, Same-from_journals}

@@ -1,12 +1,12 @@
 mod Encoded
-mod Sent
+mod Sessions
+mod Closing
 mod Senders
 mod WrittenPieces
 mod SelectedFacts
 mod Shown
 mod Mapped
 mod Written
-mod Listed
 mod Asides
 mod ObjectsListed
 mod OpenObjects
@@ -16,14 +16,7 @@ mod GapsRead
 mod StatusLines
 mod Receptions
 mod Taking
-mod Places
-mod Outcomes
-mod Journaled
 mod Blobs
-mod Given
-mod RunSteps
-mod DriveSteps
-mod Refused
 mod Held
 mod Firsts
 mod Inspections
@@ -31,7 +24,6 @@ mod InputStreams
 mod JoinStreams
 mod JoinStops
 mod JoinTrees
-mod MemoryFacts
 mod Extracted
 mod ObjectFacts
 mod ObjectWriters
@@ -55,3 +47,10 @@ mod LinePieces
 mod LineSenders
 mod ListLines
 mod NamesApart
+mod SentPackets
+mod SentSoFar
+mod SentObjects
+mod SentLengths
+mod SentReads
+mod Slots
+pub mod Public

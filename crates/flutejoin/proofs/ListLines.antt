@@ -30,11 +30,12 @@ use Rattle.flutejoin.specs.declared.information_list.InformationList.{Informatio
 use Rattle.flutejoin.specs.InformationLines.{HasNumbers, IsPassedOver, Shows, LineTells, shown}
 use Rattle.flutejoin.specs.InformationLines.{IsOneLine, LinesTell, ListTells, BeginsLine, HasLine}
 use Rattle.flutejoin.specs.InformationLines.{TellsNothing, TellsInvalid}
+use Rattle.flutejoin.specs.Limits.{Limits}
 use Rattle.flutejoin.specs.InformationLines.{ListFails, nothing, no_end, too_long, invalid, over}
 use Rattle.flutejoin.specs.InformationLines.{no_memory, IsKept, TakingFails, of_line, no_line}
 use Rattle.flutejoin.specs.InformationLines.{not_valid, no_room, no_memory_for, HoldsList}
 use Rattle.flutejoin.specs.Lines.{line, source_words, object_words, information_words, fact_words}
-use Rattle.flutejoin.specs.Joining.{NamesOnly}
+use Rattle.flutejoin.specs.JoinParts.{NamesOnly}
 use Rattle.flutejoin.specs.Show.{FailsToRead}
 use Rattle.flutejoin.proofs.LinePieces.{fact_chain, from_block, from_info, from_object, from_space}
 use Rattle.flutejoin.proofs.LinePieces.{from_symbol, information_chain}
@@ -246,7 +247,7 @@ tell_none : LinesTell [] []
 unfolding LinesTell
 tell_none = refl
 
-pub holds_nothing : (list : InformationList) → list.told ≡ [] → list.line ≡ []
+pub holds_nothing : {s o y : ℕ} (list : InformationList s o y) → list.told ≡ [] → list.line ≡ []
     → list.long ≡ false → list.number ≡ 1 → HoldsList list []
 holds_nothing list told kept long number = record {
   facts = [];
@@ -257,7 +258,8 @@ holds_nothing list told kept long number = record {
   content = subst (λ F. Same F []) (sym told) (Same-itself []);
 }
 
-pub line_ended : (old new : InformationList) (bytes : List ℕ) → new.line ≡ [] → new.long ≡ false
+pub line_ended : {s o y : ℕ} (old new : InformationList s o y) (bytes : List ℕ) → new.line ≡ [] →
+    new.long ≡ false
     → new.number ≡ old.number + 1
     → ((words : List ℕ) → IsKept old.long old.line words → (facts : List Fact)
     × LineTells words facts × Same new.told (old.told ++ facts))
@@ -277,11 +279,12 @@ line_ended old new bytes kept long number took h =
           (Same-append old.told h.facts t.0 t.0 h.content (Same-itself t.0));
     }
 
-pub line_failed : (old : InformationList) (bytes more : List ℕ) (fault : CommandFault)
+pub line_failed : {s o y : ℕ} (most : Limits) (old : InformationList s o y)
+    (bytes more : List ℕ) (fault : CommandFault)
     → ((words : List ℕ) → IsKept old.long old.line words
-    → TakingFails old.told old.number words fault)
-    → HoldsList old bytes → ListFails (bytes ++ 10 ∷ more) fault
-line_failed old bytes more fault why h = go (why h.words h.kept)
+    → TakingFails most old.told old.number words fault)
+    → HoldsList old bytes → ListFails most (bytes ++ 10 ∷ more) fault
+line_failed most old bytes more fault why h = go (why h.words h.kept)
   where
     at : (P : List ℕ → Type 0) → P h.words → HasLine P (bytes ++ 10 ∷ more) old.number
     at P p = record {
@@ -293,7 +296,8 @@ line_failed old bytes more fault why h = go (why h.words h.kept)
       here = p;
     }
 
-    go : TakingFails old.told old.number h.words fault → ListFails (bytes ++ 10 ∷ more) fault
+    go : TakingFails most old.told old.number h.words fault
+        → ListFails most (bytes ++ 10 ∷ more) fault
     go (of_line (no_line e p)) = nothing old.number e (at TellsNothing p)
     go (of_line (not_valid w e p)) = invalid old.number w e (at (TellsInvalid w) p)
     go (no_room facts e tells full) = over e (record {
@@ -303,13 +307,13 @@ line_failed old bytes more fault why h = go (why h.words h.kept)
       begins =
           begins_more bytes old.number h.facts h.words facts more h.begins h.one_line tells;
       over =
-          Over-below (old.told ++ facts) (h.facts ++ facts) 64 4096 1048576
+          Over-below (old.told ++ facts) (h.facts ++ facts) most.sessions most.objects most.symbols
           (Below-from_Same (old.told ++ facts) (h.facts ++ facts)
           (Same-append old.told h.facts facts facts h.content (Same-itself facts))) full;
     })
     go (no_memory_for e) = no_memory e
 
-pub pushed : (old new : InformationList) (bytes : List ℕ) (byte : ℕ) → byte ≢ 10
+pub pushed : {s o y : ℕ} (old new : InformationList s o y) (bytes : List ℕ) (byte : ℕ) → byte ≢ 10
     → new.number ≡ old.number → new.told ≡ old.told
     → ((words : List ℕ) → IsKept old.long old.line words
     → IsKept new.long new.line (words ++ byte ∷ []))
@@ -330,7 +334,8 @@ pushed old new bytes byte other number told keeps h = record {
   content = subst (λ F. Same F h.facts) (sym told) h.content;
 }
 
-pub all_told : (list : InformationList) (bytes : List ℕ) → list.line ≡ [] → HoldsList list bytes
+pub all_told : {s o y : ℕ} (list : InformationList s o y) (bytes : List ℕ) → list.line ≡ [] →
+    HoldsList list bytes
     → (facts : List Fact) × ListTells bytes facts × Same list.told facts
 all_told list bytes kept h = (
   h.facts,
@@ -350,9 +355,10 @@ some_length : (n : ℕ) (b : Bool) → b ≡ (n == 0) → b ≡ false → 0 < n
 some_length zero b is empty = absurd (let e : true ≡ false = sym is ∙ empty in cc)
 some_length (suc n) b is empty = omega arith
 
-pub not_ended : (list : InformationList) (kept : List ℕ) (b : Bool) (bytes : List ℕ)
+pub not_ended : {s o y : ℕ} {most : Limits} (list : InformationList s o y) (kept : List ℕ) (b :
+    Bool) (bytes : List ℕ)
     → kept ≡ list.line → b ≡ (length kept == 0) → b ≡ false → HoldsList list bytes
-    → ListFails bytes (ListLine list.number)
+    → ListFails most bytes (ListLine list.number)
 not_ended list kept b bytes same is some h = no_end list.number refl (record {
   facts = h.facts;
   words = h.words;
@@ -365,19 +371,21 @@ not_ended list kept b bytes same is some h = no_end list.number refl (record {
 
 -- Bytes of a piece.
 
-pub piece_more : (list : InformationList) (bytes piece : List ℕ) (i : ℕ) → i < length piece
+pub piece_more : {s o y : ℕ} (list : InformationList s o y) (bytes piece : List ℕ) (i : ℕ) → i <
+    length piece
     → HoldsList list ((bytes ++ take i piece) ++ get_or piece i 0 ∷ [])
     → HoldsList list (bytes ++ take (i + 1) piece)
 piece_more list bytes piece i in_piece h =
     subst (λ (l : List ℕ). HoldsList list (bytes ++ l)) (sym (take_more piece i 0 in_piece))
     (subst (HoldsList list) (append_assoc bytes (take i piece) (get_or piece i 0 ∷ [])) h)
 
-pub piece_fails : (bytes piece more : List ℕ) (i : ℕ) (fault : CommandFault) → i < length piece
+pub piece_fails : (most : Limits) (bytes piece more : List ℕ) (i : ℕ) (fault : CommandFault) → i <
+    length piece
     → ((further : List ℕ)
-    → ListFails ((bytes ++ take i piece) ++ get_or piece i 0 ∷ further) fault)
-    → ListFails (bytes ++ (piece ++ more)) fault
-piece_fails bytes piece more i fault in_piece fails =
-    subst (λ (l : List ℕ). ListFails l fault)
+    → ListFails most ((bytes ++ take i piece) ++ get_or piece i 0 ∷ further) fault)
+    → ListFails most (bytes ++ (piece ++ more)) fault
+piece_fails most bytes piece more i fault in_piece fails =
+    subst (λ (l : List ℕ). ListFails most l fault)
     (five bytes (take i piece) (get_or piece i 0) (drop (i + 1) piece) more
     ∙ ap (λ (l : List ℕ). bytes ++ (l ++ more)) (sym whole))
     (fails (drop (i + 1) piece ++ more))
@@ -416,13 +424,14 @@ read_end u v w bytes piece read next none =
     (ap (λ (l : List ℕ). bytes ++ l) none ∙ append-nil bytes)
     (Consumes-trans u v w bytes piece read next)
 
-pub too_many : (bytes piece more : List ℕ) (number : ℕ) → 2 ^ 64 ≤ length bytes + length piece + 1
-    → ListFails (bytes ++ (piece ++ more)) (ListLine number)
+pub too_many : {most : Limits} (bytes piece more : List ℕ) (number : ℕ) → 2 ^ 64 ≤ length bytes +
+    length piece + 1
+    → ListFails most (bytes ++ (piece ++ more)) (ListLine number)
 too_many bytes piece more number many = too_long number refl
     (omega (arith, length-append bytes (piece ++ more), length-append piece more))
 
-pub ends_told : (u v : Option (List ℕ)) (r : Result (List Fact) CommandFault)
-    (list : InformationList) (bytes : List ℕ) → Consumes u v bytes → IsAtEnd v
+pub ends_told : {s o y : ℕ} (u v : Option (List ℕ)) (r : Result (List Fact) CommandFault)
+    (list : InformationList s o y) (bytes : List ℕ) → Consumes u v bytes → IsAtEnd v
     → HoldsList list bytes
     → IfOk r (λ shelf. (all : List ℕ) → HoldsList list all
     → (facts : List Fact) × ListTells all facts × Same shelf facts)
@@ -433,25 +442,26 @@ ends_told u v (Ok shelf) list bytes read end holds h =
     read end (h bytes holds)
 ends_told u v (Err fault) list bytes read end holds h = tt
 
-pub ends_failed : (u v : Option (List ℕ)) (r : Result (List Fact) CommandFault)
-    (list : InformationList) (bytes : List ℕ) → Consumes u v bytes → IsAtEnd v
+pub ends_failed : {s o y : ℕ} (most : Limits) (u v : Option (List ℕ)) (r : Result (List Fact)
+    CommandFault)
+    (list : InformationList s o y) (bytes : List ℕ) → Consumes u v bytes → IsAtEnd v
     → HoldsList list bytes
-    → IfErr r (λ fault. (all : List ℕ) → HoldsList list all → ListFails all fault)
-    → IfErr r (λ fault. (fault ≡ Input 2 Read) ⊎ IfSome u (λ all. ListFails all fault))
-ends_failed u v (Ok shelf) list bytes read end holds h = tt
-ends_failed u v (Err fault) list bytes read end holds h =
-    inr (at_end u v bytes (λ all. ListFails all fault) read end (h bytes holds))
+    → IfErr r (λ fault. (all : List ℕ) → HoldsList list all → ListFails most all fault)
+    → IfErr r (λ fault. (fault ≡ Input 2 Read) ⊎ IfSome u (λ all. ListFails most all fault))
+ends_failed most u v (Ok shelf) list bytes read end holds h = tt
+ends_failed most u v (Err fault) list bytes read end holds h =
+    inr (at_end u v bytes (λ all. ListFails most all fault) read end (h bytes holds))
 
 -- How often its source failed.
 
-pub quiet_fails : (old new : ℕ) (bytes : List ℕ) (fault : CommandFault) → ListFails bytes fault
-    → new ≡ old → FailsToRead {T = List Fact} old new (Err fault)
-quiet_fails old new bytes fault h same = go h
+pub quiet_fails : {most : Limits} (old new : ℕ) (bytes : List ℕ) (fault : CommandFault)
+    → ListFails most bytes fault → new ≡ old → FailsToRead {T = List Fact} old new (Err fault)
+quiet_fails {most} old new bytes fault h same = go h
   where
     P : CommandFault → Type 0
     P f = FailsToRead {T = List Fact} old new (Err f)
 
-    go : ListFails bytes fault → P fault
+    go : ListFails most bytes fault → P fault
     go (nothing number e x) = subst P (sym e) same
     go (no_end number e x) = subst P (sym e) same
     go (too_long number e x) = subst P (sym e) same
@@ -459,12 +469,13 @@ quiet_fails old new bytes fault h same = go h
     go (over e x) = subst P (sym e) same
     go (no_memory e) = subst P (sym e) same
 
-pub ends_quiet : (old new : ℕ) (r : Result (List Fact) CommandFault) (list : InformationList)
+pub ends_quiet : {s o y : ℕ} (most : Limits) (old new : ℕ)
+    (r : Result (List Fact) CommandFault) (list : InformationList s o y)
     (bytes : List ℕ) → new ≡ old → HoldsList list bytes
-    → IfErr r (λ fault. (all : List ℕ) → HoldsList list all → ListFails all fault)
+    → IfErr r (λ fault. (all : List ℕ) → HoldsList list all → ListFails most all fault)
     → FailsToRead old new r
-ends_quiet old new (Ok shelf) list bytes same holds h = same
-ends_quiet old new (Err fault) list bytes same holds h =
+ends_quiet most old new (Ok shelf) list bytes same holds h = same
+ends_quiet most old new (Err fault) list bytes same holds h =
     quiet_fails old new bytes fault (h bytes holds) same
 
 pub failed_once : (old now new : ℕ) (fault : CommandFault) → fault ≡ Input 2 Read → now ≡ old
@@ -475,7 +486,8 @@ failed_once old now new fault e same h =
 
 -- No input but the second is told.
 
-pub names_fails : (bytes : List ℕ) (fault : CommandFault) → ListFails bytes fault
+pub names_fails : {most : Limits} (bytes : List ℕ) (fault : CommandFault)
+    → ListFails most bytes fault
     → NamesOnly 2 fault
 names_fails bytes fault (nothing number e x) = subst (NamesOnly 2) (sym e) tt
 names_fails bytes fault (no_end number e x) = subst (NamesOnly 2) (sym e) tt
@@ -484,9 +496,10 @@ names_fails bytes fault (invalid number why e x) = subst (NamesOnly 2) (sym e) t
 names_fails bytes fault (over e x) = subst (NamesOnly 2) (sym e) tt
 names_fails bytes fault (no_memory e) = subst (NamesOnly 2) (sym e) tt
 
-pub ends_names : (r : Result (List Fact) CommandFault) (list : InformationList)
+pub ends_names : {s o y : ℕ} (most : Limits) (r : Result (List Fact) CommandFault)
+    (list : InformationList s o y)
     (bytes : List ℕ) → HoldsList list bytes
-    → IfErr r (λ fault. (all : List ℕ) → HoldsList list all → ListFails all fault)
+    → IfErr r (λ fault. (all : List ℕ) → HoldsList list all → ListFails most all fault)
     → IfErr r (NamesOnly 2)
-ends_names (Ok shelf) list bytes holds h = tt
-ends_names (Err fault) list bytes holds h = names_fails bytes fault (h bytes holds)
+ends_names most (Ok shelf) list bytes holds h = tt
+ends_names most (Err fault) list bytes holds h = names_fails bytes fault (h bytes holds)

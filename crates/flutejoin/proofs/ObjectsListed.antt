@@ -1,14 +1,14 @@
--- The lines of objects, whose facts come in the order of their addresses.
-use Rattle.std.proofs.Common.{◌≡◌, ℕ, List, [], ◌∷◌, ◌++◌, Option, Some, None, refl, sym, ap, ◌∙◌}
+-- What is told of objects, whose facts come in the order of their addresses.
+use Rattle.std.proofs.Common.{◌≡◌, List, [], ◌∷◌, ◌++◌, Option, Some, None, refl, sym, ap, ◌∙◌}
 use Rattle.std.proofs.Common.{subst, inl, inr, arith}
-use Rattle.std.specs.Prelude.{Contains, filter_map, option_map}
-use Rattle.std.specs.List.{flat_map, AllByRecursion}
+use Rattle.std.specs.Prelude.{Contains, filter_map, map, option_map}
+use Rattle.std.specs.List.{AllByRecursion}
 use Rattle.std.specs.List.Sorted.{IsStrictlySortedBy}
 use Rattle.std.specs.Ordering.{is_eq, ordering_then}
 use Rattle.std.specs.declared.cmp.Ordering.{Ordering}
 use Rattle.std.specs.declared.cmp.Ordering.TheVariants.{Less, Equal, Greater}
 use Rattle.std.proofs.lemmas.Cmp.{tied_itself}
-use Rattle.std.proofs.lemmas.List.{flat_map_more}
+use Rattle.std.proofs.lemmas.List.{map-append}
 use Rattle.std.proofs.lemmas.List.Elements.{Contains-append_left, Contains-append_right}
 use Rattle.std.proofs.lemmas.List.Elements.{Contains-append_cases, Contains-push}
 use Rattle.std.proofs.lemmas.List.Elements.{Contains-push_cases}
@@ -32,14 +32,14 @@ use Rattle.flute_parts.proofs.Public.{fact_at-some_named, joined, joined-none, k
 use Rattle.flute_parts.proofs.Public.{member-after, Member-from, none-at, tied}
 use Rattle.flute_store.specs.Objects.{want, wants, runs}
 use Rattle.flute_store.specs.Held.{HoldsObject}
-use Rattle.flutejoin.specs.Lines.{status_line, gap_line}
-use Rattle.flutejoin.specs.Objects.{status_wanting, status_at, gaps_at, object_lines}
-use Rattle.flutejoin.specs.Listing.{AreListed, IsFirstOf}
+use Rattle.flutejoin.specs.Objects.{status_wanting, status_at, gaps_at}
+use Rattle.flutejoin.specs.Told.{AreTold, Told, told_of}
+use Rattle.flutejoin.specs.Listing.{IsFirstOf}
 
 pub in_nothing : {X : Type 0} (x : X) → Contains [] x → ⊥
 in_nothing x c = omega (arith, c.1)
 
--- ---- the lines of an object depend on what the facts come to at its addresses
+-- ---- what is told of an object depends on what the facts come to at its addresses
 
 module _ (F G : List Fact) (key : Key) (same : (part : Part) → fact_at F
     (record { key = key; part = part }) ≡ fact_at G (record { key = key; part = part })) where
@@ -62,16 +62,15 @@ module _ (F G : List Fact) (key : Key) (same : (part : Part) → fact_at F
   gaps_same (Some (Symbol k id b)) = refl
   gaps_same (Some (SymbolConflict k id)) = refl
 
-  lines_same : object_lines F key ≡ object_lines G key
-  unfolding object_lines
-  lines_same =
+  told_same : told_of F key ≡ told_of G key
+  told_same =
       let status : status_at F key (fact_at F (info_address key)) ≡ status_at G key
       (fact_at G (info_address key)) = status_same (fact_at F (info_address key)) ∙ ap
       (status_at G key) (same InfoPart) in
       let gaps : gaps_at F key (fact_at F (info_address key)) ≡ gaps_at G key
       (fact_at G (info_address key)) = gaps_same (fact_at F (info_address key)) ∙ ap
       (gaps_at G key) (same InfoPart) in
-      λ i. status_line key (status i) ++ flat_map gap_line (gaps i)
+      λ i. record { key = key; status = status i; gaps = gaps i }
 
 -- ---- which objects facts are of
 
@@ -92,9 +91,9 @@ named-from F key h = elim (fact_at-some_named F (record { key = key; part = h.0 
 
 -- facts of other objects do not change what an object's come to
 other_objects : (F G : List Fact) (key : Key) → ((g : Fact) → Contains G g → (address g).key ≡ key
-    → ⊥) → object_lines F key ≡ object_lines (F ++ G) key
+    → ⊥) → told_of F key ≡ told_of (F ++ G) key
 other_objects F G key h =
-    lines_same F (F ++ G) key
+    told_same F (F ++ G) key
     (λ part.
     let a : Address = record { key = key; part = part } in
     sym (fact_at-append F G a ∙ ap (joined a (fact_at F a))
@@ -171,21 +170,21 @@ sorted_more (x ∷ ks) k s h = (
       (Contains-append_right (x ∷ []) ks y c)),
 )
 
-lines_kept : (F G : List Fact) (ks : List Key) → ((k : Key) → Contains ks k → object_lines F k ≡
-    object_lines G k) → flat_map (object_lines F) ks ≡ flat_map (object_lines G) ks
-lines_kept F G [] h = refl
-lines_kept F G (k ∷ ks) h =
+told_kept : (F G : List Fact) (ks : List Key) → ((k : Key) → Contains ks k → told_of F k ≡
+    told_of G k) → map (told_of F) ks ≡ map (told_of G) ks
+told_kept F G [] h = refl
+told_kept F G (k ∷ ks) h =
     let one = h k (Contains-append_left (k ∷ []) ks k (Contains-push [] k)) in
-    let others = lines_kept F G ks (λ x c. h x (Contains-append_right (k ∷ []) ks x c)) in
-    λ i. one i ++ others i
+    let others = told_kept F G ks (λ x c. h x (Contains-append_right (k ∷ []) ks x c)) in
+    λ i. one i ∷ others i
 
--- the lines of the objects before, and of one more, of which all other facts are
-pub one_more_listed : (before mine : List Fact) (key : Key) (lines : List ℕ) → IsRising
-    (before ++ mine) → AreListed before lines → IsFirstOf before key →
+-- what is told of the objects before, and of one more, of which all other facts are
+pub one_more_told : (before mine : List Fact) (key : Key) (objects : List Told) → IsRising
+    (before ++ mine) → AreTold before objects → IsFirstOf before key →
     ((f : Fact) → Contains mine f → (address f).key ≡ key)
-    → (f : Fact) × Contains mine f → AreListed (before ++ mine)
-    (lines ++ object_lines (before ++ mine) key)
-one_more_listed before mine key lines r l first own some =
+    → (f : Fact) × Contains mine f → AreTold (before ++ mine)
+    (objects ++ told_of (before ++ mine) key ∷ [])
+one_more_told before mine key objects r l first own some =
     let all = before ++ mine in
     let earlier : (k : Key) → Contains l.keys k → (f : Fact) × (Contains before f) ×
     ((address f).key ≡ k) = λ k c. named-from before k ((l.held k).0 c) in
@@ -198,7 +197,7 @@ one_more_listed before mine key lines r l first own some =
     (subst (λ x. key_cmp (address f.0).key x ≡ Less) e
     (lesser_key (address f.0) (address some.0) (stands_before before mine f.0 some.0 r f.1 some.1)
     (λ same. first f.0 f.1 (same ∙ e)))) in
-    let kept = lines_kept before all l.keys (λ k c. other_objects before mine k
+    let kept = told_kept before all l.keys (λ k c. other_objects before mine k
     (λ g d e. apart k c (sym e ∙ own g d))) in
     record {
       keys = l.keys ++ key ∷ [];
@@ -219,14 +218,14 @@ one_more_listed before mine key lines r l first own some =
                   (Contains-push l.keys key)
             ],
       );
-      lines = ap (λ x. x ++ object_lines all key) (l.lines ∙ kept) ∙ flat_map_more
-          (object_lines all) [] l.keys key;
+      told = ap (λ x. x ++ told_of all key ∷ []) (l.told ∙ kept)
+          ∙ sym (map-append (told_of all) l.keys (key ∷ []));
     }
 
--- no facts have no lines
-pub none_listed : AreListed [] []
+-- no facts tell of no object
+pub none_told : AreTold [] []
 unfolding IsStrictlySortedBy
-none_listed = record {
+none_told = record {
   keys = [];
   rising = tt;
   held = λ k. (
@@ -234,5 +233,5 @@ none_listed = record {
     λ h. let f = named-from [] k h in absurd
         (in_nothing f.0 f.1),
   );
-  lines = refl;
+  told = refl;
 }

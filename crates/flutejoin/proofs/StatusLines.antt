@@ -1,30 +1,21 @@
 -- What a store tells of an object is what its facts say.
-use Rattle.std.proofs.Common.{◌≡◌, ◌≢◌, ℕ, List, [], ◌∷◌, ◌++◌, Option, Result, refl, sym, ap, ◌∙◌, subst}
+use Rattle.std.proofs.Common.{◌≡◌, ◌≢◌, ℕ, List, [], ◌∷◌, refl, sym, ap, ◌∙◌}
 use Rattle.std.specs.List.{flat_map}
-use Rattle.std.specs.Io.KnownBytes.{Appends}
-use Rattle.std.proofs.lemmas.List.{append-nil}
 use Rattle.flute_parts.specs.Information.{Information}
 use Rattle.flute_parts.specs.Addresses.{info_address}
 use Rattle.flute_parts.specs.Facts.{fact_at}
-use Rattle.flute_parts.specs.Devices.{AppendsPart, Writes}
-use Rattle.flute_parts.proofs.Public.{AppendsPart-first, Writes-behind}
 use Rattle.flute_parts.specs.declared.key.Key.{Key}
 use Rattle.flute_parts.specs.declared.symbol_id.SymbolId.{SymbolId}
-use Rattle.flute_parts.specs.declared.address.Part.TheVariants.{Info as InfoPart}
 use Rattle.flute_parts.specs.declared.fact.Fact.{Fact}
 use Rattle.flute_store.specs.declared.gap.Reason.{Reason}
 use Rattle.flute_store.specs.declared.gap.Reason.TheVariants.{Missing, Conflicting, Misfit}
-use Rattle.flute_store.specs.declared.gaps.GapFault.{GapFault}
-use Rattle.flute_store.specs.declared.gaps.GapFault.TheVariants as faults
 use Rattle.flute_store.specs.declared.status.Status.{Status}
-use Rattle.flute_store.specs.declared.status.Status.TheVariants.{NoInformation, ConflictingInformation, Partial, Whole}
-use Rattle.flute_store.specs.GapsLeft.{GapsLeft}
-use Rattle.flute_store.specs.GapAnswers.{GivesGaps, TellsGapFault}
+use Rattle.flute_store.specs.declared.status.Status.TheVariants.{NoInformation, Partial, Whole}
+use Rattle.flute_store.specs.declared.status.Status.TheVariants.{ConflictingInformation}
 use Rattle.flute_store.specs.Objects.{wants, listed}
 use Rattle.flute_store.specs.Status.{how_many, TellsStatus}
 use Rattle.flute_store.proofs.Public.{runs-listed, whole-gapless}
-use Rattle.flutejoin.specs.Lines.{status_line, gap_line}
-use Rattle.flutejoin.specs.Objects.{status_wanting, status_at, gaps_at, object_lines}
+use Rattle.flutejoin.specs.Objects.{status_wanting, status_at}
 
 partial_is : (info : Information) (ws : List (SymbolId × Reason)) (m c f : ℕ) → ws ≢ [] → m ≡ how_many Missing ws → c ≡ how_many Conflicting ws → f ≡ how_many Misfit ws
     → Partial m c f ≡ status_wanting info ws
@@ -40,38 +31,3 @@ status_is F key (Partial m c f) h =
 status_is F key (Whole n) h =
     let none : wants F key h.0 ≡ [] = sym (runs-listed (wants F key h.0)) ∙ ap (flat_map listed) (whole-gapless F key h.0 h.1) in
     ap Whole h.2 ∙ ap (status_wanting h.0) (sym none) ∙ sym (ap (status_at F key) h.1.information)
-
--- what is told of the gaps
-pub gaps_are : (F : List Fact) (key : Key) (left : GapsLeft) → GivesGaps F key left → left.gaps ≡ gaps_at F key (fact_at F (info_address key))
-gaps_are F key left h = h.gaps_are ∙ sym (ap (gaps_at F key) h.information)
-
-no_gaps : (F : List Fact) (key : Key) (fault : GapFault) → TellsGapFault F key fault → gaps_at F key (fact_at F (info_address key)) ≡ []
-no_gaps F key faults.NoObject h = ap (gaps_at F key) (h InfoPart)
-no_gaps F key faults.NoInformation h = ap (gaps_at F key) h.1
-no_gaps F key faults.ConflictingInformation h = ap (gaps_at F key) h
-
--- the line of the object was written in part
-pub object_part : (F : List Fact) (key : Key) (status : Status) (s t : Option (List ℕ)) → TellsStatus F key status → AppendsPart s t (status_line key status) → AppendsPart s t (object_lines F key)
-unfolding object_lines
-object_part F key status s t h part =
-    AppendsPart-first s t (status_line key (status_at F key (fact_at F (info_address key)))) (flat_map gap_line (gaps_at F key (fact_at F (info_address key))))
-    (subst (λ x. AppendsPart s t (status_line key x)) (status_is F key status h) part)
-
--- the line of the object was written, and then those of its gaps
-pub object_written : {T E : Type 0} (F : List Fact) (key : Key) (status : Status) (left : GapsLeft) (s t t' : Option (List ℕ)) (r : Result T E) → TellsStatus F key status → GivesGaps F key left
-    → Appends s t (status_line key status) → Writes t t' (flat_map gap_line left.gaps) r → Writes s t' (object_lines F key) r
-unfolding object_lines
-object_written F key status left s t t' r h g line more =
-    Writes-behind s t t' (status_line key (status_at F key (fact_at F (info_address key)))) (flat_map gap_line (gaps_at F key (fact_at F (info_address key)))) r
-    (subst (λ x. Appends s t (status_line key x)) (status_is F key status h) line)
-    (subst (λ l. Writes t t' (flat_map gap_line l) r) (gaps_are F key left g) more)
-
--- and an object without one information has none
-pub object_alone : (F : List Fact) (key : Key) (status : Status) (fault : GapFault) (s t : Option (List ℕ)) → TellsStatus F key status → TellsGapFault F key fault
-    → Appends s t (status_line key status) → Appends s t (object_lines F key)
-unfolding object_lines
-object_alone F key status fault s t h g line =
-    let front = status_line key (status_at F key (fact_at F (info_address key))) in
-    let all : front ≡ front ++ flat_map gap_line (gaps_at F key (fact_at F (info_address key))) =
-    sym (append-nil front) ∙ ap (λ l. front ++ flat_map gap_line l) (sym (no_gaps F key fault g)) in
-    subst (λ (l : List ℕ). Appends s t l) all (subst (λ x. Appends s t (status_line key x)) (status_is F key status h) line)

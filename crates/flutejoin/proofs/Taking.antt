@@ -1,21 +1,19 @@
 -- A datagram that was taken, or refused and counted.
-use Rattle.std.proofs.Common.{◌≡◌, ◌<◌, ◌++◌, ◌↔◌, ℕ, zero, suc, List, Option, Some, None, true, false, Result, Ok, Err, IsOk, refl, ap, subst, arith, append-nil}
+use Rattle.std.proofs.Common.{◌≡◌, ◌<◌, ◌++◌, ◌↔◌, ℕ, zero, suc, List, Option, Some, None, true}
+use Rattle.std.proofs.Common.{false, Result, Ok, Err, refl, ap, arith, append-nil}
 use Rattle.std.specs.Prelude.{is_none}
-use Rattle.std.specs.List.{AllByRecursion}
 use Rattle.flute_parts.specs.declared.fact.Fact.{Fact}
 use Rattle.flute_parts.specs.Facts.{Same}
-use Rattle.flute_parts.specs.Limits.{Over}
-use Rattle.flute_parts.proofs.Public.{Below-from_Same, Over-below, Same-itself}
+use Rattle.flute_parts.proofs.Public.{Same-itself}
 use Rattle.flute_wire.specs.Content.{Content}
 use Rattle.flute_wire.specs.Datagram.{Spells}
 use Rattle.flute_wire.specs.Refusals.{Applies, Refuses, rank}
 use Rattle.flute_wire.specs.Reading.{packet, facts}
 use Rattle.flute_wire.specs.declared.refusal.Refusal.{Refusal}
 use Rattle.flute_wire.proofs.Public.{facts-refused, packet-iff}
-use Rattle.flute_store.specs.Held.{HasCell}
 use Rattle.flute_store.specs.declared.taken.Taken.{Taken}
 use Rattle.flute_store.specs.declared.taken.TakeFault.{TakeFault}
-use Rattle.flute_store.specs.declared.taken.TakeFault.TheVariants.{Datagram, Full, OutOfMemory}
+use Rattle.flute_store.specs.declared.taken.TakeFault.TheVariants.{Datagram}
 use Rattle.flutejoin.specs.Refused.{is_refused}
 
 abbrev pub IsPacket : List ℕ → Type 0
@@ -51,33 +49,6 @@ TellsRefusals d result = (r : Refusal) → (result ≡ Err (Datagram r)) ↔ Ref
 pub ok_is_packet : (d : List ℕ) (result : Result Taken TakeFault) (t : Taken) → HasOneReading d → TellsRefusals d result → result ≡ Ok t → IsPacket d
 ok_is_packet d result t one tells is = is_packet d one (λ r refuses. let e = (tells r).1 refuses in cc)
 
-pub full_is_packet : (d : List ℕ) (result : Result Taken TakeFault) → HasOneReading d → TellsRefusals d result → result ≡ Err Full → IsPacket d
-full_is_packet d result one tells is = is_packet d one (λ r refuses. let e = (tells r).1 refuses in cc)
-
-pub memory_is_packet : (d : List ℕ) (result : Result Taken TakeFault) → HasOneReading d → TellsRefusals d result → result ≡ Err OutOfMemory → IsPacket d
-memory_is_packet d result one tells is = is_packet d one (λ r refuses. let e = (tells r).1 refuses in cc)
-
--- a store that took the datagram is within its limits
-pub ok_within : (sender : ℕ) (s o y : ℕ) (old new : List Fact) (d : List ℕ) (result : Result Taken TakeFault) (t : Taken) → result ≡ Ok t → Same new (old ++ facts sender d)
-    → (result ≡ Err Full) ↔ Over (old ++ facts sender d) s o y → ¬ Over new s o y
-ok_within sender s o y old new d result t is same full over =
-    let e = full.1 (Over-below new (old ++ facts sender d) s o y (Below-from_Same new (old ++ facts sender d) same) over) in cc
-
 -- a refused datagram gives nothing
 pub refused_same : (sender : ℕ) (old new : List Fact) (d : List ℕ) (r : Refusal) → Applies r d → new ≡ old → Same new (old ++ facts sender d)
 refused_same sender old new d r applies same = rw (facts-refused sender d r applies, append-nil old, same) (Same-itself old)
-
-pub refused_within : (sender : ℕ) (s o y : ℕ) (old new : List Fact) (d : List ℕ) (result : Result Taken TakeFault) (r : Refusal) → Applies r d → new ≡ old → result ≡ Err (Datagram r)
-    → (result ≡ Err Full) ↔ Over (old ++ facts sender d) s o y → ¬ Over new s o y
-refused_within sender s o y old new d result r applies same is full over =
-    let e = full.1 (Over-below new (old ++ facts sender d) s o y (Below-from_Same new (old ++ facts sender d) (refused_same sender old new d r applies same)) over) in cc
-
--- where its facts stand at held addresses, a packet is taken
-abbrev pub TakesHeld : ℕ → List Fact → List ℕ → Result Taken TakeFault → Type 0
-TakesHeld sender old d result = (p : Content) → Spells d p → AllByRecursion (HasCell old) (facts sender d) → IsOk result
-
-pub not_held : (sender : ℕ) (old : List Fact) (d : List ℕ) (result : Result Taken TakeFault) (f : TakeFault) → IsPacket d → TakesHeld sender old d result → result ≡ Err f → ¬ AllByRecursion (HasCell old) (facts sender d)
-not_held sender old d result f spelled held is cells =
-    let P : Result Taken TakeFault → Type 0 = λ r. IsOk r in
-    let e : IsOk {T = Taken} {E = TakeFault} (Err f) = subst P is (held spelled.0 spelled.1 cells) in
-    cc

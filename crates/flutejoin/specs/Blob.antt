@@ -1,7 +1,10 @@
 -- A whole input.
-use Rattle.std.specs.Prelude.{ℕ, ◌<◌, List, length, Option, ⊤, IfSome, Result, Err}
+use Rattle.std.specs.Prelude.{◌≡◌, ℕ, ◌<◌, List, length, Option, ⊤, IfSome, Result, Err}
 use Rattle.flutejoin.specs.declared.blob.BlobFault.{BlobFault}
 use Rattle.flutejoin.specs.declared.blob.BlobFault.TheVariants.{Read, TooLarge, OutOfMemory}
+use Rattle.flute_journal.specs.declared.fault.ReadFault.TheVariants as read
+use Rattle.flutejoin.specs.declared.command_fault.CommandFault.{CommandFault}
+use Rattle.flutejoin.specs.declared.command_fault.CommandFault.TheVariants as faults
 
 -- why an input was not kept, by the bytes that were left of it
 abbrev pub IsBlobFault : Option (List ℕ) → BlobFault → Type 0
@@ -13,3 +16,11 @@ IsBlobFault old OutOfMemory = ⊤
 abbrev pub blob_failed : {T : Type 0} → Result T BlobFault → ℕ
 blob_failed (Err Read) = 1
 blob_failed _ = 0
+
+-- why an input was not put into a sink, by the bytes that were left of it
+abbrev pub PutFails : Option (List ℕ) → CommandFault → Type 0
+PutFails old (faults.TooLarge number) =
+    (number ≡ 1) × IfSome old (λ bytes. 4294967295 < length bytes)
+PutFails old (faults.Input number fault) = (number ≡ 1) × (fault ≡ read.Read)
+PutFails old faults.CannotWrite = ⊤
+PutFails old _ = ⊥

@@ -13,6 +13,7 @@ use Rattle.clap.specs.declared.error.kind.ErrorKind.TheVariants as kind
 use Rattle.flute_journal.specs.Selections.{is_everything}
 use Rattle.flute_journal.specs.Sessions.{listed_tsis}
 use Rattle.flute_journal.specs.declared.scope.Scope.{Scope}
+use Rattle.flute_journal.specs.declared.selection.Selection.{Selection}
 use Rattle.flutejoin.specs.Options.{HasObject, HasSessions, HasSource, IsFlag, IsFormFault, IsKey}
 use Rattle.flutejoin.specs.Options.{IsNumber, IsSourceIf, IsZero, all_form, are_sessions}
 use Rattle.flutejoin.specs.Options.{carousel_options, extract_form, first_unfit, first_wrong}
@@ -28,6 +29,7 @@ use Rattle.flutejoin.specs.declared.command_fault.CommandFault.TheVariants.{BadK
 use Rattle.flutejoin.specs.declared.command_fault.CommandFault.TheVariants.{TooManyInputs}
 use Rattle.flutejoin.specs.declared.command_fault.CommandFault.TheVariants.{OutputIsInput}
 use Rattle.flutejoin.specs.declared.command_fault.CommandFault.TheVariants.{OutOfMemory}
+use Rattle.flutejoin.specs.declared.style.Style.{Style}
 use Rattle.flutejoin.specs.declared.command_line.Line.{Line}
 use Rattle.flutejoin.specs.declared.command_line.Line.TheVariants.{Packet, Show, Gaps, Extract}
 use Rattle.flutejoin.specs.declared.command_line.Line.TheVariants.{Info, Join, Merge, Carousel}
@@ -45,37 +47,50 @@ is_out_an_input rows =
     not (bytes_eq out (codes "-"))
     && (bytes_eq out (word (codes "A") rows) || bytes_eq out (word (codes "B") rows))
 
+-- what `gaps` selects, and how it prints that; `--conflicts` is of the second
+pub record IsStyled (rows : List Row) (s : Selection) (style : Style) : Type 0 where
+  pub selected : IsSelection rows (record s { conflicts = style.conflicts })
+  pub all_entries : s.conflicts ≡ false
+  pub check : IsFlag (codes "check") rows style.check
+  pub summary : IsFlag (codes "summary") rows style.summary
+
 -- the line is what these rows of the command with this name say
 abbrev pub IsLine : List ℕ → List Row → Line → Type 0
 IsLine name rows (Packet hex) = (name ≡ codes "packet") × IsWord (codes "HEX") rows hex
 IsLine name rows (Show selection j) =
     (name ≡ codes "show") × IsSelection rows selection × IsWord (codes "J") rows j
-IsLine name rows (Gaps selection j) =
-    (name ≡ codes "gaps") × IsSelection rows selection × IsWord (codes "J") rows j
-IsLine name rows (Extract out force key j) =
+IsLine name rows (Gaps any_size selection style j) =
+    (name ≡ codes "gaps") × IsFlag (codes "any-size") rows any_size
+    × IsStyled rows selection style × IsWord (codes "J") rows j
+IsLine name rows (Extract out force any_size key j) =
     (name ≡ codes "extract") × IsFlag (codes "all") rows false
     × (first_unfit extract_form rows ≡ None)
     × IsWord (codes "OUT") rows out × IsFlag (codes "force") rows force
+    × IsFlag (codes "any-size") rows any_size
     × IsKey (HasSource rows) rows key × IsWord (codes "J") rows j
-IsLine name rows (ExtractAll out sender sessions j) =
+IsLine name rows (ExtractAll out any_size sender sessions j) =
     (name ≡ codes "extract") × IsFlag (codes "all") rows true
     × (first_unfit all_form rows ≡ None) × IsFlag (codes "force") rows false
-    × IsWord (codes "OUT") rows out × IsSourceIf rows sender
+    × IsWord (codes "OUT") rows out × IsFlag (codes "any-size") rows any_size
+    × IsSourceIf rows sender
     × HasSessions rows (listed_tsis sessions) × IsWord (codes "J") rows j
-IsLine name rows (InfoList out force list j) =
+IsLine name rows (InfoList out force any_size list j) =
     (name ≡ codes "info") × (first_of (codes "list") rows ≡ Some list.now)
     × (first_unfit list_form rows ≡ None)
     × IsWord (codes "OUT") rows out × IsFlag (codes "force") rows force
+    × IsFlag (codes "any-size") rows any_size
     × IsWord (codes "J") rows j
-IsLine name rows (Info out force key len symbol block j) =
+IsLine name rows (Info out force any_size key len symbol block j) =
     (name ≡ codes "info") × (first_of (codes "list") rows ≡ None)
     × (first_unfit info_form rows ≡ None)
     × IsWord (codes "OUT") rows out × IsFlag (codes "force") rows force
+    × IsFlag (codes "any-size") rows any_size
     × IsKey (HasSource rows) rows key × IsNumber (codes "length") (2 ^ 64) rows len
     × IsNumber (codes "symbol") (2 ^ 16) rows symbol
     × IsNumber (codes "block") (2 ^ 32) rows block × IsWord (codes "J") rows j
-IsLine name rows (Join out force sender scope inputs) =
+IsLine name rows (Join out force any_size sender scope inputs) =
     (name ≡ codes "join") × IsWord (codes "OUT") rows out × IsFlag (codes "force") rows force
+    × IsFlag (codes "any-size") rows any_size
     × HasSource rows sender × IsScope rows scope
     × (map (λ input. input.now) inputs.items ≡ words (codes "INPUT") rows)
     × (length inputs.items ≤ 64)

@@ -15,26 +15,28 @@ use Rattle.flute_store.specs.Scan.{IsFirstPart}
 use Rattle.flute_journal.specs.Journal.{IsJournalWithin}
 use Rattle.flute_journal.specs.Stores.{BeginsWith}
 use Rattle.flutejoin.specs.Load.{LoadFails}
-use Rattle.flutejoin.specs.Shelves.{IsOverShelf}
+use Rattle.flutejoin.specs.Limits.{Limits, IsOver}
 use Rattle.flutejoin.specs.declared.limits.TheConstants.{MAX_ENTRIES}
 use Rattle.flutejoin.specs.declared.command_fault.CommandFault.{CommandFault}
 use Rattle.flutejoin.specs.declared.command_fault.CommandFault.TheVariants.{Input, Full, NoObject, NoInformation, ConflictingInformation, NotWhole, CannotWrite}
 
--- the input is a journal of entries within the limits of a store, and was read to its end;
--- of its entries P holds
-pub record OfJournal (input left : Option (List ℕ)) (P : List Fact → Type 0) : Type 0 where
+-- the input is a journal of entries within the limits, and was read to its end; of its entries P
+-- holds
+pub record OfJournal (most : Limits) (input left : Option (List ℕ))
+    (P : List Fact → Type 0) : Type 0 where
   pub entries : List Fact
   pub journal : IfSome input (λ bytes. IsJournalWithin MAX_ENTRIES bytes entries)
   pub read : IsAtEnd left
-  pub within : ¬ IsOverShelf entries
+  pub within : ¬ IsOver most entries
   pub holds : P entries
 
 -- the fault is that of the journal, as when it is loaded; else P holds of its entries
-abbrev pub AnswersFrom : Option (List ℕ) → Option (List ℕ) → (List Fact → Type 0)
+abbrev pub AnswersFrom : Limits → Option (List ℕ) → Option (List ℕ) → (List Fact → Type 0)
     → Result ℕ CommandFault → Type 0
-AnswersFrom input left P (Err (Input number fault)) = LoadFails 1 input left (Input number fault)
-AnswersFrom input left P (Err Full) = LoadFails 1 input left Full
-AnswersFrom input left P _ = OfJournal input left P
+AnswersFrom most input left P (Err (Input number fault)) =
+    LoadFails most 1 input left (Input number fault)
+AnswersFrom most input left P (Err Full) = LoadFails most 1 input left Full
+AnswersFrom most input left P _ = OfJournal most input left P
 
 -- the object that facts make whole was written; or why it is not whole; or a first part was
 -- written, and not all

@@ -11,7 +11,7 @@ use Rattle.flute_journal.specs.Journal.{IsJournalWithin}
 use Rattle.flute_journal.specs.Sessions.{listed_tsis, takes}
 use Rattle.flutejoin.specs.Gaps.{GapsFail}
 use Rattle.flutejoin.specs.ObjectFiles.{TakesAll, Knows}
-use Rattle.flutejoin.specs.Shelves.{IsOverShelf}
+use Rattle.flutejoin.specs.Limits.{Limits, IsOver}
 use Rattle.flutejoin.specs.declared.object_files.ObjectFiles.{ObjectFiles}
 use Rattle.flutejoin.specs.declared.picked.Picked.{Picked}
 use Rattle.flutejoin.specs.declared.limits.TheConstants.{MAX_ENTRIES}
@@ -31,18 +31,18 @@ is_picked p key =
 abbrev pub picked_facts : Picked → List Fact → List Fact
 picked_facts p facts = filter (λ f. is_picked p (address f).key) facts
 
--- A journal within the limits of a store was read. Of the objects that are picked, and of no
+-- A journal within the limits was read. Of the objects that are picked, and of no
 -- others, there is a file for each that is whole, and a line for each; so many files were written.
-pub record ExtractsAll (input left : Option (List ℕ)) (picked : Picked) (old new : Option Places)
-    (lines_old lines_new : Option (List ℕ)) (count : ℕ) : Type 0 where
+pub record ExtractsAll (most : Limits) (input left : Option (List ℕ)) (picked : Picked)
+    (old new : Option Places) (lines_old lines_new : Option (List ℕ)) (count : ℕ) : Type 0 where
   pub entries : List Fact
   pub journal : IfSome input (λ bytes. IsJournalWithin MAX_ENTRIES bytes entries)
   pub read : IsAtEnd left
-  pub within : ¬ IsOverShelf entries
+  pub within : ¬ IsOver most entries
   pub taken : TakesAll (picked_facts picked entries) count old new lines_old lines_new
 
 -- why it failed: as the lines of `gaps` are not written; the folder or the lines failed
-abbrev pub ExtractAllFails : Option (List ℕ) → Option (List ℕ) → CommandFault → Type 0
+abbrev pub ExtractAllFails : Limits → Option (List ℕ) → Option (List ℕ) → CommandFault → Type 0
 ExtractAllFails = GapsFail
 
 -- the fact may come next, and those that are picked of the facts before it came

@@ -9,7 +9,7 @@ use Rattle.flutejoin.specs.declared.command_fault.CommandFault.TheVariants.{Inpu
 use Rattle.flutejoin.specs.declared.command_fault.CommandFault.TheVariants.{CannotWrite}
 use Rattle.flutejoin.specs.declared.limits.TheConstants.{MAX_ENTRIES}
 use Rattle.flute_journal.specs.JournalWriters.{WritesJournal}
-use Rattle.flutejoin.specs.Shelves.{IsOverShelf}
+use Rattle.flutejoin.specs.Limits.{Limits, IsOver}
 
 -- the bytes are a journal of some entries, and the journal of them and of these facts was written,
 -- which has so many entries
@@ -18,23 +18,23 @@ AddsFacts input facts old new count =
     IfSome input (λ bytes. (entries : List Fact) × IsJournalWithin MAX_ENTRIES bytes entries
     × WritesJournal old new (entries ++ facts) count)
 
--- it is a journal that is over the limits of a store together with these facts
-abbrev pub IsOverWith : List ℕ → List Fact → Type 0
-IsOverWith bytes facts =
+-- it is a journal that is over the limits together with these facts
+abbrev pub IsOverWith : Limits → List ℕ → List Fact → Type 0
+IsOverWith most bytes facts =
     (entries : List Fact) × IsJournalWithin MAX_ENTRIES bytes entries
-    × IsOverShelf (entries ++ facts)
+    × IsOver most (entries ++ facts)
 
 -- it is a journal that is within them
-abbrev pub IsWithinWith : List ℕ → List Fact → Type 0
-IsWithinWith bytes facts =
+abbrev pub IsWithinWith : Limits → List ℕ → List Fact → Type 0
+IsWithinWith most bytes facts =
     (entries : List Fact) × IsJournalWithin MAX_ENTRIES bytes entries
-    × ¬ IsOverShelf (entries ++ facts)
+    × ¬ IsOver most (entries ++ facts)
 
--- why facts were not added: the fault of the journal; the limits of a store, over which it is with
--- them; or the sink, if neither is
-abbrev pub InfoFails : Option (List ℕ) → List Fact → CommandFault → Type 0
-InfoFails input facts (Input told fault) =
+-- why facts were not added: the fault of the journal; the limits, over which it is with them; or
+-- the sink, if neither is
+abbrev pub InfoFails : Limits → Option (List ℕ) → List Fact → CommandFault → Type 0
+InfoFails most input facts (Input told fault) =
     (told ≡ 1) × HasFault journal_framing MAX_ENTRIES input fault
-InfoFails input facts Full = IfSome input (λ bytes. IsOverWith bytes facts)
-InfoFails input facts CannotWrite = IfSome input (λ bytes. IsWithinWith bytes facts)
-InfoFails input facts _ = ⊥
+InfoFails most input facts Full = IfSome input (λ bytes. IsOverWith most bytes facts)
+InfoFails most input facts CannotWrite = IfSome input (λ bytes. IsWithinWith most bytes facts)
+InfoFails most input facts _ = ⊥

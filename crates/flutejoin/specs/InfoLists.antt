@@ -7,6 +7,7 @@ use Rattle.flute_journal.specs.declared.fault.LoadFault.{LoadFault}
 use Rattle.flute_journal.specs.declared.fault.ReadFault.TheVariants.{Read}
 use Rattle.flutejoin.specs.Info.{AddsFacts, InfoFails}
 use Rattle.flutejoin.specs.InformationLines.{ListTells, ListFails}
+use Rattle.flutejoin.specs.Limits.{Limits}
 use Rattle.flutejoin.specs.declared.command_fault.CommandFault.{CommandFault}
 use Rattle.flutejoin.specs.declared.command_fault.CommandFault.TheVariants.{Input}
 
@@ -20,11 +21,12 @@ AddsList input list count old new =
 
 -- why it was not: the list's fault, or its source failed; or the list tells some facts, and they
 -- were not added to the input
-pub data AddListFails (input list : Option (List ℕ)) (fault : CommandFault) : Type 0 where
-  of_list : IfSome list (λ text. ListFails text fault) → AddListFails input list fault
-  of_source : fault ≡ Input 2 Read → AddListFails input list fault
+pub data AddListFails (most : Limits) (input list : Option (List ℕ))
+    (fault : CommandFault) : Type 0 where
+  of_list : IfSome list (λ text. ListFails most text fault) → AddListFails most input list fault
+  of_source : fault ≡ Input 2 Read → AddListFails most input list fault
   of_facts : IfSome list (λ text. (facts : List Fact) × ListTells text facts
-      × InfoFails input facts fault) → AddListFails input list fault
+      × InfoFails most input facts fault) → AddListFails most input list fault
 
 -- Streams of facts in memory.
 
@@ -32,7 +34,7 @@ module _ {S : Type 0} (b : Behaviour S) where
   -- nothing was read of the stream, which does not stop
   pub record IsInMemory (s : S) : Type 0 where
     pub new : IsNew b s
-    pub few : b.most s ≤ 2 ^ 40
+    pub few : b.most s ≤ 2 ^ 63
     pub goes_on : (fault : LoadFault) → b.stops s fault → ⊥
 
   -- what it tells is the same as these facts

@@ -10,7 +10,7 @@ use Rattle.flute_parts.specs.declared.fact.Fact.TheVariants.{Info}
 use Rattle.flute_parts.specs.declared.info.InfoFault.{InfoFault}
 use Rattle.flute_parts.specs.declared.key.Key.{Key}
 use Rattle.flutejoin.specs.Lines.{line, fact_words}
-use Rattle.flutejoin.specs.Shelves.{IsOverShelf}
+use Rattle.flutejoin.specs.Limits.{Limits, IsOver}
 use Rattle.flutejoin.specs.declared.command_fault.CommandFault.{CommandFault}
 use Rattle.flutejoin.specs.declared.command_fault.CommandFault.TheVariants.{ListLine}
 use Rattle.flutejoin.specs.declared.command_fault.CommandFault.TheVariants.{ListInformation, Full}
@@ -94,27 +94,27 @@ pub record EndsWithin (bytes : List ℕ) (number : ℕ) : Type 0 where
   pub one_line : IsOneLine words
   pub some : 0 < length words
 
--- its first lines are over the limits of a store
-pub record ListIsOver (bytes : List ℕ) : Type 0 where
+-- its first lines are over the limits
+pub record ListIsOver (most : Limits) (bytes : List ℕ) : Type 0 where
   pub number : ℕ
   pub facts : List Fact
   pub rest : List ℕ
   pub begins : BeginsLine bytes number facts rest
-  pub over : IsOverShelf facts
+  pub over : IsOver most facts
 
 -- why a list tells no facts: its first line at fault, which may have no end; a list of 2^64 - 1
 -- bytes or more is not read to its end
-pub data ListFails (bytes : List ℕ) (fault : CommandFault) : Type 0 where
+pub data ListFails (most : Limits) (bytes : List ℕ) (fault : CommandFault) : Type 0 where
   nothing : (number : ℕ) → fault ≡ ListLine number → HasLine TellsNothing bytes number
-      → ListFails bytes fault
+      → ListFails most bytes fault
   no_end : (number : ℕ) → fault ≡ ListLine number → EndsWithin bytes number
-      → ListFails bytes fault
+      → ListFails most bytes fault
   too_long : (number : ℕ) → fault ≡ ListLine number → 2 ^ 64 ≤ length bytes + 1
-      → ListFails bytes fault
+      → ListFails most bytes fault
   invalid : (number : ℕ) (why : InfoFault) → fault ≡ ListInformation number why
-      → HasLine (TellsInvalid why) bytes number → ListFails bytes fault
-  over : fault ≡ Full → ListIsOver bytes → ListFails bytes fault
-  no_memory : fault ≡ OutOfMemory → ListFails bytes fault
+      → HasLine (TellsInvalid why) bytes number → ListFails most bytes fault
+  over : fault ≡ Full → ListIsOver most bytes → ListFails most bytes fault
+  no_memory : fault ≡ OutOfMemory → ListFails most bytes fault
 
 -- What the parts of a list's reader answer.
 
@@ -134,15 +134,15 @@ pub data LineFails (number : ℕ) (words : List ℕ) (fault : CommandFault) : Ty
       → LineFails number words fault
 
 -- why what it tells is not taken beside these facts
-pub data TakingFails (told : List Fact) (number : ℕ) (words : List ℕ)
+pub data TakingFails (most : Limits) (told : List Fact) (number : ℕ) (words : List ℕ)
     (fault : CommandFault) : Type 0 where
-  of_line : LineFails number words fault → TakingFails told number words fault
+  of_line : LineFails number words fault → TakingFails most told number words fault
   no_room : (facts : List Fact) → fault ≡ Full → LineTells words facts
-      → IsOverShelf (told ++ facts) → TakingFails told number words fault
-  no_memory_for : fault ≡ OutOfMemory → TakingFails told number words fault
+      → IsOver most (told ++ facts) → TakingFails most told number words fault
+  no_memory_for : fault ≡ OutOfMemory → TakingFails most told number words fault
 
 -- these bytes were read of a list: whole lines, and the beginning of one
-pub record HoldsList (list : InformationList) (bytes : List ℕ) : Type 0 where
+pub record HoldsList {s o y : ℕ} (list : InformationList s o y) (bytes : List ℕ) : Type 0 where
   pub facts : List Fact
   pub words : List ℕ
   pub begins : BeginsLine bytes list.number facts words

@@ -1,35 +1,15 @@
--- The inputs of a join: which bytes they are, what they give, and how often their sources failed.
-use Rattle.std.specs.Prelude.{◌≡◌, ℕ, ◌+◌, List, [], length, take, drop, slice_get, Option, Some}
-use Rattle.std.specs.Prelude.{None}
+-- The inputs of a join: which bytes they are.
+use Rattle.std.specs.Prelude.{◌≡◌, ℕ, List, length, take, drop, slice_get, Option, Some}
 use Rattle.std.specs.Io.KnownBytes.{prepend_known}
-use Rattle.flute_parts.specs.declared.fact.Fact.{Fact}
-use Rattle.flute_journal.specs.declared.chosen.Chosen.{Chosen}
-use Rattle.flute_journal.specs.declared.fault.LoadFault.{LoadFault}
-use Rattle.flute_journal.specs.declared.kind.Kind.TheVariants as kinds
-use Rattle.flute_journal.specs.declared.owned_journal_stream.OwnedJournalStream.{OwnedJournalStream}
-use Rattle.flute_journal.specs.declared.scope.Scope.{Scope}
-use Rattle.flute_journal.specs.ChosenStreams.{chosen_behaviour}
 use Rattle.flute_journal.specs.Kinds.{HasKind, IsNeither}
-use Rattle.flute_journal.specs.OwnedStreams.{owned_behaviour}
-use Rattle.flute_journal.specs.Scopes.{of_scope}
-use Rattle.flute_journal.specs.Streams.{Behaviour}
 use Rattle.flutejoin.specs.declared.join_input.JoinInput.{JoinInput}
 use Rattle.flutejoin.specs.declared.join_input.JoinInput.TheVariants.{Journal, Datagrams, Unknown}
 use Rattle.flutejoin.specs.declared.peeked_source.PeekedSource.{PeekedSource}
-
--- a journal of which some objects are taken
-abbrev pub JournalInput : Type 0 → Type 0
-JournalInput R = Chosen (OwnedJournalStream (PeekedSource R)) Scope
+use Rattle.flute_journal.specs.declared.kind.Kind.TheVariants as kinds
 
 -- the bytes of a source that were read ahead
 abbrev pub front_of : {R : Type 0} → PeekedSource R → List ℕ
 front_of source = take source.first.count source.first.bytes
-
--- how many entries of an input were passed over
-abbrev pub passed_over : {R : Type 0} → JoinInput R → ℕ
-passed_over (Journal journal) = journal.others
-passed_over (Datagrams source) = 0
-passed_over Unknown = 0
 
 module _ {R : Type 0} (unread : R → Option (List ℕ)) where
   -- what a source has left: of the bytes that were read ahead, and after them
@@ -48,76 +28,3 @@ module _ {R : Type 0} (unread : R → Option (List ℕ)) where
     pub as_many : length inputs ≡ length contents
     pub each : (k : ℕ) (input : JoinInput R) (bytes : List ℕ) → slice_get inputs k ≡ Some input
         → slice_get contents k ≡ Some bytes → IsInput input bytes
-
-  module _ (failures : R → ℕ) where
-    -- what is said of a journal as a stream
-    abbrev pub journal_behaviour : Behaviour (JournalInput R)
-    journal_behaviour =
-        chosen_behaviour of_scope (owned_behaviour left (λ source. failures source.source))
-
-    -- the entry that an input holds: no other than a journal holds any
-    abbrev pub held_input : JoinInput R → Option Fact
-    held_input (Journal journal) = journal_behaviour.held journal
-    held_input (Datagrams source) = None
-    held_input Unknown = None
-
-    abbrev pub most_input : JoinInput R → ℕ
-    most_input (Journal journal) = journal_behaviour.most journal
-    most_input (Datagrams source) = 0
-    most_input Unknown = 0
-
-    abbrev pub stops_input : JoinInput R → LoadFault → Type 0
-    stops_input (Journal journal) fault = journal_behaviour.stops journal fault
-    stops_input (Datagrams source) fault = ⊥
-    stops_input Unknown fault = ⊥
-
-    -- the facts of a journal; of another input, none
-    abbrev pub of_entries : (JournalInput R → List Fact → Type 0) → JoinInput R → List Fact → Type 0
-    of_entries P (Journal journal) F = P journal F
-    of_entries P (Datagrams source) F = F ≡ []
-    of_entries P Unknown F = F ≡ []
-
-    -- so it is with two states of a journal; another input is as it was, and nothing comes of it
-    abbrev pub of_states : {X : Type 0} → (JournalInput R → JournalInput R → X → Type 0) → X
-        → JoinInput R → JoinInput R → X → Type 0
-    of_states P nothing (Journal start) (Journal now) x = P start now x
-    of_states P nothing (Datagrams start) (Datagrams now) x = (now ≡ start) × (x ≡ nothing)
-    of_states P nothing Unknown Unknown x = x ≡ nothing
-    of_states P nothing _ _ x = ⊥
-
-    -- what is said of an input as a stream
-    abbrev pub input_behaviour : Behaviour (JoinInput R)
-    input_behaviour = record {
-      held = held_input;
-      most = most_input;
-      tells = of_entries journal_behaviour.tells;
-      knows = of_entries journal_behaviour.knows;
-      stops = stops_input;
-      passes = of_states journal_behaviour.passes [];
-      reads = of_states journal_behaviour.reads [];
-      fails = of_states journal_behaviour.fails None;
-      ends = of_states journal_behaviour.ends [];
-    }
-
-module _ {R : Type 0} (failures : R → ℕ) where
-  -- how often the source of an input failed
-  abbrev pub failures_of : JoinInput R → ℕ
-  failures_of (Journal journal) = failures journal.stream.source.source
-  failures_of (Datagrams source) = failures source.source
-  failures_of Unknown = 0
-
-  -- no source failed
-  pub record NoneFailed (old new : List (JoinInput R)) : Type 0 where
-    pub as_many : length new ≡ length old
-    pub each : (k : ℕ) (before after : JoinInput R) → slice_get old k ≡ Some before
-        → slice_get new k ≡ Some after → failures_of after ≡ failures_of before
-
-  -- the source of the input with this number, from 1, failed once
-  pub record OneFailed (number : ℕ) (old new : List (JoinInput R)) : Type 0 where
-    pub place : ℕ
-    pub number_is : number ≡ place + 1
-    pub before : JoinInput R
-    pub after : JoinInput R
-    pub was : slice_get old place ≡ Some before
-    pub is : slice_get new place ≡ Some after
-    pub failed : failures_of after ≡ failures_of before + 1

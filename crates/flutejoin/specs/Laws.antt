@@ -1,12 +1,8 @@
--- Replicas that were given the same, and journals of which entries were forgotten.
+-- Journals of which entries were forgotten.
 use Rattle.std.specs.Prelude.{ℕ, List, ◌++◌, Some}
-use Rattle.flute_parts.specs.declared.fact.Fact.{Fact}
-use Rattle.flute_parts.specs.Facts.{Same, SameMembers}
 use Rattle.flute_journal.specs.declared.selection.Selection.{Selection}
 use Rattle.flutejoin.specs.Forget.{Forgets}
 use Rattle.flutejoin.specs.declared.forget.ForgetCounts.{ForgetCounts}
-use Rattle.flutejoin.specs.declared.steps.Step.{Step}
-use Rattle.flutejoin.specs.Known.{Fits, known_by}
 
 -- a journal of these bytes, without what is selected, was written as those, behind whatever was
 -- there before
@@ -14,27 +10,3 @@ abbrev pub Leaves : Selection → List ℕ → List ℕ → ForgetCounts → Typ
 Leaves selection bytes written counts =
     (before : List ℕ)
     × Forgets selection counts (Some bytes) (Some before) (Some (before ++ written))
-
--- F is what replica r holds, of so many new ones that were given the steps: the same
--- as what it was given
-pub record IsLeft (count : ℕ) (steps : List Step) (origins : ℕ → List Fact) (r : ℕ)
-    (F : List Fact) : Type 0 where
-  pub fits : Fits steps origins
-  pub same : Same F (known_by count steps origins r)
-
--- F and G are what two replicas hold, of one run or of two, that were given lists of facts
--- with the same members
-pub record GivenTheSame (F G : List Fact) : Type 0 where
-  pub count : ℕ
-  pub steps : List Step
-  pub origins : ℕ → List Fact
-  pub replica : ℕ
-  pub left : IsLeft count steps origins replica F
-  pub other_count : ℕ
-  pub other_steps : List Step
-  pub other_origins : ℕ → List Fact
-  pub other_replica : ℕ
-  pub other_left : IsLeft other_count other_steps other_origins other_replica G
-  pub members :
-      SameMembers (known_by count steps origins replica)
-      (known_by other_count other_steps other_origins other_replica)

@@ -20,7 +20,7 @@ use Rattle.flute_journal.specs.Stores.{BeginsWith, IsLoadFault}
 use Rattle.flute_journal.specs.declared.fault.LoadFault.{LoadFault}
 use Rattle.flute_journal.specs.declared.fault.LoadFault.TheVariants.{OutOfMemory}
 use Rattle.flutejoin.specs.Extract.{HoldsFirst}
-use Rattle.flutejoin.specs.Shelves.{IsOverShelf}
+use Rattle.flutejoin.specs.Limits.{Limits, IsOver}
 use Rattle.flutejoin.specs.declared.limits.TheConstants.{MAX_ENTRIES}
 use Rattle.flutejoin.specs.declared.command_fault.CommandFault.{CommandFault}
 use Rattle.flutejoin.specs.declared.command_fault.CommandFault.TheVariants.{NoObject, NoInformation, ConflictingInformation, CannotWrite}
@@ -124,20 +124,20 @@ FailedBy failed (Err CannotWrite) = failed ≡ true
 FailedBy failed (Err _) = ⊤
 
 -- all of a journal was read, or it has this fault
-abbrev pub EndsReading : Option (List ℕ) → Option (List ℕ) → List Fact → Result (Unit {0}) LoadFault
-    → Type 0
-EndsReading input left entries (Ok _) =
+abbrev pub EndsReading : Limits → Option (List ℕ) → Option (List ℕ) → List Fact
+    → Result (Unit {0}) LoadFault → Type 0
+EndsReading most input left entries (Ok _) =
     IfSome input (λ bytes. IsJournalWithin MAX_ENTRIES bytes entries) × IsAtEnd left
-    × (¬ IsOverShelf entries)
-EndsReading input left entries (Err OutOfMemory) = ⊥
-EndsReading input left entries (Err fault) =
-    IsLoadFault 64 4096 1048576 MAX_ENTRIES input left fault
+    × (¬ IsOver most entries)
+EndsReading most input left entries (Err OutOfMemory) = ⊥
+EndsReading most input left entries (Err fault) =
+    IsLoadFault most.sessions most.objects most.symbols MAX_ENTRIES input left fault
 
 -- the entries that the input begins with passed, up to its end or its fault
-pub record PassesAll (input left : Option (List ℕ)) (writer : ObjectWriter)
+pub record PassesAll (most : Limits) (input left : Option (List ℕ)) (writer : ObjectWriter)
     (start now : Option (List ℕ)) (result : Result (Unit {0}) LoadFault) : Type 0 where
   pub entries : List Fact
   pub rising : IsRising entries
   pub begins : (entries ≡ []) ⊎ IfSome input (λ bytes. BeginsWith MAX_ENTRIES bytes entries)
   pub stands : Stands entries writer start now
-  pub ended : EndsReading input left entries result
+  pub ended : EndsReading most input left entries result

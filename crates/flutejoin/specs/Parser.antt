@@ -44,6 +44,10 @@ session_list = record (option (codes "tsi")) { action = Some Append }
 abbrev pub long_flag : Text → Rule
 long_flag name = record (new_rule name) { long = Some name; action = Some SetTrue }
 
+-- `--any-size`
+abbrev pub size_flag : Rule
+size_flag = long_flag (codes "any-size")
+
 -- words to the end, one or more
 abbrev pub input_list : Rule
 input_list = record (place (codes "INPUT")) {
@@ -83,27 +87,29 @@ journal_rules = place (codes "J") ∷ []
 abbrev pub show_rules : List Rule
 show_rules = long_flag (codes "conflicts") ∷ object_rules ++ journal_rules
 
--- its options select objects
+-- its options select objects, and say what is printed of them
 abbrev pub gaps_rules : List Rule
-gaps_rules = object_rules ++ journal_rules
+gaps_rules =
+    size_flag ∷ long_flag (codes "check") ∷ long_flag (codes "summary")
+    ∷ long_flag (codes "conflicts") ∷ object_rules ++ journal_rules
 
 -- its options are of one object or of all
 abbrev pub extract_rules : List Rule
 extract_rules =
-    out ∷ force_flag ∷ long_flag (codes "all") ∷ option (codes "source") ∷ session_list ∷ option
-    (codes "toi")
-    ∷ option (codes "fdt") ∷ journal_rules
+    out ∷ force_flag ∷ size_flag ∷ long_flag (codes "all") ∷ option (codes "source")
+    ∷ session_list ∷ option (codes "toi") ∷ option (codes "fdt") ∷ journal_rules
 
 -- of one object or of a list of them
 abbrev pub info_rules : List Rule
 info_rules =
-    out ∷ force_flag ∷ option (codes "list") ∷ option (codes "source") ∷ option (codes "tsi")
+    out ∷ force_flag ∷ size_flag ∷ option (codes "list") ∷ option (codes "source")
+    ∷ option (codes "tsi")
     ∷ option (codes "toi") ∷ option (codes "fdt") ∷ option (codes "length")
     ∷ option (codes "symbol") ∷ option (codes "block") ∷ journal_rules
 
 abbrev pub join_rules : List Rule
 join_rules =
-    out ∷ force_flag ∷ option (codes "source") ∷ session_list ∷ option (codes "toi")
+    out ∷ force_flag ∷ size_flag ∷ option (codes "source") ∷ session_list ∷ option (codes "toi")
     ∷ option (codes "fdt") ∷ long_flag (codes "no-fdt") ∷ input_list ∷ []
 
 abbrev pub merge_rules : List Rule

@@ -19,6 +19,7 @@ use Rattle.flutejoin.specs.declared.command_fault.CommandFault.TheVariants.{Conf
 use Rattle.flutejoin.specs.declared.command_fault.CommandFault.TheVariants.{NotWhole, OutOfMemory}
 use Rattle.flutejoin.specs.declared.command_fault.CommandFault.TheVariants.{CannotCreate}
 use Rattle.flutejoin.specs.declared.command_fault.CommandFault.TheVariants.{CannotWrite, NotOnDisk}
+use Rattle.flutejoin.specs.declared.command_fault.CommandFault.TheVariants.{NotAllWhole}
 use Rattle.flute_journal.specs.declared.fault.ReadFault.{ReadFault}
 use Rattle.flute_journal.specs.declared.fault.ReadFault.TheVariants as faults
 use Rattle.flute_journal.specs.declared.fault.LoadFault.{LoadFault}
@@ -63,6 +64,7 @@ exit_status OutOfMemory = 3
 exit_status CannotCreate = 3
 exit_status CannotWrite = 3
 exit_status NotOnDisk = 3
+exit_status NotAllWhole = 1
 
 -- why an input was not kept
 abbrev pub of_blob : ℕ → BlobFault → CommandFault

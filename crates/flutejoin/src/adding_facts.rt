@@ -13,6 +13,7 @@ ghost use Rattle.flute_journal.specs.declared.either.Either.TheVariants.{First a
 ghost use Rattle.flute_journal.specs.declared.reader_state.ReaderState.TheVariants as ReaderState;
 ghost use Rattle.flutejoin.specs.Info.{AddsFacts, InfoFails};
 ghost use Rattle.flutejoin.specs.InfoLists.{IsInMemory, TellsSame};
+ghost use Rattle.flutejoin.specs.Limits.{at_most};
 ghost use Rattle.flutejoin.specs.Show.{FailsToRead};
 ghost use Rattle.flutejoin.specs.declared.command_fault.CommandFault.TheVariants.{CannotWrite};
 ghost use Rattle.flutejoin.specs.declared.limits.TheConstants.{MAX_ENTRIES};
@@ -30,7 +31,14 @@ use std::alloc::Global;
 /// # Errors
 ///
 /// Those of `info_to`, and what it says of them.
-pub(crate) fn add_facts<R: Source, S: Stream, W: Sink>(
+pub(crate) fn add_facts<
+    const SESSIONS: u32,
+    const OBJECTS: u32,
+    const SYMBOLS: u32,
+    R: Source,
+    S: Stream,
+    W: Sink,
+>(
     alloc: Global,
     journal: &mut JournalReader<'_, R>,
     facts: &mut S,
@@ -45,7 +53,8 @@ pub(crate) fn add_facts<R: Source, S: Stream, W: Sink>(
         → IfOk result (AddsFacts (R.unread (source_of journal.old).now) told
         (W.written sink.old) (W.written sink.new)) }
     ensures failed { (told : List FactValue) → TellsSame S.behaviour facts.old told
-        → IfErr result (InfoFails (R.unread (source_of journal.old).now) told) }
+        → IfErr result (InfoFails (at_most SESSIONS OBJECTS SYMBOLS)
+        (R.unread (source_of journal.old).now) told) }
     ensures short { IfErr result
         (λ _. AppendsNoJournal (W.written sink.old) (W.written sink.new)) }
     ensures failures { FailsToRead (R.failures (source_of journal.old).now)
@@ -59,11 +68,18 @@ pub(crate) fn add_facts<R: Source, S: Stream, W: Sink>(
         reader: &mut *journal,
         held: &mut held,
     };
-    add_to_stream(alloc, &mut stream, facts, sink)
+    add_to_stream::<SESSIONS, OBJECTS, SYMBOLS, _, _, _>(alloc, &mut stream, facts, sink)
 }
 
 // Joins a new stream of a journal and one of facts.
-fn add_to_stream<R: Source, S: Stream, W: Sink>(
+fn add_to_stream<
+    const SESSIONS: u32,
+    const OBJECTS: u32,
+    const SYMBOLS: u32,
+    R: Source,
+    S: Stream,
+    W: Sink,
+>(
     alloc: Global,
     journal: &mut LentStream<'_, '_, R>,
     facts: &mut S,
@@ -81,7 +97,8 @@ fn add_to_stream<R: Source, S: Stream, W: Sink>(
         → IfOk result (AddsFacts (R.unread (source_of journal.old.reader.now).now) told
         (W.written sink.old) (W.written sink.new)) }
     ensures failed { (told : List FactValue) → TellsSame S.behaviour facts.old told
-        → IfErr result (InfoFails (R.unread (source_of journal.old.reader.now).now) told) }
+        → IfErr result (InfoFails (at_most SESSIONS OBJECTS SYMBOLS)
+        (R.unread (source_of journal.old.reader.now).now) told) }
     ensures short { IfErr result
         (λ _. AppendsNoJournal (W.written sink.old) (W.written sink.new)) }
     ensures failures { FailsToRead (R.failures (source_of journal.old.reader.now).now)
@@ -90,7 +107,7 @@ fn add_to_stream<R: Source, S: Stream, W: Sink>(
     ensures write_failed { IfErr result
         (λ fault. fault ≡ CannotWrite → W.failures sink.new ≡ W.failures sink.old + 1) }
 {
-    match join_two(alloc, journal, facts, sink) {
+    match join_two::<SESSIONS, OBJECTS, SYMBOLS, _, _, _>(alloc, journal, facts, sink) {
         Err(fault) => Err(load_fault(fault.number + 1, fault.fault)),
         Ok(joined) if !joined.within => Err(CommandFault::Full),
         Ok(joined) if joined.cut => Err(CommandFault::CannotWrite),
@@ -99,19 +116,21 @@ fn add_to_stream<R: Source, S: Stream, W: Sink>(
 }
 
 // Joins two streams.
-fn join_two<S: Stream, T: Stream, W: Sink>(
-    alloc: Global,
-    first: &mut S,
-    second: &mut T,
-    sink: &mut W,
-) -> Result<MergedJournal, InputFault>
+fn join_two<
+    const SESSIONS: u32,
+    const OBJECTS: u32,
+    const SYMBOLS: u32,
+    S: Stream,
+    T: Stream,
+    W: Sink,
+>(alloc: Global, first: &mut S, second: &mut T, sink: &mut W) -> Result<MergedJournal, InputFault>
     requires new { AreNew (either_behaviour S.behaviour T.behaviour)
         (Left first.old ∷ Right second.old ∷ []) }
     requires few { most_of (either_behaviour S.behaviour T.behaviour)
         (Left first.old ∷ Right second.old ∷ []) < 2 ^ 64 }
     ensures merged { IfOk result (λ joined. MergedAll (either_behaviour S.behaviour T.behaviour)
         (Left first.old ∷ Right second.old ∷ [])
-        64 4096 1048576 joined (W.written sink.old) (W.written sink.new)) }
+        SESSIONS OBJECTS SYMBOLS joined (W.written sink.old) (W.written sink.new)) }
     ensures cut { IfOk result (λ joined. joined.cut ≡ true
         → AppendsNoJournal (W.written sink.old) (W.written sink.new)) }
     ensures over { IfOk result (λ joined. joined.within ≡ false → joined.cut ≡ true) }
@@ -128,5 +147,5 @@ fn join_two<S: Stream, T: Stream, W: Sink>(
         first: &mut *first,
         second: &mut *second,
     };
-    join_streams::<64, 4096, 1_048_576, _, _>(alloc, &mut pair, sink)
+    join_streams::<SESSIONS, OBJECTS, SYMBOLS, _, _>(alloc, &mut pair, sink)
 }

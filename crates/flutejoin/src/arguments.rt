@@ -88,6 +88,17 @@ pub fn all<'a>(alloc: Global) -> Arg<'a>
     )
 }
 
+/// The flag that lifts the limits of a store.
+pub fn any_size<'a>(alloc: Global) -> Arg<'a>
+    ensures { IsArgument (long_flag (codes "any-size")) result }
+{
+    long_flag(
+        alloc,
+        "any-size",
+        "Take in more sessions, objects and symbols than a store holds",
+    )
+}
+
 /// The flag for conflicts alone.
 pub fn conflicts<'a>(alloc: Global) -> Arg<'a>
     ensures { IsArgument (long_flag (codes "conflicts")) result }
@@ -96,6 +107,39 @@ pub fn conflicts<'a>(alloc: Global) -> Arg<'a>
         alloc,
         "conflicts",
         "Only symbols and information of which two values were told",
+    )
+}
+
+/// The flag of `gaps` for objects with conflicts alone.
+pub fn conflicting_objects<'a>(alloc: Global) -> Arg<'a>
+    ensures { IsArgument (long_flag (codes "conflicts")) result }
+{
+    long_flag(
+        alloc,
+        "conflicts",
+        "Only objects with conflicting information or symbols, and no other gaps",
+    )
+}
+
+/// The flag of `gaps` for a line for each session.
+pub fn summary<'a>(alloc: Global) -> Arg<'a>
+    ensures { IsArgument (long_flag (codes "summary")) result }
+{
+    long_flag(
+        alloc,
+        "summary",
+        "A line for each session: how many of its objects are whole, and what the others lack",
+    )
+}
+
+/// The flag of `gaps` by which an object that is not whole is a fault.
+pub fn check<'a>(alloc: Global) -> Arg<'a>
+    ensures { IsArgument (long_flag (codes "check")) result }
+{
+    long_flag(
+        alloc,
+        "check",
+        "End with status 1 if an object that is listed is not whole",
     )
 }
 

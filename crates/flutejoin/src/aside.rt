@@ -42,6 +42,14 @@ impl MemoryAside {
             failures: Failures::none(),
         }
     }
+
+    /// The bytes, handed over.
+    pub fn into_vec(self) -> Vec<u8>
+        ensures bytes { ⟦<MemoryAside as Sink>⟧.written self ≡ Some result.items }
+    {
+        let MemoryAside { bytes, .. } = self;
+        bytes
+    }
 }
 
 impl Sink for MemoryAside {

@@ -107,6 +107,9 @@ pub enum CommandFault {
     /// leave what was there before.
     #[error("output may not be on the disk")]
     NotOnDisk,
+    /// `gaps --check` printed all, and not all objects that it listed are whole.
+    #[error("not all objects are whole")]
+    NotAllWhole,
 }
 
 impl CommandFault {
@@ -122,7 +125,7 @@ impl CommandFault {
             CommandFault::BadInformation(_) | CommandFault::CannotSend(_) => 1,
             CommandFault::TooLarge(_) => 1,
             CommandFault::ListLine(_) | CommandFault::ListInformation(..) => 1,
-            CommandFault::NoObject | CommandFault::NoInformation => 1,
+            CommandFault::NoObject | CommandFault::NoInformation | CommandFault::NotAllWhole => 1,
             CommandFault::ConflictingInformation | CommandFault::NotWhole { .. } => 1,
             CommandFault::CommandLine(_) | CommandFault::NotText => 2,
             CommandFault::BadNumber(_)

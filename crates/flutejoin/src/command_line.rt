@@ -18,6 +18,7 @@ use crate::numbers::{number_below, sessions, source};
 use crate::object_numbers::ObjectNumbers;
 use crate::parser::command;
 use crate::selection_options::selection;
+use crate::style::Style;
 use crate::words::{flag, text};
 use clap::ArgMatches;
 use clap::error::ErrorKind;
@@ -29,7 +30,8 @@ use std::alloc::Global;
 const STANDARD: &str = "-";
 
 /// What the program is to do. Its texts are words of the command line. With `force`, `out` is
-/// written even if it is a file that the command does not overwrite otherwise.
+/// written even if it is a file that the command does not overwrite otherwise. With `any_size`,
+/// there may be more sessions, objects and symbols than a store of the program holds.
 #[derive(Debug, Drop, PartialEq, Eq)]
 pub enum Line<'a> {
     /// Print what the datagram `hex` says.
@@ -41,15 +43,19 @@ pub enum Line<'a> {
         selection: Selection,
         j: &'a str,
     },
-    /// Print how much of each selected object the journal `j` has, and what is missing.
+    /// Print how much of each selected object the journal `j` has, and what is missing, in this
+    /// style.
     Gaps {
+        any_size: bool,
         selection: Selection,
+        style: Style,
         j: &'a str,
     },
     /// Write the object `key` of the journal `j` to the file `out`.
     Extract {
         out: &'a str,
         force: bool,
+        any_size: bool,
         key: Key,
         j: &'a str,
     },
@@ -57,6 +63,7 @@ pub enum Line<'a> {
     /// and of these sessions to a file of the new folder `out`.
     ExtractAll {
         out: &'a str,
+        any_size: bool,
         sender: Option<Sender>,
         sessions: Sessions,
         j: &'a str,
@@ -65,6 +72,7 @@ pub enum Line<'a> {
     Info {
         out: &'a str,
         force: bool,
+        any_size: bool,
         key: Key,
         length: u64,
         symbol: u16,
@@ -76,6 +84,7 @@ pub enum Line<'a> {
     InfoList {
         out: &'a str,
         force: bool,
+        any_size: bool,
         list: &'a str,
         j: &'a str,
     },
@@ -84,6 +93,7 @@ pub enum Line<'a> {
     Join {
         out: &'a str,
         force: bool,
+        any_size: bool,
         sender: Sender,
         scope: Scope,
         inputs: Vec<&'a str>,
@@ -195,9 +205,21 @@ fn gaps_of<'a>(matches: &ArgMatches<'a>) -> Result<Line<'a>, CommandFault>
     ensures { let rows = found_rows matches.now in
         MatchResult result (IsLine (codes "gaps") rows) (IsSelectionFault rows) }
 {
-    let selection = selection(matches)?;
+    let mut selection = selection(matches)?;
+    let style = Style {
+        check: flag(matches, "check"),
+        summary: flag(matches, "summary"),
+        conflicts: selection.conflicts,
+    };
+    // An object is listed by all its entries, and not by those in conflict alone.
+    selection.conflicts = false;
     let j = text(matches, "J");
-    Ok(Line::Gaps { selection, j })
+    Ok(Line::Gaps {
+        any_size: flag(matches, "any-size"),
+        selection,
+        style,
+        j,
+    })
 }
 
 fn join_of<'a>(alloc: Global, matches: &ArgMatches<'a>) -> Result<Line<'a>, CommandFault>
@@ -217,6 +239,7 @@ fn join_of<'a>(alloc: Global, matches: &ArgMatches<'a>) -> Result<Line<'a>, Comm
     Ok(Line::Join {
         out: text(matches, "OUT"),
         force: flag(matches, "force"),
+        any_size: flag(matches, "any-size"),
         sender,
         scope,
         inputs,

@@ -7,6 +7,7 @@ ghost use Rattle.flute_journal.specs.Readers.{source_of, limit_of, state_of};
 ghost use Rattle.flute_journal.specs.Stores.{FailsToLoad};
 ghost use Rattle.flute_journal.specs.declared.reader_state.ReaderState.TheVariants as ReaderState;
 ghost use Rattle.flutejoin.specs.declared.limits.TheConstants.{MAX_ENTRIES};
+ghost use Rattle.flutejoin.specs.Limits.{at_most};
 ghost use Rattle.flutejoin.specs.Extract.{AnswersFrom, Extracts, WritesFirst, SinkFails};
 ghost use Rattle.flutejoin.specs.ObjectWriters.{WritesNothing, PassesAll, Stands};
 ghost use Rattle.flutejoin.specs.Show.{FailsToRead};
@@ -27,8 +28,8 @@ use std::alloc::Global;
 ///
 /// The first of these that applies, wherever in the journal it is found:
 ///
-/// - `Input` with the fault of the journal, as input 1, and `Full` if it has more sessions,
-///   objects or symbols than a store holds, whichever is met first;
+/// - `Input` with the fault of the journal, as input 1, and `Full` if it has more than `SESSIONS`
+///   sessions, `OBJECTS` objects of one or `SYMBOLS` symbols of one, whichever is met first;
 /// - `NoObject` if nothing of the object is held, `NoInformation` if no information of it is,
 ///   `ConflictingInformation` if two values of it were told: nothing was written then;
 /// - `NotWhole` with the first symbol of its partition that is not held as one fitting value;
@@ -36,16 +37,18 @@ use std::alloc::Global;
 ///
 /// What was written is then a first part of the symbols that are held, and no symbol after one
 /// that is not.
-pub fn extract_to<R: Source, W: Sink>(
+pub fn extract_to<const SESSIONS: u32, const OBJECTS: u32, const SYMBOLS: u32, R: Source, W: Sink>(
     alloc: Global,
     source: &mut R,
     key: &Key,
     sink: &mut W,
 ) -> Result<u64, CommandFault>
-    ensures extracts { AnswersFrom (R.unread source.old) (R.unread source.new)
+    ensures extracts { AnswersFrom (at_most SESSIONS OBJECTS SYMBOLS)
+        (R.unread source.old) (R.unread source.new)
         (λ F. Extracts W.written F key.now sink.old sink.new result) result }
     ensures as_others { (others : List Known)
-        → AnswersFrom (R.unread source.old) (R.unread source.new)
+        → AnswersFrom (at_most SESSIONS OBJECTS SYMBOLS)
+        (R.unread source.old) (R.unread source.new)
         (λ F. Same F others → Extracts W.written others key.now sink.old sink.new result) result }
     ensures short { IfErr result
         (λ _. WritesFirst W.written (R.unread source.old) key.now sink.old sink.new) }
@@ -54,14 +57,14 @@ pub fn extract_to<R: Source, W: Sink>(
 {
     let mut writer = ObjectWriter::new(*key);
     let mut reader = JournalReader::new(source, MAX_ENTRIES);
-    match read_into(alloc, &mut reader, &mut writer, sink) {
+    match read_into::<SESSIONS, OBJECTS, SYMBOLS, _, _>(alloc, &mut reader, &mut writer, sink) {
         Ok(()) => writer.end(),
         Err(fault) => Err(load_fault(1, fault)),
     }
 }
 
 // Shows all entries of a new journal to a new writer, up to a fault of the journal.
-fn read_into<R: Source, W: Sink>(
+fn read_into<const SESSIONS: u32, const OBJECTS: u32, const SYMBOLS: u32, R: Source, W: Sink>(
     alloc: Global,
     reader: &mut JournalReader<'_, R>,
     writer: &mut ObjectWriter,
@@ -74,7 +77,8 @@ fn read_into<R: Source, W: Sink>(
     requires good { writer.old.failed ≡ false }
     ensures same_source { (source_of reader.new).ghost_name ≡ (source_of reader.old).ghost_name }
     ensures same_key { writer.new.key ≡ writer.old.key }
-    ensures passed { PassesAll (R.unread (source_of reader.old).now)
+    ensures passed { PassesAll (at_most SESSIONS OBJECTS SYMBOLS)
+        (R.unread (source_of reader.old).now)
         (R.unread (source_of reader.new).now) writer.new
         (W.written sink.old) (W.written sink.new) result }
     ensures untouched { WritesNothing writer.new.found → sink.new ≡ sink.old }
@@ -82,7 +86,7 @@ fn read_into<R: Source, W: Sink>(
         (R.failures (source_of reader.new).now) result }
     ensures failures { W.failures sink.new ≡ W.failures sink.old + times_failed writer.new.failed }
 {
-    let mut tally = Tally::<64, 4096, 1_048_576>::new();
+    let mut tally = Tally::<SESSIONS, OBJECTS, SYMBOLS>::new();
     let mut spare = Vec::new(alloc);
     while let Some(fact) = reader.next_with(alloc, spare)? {
         if !tally.count(&fact.address()) {

@@ -6,6 +6,7 @@ ghost use Rattle.flute_parts.specs.Facts.{IsRising};
 ghost use Rattle.flute_output.specs.NewFolders.{Places, LeadsTo, FolderStays, IsReady};
 ghost use Rattle.flutejoin.specs.declared.command_fault.CommandFault.TheVariants.{CannotWrite};
 ghost use Rattle.flutejoin.specs.ExtractAll.{ExtractsAll, ExtractAllFails, CanPick, picked_facts};
+ghost use Rattle.flutejoin.specs.Limits.{at_most};
 ghost use Rattle.flutejoin.specs.ObjectFiles.{Takes, TakesAll, KnowsSome};
 ghost use Rattle.flutejoin.specs.Packet.{write_failures};
 ghost use Rattle.flutejoin.specs.Show.{FailsToRead};
@@ -27,9 +28,16 @@ use std::alloc::Global;
 /// # Errors
 ///
 /// The first that is met: `Input` with the fault of the journal, as input 1; `Full` if it has more
-/// sessions, objects or symbols than a store holds; `CannotWrite` if the folder or the lines
-/// failed. The lines of the objects before it were written then.
-pub fn extract_all_to<R: Source, D: NewFolder, W: Sink>(
+/// than `SESSIONS` sessions, `OBJECTS` objects of one or `SYMBOLS` symbols of one; `CannotWrite` if
+/// the folder or the lines failed. The lines of the objects before it were written then.
+pub fn extract_all_to<
+    const SESSIONS: u32,
+    const OBJECTS: u32,
+    const SYMBOLS: u32,
+    R: Source,
+    D: NewFolder,
+    W: Sink,
+>(
     alloc: Global,
     source: &mut R,
     picked: &Picked,
@@ -37,18 +45,20 @@ pub fn extract_all_to<R: Source, D: NewFolder, W: Sink>(
     lines: &mut W,
 ) -> Result<u64, CommandFault>
     requires { IfSome (D.places folder.old) IsReady }
-    ensures extracted { IfOk result (ExtractsAll (R.unread source.old) (R.unread source.new)
+    ensures extracted { IfOk result (ExtractsAll (at_most SESSIONS OBJECTS SYMBOLS)
+        (R.unread source.old) (R.unread source.new)
         picked.now (D.places folder.old) (D.places folder.new)
         (W.written lines.old) (W.written lines.new)) }
     ensures failed { IfErr result
-        (ExtractAllFails (R.unread source.old) (R.unread source.new)) }
+        (ExtractAllFails (at_most SESSIONS OBJECTS SYMBOLS)
+        (R.unread source.old) (R.unread source.new)) }
     ensures stays { LeadsTo FolderStays (D.places folder.old) (D.places folder.new) }
     ensures read_failures { FailsToRead (R.failures source.old) (R.failures source.new) result }
     ensures failures { D.failures folder.new + W.failures lines.new
         ≡ D.failures folder.old + W.failures lines.old + write_failures result }
 {
     let mut files = ObjectFiles::new();
-    let mut tally = Tally::<64, 4096, 1_048_576>::new();
+    let mut tally = Tally::<SESSIONS, OBJECTS, SYMBOLS>::new();
     let mut reader = JournalReader::new(source, MAX_ENTRIES);
     let mut spare = Vec::new(alloc);
     while let Some(fact) = at_input(1, reader.next_with(alloc, spare))? {

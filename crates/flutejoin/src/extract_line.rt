@@ -43,6 +43,7 @@ fn extract_all<'a>(matches: &ArgMatches<'a>) -> Result<Line<'a>, CommandFault>
     let sender = source_if(matches)?;
     Ok(Line::ExtractAll {
         out: text(matches, "OUT"),
+        any_size: flag(matches, "any-size"),
         sender,
         sessions,
         j: text(matches, "J"),
@@ -81,6 +82,7 @@ fn object_of<'a>(matches: &ArgMatches<'a>) -> Result<Line<'a>, CommandFault>
     Ok(Line::Extract {
         out: text(matches, "OUT"),
         force: flag(matches, "force"),
+        any_size: flag(matches, "any-size"),
         key,
         j: text(matches, "J"),
     })

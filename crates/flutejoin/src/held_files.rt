@@ -5,7 +5,10 @@ ghost use Rattle.flutejoin.specs.declared.limits.TheConstants.{MAX_ENTRIES};
 ghost use Rattle.flutejoin.specs.declared.command_fault.CommandFault.TheVariants as faults;
 ghost use Rattle.flute_journal.specs.Scopes.{takes_key, chosen};
 ghost use Rattle.flute_wire.specs.Reading.{facts};
-ghost use Rattle.flutejoin.specs.Joined.{Choice, choice_of, is_of_others, HoldsDatagrams, HoldsMore, IsCounted, CountsUpTo, FileFails};
+ghost use Rattle.flutejoin.specs.Joined.{Choice, choice_of, is_of_others};
+ghost use Rattle.flutejoin.specs.JoinParts.{HoldsDatagrams, HoldsMore, IsCounted, CountsUpTo};
+ghost use Rattle.flutejoin.specs.JoinParts.{FileFails};
+ghost use Rattle.flutejoin.specs.Limits.{Limits, at_most};
 ghost use Rattle.flutejoin.specs.Refused.{is_refused};
 ghost use Rattle.flutejoin.specs.Show.{FailsToRead};
 
@@ -20,19 +23,23 @@ use std::alloc::Global;
 
 /// What datagram files tell together.
 #[derive(Drop)]
-pub(crate) struct HeldFiles {
-    /// Their facts, and how many datagrams they have. If the facts are over the limits of a store,
-    /// a part of them.
-    pub(crate) told: Joined,
+pub(crate) struct HeldFiles<const SESSIONS: u32, const OBJECTS: u32, const SYMBOLS: u32> {
+    /// Their facts, and how many datagrams they have. If the facts are over the limits, a part of
+    /// them.
+    pub(crate) told: Joined<SESSIONS, OBJECTS, SYMBOLS>,
     /// Whether all the facts are held.
     pub(crate) fits: bool,
     /// How many of the datagrams are of other objects.
     pub(crate) others: u64,
 }
 
-impl HeldFiles {
+impl<const SESSIONS: u32, const OBJECTS: u32, const SYMBOLS: u32> HeldFiles<
+    SESSIONS,
+    OBJECTS,
+    SYMBOLS,
+> {
     // No datagrams.
-    pub(crate) fn new(alloc: Global) -> HeldFiles
+    pub(crate) fn new(alloc: Global) -> Self
         ensures held { (choice : Choice) → HoldsDatagrams choice result [] }
         ensures counted { IsCounted result }
         ensures none { result.told.datagrams ≡ 0 }
@@ -55,7 +62,8 @@ impl HeldFiles {
     ) -> Result<(), CommandFault>
         requires room { self.now.told.datagrams + 1 < 2 ^ 64 }
         requires counted { IsCounted self.now }
-        ensures taken { OnOk result (HoldsMore (choice_of sender scope.now) self.old self.new
+        ensures taken { OnOk result (HoldsMore
+            (choice_of (at_most SESSIONS OBJECTS SYMBOLS) sender scope.now) self.old self.new
             (datagram.now ∷ [])) }
         ensures few { OnOk result (CountsUpTo 1 self.old self.new) }
         ensures memory { IfErr result (λ fault. fault ≡ faults.OutOfMemory) }
@@ -97,7 +105,8 @@ impl HeldFiles {
         requires counted { IsCounted self.now }
         ensures held { OnOk result (IfSome (R.unread source.old) (λ bytes.
             (datagrams : List (List ℕ)) × IsFileWithin MAX_ENTRIES bytes datagrams
-            × HoldsMore (choice_of sender scope.now) self.old self.new datagrams)) }
+            × HoldsMore (choice_of (at_most SESSIONS OBJECTS SYMBOLS) sender scope.now)
+            self.old self.new datagrams)) }
         ensures few { OnOk result (CountsUpTo MAX_ENTRIES self.old self.new) }
         ensures failed { IfErr result (FileFails number (R.unread source.old)) }
         ensures failures { FailsToRead (R.failures source.old) (R.failures source.new) result }
@@ -119,7 +128,8 @@ fn is_of_others(sender: Sender, scope: &Scope, datagram: &[u8]) -> bool
     ensures others { result ≡ true
         → chosen (takes_key scope.now) (facts sender datagram.now) ≡ [] }
     ensures packet { result ≡ true → is_refused datagram.now ≡ false }
-    ensures exact { result ≡ is_of_others (choice_of sender scope.now) datagram.now }
+    ensures exact { (most : Limits)
+        → result ≡ is_of_others (choice_of most sender scope.now) datagram.now }
     ensures taken { result ≡ false
         → chosen (takes_key scope.now) (facts sender datagram.now)
         ≡ facts sender datagram.now }

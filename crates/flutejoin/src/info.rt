@@ -4,6 +4,7 @@ ghost use Rattle.flute_parts.specs.declared.fact.Fact.TheVariants.{Info as InfoF
 ghost use Rattle.flute_journal.specs.StreamMerges.{AppendsNoJournal};
 ghost use Rattle.flutejoin.specs.declared.command_fault.CommandFault.TheVariants.{CannotWrite};
 ghost use Rattle.flutejoin.specs.Info.{AddsFacts, InfoFails};
+ghost use Rattle.flutejoin.specs.Limits.{at_most};
 ghost use Rattle.flutejoin.specs.Show.{FailsToRead};
 
 use crate::adding_facts::add_facts;
@@ -19,10 +20,10 @@ use std::alloc::Global;
 ///
 /// # Errors
 ///
-/// The first that is met: `Input` with the fault of the journal, as input 1; `Full` if both together
-/// have more sessions, objects or symbols than a store holds; `CannotWrite` if the sink failed. What
-/// was written is then no journal.
-pub fn info_to<R: Source, W: Sink>(
+/// The first that is met: `Input` with the fault of the journal, as input 1; `Full` if both
+/// together have more than `SESSIONS` sessions, `OBJECTS` objects of one or `SYMBOLS` symbols of
+/// one; `CannotWrite` if the sink failed. What was written is then no journal.
+pub fn info_to<const SESSIONS: u32, const OBJECTS: u32, const SYMBOLS: u32, R: Source, W: Sink>(
     alloc: Global,
     source: &mut R,
     key: Key,
@@ -31,7 +32,8 @@ pub fn info_to<R: Source, W: Sink>(
 ) -> Result<u64, CommandFault>
     ensures added { IfOk result (AddsFacts (R.unread source.old) (InfoFact key info ∷ [])
         (W.written sink.old) (W.written sink.new)) }
-    ensures failed { IfErr result (InfoFails (R.unread source.old) (InfoFact key info ∷ [])) }
+    ensures failed { IfErr result (InfoFails (at_most SESSIONS OBJECTS SYMBOLS)
+        (R.unread source.old) (InfoFact key info ∷ [])) }
     ensures short { IfErr result
         (λ _. AppendsNoJournal (W.written sink.old) (W.written sink.new)) }
     ensures read_failures { FailsToRead (R.failures source.old) (R.failures source.new) result }
@@ -41,5 +43,5 @@ pub fn info_to<R: Source, W: Sink>(
 {
     let mut journal = JournalReader::new(source, MAX_ENTRIES);
     let mut fact = FactStream::new(Fact::Info { key, info });
-    add_facts(alloc, &mut journal, &mut fact, sink)
+    add_facts::<SESSIONS, OBJECTS, SYMBOLS, _, _, _>(alloc, &mut journal, &mut fact, sink)
 }

@@ -38,6 +38,7 @@ fn info_list<'a>(matches: &ArgMatches<'a>, list: &'a str) -> Result<Line<'a>, Co
     Ok(Line::InfoList {
         out: text(matches, "OUT"),
         force: flag(matches, "force"),
+        any_size: flag(matches, "any-size"),
         list,
         j: text(matches, "J"),
     })
@@ -95,6 +96,7 @@ fn numbers_of<'a>(matches: &ArgMatches<'a>) -> Result<Line<'a>, CommandFault>
     Ok(Line::Info {
         out: text(matches, "OUT"),
         force: flag(matches, "force"),
+        any_size: flag(matches, "any-size"),
         key,
         length,
         symbol,

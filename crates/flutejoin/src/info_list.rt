@@ -6,6 +6,7 @@ ghost use Rattle.flute_journal.specs.StreamMerges.{AppendsNoJournal};
 ghost use Rattle.flute_journal.specs.declared.fault.ReadFault.TheVariants.{Read};
 ghost use Rattle.flutejoin.specs.Info.{AddsFacts, InfoFails};
 ghost use Rattle.flutejoin.specs.InfoLists.{AddsList, AddListFails};
+ghost use Rattle.flutejoin.specs.Limits.{IsCountable, at_most};
 ghost use Rattle.flutejoin.specs.Show.{FailsToRead};
 ghost use Rattle.flutejoin.specs.declared.command_fault.CommandFault.TheVariants.{CannotWrite, Input};
 
@@ -15,7 +16,7 @@ use crate::information_list::read_list;
 use crate::limits::MAX_ENTRIES;
 use flute_journal::{JournalReader, WalkStream};
 use flute_parts::{Sink, Source};
-use flute_store::Shelf;
+use flute_store::Store;
 use std::alloc::Global;
 
 /// Writes the journal of all that a journal tells, of at most 16,777,216 entries, and the
@@ -29,18 +30,22 @@ use std::alloc::Global;
 /// # Errors
 ///
 /// The first that is met: `ListLine` or `ListInformation` with the number, from 1, of the first
-/// line at fault; `Full` if the list has more sessions or objects than a store holds; `OutOfMemory`
-/// if there is none for them; `Input` with `Read` as input 2 if the source of the list failed; and
-/// then those of `info_to`, as the journal is input 1. What was written is then no journal.
-pub fn info_list_to<R: Source, W: Sink>(
-    alloc: Global,
-    source: &mut R,
-    list: &mut R,
-    sink: &mut W,
-) -> Result<u64, CommandFault>
+/// line at fault; `Full` if the list has more than `SESSIONS` sessions or `OBJECTS` objects of one;
+/// `OutOfMemory` if there is none for them; `Input` with `Read` as input 2 if the source of the
+/// list failed; and then those of `info_to`, as the journal is input 1. What was written is then no
+/// journal.
+pub fn info_list_to<
+    const SESSIONS: u32,
+    const OBJECTS: u32,
+    const SYMBOLS: u32,
+    R: Source,
+    W: Sink,
+>(alloc: Global, source: &mut R, list: &mut R, sink: &mut W) -> Result<u64, CommandFault>
+    requires countable { IsCountable SESSIONS OBJECTS SYMBOLS }
     ensures added { IfOk result (λ count. AddsList (R.unread source.old) (R.unread list.old) count
         (W.written sink.old) (W.written sink.new)) }
-    ensures failed { IfErr result (AddListFails (R.unread source.old) (R.unread list.old)) }
+    ensures failed { IfErr result (AddListFails (at_most SESSIONS OBJECTS SYMBOLS)
+        (R.unread source.old) (R.unread list.old)) }
     ensures short { IfErr result
         (λ _. AppendsNoJournal (W.written sink.old) (W.written sink.new)) }
     ensures none_failed { OnOk result ((R.failures source.new ≡ R.failures source.old)
@@ -53,21 +58,22 @@ pub fn info_list_to<R: Source, W: Sink>(
     ensures write_failed { IfErr result
         (λ fault. fault ≡ CannotWrite → W.failures sink.new ≡ W.failures sink.old + 1) }
 {
-    let told = read_list(alloc, list)?;
+    let told: Store<SESSIONS, OBJECTS, SYMBOLS> = read_list(alloc, list)?;
     add_store(alloc, source, &told, sink)
 }
 
 // Adds what a store holds to a journal.
-fn add_store<R: Source, W: Sink>(
+fn add_store<const SESSIONS: u32, const OBJECTS: u32, const SYMBOLS: u32, R: Source, W: Sink>(
     alloc: Global,
     source: &mut R,
-    store: &Shelf,
+    store: &Store<SESSIONS, OBJECTS, SYMBOLS>,
     sink: &mut W,
 ) -> Result<u64, CommandFault>
+    requires countable { IsCountable SESSIONS OBJECTS SYMBOLS }
     ensures added { (told : List FactValue) → Same store.now told → IfOk result
         (AddsFacts (R.unread source.old) told (W.written sink.old) (W.written sink.new)) }
     ensures failed { (told : List FactValue) → Same store.now told → IfErr result
-        (InfoFails (R.unread source.old) told) }
+        (InfoFails (at_most SESSIONS OBJECTS SYMBOLS) (R.unread source.old) told) }
     ensures short { IfErr result
         (λ _. AppendsNoJournal (W.written sink.old) (W.written sink.new)) }
     ensures failures { FailsToRead (R.failures source.old) (R.failures source.new) result }
@@ -77,5 +83,5 @@ fn add_store<R: Source, W: Sink>(
 {
     let mut journal = JournalReader::new(source, MAX_ENTRIES);
     let mut facts = WalkStream::new(store.walk());
-    add_facts(alloc, &mut journal, &mut facts, sink)
+    add_facts::<SESSIONS, OBJECTS, SYMBOLS, _, _, _>(alloc, &mut journal, &mut facts, sink)
 }

@@ -10,7 +10,8 @@ ghost use Rattle.flute_journal.specs.Streams.{option_list};
 ghost use Rattle.flutejoin.specs.InformationLines.{IsPassedOver, Shows, LineTells, ListTells, ListFails};
 ghost use Rattle.flutejoin.specs.InformationLines.{HoldsList, IsKept, LineFails, TakingFails};
 ghost use Rattle.flutejoin.specs.InformationLines.{numbers_of};
-ghost use Rattle.flutejoin.specs.Joining.{NamesOnly};
+ghost use Rattle.flutejoin.specs.JoinParts.{NamesOnly};
+ghost use Rattle.flutejoin.specs.Limits.{at_most};
 ghost use Rattle.flutejoin.specs.Show.{FailsToRead};
 ghost use Rattle.flute_journal.specs.declared.fault.ReadFault.TheVariants.{Read};
 ghost use Rattle.flutejoin.specs.declared.command_fault.CommandFault.TheVariants.{Input};
@@ -21,7 +22,7 @@ use crate::text::Text;
 use flute_join::JoinRefusal;
 use flute_journal::ReadFault;
 use flute_parts::{Fact, Info, Key, Source};
-use flute_store::{Shelf, Store};
+use flute_store::Store;
 use std::alloc::Global;
 
 /// How many bytes of a line are kept: more than any line of information has.
@@ -32,9 +33,9 @@ const PIECE: usize = 4096;
 
 /// What the lines of a list tell that were read, and the line after them, as far as it was read.
 #[derive(Drop)]
-pub(crate) struct InformationList {
+pub(crate) struct InformationList<const SESSIONS: u32, const OBJECTS: u32, const SYMBOLS: u32> {
     /// What the lines tell.
-    told: Shelf,
+    told: Store<SESSIONS, OBJECTS, SYMBOLS>,
     /// The next line, or its first 512 bytes.
     line: Text,
     /// Whether that line is longer.
@@ -43,9 +44,13 @@ pub(crate) struct InformationList {
     number: u64,
 }
 
-impl InformationList {
+impl<const SESSIONS: u32, const OBJECTS: u32, const SYMBOLS: u32> InformationList<
+    SESSIONS,
+    OBJECTS,
+    SYMBOLS,
+> {
     // A list of which nothing was read.
-    fn new(alloc: Global) -> InformationList
+    fn new(alloc: Global) -> Self
         ensures holds { HoldsList result [] }
         ensures number { result.number ≡ 1 }
     {
@@ -68,7 +73,8 @@ impl InformationList {
             × Same self.new.told (self.old.told ++ facts)) }
         ensures failed { IfErr result (λ fault. (words : List ℕ)
             → IsKept self.old.long self.old.line words
-            → TakingFails self.old.told self.old.number words fault) }
+            → TakingFails (at_most SESSIONS OBJECTS SYMBOLS) self.old.told self.old.number words
+            fault) }
     {
         match fact_of_line(self.number, self.line.as_slice(), self.long)? {
             None => Ok(()),
@@ -87,7 +93,7 @@ impl InformationList {
         ensures taken { OnOk result ((bytes : List ℕ) → HoldsList self.old bytes
             → HoldsList self.new (bytes ++ 10 ∷ [])) }
         ensures failed { IfErr result (λ fault. (bytes more : List ℕ) → HoldsList self.old bytes
-            → ListFails (bytes ++ 10 ∷ more) fault) }
+            → ListFails (at_most SESSIONS OBJECTS SYMBOLS) (bytes ++ 10 ∷ more) fault) }
     {
         self.take_line(alloc)?;
         self.line = Text::new();
@@ -117,7 +123,7 @@ impl InformationList {
         ensures taken { OnOk result ((bytes : List ℕ) → HoldsList self.old bytes
             → HoldsList self.new (bytes ++ byte ∷ [])) }
         ensures failed { IfErr result (λ fault. (bytes more : List ℕ) → HoldsList self.old bytes
-            → ListFails (bytes ++ byte ∷ more) fault) }
+            → ListFails (at_most SESSIONS OBJECTS SYMBOLS) (bytes ++ byte ∷ more) fault) }
     {
         if byte == b'\n' {
             self.end_line(alloc)
@@ -134,7 +140,7 @@ impl InformationList {
         ensures taken { OnOk result ((bytes : List ℕ) → HoldsList self.old bytes
             → HoldsList self.new (bytes ++ piece.now)) }
         ensures failed { IfErr result (λ fault. (bytes more : List ℕ) → HoldsList self.old bytes
-            → ListFails (bytes ++ (piece.now ++ more)) fault) }
+            → ListFails (at_most SESSIONS OBJECTS SYMBOLS) (bytes ++ (piece.now ++ more)) fault) }
     {
         for byte in piece {
             self.take_byte(alloc, *byte)?;
@@ -143,11 +149,11 @@ impl InformationList {
     }
 
     // What all lines tell, if the list ends here.
-    fn finish(self) -> Result<Shelf, CommandFault>
-        ensures told { IfOk result (λ shelf. (bytes : List ℕ) → HoldsList self bytes
+    fn finish(self) -> Result<Store<SESSIONS, OBJECTS, SYMBOLS>, CommandFault>
+        ensures told { IfOk result (λ shelf. (bytes : List ℕ) → HoldsList self.entry bytes
             → (facts : List FactValue) × ListTells bytes facts × Same shelf facts) }
-        ensures failed { IfErr result (λ fault. (bytes : List ℕ) → HoldsList self bytes
-            → ListFails bytes fault) }
+        ensures failed { IfErr result (λ fault. (bytes : List ℕ) → HoldsList self.entry bytes
+            → ListFails (at_most SESSIONS OBJECTS SYMBOLS) bytes fault) }
     {
         if self.line.as_slice().is_empty() {
             Ok(self.told)
@@ -221,15 +227,19 @@ fn read_piece<R: Source>(source: &mut R, piece: &mut [u8]) -> Result<usize, Comm
 /// one of its numbers is out of its range, or it has no end; `ListInformation` if its numbers are
 /// not valid; `Full` if the store has no room for what it tells, and `OutOfMemory` if there is no
 /// memory for that; and `Input`, as input 2, if the source failed.
-pub(crate) fn read_list<R: Source>(alloc: Global, source: &mut R) -> Result<Shelf, CommandFault>
+pub(crate) fn read_list<const SESSIONS: u32, const OBJECTS: u32, const SYMBOLS: u32, R: Source>(
+    alloc: Global,
+    source: &mut R,
+) -> Result<Store<SESSIONS, OBJECTS, SYMBOLS>, CommandFault>
     ensures told { IfOk result (λ shelf. IfSome (R.unread source.old)
         (λ bytes. (facts : List FactValue) × ListTells bytes facts × Same shelf facts)) }
     ensures failed { IfErr result (λ fault. (fault ≡ Input 2 Read)
-        ⊎ IfSome (R.unread source.old) (λ bytes. ListFails bytes fault)) }
+        ⊎ IfSome (R.unread source.old)
+        (λ bytes. ListFails (at_most SESSIONS OBJECTS SYMBOLS) bytes fault)) }
     ensures names { IfErr result (NamesOnly 2) }
     ensures failures { FailsToRead (R.failures source.old) (R.failures source.new) result }
 {
-    let mut list = InformationList::new(alloc);
+    let mut list = InformationList::<SESSIONS, OBJECTS, SYMBOLS>::new(alloc);
     let mut piece = [0; PIECE];
     let mut taken: u64 = 0;
     loop {

@@ -5,9 +5,15 @@ ghost use Rattle.flute_journal.specs.declared.fault.ReadFault.TheVariants.{Read}
 ghost use Rattle.flute_journal.specs.Streams.{IsNew};
 ghost use Rattle.flutejoin.specs.declared.command_fault.CommandFault.TheVariants.{Input, CannotWrite};
 ghost use Rattle.flutejoin.specs.declared.limits.TheConstants.{MAX_ENTRIES};
-ghost use Rattle.flutejoin.specs.JoinInputs.{IsInput, AreInputs, journal_behaviour, failures_of, NoneFailed, OneFailed};
-ghost use Rattle.flutejoin.specs.Joined.{choice_of, HoldsMore, IsCounted, CountsUpTo};
-ghost use Rattle.flutejoin.specs.Joining.{NamesOnly, NamesOneOf, InspectionFails, SomeInspectionFails, IsInspected, Finds, IsReady};
+ghost use Rattle.flutejoin.specs.JoinInputs.{IsInput, AreInputs};
+ghost use Rattle.flutejoin.specs.InputStreams.{journal_behaviour, failures_of, NoneFailed};
+ghost use Rattle.flutejoin.specs.InputStreams.{OneFailed};
+ghost use Rattle.flutejoin.specs.Joined.{choice_of};
+ghost use Rattle.flutejoin.specs.JoinParts.{HoldsMore, IsCounted, CountsUpTo};
+ghost use Rattle.flutejoin.specs.JoinParts.{NamesOnly, InspectionFails, SomeInspectionFails};
+ghost use Rattle.flutejoin.specs.JoinParts.{IsInspected, Finds, IsReady};
+ghost use Rattle.flutejoin.specs.JoinFaults.{NamesOneOf};
+ghost use Rattle.flutejoin.specs.Limits.{at_most};
 ghost use Rattle.flutejoin.specs.Show.{FailsToRead};
 
 use crate::command_fault::CommandFault;
@@ -26,16 +32,17 @@ use std::alloc::Global;
 /// Of the first input, numbered from 1, that has a fault: `UnknownKind` if it is neither;
 /// `Input` with the fault of a datagram file, or if its source failed or there was no memory
 /// for a datagram. `OutOfMemory` if there was none for what it tells.
-pub(crate) fn inspect_all<R: Source>(
+pub(crate) fn inspect_all<const SESSIONS: u32, const OBJECTS: u32, const SYMBOLS: u32, R: Source>(
     alloc: Global,
     sender: Sender,
     scope: &Scope,
     inputs: &mut [JoinInput<R>],
-) -> Result<HeldFiles, CommandFault>
+) -> Result<HeldFiles<SESSIONS, OBJECTS, SYMBOLS>, CommandFault>
     requires { length inputs.old ≤ 64 }
     ensures ready { OnOk result (AllByRecursion (IsReady R.unread R.failures) inputs.new) }
     ensures inspected { (contents : List (List ℕ)) → AreInputs R.unread inputs.old contents
-        → IfOk result (Finds R.unread (choice_of sender scope.now) inputs.new contents) }
+        → IfOk result (Finds R.unread
+        (choice_of (at_most SESSIONS OBJECTS SYMBOLS) sender scope.now) inputs.new contents) }
     ensures failed { (contents : List (List ℕ)) → AreInputs R.unread inputs.old contents
         → IfErr result (SomeInspectionFails contents) }
     ensures names { IfErr result (NamesOneOf (length inputs.old)) }
@@ -53,21 +60,23 @@ pub(crate) fn inspect_all<R: Source>(
 
 // Inspects an input: what a datagram file tells is then held too, and a journal is to be read from
 // its first byte.
-fn inspect<R: Source>(
+fn inspect<const SESSIONS: u32, const OBJECTS: u32, const SYMBOLS: u32, R: Source>(
     alloc: Global,
     number: usize,
     sender: Sender,
     scope: &Scope,
     input: &mut JoinInput<R>,
-    held: &mut HeldFiles,
+    held: &mut HeldFiles<SESSIONS, OBJECTS, SYMBOLS>,
 ) -> Result<(), CommandFault>
     requires room { held.old.told.datagrams < 2 ^ 63 }
     requires counted { IsCounted held.old }
     ensures ready { OnOk result (IsReady R.unread R.failures input.new) }
     ensures inspected { (bytes : List ℕ) → IsInput R.unread input.old bytes
         → OnOk result ((datagrams : List (List ℕ))
-        × IsInspected R.unread (choice_of sender scope.now) input.new bytes datagrams
-        × HoldsMore (choice_of sender scope.now) held.old held.new datagrams) }
+        × IsInspected R.unread (choice_of (at_most SESSIONS OBJECTS SYMBOLS) sender scope.now)
+        input.new bytes datagrams
+        × HoldsMore (choice_of (at_most SESSIONS OBJECTS SYMBOLS) sender scope.now)
+        held.old held.new datagrams) }
     ensures few { OnOk result (CountsUpTo MAX_ENTRIES held.old held.new) }
     ensures failed { (bytes : List ℕ) → IsInput R.unread input.old bytes
         → IfErr result (InspectionFails number bytes) }

@@ -1,7 +1,8 @@
 //! The inputs of a join.
 ghost use Rattle.std.specs.Prelude.{◌≡◌, IfSome, IfOk, IfErr};
 ghost use Rattle.flute_journal.specs.declared.fault.ReadFault.TheVariants.{Read};
-ghost use Rattle.flutejoin.specs.JoinInputs.{IsInput, passed_over};
+ghost use Rattle.flutejoin.specs.JoinInputs.{IsInput};
+ghost use Rattle.flutejoin.specs.InputStreams.{passed_over};
 
 use crate::first_bytes::FirstBytes;
 use crate::limits::MAX_ENTRIES;
@@ -65,7 +66,7 @@ impl<R> JoinInput<R> {
 
 /// A journal gives its entries of the objects that are taken. Nothing else gives any.
 impl<R: Source> Stream for JoinInput<R> {
-    ghost use Rattle.flutejoin.specs.JoinInputs.{input_behaviour};
+    ghost use Rattle.flutejoin.specs.InputStreams.{input_behaviour};
 
     ghost behaviour = { input_behaviour R.unread R.failures };
 

@@ -1,28 +1,37 @@
 //! What the inputs of several stations tell together.
 ghost use Rattle.std.specs.Prelude.{◌≡◌, ◌≤◌, ◌<◌, ◌+◌, ◌^◌, [], ◌++◌, OnOk, OnErr, IfErr};
 ghost use Rattle.flute_wire.specs.Reading.{facts};
-ghost use Rattle.flutejoin.specs.Joined.{TakesDatagram, StoreFails};
+ghost use Rattle.flutejoin.specs.JoinParts.{TakesDatagram, StoreFails};
+ghost use Rattle.flutejoin.specs.Limits.{at_most};
 
 use crate::command_fault::CommandFault;
+use crate::limits::{MAX_OBJECTS, MAX_SESSIONS, MAX_SYMBOLS};
 use flute_parts::Sender;
-use flute_store::{Shelf, Store, TakeFault};
+use flute_store::{Store, TakeFault};
 use flute_wire::one_reading;
 use std::alloc::Global;
 
-/// What inputs tell together.
+/// What inputs tell together, within these limits.
 #[derive(Debug, Drop)]
-pub struct Joined {
+pub struct Joined<const SESSIONS: u32, const OBJECTS: u32, const SYMBOLS: u32> {
     /// The facts of all of them.
-    pub store: Shelf,
+    pub store: Store<SESSIONS, OBJECTS, SYMBOLS>,
     /// How many datagrams the datagram files among them have.
     pub datagrams: u64,
     /// How many of these datagrams are refused. They tell nothing.
     pub refused: u64,
 }
 
-impl Joined {
+/// What inputs tell together, within the limits of a [`Shelf`](flute_store::Shelf).
+pub type JoinedShelf = Joined<MAX_SESSIONS, MAX_OBJECTS, MAX_SYMBOLS>;
+
+impl<const SESSIONS: u32, const OBJECTS: u32, const SYMBOLS: u32> Joined<
+    SESSIONS,
+    OBJECTS,
+    SYMBOLS,
+> {
     // What no inputs tell.
-    pub(crate) fn new(alloc: Global) -> Joined
+    pub(crate) fn new(alloc: Global) -> Self
         ensures store { result.store ≡ [] }
         ensures datagrams { result.datagrams ≡ 0 }
         ensures refused { result.refused ≡ 0 }
@@ -45,7 +54,8 @@ impl Joined {
         requires refused { self.now.refused ≤ self.now.datagrams }
         ensures taken { OnOk result (TakesDatagram (facts sender datagram.now) self.old
             datagram.now self.new) }
-        ensures failed { IfErr result (StoreFails (self.old.store ++ facts sender datagram.now)) }
+        ensures failed { IfErr result (StoreFails (at_most SESSIONS OBJECTS SYMBOLS)
+            (self.old.store ++ facts sender datagram.now)) }
         ensures counts { OnErr result ((self.new.datagrams ≡ self.old.datagrams)
             × (self.new.refused ≡ self.old.refused)) }
     {

@@ -9,19 +9,24 @@ ghost use Rattle.flute_journal.specs.StreamMerges.{EndsMerged, AppendsNoJournal,
 ghost use Rattle.flute_journal.specs.Streams.{most_of};
 ghost use Rattle.flute_journal.specs.declared.fault.ReadFault.TheVariants.{Read};
 ghost use Rattle.flutejoin.specs.declared.command_fault.CommandFault.TheVariants.{Input, OutOfMemory, CannotWrite};
-ghost use Rattle.flutejoin.specs.JoinInputs.{AreInputs, passed_over, NoneFailed, OneFailed};
+ghost use Rattle.flutejoin.specs.JoinInputs.{AreInputs};
+ghost use Rattle.flutejoin.specs.InputStreams.{passed_over, NoneFailed, OneFailed};
 ghost use Rattle.flutejoin.specs.Joined.{Choice, choice_of, facts_by};
-ghost use Rattle.flutejoin.specs.Joining.{JoinsTo, JoinToFails, NamesOneOf, AreInspected, IsReady, JoinsInspected, joined_behaviour};
-ghost use Rattle.flutejoin.specs.Shelves.{IsOverShelf};
+ghost use Rattle.flutejoin.specs.Joining.{JoinsTo};
+ghost use Rattle.flutejoin.specs.JoinFaults.{JoinToFails, NamesOneOf};
+ghost use Rattle.flutejoin.specs.JoinParts.{AreInspected, IsReady, JoinsInspected};
+ghost use Rattle.flutejoin.specs.JoinParts.{joined_behaviour};
+ghost use Rattle.flutejoin.specs.Limits.{IsCountable, IsOver, at_most};
 
 use crate::command_fault::{CommandFault, load_fault};
+use crate::held_files::HeldFiles;
 use crate::inspecting::inspect_all;
 use crate::join_counts::JoinCounts;
 use crate::join_input::JoinInput;
 use crate::nothing::Nothing;
 use flute_journal::{Chained, InputFault, MergedJournal, Scope, Stream, WalkStream, join_streams};
 use flute_parts::{Sender, Sink, Source};
-use flute_store::Shelf;
+use flute_store::Store;
 use std::alloc::Global;
 
 /// Writes the journal of all that the inputs tell together of these objects, each a journal or a
@@ -42,13 +47,14 @@ use std::alloc::Global;
 ///   file, which may have at most 16,777,216 records, or with `Read` if its source fails;
 /// - then, input by input: `Input` with the fault of a journal, which may have at most 16,777,216
 ///   entries, or with `Read` if its source fails;
-/// - then `Full` if all of them together have more sessions, objects or symbols than a store holds;
+/// - then `Full` if all of them together have more than `SESSIONS` sessions, `OBJECTS` objects of
+///   one or `SYMBOLS` symbols of one;
 /// - last, `CannotWrite` if the sink failed. The inputs are read to their ends all the same.
 ///
 /// `OutOfMemory`, or `Input` with it, if a request for memory was refused; at `OutOfMemory` nothing
 /// was written yet. What was written is no journal after any fault. The inputs were read in part,
 /// and are of no further use.
-pub fn join_to<R: Source, W: Sink>(
+pub fn join_to<const SESSIONS: u32, const OBJECTS: u32, const SYMBOLS: u32, R: Source, W: Sink>(
     alloc: Global,
     sender: Sender,
     scope: &Scope,
@@ -56,12 +62,14 @@ pub fn join_to<R: Source, W: Sink>(
     sink: &mut W,
 ) -> Result<JoinCounts, CommandFault>
     requires few { length inputs.old ≤ 64 }
+    requires countable { IsCountable SESSIONS OBJECTS SYMBOLS }
     ensures joined { (contents : List (List ℕ)) → AreInputs R.unread inputs.old contents
         → IfOk result
-        (λ counts. JoinsTo (choice_of sender scope.now) contents counts
-        (W.written sink.old) (W.written sink.new)) }
+        (λ counts. JoinsTo (choice_of (at_most SESSIONS OBJECTS SYMBOLS) sender scope.now)
+        contents counts (W.written sink.old) (W.written sink.new)) }
     ensures failed { (contents : List (List ℕ)) → AreInputs R.unread inputs.old contents
-        → IfErr result (JoinToFails (choice_of sender scope.now) contents) }
+        → IfErr result (JoinToFails
+        (choice_of (at_most SESSIONS OBJECTS SYMBOLS) sender scope.now) contents) }
     ensures short { IfErr result
         (λ _. AppendsNoJournal (W.written sink.old) (W.written sink.new)) }
     ensures kept { IfErr result (λ fault. fault ≡ OutOfMemory → sink.new ≡ sink.old) }
@@ -73,7 +81,7 @@ pub fn join_to<R: Source, W: Sink>(
     ensures write_failed { IfErr result
         (λ fault. fault ≡ CannotWrite → W.failures sink.new ≡ W.failures sink.old + 1) }
 {
-    let held = inspect_all(alloc, sender, scope, inputs)?;
+    let held: HeldFiles<SESSIONS, OBJECTS, SYMBOLS> = inspect_all(alloc, sender, scope, inputs)?;
     if !held.fits {
         return Err(fault_or_full(alloc, inputs, &held.told.store));
     }
@@ -103,18 +111,20 @@ fn others_of<R>(of_files: u64, inputs: &[JoinInput<R>]) -> u64
     others
 }
 
-// Why inputs are not joined that were inspected, and whose datagram files alone are over the limits
-// of a store: the first fault of a journal, or else that they are full.
-fn fault_or_full<R: Source>(
+// Why inputs are not joined that were inspected, and whose datagram files alone are over the
+// limits: the first fault of a journal, or else that they are full.
+fn fault_or_full<const SESSIONS: u32, const OBJECTS: u32, const SYMBOLS: u32, R: Source>(
     alloc: Global,
     inputs: &mut [JoinInput<R>],
-    store: &Shelf,
+    store: &Store<SESSIONS, OBJECTS, SYMBOLS>,
 ) -> CommandFault
     requires few { length inputs.old ≤ 64 }
+    requires countable { IsCountable SESSIONS OBJECTS SYMBOLS }
     requires ready { AllByRecursion (IsReady R.unread R.failures) inputs.old }
     ensures failed { (choice : Choice) (contents datagrams : List (List ℕ))
+        → choice.most ≡ at_most SESSIONS OBJECTS SYMBOLS
         → AreInspected R.unread choice inputs.old contents datagrams
-        → IsOverShelf (flat_map (facts_by choice) datagrams)
+        → IsOver choice.most (flat_map (facts_by choice) datagrams)
         → JoinToFails choice contents result }
     ensures names { NamesOneOf (length inputs.old) result }
     ensures no_memory { result ≡ OutOfMemory → ⊥ }
@@ -129,15 +139,17 @@ fn fault_or_full<R: Source>(
 }
 
 // Joins the journals among inputs that were inspected, and what a store holds of the others.
-fn join_inspected<R: Source, W: Sink>(
+fn join_inspected<const SESSIONS: u32, const OBJECTS: u32, const SYMBOLS: u32, R: Source, W: Sink>(
     alloc: Global,
     inputs: &mut [JoinInput<R>],
-    store: &Shelf,
+    store: &Store<SESSIONS, OBJECTS, SYMBOLS>,
     sink: &mut W,
 ) -> Result<MergedJournal, CommandFault>
     requires few { length inputs.old ≤ 64 }
+    requires countable { IsCountable SESSIONS OBJECTS SYMBOLS }
     requires ready { AllByRecursion (IsReady R.unread R.failures) inputs.old }
     ensures joined { (choice : Choice) (contents datagrams : List (List ℕ))
+        → choice.most ≡ at_most SESSIONS OBJECTS SYMBOLS
         → AreInspected R.unread choice inputs.old contents datagrams
         → IfOk result (λ joined. JoinsInspected choice contents datagrams store.now
         (sum_by passed_over inputs.new) joined (W.written sink.old) (W.written sink.new)) }
@@ -159,14 +171,21 @@ fn join_inspected<R: Source, W: Sink>(
         → W.failures sink.new ≡ W.failures sink.old + times_failed joined.cut) }
 {
     let mut walk = WalkStream::new(store.walk());
-    match join_chained(alloc, &mut walk, inputs, sink) {
+    match join_chained::<SESSIONS, OBJECTS, SYMBOLS, _, _, _>(alloc, &mut walk, inputs, sink) {
         Ok(joined) => Ok(joined),
         Err(fault) => Err(load_fault(fault.number, fault.fault)),
     }
 }
 
 // Joins a stream and inputs.
-fn join_chained<S: Stream, R: Source, W: Sink>(
+fn join_chained<
+    const SESSIONS: u32,
+    const OBJECTS: u32,
+    const SYMBOLS: u32,
+    S: Stream,
+    R: Source,
+    W: Sink,
+>(
     alloc: Global,
     first: &mut S,
     inputs: &mut [JoinInput<R>],
@@ -179,7 +198,7 @@ fn join_chained<S: Stream, R: Source, W: Sink>(
     ensures ended { IfOk result (λ joined. EndsMerged
         (joined_behaviour R.unread R.failures S.behaviour)
         (chained first.old (taken inputs.old)) (chained first.new (taken inputs.new))
-        64 4096 1048576 joined (W.written sink.old) (W.written sink.new)) }
+        SESSIONS OBJECTS SYMBOLS joined (W.written sink.old) (W.written sink.new)) }
     ensures cut { IfOk result (λ joined. joined.cut ≡ true
         → AppendsNoJournal (W.written sink.old) (W.written sink.new)) }
     ensures over { IfOk result (λ joined. joined.within ≡ false → joined.cut ≡ true) }
@@ -198,5 +217,5 @@ fn join_chained<S: Stream, R: Source, W: Sink>(
         first: &mut *first,
         others: &mut *inputs,
     };
-    join_streams::<64, 4096, 1_048_576, _, _>(alloc, &mut streams, sink)
+    join_streams::<SESSIONS, OBJECTS, SYMBOLS, _, _>(alloc, &mut streams, sink)
 }

@@ -1,19 +1,22 @@
 //! The lines of objects, made as their facts come in the order of their addresses.
-ghost use Rattle.std.specs.Prelude.{◌≡◌, ◌+◌, ◌∷◌, ◌++◌, [], List, ℕ, Bool, None, IfOk, OnOk, if◌then◌else◌, is_ok, flat_map};
+ghost use Rattle.std.specs.Prelude.{◌≡◌, ◌+◌, ◌∷◌, ◌++◌, [], List, ℕ, Bool, None, IfOk, OnOk};
+ghost use Rattle.std.specs.Prelude.{if◌then◌else◌, is_ok, flat_map, length, ◌≤◌, true};
 ghost use Rattle.flute_parts.specs.declared.fact.Fact.{Fact};
 ghost use Rattle.flute_parts.specs.Addresses.{address};
 ghost use Rattle.flute_parts.specs.Facts.{IsRising};
 ghost use Rattle.flute_store.specs.Scan.{Scanned, next_fact, CanFollow};
 ghost use Rattle.flute_store.specs.Scans.{Scans};
-ghost use Rattle.flutejoin.specs.Lines.{gap_line};
 ghost use Rattle.flute_store.specs.Held.{HoldsObject};
 ghost use Rattle.std.specs.Io.KnownBytes.{Appends};
-ghost use Rattle.flutejoin.specs.Listing.{Lists, AreListed, IsFirstOf, StateIs, Passes, TellsAll, CanAdd};
-ghost use Rattle.flutejoin.specs.Listing.{IsOpen, IsState, CanPass, Knows, IsListed};
+ghost use Rattle.flutejoin.specs.Listing.{AllClosed, CanAdd, CanPass, IsFirstOf, IsListed, IsOpen};
+ghost use Rattle.flutejoin.specs.Listing.{IsState, Knows, Lists, Passes, StateIs, TellsAll};
+ghost use Rattle.flutejoin.specs.Styles.{shown_gap};
 
 use crate::aside::Aside;
-use crate::held_lines::{gap_text, status_text};
+use crate::closed_objects::{ClosedObjects, end_session};
+use crate::held_lines::gap_text;
 use crate::report_lines::write_words;
+use crate::style::Style;
 use flute_parts::{DeviceFault, Fact, Key, SymbolId};
 use flute_store::{Gap, ObjectScan, Status, Turn};
 
@@ -25,6 +28,8 @@ use flute_store::{Gap, ObjectScan, Status, Turn};
 pub struct Listing {
     /// The object of the last fact.
     pub open: Option<OpenObject>,
+    /// The objects before it.
+    pub closed: ClosedObjects,
 }
 
 /// An object of which more facts may come.
@@ -45,9 +50,14 @@ pub enum ObjectState {
 impl Listing {
     /// The lines of no object.
     pub fn new() -> Listing
-        ensures { result.open ≡ None }
+        ensures open { result.open ≡ None }
+        ensures whole { result.closed.all_whole ≡ true }
+        ensures sums { result.closed.sums ≡ None }
     {
-        Listing { open: None }
+        Listing {
+            open: None,
+            closed: ClosedObjects::none(),
+        }
     }
 
     /// Takes the next fact, which is after those that came before.
@@ -58,29 +68,33 @@ impl Listing {
     #[inline(always)]
     pub fn add<A: Aside>(
         &mut self,
+        style: Style,
         fact: &Fact,
         lines: &mut A,
         gap_lines: &mut A,
     ) -> Result<(), DeviceFault>
-        requires { CanAdd fact.now self.old.open }
+        requires { CanAdd style fact.now self.old }
         ensures added { (known : Bool) (F : List Fact) → IsRising (F ++ fact.now ∷ [])
-            → Lists known F self.old.open (A.written lines.old) (A.written gap_lines.old)
-            → OnOk result (Lists known (F ++ fact.now ∷ []) self.new.open
+            → Lists style known F self.old (A.written lines.old) (A.written gap_lines.old)
+            → OnOk result (Lists style known (F ++ fact.now ∷ []) self.new
             (A.written lines.new) (A.written gap_lines.new)) }
         ensures failures { A.failures lines.new + A.failures gap_lines.new
             ≡ A.failures lines.old + A.failures gap_lines.old + (if is_ok result then 0 else 1) }
     {
         match fact {
             Fact::Symbol { key, id, bytes } => {
-                self.add_symbol(key, *id, Some(bytes.as_slice()), lines, gap_lines)
+                self.add_symbol(style, key, *id, Some(bytes.as_slice()), lines, gap_lines)
             }
-            Fact::SymbolConflict { key, id } => self.add_symbol(key, *id, None, lines, gap_lines),
+            Fact::SymbolConflict { key, id } => {
+                self.add_symbol(style, key, *id, None, lines, gap_lines)
+            }
             Fact::Info { key, info } => {
                 let state = ObjectState::OneInformation(ObjectScan::new(*key, info));
-                self.begin(*key, state, lines, gap_lines)
+                self.begin(style, *key, state, lines, gap_lines)
             }
             Fact::InfoConflict { key } => {
-                self.begin(*key, ObjectState::ConflictingInformation, lines, gap_lines)
+                let state = ObjectState::ConflictingInformation;
+                self.begin(style, *key, state, lines, gap_lines)
             }
         }
     }
@@ -89,26 +103,27 @@ impl Listing {
     #[inline(always)]
     fn add_symbol<A: Aside>(
         &mut self,
+        style: Style,
         key: &Key,
         id: SymbolId,
         value: Option<&[u8]>,
         lines: &mut A,
         gap_lines: &mut A,
     ) -> Result<(), DeviceFault>
-        requires { CanAdd (next_fact key.now (id, value)) self.old.open }
+        requires { CanAdd style (next_fact key.now (id, value)) self.old }
         ensures added { (known : Bool) (F : List Fact)
             → IsRising (F ++ next_fact key.now (id, value.entry) ∷ [])
-            → Lists known F self.old.open (A.written lines.old) (A.written gap_lines.old)
-            → OnOk result (Lists known (F ++ next_fact key.now (id, value.entry) ∷ [])
-            self.new.open (A.written lines.new) (A.written gap_lines.new)) }
+            → Lists style known F self.old (A.written lines.old) (A.written gap_lines.old)
+            → OnOk result (Lists style known (F ++ next_fact key.now (id, value.entry) ∷ [])
+            self.new (A.written lines.new) (A.written gap_lines.new)) }
         ensures failures { A.failures lines.new + A.failures gap_lines.new
             ≡ A.failures lines.old + A.failures gap_lines.old + (if is_ok result then 0 else 1) }
     {
         match &mut self.open {
             Some(object) if object.key == *key => {
-                pass_symbol(&mut object.state, gap_lines, id, value)
+                pass_symbol(style, &mut object.state, gap_lines, id, value)
             }
-            _ => self.begin(*key, ObjectState::NoInformation, lines, gap_lines),
+            _ => self.begin(style, *key, ObjectState::NoInformation, lines, gap_lines),
         }
     }
 
@@ -116,90 +131,110 @@ impl Listing {
     #[inline(never)]
     fn begin<A: Aside>(
         &mut self,
+        style: Style,
         key: Key,
         state: ObjectState,
         lines: &mut A,
         gap_lines: &mut A,
     ) -> Result<(), DeviceFault>
-        requires { IsOpen self.old.open }
+        requires { IsOpen style self.old }
         ensures begun { (known : Bool) (F : List Fact) (f : Fact) → IsRising (F ++ f ∷ [])
-            → Lists known F self.old.open (A.written lines.old) (A.written gap_lines.old)
-            → IsFirstOf F key → (address f).key ≡ key → StateIs key (f ∷ []) [] state
-            → OnOk result (Lists known (F ++ f ∷ []) self.new.open
+            → Lists style known F self.old (A.written lines.old) (A.written gap_lines.old)
+            → IsFirstOf F key → (address f).key ≡ key → StateIs style key (f ∷ []) [] state
+            → OnOk result (Lists style known (F ++ f ∷ []) self.new
             (A.written lines.new) (A.written gap_lines.new)) }
         ensures failures { A.failures lines.new + A.failures gap_lines.new
             ≡ A.failures lines.old + A.failures gap_lines.old + (if is_ok result then 0 else 1) }
     {
-        self.close(lines, gap_lines)?;
+        self.close(style, lines, gap_lines)?;
         self.open = Some(OpenObject { key, state });
         Ok(())
     }
 
     // Ends the open object, if there is one.
-    fn close<A: Aside>(&mut self, lines: &mut A, gap_lines: &mut A) -> Result<(), DeviceFault>
-        requires { IsOpen self.old.open }
+    fn close<A: Aside>(
+        &mut self,
+        style: Style,
+        lines: &mut A,
+        gap_lines: &mut A,
+    ) -> Result<(), DeviceFault>
+        requires { IsOpen style self.old }
         ensures closed { (known : Bool) (F : List Fact) → IsRising F
-            → Lists known F self.old.open (A.written lines.old) (A.written gap_lines.old)
-            → OnOk result (IsListed known F (A.written lines.new) (A.written gap_lines.new)) }
+            → Lists style known F self.old (A.written lines.old) (A.written gap_lines.old)
+            → OnOk result (AllClosed style known F self.new.closed
+            (A.written lines.new) (A.written gap_lines.new)) }
         ensures failures { A.failures lines.new + A.failures gap_lines.new
             ≡ A.failures lines.old + A.failures gap_lines.old + (if is_ok result then 0 else 1) }
     {
         let Some(object) = self.open.take() else {
             return Ok(());
         };
-        let status = end_object(object.state, gap_lines)?;
-        write_words(lines, status_text(&object.key, status))?;
+        let status = end_object(style, object.state, gap_lines)?;
+        self.closed.add(style, &object.key, status, lines)?;
         gap_lines.move_to(lines)
     }
 
-    /// Puts aside the last lines of all objects of which facts came.
+    /// Puts aside the last lines of all objects of which facts came, and tells whether all that are
+    /// listed are whole.
     ///
     /// # Errors
     ///
     /// If they could not be put aside.
-    pub fn finish<A: Aside>(mut self, lines: &mut A, gap_lines: &mut A) -> Result<(), DeviceFault>
-        requires { IsOpen self.open }
+    pub fn finish<A: Aside>(
+        mut self,
+        style: Style,
+        lines: &mut A,
+        gap_lines: &mut A,
+    ) -> Result<bool, DeviceFault>
+        requires { IsOpen style self }
         ensures finished { (known : Bool) (F : List Fact) → IsRising F
-            → Lists known F self.open (A.written lines.old) (A.written gap_lines.old)
-            → OnOk result (IsListed known F (A.written lines.new) (A.written gap_lines.new)) }
+            → Lists style known F self (A.written lines.old) (A.written gap_lines.old)
+            → IfOk result (IsListed style known F (A.written lines.new)) }
         ensures failures { A.failures lines.new + A.failures gap_lines.new
             ≡ A.failures lines.old + A.failures gap_lines.old + (if is_ok result then 0 else 1) }
     {
-        self.close(lines, gap_lines)
+        self.close(style, lines, gap_lines)?;
+        end_session(&self.closed.sums, lines)?;
+        Ok(self.closed.all_whole)
     }
 }
 
 // Takes the next symbol of an object.
 #[inline(always)]
 fn pass_symbol<A: Aside>(
+    style: Style,
     state: &mut ObjectState,
     gap_lines: &mut A,
     id: SymbolId,
     value: Option<&[u8]>,
 ) -> Result<(), DeviceFault>
-    requires { CanPass (id, value) state.old }
+    requires { CanPass style (id, value) state.old }
     ensures passed { (known : Bool) (key : Key) (mine : List Fact) (gaps : List ℕ)
         → IsRising (mine ++ next_fact key (id, value.entry) ∷ [])
-        → StateIs key mine gaps state.old → Knows known (A.written gap_lines.old) gaps
+        → StateIs style key mine gaps state.old → Knows known (A.written gap_lines.old) gaps
         → OnOk result ((all : List ℕ)
-        × StateIs key (mine ++ next_fact key (id, value.entry) ∷ []) all state.new
+        × StateIs style key (mine ++ next_fact key (id, value.entry) ∷ []) all state.new
         × Knows known (A.written gap_lines.new) all) }
     ensures failures { A.failures gap_lines.new
         ≡ A.failures gap_lines.old + (if is_ok result then 0 else 1) }
 {
     match state {
-        ObjectState::OneInformation(scan) => pass(scan, gap_lines, Some((id, value))),
+        ObjectState::OneInformation(scan) => pass(style, scan, gap_lines, Some((id, value))),
         ObjectState::NoInformation | ObjectState::ConflictingInformation => Ok(()),
     }
 }
 
 // How much is held of an object of which all facts came.
-fn end_object<A: Aside>(state: ObjectState, gap_lines: &mut A) -> Result<Status, DeviceFault>
-    requires { IsState state }
+fn end_object<A: Aside>(
+    style: Style,
+    state: ObjectState,
+    gap_lines: &mut A,
+) -> Result<Status, DeviceFault>
+    requires { IsState style state }
     ensures told { (known : Bool) (F before mine : List Fact) (key : Key) (gaps : List ℕ)
         → F ≡ before ++ mine → IsRising F → HoldsObject F key → IsFirstOf before key
-        → StateIs key mine gaps state → Knows known (A.written gap_lines.old) gaps
-        → IfOk result (λ status. (all : List ℕ) × TellsAll F key status all
+        → StateIs style key mine gaps state → Knows known (A.written gap_lines.old) gaps
+        → IfOk result (λ status. (all : List ℕ) × TellsAll style F key status all
         × Knows known (A.written gap_lines.new) all) }
     ensures failures { A.failures gap_lines.new
         ≡ A.failures gap_lines.old + (if is_ok result then 0 else 1) }
@@ -208,7 +243,7 @@ fn end_object<A: Aside>(state: ObjectState, gap_lines: &mut A) -> Result<Status,
         ObjectState::NoInformation => Ok(Status::NoInformation),
         ObjectState::ConflictingInformation => Ok(Status::ConflictingInformation),
         ObjectState::OneInformation(mut scan) => {
-            pass(&mut scan, gap_lines, None)?;
+            pass(style, &mut scan, gap_lines, None)?;
             Ok(scan.status())
         }
     }
@@ -217,31 +252,37 @@ fn end_object<A: Aside>(state: ObjectState, gap_lines: &mut A) -> Result<Status,
 // Passes the next symbol, or the end if none is left, and puts aside the lines of the gaps before.
 #[inline(always)]
 fn pass<A: Aside>(
+    style: Style,
     scan: &mut ObjectScan,
     gap_lines: &mut A,
     next: Option<(SymbolId, Option<&[u8]>)>,
 ) -> Result<(), DeviceFault>
     requires { (s : Scanned) × Scans scan.old s × CanFollow s next × (s.coming ≡ None) }
     ensures passed { (known : Bool) (s : Scanned) (gaps : List ℕ) → Scans scan.old s
-        → CanFollow s next.entry → s.coming ≡ None → gaps ≡ flat_map gap_line s.given
+        → CanFollow s next.entry → s.coming ≡ None → gaps ≡ flat_map (shown_gap style) s.given
         → Knows known (A.written gap_lines.old) gaps
         → OnOk result ((t : Scanned) × Passes s next.entry t × Scans scan.new t
-        × Knows known (A.written gap_lines.new) (flat_map gap_line t.given)) }
+        × Knows known (A.written gap_lines.new) (flat_map (shown_gap style) t.given)) }
     ensures failures { A.failures gap_lines.new
         ≡ A.failures gap_lines.old + (if is_ok result then 0 else 1) }
 {
     while let Turn::Gap(gap) = scan.next(next) {
-        put_gap(gap_lines, &gap)?;
+        put_gap(style, gap_lines, &gap)?;
     }
     Ok(())
 }
 
+// Puts aside the line of a gap, if it has one.
 #[inline(never)]
-fn put_gap<A: Aside>(gap_lines: &mut A, gap: &Gap) -> Result<(), DeviceFault>
+fn put_gap<A: Aside>(style: Style, gap_lines: &mut A, gap: &Gap) -> Result<(), DeviceFault>
     ensures line { OnOk result (Appends (A.written gap_lines.old) (A.written gap_lines.new)
-        (gap_line gap.now)) }
+        (shown_gap style gap.now)) }
     ensures failures { A.failures gap_lines.new
         ≡ A.failures gap_lines.old + (if is_ok result then 0 else 1) }
 {
-    write_words(gap_lines, gap_text(gap))
+    if style.shows(gap.reason) {
+        write_words(gap_lines, gap_text(gap))
+    } else {
+        Ok(())
+    }
 }

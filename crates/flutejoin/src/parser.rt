@@ -7,8 +7,9 @@ ghost use Rattle.flutejoin.specs.Parser.{join_rules, merge_rules, packet_rules};
 ghost use Rattle.flutejoin.specs.Parser.{no_commands, program};
 
 use crate::arguments::{
-    all, block, conflicts, force, force_all, information, input, inputs, instance, journal, length,
-    list, no_fdt, object, output, required, session, sessions, source, symbol, symbol_id,
+    all, any_size, block, check, conflicting_objects, conflicts, force, force_all, information,
+    input, inputs, instance, journal, length, list, no_fdt, object, output, required, session,
+    sessions, source, summary, symbol, symbol_id,
 };
 use clap::Command;
 use std::alloc::{AllocError, Global};
@@ -44,6 +45,7 @@ Example: a file is sent as datagrams, these are received, and the file comes out
 
 A journal has up to 16,777,216 entries, and a datagram file as many records.
 A store holds up to 64 sessions, 4,096 objects of each, and 1,048,576 symbols of each object.
+With --any-size `join`, `gaps`, `extract` and `info` take 32,767 sessions, and 16,777,216 of both.
 A join has up to 64 inputs.
 
 A fault is one line on standard error.
@@ -68,9 +70,12 @@ const GAPS_HELP: &str = help_of!(
 Prints a line for each object: whole, partial, no information or conflicting information.
 The options choose objects, and narrow one another. An FDT Instance is --toi 0 --fdt N.
 Behind partial a line for each gap follows: gap BLOCK/FIRST-LAST, and whether these symbols are
-missing, conflicting or misfit.
+missing, conflicting or misfit. --summary has a line for each session instead: session TSI, how many
+objects, whole, partial, the missing, conflicting and misfit symbols of these, and unknown, which
+have no or conflicting information.
+--conflicts lists only objects with a conflict. --check ends with status 1 if one is not whole.
 A line that begins with `source` is of a sender that is not ::, and `extract` takes it by --source.
-The journal may have as much as a store holds (flutejoin --help).",
+The journal may have as much as a store holds, or with --any-size more (flutejoin --help).",
     "gaps station1"
 );
 
@@ -80,7 +85,7 @@ Prints: bytes N. Of an object that is not whole nothing is written.
 With --all in place of --toi each whole object becomes a file of the new folder OUT, named by its
 sender, TSI and TOI; prints the line of `gaps` for each object, and last: written N.
 At `no object` another sender, TSI or TOI may have it: `gaps` lists the objects that there are.
-The journal may have as much as a store holds (flutejoin --help).",
+The journal may have as much as a store holds, or with --any-size more (flutejoin --help).",
     "extract -o out --tsi 7 --toi 1 station1"
 );
 
@@ -88,7 +93,7 @@ const INFO_HELP: &str = help_of!(
     "\
 Prints: entries N. It is for an object whose packets do not tell its information.
 With --list in place of the numbers it adds what the lines of a file tell, each as `show` prints it.
-The journal may have as much as a store holds (flutejoin --help).",
+The journal may have as much as a store holds, or with --any-size more (flutejoin --help).",
     "info -o known --tsi 7 --toi 1 --length 40000 --symbol 1000 --block 16 station1"
 );
 
@@ -99,7 +104,8 @@ With --tsi only these sessions are taken, with --toi only this object of each (a
 --toi 0 --fdt N), with --no-fdt no FDT Instance; others N then counts the entries and datagrams of
 others.
 --source is the sender of all datagram files of the call; journals keep theirs.
-All inputs, at most 64, may together have as much as a store holds (flutejoin --help).",
+All inputs, at most 64, may together have as much as a store holds, or with --any-size more
+(flutejoin --help).",
     "join -o all station1 station2"
 );
 
@@ -211,6 +217,10 @@ fn gaps_command<'a>(alloc: Global) -> Result<Command<'a>, AllocError>
         "Prints how much of each object a journal has, and which symbols are missing",
         GAPS_HELP,
     )
+    .arg(any_size(alloc))?
+    .arg(check(alloc))?
+    .arg(summary(alloc))?
+    .arg(conflicting_objects(alloc))?
     .arg(source(alloc))?
     .arg(sessions(alloc))?
     .arg(object(alloc))?
@@ -230,6 +240,7 @@ fn extract_command<'a>(alloc: Global) -> Result<Command<'a>, AllocError>
     )
     .arg(output(alloc))?
     .arg(force_all(alloc))?
+    .arg(any_size(alloc))?
     .arg(all(alloc))?
     .arg(source(alloc))?
     .arg(sessions(alloc))?
@@ -250,6 +261,7 @@ fn info_command<'a>(alloc: Global) -> Result<Command<'a>, AllocError>
     )
     .arg(output(alloc))?
     .arg(force(alloc))?
+    .arg(any_size(alloc))?
     .arg(list(alloc))?
     .arg(source(alloc))?
     .arg(session(alloc))?
@@ -273,6 +285,7 @@ fn join_command<'a>(alloc: Global) -> Result<Command<'a>, AllocError>
     )
     .arg(output(alloc))?
     .arg(force(alloc))?
+    .arg(any_size(alloc))?
     .arg(source(alloc))?
     .arg(sessions(alloc))?
     .arg(object(alloc))?

@@ -13,7 +13,7 @@ use crate::text::Text;
 use flute_parts::{DeviceFault, Sink};
 use std::alloc::AllocError;
 
-/// Writes a line of some words.
+/// Writes a line of some words, of at most 511 bytes.
 ///
 /// # Errors
 ///

@@ -1,4 +1,4 @@
-//! The tests of `flutejoin`, which call only what it makes public.
+//! The tests of `flutejoin` and `flutejoin_replicas`, which call only what these make public.
 #![tactic(auto)]
 
 #[cfg(test)]

@@ -3,7 +3,8 @@
 use anyhow::{Context, Result};
 use flute_parts::{MemorySink, Sender};
 use flute_wire::{Datagram, Datagrams};
-use flutejoin::{Step, journal_after};
+use flutejoin::{MAX_OBJECTS, MAX_SESSIONS, MAX_SYMBOLS};
+use flutejoin_replicas::{Step, journal_after};
 use std::alloc::Global;
 
 /// Prints whether two replicas write equal journals, of which one takes the datagrams in their
@@ -45,6 +46,8 @@ fn take(
 // The journal of one of two replicas after these steps.
 fn journal_of_replica(alloc: Global, steps: &[Step], replica: u32) -> Result<MemorySink> {
     let mut sink = MemorySink::new(alloc);
-    journal_after::<64, 4096, 1_048_576, _>(alloc, 2, steps, replica, &mut sink)?;
+    journal_after::<MAX_SESSIONS, MAX_OBJECTS, MAX_SYMBOLS, _>(
+        alloc, 2, steps, replica, &mut sink,
+    )?;
     Ok(sink)
 }

@@ -1,7 +1,7 @@
 //! Refuses each request for memory in turn, in the calls of the libraries that the program does not
 //! make, or of which it shows less, and looks at what comes of it.
 //!
-//! It is no part of the product. `tests/refused_memory.sh` runs it with the library
+//! It is no part of the product. `tests/test_refused.py` runs it with the library
 //! `tests/refuse.c` loaded before it, which does the refusing. Without that no request is refused,
 //! and it prints zeros.
 #![tactic(auto)]

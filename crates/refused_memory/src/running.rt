@@ -9,12 +9,13 @@ use anyhow::Result;
 use flute_parts::{Bytes, Fact, Key, MemorySource, Sender, SymbolId};
 use flute_store::Shelf;
 use flute_wire::Datagram;
-use flutejoin::{Blob, Replicas, RunFault, Step, StepFault, run};
+use flutejoin::{Blob, MAX_OBJECTS, MAX_SESSIONS, MAX_SYMBOLS};
+use flutejoin_replicas::{Replicas, RunFault, Step, StepFault, run};
 use std::alloc::Global;
 use std::io::Print;
 
 /// Replicas of the size that the program uses.
-type Shelves = Replicas<64, 4096, 1_048_576>;
+type Shelves = Replicas<MAX_SESSIONS, MAX_OBJECTS, MAX_SYMBOLS>;
 
 /// How many replicas there are.
 const COUNT: u32 = 3;
@@ -41,7 +42,7 @@ fn write_all(replicas: &Shelves, journal: &[u8]) -> bool {
 impl Case for WholeRun<'_> {
     fn refused_after(&self, alloc: Global, granted: u16, findings: &mut Findings) -> bool {
         refuse_after(alloc, granted);
-        let mut answer = run::<64, 4096, 1_048_576>(alloc, COUNT, self.steps);
+        let mut answer = run::<MAX_SESSIONS, MAX_OBJECTS, MAX_SYMBOLS>(alloc, COUNT, self.steps);
         let refused = was_refused(alloc);
         if refused {
             let wants = matches!(
@@ -55,7 +56,7 @@ impl Case for WholeRun<'_> {
                 )
             );
             findings.expect(wants, "a refused run answers otherwise");
-            answer = run::<64, 4096, 1_048_576>(alloc, COUNT, self.steps);
+            answer = run::<MAX_SESSIONS, MAX_OBJECTS, MAX_SYMBOLS>(alloc, COUNT, self.steps);
         }
         let whole = answer.is_ok_and(|replicas| write_all(&replicas, self.journal));
         findings.expect(whole, "a replica writes another journal");

@@ -4,9 +4,10 @@ use super::*;
 use flute_journal::Selection;
 use flute_parts::{Info, MemorySink, MemorySource, SymbolId};
 use flutejoin::{
-    CommandFault, Line, MemoryAside, extract_to, forget_input, forget_to, gaps_from, gaps_to,
-    info_to, line_of, load, merge_to, packet_to, save_to, sender_of, show_to,
+    CommandFault, Line, MAX_OBJECTS, MAX_SESSIONS, MAX_SYMBOLS, MemoryAside, Style, extract_to,
+    forget_input, forget_to, gaps_from, info_to, line_of, merge_to, packet_to, sender_of, show_to,
 };
+use flutejoin_replicas::{gaps_to, load, save_to};
 use test_vectors::{bytes, journals};
 
 #[test]
@@ -61,15 +62,44 @@ fn gaps_are_printed_as_the_journal_is_read(rt: HostRuntime) -> Result<(), Fail> 
     let mut lines = MemoryAside::new(rt.alloc());
     let mut gap_lines = MemoryAside::new(rt.alloc());
     let mut source = MemorySource::new(&journal);
-    gaps_from(
+    let all_whole = gaps_from::<MAX_SESSIONS, MAX_OBJECTS, MAX_SYMBOLS, _, _, _>(
         rt.alloc(),
         &mut source,
         &Selection::all(),
+        Style::default(),
         &mut lines,
         &mut gap_lines,
         &mut sink,
     )?;
-    assert!(rt; !sink.as_slice().is_empty());
+    assert!(rt; all_whole && !sink.as_slice().is_empty());
+    Ok(())
+}
+
+#[test]
+fn sums_are_printed_of_a_session(rt: HostRuntime) -> Result<(), Fail> {
+    let journal = bytes(rt.alloc(), journals::WHOLE)?;
+    let mut sink = MemorySink::new(rt.alloc());
+    let mut lines = MemoryAside::new(rt.alloc());
+    let mut gap_lines = MemoryAside::new(rt.alloc());
+    let style = Style {
+        summary: true,
+        ..Style::default()
+    };
+    let all_whole = gaps_from::<MAX_SESSIONS, MAX_OBJECTS, MAX_SYMBOLS, _, _, _>(
+        rt.alloc(),
+        &mut MemorySource::new(&journal),
+        &Selection::all(),
+        style,
+        &mut lines,
+        &mut gap_lines,
+        &mut sink,
+    )?;
+    assert!(rt;
+        all_whole
+            && sink
+                .as_slice()
+                .starts_with(b"session 7 objects 1 whole 1 partial 0")
+    );
     Ok(())
 }
 
@@ -79,7 +109,14 @@ fn an_object_is_extracted(rt: HostRuntime) -> Result<(), Fail> {
     let journal = bytes(rt.alloc(), journals::WHOLE)?;
     let mut source = MemorySource::new(&journal);
     let mut sink = MemorySink::new(rt.alloc());
-    assert!(rt; extract_to(rt.alloc(), &mut source, &key, &mut sink)? == 5);
+    assert!(rt;
+        extract_to::<MAX_SESSIONS, MAX_OBJECTS, MAX_SYMBOLS, _, _>(
+            rt.alloc(),
+            &mut source,
+            &key,
+            &mut sink
+        )? == 5
+    );
     Ok(())
 }
 
@@ -90,7 +127,15 @@ fn information_is_added(rt: HostRuntime) -> Result<(), Fail> {
     let symbols = bytes(rt.alloc(), journals::SYMBOLS)?;
     let mut source = MemorySource::new(&symbols);
     let mut sink = MemorySink::new(rt.alloc());
-    assert!(rt; info_to(rt.alloc(), &mut source, key, info, &mut sink)? == 3);
+    assert!(rt;
+        info_to::<MAX_SESSIONS, MAX_OBJECTS, MAX_SYMBOLS, _, _>(
+            rt.alloc(),
+            &mut source,
+            key,
+            info,
+            &mut sink
+        )? == 3
+    );
     Ok(())
 }
 

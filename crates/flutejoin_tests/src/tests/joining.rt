@@ -3,7 +3,10 @@
 use super::*;
 use flute_journal::Scope;
 use flute_parts::{MemorySink, MemorySource};
-use flutejoin::{Blob, JoinCounts, JoinInput, MAX_INPUTS, join_inputs, join_to};
+use flutejoin::{
+    Blob, JoinCounts, JoinInput, MAX_INPUTS, MAX_OBJECTS, MAX_SESSIONS, MAX_SYMBOLS, join_to,
+};
+use flutejoin_replicas::join_inputs;
 use std::alloc::Global;
 use test_vectors::{bytes, journals};
 
@@ -32,6 +35,12 @@ fn join_file(alloc: Global, file: &[u8], sink: &mut MemorySink) -> Result<JoinCo
     if inputs.len() > MAX_INPUTS {
         return Err(Fail::from("too many inputs"));
     }
-    let counts = join_to(alloc, Sender::new(0), &Scope::all(), &mut inputs, sink)?;
+    let counts = join_to::<MAX_SESSIONS, MAX_OBJECTS, MAX_SYMBOLS, _, _>(
+        alloc,
+        Sender::new(0),
+        &Scope::all(),
+        &mut inputs,
+        sink,
+    )?;
     Ok(counts)
 }

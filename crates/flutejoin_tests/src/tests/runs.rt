@@ -3,7 +3,9 @@
 use super::*;
 use flute_parts::MemorySink;
 use flute_wire::Datagram;
-use flutejoin::{Replicas, Step, journal_after, laws, object_after, run};
+use flutejoin::laws::forgetting_leaves_the_rest;
+use flutejoin::{MAX_OBJECTS, MAX_SESSIONS, MAX_SYMBOLS};
+use flutejoin_replicas::{Replicas, Step, journal_after, laws, object_after, run};
 use std::alloc::Global;
 use test_vectors::{INFO_OF_EMPTY_FILE, bytes};
 
@@ -19,7 +21,7 @@ fn take(alloc: Global) -> Result<Step, Fail> {
 
 #[test]
 fn steps_are_done(rt: HostRuntime) -> Result<(), Fail> {
-    let mut replicas = Replicas::<64, 4096, 1_048_576>::new(rt.alloc(), 2)?;
+    let mut replicas = Replicas::<MAX_SESSIONS, MAX_OBJECTS, MAX_SYMBOLS>::new(rt.alloc(), 2)?;
     assert!(rt; replicas.step(rt.alloc(), &take(rt.alloc())?) == Ok(()));
     assert!(rt; replicas.store(0).is_some());
     assert!(rt; replicas.count() == 2);
@@ -39,7 +41,7 @@ fn steps_are_driven(rt: HostRuntime) -> Result<(), Fail> {
 #[test]
 fn a_run_is_done(rt: HostRuntime) -> Result<(), Fail> {
     let steps = [take(rt.alloc())?];
-    let replicas = run::<64, 4096, 1_048_576>(rt.alloc(), 1, &steps)?;
+    let replicas = run::<MAX_SESSIONS, MAX_OBJECTS, MAX_SYMBOLS>(rt.alloc(), 1, &steps)?;
     assert!(rt; replicas.store(0).is_some());
     Ok(())
 }
@@ -48,7 +50,13 @@ fn a_run_is_done(rt: HostRuntime) -> Result<(), Fail> {
 fn a_journal_is_written_after_a_run(rt: HostRuntime) -> Result<(), Fail> {
     let steps = [take(rt.alloc())?];
     let mut sink = MemorySink::new(rt.alloc());
-    let written = journal_after::<64, 4096, 1_048_576, _>(rt.alloc(), 1, &steps, 0, &mut sink);
+    let written = journal_after::<MAX_SESSIONS, MAX_OBJECTS, MAX_SYMBOLS, _>(
+        rt.alloc(),
+        1,
+        &steps,
+        0,
+        &mut sink,
+    );
     assert!(rt; written == Ok(1));
     Ok(())
 }
@@ -58,7 +66,14 @@ fn an_object_is_written_after_a_run(rt: HostRuntime) -> Result<(), Fail> {
     let key = file().ok_or("a key")?;
     let steps = [take(rt.alloc())?];
     let mut sink = MemorySink::new(rt.alloc());
-    let written = object_after::<64, 4096, 1_048_576, _>(rt.alloc(), 1, &steps, 0, &key, &mut sink);
+    let written = object_after::<MAX_SESSIONS, MAX_OBJECTS, MAX_SYMBOLS, _>(
+        rt.alloc(),
+        1,
+        &steps,
+        0,
+        &key,
+        &mut sink,
+    );
     assert!(rt; written == Ok(0));
     Ok(())
 }
@@ -68,5 +83,5 @@ fn laws_stand() {
     laws::the_same_facts_make_the_same();
     laws::runs_leave_what_was_given();
     laws::equal_journals_mean_one_content();
-    laws::forgetting_leaves_the_rest();
+    forgetting_leaves_the_rest();
 }

@@ -76,6 +76,7 @@ returns c =
       refl,
       c.text.ensures,
       c.flag-2.ensures,
+      c.flag-3.ensures,
       c.in_ok-sender.ensures,
       record {
         sessions = c.in_ok-sessions.ensures;

@@ -6,6 +6,7 @@ use Rattle.std.specs.Prelude.{IfOk, IfErr}
 use Rattle.flutejoin.specs.ExtractAll.{ExtractsAll, ExtractAllFails, picked_facts}
 use Rattle.flutejoin.specs.declared.command_fault.CommandFault.{CommandFault}
 use Rattle.flutejoin.specs.declared.command_fault.CommandFault.TheVariants.{Input}
+use Rattle.flutejoin.specs.Limits.{at_most}
 use Rattle.flutejoin.proofs.FolderSteps.{stays_on}
 use Rattle.flutejoin.proofs.Mapped.{read_failed, read_done}
 use Rattle.flutejoin.proofs.Shown.{entry_given, end_given, fault_given, no_read_failure}
@@ -29,7 +30,9 @@ returns-in_err-fact-clause-failed g c =
     h.read r.0
     (fault_given c.loop-fact.reader.max_entries from to v w c.next_with.result r.0
     c.next_with.ensures.gives h.limit r.1) in
-    let P : Option (List ℕ) → Type 0 = λ left. LoadFails 1 u left (Input 1 r.0) in
+    let P : Option (List ℕ) → Type 0 = λ left. LoadFails (at_most g.row.SESSIONS g.row.OBJECTS
+    g.row.SYMBOLS) 1
+    u left (Input 1 r.0) in
     let at : (x : g.row.R.Denot) → c.next_with.new.self.source.now ≡ x → P (g.R.Source.unread x) =
     λ x same. subst (λ (y : g.row.R.Denot). P (g.R.Source.unread y)) same here in
     rw (e.1 ∙ ap Err (e.2 ∙ r.2)) (at _ (search rules))
@@ -93,8 +96,10 @@ returns-in_err-take_picked-clause-failed g c =
     h.read f gave c.count.new.self
     (c.count.ensures.within h.read.entries f (sym c.address.ensures) rises h.read.counts
     c.if-not-count.false) in
-    let at : (x : g.row.R.Denot) → c.next_with.new.self.source.now ≡ x → ReadsWithin u
-    (g.R.Source.unread x) = λ x same. subst (λ (y : g.row.R.Denot). ReadsWithin u
+    let at : (x : g.row.R.Denot) → c.next_with.new.self.source.now ≡ x → ReadsWithin
+    (at_most g.row.SESSIONS g.row.OBJECTS g.row.SYMBOLS) u
+    (g.R.Source.unread x) = λ x same. subst (λ (y : g.row.R.Denot). ReadsWithin
+    (at_most g.row.SESSIONS g.row.OBJECTS g.row.SYMBOLS) u
     (g.R.Source.unread y)) same here in
     rw (e.1 ∙ ap Err (e.2 ∙ c.in_err-take_picked.ensures.fault)) (at _ (search rules))
 
@@ -154,7 +159,8 @@ returns-clause-extracted g c =
     (read_rises u v w from to c.loop-fact.tally picked c.loop-fact.files _ _ h.read)
     h.read.takes in
     let P : Option (List ℕ) → Type 0 = λ left.
-    IfOk c.finish.result (ExtractsAll u left picked (g.D.NewFolder.places c.args.folder.now)
+    IfOk c.finish.result (ExtractsAll (at_most g.row.SESSIONS g.row.OBJECTS g.row.SYMBOLS) u left
+    picked (g.D.NewFolder.places c.args.folder.now)
     (g.D.NewFolder.places c.finish.new.folder) (g.W.Sink.written c.args.lines.now)
     (g.W.Sink.written c.finish.new.lines)) in
     let here : P w = if_ok c.finish.result (λ count t. all_read u v w from to c.loop-fact.tally
@@ -177,9 +183,11 @@ returns-clause-failed g c =
     c.next_with.ensures.gives r in
     let within = whole_read u v w from to c.loop-fact.tally c.args.picked.now c.loop-fact.files _ _
     h.read gave in
-    let P : Option (List ℕ) → Type 0 = λ left. IfErr c.finish.result (ExtractAllFails u left) in
+    let P : Option (List ℕ) → Type 0 = λ left. IfErr c.finish.result (ExtractAllFails (at_most
+    g.row.SESSIONS g.row.OBJECTS g.row.SYMBOLS) u left) in
     let here : P w = if_err c.finish.result (λ f e. subst
-    (λ (x : CommandFault). ExtractAllFails u w x) (sym e) within) c.finish.ensures.fault in
+    (λ (x : CommandFault). ExtractAllFails (at_most g.row.SESSIONS g.row.OBJECTS g.row.SYMBOLS) u w
+    x) (sym e) within) c.finish.ensures.fault in
     let at : (x : g.row.R.Denot) → c.next_with.new.self.source.now ≡ x → P (g.R.Source.unread x) =
     λ x same. subst (λ (y : g.row.R.Denot). P (g.R.Source.unread y)) same here in
     at _ (search rules)

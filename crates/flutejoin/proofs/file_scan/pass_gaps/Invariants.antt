@@ -3,6 +3,7 @@ use Rattle.std.proofs.Common.{ℕ, ◌+◌, List, [], length}
 use Rattle.flute_store.specs.PartitionScan.{walk_of, symbols_left}
 use Rattle.flute_store.specs.Scan.{Scanned, CanFollow, CanCome}
 use Rattle.flute_store.specs.Scans.{Scans, one_run}
+use Rattle.flutejoin.specs.Lines.{gap_line}
 use Rattle.flutejoin.proofs.Scanning.{Gave}
 use Rattle.flutejoin.proofs.file_scan.pass_gaps.Given as goal
 
@@ -10,7 +11,7 @@ abbrev pub invariant-loop-gap : goal.invariant-loop-gap
 invariant-loop-gap l = record {
   known : (s : Scanned) × Scans l.scan s × CanFollow s l.next × CanCome s l.next;
   gave : (s : Scanned) → Scans l.initial.scan s → CanFollow s l.next → CanCome s l.next
-      → (lines : List ℕ) × Gave s l.next l.scan lines;
+      → (lines : List ℕ) × Gave gap_line s l.next l.scan lines;
 }
 
 abbrev pub decreases-loop-gap : goal.decreases-loop-gap

@@ -33,18 +33,19 @@ returns-in-Ok-clause-taken c = λ e.
     taken_if c.takes.result e)
 
 pub returns-then-is_all-clause-exact : goal.returns-then-is_all-clause-exact
-returns-then-is_all-clause-exact c = none_other (choice_of c.args.sender c.args.scope.now)
+returns-then-is_all-clause-exact c = λ most. none_other (choice_of most c.args.sender
+    c.args.scope.now)
     (packet c.args.datagram.now) (c.is_all.ensures.all c.if-is_all.true)
 
 pub returns-in-Ok-clause-exact : goal.returns-in-Ok-clause-exact
-returns-in-Ok-clause-exact c =
+returns-in-Ok-clause-exact c = λ most.
     ap not (c.takes.ensures ∙ ap (takes_key c.args.scope.now) c.key.ensures)
-    ∙ sym (ap (is_other_packet (choice_of c.args.sender c.args.scope.now))
+    ∙ sym (ap (is_other_packet (choice_of most c.args.sender c.args.scope.now))
     ((c.computed_reading.ensures.packet c.args.datagram.now c.in-Ok.packet).1
     c.in-Ok.ensures.spelled))
 
 pub returns-in-Err-clause-exact : goal.returns-in-Err-clause-exact
-returns-in-Err-clause-exact c =
-    refused_no_other (choice_of c.args.sender c.args.scope.now) (packet c.args.datagram.now)
+returns-in-Err-clause-exact c = λ most.
+    refused_no_other (choice_of most c.args.sender c.args.scope.now) (packet c.args.datagram.now)
     (λ p e. let ok = (c.in-Err.ensures.packet p).1 ((c.computed_reading.ensures.packet
     c.args.datagram.now p).0 e) in cc)

@@ -4,13 +4,15 @@ use Rattle.flute_parts.specs.declared.fact.Fact.{Fact}
 use Rattle.flute_parts.specs.declared.fact.Fact.TheVariants.{Info}
 use Rattle.flute_parts.specs.Facts.{Same}
 use Rattle.flute_parts.proofs.Public.{Same-itself}
+use Rattle.flutejoin.specs.Limits.{at_most}
 use Rattle.flutejoin.proofs.AddedFacts.{of_source}
 use Rattle.flutejoin.proofs.info.info_to.Goals as goal
 
 pub returns-clause-failed : goal.returns-clause-failed
 returns-clause-failed g c =
     let told = Info c.args.key c.args.info ∷ [] in
-    of_source g.R.Source.unread c.args.source.now _ told c.add_facts.result
+    of_source g.R.Source.unread (at_most g.row.SESSIONS g.row.OBJECTS g.row.SYMBOLS)
+    c.args.source.now _ told c.add_facts.result
     c.new-journal.ensures.unread
     (c.add_facts.ensures.failed told
     (λ F is. subst (λ (l : List Fact). Same l told) (sym (is ∙ c.new-fact.ensures.facts))

@@ -6,6 +6,7 @@ use Rattle.std.proofs.lemmas.List.{length-take-le}
 use Rattle.std.proofs.lemmas.Result.{err_from_is_err_and}
 use Rattle.flutejoin.specs.InformationLines.{ListFails}
 use Rattle.flutejoin.specs.declared.command_fault.CommandFault.TheVariants.{ListLine}
+use Rattle.flutejoin.specs.Limits.{at_most}
 use Rattle.flutejoin.proofs.ListLines.{ends_failed, ends_names, names_fails, ends_quiet, ends_told}
 use Rattle.flutejoin.proofs.ListLines.{quiet_fails, read_end, too_many, within}
 use Rattle.flutejoin.proofs.information_list.read_list.Goals as goal
@@ -24,7 +25,8 @@ returns-then-count-eq0-clause-told g c =
 pub returns-then-count-eq0-clause-failed : goal.returns-then-count-eq0-clause-failed
 returns-then-count-eq0-clause-failed g c =
     let so = c.loop-list.invariant.so_far in
-    ends_failed _ (g.R.Source.unread c.read_piece.new.source) c.finish.result c.loop-list.list so.0
+    ends_failed (at_most g.row.SESSIONS g.row.OBJECTS g.row.SYMBOLS) _ (g.R.Source.unread
+    c.read_piece.new.source) c.finish.result c.loop-list.list so.0
     (read_end _ _ _ so.0 (take c.in_ok-count.count c.read_piece.new.piece) so.1
     c.in_ok-count.ensures.bytes
     (ap (λ n. take n c.read_piece.new.piece) c.if-count-eq0.true))
@@ -35,7 +37,8 @@ returns-then-count-eq0-clause-failed g c =
 pub returns-then-count-eq0-clause-failures : goal.returns-then-count-eq0-clause-failures
 returns-then-count-eq0-clause-failures g c =
     let so = c.loop-list.invariant.so_far in
-    ends_quiet _ _ c.finish.result c.loop-list.list so.0
+    ends_quiet (at_most g.row.SESSIONS g.row.OBJECTS g.row.SYMBOLS)
+    _ _ c.finish.result c.loop-list.list so.0
     (c.in_ok-count.ensures.failures ∙ c.loop-list.invariant.failures) so.2
     c.finish.ensures.failed
 
@@ -47,7 +50,8 @@ returns-then-count-taken-clause-failed g c =
     let long =
     length-take-le c.in_ok-count.count c.read_piece.new.piece c.in_ok-count.ensures.bound in
     inr (within _ _ (g.R.Source.unread c.read_piece.new.source) so.0 part
-    (λ all. ListFails all fault) so.1 c.in_ok-count.ensures.bytes
+    (λ all. ListFails (at_most g.row.SESSIONS g.row.OBJECTS g.row.SYMBOLS) all fault) so.1
+    c.in_ok-count.ensures.bytes
     (λ more. too_many so.0 part more c.loop-list.list.number
     (omega (arith, long, so.3, c.if-count-taken.true, c.loop-list.invariant.few))))
 
@@ -59,7 +63,8 @@ returns-in_err-take-clause-failed g c =
     rw (e.1, e.2)
     (inr (within _ _ (g.R.Source.unread c.read_piece.new.source) so.0
     (take c.in_ok-count.count c.read_piece.new.piece)
-    (λ all. ListFails all c.in_err-take.field-0.0) so.1 c.in_ok-count.ensures.bytes
+    (λ all. ListFails (at_most g.row.SESSIONS g.row.OBJECTS g.row.SYMBOLS) all
+    c.in_err-take.field-0.0) so.1 c.in_ok-count.ensures.bytes
     (λ more. c.in_err-take.ensures.failed so.0 more so.2)))
 
 pub returns-in_err-take-clause-failures : goal.returns-in_err-take-clause-failures
@@ -94,7 +99,8 @@ loop-list-preserved g c =
 pub returns-then-count-eq0-clause-names : goal.returns-then-count-eq0-clause-names
 returns-then-count-eq0-clause-names g c =
     let so = c.loop-list.invariant.so_far in
-    ends_names c.finish.result c.loop-list.list so.0 so.2 c.finish.ensures.failed
+    ends_names (at_most g.row.SESSIONS g.row.OBJECTS g.row.SYMBOLS)
+    c.finish.result c.loop-list.list so.0 so.2 c.finish.ensures.failed
 
 pub returns-in_err-take-clause-names : goal.returns-in_err-take-clause-names
 returns-in_err-take-clause-names g c =

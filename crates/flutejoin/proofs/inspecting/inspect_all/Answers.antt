@@ -3,13 +3,15 @@ use Rattle.std.proofs.Common.{◌<◌, length, arith}
 use Rattle.std.proofs.lemmas.Option.{slice_get-get_or}
 use Rattle.std.proofs.lemmas.Result.{err_from_is_err_and}
 use Rattle.flutejoin.specs.Joined.{choice_of}
+use Rattle.flutejoin.specs.Limits.{at_most}
 use Rattle.flutejoin.proofs.Inspections.{inspected_none, inspected_more, finds_all, inspect_fails}
 use Rattle.flutejoin.proofs.Inspections.{inspect_names, inspect_reads, inspect_failed}
 use Rattle.flutejoin.proofs.inspecting.inspect_all.Goals as goal
 
 pub loop-k-init : goal.loop-k-init
 loop-k-init g c =
-    inspected_none (choice_of c.args.sender c.args.scope.now) g.R.Source.unread
+    inspected_none (choice_of (at_most g.row.SESSIONS g.row.OBJECTS g.row.SYMBOLS) c.args.sender
+    c.args.scope.now) g.R.Source.unread
     g.R.Source.failures c.args.inputs.now c.new-held.result c.new-held.ensures.held
     c.new-held.ensures.counted c.new-held.ensures.none
 
@@ -19,7 +21,8 @@ returns-in_err-inspect-clause-failed g c = λ contents inputs.
     let within : c.loop-k.k < length c.loop-k.inputs =
     omega (arith, c.loop-k.auto.inputs, c.loop-k-test.true) in
     rw (e.1, e.2)
-    (inspect_fails (choice_of c.args.sender c.args.scope.now) g.R.Source.unread
+    (inspect_fails (choice_of (at_most g.row.SESSIONS g.row.OBJECTS g.row.SYMBOLS) c.args.sender
+    c.args.scope.now) g.R.Source.unread
     g.R.Source.failures c.loop-k.invariant _
     (slice_get-get_or c.loop-k.inputs c.loop-k.k c.index-inputs-k.result within)
     c.in_err-inspect.field-0.0 c.in_err-inspect.ensures.failed contents inputs)
@@ -30,7 +33,8 @@ returns-in_err-inspect-clause-names g c =
     let within : c.loop-k.k < length c.loop-k.inputs =
     omega (arith, c.loop-k.auto.inputs, c.loop-k-test.true) in
     rw (e.1, e.2)
-    (inspect_names (choice_of c.args.sender c.args.scope.now) g.R.Source.unread
+    (inspect_names (choice_of (at_most g.row.SESSIONS g.row.OBJECTS g.row.SYMBOLS) c.args.sender
+    c.args.scope.now) g.R.Source.unread
     g.R.Source.failures c.loop-k.invariant _
     (slice_get-get_or c.loop-k.inputs c.loop-k.k c.index-inputs-k.result within)
     c.in_err-inspect.field-0.0 c.in_err-inspect.ensures.names)
@@ -39,7 +43,8 @@ pub returns-in_err-inspect-clause-no_sink : goal.returns-in_err-inspect-clause-n
 returns-in_err-inspect-clause-no_sink g c =
     let e = err_from_is_err_and c.from_residual.result c.from_residual.ensures.1 in
     rw (e.1, e.2)
-    (inspect_reads (choice_of c.args.sender c.args.scope.now) g.R.Source.unread
+    (inspect_reads (choice_of (at_most g.row.SESSIONS g.row.OBJECTS g.row.SYMBOLS) c.args.sender
+    c.args.scope.now) g.R.Source.unread
     g.R.Source.failures c.loop-k.k c.in_err-inspect.field-0.0 c.in_err-inspect.ensures.names)
 
 pub returns-in_err-inspect-clause-one_failed : goal.returns-in_err-inspect-clause-one_failed
@@ -48,7 +53,8 @@ returns-in_err-inspect-clause-one_failed g c =
     let within : c.loop-k.k < length c.loop-k.inputs =
     omega (arith, c.loop-k.auto.inputs, c.loop-k-test.true) in
     rw (e.1, e.2)
-    (inspect_failed (choice_of c.args.sender c.args.scope.now) g.R.Source.unread
+    (inspect_failed (choice_of (at_most g.row.SESSIONS g.row.OBJECTS g.row.SYMBOLS) c.args.sender
+    c.args.scope.now) g.R.Source.unread
     g.R.Source.failures c.loop-k.invariant _
     (slice_get-get_or c.loop-k.inputs c.loop-k.k c.index-inputs-k.result within)
     c.inspect.new.input c.in_err-inspect.field-0.0 c.in_err-inspect.ensures.names
@@ -58,7 +64,8 @@ pub loop-k-preserved : goal.loop-k-preserved
 loop-k-preserved g c =
     let within : c.loop-k.k < length c.loop-k.inputs =
     omega (arith, c.loop-k.auto.inputs, c.loop-k-test.true) in
-    inspected_more (choice_of c.args.sender c.args.scope.now) g.R.Source.unread
+    inspected_more (choice_of (at_most g.row.SESSIONS g.row.OBJECTS g.row.SYMBOLS) c.args.sender
+    c.args.scope.now) g.R.Source.unread
     g.R.Source.failures c.loop-k.invariant _
     (slice_get-get_or c.loop-k.inputs c.loop-k.k c.index-inputs-k.result within)
     c.inspect.new.input c.inspect.new.held c.in_ok-inspect.ensures.ready
@@ -66,7 +73,8 @@ loop-k-preserved g c =
 
 pub returns-clause-inspected : goal.returns-clause-inspected
 returns-clause-inspected g c =
-    finds_all (choice_of c.args.sender c.args.scope.now) g.R.Source.unread
+    finds_all (choice_of (at_most g.row.SESSIONS g.row.OBJECTS g.row.SYMBOLS) c.args.sender
+    c.args.scope.now) g.R.Source.unread
     g.R.Source.failures c.loop-k.invariant (omega (
       arith,
       c.loop-k.auto.inputs,

@@ -5,7 +5,7 @@ use Rattle.flute_journal.specs.Chains.{chained, taken}
 use Rattle.flute_journal.specs.FirstFaults.{FirstFault}
 use Rattle.flute_journal.specs.StreamMerges.{EndsMerged}
 use Rattle.flutejoin.specs.declared.join_input.JoinInput.{JoinInput}
-use Rattle.flutejoin.specs.Joining.{joined_behaviour}
+use Rattle.flutejoin.specs.JoinParts.{joined_behaviour}
 use Rattle.flutejoin.proofs.JoinStops.{no_journal_of_part}
 use Rattle.flutejoin.proofs.joined_inputs.join_chained.Goals as goal
 
@@ -46,15 +46,16 @@ returns-clause-ended g c =
     let at : (s : g.row.S.Denot) (xs : List (JoinInput g.row.R.Denot))
     → c.join_streams.new.streams.first.now ≡ s → c.join_streams.new.streams.others.now ≡ xs
     → IfOk c.join_streams.result
-    (λ joined. EndsMerged b old (chained s (taken xs)) 64 4096 1048576 joined w w') =
+    (λ joined. EndsMerged b old (chained s (taken xs)) g.row.SESSIONS g.row.OBJECTS g.row.SYMBOLS
+    joined w w') =
     λ s xs e d.
     subst
     (λ z. IfOk c.join_streams.result
-    (λ joined. EndsMerged b old (chained z (taken xs)) 64 4096 1048576 joined w w')) e
+    (λ joined. EndsMerged b old (chained z (taken xs)) g.row.SESSIONS g.row.OBJECTS g.row.SYMBOLS
+    joined w w')) e
     (subst
     (λ l. IfOk c.join_streams.result
-    (λ joined. EndsMerged b old (chained c.join_streams.new.streams.first.now (taken l)) 64 4096
-    1048576
-    joined w w')) d c.join_streams.ensures.ended) in
+    (λ joined. EndsMerged b old (chained c.join_streams.new.streams.first.now (taken l))
+    g.row.SESSIONS g.row.OBJECTS g.row.SYMBOLS joined w w')) d c.join_streams.ensures.ended) in
     at _ _ (sym (c.first-1.given.1 (first_is c.join_streams.ensures.names)))
     (sym (c.inputs-1.given.1.1 (second_is c.join_streams.ensures.names)))

@@ -14,7 +14,7 @@ join_chained-requires-clause-new g c =
     let size = ap length is in
     let held : IsHeld b c.new-walk.result c.args.store.now =
     is_held (λ s. fact_in s.held) (λ s. s.walk) c.new-walk.result c.args.store.now
-    c.new-walk.ensures.new is (omega (arith, size, c.walk.ensures.few)) in
+    c.new-walk.ensures.new is (omega (arith, size, c.walk.ensures.few, c.requires.countable)) in
     all_new g.R.Source.unread g.R.Source.failures b c.args.inputs.now held c.requires.few
     c.requires.ready
 
@@ -25,21 +25,22 @@ join_chained-requires-clause-most g c =
     let size = ap length is in
     let held : IsHeld b c.new-walk.result c.args.store.now =
     is_held (λ s. fact_in s.held) (λ s. s.walk) c.new-walk.result c.args.store.now
-    c.new-walk.ensures.new is (omega (arith, size, c.walk.ensures.few)) in
+    c.new-walk.ensures.new is (omega (arith, size, c.walk.ensures.few, c.requires.countable)) in
     all_few g.R.Source.unread g.R.Source.failures b c.args.inputs.now held c.requires.few
     c.requires.ready
 
 pub returns-in-Ok-clause-joined : goal.returns-in-Ok-clause-joined
-returns-in-Ok-clause-joined g c = λ choice contents datagrams inspected.
+returns-in-Ok-clause-joined g c = λ choice contents datagrams most inspected.
     let b = listed_behaviour (λ s. fact_in s.held) (λ s. s.walk) (λ _. Unit {0}) in
     let is = c.new-walk.ensures.facts ∙ c.walk.ensures.value in
     let size = ap length is in
     let held : IsHeld b c.new-walk.result c.args.store.now =
     is_held (λ s. fact_in s.held) (λ s. s.walk) c.new-walk.result c.args.store.now
-    c.new-walk.ensures.new is (omega (arith, size, c.walk.ensures.few)) in
+    c.new-walk.ensures.new is (omega (arith, size, c.walk.ensures.few, c.requires.countable)) in
     joins_inspected g.R.Source.unread g.R.Source.failures b choice c.args.inputs.now
     c.join_chained.new.inputs contents datagrams c.requires.ready inspected held c.in-Ok.joined _ _
-    c.join_chained.new.first c.requires.few c.join_chained.auto.inputs c.in-Ok.ensures.ended
+    c.join_chained.new.first c.requires.few c.join_chained.auto.inputs g.row.SESSIONS
+    g.row.OBJECTS g.row.SYMBOLS most c.in-Ok.ensures.ended
 
 pub returns-in-Ok-clause-none_failed : goal.returns-in-Ok-clause-none_failed
 returns-in-Ok-clause-none_failed g c =
@@ -55,7 +56,7 @@ returns-in-Err-clause-failed g c = λ choice contents datagrams inspected.
     let size = ap length is in
     let held : IsHeld b c.new-walk.result c.args.store.now =
     is_held (λ s. fact_in s.held) (λ s. s.walk) c.new-walk.result c.args.store.now
-    c.new-walk.ensures.new is (omega (arith, size, c.walk.ensures.few)) in
+    c.new-walk.ensures.new is (omega (arith, size, c.walk.ensures.few, c.requires.countable)) in
     rw c.load_fault.ensures
     (first_fails g.R.Source.unread g.R.Source.failures b
     (stops_in g.R.Source.unread g.R.Source.failures b held c.args.inputs.now
@@ -69,7 +70,7 @@ returns-in-Err-clause-names g c =
     let size = ap length is in
     let held : IsHeld b c.new-walk.result c.args.store.now =
     is_held (λ s. fact_in s.held) (λ s. s.walk) c.new-walk.result c.args.store.now
-    c.new-walk.ensures.new is (omega (arith, size, c.walk.ensures.few)) in
+    c.new-walk.ensures.new is (omega (arith, size, c.walk.ensures.few, c.requires.countable)) in
     rw c.load_fault.ensures
     (names_one g.R.Source.unread g.R.Source.failures b
     (stops_in g.R.Source.unread g.R.Source.failures b held c.args.inputs.now
@@ -82,7 +83,7 @@ returns-in-Err-clause-no_memory g c =
     let size = ap length is in
     let held : IsHeld b c.new-walk.result c.args.store.now =
     is_held (λ s. fact_in s.held) (λ s. s.walk) c.new-walk.result c.args.store.now
-    c.new-walk.ensures.new is (omega (arith, size, c.walk.ensures.few)) in
+    c.new-walk.ensures.new is (omega (arith, size, c.walk.ensures.few, c.requires.countable)) in
     rw c.load_fault.ensures
     (no_memory g.R.Source.unread g.R.Source.failures b
     (stops_in g.R.Source.unread g.R.Source.failures b held c.args.inputs.now
@@ -95,7 +96,7 @@ returns-in-Err-clause-no_sink g c =
     let size = ap length is in
     let held : IsHeld b c.new-walk.result c.args.store.now =
     is_held (λ s. fact_in s.held) (λ s. s.walk) c.new-walk.result c.args.store.now
-    c.new-walk.ensures.new is (omega (arith, size, c.walk.ensures.few)) in
+    c.new-walk.ensures.new is (omega (arith, size, c.walk.ensures.few, c.requires.countable)) in
     rw c.load_fault.ensures
     (no_sink g.R.Source.unread g.R.Source.failures b
     (stops_in g.R.Source.unread g.R.Source.failures b held c.args.inputs.now
@@ -108,7 +109,7 @@ returns-in-Err-clause-read_failed g c =
     let size = ap length is in
     let held : IsHeld b c.new-walk.result c.args.store.now =
     is_held (λ s. fact_in s.held) (λ s. s.walk) c.new-walk.result c.args.store.now
-    c.new-walk.ensures.new is (omega (arith, size, c.walk.ensures.few)) in
+    c.new-walk.ensures.new is (omega (arith, size, c.walk.ensures.few, c.requires.countable)) in
     rw c.load_fault.ensures
     (read_failed g.R.Source.unread g.R.Source.failures b held c.join_chained.new.first
     c.args.inputs.now c.join_chained.new.inputs c.requires.few c.join_chained.auto.inputs

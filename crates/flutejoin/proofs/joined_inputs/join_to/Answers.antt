@@ -1,7 +1,9 @@
 -- First one pass, and then the other.
 use Rattle.std.proofs.Common.{◌≡◌, ◌≤◌, Bool, true, false, not, refl, subst}
 use Rattle.std.proofs.lemmas.Result.{err_from_is_err_and}
-use Rattle.flutejoin.specs.Joined.{choice_of, HoldsAll}
+use Rattle.flutejoin.specs.Joined.{choice_of}
+use Rattle.flutejoin.specs.JoinParts.{HoldsAll}
+use Rattle.flutejoin.specs.Limits.{at_most}
 use Rattle.flutejoin.proofs.JoinStops.{nothing_appended, not_inspected, one_failed_more}
 use Rattle.flutejoin.proofs.JoinStops.{none_failed_more, full_together, not_written, joins_to}
 use Rattle.flutejoin.proofs.joined_inputs.join_to.Goals as goal
@@ -25,10 +27,12 @@ returns-then-not-held-clause-failed g c = λ contents inputs.
     let found = c.in_ok-held.ensures.inspected contents inputs in
     let over =
     subst
-    (λ b. HoldsAll (choice_of c.args.sender c.args.scope.now) b c.in_ok-held.held.told found.0)
+    (λ b. HoldsAll (choice_of (at_most g.row.SESSIONS g.row.OBJECTS g.row.SYMBOLS) c.args.sender
+    c.args.scope.now) b c.in_ok-held.held.told found.0)
     c.if-not-held.true found.2.holds in
-    c.fault_or_full.ensures.failed (choice_of c.args.sender c.args.scope.now) contents found.0
-    found.1 over
+    c.fault_or_full.ensures.failed (choice_of (at_most g.row.SESSIONS g.row.OBJECTS g.row.SYMBOLS)
+    c.args.sender c.args.scope.now)
+    contents found.0 refl found.1 over
 
 pub returns-then-not-held-clause-read_failed : goal.returns-then-not-held-clause-read_failed
 returns-then-not-held-clause-read_failed g c = λ number is.
@@ -43,7 +47,8 @@ returns-in_err-joined-clause-failed g c = λ contents inputs.
     c.from_residual-in_err-joined.ensures.1 in
     let found = c.in_ok-held.ensures.inspected contents inputs in
     rw (e.1, e.2)
-    (c.in_err-joined.ensures.failed (choice_of c.args.sender c.args.scope.now) contents found.0
+    (c.in_err-joined.ensures.failed (choice_of (at_most g.row.SESSIONS g.row.OBJECTS g.row.SYMBOLS)
+    c.args.sender c.args.scope.now) contents found.0
     found.1)
 
 pub returns-in_err-joined-clause-read_failed : goal.returns-in_err-joined-clause-read_failed
@@ -60,8 +65,9 @@ pub returns-then-not-joined-clause-failed : goal.returns-then-not-joined-clause-
 returns-then-not-joined-clause-failed g c = λ contents inputs.
     let found = c.in_ok-held.ensures.inspected contents inputs in
     full_together
-    (c.in_ok-joined.ensures.joined (choice_of c.args.sender c.args.scope.now) contents found.0
-    found.1)
+    (c.in_ok-joined.ensures.joined (choice_of (at_most g.row.SESSIONS g.row.OBJECTS g.row.SYMBOLS)
+    c.args.sender c.args.scope.now)
+    contents found.0 refl found.1)
     c.if-not-held.false found.2
     (not_true c.in_ok-joined.joined.within c.if-not-joined.true)
 
@@ -69,8 +75,9 @@ pub returns-then-joined-clause-failed : goal.returns-then-joined-clause-failed
 returns-then-joined-clause-failed g c = λ contents inputs.
     let found = c.in_ok-held.ensures.inspected contents inputs in
     not_written
-    (c.in_ok-joined.ensures.joined (choice_of c.args.sender c.args.scope.now) contents found.0
-    found.1)
+    (c.in_ok-joined.ensures.joined (choice_of (at_most g.row.SESSIONS g.row.OBJECTS g.row.SYMBOLS)
+    c.args.sender c.args.scope.now)
+    contents found.0 refl found.1)
     c.if-not-held.false found.2
     (not_false c.in_ok-joined.joined.within c.if-not-joined.false)
 
@@ -78,8 +85,9 @@ pub returns-clause-joined : goal.returns-clause-joined
 returns-clause-joined g c = λ contents inputs.
     let found = c.in_ok-held.ensures.inspected contents inputs in
     joins_to
-    (c.in_ok-joined.ensures.joined (choice_of c.args.sender c.args.scope.now) contents found.0
-    found.1)
+    (c.in_ok-joined.ensures.joined (choice_of (at_most g.row.SESSIONS g.row.OBJECTS g.row.SYMBOLS)
+    c.args.sender c.args.scope.now)
+    contents found.0 refl found.1)
     c.if-not-held.false found.2
     (subst (λ n. n ≤ 64) inputs.as_many c.requires.few)
     (not_false c.in_ok-joined.joined.within c.if-not-joined.false) c.if-joined.false

@@ -2,7 +2,7 @@ use Rattle.std.proofs.Common.{ap, arith}
 use Rattle.std.specs.Prelude.{sum_by}
 use Rattle.std.proofs.lemmas.List.{take_all}
 use Rattle.std.proofs.lemmas.List.Sums.{sum_by_more}
-use Rattle.flutejoin.specs.JoinInputs.{passed_over}
+use Rattle.flutejoin.specs.InputStreams.{passed_over}
 use Rattle.flutejoin.proofs.joined_inputs.others_of.Goals as goal
 
 pub loop-input-preserved : goal.loop-input-preserved

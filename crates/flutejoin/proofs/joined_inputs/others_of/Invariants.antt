@@ -1,7 +1,7 @@
 -- What the inputs so far have passed over was added.
 use Rattle.std.proofs.Common.{◌≡◌, ◌+◌, ◌-◌, ◌^◌, take}
 use Rattle.std.specs.Prelude.{min, sum_by}
-use Rattle.flutejoin.specs.JoinInputs.{passed_over}
+use Rattle.flutejoin.specs.InputStreams.{passed_over}
 use Rattle.flutejoin.proofs.joined_inputs.others_of.Given as goal
 
 abbrev pub invariant-loop-input : goal.invariant-loop-input

@@ -1,17 +1,21 @@
-use Rattle.std.proofs.Common.{◌≡◌, ◌∙◌, List, ℕ, Option, Ok, Err, Bool, true, is_ok, if◌then◌else◌}
+use Rattle.std.proofs.Common.{◌≡◌, ◌∙◌, List, ℕ, Option, Ok, Err, Bool, Some, true, is_ok}
+use Rattle.std.proofs.Common.{if◌then◌else◌}
 use Rattle.std.proofs.Common.{ap, sym, subst, rules, refl, arith}
 use Rattle.std.proofs.lemmas.Result.{err_from_is_err_and}
-use Rattle.flutejoin.specs.Gaps.{ReadsWithin}
+use Rattle.flutejoin.specs.Gaps.{ListsJournal, ReadsWithin}
 use Rattle.flutejoin.specs.Load.{LoadFails}
 use Rattle.flutejoin.specs.Packet.{write_failures}
 use Rattle.flutejoin.specs.Selected.{selected}
+use Rattle.flutejoin.specs.Styles.{are_whole, printed}
+use Rattle.flutejoin.specs.Told.{Told}
 use Rattle.flutejoin.specs.declared.command_fault.CommandFault.TheVariants.{Input}
-use Rattle.flutejoin.proofs.Asides.{counted, on_done, was_done, on_any, fails_aside}
+use Rattle.flutejoin.specs.Limits.{at_most}
+use Rattle.flutejoin.proofs.Asides.{counted, if_ok, was_value, was_done, on_any, fails_aside}
 use Rattle.flutejoin.proofs.Mapped.{read_failed, read_done}
-use Rattle.flutejoin.proofs.OpenObjects.{on_ok}
 use Rattle.flutejoin.proofs.Shown.{entry_given, end_given, fault_given, no_read_failure}
 use Rattle.flutejoin.proofs.GapsRead.{entry_rises, can_add, within_read, whole_read, one_more_read}
 use Rattle.flutejoin.proofs.GapsRead.{full_read, fault_read, all_read, read_rises, is_open}
+use Rattle.flutejoin.proofs.GapsRead.{few_read}
 use Rattle.flutejoin.proofs.journal_gaps.put_aside.Goals as goal
 
 pub returns-in_err-fact-clause-failed : goal.returns-in_err-fact-clause-failed
@@ -28,7 +32,9 @@ returns-in_err-fact-clause-failed g c =
     let here = fault_read w to h.read r.0
     (fault_given c.loop-fact.reader.max_entries from to v w c.next_with.result r.0
     c.next_with.ensures.gives h.limit r.1) in
-    let P : Option (List ℕ) → Type 0 = λ left. LoadFails 1 u left (Input 1 r.0) in
+    let P : Option (List ℕ) → Type 0 = λ left. LoadFails (at_most g.row.SESSIONS g.row.OBJECTS
+    g.row.SYMBOLS) 1
+    u left (Input 1 r.0) in
     let at : (x : g.row.R.Denot) → c.next_with.new.self.source.now ≡ x → P (g.R.Source.unread x) =
     λ x same. subst (λ (y : g.row.R.Denot). P (g.R.Source.unread y)) same here in
     rw (e.1 ∙ ap Err (e.2 ∙ r.2)) (at _ (search rules))
@@ -81,8 +87,10 @@ returns-in_err-at_aside-clause-failed g c =
     let here = within_read w to h.read f gave c.count.new.self
     (c.count.ensures.within h.read.entries f (sym c.address.ensures)
     (entry_rises w to h.read f gave) h.read.counts c.if-not-count.false) in
-    let at : (x : g.row.R.Denot) → c.next_with.new.self.source.now ≡ x → ReadsWithin u
-    (g.R.Source.unread x) = λ x same. subst (λ (y : g.row.R.Denot). ReadsWithin u
+    let at : (x : g.row.R.Denot) → c.next_with.new.self.source.now ≡ x → ReadsWithin
+    (at_most g.row.SESSIONS g.row.OBJECTS g.row.SYMBOLS) u
+    (g.R.Source.unread x) = λ x same. subst (λ (y : g.row.R.Denot). ReadsWithin
+    (at_most g.row.SESSIONS g.row.OBJECTS g.row.SYMBOLS) u
     (g.R.Source.unread y)) same here in
     rw (e.1 ∙ ap Err (e.2 ∙ c.in_err-at_aside.ensures.fault)) (at _ (search rules))
 
@@ -133,12 +141,16 @@ loop-fact-preserved g c =
 pub finish-requires : goal.finish-requires
 finish-requires g c =
     let h = c.loop-fact.invariant in
-    let o = is_open (g.R.Source.unread c.args.source.now) c.loop-fact.reader.state h.read in
-    (selected c.args.selection.now h.read.entries, o.0, o.1, o.2)
+    let v = g.R.Source.unread c.loop-fact.reader.source.now in
+    let from = c.loop-fact.reader.state in (
+      selected c.args.selection.now h.read.entries,
+      few_read v from h.read,
+      is_open v from h.read,
+    )
 
 pub returns-clause-listed : goal.returns-clause-listed
 returns-clause-listed g c = λ none no_gaps.
-    let u = g.R.Source.unread c.args.source.now in
+    let style = c.args.style in
     let v = g.R.Source.unread c.loop-fact.reader.source.now in
     let w = g.R.Source.unread c.next_with.new.self.source.now in
     let from = c.loop-fact.reader.state in
@@ -148,12 +160,14 @@ returns-clause-listed g c = λ none no_gaps.
     c.at_input.ensures c.in_ok-fact.was ∙ ap Ok c.in_default.is in
     let gave = end_given c.loop-fact.reader.max_entries from to v w c.next_with.result
     c.next_with.ensures.gives r in
-    on_done _ c.at_aside-2.result c.finish.result c.at_aside-2.ensures.same
-    (on_ok c.finish.result (λ l. (
-      l.lines,
-      all_read w to h.read gave l.lines l.listed,
-      l.lines_known refl,
-    ))
+    let aside = g.A.Sink.written c.finish.new.lines in
+    let P : Bool → List Told → Type 0 = λ all_whole objects.
+    (aside ≡ Some (printed style objects)) × (all_whole ≡ are_whole style objects) in
+    was_value (λ x. ListsJournal (at_most g.row.SESSIONS g.row.OBJECTS g.row.SYMBOLS)
+    c.args.selection.now (g.R.Source.unread c.args.source.now) (P x))
+    c.at_aside-2.result c.finish.result c.at_aside-2.ensures.value
+    (if_ok c.finish.result
+    (λ x l. all_read w to h.read gave l.objects l.told (l.lines_known refl, l.whole_is))
     (c.finish.ensures.finished true (selected c.args.selection.now h.read.entries)
     (read_rises w to h.read)
     (h.read.lists true (λ is. (none, no_gaps)))))
@@ -171,8 +185,10 @@ returns-clause-whole g c =
     let gave = end_given c.loop-fact.reader.max_entries from to v w c.next_with.result
     c.next_with.ensures.gives r in
     let here = whole_read w to h.read gave in
-    let at : (x : g.row.R.Denot) → c.next_with.new.self.source.now ≡ x → ReadsWithin u
-    (g.R.Source.unread x) = λ x same. subst (λ (y : g.row.R.Denot). ReadsWithin u
+    let at : (x : g.row.R.Denot) → c.next_with.new.self.source.now ≡ x → ReadsWithin
+    (at_most g.row.SESSIONS g.row.OBJECTS g.row.SYMBOLS) u
+    (g.R.Source.unread x) = λ x same. subst (λ (y : g.row.R.Denot). ReadsWithin
+    (at_most g.row.SESSIONS g.row.OBJECTS g.row.SYMBOLS) u
     (g.R.Source.unread y)) same here in
     on_any c.at_aside-2.result (at _ (search rules))
 
@@ -189,8 +205,10 @@ returns-clause-failed g c =
     let gave = end_given c.loop-fact.reader.max_entries from to v w c.next_with.result
     c.next_with.ensures.gives r in
     let here = whole_read w to h.read gave in
-    let at : (x : g.row.R.Denot) → c.next_with.new.self.source.now ≡ x → ReadsWithin u
-    (g.R.Source.unread x) = λ x same. subst (λ (y : g.row.R.Denot). ReadsWithin u
+    let at : (x : g.row.R.Denot) → c.next_with.new.self.source.now ≡ x → ReadsWithin
+    (at_most g.row.SESSIONS g.row.OBJECTS g.row.SYMBOLS) u
+    (g.R.Source.unread x) = λ x same. subst (λ (y : g.row.R.Denot). ReadsWithin
+    (at_most g.row.SESSIONS g.row.OBJECTS g.row.SYMBOLS) u
     (g.R.Source.unread y)) same here in
     fails_aside u _ c.at_aside-2.result c.at_aside-2.ensures.fault (at _ (search rules))
 

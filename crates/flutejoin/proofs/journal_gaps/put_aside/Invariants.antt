@@ -7,7 +7,7 @@ use Rattle.flutejoin.proofs.journal_gaps.put_aside.Given as goal
 
 abbrev pub invariant-loop-fact : goal.invariant-loop-fact
 invariant-loop-fact g l = record {
-  read : ListsRead l.selection (g.R.Source.unread l.fn.source)
+  read : ListsRead l.selection l.style (g.R.Source.unread l.fn.source)
       (g.R.Source.unread l.reader.source.now) l.reader.state l.tally l.listing
       (record {
         lines = g.A.Sink.written l.initial.lines;

@@ -1,24 +1,31 @@
 use Rattle.std.proofs.Common.{◌≡◌, ◌∙◌, ◌++◌, List, ℕ, Some, false, flat_map, subst}
 use Rattle.std.proofs.Common.{refl, arith, rules}
-use Rattle.flutejoin.specs.Lines.{gap_line}
+use Rattle.flutejoin.specs.Styles.{shown_gap}
 use Rattle.flutejoin.proofs.Asides.{knows_more, knows_nothing}
 use Rattle.flutejoin.proofs.Scanning.{gave_none, can_pass, gave_more, gave_all}
 use Rattle.flutejoin.proofs.listing.pass.Goals as goal
 
 pub loop-gap-init : goal.loop-gap-init
 loop-gap-init g c = record {
-  gave = λ known s gaps h r e l k. (gaps, gave_none s c.args.next c.args.scan.now gaps h e l, k);
+  gave = λ known s gaps h r e l k. (
+    gaps,
+    gave_none (shown_gap c.args.style) s c.args.next
+        c.args.scan.now gaps h e l,
+    k,
+  );
   failures = refl;
 }
 
 pub loop-gap-smaller : goal.loop-gap-smaller
 loop-gap-smaller g c =
     let s = c.requires in
-    let h = c.loop-gap.invariant.gave false s.0 (flat_map gap_line s.0.given) s.1 s.2 s.3 refl
-    (knows_nothing (g.A.Sink.written c.args.gap_lines.now) (flat_map gap_line s.0.given)) in
+    let h = c.loop-gap.invariant.gave false s.0 (flat_map (shown_gap c.args.style) s.0.given) s.1
+    s.2 s.3 refl
+    (knows_nothing (g.A.Sink.written c.args.gap_lines.now)
+    (flat_map (shown_gap c.args.style) s.0.given)) in
     let gave = h.1 in
     let turned = c.in-Gap.ensures.turned gave.t gave.scans
-    (can_pass s.0 c.args.next c.loop-gap.scan h.0 gave s.2) gave.comes in
+    (can_pass (shown_gap c.args.style) s.0 c.args.next c.loop-gap.scan h.0 gave s.2) gave.comes in
     omega (arith, gave.scans.ahead_is, turned.2.ahead_is, turned.1.fewer)
 
 pub loop-gap-preserved : goal.loop-gap-preserved
@@ -26,13 +33,15 @@ loop-gap-preserved g c = record {
   gave = λ known s gaps h r e l k.
       let m = c.loop-gap.invariant.gave known s gaps h r e l k in
       let gave = m.1 in
-      let more = m.0 ++ gap_line c.in-Gap.gap in (
+      let more = m.0 ++ shown_gap c.args.style c.in-Gap.gap in (
         more,
-        gave_more s c.args.next c.loop-gap.scan c.next.new.self m.0 more c.in-Gap.gap gave
-            (c.in-Gap.ensures.turned gave.t gave.scans (can_pass s c.args.next c.loop-gap.scan m.0
+        gave_more (shown_gap c.args.style) s c.args.next c.loop-gap.scan c.next.new.self m.0 more
+            c.in-Gap.gap gave
+            (c.in-Gap.ensures.turned gave.t gave.scans
+            (can_pass (shown_gap c.args.style) s c.args.next c.loop-gap.scan m.0
             gave
             r) gave.comes) refl,
-        knows_more (gap_line c.in-Gap.gap) m.2 c.in_ok-put_gap.ensures.line,
+        knows_more (shown_gap c.args.style c.in-Gap.gap) m.2 c.in_ok-put_gap.ensures.line,
       );
   failures = omega (arith, c.in_ok-put_gap.ensures.failures, c.loop-gap.invariant.failures);
 }
@@ -48,8 +57,10 @@ returns g c = record {
   passed = λ known s gaps h r e l k.
       let m = c.loop-gap.invariant.gave known s gaps h r e l k in
       let gave = m.1 in
-      let all = gave_all s c.args.next c.loop-gap.scan c.next.new.self m.0 c.next.result gave
-      (c.next.ensures.turned gave.t gave.scans (can_pass s c.args.next c.loop-gap.scan m.0 gave r)
+      let all = gave_all (shown_gap c.args.style) s c.args.next c.loop-gap.scan c.next.new.self m.0
+      c.next.result gave
+      (c.next.ensures.turned gave.t gave.scans (can_pass (shown_gap c.args.style) s c.args.next
+      c.loop-gap.scan m.0 gave r)
       gave.comes) c.in_default.not-Gap in (
         all.0,
         all.1,

@@ -3,17 +3,17 @@ use Rattle.std.proofs.Common.{◌≡◌, ◌+◌, [], List, ℕ, Bool, None, fla
 use Rattle.flute_store.specs.PartitionScan.{walk_of, symbols_left}
 use Rattle.flute_store.specs.Scan.{Scanned, CanFollow}
 use Rattle.flute_store.specs.Scans.{Scans, one_run}
-use Rattle.flutejoin.specs.Lines.{gap_line}
 use Rattle.flutejoin.specs.Listing.{Knows}
+use Rattle.flutejoin.specs.Styles.{shown_gap}
 use Rattle.flutejoin.proofs.Scanning.{Gave}
 use Rattle.flutejoin.proofs.listing.pass.Given as goal
 
 abbrev pub invariant-loop-gap : goal.invariant-loop-gap
 invariant-loop-gap g l = record {
   gave : (known : Bool) (s : Scanned) (gaps : List ℕ) → Scans l.initial.scan s
-      → CanFollow s l.next → s.coming ≡ None → gaps ≡ flat_map gap_line s.given
+      → CanFollow s l.next → s.coming ≡ None → gaps ≡ flat_map (shown_gap l.style) s.given
       → Knows known (g.A.Sink.written l.initial.gap_lines) gaps
-      → (all : List ℕ) × Gave s l.next l.scan all
+      → (all : List ℕ) × Gave (shown_gap l.style) s l.next l.scan all
       × Knows known (g.A.Sink.written l.gap_lines) all;
   failures : g.A.Sink.failures l.gap_lines ≡ g.A.Sink.failures l.initial.gap_lines;
 }

@@ -1,12 +1,36 @@
 -- Records, one after the other.
-use Rattle.std.proofs.Common.{refl, Some, Ok, ap, ◌∙◌, subst, ◌∷◌, [], ◌++◌, append_assoc, arith}
+use Rattle.std.proofs.Common.{refl, Some, Ok, ap, ◌∙◌, subst, ◌∷◌, [], ◌++◌, append-nil}
+use Rattle.std.proofs.Common.{append_assoc, arith, sym}
 use Rattle.std.proofs.lemmas.List.{length-append}
 use Rattle.std.proofs.lemmas.Result.{err_from_is_err_and}
 use Rattle.flute_journal.specs.Framing.{Gives, HasFault}
 use Rattle.flute_journal.specs.FileFraming.{file_framing}
-use Rattle.flutejoin.specs.Joined.{choice_of, HoldsDatagrams}
+use Rattle.flutejoin.specs.Joined.{choice_of}
+use Rattle.flutejoin.specs.JoinParts.{HoldsDatagrams}
+use Rattle.flutejoin.specs.Limits.{at_most}
 use Rattle.flutejoin.proofs.Held.{read_some, read_err, none_failed}
 use Rattle.flutejoin.proofs.held_files.HeldFiles.read.Goals as goal
+
+pub loop-datagram-init : goal.loop-datagram-init
+loop-datagram-init g c =
+    let most = at_most g.row.SESSIONS g.row.OBJECTS g.row.SYMBOLS in
+    record {
+      so_far = (
+        [],
+        rw (c.new-reader.ensures.unread, c.new-reader.ensures.state)
+            (c.a_file_is_read_record_by_record.ensures.begins c.new-reader.result.max_records
+            (g.R.Source.unread c.args.source.now)),
+        λ before holds.
+            subst
+            (λ l. HoldsDatagrams (choice_of most c.args.sender c.args.scope.now) c.args.self.now l)
+            (sym (append-nil before)) holds,
+        omega arith,
+      );
+      counted = c.requires.counted;
+      limit = c.new-reader.ensures.limit;
+      same_source = refl;
+      failures = ap g.R.Source.failures c.new-reader.ensures.unread;
+    }
 
 pub returns-in_err-datagram-clause-failed : goal.returns-in_err-datagram-clause-failed
 returns-in_err-datagram-clause-failed g c =
@@ -48,10 +72,12 @@ loop-datagram-preserved g c =
         rw c.next_with.ensures.limit more,
         λ before holds.
             subst
-            (λ l. HoldsDatagrams (choice_of c.args.sender c.args.scope.now) c.take.new.self l)
+            (λ l. HoldsDatagrams (choice_of (at_most g.row.SESSIONS g.row.OBJECTS g.row.SYMBOLS)
+            c.args.sender c.args.scope.now) c.take.new.self l)
             (append_assoc before all.0 (c.in-Some.datagram ∷ []))
             (subst
-            (λ d. HoldsDatagrams (choice_of c.args.sender c.args.scope.now) c.take.new.self
+            (λ d. HoldsDatagrams (choice_of (at_most g.row.SESSIONS g.row.OBJECTS g.row.SYMBOLS)
+            c.args.sender c.args.scope.now) c.take.new.self
             ((before ++ all.0) ++ d ∷ [])) c.as_slice.ensures.bytes
             (c.in_ok-take.ensures.taken (before ++ all.0) (all.2 before holds))),
         omega (arith, few.0, all.3, longer),

@@ -6,14 +6,14 @@ use Rattle.flutejoin.specs.InformationLines.{IsKept, LineTells, of_line, no_room
 use Rattle.flutejoin.proofs.information_list.InformationList.take_line.Goals as goal
 
 pub returns-in_err-fact_of_line-clause-failed : goal.returns-in_err-fact_of_line-clause-failed
-returns-in_err-fact_of_line-clause-failed c =
+returns-in_err-fact_of_line-clause-failed g c =
     let e = err_from_is_err_and c.from_residual.result c.from_residual.ensures.1 in
     rw (e.1, e.2)
     (λ words h. of_line (c.in_err-fact_of_line.ensures.failed words
     (subst (λ k. IsKept c.args.self.now.long k words) (sym c.as_slice.ensures) h)))
 
 pub returns-in-Ok-clause-taken : goal.returns-in-Ok-clause-taken
-returns-in-Ok-clause-taken c = λ words h. (
+returns-in-Ok-clause-taken g c = λ words h. (
   c.in-Some.fact ∷ [],
   subst (λ o. LineTells words (option_list o)) c.in-Some.is
       (c.in_ok-fact_of_line.ensures.tells words
@@ -22,7 +22,7 @@ returns-in-Ok-clause-taken c = λ words h. (
 )
 
 pub returns-in-Err-Full-clause-failed : goal.returns-in-Err-Full-clause-failed
-returns-in-Err-Full-clause-failed c = λ words h.
+returns-in-Err-Full-clause-failed g c = λ words h.
     no_room (c.in-Some.fact ∷ []) refl
     (subst (λ o. LineTells words (option_list o)) c.in-Some.is
     (c.in_ok-fact_of_line.ensures.tells words

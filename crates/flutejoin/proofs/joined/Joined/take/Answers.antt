@@ -5,10 +5,14 @@ use Rattle.flutejoin.proofs.joined.Joined.take.Goals.{in-Ok, in-Err-Datagram}
 use Rattle.flutejoin.proofs.joined.Joined.take.Goals as goal
 
 pub returns-in-Err-Full-clause-failed : goal.returns-in-Err-Full-clause-failed
-returns-in-Err-Full-clause-failed c = inl (refl, c.take.ensures.full.0 (c.in-Err-Full.is ∙ ap Err c.in-Err-Full.field-0-is))
+returns-in-Err-Full-clause-failed g c = inl (
+  refl,
+  c.take.ensures.full.0 (c.in-Err-Full.is ∙ ap Err
+      c.in-Err-Full.field-0-is),
+)
 
 pub returns-clause-taken : goal.returns-clause-taken
-returns-clause-taken c =
+returns-clause-taken g c =
     let d = c.args.datagram.now in
     let one : HasOneReading d = record { some = c.one_reading.ensures.some d } in
     elim c.match-take.branch [

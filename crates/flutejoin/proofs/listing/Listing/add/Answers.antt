@@ -13,8 +13,9 @@ returns-in-Info-clause-added g c = λ known F r l.
     let is = c.in-Info.is in
     c.begin.ensures.begun known F c.args.fact.now r l (first_information F c.args.fact.now key r
     (ap address is)) (ap (λ f. (address f).key) is)
-    (subst (λ (f : Fact). StateIs key (f ∷ []) [] (OneInformation c.new.result)) (sym is)
-    (begins_scan key c.in-Info.info c.new.result c.new.ensures))
+    (subst (λ (f : Fact). StateIs c.args.style key (f ∷ []) [] (OneInformation c.new.result))
+    (sym is)
+    (begins_scan c.args.style key c.in-Info.info c.new.result c.new.ensures))
 
 pub returns-in-InfoConflict-clause-added : goal.returns-in-InfoConflict-clause-added
 returns-in-InfoConflict-clause-added g c = λ known F r l.
@@ -22,5 +23,5 @@ returns-in-InfoConflict-clause-added g c = λ known F r l.
     let is = c.in-InfoConflict.is in
     c.begin-in-InfoConflict.ensures.begun known F c.args.fact.now r l
     (first_information F c.args.fact.now key r (ap address is)) (ap (λ f. (address f).key) is)
-    (subst (λ (f : Fact). StateIs key (f ∷ []) [] ConflictingInformation) (sym is)
-    (begins_conflict key))
+    (subst (λ (f : Fact). StateIs c.args.style key (f ∷ []) [] ConflictingInformation) (sym is)
+    (begins_conflict c.args.style key))

@@ -1,4 +1,4 @@
-use Rattle.std.proofs.Common.{[], ◌∷◌, refl}
+use Rattle.std.proofs.Common.{[], ◌∷◌}
 use Rattle.flute_parts.proofs.Public.{rising-front}
 use Rattle.flutejoin.proofs.OpenObjects.{begun}
 use Rattle.flutejoin.proofs.listing.Listing.begin.Goals as goal
@@ -9,7 +9,9 @@ returns-clause-begun g c = λ known F f r l first e s.
     record {
       lines = q.lines;
       gap_lines = [];
-      lists = begun F f q.lines [] c.args.key c.args.state q.listed refl first e s;
+      lists =
+          begun c.args.style F f _ (record { key = c.args.key; state = c.args.state }) _ _ known q
+          first e s;
       lines_known = q.lines_known;
       gap_lines_known = q.gap_lines_known;
     }

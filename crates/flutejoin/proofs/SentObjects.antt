@@ -1,0 +1,178 @@
+-- What is told of an object whose packets were sent.
+use Rattle.std.proofs.Common.{◌≡◌, ℕ, inl, inr, Bool, List, ◌++◌, length, cond, Option, Some}
+use Rattle.std.proofs.Common.{None, Result, Ok, Err, IfErr, refl, sym, ap, subst, ◌∙◌, arith}
+use Rattle.std.proofs.Common.{length-append}
+use Rattle.std.specs.Prelude.{IfOk, IfSome, flat_map, ⊤}
+use Rattle.std.specs.List.{AllZip}
+use Rattle.std.specs.Option.{option_map}
+use Rattle.std.proofs.lemmas.Bool.{eq-eqb}
+use Rattle.flute_parts.specs.Information.{Information, information, info_fault}
+use Rattle.flute_parts.specs.Devices.{AppendsPart}
+use Rattle.flute_parts.specs.declared.key.Key.{Key}
+use Rattle.flute_journal.specs.Records.{file_header, record_of}
+use Rattle.flute_wire.specs.declared.writing.WriteFault.{WriteFault}
+use Rattle.flute_wire.specs.Carousel.{packets_of, first_object_fault, carousel_fault}
+use Rattle.flute_wire.specs.Writing.{IsWritten}
+use Rattle.flute_wire.specs.declared.sending.CarouselFault.TheVariants.{Length, Write}
+use Rattle.flute_wire.proofs.Public.{facts_are_sent}
+use Rattle.flute_journal.specs.declared.fault.ReadFault.TheVariants.{Read}
+use Rattle.flutejoin.specs.Carousel.{info_of, OfDatagrams, OfInput, SendsInput, SendFails}
+use Rattle.flutejoin.specs.Carousel.{WritesFile}
+use Rattle.flutejoin.specs.Sending.{Ends, HasLeft, IsSendingFault, OfPackets, OfSize, ReadsOf}
+use Rattle.flutejoin.specs.Sending.{SendsPackets, UnlessRead}
+use Rattle.flutejoin.specs.declared.command_fault.CommandFault.{CommandFault}
+use Rattle.flutejoin.specs.declared.command_fault.CommandFault.TheVariants.{CannotSend, CannotWrite}
+use Rattle.flutejoin.specs.declared.command_fault.CommandFault.TheVariants.{Input, OutOfMemory}
+
+-- an object of its own length is not sent as its first packet isn't
+of_packets : (key : Key) (i : Information) (content : List ℕ) → length content ≡ i.transfer_length
+    → carousel_fault key i content
+    ≡ option_map (λ fault. Write fault) (first_object_fault (packets_of key i content))
+unfolding carousel_fault
+of_packets key i content h =
+    ap (λ (b : Bool). cond b (option_map (λ fault. Write fault)
+    (first_object_fault (packets_of key i content))) (Some Length))
+    (eq-eqb (length content) i.transfer_length h)
+
+-- the input has so many bytes if what is left of it has as many as were not read
+has_size : (input mid : Option (List ℕ)) (size left : ℕ) → ReadsOf input mid size left
+    → HasLeft mid left → HasLeft input size
+has_size None mid size left r h = tt
+has_size (Some content) None size left r h = absurd r.read
+has_size (Some content) (Some rest) size left r h =
+    omega (arith, ap length r.read, length-append r.bytes rest, r.counted, h)
+
+-- P of what the input has, if that is so many bytes, of an input that has
+of_input : (input : Option (List ℕ)) (size : ℕ) (P Q : List ℕ → Type 0) → HasLeft input size
+    → ((content : List ℕ) → length content ≡ size → P content → Q content) → OfSize input size P
+    → IfSome input Q
+of_input None size P Q h go p = tt
+of_input (Some content) size P Q h go p = go content h (p content refl h)
+
+module _ (input mid old now : Option (List ℕ)) (left : ℕ) where
+  -- how far an object of this size was sent
+  abbrev pub Sent : Key → Information → ℕ → Result ℕ CommandFault → Type 0
+  Sent key i size sent = UnlessRead sent (ReadsOf input mid size left)
+      × OfSize input size (λ content. SendsPackets (packets_of key i content) old now sent)
+
+  -- so it is by the values of which others were made
+  pub sent_same : (k key : Key) (j i : Information) (n size : ℕ) (sent : Result ℕ CommandFault)
+      → (k ≡ key) × (j ≡ i) × (n ≡ size) → Sent k j n sent → Sent key i size sent
+  sent_same k key j i n size sent e s =
+      subst (λ x. Sent key i x sent) e.2
+      (subst (λ x. Sent x i n sent) e.0 (subst (λ x. Sent k x n sent) e.1 s))
+
+module _ (key : Key) (symbol block size : ℕ) (i : Information)
+    (is : i ≡ information size symbol block) (sound : info_fault i ≡ None) where
+  same : (content : List ℕ) → length content ≡ size → i ≡ info_of symbol block content
+  same content whole = is ∙ ap (λ n. information n symbol block) (sym whole)
+
+  object_of : (P : List (List ℕ) → Type 0) (content : List ℕ) → length content ≡ size
+      → OfPackets (packets_of key i content) P → OfDatagrams key symbol block content P
+  object_of P content whole p =
+      let e = same content whole in
+      let written : AllZip IsWritten p.0 (packets_of key (info_of symbol block content) content) =
+      subst (λ j. AllZip IsWritten p.0 (packets_of key j content)) e p.1 in (
+        p.0,
+        record {
+          valid = subst (λ j. info_fault j ≡ None) e sound;
+          written = written;
+          told = facts_are_sent key (info_of symbol block content) content p.0 written;
+        },
+        p.2,
+      )
+
+  not_sent : (content : List ℕ) (fault : WriteFault) → length content ≡ size
+      → first_object_fault (packets_of key i content) ≡ Some fault
+      → carousel_fault key (info_of symbol block content) content ≡ Some (Write fault)
+  not_sent content fault whole h =
+      let j = info_of symbol block content in
+      let first : first_object_fault (packets_of key j content) ≡ Some fault =
+      subst (λ k. first_object_fault (packets_of key k content) ≡ Some fault)
+      (same content whole) h in
+      of_packets key j content refl ∙ ap (option_map (λ f. Write f)) first
+
+  all_could : (content : List ℕ) → length content ≡ size
+      → first_object_fault (packets_of key i content) ≡ None
+      → (info_fault (info_of symbol block content) ≡ None)
+      × (carousel_fault key (info_of symbol block content) content ≡ None)
+  all_could content whole h =
+      let j = info_of symbol block content in
+      let e = same content whole in
+      let none : first_object_fault (packets_of key j content) ≡ None =
+      subst (λ k. first_object_fault (packets_of key k content) ≡ None) e h in (
+        subst (λ k. info_fault k ≡ None) e sound,
+        of_packets key j content refl ∙ ap (option_map (λ f. Write f)) none,
+      )
+
+  module _ (input mid old now : Option (List ℕ)) (left : ℕ) where
+    -- how far the object was sent
+    abbrev pub IsSent : Result ℕ CommandFault → Type 0
+    IsSent = Sent input mid old now left key i size
+
+    pub told_sent : (result sent : Result ℕ CommandFault) → Ends mid left sent result → IsSent sent
+        → IfOk result (λ n. SendsInput input key symbol block n old now)
+    told_sent (Err e) sent ends s = tt
+    told_sent (Ok n) sent (inl h) s = absurd (cc)
+    told_sent (Ok n) sent (inr h) s =
+        let ok = subst IsSent (sym h.0) s in
+        let rest = subst (λ r. UnlessRead r (HasLeft mid left)) (sym h.0) h.1 in
+        of_input input size (λ content. SendsPackets (packets_of key i content) old now (Ok n))
+        (λ content. OfDatagrams key symbol block content (λ d. WritesFile d n old now))
+        (has_size input mid size left ok.0 rest) (object_of (λ d. WritesFile d n old now)) ok.1
+
+    told_part : IsSent (Err CannotWrite) → HasLeft mid left
+        → OfInput input key symbol block (λ d. AppendsPart old now
+        (file_header ++ flat_map record_of d))
+    told_part s rest =
+        of_input input size
+        (λ content. SendsPackets (packets_of key i content) old now (Err CannotWrite))
+        (λ content. OfDatagrams key symbol block content
+        (λ d. AppendsPart old now (file_header ++ flat_map record_of d)))
+        (has_size input mid size left s.0 rest)
+        (object_of (λ d. AppendsPart old now (file_header ++ flat_map record_of d))) s.1
+
+    pub told_failed_write : (result sent : Result ℕ CommandFault) → Ends mid left sent result
+        → IsSent sent → result ≡ Err CannotWrite
+        → OfInput input key symbol block (λ d. AppendsPart old now
+        (file_header ++ flat_map record_of d))
+    told_failed_write result sent (inl h) s e = absurd (cc)
+    told_failed_write result sent (inr h) s e =
+        let so : sent ≡ Err CannotWrite = sym h.0 ∙ e in
+        told_part (subst IsSent so s) (subst (λ r. UnlessRead r (HasLeft mid left)) so h.1)
+
+    fault_of : (e : CommandFault) → IsSendingFault e → IsSent (Err e)
+        → UnlessRead {T = ℕ} (Err e) (HasLeft mid left) → SendFails input key symbol block e
+    fault_of (CannotSend f) only s rest =
+        of_input input size
+        (λ content. SendsPackets (packets_of key i content) old now (Err (CannotSend f)))
+        (λ content. carousel_fault key (info_of symbol block content) content ≡ Some (Write f))
+        (has_size input mid size left s.0 rest) (λ content. not_sent content f) s.1
+    fault_of (Input n f) (inl only) s rest = (cc, cc)
+    fault_of (Input n f) (inr only) s rest = absurd (cc)
+    fault_of CannotWrite only s rest =
+        kept input (told_part s rest)
+      where
+        kept : (o : Option (List ℕ)) → OfInput o key symbol block
+            (λ d. AppendsPart old now (file_header ++ flat_map record_of d))
+            → OfInput o key symbol block (λ d. ⊤)
+        kept None p = tt
+        kept (Some content) p = (p.0, p.1, tt)
+    fault_of OutOfMemory only s rest =
+        of_input input size
+        (λ content. SendsPackets (packets_of key i content) old now (Err OutOfMemory))
+        (λ content. (info_fault (info_of symbol block content) ≡ None)
+        × (carousel_fault key (info_of symbol block content) content ≡ None))
+        (has_size input mid size left s.0 rest) all_could s.1
+    fault_of _ (inl only) s rest = absurd only
+    fault_of _ (inr only) s rest = absurd (cc)
+
+    pub told_failed : (result sent : Result ℕ CommandFault) → Ends mid left sent result
+        → IsSent sent → IfErr sent IsSendingFault → IfErr result (SendFails input key symbol block)
+    told_failed (Ok n) sent ends s only = tt
+    told_failed (Err e) sent (inl h) s only =
+        let is : e ≡ Input 1 Read = cc in
+        subst (SendFails input key symbol block) (sym is) (refl, refl)
+    told_failed (Err e) sent (inr h) s only =
+        fault_of e (subst (λ r. IfErr r IsSendingFault) (sym h.0) only) (subst IsSent (sym h.0) s)
+        (subst (λ r. UnlessRead r (HasLeft mid left)) (sym h.0) h.1)

@@ -1,6 +1,0 @@
--- The steps so far.
-use Rattle.flutejoin.proofs.DriveSteps.{DriveSoFar}
-use Rattle.flutejoin.proofs.replicas.Replicas.drive.Given as goal
-
-abbrev pub invariant-loop-k : goal.invariant-loop-k
-invariant-loop-k g l = DriveSoFar l.fn.self l.steps l.done l.k l.self

@@ -1,0 +1,165 @@
+-- What the parts of a join answer.
+use Rattle.std.specs.Prelude.{◌≡◌, ℕ, ◌+◌, List, [], ◌∷◌, ◌++◌, ◌≤◌, length, Option, Some, Bool}
+use Rattle.std.specs.Prelude.{true, false, if◌then◌else◌, ⊤, ◌⊎◌}
+use Rattle.std.specs.List.{flat_map, count_by, sum_by}
+use Rattle.flute_parts.specs.Facts.{Same}
+use Rattle.flute_parts.specs.declared.fact.Fact.{Fact}
+use Rattle.flute_journal.specs.Scopes.{takes_key}
+use Rattle.flute_journal.specs.Records.{IsFileWithin}
+use Rattle.flute_journal.specs.FileFraming.{file_framing}
+use Rattle.flute_journal.specs.Framing.{HasFault}
+use Rattle.flutejoin.specs.Limits.{Limits, IsOver}
+use Rattle.flutejoin.specs.Refused.{is_refused}
+use Rattle.flutejoin.specs.declared.limits.TheConstants.{MAX_ENTRIES}
+use Rattle.flutejoin.specs.declared.joined.Joined.{Joined}
+use Rattle.flutejoin.specs.declared.held_files.HeldFiles.{HeldFiles}
+use Rattle.flute_journal.specs.Kinds.{HasKind, IsNeither}
+use Rattle.flutejoin.specs.declared.command_fault.CommandFault.{CommandFault}
+use Rattle.flutejoin.specs.declared.command_fault.CommandFault.TheVariants.{UnknownKind, Input}
+use Rattle.flutejoin.specs.declared.command_fault.CommandFault.TheVariants.{Full, OutOfMemory}
+use Rattle.flutejoin.specs.declared.command_fault.CommandFault.TheVariants.{CannotWrite}
+use Rattle.flute_journal.specs.JournalWriters.{PutsJournal}
+use Rattle.flute_journal.specs.StreamMerges.{IsWithinLimits}
+use Rattle.flute_journal.specs.Streams.{Behaviour, IsNew}
+use Rattle.flute_journal.specs.Eithers.{either_behaviour}
+use Rattle.flute_journal.specs.declared.either.Either.{Either}
+use Rattle.flute_journal.specs.declared.all_streams.MergedJournal.{MergedJournal}
+use Rattle.flutejoin.specs.declared.join_input.JoinInput.{JoinInput}
+use Rattle.flutejoin.specs.declared.join_input.JoinInput.TheVariants.{Journal, Datagrams, Unknown}
+use Rattle.flute_journal.specs.declared.kind.Kind.TheVariants as kinds
+use Rattle.flutejoin.specs.Joined.{InputContent, Choice, facts_by, content_facts, content_datagrams}
+use Rattle.flutejoin.specs.Joined.{is_of_others, content_others, TellAll}
+use Rattle.flutejoin.specs.JoinFaults.{FirstInput, HasKnownKind}
+use Rattle.flutejoin.specs.JoinInputs.{left}
+use Rattle.flutejoin.specs.InputStreams.{journal_behaviour, input_behaviour}
+
+-- facts are over the limits, or there is no memory for them
+abbrev pub StoreFails : Limits → List Fact → CommandFault → Type 0
+StoreFails most told fault = ((fault ≡ Full) × IsOver most told) ⊎ (fault ≡ OutOfMemory)
+
+module _ {s o y : ℕ} where
+  -- one more datagram, and whether it is refused, are counted, and these facts of it are held
+  pub record TakesDatagram (told : List Fact) (before : Joined s o y) (datagram : List ℕ)
+      (now : Joined s o y) : Type 0 where
+    pub content : Same now.store (before.store ++ told)
+    pub datagrams : now.datagrams ≡ before.datagrams + 1
+    pub refused : now.refused ≡ (if is_refused datagram then before.refused + 1 else before.refused)
+
+  -- datagrams are counted, and their facts held
+  pub record TakesDatagrams (choice : Choice) (before : Joined s o y) (datagrams : List (List ℕ))
+      (now : Joined s o y) : Type 0 where
+    pub content : Same now.store (before.store ++ flat_map (facts_by choice) datagrams)
+    pub count : now.datagrams ≡ before.datagrams + length datagrams
+    pub refused : now.refused ≡ before.refused + count_by is_refused datagrams
+
+  -- a store of these datagrams; or their facts alone are over the limits
+  abbrev pub HoldsAll : Choice → Bool → Joined s o y → List (List ℕ) → Type 0
+  HoldsAll choice true told datagrams =
+      TakesDatagrams choice (record { store = []; datagrams = 0; refused = 0 }) datagrams told
+  HoldsAll choice false told datagrams = IsOver choice.most (flat_map (facts_by choice) datagrams)
+
+  -- datagrams are held as what they tell
+  pub record HoldsDatagrams (choice : Choice) (held : HeldFiles s o y)
+      (datagrams : List (List ℕ)) : Type 0 where
+    pub others : held.fits ≡ true → held.others ≡ count_by (is_of_others choice) datagrams
+    pub holds : HoldsAll choice held.fits held.told datagrams
+
+  -- these datagrams are held too
+  abbrev pub HoldsMore : Choice → HeldFiles s o y → HeldFiles s o y → List (List ℕ) → Type 0
+  HoldsMore choice old new datagrams =
+      (before : List (List ℕ)) → HoldsDatagrams choice old before
+      → HoldsDatagrams choice new (before ++ datagrams)
+
+  -- no more datagrams are refused, or of others, than there are
+  abbrev pub IsCounted : HeldFiles s o y → Type 0
+  IsCounted held =
+      (held.told.refused ≤ held.told.datagrams) × (held.others ≤ held.told.datagrams)
+
+  -- and there are at most so many more
+  abbrev pub CountsUpTo : ℕ → HeldFiles s o y → HeldFiles s o y → Type 0
+  CountsUpTo most old new =
+      (new.told.datagrams ≤ old.told.datagrams + most) × IsCounted new
+
+-- why a datagram file was not held
+abbrev pub FileFails : ℕ → Option (List ℕ) → CommandFault → Type 0
+FileFails number input (Input told fault) =
+    (told ≡ number) × HasFault file_framing MAX_ENTRIES input fault
+FileFails number input OutOfMemory = ⊤
+FileFails number input _ = ⊥
+
+-- the number that a fault of reading tells is that of the input
+abbrev pub NamesOnly : ℕ → CommandFault → Type 0
+NamesOnly number (Input told fault) = told ≡ number
+NamesOnly number (UnknownKind told) = told ≡ number
+NamesOnly number CannotWrite = ⊥
+NamesOnly number _ = ⊤
+
+-- an input is of no known kind, or a datagram file that was not held
+pub data InspectionFails (number : ℕ) (bytes : List ℕ) (fault : CommandFault) : Type 0 where
+  of_kind : fault ≡ UnknownKind number → IsNeither bytes → InspectionFails number bytes fault
+  of_file : HasKind kinds.Datagrams bytes → FileFails number (Some bytes) fault
+      → InspectionFails number bytes fault
+
+-- so it is with an input, and those before it are known
+abbrev pub SomeInspectionFails : List (List ℕ) → CommandFault → Type 0
+SomeInspectionFails inputs fault =
+    (number : ℕ)
+    × FirstInput HasKnownKind (λ bytes. InspectionFails number bytes fault) number inputs
+
+module _ {R : Type 0} (unread : R → Option (List ℕ)) where
+  -- what was found of an input: a journal is still to be read, of the chosen objects, and a
+  -- datagram file has these datagrams
+  abbrev pub IsInspected : Choice → JoinInput R → List ℕ → List (List ℕ) → Type 0
+  IsInspected choice (Journal journal) bytes datagrams =
+      (datagrams ≡ []) × HasKind kinds.Journal bytes
+      × (left unread journal.stream.source ≡ Some bytes)
+      × (takes_key journal.choice ≡ choice.takes)
+  IsInspected choice (Datagrams source) bytes datagrams =
+      IsFileWithin MAX_ENTRIES bytes datagrams
+  IsInspected choice Unknown bytes datagrams = ⊥
+
+  -- so it is with each of them, and these are the datagrams of all
+  abbrev pub AreInspected : Choice → List (JoinInput R) → List (List ℕ) → List (List ℕ) → Type 0
+  AreInspected choice [] [] datagrams = datagrams ≡ []
+  AreInspected choice (input ∷ inputs) (bytes ∷ contents) datagrams =
+      (own : List (List ℕ)) × (others : List (List ℕ))
+      × IsInspected choice input bytes own × (datagrams ≡ own ++ others)
+      × AreInspected choice inputs contents others
+  AreInspected choice _ _ datagrams = ⊥
+
+  -- and all of these are held
+  abbrev pub Finds : {s o y : ℕ} → Choice → List (JoinInput R) → List (List ℕ) → HeldFiles s o y
+      → Type 0
+  Finds choice inputs contents held =
+      (datagrams : List (List ℕ)) × AreInspected choice inputs contents datagrams
+      × HoldsDatagrams choice held datagrams
+
+  module _ (failures : R → ℕ) where
+    -- of a journal nothing was read yet, and nothing was passed over
+    abbrev pub IsReady : JoinInput R → Type 0
+    IsReady (Journal journal) =
+        (journal.others ≡ 0) × IsNew (journal_behaviour unread failures) journal
+        × ((journal_behaviour unread failures).most journal ≡ MAX_ENTRIES)
+        × (journal.stream.max_entries ≡ MAX_ENTRIES)
+    IsReady (Datagrams source) = Unit {0}
+    IsReady Unknown = Unit {0}
+
+    -- what is said of inputs as streams, with one before them
+    abbrev pub joined_behaviour : {S : Type 0} → Behaviour S → Behaviour (Either S (JoinInput R))
+    joined_behaviour b = either_behaviour b (input_behaviour unread failures)
+
+-- The journals among inputs that were inspected were joined with what is held, and so many entries
+-- of them were passed over; the others are datagram files with these datagrams.
+pub record JoinsInspected (choice : Choice) (contents datagrams : List (List ℕ)) (held : List Fact)
+    (passed : ℕ) (joined : MergedJournal) (old new : Option (List ℕ)) : Type 0 where
+  pub told : List InputContent
+  pub tell : TellAll contents told
+  pub datagrams_are : flat_map content_datagrams told ≡ datagrams
+  pub entries : List Fact
+  pub same : Same (flat_map (content_facts choice) told)
+      (flat_map (facts_by choice) datagrams ++ entries)
+  pub puts : PutsJournal joined.cut old new (held ++ entries) joined.entries
+  pub limits : IsWithinLimits choice.most.sessions choice.most.objects choice.most.symbols
+      (held ++ entries) joined.within
+  pub others : passed + count_by (is_of_others choice) datagrams
+      ≡ sum_by (content_others choice) told

@@ -1,0 +1,77 @@
+-- What `gaps` prints in each style, computed from the definitions.
+use Rattle.std.specs.Prelude.{◌≡◌, refl, codes, true, false, List, [], ◌∷◌, ◌++◌, Bool}
+use Rattle.std.specs.Fmt.{digits}
+use Rattle.flute_parts.specs.Session.{session}
+use Rattle.flute_parts.specs.declared.object_key.ObjectName.TheVariants.{File}
+use Rattle.flute_store.specs.declared.gap.Reason.TheVariants.{Missing, Conflicting}
+use Rattle.flute_store.specs.declared.status.Status.TheVariants.{ConflictingInformation}
+use Rattle.flute_store.specs.declared.status.Status.TheVariants.{Partial, Whole}
+use Rattle.flutejoin.specs.Lines.{gap_line, status_line}
+use Rattle.flutejoin.specs.Styles.{passes_check, printed, told_lines}
+use Rattle.flutejoin.specs.Sums.{by_session, sums_line}
+use Rattle.flutejoin.specs.Told.{Told}
+use Rattle.flutejoin.specs.declared.style.Style.{Style}
+
+-- files 1 and 2 of session 7, and file 1 of session 8, of the sender 0
+abbrev whole : Told
+whole = record {
+  key = record { session = session 0 7; object = File 1 };
+  status = Whole 5;
+  gaps = [];
+}
+
+abbrev partial : Told
+partial = record {
+  key = record { session = session 0 7; object = File 2 };
+  status = Partial 2 1 0;
+  gaps =
+      record { sbn = 0; first = 1; last = 2; reason = Missing }
+      ∷ record { sbn = 0; first = 3; last = 3; reason = Conflicting } ∷ [];
+}
+
+abbrev conflict : Told
+conflict = record {
+  key = record { session = session 0 8; object = File 1 };
+  status = ConflictingInformation;
+  gaps = [];
+}
+
+abbrev objects : List Told
+objects = whole ∷ partial ∷ conflict ∷ []
+
+abbrev style : Bool → Bool → Style
+style summary conflicts =
+    record { check = true; summary = summary; conflicts = conflicts }
+
+pub plain : printed (style false false) objects
+    ≡ codes "session 7 object 1 whole 5\n"
+    ++ codes "session 7 object 2 partial missing 2 conflicting 1 misfit 0\n"
+    ++ codes "gap 0/1-2 missing\n" ++ codes "gap 0/3-3 conflicting\n"
+    ++ codes "session 8 object 1 conflicting information\n"
+unfolding digits printed told_lines status_line gap_line
+plain = refl
+
+pub conflicts : printed (style false true) objects
+    ≡ codes "session 7 object 2 partial missing 2 conflicting 1 misfit 0\n"
+    ++ codes "gap 0/3-3 conflicting\n" ++ codes "session 8 object 1 conflicting information\n"
+unfolding digits printed told_lines status_line gap_line
+conflicts = refl
+
+pub summary : printed (style true false) objects
+    ≡ codes "session 7 objects 2 whole 1 partial 1 missing 2 conflicting 1 misfit 0 unknown 0\n"
+    ++ codes "session 8 objects 1 whole 0 partial 0 missing 0 conflicting 0 misfit 0 unknown 1\n"
+unfolding digits printed by_session sums_line
+summary = refl
+
+-- the whole object is not listed
+pub conflicts_of_sessions : printed (style true true) objects
+    ≡ codes "session 7 objects 1 whole 0 partial 1 missing 2 conflicting 1 misfit 0 unknown 0\n"
+    ++ codes "session 8 objects 1 whole 0 partial 0 missing 0 conflicting 0 misfit 0 unknown 1\n"
+unfolding digits printed by_session sums_line
+conflicts_of_sessions = refl
+
+pub checked : (passes_check (style false false) objects ≡ false)
+    × (passes_check (style false false) (whole ∷ []) ≡ true)
+    × (passes_check (style false true) (whole ∷ []) ≡ true)
+    × (passes_check (style false true) (partial ∷ []) ≡ false)
+checked = (refl, refl, refl, refl)

@@ -1,0 +1,32 @@
+-- What is told of objects: how much of each is held, and its gaps.
+use Rattle.std.specs.Prelude.{◌≡◌, List, map, Contains, ◌↔◌}
+use Rattle.std.specs.List.Sorted.{IsStrictlySortedBy}
+use Rattle.flute_parts.specs.Addresses.{info_address}
+use Rattle.flute_parts.specs.Facts.{fact_at}
+use Rattle.flute_parts.specs.Order.{key_cmp}
+use Rattle.flute_parts.specs.declared.key.Key.{Key}
+use Rattle.flute_parts.specs.declared.fact.Fact.{Fact}
+use Rattle.flute_store.specs.declared.gap.Gap.{Gap}
+use Rattle.flute_store.specs.declared.status.Status.{Status}
+use Rattle.flute_store.specs.Held.{HoldsObject}
+use Rattle.flutejoin.specs.Objects.{gaps_at, status_at}
+
+pub record Told : Type 0 where
+  pub key : Key
+  pub status : Status
+  pub gaps : List Gap
+
+-- what facts tell of an object of which something is held
+abbrev pub told_of : List Fact → Key → Told
+told_of F key = record {
+  key = key;
+  status = status_at F key (fact_at F (info_address key));
+  gaps = gaps_at F key (fact_at F (info_address key));
+}
+
+-- this is told of all objects of which something is held, in the order of their keys
+pub record AreTold (F : List Fact) (objects : List Told) : Type 0 where
+  pub keys : List Key
+  pub rising : IsStrictlySortedBy key_cmp keys
+  pub held : (key : Key) → Contains keys key ↔ HoldsObject F key
+  pub told : objects ≡ map (told_of F) keys

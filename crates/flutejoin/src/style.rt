@@ -1,0 +1,65 @@
+//! What `gaps` prints of the objects of a journal.
+ghost use Rattle.std.specs.Prelude.{◌≡◌};
+ghost use Rattle.flute_store.specs.Objects.{same_reason};
+ghost use Rattle.flute_store.specs.declared.gap.Reason.TheVariants.{Conflicting};
+ghost use Rattle.flutejoin.specs.Styles.{has_conflict, is_shown, is_told, is_whole};
+
+use flute_store::{Reason, Status};
+
+/// What `gaps` prints of the objects of a journal, and whether all of them have to be whole. By
+/// default all objects have a line, and all their gaps.
+#[derive(Clone, Copy, Debug, Default, PartialEq, Eq)]
+pub struct Style {
+    /// Whether it is a fault if an object that is listed is not whole. All is printed before.
+    pub check: bool,
+    /// Whether the objects of a session have one line together, and their gaps none.
+    pub summary: bool,
+    /// Whether only objects with a conflict are listed, and their gaps of symbols in conflict.
+    pub conflicts: bool,
+}
+
+impl Style {
+    /// Whether an object of which so much is held is listed.
+    pub(crate) fn tells(self, status: Status) -> bool
+        ensures { result ≡ is_told self status }
+    {
+        !self.conflicts || has_conflict(status)
+    }
+
+    /// Whether the gaps of this reason have lines.
+    pub(crate) fn shows(self, reason: Reason) -> bool
+        ensures { result ≡ is_shown self reason }
+    {
+        !self.summary && (!self.conflicts || is_conflicting(reason))
+    }
+}
+
+/// Whether an object is whole.
+pub fn is_whole(status: Status) -> bool
+    ensures { result ≡ is_whole status }
+{
+    match status {
+        Status::Whole { .. } => true,
+        Status::NoInformation | Status::ConflictingInformation | Status::Partial { .. } => false,
+    }
+}
+
+// Whether two values were told of its information, or of some of its symbols.
+fn has_conflict(status: Status) -> bool
+    ensures { result ≡ has_conflict status }
+{
+    match status {
+        Status::ConflictingInformation => true,
+        Status::Partial { conflicting, .. } => conflicting > 0,
+        Status::NoInformation | Status::Whole { .. } => false,
+    }
+}
+
+fn is_conflicting(reason: Reason) -> bool
+    ensures { result ≡ same_reason Conflicting reason }
+{
+    match reason {
+        Reason::Conflicting => true,
+        Reason::Missing | Reason::Misfit => false,
+    }
+}

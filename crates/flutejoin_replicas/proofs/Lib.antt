@@ -1,0 +1,12 @@
+mod Receptions
+mod Places
+mod Outcomes
+mod Journaled
+mod Given
+mod RunSteps
+mod KnownSteps
+mod DriveSteps
+mod Taking
+mod MemoryFacts
+mod Listed
+mod ObjectLines

@@ -1,0 +1,11 @@
+pub mod Held
+pub mod Steps
+pub mod Known
+pub mod Counts
+pub mod Outcome
+pub mod Faults
+pub mod Runs
+pub mod Laws
+pub mod Outputs
+pub mod Memory
+pub mod Examples

@@ -1,0 +1,92 @@
+//! Inputs in memory, joined into a store.
+ghost use Rattle.std.specs.Prelude.{◌≡◌, ◌≤◌, length, map, IfOk, IfErr};
+ghost use Rattle.flutejoin.specs.Joined.{everything};
+ghost use Rattle.flutejoin.specs.Joining.{JoinsTo};
+ghost use Rattle.flutejoin_replicas.specs.Memory.{Joins, in_memory, MemoryFails};
+
+use flute_journal::laws::{a_journal_has_one_content, a_journal_within_a_bound_is_one};
+use flute_journal::{ReadFault, Scope, read_store};
+use flute_parts::{MemorySink, MemorySource, Sender, Sink};
+use flutejoin::{
+    Blob, CommandFault, JoinCounts, JoinInput, Joined, JoinedShelf, MAX_OBJECTS, MAX_SESSIONS,
+    MAX_SYMBOLS, join_to,
+};
+use std::alloc::Global;
+
+/// What all the inputs tell together, each a journal or a datagram file, as [`join_to`] joins
+/// them: into a journal in memory, which is then read into a store. There may be up to 64, and none
+/// gives the empty store.
+///
+/// # Errors
+///
+/// Those of [`join_to`], but `OutOfMemory` in place of a device's.
+pub fn join_inputs(
+    alloc: Global,
+    sender: Sender,
+    inputs: &[Blob],
+) -> Result<JoinedShelf, CommandFault>
+    requires { length inputs.now ≤ 64 }
+    ensures joined { IfOk result (Joins (everything sender) inputs.now) }
+    ensures failed { IfErr result (MemoryFails (everything sender) inputs.now) }
+{
+    // By these the proof knows that a journal that was written is read as what it tells.
+    a_journal_has_one_content();
+    a_journal_within_a_bound_is_one();
+    let mut journal = MemorySink::new(alloc);
+    let counts = join_blobs(alloc, sender, inputs, &mut journal)?;
+    let mut written = MemorySource::new(journal.as_slice());
+    match read_store(alloc, &mut written, counts.entries) {
+        Ok(store) => Ok(Joined {
+            store,
+            datagrams: counts.datagrams,
+            refused: counts.refused,
+        }),
+        // nothing is at fault in a journal that was written but want of memory
+        Err(_) => Err(CommandFault::OutOfMemory),
+    }
+}
+
+// Writes the journal of all that the inputs tell.
+fn join_blobs(
+    alloc: Global,
+    sender: Sender,
+    inputs: &[Blob],
+    sink: &mut MemorySink,
+) -> Result<JoinCounts, CommandFault>
+    requires { length inputs.now ≤ 64 }
+    ensures joined { IfOk result (λ counts. JoinsTo (everything sender) inputs.now counts
+        (⟦<MemorySink as Sink>⟧.written sink.old) (⟦<MemorySink as Sink>⟧.written sink.new)) }
+    ensures failed { IfErr result (MemoryFails (everything sender) inputs.now) }
+{
+    let mut opened = Vec::new(alloc);
+    for input in inputs {
+        let Ok(input) = JoinInput::open(MemorySource::new(input.as_slice())) else {
+            return Err(CommandFault::OutOfMemory);
+        };
+        if opened.push(input).is_err() {
+            return Err(CommandFault::OutOfMemory);
+        }
+    }
+    let joined = join_to::<MAX_SESSIONS, MAX_OBJECTS, MAX_SYMBOLS, _, _>(
+        alloc,
+        sender,
+        &Scope::all(),
+        &mut opened,
+        sink,
+    );
+    match joined {
+        Ok(counts) => Ok(counts),
+        Err(fault) => Err(in_memory(fault)),
+    }
+}
+
+// Why inputs in memory were not joined: no device of them fails but for want of memory.
+fn in_memory(fault: CommandFault) -> CommandFault
+    ensures { result ≡ in_memory fault }
+{
+    match fault {
+        CommandFault::CannotWrite => CommandFault::OutOfMemory,
+        CommandFault::Input(_, ReadFault::Read) => CommandFault::OutOfMemory,
+        fault => fault,
+    }
+}
