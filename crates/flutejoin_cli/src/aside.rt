@@ -1,4 +1,4 @@
-//! Lines that are put aside, in memory and then in a file.
+//! Bytes that are put aside, in memory and then in a file.
 ghost use Rattle.std.specs.Prelude.{◌≡◌, ◌+◌, None, IfErr, if◌then◌else◌, is_ok};
 ghost use Rattle.flutejoin.specs.declared.command_fault.CommandFault.TheVariants.{OutOfMemory};
 
@@ -18,6 +18,15 @@ const NAMES: u32 = 1_000;
 
 /// How many bytes of it are read at once.
 const CHUNK: usize = 65_536;
+
+/// Where bytes are that were put aside.
+#[derive(Drop)]
+pub enum Kept {
+    /// All of them in memory.
+    Held(Vec<u8>),
+    /// All of them in a file, which stands at its beginning.
+    File(File),
+}
 
 /// Bytes that are put aside: up to 1 MiB in memory, and what came before them in a file of the
 /// folder for temporary files, which has no name there. It tells contracts nothing of its bytes.
@@ -49,6 +58,24 @@ impl<'a> FileAside<'a> {
                 failures: Failures::none(),
             }),
             Err(_) => Err(CommandFault::OutOfMemory),
+        }
+    }
+
+    /// What was put aside, to be read.
+    ///
+    /// # Errors
+    ///
+    /// If the file failed.
+    pub fn keep(mut self) -> io::Result<Kept> {
+        if self.file.is_some() {
+            self.spill()?;
+        }
+        match self.file {
+            Some(mut file) => {
+                file.seek(SeekFrom::Start(0))?;
+                Ok(Kept::File(file))
+            }
+            None => Ok(Kept::Held(self.held)),
         }
     }
 

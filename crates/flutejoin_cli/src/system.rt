@@ -2,7 +2,7 @@
 ghost use Rattle.std.specs.Prelude.{None};
 ghost use Rattle.flutejoin_commands.specs.Worlds.{IsNotMade};
 
-use crate::aside::FileAside;
+use crate::aside::{FileAside, Kept};
 use flute_output::{
     DeviceFile, DiskFolder, DiskNewFolder, FileId, Found, OpenFault, Place, file_at, place_at,
 };
@@ -10,7 +10,7 @@ use flute_parts::{BufferedSource, Failures};
 use flutejoin::{CommandFault, Overwrites};
 use flutejoin_commands::{Inputs, NotOpened, World};
 use std::fs::{self, File, Metadata};
-use std::io::{self, BufReader, ErrorKind, Read};
+use std::io::{self, BufReader, Cursor, ErrorKind, Read};
 use std::mem;
 use std::rt::Stdin;
 
@@ -23,6 +23,10 @@ const BUFFERS: usize = 1_048_576;
 /// How many bytes of an input are read at once, however many inputs there are.
 const LEAST_BUFFER: usize = 16_384;
 
+/// From how many bytes on the length of a file is believed: those of the system's own tell another
+/// one, and fewer bytes are soon read.
+const LEAST_SIZE: u64 = 65_536;
+
 /// The path that stands for standard input, and for standard output.
 const STANDARD: &str = "-";
 
@@ -31,11 +35,12 @@ const STANDARD_INPUT: &str = "/proc/self/fd/0";
 
 pub type Input = BufferedSource<Reader>;
 
-/// A file, or standard input.
+/// A file, standard input, or bytes that were put aside in memory.
 #[derive(Drop)]
 pub enum Reader {
     File(File),
     StandardInput(Stdin),
+    Held(Cursor<Vec<u8>>),
 }
 
 impl Read for Reader {
@@ -43,6 +48,7 @@ impl Read for Reader {
         match self {
             Reader::File(file) => file.read(buf),
             Reader::StandardInput(stdin) => stdin.read(buf),
+            Reader::Held(bytes) => bytes.read(buf),
         }
     }
 }
@@ -82,12 +88,14 @@ impl Inputs for System<'_> {
 
     ghost asked = { λ s. s.asked.count };
 
+    ghost closed = { λ _. None };
+
     fn open(&mut self, path: &str, among: usize) -> Result<Input, NotOpened> {
         self.asked = self.asked.and_one();
         let Ok((reader, found)) = reader_at(self.rt, path) else {
             return Err(NotOpened::Refused);
         };
-        let Ok(reader) = BufReader::with_capacity(self.rt.alloc(), buffer_of(among), reader) else {
+        let Some(input) = input_of(self.rt, reader, buffer_of(among)) else {
             return Err(NotOpened::OutOfMemory);
         };
         self.size = None;
@@ -99,7 +107,7 @@ impl Inputs for System<'_> {
                 return Err(NotOpened::OutOfMemory);
             }
         }
-        Ok(BufferedSource::new(reader))
+        Ok(input)
     }
 }
 
@@ -151,7 +159,27 @@ impl<'a> World for System<'a> {
         FileAside::new(self.rt)
     }
 
+    fn again(&mut self, aside: FileAside<'a>) -> Result<Input, CommandFault> {
+        let reader = match aside.keep() {
+            Ok(Kept::Held(bytes)) => Reader::Held(Cursor::new(bytes)),
+            Ok(Kept::File(file)) => Reader::File(file),
+            Err(_) => return Err(CommandFault::CannotWrite),
+        };
+        match input_of(self.rt, reader, BUFFER) {
+            Some(input) => Ok(input),
+            None => Err(CommandFault::OutOfMemory),
+        }
+    }
+
     fn close(&mut self, _out: &str, _folder: Self::Folder) {}
+}
+
+/// An input with a buffer of so many bytes. None if there is no memory for it.
+fn input_of(rt: &HostRuntime, reader: Reader, buffer: usize) -> Option<Input> {
+    match BufReader::with_capacity(rt.alloc(), buffer, reader) {
+        Ok(reader) => Some(BufferedSource::new(reader)),
+        Err(_) => None,
+    }
 }
 
 /// How many bytes are read at once of each of so many inputs.
@@ -183,9 +211,9 @@ fn reader_at(rt: &HostRuntime, path: &str) -> io::Result<(Reader, Option<Metadat
     }
 }
 
-/// How many bytes a regular file has; of anything else it is not known.
+/// How many bytes a regular file has that is not small; of anything else it is not known.
 fn known_size(found: &Metadata) -> Option<u64> {
-    if found.is_file() {
+    if found.is_file() && found.len() >= LEAST_SIZE {
         Some(found.len())
     } else {
         None

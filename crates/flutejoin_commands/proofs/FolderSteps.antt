@@ -16,6 +16,7 @@ use Rattle.flutejoin.specs.Lines.{count_line}
 use Rattle.flutejoin.specs.declared.picked.Picked.{Picked}
 use Rattle.flutejoin.specs.declared.command_fault.CommandFault.{CommandFault}
 use Rattle.flutejoin.specs.declared.command_fault.CommandFault.TheVariants.{CannotWrite, NotOnDisk}
+use Rattle.flutejoin.specs.Limits.{Limits}
 use Rattle.flutejoin_commands.specs.Folders.{IsFolderOf, IsKeptFolder, TellsFiles, LeavesFolder}
 use Rattle.flutejoin_commands.specs.Folders.{IsNowhere, FolderFails, of_work, of_device, of_end}
 use Rattle.flutejoin_commands.specs.Folders.{finish_fault}
@@ -124,18 +125,21 @@ one_always (Some o) (Some m) (Some f) (Some n) h s b = (
 )
 
 -- what the journal told
-pub tells_files : (input left : Option (List ℕ)) (picked : Picked) (m f : Option Places)
-    (r r' : Option (List ℕ)) (count : ℕ) (e : ExtractsAll input left picked m f r r' count)
-    → TellsFiles input picked e.taken.files e.taken.told
+pub tells_files : {most : Limits} (input left : Option (List ℕ)) (picked : Picked) (m f : Option
+    Places)
+    (r r' : Option (List ℕ)) (count : ℕ) (e : ExtractsAll most input left picked m f r r' count)
+    → TellsFiles most input picked e.taken.files e.taken.told
 tells_files input left picked m f r r' count e = record
     { entries = e.entries; journal = e.journal; within = e.within; taken = e.taken.taken }
 
-pub leaves_folder : (input left : Option (List ℕ)) (picked : Picked) (o m f n : Option Places)
-    (r r' r'' : Option (List ℕ)) (count : ℕ) → LeadsTo IsMade o m → ExtractsAll input left picked m
+pub leaves_folder : {most : Limits} (input left : Option (List ℕ)) (picked : Picked) (o m f n :
+    Option Places)
+    (r r' r'' : Option (List ℕ)) (count : ℕ) → LeadsTo IsMade o m → ExtractsAll most input left
+    picked m
     f r r' count
     → LeadsTo (λ old new. BecomesFolder (folder_of (files_beside old)) old new) f n → LeadsTo
     (λ old new. StaysThere (files_beside old) new) f n → LeadsTo NoneBeside f n
-    → Appends r' r'' (count_line (codes "written") count) → LeavesFolder input picked o n r r''
+    → Appends r' r'' (count_line (codes "written") count) → LeavesFolder most input picked o n r r''
 leaves_folder input left picked o m f n r r' r'' count h e b s g line = record {
   files = e.taken.files;
   told = e.taken.told;
@@ -148,21 +152,24 @@ leaves_folder input left picked o m f n r r' r'' count h e b s g line = record {
 }
 
 -- OUT is there, though the command failed
-pub there_failed : (input left : Option (List ℕ)) (picked : Picked) (o m f n : Option Places)
+pub there_failed : {most : Limits} (input left : Option (List ℕ)) (picked : Picked) (o m f n :
+    Option Places)
     (r r' : Option (List ℕ)) (count : ℕ) (fault : CommandFault) → (fault ≡ NotOnDisk) ⊎
     (fault ≡ CannotWrite)
-    → LeadsTo IsMade o m → ExtractsAll input left picked m f r r' count
+    → LeadsTo IsMade o m → ExtractsAll most input left picked m f r r' count
     → LeadsTo (λ old new. BecomesFolder (folder_of (files_beside old)) old new) f n → FolderFails
+    most
     input left picked o n fault
 there_failed input left picked o m f n r r' count fault why h e b =
     of_end why e.taken.files e.taken.told (tells_files input left picked m f r r' count e)
     (is_folder e.taken.files o m f n h e.taken.filled b)
 
 -- the work failed
-pub work_failed : (input left : Option (List ℕ)) (picked : Picked) (o n : Option Places)
-    (fault : CommandFault) → ExtractAllFails input left fault ⊎ (fault ≡ CannotWrite) → LeadsTo
+pub work_failed : {most : Limits} (input left : Option (List ℕ)) (picked : Picked) (o n : Option
+    Places)
+    (fault : CommandFault) → ExtractAllFails most input left fault ⊎ (fault ≡ CannotWrite) → LeadsTo
     IsNowhere o n
-    → FolderFails input left picked o n fault
+    → FolderFails most input left picked o n fault
 work_failed input left picked o n fault (inl w) h = of_work w h
 work_failed input left picked o n fault (inr w) h = of_device w h
 
@@ -187,29 +194,30 @@ on_if_ok (Ok x) f h = f x h
 on_if_ok (Err e) f h = h
 
 -- the folder was not finished
-pub not_finished : {input left : Option (List ℕ)} {picked : Picked} {o n : Option Places}
+pub not_finished : {most : Limits} {input left : Option (List ℕ)} {picked : Picked} {o n : Option
+    Places}
     (m f : Option Places) (r r' : Option (List ℕ)) (done : Result ℕ CommandFault)
     (result : Result ℕ (FinishFault CommandFault)) (fault : FinishFault CommandFault)
     → result ≡ Err fault → LeadsTo IsMade o m → LeadsTo FolderStays m f
-    → IfOk done (ExtractsAll input left picked m f r r')
-    → IfErr done (λ x. ExtractAllFails input left x ⊎ (x ≡ CannotWrite))
+    → IfOk done (ExtractsAll most input left picked m f r r')
+    → IfErr done (λ x. ExtractAllFails most input left x ⊎ (x ≡ CannotWrite))
     → IfErr done (λ x. result ≡ Err (finish.Work x))
     → IfErr result (λ e. IfWork e (λ x. done ≡ Err x))
     → IfErr result (λ e. LeadsTo (EndsAt e) f n)
-    → FolderFails input left picked o n (finish_fault fault)
-not_finished {input} {left} {picked} {o} {n} m f r r' done result fault is h s ok err
+    → FolderFails most input left picked o n (finish_fault fault)
+not_finished {most} {input} {left} {picked} {o} {n} m f r r' done result fault is h s ok err
     told work ends = ended fault is
     (subst (λ x. IfErr x (λ e. IfWork e (λ y. done ≡ Err y))) is work)
     (subst (λ x. IfErr x (λ e. LeadsTo (EndsAt e) f n)) is ends)
   where
     ended : (e : FinishFault CommandFault) → result ≡ Err e → IfWork e (λ y. done ≡ Err y)
-        → LeadsTo (EndsAt e) f n → FolderFails input left picked o n (finish_fault e)
+        → LeadsTo (EndsAt e) f n → FolderFails most input left picked o n (finish_fault e)
     ended (finish.Work y) at y_is there =
         work_failed input left picked o n y
-        (subst (λ d. IfErr d (λ x. ExtractAllFails input left x ⊎ (x ≡ CannotWrite))) y_is err)
+        (subst (λ d. IfErr d (λ x. ExtractAllFails most input left x ⊎ (x ≡ CannotWrite))) y_is err)
         (is_nowhere o m f n h s there)
     ended finish.Write at y_is there = of_device refl (is_nowhere o m f n h s there)
     ended finish.NotOnDisk at y_is there =
         let d = done_but_disk done result told at in
         there_failed input left picked o m f n r r' d.0 NotOnDisk (inl refl) h
-        (subst (λ x. IfOk x (ExtractsAll input left picked m f r r')) d.1 ok) there
+        (subst (λ x. IfOk x (ExtractsAll most input left picked m f r r')) d.1 ok) there

@@ -1,5 +1,6 @@
+mod Closed
 pub mod Failing
-mod Empty
+mod Checks
 mod FewInputs
 pub mod LeftFiles
 pub mod ObjectBytes
@@ -9,4 +10,3 @@ pub mod Openings
 pub mod SentNames
 pub mod Since
 mod FolderSteps
-mod Replacing

@@ -23,6 +23,8 @@ use Rattle.flutejoin.specs.declared.command_fault.CommandFault.TheVariants.{Conf
 use Rattle.flutejoin.specs.declared.command_fault.CommandFault.TheVariants.{NotWhole, OutOfMemory}
 use Rattle.flutejoin.specs.declared.command_fault.CommandFault.TheVariants.{CannotCreate}
 use Rattle.flutejoin.specs.declared.command_fault.CommandFault.TheVariants.{CannotWrite, NotOnDisk}
+use Rattle.flutejoin.specs.Limits.{Limits}
+use Rattle.flutejoin.specs.declared.command_fault.CommandFault.TheVariants.{NotAllWhole}
 use Rattle.flutejoin_commands.specs.Works.{WritesObject, ExtractFails}
 
 of_bytes : {W : Type 0} (written : W → Option (List ℕ)) (F : List Fact) (key : Key) (old new : W)
@@ -55,6 +57,7 @@ of_bytes written F key old new (Err OutputIsInput) e = e
 of_bytes written F key old new (Err OutputIsDatagrams) e = e
 of_bytes written F key old new (Err OutputIsJournal) e = e
 of_bytes written F key old new (Err NotOnDisk) e = e
+of_bytes written F key old new (Err NotAllWhole) e = e
 of_bytes written F key old new (Err (BadInformation x)) e = e
 of_bytes written F key old new (Err BadHex) e = e
 of_bytes written F key old new (Err (Refused x)) e = e
@@ -68,9 +71,10 @@ of_bytes written F key old new (Err OutOfMemory) e = e
 of_bytes written F key old new (Err CannotCreate) e = e
 
 -- what holds of the entries under one reading holds under a weaker one
-answers_map : (input left : Option (List ℕ)) (P Q : List Fact → Type 0) (r : Result ℕ CommandFault)
-    → ((F : List Fact) → P F → Q F) → AnswersFrom input left P r → AnswersFrom input left Q r
-answers_map input left P Q (Ok n) f a = record {
+answers_map : (most : Limits) (input left : Option (List ℕ)) (P Q : List Fact → Type 0)
+    (r : Result ℕ CommandFault) → ((F : List Fact) → P F → Q F) → AnswersFrom most input left P r
+    → AnswersFrom most input left Q r
+answers_map most input left P Q (Ok n) f a = record {
   entries = a.entries;
   journal = a.journal;
   read =
@@ -78,9 +82,9 @@ answers_map input left P Q (Ok n) f a = record {
   within = a.within;
   holds = f a.entries a.holds;
 }
-answers_map input left P Q (Err (Input x y)) f a = a
-answers_map input left P Q (Err Full) f a = a
-answers_map input left P Q (Err NoObject) f a =
+answers_map most input left P Q (Err (Input x y)) f a = a
+answers_map most input left P Q (Err Full) f a = a
+answers_map most input left P Q (Err NoObject) f a =
     record {
       entries = a.entries;
       journal = a.journal;
@@ -89,7 +93,7 @@ answers_map input left P Q (Err NoObject) f a =
       holds =
           f a.entries a.holds;
     }
-answers_map input left P Q (Err NoInformation) f a =
+answers_map most input left P Q (Err NoInformation) f a =
     record {
       entries = a.entries;
       journal = a.journal;
@@ -98,7 +102,7 @@ answers_map input left P Q (Err NoInformation) f a =
       holds =
           f a.entries a.holds;
     }
-answers_map input left P Q (Err ConflictingInformation) f a =
+answers_map most input left P Q (Err ConflictingInformation) f a =
     record {
       entries = a.entries;
       journal = a.journal;
@@ -107,7 +111,7 @@ answers_map input left P Q (Err ConflictingInformation) f a =
       holds =
           f a.entries a.holds;
     }
-answers_map input left P Q (Err (NotWhole sbn esi)) f a =
+answers_map most input left P Q (Err (NotWhole sbn esi)) f a =
     record {
       entries = a.entries;
       journal = a.journal;
@@ -116,7 +120,7 @@ answers_map input left P Q (Err (NotWhole sbn esi)) f a =
       holds =
           f a.entries a.holds;
     }
-answers_map input left P Q (Err CannotWrite) f a =
+answers_map most input left P Q (Err CannotWrite) f a =
     record {
       entries = a.entries;
       journal = a.journal;
@@ -125,7 +129,7 @@ answers_map input left P Q (Err CannotWrite) f a =
       holds =
           f a.entries a.holds;
     }
-answers_map input left P Q (Err (CommandLine x)) f a =
+answers_map most input left P Q (Err (CommandLine x)) f a =
     record {
       entries = a.entries;
       journal = a.journal;
@@ -134,7 +138,7 @@ answers_map input left P Q (Err (CommandLine x)) f a =
       holds =
           f a.entries a.holds;
     }
-answers_map input left P Q (Err NotText) f a =
+answers_map most input left P Q (Err NotText) f a =
     record {
       entries = a.entries;
       journal = a.journal;
@@ -143,7 +147,7 @@ answers_map input left P Q (Err NotText) f a =
       holds =
           f a.entries a.holds;
     }
-answers_map input left P Q (Err (BadNumber x)) f a =
+answers_map most input left P Q (Err (BadNumber x)) f a =
     record {
       entries = a.entries;
       journal = a.journal;
@@ -152,7 +156,7 @@ answers_map input left P Q (Err (BadNumber x)) f a =
       holds =
           f a.entries a.holds;
     }
-answers_map input left P Q (Err (BadOption x)) f a =
+answers_map most input left P Q (Err (BadOption x)) f a =
     record {
       entries = a.entries;
       journal = a.journal;
@@ -161,7 +165,7 @@ answers_map input left P Q (Err (BadOption x)) f a =
       holds =
           f a.entries a.holds;
     }
-answers_map input left P Q (Err (ListLine x)) f a =
+answers_map most input left P Q (Err (ListLine x)) f a =
     record {
       entries = a.entries;
       journal = a.journal;
@@ -170,7 +174,7 @@ answers_map input left P Q (Err (ListLine x)) f a =
       holds =
           f a.entries a.holds;
     }
-answers_map input left P Q (Err (ListInformation x y)) f a =
+answers_map most input left P Q (Err (ListInformation x y)) f a =
     record {
       entries = a.entries;
       journal = a.journal;
@@ -179,7 +183,7 @@ answers_map input left P Q (Err (ListInformation x y)) f a =
       holds =
           f a.entries a.holds;
     }
-answers_map input left P Q (Err BadSource) f a =
+answers_map most input left P Q (Err BadSource) f a =
     record {
       entries = a.entries;
       journal = a.journal;
@@ -188,7 +192,7 @@ answers_map input left P Q (Err BadSource) f a =
       holds =
           f a.entries a.holds;
     }
-answers_map input left P Q (Err BadKey) f a =
+answers_map most input left P Q (Err BadKey) f a =
     record {
       entries = a.entries;
       journal = a.journal;
@@ -197,7 +201,7 @@ answers_map input left P Q (Err BadKey) f a =
       holds =
           f a.entries a.holds;
     }
-answers_map input left P Q (Err TooManyInputs) f a =
+answers_map most input left P Q (Err TooManyInputs) f a =
     record {
       entries = a.entries;
       journal = a.journal;
@@ -206,7 +210,7 @@ answers_map input left P Q (Err TooManyInputs) f a =
       holds =
           f a.entries a.holds;
     }
-answers_map input left P Q (Err OutputIsInput) f a =
+answers_map most input left P Q (Err OutputIsInput) f a =
     record {
       entries = a.entries;
       journal = a.journal;
@@ -215,7 +219,7 @@ answers_map input left P Q (Err OutputIsInput) f a =
       holds =
           f a.entries a.holds;
     }
-answers_map input left P Q (Err OutputIsDatagrams) f a =
+answers_map most input left P Q (Err OutputIsDatagrams) f a =
     record {
       entries = a.entries;
       journal = a.journal;
@@ -224,7 +228,7 @@ answers_map input left P Q (Err OutputIsDatagrams) f a =
       holds =
           f a.entries a.holds;
     }
-answers_map input left P Q (Err OutputIsJournal) f a =
+answers_map most input left P Q (Err OutputIsJournal) f a =
     record {
       entries = a.entries;
       journal = a.journal;
@@ -233,7 +237,7 @@ answers_map input left P Q (Err OutputIsJournal) f a =
       holds =
           f a.entries a.holds;
     }
-answers_map input left P Q (Err NotOnDisk) f a =
+answers_map most input left P Q (Err NotOnDisk) f a =
     record {
       entries = a.entries;
       journal = a.journal;
@@ -242,7 +246,7 @@ answers_map input left P Q (Err NotOnDisk) f a =
       holds =
           f a.entries a.holds;
     }
-answers_map input left P Q (Err (BadInformation x)) f a =
+answers_map most input left P Q (Err NotAllWhole) f a =
     record {
       entries = a.entries;
       journal = a.journal;
@@ -251,7 +255,7 @@ answers_map input left P Q (Err (BadInformation x)) f a =
       holds =
           f a.entries a.holds;
     }
-answers_map input left P Q (Err BadHex) f a =
+answers_map most input left P Q (Err (BadInformation x)) f a =
     record {
       entries = a.entries;
       journal = a.journal;
@@ -260,7 +264,7 @@ answers_map input left P Q (Err BadHex) f a =
       holds =
           f a.entries a.holds;
     }
-answers_map input left P Q (Err (Refused x)) f a =
+answers_map most input left P Q (Err BadHex) f a =
     record {
       entries = a.entries;
       journal = a.journal;
@@ -269,7 +273,7 @@ answers_map input left P Q (Err (Refused x)) f a =
       holds =
           f a.entries a.holds;
     }
-answers_map input left P Q (Err (CannotSend x)) f a =
+answers_map most input left P Q (Err (Refused x)) f a =
     record {
       entries = a.entries;
       journal = a.journal;
@@ -278,7 +282,7 @@ answers_map input left P Q (Err (CannotSend x)) f a =
       holds =
           f a.entries a.holds;
     }
-answers_map input left P Q (Err (TooLarge x)) f a =
+answers_map most input left P Q (Err (CannotSend x)) f a =
     record {
       entries = a.entries;
       journal = a.journal;
@@ -287,7 +291,7 @@ answers_map input left P Q (Err (TooLarge x)) f a =
       holds =
           f a.entries a.holds;
     }
-answers_map input left P Q (Err (CannotOpen x)) f a =
+answers_map most input left P Q (Err (TooLarge x)) f a =
     record {
       entries = a.entries;
       journal = a.journal;
@@ -296,7 +300,7 @@ answers_map input left P Q (Err (CannotOpen x)) f a =
       holds =
           f a.entries a.holds;
     }
-answers_map input left P Q (Err (UnknownKind x)) f a =
+answers_map most input left P Q (Err (CannotOpen x)) f a =
     record {
       entries = a.entries;
       journal = a.journal;
@@ -305,7 +309,7 @@ answers_map input left P Q (Err (UnknownKind x)) f a =
       holds =
           f a.entries a.holds;
     }
-answers_map input left P Q (Err OutOfMemory) f a =
+answers_map most input left P Q (Err (UnknownKind x)) f a =
     record {
       entries = a.entries;
       journal = a.journal;
@@ -314,7 +318,16 @@ answers_map input left P Q (Err OutOfMemory) f a =
       holds =
           f a.entries a.holds;
     }
-answers_map input left P Q (Err CannotCreate) f a =
+answers_map most input left P Q (Err OutOfMemory) f a =
+    record {
+      entries = a.entries;
+      journal = a.journal;
+      read = a.read;
+      within = a.within;
+      holds =
+          f a.entries a.holds;
+    }
+answers_map most input left P Q (Err CannotCreate) f a =
     record {
       entries = a.entries;
       journal = a.journal;
@@ -324,35 +337,38 @@ answers_map input left P Q (Err CannotCreate) f a =
           f a.entries a.holds;
     }
 
-told_of_bytes : {W : Type 0} (written : W → Option (List ℕ)) (input left : Option (List ℕ))
+told_of_bytes : {W : Type 0} (written : W → Option (List ℕ)) (most : Limits)
+    (input left : Option (List ℕ))
     (key : Key) (old new : W) (r : Result ℕ CommandFault) (others : List Fact)
-    → AnswersFrom input left (λ F. Same F others → Extracts written others key old new r) r
-    → AnswersFrom input left (λ F. Same F others
+    → AnswersFrom most input left (λ F. Same F others → Extracts written others key old new r) r
+    → AnswersFrom most input left (λ F. Same F others
     → Extracts (λ x. x) others key (written old) (written new) r) r
-told_of_bytes written input left key old new r others a =
-    answers_map input left (λ F. Same F others → Extracts written others key old new r)
+told_of_bytes written most input left key old new r others a =
+    answers_map most input left (λ F. Same F others → Extracts written others key old new r)
     (λ F. Same F others → Extracts (λ x. x) others key (written old) (written new) r) r
     (λ F f s. of_bytes written others key old new r (f s)) a
 
-pub object_written : {W : Type 0} (written : W → Option (List ℕ)) (input left : Option (List ℕ))
+pub object_written : {W : Type 0} (written : W → Option (List ℕ)) (most : Limits)
+    (input left : Option (List ℕ))
     (key : Key) (old new : W) (r : Result ℕ CommandFault)
-    → ((others : List Fact) → AnswersFrom input left (λ F. Same F others
+    → ((others : List Fact) → AnswersFrom most input left (λ F. Same F others
     → Extracts written others key old new r) r)
-    → IfOk r (λ n. WritesObject input key n (written old) (written new))
-object_written written input left key old new (Ok n) a =
-    (left, λ others. told_of_bytes written input left key old new (Ok n) others (a others))
-object_written written input left key old new (Err e) a = tt
+    → IfOk r (λ n. WritesObject most input key n (written old) (written new))
+object_written written most input left key old new (Ok n) a =
+    (left, λ others. told_of_bytes written most input left key old new (Ok n) others (a others))
+object_written written most input left key old new (Err e) a = tt
 
-pub object_fails : {W : Type 0} (written : W → Option (List ℕ)) (input left : Option (List ℕ))
+pub object_fails : {W : Type 0} (written : W → Option (List ℕ)) (most : Limits)
+    (input left : Option (List ℕ))
     (key : Key) (old new : W) (r : Result ℕ CommandFault)
-    → ((others : List Fact) → AnswersFrom input left (λ F. Same F others
+    → ((others : List Fact) → AnswersFrom most input left (λ F. Same F others
     → Extracts written others key old new r) r)
-    → IfErr r (λ fault. ExtractFails input key fault)
-object_fails written input left key old new (Ok n) a = tt
-object_fails written input left key old new (Err e) a = (
+    → IfErr r (λ fault. ExtractFails most input key fault)
+object_fails written most input left key old new (Ok n) a = tt
+object_fails written most input left key old new (Err e) a = (
   left,
   written old,
   written new,
-  λ others. told_of_bytes written input left key old new (Err e)
+  λ others. told_of_bytes written most input left key old new (Err e)
       others (a others),
 )

@@ -5,12 +5,13 @@ use Rattle.std.specs.Prelude.{slice_get, OnOk, IsSome, IfSome}
 use Rattle.std.specs.List.{AllZip}
 use Rattle.std.proofs.lemmas.Option.{same_Some}
 use Rattle.flute_journal.specs.declared.scope.Scope.{Scope}
-use Rattle.flutejoin.specs.Joining.{NamesOneOf}
+use Rattle.flutejoin.specs.JoinFaults.{NamesOneOf}
 use Rattle.flutejoin.specs.JoinInputs.{AreInputs, IsInput}
 use Rattle.flutejoin.specs.declared.join_input.JoinInput.{JoinInput}
 use Rattle.flutejoin.specs.declared.join_counts.JoinCounts.{JoinCounts}
 use Rattle.flutejoin.specs.declared.command_fault.CommandFault.{CommandFault}
 use Rattle.flutejoin.specs.declared.command_fault.CommandFault.TheVariants.{CannotOpen, OutOfMemory}
+use Rattle.flutejoin.specs.Limits.{Limits}
 use Rattle.flutejoin_commands.specs.Files.{Files, HasBytes, IfFiles, IsNoFile}
 use Rattle.flutejoin_commands.specs.Opened.{IsOpened, AreOpened}
 use Rattle.flutejoin_commands.specs.Named.{IsAt, IsBefore, JoinsNames, JoinNamesFails}
@@ -106,19 +107,20 @@ module _ {R : Type 0} (unread : R → Option (List ℕ)) where
         each_input opened contents a;
   }
 
-  module _ (sender : ℕ) (scope : Scope) (names : List (List ℕ)) (opened : List (JoinInput R))
+  module _ (most : Limits) (sender : ℕ) (scope : Scope) (names : List (List ℕ)) (opened : List
+      (JoinInput R))
     where
       joins_told : (files : Option Files) → AreOpened files unread names opened
           → (counts : JoinCounts) (old new : Option (List ℕ))
-          → JoinsAll unread sender scope opened counts old new
-          → JoinsNames files sender scope names counts old new
+          → JoinsAll unread most sender scope opened counts old new
+          → JoinsNames files most sender scope names counts old new
       joins_told None h counts old new j = tt
       joins_told (Some files) h counts old new j = let had = contents_of files unread names opened
           h.as_many h.each in (had.0, had.1, j had.0 (are_inputs opened had.0 had.2))
 
       fault_told : (files : Option Files) → AreOpened files unread names opened
-          → (fault : CommandFault) → JoinAllFails unread sender scope opened fault
-          → JoinNamesFails files sender scope names fault
+          → (fault : CommandFault) → JoinAllFails unread most sender scope opened fault
+          → JoinNamesFails files most sender scope names fault
       fault_told None h fault j = inr (tt, subst (λ n. NamesOneOf n fault) h.as_many j.1)
       fault_told (Some files) h fault j =
           let had = contents_of files unread names opened h.as_many h.each in
@@ -131,30 +133,30 @@ module _ {R : Type 0} (unread : R → Option (List ℕ)) where
       module _ (files : Option Files) (h : AreOpened files unread names opened) (name : List ℕ)
           (old new : Outside) where
         pub joined : (lines : JoinCounts → List ℕ) (r : Result (Unit {0}) CommandFault)
-            → OnOk r (Leaves (JoinsAll unread sender scope opened)
-            (JoinsAll unread sender scope opened) lines name old new)
-            → OnOk r (Leaves (JoinsNames files sender scope names)
-            (JoinsNames files sender scope names) lines name old new)
+            → OnOk r (Leaves (JoinsAll unread most sender scope opened)
+            (JoinsAll unread most sender scope opened) lines name old new)
+            → OnOk r (Leaves (JoinsNames files most sender scope names)
+            (JoinsNames files most sender scope names) lines name old new)
         joined lines (Ok u) l =
-            leaves_told (JoinsAll unread sender scope opened)
-            (JoinsAll unread sender scope opened) (JoinsNames files sender scope names)
-            (JoinsNames files sender scope names)
+            leaves_told (JoinsAll unread most sender scope opened)
+            (JoinsAll unread most sender scope opened) (JoinsNames files most sender scope names)
+            (JoinsNames files most sender scope names)
             (joins_told files h) (joins_told files h) name lines old new l
         joined lines (Err e) l = tt
 
         pub not_joined : (r : Result (Unit {0}) CommandFault)
-            → IfErr r (FailsToLeave (JoinsAll unread sender scope opened)
-            (JoinAllFails unread sender scope opened) name old new)
-            → IfErr r (FailsToLeave (JoinsNames files sender scope names)
-            (JoinNamesFails files sender scope names) name old new)
+            → IfErr r (FailsToLeave (JoinsAll unread most sender scope opened)
+            (JoinAllFails unread most sender scope opened) name old new)
+            → IfErr r (FailsToLeave (JoinsNames files most sender scope names)
+            (JoinNamesFails files most sender scope names) name old new)
         not_joined (Ok u) l = tt
         not_joined (Err e) l =
-            fails_told (JoinsAll unread sender scope opened)
-            (JoinsAll unread sender scope opened) (JoinsNames files sender scope names)
-            (JoinsNames files sender scope names)
+            fails_told (JoinsAll unread most sender scope opened)
+            (JoinsAll unread most sender scope opened) (JoinsNames files most sender scope names)
+            (JoinsNames files most sender scope names)
             (joins_told files h) (joins_told files h) name
-            (JoinAllFails unread sender scope opened)
-            (JoinNamesFails files sender scope names) old new e (fault_told files h e) l
+            (JoinAllFails unread most sender scope opened)
+            (JoinNamesFails files most sender scope names) old new e (fault_told files h e) l
 
 -- ---- one input, and two
 

@@ -1,7 +1,10 @@
 -- What is printed of opened inputs, told by the names that were opened.
-use Rattle.std.proofs.Common.{◌⊎◌, ℕ, List, Option, Result, Ok, Err, IfErr, inr}
+use Rattle.std.proofs.Common.{◌≡◌, ◌⊎◌, ℕ, List, [], Option, Some, None, Result, Ok, Err, IfErr}
+use Rattle.std.proofs.Common.{inr, refl, subst}
+use Rattle.std.specs.Prelude.{OnOk}
 use Rattle.flutejoin.specs.declared.command_fault.CommandFault.{CommandFault}
 use Rattle.flutejoin_commands.specs.Files.{Files, HasBytes, IfFiles}
+use Rattle.flutejoin_commands.specs.Worlds.{IsEmptyAside}
 use Rattle.flutejoin_commands.proofs.OfNames.{told_of}
 
 module _ (files : Option Files) (name : List ℕ) (known : Option (List ℕ))
@@ -32,3 +35,28 @@ pub of_place : {S : Type 0} (P : S → CommandFault → Type 0) (after : S)
     (r : Result (Unit {0}) CommandFault) → IfErr r (P after) → IfErr r (λ fault. (a : S) × P a fault)
 of_place P after (Ok u) p = tt
 of_place P after (Err e) p = (after, p)
+
+-- a fact of each fault that there may be
+pub by_fault : {P : CommandFault → Type 0} (r : Result (Unit {0}) CommandFault)
+    → ((fault : CommandFault) → r ≡ Err fault → P fault) → IfErr r P
+by_fault (Ok u) f = tt
+by_fault (Err e) f = f e refl
+
+-- a fact of an opened input that holds if the files are known
+pub if_told : (files : Option Files) (name : List ℕ) (known : Option (List ℕ))
+    → HasBytes files name known → (P : Option (List ℕ) → Type 0) → IfFiles files (λ f. P known)
+    → IfFiles files (λ f. P (f name))
+if_told None name known h P p = tt
+if_told (Some files) name known h P p = subst P h.0 p
+
+-- a fact of what is put aside, which is empty if the files are known
+pub if_empty : (files : Option Files) (a b : Option (List ℕ)) (P : Type 0)
+    → IsEmptyAside files a → IsEmptyAside files b → (a ≡ Some [] → b ≡ Some [] → P)
+    → IfFiles files (λ f. P)
+if_empty None a b P d e p = tt
+if_empty (Some files) a b P d e p = p d e
+
+-- a fact of success
+pub by_done : {P : Type 0} (r : Result (Unit {0}) CommandFault) → (r ≡ Ok tt → P) → OnOk r P
+by_done (Ok u) f = f refl
+by_done (Err e) f = tt

@@ -8,9 +8,9 @@ use Rattle.flute_output.specs.declared.output.FinishFault.TheVariants as finish
 use Rattle.flute_output.specs.NewFolders.{StaysThere, IsWholeOrNothing, folder_of}
 use Rattle.flute_journal.specs.Journal.{IsJournalWithin}
 use Rattle.flutejoin.specs.ExtractAll.{ExtractAllFails, picked_facts}
+use Rattle.flutejoin.specs.Limits.{Limits, IsOver}
 use Rattle.flutejoin.specs.Lines.{count_line}
 use Rattle.flutejoin.specs.ObjectFiles.{AreTaken}
-use Rattle.flutejoin.specs.Shelves.{IsOverShelf}
 use Rattle.flutejoin.specs.declared.picked.Picked.{Picked}
 use Rattle.flutejoin.specs.declared.limits.TheConstants.{MAX_ENTRIES}
 use Rattle.flutejoin.specs.declared.command_fault.CommandFault.{CommandFault}
@@ -28,20 +28,20 @@ pub record IsKeptFolder (files : List NamedFile) (old new : Places) : Type 0 whe
   pub beside : new.beside ≡ None
 
 -- the journal was read, and its picked objects have these files and lines
-pub record TellsFiles (input : Option (List ℕ)) (picked : Picked) (files : List NamedFile)
-    (told : List ℕ) : Type 0 where
+pub record TellsFiles (most : Limits) (input : Option (List ℕ)) (picked : Picked)
+    (files : List NamedFile) (told : List ℕ) : Type 0 where
   pub entries : List Fact
   pub journal : IfSome input (λ bytes. IsJournalWithin MAX_ENTRIES bytes entries)
-  pub within : ¬ IsOverShelf entries
+  pub within : ¬ IsOver most entries
   pub taken : AreTaken (picked_facts picked entries) files told
 
 -- OUT is the folder of all files of the journal, and of no others; the report has the lines of all
 -- objects and the number of files
-pub record LeavesFolder (input : Option (List ℕ)) (picked : Picked) (old new : Option Places)
-    (report_old report_new : Option (List ℕ)) : Type 0 where
+pub record LeavesFolder (most : Limits) (input : Option (List ℕ)) (picked : Picked)
+    (old new : Option Places) (report_old report_new : Option (List ℕ)) : Type 0 where
   pub files : List NamedFile
   pub told : List ℕ
-  pub tells : TellsFiles input picked files told
+  pub tells : TellsFiles most input picked files told
   pub out : LeadsTo (IsFolderOf files) old new
   pub kept : LeadsTo (IsKeptFolder files) old new
   pub report : Appends report_old report_new (told ++ count_line (codes "written") (length files))
@@ -60,17 +60,18 @@ finish_fault finish.NotOnDisk = NotOnDisk
 -- Why it failed: the folder could not be made; or the work failed, or the disk or the report: there
 -- is no OUT. Or OUT is the folder, but the disk did not tell that it has the name, or the report
 -- failed to take the number of files.
-pub data FolderFails (input left : Option (List ℕ)) (picked : Picked) (old new : Option Places)
-    (fault : CommandFault) : Type 0 where
+pub data FolderFails (most : Limits) (input left : Option (List ℕ)) (picked : Picked)
+    (old new : Option Places) (fault : CommandFault) : Type 0 where
   of_create : fault ≡ CannotCreate → LeadsTo FolderStays old new
-      → FolderFails input left picked old new fault
-  of_work : ExtractAllFails input left fault → LeadsTo IsNowhere old new
-      → FolderFails input left picked old new fault
+      → FolderFails most input left picked old new fault
+  of_work : ExtractAllFails most input left fault → LeadsTo IsNowhere old new
+      → FolderFails most input left picked old new fault
   of_device : fault ≡ CannotWrite → LeadsTo IsNowhere old new
-      → FolderFails input left picked old new fault
+      → FolderFails most input left picked old new fault
   of_end : (fault ≡ NotOnDisk) ⊎ (fault ≡ CannotWrite) → (files : List NamedFile)
-      → (told : List ℕ) → TellsFiles input picked files told → LeadsTo (IsFolderOf files) old new
-      → FolderFails input left picked old new fault
+      → (told : List ℕ) → TellsFiles most input picked files told
+      → LeadsTo (IsFolderOf files) old new
+      → FolderFails most input left picked old new fault
 
 -- at any moment since the folder beside it was made there was no OUT, or one folder, whole; or that
 -- was not made, and OUT has been nothing else

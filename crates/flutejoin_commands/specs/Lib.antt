@@ -1,9 +1,7 @@
+pub mod Closings
 pub mod Commands
 pub mod Files
-pub mod MemoryFiles
-pub mod MemoryWorlds
 pub mod Named
-pub mod NamedFiles
 pub mod Opened
 pub mod Outlets
 pub mod Printed

@@ -9,21 +9,24 @@ use Rattle.flute_journal.specs.declared.selection.Selection.{Selection}
 use Rattle.flute_parts.specs.Information.{Information}
 use Rattle.flute_parts.specs.declared.key.Key.{Key}
 use Rattle.flutejoin.specs.InfoLists.{AddsList, AddListFails}
-use Rattle.flutejoin.specs.Carousel.{SendFails}
+use Rattle.flutejoin.specs.Carousel.{SendFails, SendsInput}
 use Rattle.flutejoin.specs.Forget.{ForgetFails}
 use Rattle.flutejoin.specs.Joined.{choice_of}
-use Rattle.flutejoin.specs.Joining.{JoinsTo, JoinToFails, NamesOneOf}
+use Rattle.flutejoin.specs.Joining.{JoinsTo}
+use Rattle.flutejoin.specs.JoinFaults.{JoinToFails, NamesOneOf}
 use Rattle.flutejoin.specs.Merge.{MergeFails}
 use Rattle.flutejoin.specs.declared.forget.ForgetCounts.{ForgetCounts}
+use Rattle.flutejoin.specs.Limits.{Limits}
 use Rattle.flutejoin.specs.declared.join_counts.JoinCounts.{JoinCounts}
 use Rattle.flutejoin.specs.declared.limits.TheConstants.{MAX_ENTRIES}
 use Rattle.flutejoin.specs.declared.command_fault.CommandFault.{CommandFault}
-use Rattle.flutejoin.specs.declared.command_fault.CommandFault.TheVariants.{CannotOpen, Input}
+use Rattle.flutejoin.specs.declared.command_fault.CommandFault.TheVariants.{CannotOpen, CannotWrite}
+use Rattle.flutejoin.specs.declared.command_fault.CommandFault.TheVariants.{Input}
 use Rattle.flutejoin.specs.declared.command_fault.CommandFault.TheVariants.{OutOfMemory, TooLarge}
 use Rattle.flutejoin_commands.specs.Files.{Files, IfFiles, IsNoFile}
 use Rattle.flutejoin_commands.specs.Outlets.{Held, FailsHeld}
 use Rattle.flutejoin_commands.specs.Works.{AddsInformation, AddFails, WritesObject, ExtractFails}
-use Rattle.flutejoin_commands.specs.Works.{ForgetsIn, IsCannotWrite, OfDatagrams, WritesFile}
+use Rattle.flutejoin_commands.specs.Works.{ForgetsIn}
 use Rattle.flutejoin_commands.specs.Worlds.{IsNotOverwritten}
 
 abbrev pub IsAt : Files → List ℕ → List ℕ → Type 0
@@ -50,27 +53,25 @@ abbrev pub IsBefore : Option Files → List (List ℕ) → CommandFault → Type
 IsBefore files names fault =
     IsUnopened files names fault ⊎ IsNotOverwritten fault
 
--- why an object of this content is not sent: the content has too many bytes or cannot be read, or
--- its datagrams cannot be written
-abbrev pub ContentFails : Option (List ℕ) → Key → ℕ → ℕ → CommandFault → Type 0
-ContentFails content key symbol block fault =
-    ((fault ≡ TooLarge 1) × IfSome content (λ bytes. 4294967295 < length bytes))
-    ⊎ ((fault ≡ Input 1 Read)
-    ⊎ ((fault ≡ OutOfMemory)
-    ⊎ IfSome content (λ bytes. SendFails key symbol block bytes fault)))
+-- why the number of the bytes of an input is not known: there are too many, or they cannot be read,
+-- or put aside
+abbrev pub MeasureFails : Option (List ℕ) → CommandFault → Type 0
+MeasureFails input fault =
+    ((fault ≡ TooLarge 1) × IfSome input (λ bytes. 4294967295 < length bytes))
+    ⊎ ((fault ≡ Input 1 Read) ⊎ ((fault ≡ CannotWrite) ⊎ (fault ≡ OutOfMemory)))
 
 module _ (files : Option Files) where
   -- the one journal of all that the files of these names tell of the chosen objects
-  abbrev pub JoinsNames : ℕ → Scope → List (List ℕ) → JoinCounts → Option (List ℕ)
+  abbrev pub JoinsNames : Limits → ℕ → Scope → List (List ℕ) → JoinCounts → Option (List ℕ)
       → Option (List ℕ) → Type 0
-  JoinsNames sender scope names counts old new = IfFiles files (λ f. OfContents f names
-      (λ contents. JoinsTo (choice_of sender scope) contents counts old new))
+  JoinsNames most sender scope names counts old new = IfFiles files (λ f. OfContents f names
+      (λ contents. JoinsTo (choice_of most sender scope) contents counts old new))
 
-  abbrev pub JoinNamesFails : ℕ → Scope → List (List ℕ) → CommandFault → Type 0
-  JoinNamesFails sender scope names fault =
+  abbrev pub JoinNamesFails : Limits → ℕ → Scope → List (List ℕ) → CommandFault → Type 0
+  JoinNamesFails most sender scope names fault =
       IsBefore files names fault
       ⊎ (IfFiles files (λ f. OfContents f names (λ contents.
-      JoinToFails (choice_of sender scope) contents fault))
+      JoinToFails (choice_of most sender scope) contents fault))
       × NamesOneOf (length names) fault)
 
   -- the journal of all that the files of two names tell
@@ -87,9 +88,9 @@ module _ (files : Option Files) where
   AddsToName j key info n old new =
       IfFiles files (λ f. AddsInformation (f j) key info n old new)
 
-  abbrev pub AddToNameFails : List ℕ → Key → Information → CommandFault → Type 0
-  AddToNameFails j key info fault =
-      IsBefore files (j ∷ []) fault ⊎ IfFiles files (λ f. AddFails (f j) key info fault)
+  abbrev pub AddToNameFails : Limits → List ℕ → Key → Information → CommandFault → Type 0
+  AddToNameFails most j key info fault =
+      IsBefore files (j ∷ []) fault ⊎ IfFiles files (λ f. AddFails most (f j) key info fault)
 
   -- the journal of what the selection leaves of the file of a name
   abbrev pub ForgetsInName : List ℕ → Selection → ForgetCounts → Option (List ℕ)
@@ -105,28 +106,31 @@ module _ (files : Option Files) where
   abbrev pub AddsListOfNames : List ℕ → List ℕ → ℕ → Option (List ℕ) → Option (List ℕ) → Type 0
   AddsListOfNames j list n old new = IfFiles files (λ f. AddsList (f j) (f list) n old new)
 
-  abbrev pub AddListOfNamesFails : List ℕ → List ℕ → CommandFault → Type 0
-  AddListOfNamesFails j list fault =
-      IsBefore files (j ∷ list ∷ []) fault ⊎ IfFiles files (λ f. AddListFails (f j) (f list) fault)
+  abbrev pub AddListOfNamesFails : Limits → List ℕ → List ℕ → CommandFault → Type 0
+  AddListOfNamesFails most j list fault =
+      IsBefore files (j ∷ list ∷ []) fault
+      ⊎ IfFiles files (λ f. AddListFails most (f j) (f list) fault)
 
   -- the object that the file of a name makes whole
-  abbrev pub WritesOfName : List ℕ → Key → ℕ → Option (List ℕ) → Option (List ℕ) → Type 0
-  WritesOfName j key n old new = IfFiles files (λ f. WritesObject (f j) key n old new)
+  abbrev pub WritesOfName : Limits → List ℕ → Key → ℕ → Option (List ℕ) → Option (List ℕ) → Type 0
+  WritesOfName most j key n old new = IfFiles files (λ f. WritesObject most (f j) key n old new)
 
   -- the same, held in memory first
-  abbrev pub HoldsOfName : List ℕ → Key → ℕ → Option (List ℕ) → Option (List ℕ) → Type 0
-  HoldsOfName j key n old new = IfFiles files (λ f. Held (WritesObject (f j) key) n old new)
+  abbrev pub HoldsOfName : Limits → List ℕ → Key → ℕ → Option (List ℕ) → Option (List ℕ) → Type 0
+  HoldsOfName most j key n old new =
+      IfFiles files (λ f. Held (WritesObject most (f j) key) n old new)
 
-  abbrev pub ExtractOfNameFails : List ℕ → Key → CommandFault → Type 0
-  ExtractOfNameFails j key fault =
-      IsBefore files (j ∷ []) fault ⊎ IfFiles files (λ f. FailsHeld (ExtractFails (f j) key) fault)
+  abbrev pub ExtractOfNameFails : Limits → List ℕ → Key → CommandFault → Type 0
+  ExtractOfNameFails most j key fault =
+      IsBefore files (j ∷ []) fault
+      ⊎ IfFiles files (λ f. FailsHeld (ExtractFails most (f j) key) fault)
 
   -- the file of the datagrams of an object whose content is the file of a name
   abbrev pub SendsName : List ℕ → Key → ℕ → ℕ → ℕ → Option (List ℕ) → Option (List ℕ) → Type 0
-  SendsName name key symbol block n old new = IfFiles files (λ f. IfSome (f name)
-      (λ content. OfDatagrams key symbol block content (λ d. WritesFile d n old new)))
+  SendsName name key symbol block n old new =
+      IfFiles files (λ f. SendsInput (f name) key symbol block n old new)
 
   abbrev pub SendNameFails : List ℕ → Key → ℕ → ℕ → CommandFault → Type 0
   SendNameFails name key symbol block fault =
       IsBefore files (name ∷ []) fault
-      ⊎ IfFiles files (λ f. ContentFails (f name) key symbol block fault ⊎ IsCannotWrite fault)
+      ⊎ IfFiles files (λ f. MeasureFails (f name) fault ⊎ SendFails (f name) key symbol block fault)

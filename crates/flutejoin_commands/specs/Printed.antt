@@ -1,14 +1,18 @@
 -- What the commands print that leave no file, and why they fail, told by the names of their inputs.
-use Rattle.std.specs.Prelude.{◌≡◌, ◌≢◌, ◌⊎◌, ℕ, List, [], ◌∷◌, Option}
+use Rattle.std.specs.Prelude.{◌≡◌, ◌≢◌, ◌⊎◌, ℕ, Bool, true, false, List, [], ◌∷◌, Option}
 use Rattle.std.specs.Io.KnownBytes.{Appends, IsAtEnd}
 use Rattle.flute_journal.specs.declared.selection.Selection.{Selection}
 use Rattle.flute_output.specs.NewFolders.{Places}
 use Rattle.flutejoin.specs.Gaps.{ListsJournal, GapsFail}
+use Rattle.flutejoin.specs.Limits.{Limits}
 use Rattle.flutejoin.specs.Packet.{HasLines, FailsWith}
 use Rattle.flutejoin.specs.Show.{ShowsAll, ShowFails}
+use Rattle.flutejoin.specs.Styles.{passes_check, printed}
+use Rattle.flutejoin.specs.declared.style.Style.{Style}
 use Rattle.flutejoin.specs.declared.picked.Picked.{Picked}
 use Rattle.flutejoin.specs.declared.command_fault.CommandFault.{CommandFault}
 use Rattle.flutejoin.specs.declared.command_fault.CommandFault.TheVariants.{CannotWrite}
+use Rattle.flutejoin.specs.declared.command_fault.CommandFault.TheVariants.{NotAllWhole}
 use Rattle.flutejoin.specs.declared.command_fault.CommandFault.TheVariants.{OutOfMemory}
 use Rattle.flutejoin_commands.specs.Files.{Files, IfFiles}
 use Rattle.flutejoin_commands.specs.Folders.{LeavesFolder, FolderFails}
@@ -42,27 +46,39 @@ module _ (files : Option Files) (name : List ℕ) where
       × (ShowFails selection (f name) left old new fault
       ⊎ FailsToFlush (ShowsAll selection (f name) old new) fault))
 
-  -- what is missing of the selected objects of the journal of this name was printed
-  abbrev pub ListsName : Selection → Option (List ℕ) → Option (List ℕ) → Type 0
-  ListsName selection old new =
-      IfFiles files (λ f. ListsJournal selection (f name) (Appends old new))
+  -- what is missing of the selected objects of the journal of this name was printed, and they
+  -- passed their check, or did not
+  abbrev pub ListsObjects : Limits → Selection → Style → Bool → Option (List ℕ)
+      → Option (List ℕ) → Type 0
+  ListsObjects most selection style passes old new =
+      IfFiles files (λ f. ListsJournal most selection (f name)
+      (λ objects. Appends old new (printed style objects)
+      × (passes_check style objects ≡ passes)))
 
-  -- why not; then nothing was printed, unless the fault is that of writing
-  abbrev pub ListNameFails : Option (List ℕ) → Option (List ℕ) → CommandFault → Type 0
-  ListNameFails old new fault =
-      (IsUnread files name fault ⊎ IfFiles files (λ f. (left : Option (List ℕ))
-      × (GapsFail (f name) left fault ⊎ FailsToFlush (IsAtEnd left) fault)))
-      × (fault ≢ CannotWrite → new ≡ old)
+  -- it was printed, and each object is whole that has to be
+  abbrev pub ListsName : Limits → Selection → Style → Option (List ℕ) → Option (List ℕ) → Type 0
+  ListsName most selection style = ListsObjects most selection style true
+
+  -- why not: all was printed, and an object is not whole that has to be; or nothing was printed,
+  -- unless the fault is that of writing
+  abbrev pub ListNameFails : Limits → Selection → Style → Option (List ℕ) → Option (List ℕ)
+      → CommandFault → Type 0
+  ListNameFails most selection style old new fault =
+      ((fault ≡ NotAllWhole) × ListsObjects most selection style false old new)
+      ⊎ ((IsUnread files name fault ⊎ IfFiles files (λ f. (left : Option (List ℕ))
+      × (GapsFail most (f name) left fault ⊎ FailsToFlush (IsAtEnd left) fault)))
+      × (fault ≢ CannotWrite → new ≡ old))
 
   -- the folder, which is new, has a file for each whole object of the journal of this name
-  abbrev pub LeavesFolderOfName : Picked → Option Places → Option (List ℕ) → Option (List ℕ)
-      → Type 0
-  LeavesFolderOfName picked folder old new = IfFiles files (λ f.
-      (after : Option Places) × LeavesFolder (f name) picked folder after old new)
+  abbrev pub LeavesFolderOfName : Limits → Picked → Option Places → Option (List ℕ)
+      → Option (List ℕ) → Type 0
+  LeavesFolderOfName most picked folder old new = IfFiles files (λ f.
+      (after : Option Places) × LeavesFolder most (f name) picked folder after old new)
 
   -- why not
-  abbrev pub FolderOfNameFails : Picked → Option Places → CommandFault → Type 0
-  FolderOfNameFails picked folder fault =
+  abbrev pub FolderOfNameFails : Limits → Picked → Option Places → CommandFault → Type 0
+  FolderOfNameFails most picked folder fault =
       (IsUnread files name fault ⊎ IsNotMade fault)
       ⊎ IfFiles files (λ f. (left : Option (List ℕ))
-      × ((after : Option Places) × FolderFails (f name) left picked folder after fault))
+      × ((after : Option Places) × FolderFails most (f name) left picked folder after
+      fault))

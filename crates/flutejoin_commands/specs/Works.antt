@@ -1,29 +1,27 @@
 -- What the works of the commands write, why they fail, and what they tell.
-use Rattle.std.specs.Prelude.{◌≡◌, ℕ, ◌++◌, ◌∷◌, List, [], if◌then◌else◌, length, flat_map}
+use Rattle.std.specs.Prelude.{ℕ, ◌++◌, ◌∷◌, List, [], if◌then◌else◌, length}
 use Rattle.std.specs.Prelude.{Option, codes, Ok, Err}
-use Rattle.std.specs.Io.KnownBytes.{Appends}
 use Rattle.flute_parts.specs.Facts.{Same}
 use Rattle.flute_parts.specs.Information.{Information}
 use Rattle.flute_parts.specs.declared.fact.Fact.{Fact}
 use Rattle.flute_parts.specs.declared.fact.Fact.TheVariants.{Info}
 use Rattle.flute_parts.specs.declared.key.Key.{Key}
-use Rattle.flute_journal.specs.Records.{file_header, record_of, IsFileOf}
 use Rattle.flute_journal.specs.Scopes.{is_all}
 use Rattle.flute_journal.specs.declared.scope.Scope.{Scope}
 use Rattle.flute_journal.specs.declared.selection.Selection.{Selection}
-use Rattle.flutejoin.specs.Carousel.{SendsObject}
 use Rattle.flutejoin.specs.Extract.{AnswersFrom, Extracts}
 use Rattle.flutejoin.specs.Forget.{Forgets}
 use Rattle.flutejoin.specs.Info.{AddsFacts, InfoFails}
 use Rattle.flutejoin.specs.JoinInputs.{AreInputs}
 use Rattle.flutejoin.specs.Joined.{choice_of}
-use Rattle.flutejoin.specs.Joining.{JoinsTo, JoinToFails, NamesOneOf}
+use Rattle.flutejoin.specs.Joining.{JoinsTo}
+use Rattle.flutejoin.specs.JoinFaults.{JoinToFails, NamesOneOf}
+use Rattle.flutejoin.specs.Limits.{Limits}
 use Rattle.flutejoin.specs.Lines.{count_line}
 use Rattle.flutejoin.specs.declared.forget.ForgetCounts.{ForgetCounts}
 use Rattle.flutejoin.specs.declared.join_counts.JoinCounts.{JoinCounts}
 use Rattle.flutejoin.specs.declared.join_input.JoinInput.{JoinInput}
 use Rattle.flutejoin.specs.declared.command_fault.CommandFault.{CommandFault}
-use Rattle.flutejoin.specs.declared.command_fault.CommandFault.TheVariants.{CannotWrite}
 
 -- the one line of a command that tells how many bytes or datagrams it wrote
 abbrev pub bytes_line : ℕ → List ℕ
@@ -52,52 +50,39 @@ ForgetsIn input selection counts old new = Forgets selection counts input old ne
 
 module _ {R : Type 0} (unread : R → Option (List ℕ)) where
   -- what these inputs are, joined
-  abbrev pub JoinsAll : ℕ → Scope → List (JoinInput R) → JoinCounts
+  abbrev pub JoinsAll : Limits → ℕ → Scope → List (JoinInput R) → JoinCounts
       → Option (List ℕ) → Option (List ℕ) → Type 0
-  JoinsAll sender scope inputs counts old new =
+  JoinsAll most sender scope inputs counts old new =
       (contents : List (List ℕ)) → AreInputs unread inputs contents
-      → JoinsTo (choice_of sender scope) contents counts old new
+      → JoinsTo (choice_of most sender scope) contents counts old new
 
-  abbrev pub JoinAllFails : ℕ → Scope → List (JoinInput R) → CommandFault → Type 0
-  JoinAllFails sender scope inputs fault =
+  abbrev pub JoinAllFails : Limits → ℕ → Scope → List (JoinInput R) → CommandFault → Type 0
+  JoinAllFails most sender scope inputs fault =
       ((contents : List (List ℕ)) → AreInputs unread inputs contents
-      → JoinToFails (choice_of sender scope) contents fault)
+      → JoinToFails (choice_of most sender scope) contents fault)
       × NamesOneOf (length inputs) fault
 
 -- the journal was read to its end, and the object that it makes whole was written: the same
 -- as of any other facts with the same values
-abbrev pub WritesObject : Option (List ℕ) → Key → ℕ → Option (List ℕ) → Option (List ℕ) → Type 0
-WritesObject input key n old new =
+abbrev pub WritesObject : Limits → Option (List ℕ) → Key → ℕ → Option (List ℕ)
+    → Option (List ℕ) → Type 0
+WritesObject most input key n old new =
     (left : Option (List ℕ)) × ((others : List Fact)
-    → AnswersFrom input left (λ F. Same F others → Extracts (λ x. x) others key old new (Ok n))
-    (Ok n))
+    → AnswersFrom most input left
+    (λ F. Same F others → Extracts (λ x. x) others key old new (Ok n)) (Ok n))
 
 -- why no object is whole in the journal: the same as in any other facts with the same values
-abbrev pub ExtractFails : Option (List ℕ) → Key → CommandFault → Type 0
-ExtractFails input key fault =
+abbrev pub ExtractFails : Limits → Option (List ℕ) → Key → CommandFault → Type 0
+ExtractFails most input key fault =
     (left : Option (List ℕ)) × (old : Option (List ℕ)) × (new : Option (List ℕ))
     × ((others : List Fact)
-    → AnswersFrom input left (λ F. Same F others → Extracts (λ x. x) others key old new (Err fault))
-    (Err fault))
+    → AnswersFrom most input left
+    (λ F. Same F others → Extracts (λ x. x) others key old new (Err fault)) (Err fault))
 
 -- the journal of all that a journal tells and of the information was written
 abbrev pub AddsInformation : Option (List ℕ) → Key → Information → ℕ → Option (List ℕ)
     → Option (List ℕ) → Type 0
 AddsInformation input key info n old new = AddsFacts input (Info key info ∷ []) old new n
 
-abbrev pub AddFails : Option (List ℕ) → Key → Information → CommandFault → Type 0
-AddFails input key info fault = InfoFails input (Info key info ∷ []) fault
-
--- the file of so many datagrams was written
-pub record WritesFile (datagrams : List (List ℕ)) (n : ℕ) (old new : Option (List ℕ)) : Type 0 where
-  pub appended : Appends old new (file_header ++ flat_map record_of datagrams)
-  pub file : IsFileOf (file_header ++ flat_map record_of datagrams) datagrams
-  pub count : n ≡ length datagrams
-
-abbrev pub IsCannotWrite : CommandFault → Type 0
-IsCannotWrite fault = fault ≡ CannotWrite
-
--- P holds of the datagrams of an object of this content
-abbrev pub OfDatagrams : Key → ℕ → ℕ → List ℕ → (List (List ℕ) → Type 0) → Type 0
-OfDatagrams key symbol block content P =
-    (datagrams : List (List ℕ)) × SendsObject key symbol block content datagrams × P datagrams
+abbrev pub AddFails : Limits → Option (List ℕ) → Key → Information → CommandFault → Type 0
+AddFails most input key info fault = InfoFails most input (Info key info ∷ []) fault

@@ -62,6 +62,19 @@ abbrev pub IsEmptyAside : Option Files → Option (List ℕ) → Type 0
 IsEmptyAside None aside = ⊤
 IsEmptyAside (Some files) aside = aside ≡ Some []
 
+-- an input has the bytes that were put aside, if they are known
+abbrev pub HasAside : Option (List ℕ) → Option (List ℕ) → Type 0
+HasAside aside input = IfSome aside (λ bytes. input ≡ Some bytes)
+
+-- why they cannot be read again
+abbrev pub IsNotAgain : CommandFault → Type 0
+IsNotAgain fault = (fault ≡ CannotWrite) ⊎ (fault ≡ OutOfMemory)
+
+-- an input has the bytes of another, if the files are known
+abbrev pub IsAgain : Option Files → Option (List ℕ) → Option (List ℕ) → Type 0
+IsAgain None old new = ⊤
+IsAgain (Some files) old new = IfSome old (λ bytes. new ≡ Some bytes)
+
 -- the name of the file beside the one with this name
 abbrev pub beside_name : List ℕ → List ℕ
 beside_name name = name ++ codes ".partial"

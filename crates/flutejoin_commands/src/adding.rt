@@ -1,5 +1,6 @@
 //! The command `info`.
 ghost use Rattle.std.specs.Prelude.{OnOk, IfErr};
+ghost use Rattle.flutejoin.specs.Limits.{limits_of};
 ghost use Rattle.flutejoin.specs.Lines.{entries_line};
 ghost use Rattle.flutejoin_commands.specs.Commands.{Succeeds, Fails, CouldBeDone, IsWholeAlways, devices, with_beside};
 ghost use Rattle.flutejoin_commands.specs.Works.{AddsInformation, AddFails};
@@ -9,13 +10,18 @@ use crate::output_command::write_into;
 use crate::work::Work;
 use flute_output::Folder;
 use flute_parts::{Info, Key, Sink, Source};
-use flutejoin::{CommandFault, Text, info_to};
+use flutejoin::{
+    ANY_OBJECTS, ANY_SESSIONS, ANY_SYMBOLS, CommandFault, MAX_OBJECTS, MAX_SESSIONS, MAX_SYMBOLS,
+    Text, info_to,
+};
 use std::alloc::Global;
 
 /// Adds the information of an object to a journal.
 #[derive(Drop)]
 pub struct InfoWork<R> {
     pub alloc: Global,
+    /// Whether there may be more than a store holds.
+    pub any_size: bool,
     pub key: Key,
     pub info: Info,
     pub source: R,
@@ -26,14 +32,23 @@ impl<R: Source + Drop> Work for InfoWork<R> {
 
     ghost writes = { λ w. AddsInformation (R.unread w.source) w.key w.info };
 
-    ghost fails = { λ w. AddFails (R.unread w.source) w.key w.info };
+    ghost fails = { λ w. AddFails (limits_of w.any_size) (R.unread w.source) w.key w.info };
 
     ghost tells = { λ _. entries_line };
 
     ghost clears = { λ w. CouldBeDone (AddsInformation (R.unread w.source) w.key w.info) };
 
     fn write<W: Sink>(&mut self, sink: &mut W) -> Result<u64, CommandFault> {
-        info_to(self.alloc, &mut self.source, self.key, self.info, sink)
+        let source = &mut self.source;
+        if self.any_size {
+            info_to::<ANY_SESSIONS, ANY_OBJECTS, ANY_SYMBOLS, _, _>(
+                self.alloc, source, self.key, self.info, sink,
+            )
+        } else {
+            info_to::<MAX_SESSIONS, MAX_OBJECTS, MAX_SYMBOLS, _, _>(
+                self.alloc, source, self.key, self.info, sink,
+            )
+        }
     }
 
     fn without_output(&mut self, reason: CommandFault) -> CommandFault {
@@ -66,7 +81,7 @@ pub fn info_into<F: Folder + Drop, R: Source + Drop, P: Sink>(
         (P.written report.new) (P.failures report.new))) }
     ensures failed { IfErr result.0 (Fails
         (AddsInformation (R.unread work.source) work.key work.info)
-        (AddFails (R.unread work.source) work.key work.info) entries_line
+        (AddFails (limits_of work.any_size) (R.unread work.source) work.key work.info) entries_line
         (CouldBeDone (AddsInformation (R.unread work.source) work.key work.info))
         (devices (F.entries folder) (F.failures folder)
         (P.written report.old) (P.failures report.old))

@@ -27,6 +27,7 @@ pub fn begin<W: World>(
     ensures spared { OnOk result (MayOverwrite (W.files world.old) overwrites out.now) }
     ensures failed { IfErr result (IsBefore (W.files world.old) (path.now ∷ [])) }
     ensures same_files { W.files world.new ≡ W.files world.old }
+    ensures same_closed { W.closed world.new ≡ W.closed world.old }
 {
     world.look(out);
     let input = open_input(world, 1, path)?;
@@ -52,6 +53,7 @@ pub fn begin_with_two<W: World>(
     ensures spared { OnOk result (MayOverwrite (W.files world.old) overwrites out.now) }
     ensures failed { IfErr result (IsBefore (W.files world.old) (first.now ∷ second.now ∷ [])) }
     ensures same_files { W.files world.new ≡ W.files world.old }
+    ensures same_closed { W.closed world.new ≡ W.closed world.old }
 {
     world.look(out);
     let both = open_two(world, first, second)?;
@@ -77,6 +79,7 @@ pub fn begin_join<W: World>(
     ensures failed { IfErr result
         (IsBefore (W.files world.old) (map (λ path. path.now) paths.now)) }
     ensures same_files { W.files world.new ≡ W.files world.old }
+    ensures same_closed { W.closed world.new ≡ W.closed world.old }
     ensures count { IfOk result (λ opened. length opened.items ≡ length paths.now) }
 {
     world.look(out);

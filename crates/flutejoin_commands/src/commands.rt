@@ -1,16 +1,18 @@
 //! The commands, from the names of their files to what they leave.
-ghost use Rattle.std.specs.Prelude.{◌≡◌, ◌≤◌, length, map, OnOk, IfOk, IfErr, IfSome};
-ghost use Rattle.flutejoin.specs.Carousel.{SendsObject};
+ghost use Rattle.std.specs.Prelude.{◌≡◌, ◌≤◌, length, map, OnOk, IfOk, IfErr};
+ghost use Rattle.flutejoin.specs.Limits.{limits_of};
 ghost use Rattle.flutejoin.specs.Lines.{entries_line};
-ghost use Rattle.flutejoin_commands.specs.Named.{AddListOfNamesFails, AddToNameFails, ContentFails};
+ghost use Rattle.flutejoin_commands.specs.Closings.{ClosesWhole};
+ghost use Rattle.flutejoin_commands.specs.Named.{AddListOfNamesFails, AddToNameFails};
 ghost use Rattle.flutejoin_commands.specs.Named.{AddsListOfNames, AddsToName, ExtractOfNameFails};
 ghost use Rattle.flutejoin_commands.specs.Named.{HoldsOfName, JoinsNames, JoinNamesFails};
 ghost use Rattle.flutejoin_commands.specs.Named.{ForgetsInName, ForgetInNameFails};
-ghost use Rattle.flutejoin_commands.specs.Named.{MergesNames, MergeNamesFails, SendsName};
+ghost use Rattle.flutejoin_commands.specs.Named.{MeasureFails, MergesNames, MergeNamesFails};
+ghost use Rattle.flutejoin_commands.specs.Named.{SendsName};
 ghost use Rattle.flutejoin_commands.specs.Named.{SendNameFails, WritesOfName};
 ghost use Rattle.flutejoin_commands.specs.Works.{bytes_line, datagrams_line, forget_lines};
 ghost use Rattle.flutejoin_commands.specs.Works.{join_lines};
-ghost use Rattle.flutejoin_commands.specs.Worlds.{Leaves, FailsToLeave, Spares, outside};
+ghost use Rattle.flutejoin_commands.specs.Worlds.{IsAgain, Leaves, FailsToLeave, Spares, outside};
 
 use crate::adding::InfoWork;
 use crate::adding_list::InfoListWork;
@@ -24,11 +26,8 @@ use crate::outlet::Outlet;
 use crate::sending::SendWork;
 use crate::world::World;
 use flute_journal::{Scope, Selection};
-use flute_parts::{Info, Key, Sender, Sink, Source};
-use flute_wire::Datagrams;
-use flutejoin::{
-    Blob, CommandFault, Overwrites, blob_fault, datagrams_of, forget_input, is_too_large,
-};
+use flute_parts::{Info, Key, Sender, Sink};
+use flutejoin::{CommandFault, Overwrites, forget_input, is_too_large, put_aside};
 use std::alloc::Global;
 
 /// Joins what the files of these names tell of the chosen objects into the output of this name,
@@ -43,6 +42,7 @@ pub fn join<W: World, O: Outlet, E: Sink>(
     alloc: Global,
     out: &str,
     overwrites: Overwrites,
+    any_size: bool,
     sender: Sender,
     scope: Scope,
     paths: &[&str],
@@ -51,16 +51,22 @@ pub fn join<W: World, O: Outlet, E: Sink>(
 ) -> Result<(), CommandFault>
     requires { length paths.now ≤ 64 }
     ensures joined { OnOk result (Leaves
-        (JoinsNames (W.files world.old) sender scope (map (λ path. path.now) paths.now))
-        (JoinsNames (W.files world.old) sender scope (map (λ path. path.now) paths.now))
+        (JoinsNames (W.files world.old) (limits_of any_size) sender scope
+        (map (λ path. path.now) paths.now))
+        (JoinsNames (W.files world.old) (limits_of any_size) sender scope
+        (map (λ path. path.now) paths.now))
         (join_lines scope) out.now
         (outside (W.files world.old) (O.written output.old) (E.written errors.old))
         (outside (W.files world.new) (O.written output.new) (E.written errors.new))) }
     ensures handed_on { OnOk result (O.handed_on output.new ≡ O.written output.new) }
     ensures spared { Spares overwrites out.now (W.files world.old) (W.files world.new) }
+    ensures any_moment { ClosesWhole out.now (W.files world.old)
+        (W.closed world.old) (W.closed world.new) }
     ensures failed { IfErr result (FailsToLeave
-        (JoinsNames (W.files world.old) sender scope (map (λ path. path.now) paths.now))
-        (JoinNamesFails (W.files world.old) sender scope (map (λ path. path.now) paths.now))
+        (JoinsNames (W.files world.old) (limits_of any_size) sender scope
+        (map (λ path. path.now) paths.now))
+        (JoinNamesFails (W.files world.old) (limits_of any_size) sender scope
+        (map (λ path. path.now) paths.now))
         out.now
         (outside (W.files world.old) (O.written output.old) (E.written errors.old))
         (outside (W.files world.new) (O.written output.new) (E.written errors.new))) }
@@ -68,6 +74,7 @@ pub fn join<W: World, O: Outlet, E: Sink>(
     let inputs = begin_join(world, alloc, out, overwrites, paths)?;
     let work = JoinWork {
         alloc,
+        any_size,
         sender,
         scope,
         inputs,
@@ -98,6 +105,8 @@ pub fn merge<W: World, O: Outlet, E: Sink>(
         (outside (W.files world.new) (O.written output.new) (E.written errors.new))) }
     ensures handed_on { OnOk result (O.handed_on output.new ≡ O.written output.new) }
     ensures spared { Spares overwrites out.now (W.files world.old) (W.files world.new) }
+    ensures any_moment { ClosesWhole out.now (W.files world.old)
+        (W.closed world.old) (W.closed world.new) }
     ensures failed { IfErr result (FailsToLeave
         (MergesNames (W.files world.old) a.now b.now)
         (MergeNamesFails (W.files world.old) a.now b.now) out.now
@@ -124,6 +133,7 @@ pub fn info<W: World, O: Outlet, E: Sink>(
     alloc: Global,
     out: &str,
     overwrites: Overwrites,
+    any_size: bool,
     key: Key,
     info: Info,
     j: &str,
@@ -137,15 +147,18 @@ pub fn info<W: World, O: Outlet, E: Sink>(
         (outside (W.files world.new) (O.written output.new) (E.written errors.new))) }
     ensures handed_on { OnOk result (O.handed_on output.new ≡ O.written output.new) }
     ensures spared { Spares overwrites out.now (W.files world.old) (W.files world.new) }
+    ensures any_moment { ClosesWhole out.now (W.files world.old)
+        (W.closed world.old) (W.closed world.new) }
     ensures failed { IfErr result (FailsToLeave
         (AddsToName (W.files world.old) j.now key info)
-        (AddToNameFails (W.files world.old) j.now key info) out.now
+        (AddToNameFails (W.files world.old) (limits_of any_size) j.now key info) out.now
         (outside (W.files world.old) (O.written output.old) (E.written errors.old))
         (outside (W.files world.new) (O.written output.new) (E.written errors.new))) }
 {
     let source = begin(world, out, overwrites, j)?;
     let work = InfoWork {
         alloc,
+        any_size,
         key,
         info,
         source,
@@ -166,6 +179,7 @@ pub fn info_list<W: World, O: Outlet, E: Sink>(
     alloc: Global,
     out: &str,
     overwrites: Overwrites,
+    any_size: bool,
     j: &str,
     list: &str,
     output: &mut O,
@@ -178,15 +192,18 @@ pub fn info_list<W: World, O: Outlet, E: Sink>(
         (outside (W.files world.new) (O.written output.new) (E.written errors.new))) }
     ensures handed_on { OnOk result (O.handed_on output.new ≡ O.written output.new) }
     ensures spared { Spares overwrites out.now (W.files world.old) (W.files world.new) }
+    ensures any_moment { ClosesWhole out.now (W.files world.old)
+        (W.closed world.old) (W.closed world.new) }
     ensures failed { IfErr result (FailsToLeave
         (AddsListOfNames (W.files world.old) j.now list.now)
-        (AddListOfNamesFails (W.files world.old) j.now list.now) out.now
+        (AddListOfNamesFails (W.files world.old) (limits_of any_size) j.now list.now) out.now
         (outside (W.files world.old) (O.written output.old) (E.written errors.old))
         (outside (W.files world.new) (O.written output.new) (E.written errors.new))) }
 {
     let (source, list) = begin_with_two(world, out, overwrites, j, list)?;
     let work = InfoListWork {
         alloc,
+        any_size,
         source,
         list,
     };
@@ -217,6 +234,8 @@ pub fn forget<W: World, O: Outlet, E: Sink>(
         (outside (W.files world.new) (O.written output.new) (E.written errors.new))) }
     ensures handed_on { OnOk result (O.handed_on output.new ≡ O.written output.new) }
     ensures spared { Spares overwrites out.now (W.files world.old) (W.files world.new) }
+    ensures any_moment { ClosesWhole out.now (W.files world.old)
+        (W.closed world.old) (W.closed world.new) }
     ensures failed { IfErr result (FailsToLeave
         (ForgetsInName (W.files world.old) j.now selection)
         (ForgetInNameFails (W.files world.old) j.now) out.now
@@ -240,37 +259,46 @@ pub fn extract<W: World, O: Outlet, E: Sink>(
     alloc: Global,
     out: &str,
     overwrites: Overwrites,
+    any_size: bool,
     key: Key,
     j: &str,
     output: &mut O,
     errors: &mut E,
 ) -> Result<(), CommandFault>
     ensures extracted { OnOk result (Leaves
-        (WritesOfName (W.files world.old) j.now key)
-        (HoldsOfName (W.files world.old) j.now key) bytes_line out.now
+        (WritesOfName (W.files world.old) (limits_of any_size) j.now key)
+        (HoldsOfName (W.files world.old) (limits_of any_size) j.now key) bytes_line out.now
         (outside (W.files world.old) (O.written output.old) (E.written errors.old))
         (outside (W.files world.new) (O.written output.new) (E.written errors.new))) }
     ensures handed_on { OnOk result (O.handed_on output.new ≡ O.written output.new) }
     ensures spared { Spares overwrites out.now (W.files world.old) (W.files world.new) }
+    ensures any_moment { ClosesWhole out.now (W.files world.old)
+        (W.closed world.old) (W.closed world.new) }
     ensures failed { IfErr result (FailsToLeave
-        (WritesOfName (W.files world.old) j.now key)
-        (ExtractOfNameFails (W.files world.old) j.now key) out.now
+        (WritesOfName (W.files world.old) (limits_of any_size) j.now key)
+        (ExtractOfNameFails (W.files world.old) (limits_of any_size) j.now key) out.now
         (outside (W.files world.old) (O.written output.old) (E.written errors.old))
         (outside (W.files world.new) (O.written output.new) (E.written errors.new))) }
 {
     let source = begin(world, out, overwrites, j)?;
-    let work = ExtractWork { alloc, key, source };
+    let work = ExtractWork {
+        alloc,
+        any_size,
+        key,
+        source,
+    };
     leave_held(world, alloc, out, work, output, errors)
 }
 
-/// Writes the datagrams of an object whose content is the file of this name, and prints their
-/// number. A file that is known to be too large is not read.
+/// Writes the datagrams of an object whose content is the file of this name, as it is read, and
+/// prints their number. A file that is known to be too large is not read; if the number of its
+/// bytes is not known, they are put aside first.
 ///
 /// # Errors
 ///
-/// That the input is not opened; why OUT is not overwritten; `TooLarge`, or `Input` with `Read` if
-/// the source failed; then those of [`datagrams_of`], of the output and of printing, as [`leave`]
-/// says.
+/// That the input is not opened; why OUT is not overwritten; `TooLarge`; `Input` with `Read`, or
+/// `CannotWrite`, if its bytes cannot be put aside; then those of [`send_to`](flutejoin::send_to),
+/// of the output and of printing, as [`leave`] says.
 pub fn carousel<W: World, O: Outlet, E: Sink>(
     world: &mut W,
     alloc: Global,
@@ -290,37 +318,53 @@ pub fn carousel<W: World, O: Outlet, E: Sink>(
         (outside (W.files world.new) (O.written output.new) (E.written errors.new))) }
     ensures handed_on { OnOk result (O.handed_on output.new ≡ O.written output.new) }
     ensures spared { Spares overwrites out.now (W.files world.old) (W.files world.new) }
+    ensures any_moment { ClosesWhole out.now (W.files world.old)
+        (W.closed world.old) (W.closed world.new) }
     ensures failed { IfErr result (FailsToLeave
         (SendsName (W.files world.old) file.now key.now symbol block)
         (SendNameFails (W.files world.old) file.now key.now symbol block) out.now
         (outside (W.files world.old) (O.written output.old) (E.written errors.old))
         (outside (W.files world.new) (O.written output.new) (E.written errors.new))) }
 {
-    let mut source = begin(world, out, overwrites, file)?;
-    if is_too_large(world.size(&source)) {
-        return Err(CommandFault::TooLarge(1));
-    }
-    match datagrams_in(alloc, key, symbol, block, &mut source) {
-        Ok(datagrams) => leave(world, out, SendWork { datagrams }, output, errors),
-        Err(fault) => Err(fault),
+    let source = begin(world, out, overwrites, file)?;
+    let (source, size) = measured(world, source)?;
+    let work = SendWork {
+        alloc,
+        key: *key,
+        symbol,
+        block,
+        size,
+        source,
+    };
+    leave(world, out, work, output, errors)
+}
+
+// An input of these bytes, and how many they are: if that is not known, they are put aside.
+fn measured<W: World>(world: &mut W, source: W::Input) -> Result<(W::Input, u64), CommandFault>
+    ensures same { IfOk result
+        (λ m. IsAgain (W.files world.old) (W.Input.unread source) (W.Input.unread m.0)) }
+    ensures failed { IfErr result (MeasureFails (W.Input.unread source)) }
+    ensures same_files { W.files world.new ≡ W.files world.old }
+    ensures same_closed { W.closed world.new ≡ W.closed world.old }
+{
+    match world.size(&source) {
+        Some(size) if is_too_large(Some(size)) => Err(CommandFault::TooLarge(1)),
+        Some(size) => Ok((source, size)),
+        None => put_by(world, source),
     }
 }
 
-// The datagrams of an object whose content is all that a source has.
-fn datagrams_in<R: Source>(
-    alloc: Global,
-    key: &Key,
-    symbol: u16,
-    block: u32,
-    source: &mut R,
-) -> Result<Datagrams, CommandFault>
-    ensures sent { IfOk result (λ datagrams. IfSome (R.unread source.old)
-        (λ content. SendsObject key.now symbol block content datagrams)) }
-    ensures failed { IfErr result (ContentFails (R.unread source.old) key.now symbol block) }
+// An input of the bytes that were put aside, and how many they are.
+fn put_by<W: World>(world: &mut W, source: W::Input) -> Result<(W::Input, u64), CommandFault>
+    ensures same { IfOk result
+        (λ m. IsAgain (W.files world.old) (W.Input.unread source) (W.Input.unread m.0)) }
+    ensures failed { IfErr result (MeasureFails (W.Input.unread source)) }
+    ensures same_files { W.files world.new ≡ W.files world.old }
+    ensures same_closed { W.closed world.new ≡ W.closed world.old }
 {
-    let content = match Blob::read(alloc, source) {
-        Ok(content) => content,
-        Err(fault) => return Err(blob_fault(1, fault)),
-    };
-    datagrams_of(alloc, key, symbol, block, content.as_slice())
+    let mut source = source;
+    let mut aside = world.aside()?;
+    let size = put_aside(&mut source, &mut aside)?;
+    let again = world.again(aside)?;
+    Ok((again, size))
 }

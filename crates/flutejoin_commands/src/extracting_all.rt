@@ -4,6 +4,7 @@ ghost use Rattle.std.specs.Io.KnownBytes.{Appends};
 ghost use Rattle.flute_output.specs.NewFolders.{Places, LeadsTo, IsMade, FolderStays, IsReady};
 ghost use Rattle.flutejoin.specs.declared.command_fault.CommandFault.TheVariants.{CannotWrite};
 ghost use Rattle.flutejoin.specs.ExtractAll.{ExtractsAll, ExtractAllFails};
+ghost use Rattle.flutejoin.specs.Limits.{limits_of};
 ghost use Rattle.flutejoin.specs.Lines.{count_line};
 ghost use Rattle.flutejoin_commands.specs.Folders.{LeavesFolder, FolderFails, IsOneFolderAlways};
 ghost use Rattle.flutejoin_commands.specs.Folders.{finish_fault};
@@ -11,7 +12,10 @@ ghost use Rattle.flutejoin_commands.specs.Folders.{finish_fault};
 use crate::report::Report;
 use flute_output::{FinishFault, NewFolder, finish_folder};
 use flute_parts::Source;
-use flutejoin::{CommandFault, Picked, count_to, extract_all_to};
+use flutejoin::{
+    ANY_OBJECTS, ANY_SESSIONS, ANY_SYMBOLS, CommandFault, MAX_OBJECTS, MAX_SESSIONS, MAX_SYMBOLS,
+    Picked, count_to, extract_all_to,
+};
 use std::alloc::Global;
 
 /// Leaves as OUT a new folder with a file for each object that a journal makes whole, of those that
@@ -26,20 +30,23 @@ use std::alloc::Global;
 /// `CannotWrite` if the report failed to take the number: OUT is there then.
 pub fn extract_all_into<D: NewFolder, R: Source, P: Report>(
     alloc: Global,
+    any_size: bool,
     folder: &mut D,
     source: &mut R,
     picked: &Picked,
     report: &mut P,
 ) -> Result<(), CommandFault>
-    ensures extracted { OnOk result (LeavesFolder (R.unread source.old) picked.now
+    ensures extracted { OnOk result (LeavesFolder (limits_of any_size) (R.unread source.old)
+        picked.now
         (D.places folder.old) (D.places folder.new) (P.written report.old) (P.written report.new)) }
     ensures handed_on { OnOk result (P.handed_on report.new ≡ P.written report.new) }
-    ensures failed { IfErr result (FolderFails (R.unread source.old) (R.unread source.new)
+    ensures failed { IfErr result (FolderFails (limits_of any_size)
+        (R.unread source.old) (R.unread source.new)
         picked.now (D.places folder.old) (D.places folder.new)) }
     ensures any_moment { IsOneFolderAlways (D.places folder.old) (D.places folder.new) }
 {
     match folder.create() {
-        Ok(()) => write_made(alloc, folder, source, picked, report),
+        Ok(()) => write_made(alloc, any_size, folder, source, picked, report),
         Err(_) => Err(CommandFault::CannotCreate),
     }
 }
@@ -47,6 +54,7 @@ pub fn extract_all_into<D: NewFolder, R: Source, P: Report>(
 // Fills a folder that was made, and ends it.
 fn write_made<D: NewFolder, R: Source, P: Report>(
     alloc: Global,
+    any_size: bool,
     folder: &mut D,
     source: &mut R,
     picked: &Picked,
@@ -54,16 +62,18 @@ fn write_made<D: NewFolder, R: Source, P: Report>(
 ) -> Result<(), CommandFault>
     requires made { (o : Option Places) × LeadsTo IsMade o (D.places folder.old) }
     ensures extracted { (o : Option Places) → LeadsTo IsMade o (D.places folder.old)
-        → OnOk result (LeavesFolder (R.unread source.old) picked.now
+        → OnOk result (LeavesFolder (limits_of any_size) (R.unread source.old)
+        picked.now
         o (D.places folder.new) (P.written report.old) (P.written report.new)) }
     ensures handed_on { OnOk result (P.handed_on report.new ≡ P.written report.new) }
     ensures failed { (o : Option Places) → LeadsTo IsMade o (D.places folder.old)
-        → IfErr result (FolderFails (R.unread source.old) (R.unread source.new)
+        → IfErr result (FolderFails (limits_of any_size)
+        (R.unread source.old) (R.unread source.new)
         picked.now o (D.places folder.new)) }
     ensures any_moment { (o : Option Places) → LeadsTo IsMade o (D.places folder.old)
         → IsOneFolderAlways o (D.places folder.new) }
 {
-    let filled = fill(alloc, folder, source, picked, report);
+    let filled = fill(alloc, any_size, folder, source, picked, report);
     match finish_folder(folder, filled) {
         Ok(count) => tell(report, count),
         Err(fault) => Err(fault_of(fault)),
@@ -84,21 +94,31 @@ fn fault_of(fault: FinishFault<CommandFault>) -> CommandFault
 // Fills the folder, and hands the lines on: those of the objects before a fault, too.
 fn fill<D: NewFolder, R: Source, P: Report>(
     alloc: Global,
+    any_size: bool,
     folder: &mut D,
     source: &mut R,
     picked: &Picked,
     report: &mut P,
 ) -> Result<u64, CommandFault>
     requires { IfSome (D.places folder.old) IsReady }
-    ensures filled { IfOk result (ExtractsAll (R.unread source.old) (R.unread source.new)
+    ensures filled { IfOk result (ExtractsAll (limits_of any_size)
+        (R.unread source.old) (R.unread source.new)
         picked.now (D.places folder.old) (D.places folder.new)
         (P.written report.old) (P.written report.new)) }
     ensures failed { IfErr result (λ fault.
-        ExtractAllFails (R.unread source.old) (R.unread source.new) fault
+        ExtractAllFails (limits_of any_size) (R.unread source.old) (R.unread source.new) fault
         ⊎ (fault ≡ CannotWrite)) }
     ensures stays { LeadsTo FolderStays (D.places folder.old) (D.places folder.new) }
 {
-    let extracted = extract_all_to(alloc, source, picked, folder, report);
+    let extracted = if any_size {
+        extract_all_to::<ANY_SESSIONS, ANY_OBJECTS, ANY_SYMBOLS, _, _, _>(
+            alloc, source, picked, folder, report,
+        )
+    } else {
+        extract_all_to::<MAX_SESSIONS, MAX_OBJECTS, MAX_SYMBOLS, _, _, _>(
+            alloc, source, picked, folder, report,
+        )
+    };
     let flushed = report.flush();
     let count = extracted?;
     match flushed {

@@ -1,5 +1,6 @@
 //! The command `join`.
 ghost use Rattle.std.specs.Prelude.{◌≤◌, length, OnOk, IfErr};
+ghost use Rattle.flutejoin.specs.Limits.{limits_of};
 ghost use Rattle.flutejoin_commands.specs.Commands.{Succeeds, Fails, CouldBeDone, IsWholeAlways, devices, with_beside};
 ghost use Rattle.flutejoin_commands.specs.Works.{JoinsAll, JoinAllFails, join_lines};
 
@@ -9,13 +10,18 @@ use crate::work::Work;
 use flute_journal::Scope;
 use flute_output::Folder;
 use flute_parts::{Sender, Sink, Source};
-use flutejoin::{CommandFault, JoinCounts, JoinInput, Text, join_to};
+use flutejoin::{
+    ANY_OBJECTS, ANY_SESSIONS, ANY_SYMBOLS, CommandFault, JoinCounts, JoinInput, MAX_OBJECTS,
+    MAX_SESSIONS, MAX_SYMBOLS, Text, join_to,
+};
 use std::alloc::Global;
 
 /// Joins inputs.
 #[derive(Drop)]
 pub struct JoinWork<R> {
     pub alloc: Global,
+    /// Whether there may be more than a store holds.
+    pub any_size: bool,
     pub sender: Sender,
     pub scope: Scope,
     pub inputs: Vec<JoinInput<R>>,
@@ -25,17 +31,36 @@ pub struct JoinWork<R> {
 impl<R: Source + Drop> Work for JoinWork<R> {
     type Answer = JoinCounts;
 
-    ghost writes = { λ w. JoinsAll R.unread w.sender w.scope w.inputs.items };
+    ghost writes = { λ w. JoinsAll R.unread (limits_of w.any_size) w.sender w.scope
+        w.inputs.items };
 
-    ghost fails = { λ w. JoinAllFails R.unread w.sender w.scope w.inputs.items };
+    ghost fails = { λ w. JoinAllFails R.unread (limits_of w.any_size) w.sender w.scope
+        w.inputs.items };
 
     ghost tells = { λ w. join_lines w.scope };
 
-    ghost clears = { λ w. CouldBeDone (JoinsAll R.unread w.sender w.scope w.inputs.items) };
+    ghost clears = { λ w. CouldBeDone (JoinsAll R.unread (limits_of w.any_size) w.sender
+        w.scope w.inputs.items) };
 
     fn write<W: Sink>(&mut self, sink: &mut W) -> Result<JoinCounts, CommandFault> {
         let inputs = &mut self.inputs;
-        join_to(self.alloc, self.sender, &self.scope, inputs, sink)
+        if self.any_size {
+            join_to::<ANY_SESSIONS, ANY_OBJECTS, ANY_SYMBOLS, _, _>(
+                self.alloc,
+                self.sender,
+                &self.scope,
+                inputs,
+                sink,
+            )
+        } else {
+            join_to::<MAX_SESSIONS, MAX_OBJECTS, MAX_SYMBOLS, _, _>(
+                self.alloc,
+                self.sender,
+                &self.scope,
+                inputs,
+                sink,
+            )
+        }
     }
 
     fn without_output(&mut self, reason: CommandFault) -> CommandFault {
@@ -67,17 +92,18 @@ pub fn join_into<F: Folder + Drop, R: Source + Drop, P: Sink>(
     report: &mut P,
 ) -> (Result<(), CommandFault>, F)
     ensures joined { OnOk result.0 (Succeeds
-        (JoinsAll R.unread work.sender work.scope work.inputs.items)
+        (JoinsAll R.unread (limits_of work.any_size) work.sender work.scope work.inputs.items)
         (join_lines work.scope)
         (with_beside (devices (F.entries folder) (F.failures folder)
         (P.written report.old) (P.failures report.old)))
         (devices (F.entries result.1) (F.failures result.1)
         (P.written report.new) (P.failures report.new))) }
     ensures failed { IfErr result.0 (Fails
-        (JoinsAll R.unread work.sender work.scope work.inputs.items)
-        (JoinAllFails R.unread work.sender work.scope work.inputs.items)
+        (JoinsAll R.unread (limits_of work.any_size) work.sender work.scope work.inputs.items)
+        (JoinAllFails R.unread (limits_of work.any_size) work.sender work.scope work.inputs.items)
         (join_lines work.scope)
-        (CouldBeDone (JoinsAll R.unread work.sender work.scope work.inputs.items))
+        (CouldBeDone
+        (JoinsAll R.unread (limits_of work.any_size) work.sender work.scope work.inputs.items))
         (devices (F.entries folder) (F.failures folder)
         (P.written report.old) (P.failures report.old))
         (devices (F.entries result.1) (F.failures result.1)

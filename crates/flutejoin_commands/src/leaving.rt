@@ -1,5 +1,6 @@
 //! A work whose output is at a name.
 ghost use Rattle.std.specs.Prelude.{◌≡◌, OnOk, IfErr};
+ghost use Rattle.flutejoin_commands.specs.Closings.{ClosesWhole};
 ghost use Rattle.flutejoin_commands.specs.Outlets.{Held, FailsHeld};
 ghost use Rattle.flutejoin_commands.specs.Worlds.{Leaves, FailsToLeave, outside};
 
@@ -35,6 +36,8 @@ pub fn leave<W: World, K: Work + Drop, O: Outlet, E: Sink>(
     ensures failed { IfErr result (FailsToLeave (K.writes work) (K.fails work) out.now
         (outside (W.files world.old) (O.written output.old) (E.written errors.old))
         (outside (W.files world.new) (O.written output.new) (E.written errors.new))) }
+    ensures any_moment { ClosesWhole out.now (W.files world.old)
+        (W.closed world.old) (W.closed world.new) }
 {
     let done = put(world, out, work, output, errors);
     hand_on(output, done)
@@ -63,6 +66,8 @@ pub fn leave_held<W: World, K: Work + Drop, O: Outlet, E: Sink>(
     ensures failed { IfErr result (FailsToLeave (K.writes work) (FailsHeld (K.fails work)) out.now
         (outside (W.files world.old) (O.written output.old) (E.written errors.old))
         (outside (W.files world.new) (O.written output.new) (E.written errors.new))) }
+    ensures any_moment { ClosesWhole out.now (W.files world.old)
+        (W.closed world.old) (W.closed world.new) }
 {
     let done = put_held(world, alloc, out, work, output, errors);
     hand_on(output, done)
@@ -82,6 +87,8 @@ fn put<W: World, K: Work + Drop, O: Outlet, E: Sink>(
     ensures failed { IfErr result (FailsToLeave (K.writes work) (K.fails work) out.now
         (outside (W.files world.old) (O.written output.old) (E.written errors.old))
         (outside (W.files world.new) (O.written output.new) (E.written errors.new))) }
+    ensures any_moment { ClosesWhole out.now (W.files world.old)
+        (W.closed world.old) (W.closed world.new) }
 {
     match world.place(out) {
         Ok(Place::File(folder)) => {
@@ -111,6 +118,8 @@ fn put_held<W: World, K: Work + Drop, O: Outlet, E: Sink>(
     ensures failed { IfErr result (FailsToLeave (K.writes work) (FailsHeld (K.fails work)) out.now
         (outside (W.files world.old) (O.written output.old) (E.written errors.old))
         (outside (W.files world.new) (O.written output.new) (E.written errors.new))) }
+    ensures any_moment { ClosesWhole out.now (W.files world.old)
+        (W.closed world.old) (W.closed world.new) }
 {
     match world.place(out) {
         Ok(Place::File(folder)) => {

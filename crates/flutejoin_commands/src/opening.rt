@@ -3,6 +3,7 @@ ghost use Rattle.std.specs.Prelude.{◌≡◌, ◌≤◌, ◌⊎◌, ◌+◌, �
 ghost use Rattle.std.specs.Prelude.{OnOk, IfOk, IfErr};
 ghost use Rattle.flute_output.specs.NewFolders.{Places};
 ghost use Rattle.flutejoin.specs.declared.command_fault.CommandFault.TheVariants.{OutOfMemory, CannotOpen};
+ghost use Rattle.flutejoin_commands.specs.Closings.{Closing};
 ghost use Rattle.flutejoin_commands.specs.Files.{Files, HasBytes, IsNoFile};
 ghost use Rattle.flutejoin_commands.specs.Opened.{AreOpened, IsOpened, IsNotOpened, FirstNotOpened};
 
@@ -33,6 +34,9 @@ pub trait Inputs {
     // How often an input was to be opened so far.
     ghost asked: { Self → ℕ };
 
+    // The outputs that were closed so far, the last first, if that is told.
+    ghost closed: { Self → Option (List Closing) };
+
     /// Opens the input with this name: it gives the bytes that the name has. It is one of so many
     /// that are read together, and share the memory for reading.
     ///
@@ -45,6 +49,7 @@ pub trait Inputs {
         ensures refused { result ≡ Err NotOpened.Refused → IsNoFile (files self.old) path.now }
         ensures same_files { files self.new ≡ files self.old }
         ensures same_folders { folders self.new ≡ folders self.old }
+        ensures same_closed { closed self.new ≡ closed self.old }
         ensures asked { asked self.new ≡ asked self.old + 1 };
 }
 
@@ -64,6 +69,7 @@ pub fn open_input<I: Inputs>(
         ((fault ≡ CannotOpen number) × IsNoFile (I.files inputs.old) path.now)
         ⊎ (fault ≡ OutOfMemory)) }
     ensures same_files { I.files inputs.new ≡ I.files inputs.old }
+    ensures same_closed { I.closed inputs.new ≡ I.closed inputs.old }
     ensures same_folders { I.folders inputs.new ≡ I.folders inputs.old }
     ensures asked { I.asked inputs.new ≡ I.asked inputs.old + 1 }
 {
@@ -83,6 +89,7 @@ fn open_among<I: Inputs>(
         ((fault ≡ CannotOpen number) × IsNoFile (I.files inputs.old) path.now)
         ⊎ (fault ≡ OutOfMemory)) }
     ensures same_files { I.files inputs.new ≡ I.files inputs.old }
+    ensures same_closed { I.closed inputs.new ≡ I.closed inputs.old }
     ensures same_folders { I.folders inputs.new ≡ I.folders inputs.old }
     ensures asked { I.asked inputs.new ≡ I.asked inputs.old + 1 }
 {
@@ -112,6 +119,7 @@ pub fn open_two<I: Inputs>(
         × ((source : I.Input) × HasBytes (I.files inputs.old) first.now (I.Input.unread source)))
         ⊎ (fault ≡ OutOfMemory))) }
     ensures same_files { I.files inputs.new ≡ I.files inputs.old }
+    ensures same_closed { I.closed inputs.new ≡ I.closed inputs.old }
     ensures each_once { OnOk result (I.asked inputs.new ≡ I.asked inputs.old + 2) }
     ensures at_most { I.asked inputs.new ≤ I.asked inputs.old + 2 }
 {
@@ -140,6 +148,7 @@ pub fn open_inputs<I: Inputs>(
         (I.asked inputs.old) (I.asked inputs.new) fault
         ⊎ (fault ≡ OutOfMemory)) }
     ensures same_files { I.files inputs.new ≡ I.files inputs.old }
+    ensures same_closed { I.closed inputs.new ≡ I.closed inputs.old }
     ensures count { IfOk result (λ opened. length opened.items ≡ length paths.now) }
     ensures each_once { OnOk result
         (I.asked inputs.new ≡ I.asked inputs.old + length paths.now) }
@@ -166,6 +175,7 @@ fn open_one<I: Inputs>(
     ensures failed { IfErr result (IsNotOpened (I.files inputs.old) I.Input.unread
         number path.now) }
     ensures same_files { I.files inputs.new ≡ I.files inputs.old }
+    ensures same_closed { I.closed inputs.new ≡ I.closed inputs.old }
     ensures asked { I.asked inputs.new ≡ I.asked inputs.old + 1 }
 {
     let source = open_among(inputs, among, number, path)?;

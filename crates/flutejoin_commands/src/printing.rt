@@ -1,17 +1,24 @@
 //! The commands that print and write no file.
-ghost use Rattle.std.specs.Prelude.{◌≡◌, ◌≢◌, ◌⊎◌, ◌<◌, ◌≤◌, ◌+◌, [], Some, Err, OnOk, OnErr, IfErr};
+ghost use Rattle.std.specs.Prelude.{◌≡◌, ◌≢◌, ◌⊎◌, ◌<◌, ◌≤◌, ◌+◌, ◌||◌, [], Some, Err, OnOk, OnErr};
+ghost use Rattle.std.specs.Prelude.{IfOk, IfErr, not};
 ghost use Rattle.std.specs.Io.KnownBytes.{Appends, IsAtEnd};
 ghost use Rattle.flute_parts.specs.Devices.{AppendsPart};
 ghost use Rattle.flutejoin.specs.Gaps.{ListsJournal, GapsFail};
-ghost use Rattle.flutejoin.specs.Packet.{HasLines, FailsWith};
+ghost use Rattle.flutejoin.specs.Limits.{limits_of};
+ghost use Rattle.flutejoin.specs.Packet.{HasLines, FailsWith, write_failures};
 ghost use Rattle.flutejoin.specs.Show.{ShowsAll, ShowFails};
 ghost use Rattle.flutejoin.specs.declared.command_fault.CommandFault.TheVariants.{CannotWrite};
-ghost use Rattle.flutejoin_commands.specs.Prints.{IsHandedOn, FailsToFlush};
+ghost use Rattle.flutejoin.specs.declared.command_fault.CommandFault.TheVariants.{NotAllWhole};
+ghost use Rattle.flutejoin.specs.Styles.{are_whole, passes_check, printed};
+ghost use Rattle.flutejoin_commands.specs.Prints.{FailsToFlush, IfPrinted, IsHandedOn};
 
 use crate::report::Report;
 use flute_journal::Selection;
-use flute_parts::Source;
-use flutejoin::{Aside, CommandFault, gaps_from, packet_to, show_to};
+use flute_parts::{Sink, Source};
+use flutejoin::{
+    ANY_OBJECTS, ANY_SESSIONS, ANY_SYMBOLS, Aside, CommandFault, MAX_OBJECTS, MAX_SESSIONS,
+    MAX_SYMBOLS, Style, gaps_from, packet_to, show_to,
+};
 use std::alloc::Global;
 
 /// Prints what is selected of a journal, as [`show_to`] writes it, and hands it on: after a fault
@@ -49,40 +56,107 @@ pub fn show_on<R: Source, P: Report>(
 ///
 /// # Errors
 ///
-/// Those of [`gaps_from`]; or `CannotWrite` if all was written and not handed on.
+/// Those of [`gaps_from`]; or `CannotWrite` if all was written and not handed on; or last, if the
+/// style asks for a check, `NotAllWhole`: all was handed on, and not all objects that are listed
+/// are whole.
 pub fn gaps_on<R: Source, A: Aside, P: Report>(
     alloc: Global,
+    any_size: bool,
     source: &mut R,
     selection: &Selection,
+    style: Style,
     lines: &mut A,
     gap_lines: &mut A,
     report: &mut P,
 ) -> Result<(), CommandFault>
     ensures listed { A.written lines.old ≡ Some [] → A.written gap_lines.old ≡ Some []
-        → OnOk result (ListsJournal selection.now (R.unread source.old)
-        (Appends (P.written report.old) (P.written report.new))) }
-    ensures failed { IfErr result (λ fault.
-        GapsFail (R.unread source.old) (R.unread source.new) fault
-        ⊎ FailsToFlush (IsAtEnd (R.unread source.new)) fault) }
+        → IfPrinted result (λ passes. ListsJournal (limits_of any_size) selection.now
+        (R.unread source.old)
+        (λ objects. Appends (P.written report.old) (P.written report.new) (printed style objects)
+        × (passes_check style objects ≡ passes))) }
+    ensures failed { IfErr result (λ fault. (fault ≡ NotAllWhole)
+        ⊎ ((GapsFail (limits_of any_size) (R.unread source.old) (R.unread source.new) fault
+        ⊎ FailsToFlush (IsAtEnd (R.unread source.new)) fault)
+        × (fault ≢ CannotWrite → P.written report.new ≡ P.written report.old))) }
     ensures part { A.written lines.old ≡ Some [] → A.written gap_lines.old ≡ Some []
         → IfErr result (λ fault. fault ≡ CannotWrite
         → (P.written report.new ≡ P.written report.old)
-        ⊎ (ListsJournal selection.now (R.unread source.old)
-        (AppendsPart (P.written report.old) (P.written report.new))
-        ⊎ ListsJournal selection.now (R.unread source.old)
-        (Appends (P.written report.old) (P.written report.new)))) }
-    ensures kept { IfErr result (λ fault. fault ≢ CannotWrite
-        → P.written report.new ≡ P.written report.old) }
-    ensures handed_on { OnOk result (P.handed_on report.new ≡ P.written report.new) }
-    ensures quiet { OnOk result
-        (A.failures lines.new + A.failures gap_lines.new + P.failures report.new
+        ⊎ (ListsJournal (limits_of any_size) selection.now (R.unread source.old)
+        (λ objects. AppendsPart (P.written report.old) (P.written report.new)
+        (printed style objects))
+        ⊎ ListsJournal (limits_of any_size) selection.now (R.unread source.old)
+        (λ objects. Appends (P.written report.old) (P.written report.new)
+        (printed style objects)))) }
+    ensures handed_on { IfPrinted result (λ passes.
+        P.handed_on report.new ≡ P.written report.new) }
+    ensures quiet { IfPrinted result (λ passes.
+        A.failures lines.new + A.failures gap_lines.new + P.failures report.new
         ≡ A.failures lines.old + A.failures gap_lines.old + P.failures report.old) }
     ensures cause { IfErr result (λ fault. fault ≡ CannotWrite
         → A.failures lines.old + A.failures gap_lines.old + P.failures report.old
         < A.failures lines.new + A.failures gap_lines.new + P.failures report.new) }
 {
-    let listed = gaps_from(alloc, source, selection, lines, gap_lines, report);
-    hand_on(report, listed)
+    match list_gaps(
+        alloc, any_size, source, selection, style, lines, gap_lines, report,
+    ) {
+        Ok(all_whole) => {
+            hand_on(report, Ok(()))?;
+            checked(style, all_whole)
+        }
+        Err(fault) => hand_on(report, Err(fault)),
+    }
+}
+
+// The lines of a journal of any size, or of one that a store would hold.
+fn list_gaps<R: Source, A: Aside, W: Sink>(
+    alloc: Global,
+    any_size: bool,
+    source: &mut R,
+    selection: &Selection,
+    style: Style,
+    lines: &mut A,
+    gap_lines: &mut A,
+    sink: &mut W,
+) -> Result<bool, CommandFault>
+    ensures printed { A.written lines.old ≡ Some [] → A.written gap_lines.old ≡ Some []
+        → IfOk result (λ all_whole. ListsJournal (limits_of any_size) selection.now
+        (R.unread source.old)
+        (λ objects. Appends (W.written sink.old) (W.written sink.new) (printed style objects)
+        × (all_whole ≡ are_whole style objects))) }
+    ensures end { OnOk result (IsAtEnd (R.unread source.new)) }
+    ensures failed { IfErr result
+        (GapsFail (limits_of any_size) (R.unread source.old) (R.unread source.new)) }
+    ensures part { A.written lines.old ≡ Some [] → A.written gap_lines.old ≡ Some []
+        → IfErr result (λ fault. fault ≡ CannotWrite → (sink.new ≡ sink.old)
+        ⊎ ListsJournal (limits_of any_size) selection.now (R.unread source.old)
+        (λ objects. AppendsPart (W.written sink.old) (W.written sink.new)
+        (printed style objects))) }
+    ensures kept { IfErr result (λ fault. fault ≢ CannotWrite → sink.new ≡ sink.old) }
+    ensures failures { A.failures lines.new + A.failures gap_lines.new + W.failures sink.new
+        ≡ A.failures lines.old + A.failures gap_lines.old + W.failures sink.old
+        + write_failures result }
+{
+    if any_size {
+        gaps_from::<ANY_SESSIONS, ANY_OBJECTS, ANY_SYMBOLS, _, _, _>(
+            alloc, source, selection, style, lines, gap_lines, sink,
+        )
+    } else {
+        gaps_from::<MAX_SESSIONS, MAX_OBJECTS, MAX_SYMBOLS, _, _, _>(
+            alloc, source, selection, style, lines, gap_lines, sink,
+        )
+    }
+}
+
+// What is answered after all was handed on.
+fn checked(style: Style, all_whole: bool) -> Result<(), CommandFault>
+    ensures passes { IfPrinted result (λ passes. (not style.check || all_whole) ≡ passes) }
+    ensures fault { IfErr result (λ fault. fault ≡ NotAllWhole) }
+{
+    if style.check && !all_whole {
+        Err(CommandFault::NotAllWhole)
+    } else {
+        Ok(())
+    }
 }
 
 /// Prints what a datagram says, as [`packet_to`] writes it, and hands it on.

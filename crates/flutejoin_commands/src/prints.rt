@@ -1,8 +1,10 @@
 //! The commands that leave no file at a name, from the names of their files to what they print.
 ghost use Rattle.std.specs.Prelude.{◌≡◌, OnOk, IfErr};
+ghost use Rattle.flutejoin.specs.Limits.{limits_of};
 ghost use Rattle.flutejoin_commands.specs.Printed.{PrintsPacket, PacketFails, ShowsName};
 ghost use Rattle.flutejoin_commands.specs.Printed.{ShowNameFails, ListsName, ListNameFails};
 ghost use Rattle.flutejoin_commands.specs.Printed.{LeavesFolderOfName, FolderOfNameFails};
+ghost use Rattle.flutejoin_commands.specs.Prints.{IfPrinted};
 
 use crate::extracting_all::extract_all_into;
 use crate::opening::open_input;
@@ -10,7 +12,7 @@ use crate::printing::{gaps_on, packet_on, show_on};
 use crate::report::Report;
 use crate::world::World;
 use flute_journal::Selection;
-use flutejoin::{CommandFault, Picked};
+use flutejoin::{CommandFault, Picked, Style};
 use std::alloc::Global;
 
 /// Prints what a datagram in hexadecimal says.
@@ -46,12 +48,13 @@ pub fn show<W: World, P: Report>(
     ensures failed { IfErr result (ShowNameFails (W.files world.old) j.now selection.now
         (P.written output.old) (P.written output.new)) }
     ensures same_files { W.files world.new ≡ W.files world.old }
+    ensures same_closed { W.closed world.new ≡ W.closed world.old }
 {
     let mut source = open_input(world, 1, j)?;
     show_on(alloc, &mut source, selection, output)
 }
 
-/// Prints what is missing of the selected objects of the journal of this name.
+/// Prints what is missing of the selected objects of the journal of this name, in a style.
 ///
 /// # Errors
 ///
@@ -59,24 +62,31 @@ pub fn show<W: World, P: Report>(
 pub fn gaps<W: World, P: Report>(
     world: &mut W,
     alloc: Global,
+    any_size: bool,
     selection: &Selection,
+    style: Style,
     j: &str,
     output: &mut P,
 ) -> Result<(), CommandFault>
-    ensures listed { OnOk result (ListsName (W.files world.old) j.now selection.now
+    ensures listed { OnOk result (ListsName (W.files world.old) j.now (limits_of any_size)
+        selection.now style (P.written output.old) (P.written output.new)) }
+    ensures handed_on { IfPrinted result (λ passes.
+        P.handed_on output.new ≡ P.written output.new) }
+    ensures failed { IfErr result (ListNameFails (W.files world.old) j.now (limits_of any_size)
+        selection.now style
         (P.written output.old) (P.written output.new)) }
-    ensures handed_on { OnOk result (P.handed_on output.new ≡ P.written output.new) }
-    ensures failed { IfErr result
-        (ListNameFails (W.files world.old) j.now (P.written output.old) (P.written output.new)) }
     ensures same_files { W.files world.new ≡ W.files world.old }
+    ensures same_closed { W.closed world.new ≡ W.closed world.old }
 {
     let mut source = open_input(world, 1, j)?;
     let mut lines = world.aside()?;
     let mut gap_lines = world.aside()?;
     gaps_on(
         alloc,
+        any_size,
         &mut source,
         selection,
+        style,
         &mut lines,
         &mut gap_lines,
         output,
@@ -93,18 +103,21 @@ pub fn extract_all<W: World, P: Report>(
     world: &mut W,
     alloc: Global,
     out: &str,
+    any_size: bool,
     picked: &Picked,
     j: &str,
     output: &mut P,
 ) -> Result<(), CommandFault>
-    ensures extracted { OnOk result (LeavesFolderOfName (W.files world.old) j.now picked.now
-        (W.folders world.old out.now) (P.written output.old) (P.written output.new)) }
+    ensures extracted { OnOk result (LeavesFolderOfName (W.files world.old) j.now
+        (limits_of any_size) picked.now (W.folders world.old out.now)
+        (P.written output.old) (P.written output.new)) }
     ensures handed_on { OnOk result (P.handed_on output.new ≡ P.written output.new) }
-    ensures failed { IfErr result (FolderOfNameFails (W.files world.old) j.now picked.now
-        (W.folders world.old out.now)) }
+    ensures failed { IfErr result (FolderOfNameFails (W.files world.old) j.now
+        (limits_of any_size) picked.now (W.folders world.old out.now)) }
     ensures same_files { W.files world.new ≡ W.files world.old }
+    ensures same_closed { W.closed world.new ≡ W.closed world.old }
 {
     let mut source = open_input(world, 1, j)?;
     let mut folder = world.new_folder(out)?;
-    extract_all_into(alloc, &mut folder, &mut source, picked, output)
+    extract_all_into(alloc, any_size, &mut folder, &mut source, picked, output)
 }

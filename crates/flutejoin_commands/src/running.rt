@@ -1,6 +1,7 @@
 //! A run of the program, from its words to what it leaves.
 ghost use Rattle.std.specs.Prelude.{◌≡◌, map, string_bytes, OnOk, IfErr};
 ghost use Rattle.flutejoin_commands.specs.Runs.{Does, DoesWords, FailsToDo, FailsToDoWords};
+ghost use Rattle.flutejoin_commands.specs.Runs.{ClosesOut, ClosesOutOfWords, out_of};
 ghost use Rattle.flutejoin_commands.specs.Runs.{HasFewInputs, SparesOut};
 ghost use Rattle.flutejoin_commands.specs.Worlds.{outside};
 
@@ -33,6 +34,8 @@ pub fn run<W: World, O: Outlet, E: Sink>(
     ensures failed { IfErr result (FailsToDoWords (W.folders world.old) (map string_bytes words.now)
         (outside (W.files world.old) (O.written output.old) (E.written errors.old))
         (outside (W.files world.new) (O.written output.new) (E.written errors.new))) }
+    ensures any_moment { ClosesOutOfWords (map string_bytes words.now) (W.files world.old)
+        (W.closed world.old) (W.closed world.new) }
 {
     let line = line_of(alloc, words)?;
     run_line(world, alloc, line, output, errors)
@@ -55,24 +58,44 @@ fn run_line<W: World, O: Outlet, E: Sink>(
     ensures failed { IfErr result (FailsToDo (W.folders world.old) line.entry
         (outside (W.files world.old) (O.written output.old) (E.written errors.old))
         (outside (W.files world.new) (O.written output.new) (E.written errors.new))) }
+    ensures any_moment { ClosesOut (out_of line.entry) (W.files world.old)
+        (W.closed world.old) (W.closed world.new) }
 {
     match line {
         Line::Packet { hex } => packet(alloc, hex, output),
         Line::Show { selection, j } => show(world, alloc, &selection, j, output),
-        Line::Gaps { selection, j } => gaps(world, alloc, &selection, j, output),
+        Line::Gaps {
+            any_size,
+            selection,
+            style,
+            j,
+        } => gaps(world, alloc, any_size, &selection, style, j, output),
         Line::ExtractAll {
             out,
+            any_size,
             sender,
             sessions,
             j,
-        } => extract_all(world, alloc, out, &Picked { sender, sessions }, j, output),
-        Line::Extract { out, force, key, j } => {
+        } => {
+            let picked = Picked { sender, sessions };
+            extract_all(world, alloc, out, any_size, &picked, j, output)
+        }
+        Line::Extract {
+            out,
+            force,
+            any_size,
+            key,
+            j,
+        } => {
             let overwrites = Overwrites::of_other(force);
-            extract(world, alloc, out, overwrites, key, j, output, errors)
+            extract(
+                world, alloc, out, overwrites, any_size, key, j, output, errors,
+            )
         }
         Line::Info {
             out,
             force,
+            any_size,
             key,
             length,
             symbol,
@@ -85,21 +108,25 @@ fn run_line<W: World, O: Outlet, E: Sink>(
             };
             let overwrites = Overwrites::of_journal(force);
             info(
-                world, alloc, out, overwrites, key, info_given, j, output, errors,
+                world, alloc, out, overwrites, any_size, key, info_given, j, output, errors,
             )
         }
         Line::InfoList {
             out,
             force,
+            any_size,
             list,
             j,
         } => {
             let overwrites = Overwrites::of_journal(force);
-            info_list(world, alloc, out, overwrites, j, list, output, errors)
+            info_list(
+                world, alloc, out, overwrites, any_size, j, list, output, errors,
+            )
         }
         Line::Join {
             out,
             force,
+            any_size,
             sender,
             scope,
             inputs,
@@ -110,6 +137,7 @@ fn run_line<W: World, O: Outlet, E: Sink>(
                 alloc,
                 out,
                 overwrites,
+                any_size,
                 sender,
                 scope,
                 inputs.as_slice(),

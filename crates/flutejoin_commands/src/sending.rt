@@ -1,40 +1,51 @@
 //! The command `carousel`.
-ghost use Rattle.std.specs.Prelude.{◌≡◌, ◌⊎◌, OnOk, IfErr};
-ghost use Rattle.flutejoin.specs.Carousel.{SendFails};
-ghost use Rattle.flutejoin_commands.specs.Commands.{Succeeds, Fails, CouldBeDone, IsWholeAlways, devices, with_beside};
-ghost use Rattle.flutejoin_commands.specs.Works.{OfDatagrams, WritesFile, IsCannotWrite, datagrams_line};
+ghost use Rattle.std.specs.Prelude.{OnOk, IfErr};
+ghost use Rattle.flutejoin.specs.Carousel.{SendsInput, SendFails};
+ghost use Rattle.flutejoin_commands.specs.Commands.{Succeeds, Fails, CouldBeDone, IsWholeAlways};
+ghost use Rattle.flutejoin_commands.specs.Commands.{devices, with_beside};
+ghost use Rattle.flutejoin_commands.specs.Works.{datagrams_line};
 
 use crate::nothing::{Nothing, fault_or};
 use crate::output_command::write_into;
 use crate::work::Work;
 use flute_output::Folder;
-use flute_parts::{Key, Sink};
-use flute_wire::Datagrams;
-use flutejoin::{CommandFault, Text, datagrams_of, send_to};
+use flute_parts::{Key, Sink, Source};
+use flutejoin::{CommandFault, Text, send_to};
 use std::alloc::Global;
 
-/// Writes datagrams as a file.
+/// Writes the datagrams of an object whose content is all that a source has, `size` bytes, in
+/// symbols of `symbol` bytes and blocks of at most `block` symbols.
 #[derive(Drop)]
-pub struct SendWork {
-    pub datagrams: Datagrams,
+pub struct SendWork<R> {
+    pub alloc: Global,
+    pub key: Key,
+    pub symbol: u16,
+    pub block: u32,
+    pub size: u64,
+    pub source: R,
 }
 
-impl Work for SendWork {
+impl<R: Source + Drop> Work for SendWork<R> {
     type Answer = u64;
 
-    ghost writes = { λ w. WritesFile w.datagrams };
+    ghost writes = { λ w. SendsInput (R.unread w.source) w.key w.symbol w.block };
 
-    ghost fails = { λ _. IsCannotWrite };
+    ghost fails = { λ w. SendFails (R.unread w.source) w.key w.symbol w.block };
 
     ghost tells = { λ _. datagrams_line };
 
-    ghost clears = { λ w. CouldBeDone (WritesFile w.datagrams) };
+    ghost clears = { λ w. CouldBeDone (SendsInput (R.unread w.source) w.key w.symbol w.block) };
 
     fn write<W: Sink>(&mut self, sink: &mut W) -> Result<u64, CommandFault> {
-        match send_to(&self.datagrams, sink) {
-            Ok(count) => Ok(count),
-            Err(_) => Err(CommandFault::CannotWrite),
-        }
+        send_to(
+            self.alloc,
+            &self.key,
+            self.symbol,
+            self.block,
+            self.size,
+            &mut self.source,
+            sink,
+        )
     }
 
     fn without_output(&mut self, reason: CommandFault) -> CommandFault {
@@ -48,43 +59,32 @@ impl Work for SendWork {
     }
 }
 
-/// Leaves as OUT the file of the datagrams of an object of this content, and in the report their
-/// number. OUT may be the file of the content.
+/// Leaves as OUT the file of the datagrams of an object whose content is all that a source has, and
+/// in the report their number. OUT may be the file that the source reads.
 ///
 /// # Errors
 ///
-/// Those of [`datagrams_of`], before anything is made; then `CannotCreate`, then `CannotWrite`, as
-/// [`write_into`] says.
-pub fn carousel_into<F: Folder + Drop, P: Sink>(
-    alloc: Global,
+/// Those of [`send_to`], then `CannotCreate`, then `CannotWrite`, as [`write_into`] says.
+pub fn carousel_into<F: Folder + Drop, R: Source + Drop, P: Sink>(
     folder: F,
-    key: &Key,
-    symbol: u16,
-    block: u32,
-    content: &[u8],
+    work: SendWork<R>,
     report: &mut P,
 ) -> (Result<(), CommandFault>, F)
-    ensures sent { OnOk result.0 (OfDatagrams key.now symbol block content.now
-        (λ datagrams. Succeeds (WritesFile datagrams) datagrams_line
+    ensures sent { OnOk result.0 (Succeeds
+        (SendsInput (R.unread work.source) work.key work.symbol work.block) datagrams_line
         (with_beside (devices (F.entries folder) (F.failures folder)
         (P.written report.old) (P.failures report.old)))
         (devices (F.entries result.1) (F.failures result.1)
-        (P.written report.new) (P.failures report.new)))) }
-    ensures failed { IfErr result.0 (λ fault.
-        (SendFails key.now symbol block content.now fault × (result.1 ≡ folder)
-        × (report.new ≡ report.old))
-        ⊎ OfDatagrams key.now symbol block content.now
-        (λ datagrams. Fails (WritesFile datagrams) IsCannotWrite datagrams_line
-        (CouldBeDone (WritesFile datagrams))
+        (P.written report.new) (P.failures report.new))) }
+    ensures failed { IfErr result.0 (Fails
+        (SendsInput (R.unread work.source) work.key work.symbol work.block)
+        (SendFails (R.unread work.source) work.key work.symbol work.block) datagrams_line
+        (CouldBeDone (SendsInput (R.unread work.source) work.key work.symbol work.block))
         (devices (F.entries folder) (F.failures folder)
         (P.written report.old) (P.failures report.old))
         (devices (F.entries result.1) (F.failures result.1)
-        (P.written report.new) (P.failures report.new)) fault)) }
-    ensures any_moment { (result.1 ≡ folder)
-        ⊎ IsWholeAlways (F.entries folder) (F.entries result.1) }
+        (P.written report.new) (P.failures report.new))) }
+    ensures any_moment { IsWholeAlways (F.entries folder) (F.entries result.1) }
 {
-    match datagrams_of(alloc, key, symbol, block, content) {
-        Ok(datagrams) => write_into(folder, SendWork { datagrams }, report),
-        Err(fault) => (Err(fault), folder),
-    }
+    write_into(folder, work, report)
 }

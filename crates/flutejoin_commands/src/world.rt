@@ -1,7 +1,9 @@
 //! What lies outside of a command.
 ghost use Rattle.std.specs.Prelude.{◌≡◌, IfOk, IfErr, IfSome, OnOk};
 ghost use Rattle.flutejoin.specs.declared.command_fault.CommandFault.TheVariants.{OutOfMemory};
-ghost use Rattle.flutejoin_commands.specs.Worlds.{HasSize, IsPlaced, IsNotMade, IsEmptyAside};
+ghost use Rattle.flutejoin_commands.specs.Closings.{IsNoted};
+ghost use Rattle.flutejoin_commands.specs.Worlds.{HasSize, HasAside, IsPlaced, IsNotAgain};
+ghost use Rattle.flutejoin_commands.specs.Worlds.{IsNotMade, IsEmptyAside};
 ghost use Rattle.flutejoin_commands.specs.Worlds.{Closes, IsNotOverwritten, MayOverwrite};
 
 use crate::opening::Inputs;
@@ -23,7 +25,8 @@ pub trait World: Inputs {
 
     /// Looks which file an output is. It is to be called before the inputs are opened.
     fn look(&mut self, out: &str)
-        ensures same_files { Self.files self.new ≡ Self.files self.old };
+        ensures same_files { Self.files self.new ≡ Self.files self.old }
+        ensures same_closed { Self.closed self.new ≡ Self.closed self.old };
 
     /// How many bytes the input has that was opened last, if that is known.
     fn size(&self, input: &Self::Input) -> Option<u64>
@@ -38,7 +41,8 @@ pub trait World: Inputs {
         ensures spared { OnOk result
             (MayOverwrite (Self.files self.old) overwrites out.now) }
         ensures kept { IfErr result IsNotOverwritten }
-        ensures same_files { Self.files self.new ≡ Self.files self.old };
+        ensures same_files { Self.files self.new ≡ Self.files self.old }
+        ensures same_closed { Self.closed self.new ≡ Self.closed self.old };
 
     /// What the name of an output leads to. Nothing is made.
     ///
@@ -49,7 +53,8 @@ pub trait World: Inputs {
         ensures placed { IfOk result
             (IsPlaced Self.Folder.entries (Self.files self.old) out.now) }
         ensures refused { IfErr result IsNotMade }
-        ensures same_files { Self.files self.new ≡ Self.files self.old };
+        ensures same_files { Self.files self.new ≡ Self.files self.old }
+        ensures same_closed { Self.closed self.new ≡ Self.closed self.old };
 
     /// The new folder that an output with this name is to be. Nothing is made.
     ///
@@ -60,7 +65,8 @@ pub trait World: Inputs {
         ensures named { IfOk result
             (λ folder. Self.NewFolder.places folder ≡ Self.folders self.old out.now) }
         ensures refused { IfErr result IsNotMade }
-        ensures same_files { Self.files self.new ≡ Self.files self.old };
+        ensures same_files { Self.files self.new ≡ Self.files self.old }
+        ensures same_closed { Self.closed self.new ≡ Self.closed self.old };
 
     /// Where lines are put aside. None is there yet.
     ///
@@ -71,10 +77,25 @@ pub trait World: Inputs {
         ensures empty { IfOk result
             (λ aside. IsEmptyAside (Self.files self.old) (Self.Aside.written aside)) }
         ensures refused { IfErr result (λ fault. fault ≡ OutOfMemory) }
-        ensures same_files { Self.files self.new ≡ Self.files self.old };
+        ensures same_files { Self.files self.new ≡ Self.files self.old }
+        ensures same_closed { Self.closed self.new ≡ Self.closed self.old };
+
+    /// An input of the bytes that were put aside.
+    ///
+    /// # Errors
+    ///
+    /// `CannotWrite` if they cannot be read again, and `OutOfMemory`.
+    fn again(&mut self, aside: Self::Aside) -> Result<Self::Input, CommandFault>
+        ensures told { IfOk result
+            (λ input. HasAside (Self.Aside.written aside) (Self.Input.unread input)) }
+        ensures refused { IfErr result IsNotAgain }
+        ensures same_files { Self.files self.new ≡ Self.files self.old }
+        ensures same_closed { Self.closed self.new ≡ Self.closed self.old };
 
     /// Takes the folder of an output back: what became of its entries are files from now on.
     fn close(&mut self, out: &str, folder: Self::Folder)
         ensures closed { Closes out.now (Self.Folder.entries folder)
-            (Self.files self.old) (Self.files self.new) };
+            (Self.files self.old) (Self.files self.new) }
+        ensures noted { IsNoted out.now (Self.Folder.entries folder)
+            (Self.closed self.old) (Self.closed self.new) };
 }

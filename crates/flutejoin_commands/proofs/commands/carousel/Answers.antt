@@ -1,57 +1,50 @@
 -- What was sent, told by the name of the content.
-use Rattle.std.proofs.Common.{IfErr, inl, subst}
+use Rattle.std.proofs.Common.{◌∙◌, IfErr, subst}
 use Rattle.std.specs.Prelude.{OnOk}
-use Rattle.flutejoin_commands.specs.Works.{WritesFile, IsCannotWrite, datagrams_line}
-use Rattle.flutejoin_commands.specs.Worlds.{Leaves, FailsToLeave, as_before, outside}
-use Rattle.flutejoin_commands.proofs.LeftFiles.{kept_same}
-use Rattle.flutejoin_commands.proofs.SentNames.{sent, not_sent, content_fails}
+use Rattle.flutejoin.specs.Carousel.{SendsInput, SendFails}
+use Rattle.flutejoin_commands.specs.Works.{datagrams_line}
+use Rattle.flutejoin_commands.specs.Worlds.{IsAgain, Leaves, FailsToLeave, outside}
+use Rattle.flutejoin_commands.proofs.SentNames.{again_has, sent, not_sent}
 use Rattle.flutejoin_commands.proofs.commands.carousel.Goals as goal
+
+pub returns-clause-sent : goal.returns-clause-sent
+returns-clause-sent g c =
+    let files = g.W.Inputs.files c.args.world.now in
+    let a = c.args in
+    let unread = g.W.Input.Source.unread in
+    let x = unread c.in_ok-source-2.source in
+    let o = g.O.Sink.written a.output.now in
+    let e = g.E.Sink.written a.errors.now in
+    let new = outside (g.W.Inputs.files c.leave.new.world) (g.O.Sink.written c.leave.new.output)
+    (g.E.Sink.written c.leave.new.errors) in
+    let same = c.measured.ensures.same_files ∙ c.begin.ensures.same_files in
+    let h = again_has files a.file.now (unread c.in_ok-source.source) x
+    c.in_ok-source.ensures.opened
+    (subst (λ f. IsAgain f (unread c.in_ok-source.source) x) c.begin.ensures.same_files
+    c.in_ok-source-2.ensures.same) in
+    sent files a.file.now x h a.key.now a.symbol a.block a.out.now (outside files o e) new
+    c.leave.result
+    (subst (λ f. OnOk c.leave.result (Leaves (SendsInput x a.key.now a.symbol a.block)
+    (SendsInput x a.key.now a.symbol a.block) datagrams_line a.out.now (outside f o e) new)) same
+    c.leave.ensures.left)
 
 pub returns-clause-failed : goal.returns-clause-failed
 returns-clause-failed g c =
     let files = g.W.Inputs.files c.args.world.now in
     let a = c.args in
-    let x = g.W.Input.Source.unread c.in_ok-source.source in
-    as_before (inl (content_fails files a.file.now x
-    c.in_ok-source.ensures.opened
-    a.key.now a.symbol a.block c.in-Err.fault c.in-Err.ensures.failed))
-    (kept_same a.out.now files (g.W.Inputs.files c.begin.new.world)
-    c.begin.ensures.same_files)
-
-pub returns-in-Ok-clause-sent : goal.returns-in-Ok-clause-sent
-returns-in-Ok-clause-sent g c =
-    let files = g.W.Inputs.files c.args.world.now in
-    let a = c.args in
-    let x = g.W.Input.Source.unread c.in_ok-source.source in
+    let unread = g.W.Input.Source.unread in
+    let x = unread c.in_ok-source-2.source in
     let o = g.O.Sink.written a.output.now in
     let e = g.E.Sink.written a.errors.now in
     let new = outside (g.W.Inputs.files c.leave.new.world) (g.O.Sink.written c.leave.new.output)
     (g.E.Sink.written c.leave.new.errors) in
-    let d = c.in-Ok.datagrams in
-    sent files a.file.now x
+    let same = c.measured.ensures.same_files ∙ c.begin.ensures.same_files in
+    let h = again_has files a.file.now (unread c.in_ok-source.source) x
     c.in_ok-source.ensures.opened
-    a.key.now a.symbol a.block d c.in-Ok.ensures.sent a.out.now (outside files o e) new
+    (subst (λ f. IsAgain f (unread c.in_ok-source.source) x) c.begin.ensures.same_files
+    c.in_ok-source-2.ensures.same) in
+    not_sent files a.file.now x h a.key.now a.symbol a.block a.out.now (outside files o e) new
     c.leave.result
-    (subst (λ f. OnOk c.leave.result (Leaves (WritesFile d) (WritesFile d) datagrams_line a.out.now
-    (outside f o e) new))
-    c.begin.ensures.same_files
-    c.leave.ensures.left)
-
-pub returns-in-Ok-clause-failed : goal.returns-in-Ok-clause-failed
-returns-in-Ok-clause-failed g c =
-    let files = g.W.Inputs.files c.args.world.now in
-    let a = c.args in
-    let x = g.W.Input.Source.unread c.in_ok-source.source in
-    let o = g.O.Sink.written a.output.now in
-    let e = g.E.Sink.written a.errors.now in
-    let new = outside (g.W.Inputs.files c.leave.new.world) (g.O.Sink.written c.leave.new.output)
-    (g.E.Sink.written c.leave.new.errors) in
-    let d = c.in-Ok.datagrams in
-    not_sent files a.file.now x
-    c.in_ok-source.ensures.opened
-    a.key.now a.symbol a.block d c.in-Ok.ensures.sent a.out.now (outside files o e) new
-    c.leave.result
-    (subst (λ f. IfErr c.leave.result (FailsToLeave (WritesFile d) IsCannotWrite a.out.now
-    (outside f o e) new))
-    c.begin.ensures.same_files
+    (subst (λ f. IfErr c.leave.result (FailsToLeave (SendsInput x a.key.now a.symbol a.block)
+    (SendFails x a.key.now a.symbol a.block) a.out.now (outside f o e) new)) same
     c.leave.ensures.failed)

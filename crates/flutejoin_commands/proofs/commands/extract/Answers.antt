@@ -1,6 +1,7 @@
 -- What was left, told by the name.
 use Rattle.std.proofs.Common.{IfErr, List, ℕ, Option, subst}
 use Rattle.std.specs.Prelude.{OnOk}
+use Rattle.flutejoin.specs.Limits.{limits_of}
 use Rattle.flutejoin_commands.specs.Outlets.{Held, FailsHeld}
 use Rattle.flutejoin_commands.specs.Works.{WritesObject, ExtractFails, bytes_line}
 use Rattle.flutejoin_commands.specs.Worlds.{Leaves, FailsToLeave, outside}
@@ -14,16 +15,17 @@ returns-clause-extracted g c =
     let a = c.args in
     let new = outside (g.W.Inputs.files c.leave_held.new.world)
     (g.O.Sink.written c.leave_held.new.output) (g.E.Sink.written c.leave_held.new.errors) in
-    left_of (λ (k : Option (List ℕ)). WritesObject k a.key)
-    (λ (k : Option (List ℕ)). Held (WritesObject k a.key))
-    (λ (k : Option (List ℕ)). FailsHeld (ExtractFails k a.key)) files a.j.now
+    left_of (λ (k : Option (List ℕ)). WritesObject (limits_of a.any_size) k a.key)
+    (λ (k : Option (List ℕ)). Held (WritesObject (limits_of a.any_size) k a.key))
+    (λ (k : Option (List ℕ)). FailsHeld (ExtractFails (limits_of a.any_size) k a.key)) files a.j.now
     (unread c.in_ok-source.source)
     c.in_ok-source.ensures.opened
     a.out.now (outside files (g.O.Sink.written a.output.now) (g.E.Sink.written a.errors.now)) new
     bytes_line c.leave_held.result
     (subst (λ f. OnOk c.leave_held.result
-    (Leaves (WritesObject (unread c.in_ok-source.source) a.key)
-    (Held (WritesObject (unread c.in_ok-source.source) a.key)) bytes_line a.out.now
+    (Leaves (WritesObject (limits_of a.any_size) (unread c.in_ok-source.source) a.key)
+    (Held (WritesObject (limits_of a.any_size) (unread c.in_ok-source.source) a.key)) bytes_line
+    a.out.now
     (outside f (g.O.Sink.written a.output.now) (g.E.Sink.written a.errors.now)) new))
     c.begin.ensures.same_files
     c.leave_held.ensures.left)
@@ -35,16 +37,16 @@ returns-clause-failed g c =
     let a = c.args in
     let new = outside (g.W.Inputs.files c.leave_held.new.world)
     (g.O.Sink.written c.leave_held.new.output) (g.E.Sink.written c.leave_held.new.errors) in
-    not_left_of (λ (k : Option (List ℕ)). WritesObject k a.key)
-    (λ (k : Option (List ℕ)). Held (WritesObject k a.key))
-    (λ (k : Option (List ℕ)). FailsHeld (ExtractFails k a.key)) files a.j.now
+    not_left_of (λ (k : Option (List ℕ)). WritesObject (limits_of a.any_size) k a.key)
+    (λ (k : Option (List ℕ)). Held (WritesObject (limits_of a.any_size) k a.key))
+    (λ (k : Option (List ℕ)). FailsHeld (ExtractFails (limits_of a.any_size) k a.key)) files a.j.now
     (unread c.in_ok-source.source)
     c.in_ok-source.ensures.opened
     a.out.now (outside files (g.O.Sink.written a.output.now) (g.E.Sink.written a.errors.now)) new
     c.leave_held.result
     (subst (λ f. IfErr c.leave_held.result
-    (FailsToLeave (WritesObject (unread c.in_ok-source.source) a.key)
-    (FailsHeld (ExtractFails (unread c.in_ok-source.source) a.key)) a.out.now
+    (FailsToLeave (WritesObject (limits_of a.any_size) (unread c.in_ok-source.source) a.key)
+    (FailsHeld (ExtractFails (limits_of a.any_size) (unread c.in_ok-source.source) a.key)) a.out.now
     (outside f (g.O.Sink.written a.output.now) (g.E.Sink.written a.errors.now)) new))
     c.begin.ensures.same_files
     c.leave_held.ensures.failed)

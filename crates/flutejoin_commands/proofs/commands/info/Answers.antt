@@ -2,6 +2,7 @@
 use Rattle.std.proofs.Common.{IfErr, List, ℕ, Option, subst}
 use Rattle.std.specs.Prelude.{OnOk}
 use Rattle.flutejoin.specs.Lines.{entries_line}
+use Rattle.flutejoin.specs.Limits.{limits_of}
 use Rattle.flutejoin_commands.specs.Works.{AddsInformation, AddFails}
 use Rattle.flutejoin_commands.specs.Worlds.{Leaves, FailsToLeave, outside}
 use Rattle.flutejoin_commands.proofs.OfNames.{left_of, not_left_of}
@@ -16,7 +17,7 @@ returns-clause-added g c =
     (g.E.Sink.written c.leave.new.errors) in
     left_of (λ (k : Option (List ℕ)). AddsInformation k a.key a.info)
     (λ (k : Option (List ℕ)). AddsInformation k a.key a.info)
-    (λ (k : Option (List ℕ)). AddFails k a.key a.info) files a.j.now
+    (λ (k : Option (List ℕ)). AddFails (limits_of a.any_size) k a.key a.info) files a.j.now
     (unread c.in_ok-source.source)
     c.in_ok-source.ensures.opened
     a.out.now (outside files (g.O.Sink.written a.output.now) (g.E.Sink.written a.errors.now)) new
@@ -37,14 +38,14 @@ returns-clause-failed g c =
     (g.E.Sink.written c.leave.new.errors) in
     not_left_of (λ (k : Option (List ℕ)). AddsInformation k a.key a.info)
     (λ (k : Option (List ℕ)). AddsInformation k a.key a.info)
-    (λ (k : Option (List ℕ)). AddFails k a.key a.info) files a.j.now
+    (λ (k : Option (List ℕ)). AddFails (limits_of a.any_size) k a.key a.info) files a.j.now
     (unread c.in_ok-source.source)
     c.in_ok-source.ensures.opened
     a.out.now (outside files (g.O.Sink.written a.output.now) (g.E.Sink.written a.errors.now)) new
     c.leave.result
     (subst (λ f. IfErr c.leave.result
     (FailsToLeave (AddsInformation (unread c.in_ok-source.source) a.key a.info)
-    (AddFails (unread c.in_ok-source.source) a.key a.info) a.out.now
+    (AddFails (limits_of a.any_size) (unread c.in_ok-source.source) a.key a.info) a.out.now
     (outside f (g.O.Sink.written a.output.now) (g.E.Sink.written a.errors.now)) new))
     c.begin.ensures.same_files
     c.leave.ensures.failed)

@@ -3,6 +3,7 @@ use Rattle.std.proofs.Common.{IfErr, ℕ, List, Option, subst}
 use Rattle.std.specs.Prelude.{OnOk}
 use Rattle.flutejoin.specs.InfoLists.{AddsList, AddListFails}
 use Rattle.flutejoin.specs.Lines.{entries_line}
+use Rattle.flutejoin.specs.Limits.{limits_of}
 use Rattle.flutejoin_commands.specs.Worlds.{Leaves, FailsToLeave, outside}
 use Rattle.flutejoin_commands.proofs.OfNames.{left_of_two, not_left_of_two}
 use Rattle.flutejoin_commands.proofs.commands.info_list.Goals as goal
@@ -17,7 +18,8 @@ returns-clause-added g c =
     let new = outside (g.W.Inputs.files c.leave.new.world) (g.O.Sink.written c.leave.new.output)
     (g.E.Sink.written c.leave.new.errors) in
     left_of_two (λ (k l : Option (List ℕ)) (n : ℕ). AddsList k l n)
-    (λ (k l : Option (List ℕ)). AddListFails k l) files a.j.now a.list.now x y
+    (λ (k l : Option (List ℕ)). AddListFails (limits_of a.any_size) k l) files a.j.now a.list.now x
+    y
     c.in_ok-source.ensures.opened.0
     c.in_ok-source.ensures.opened.1
     a.out.now (outside files (g.O.Sink.written a.output.now) (g.E.Sink.written a.errors.now)) new
@@ -38,12 +40,14 @@ returns-clause-failed g c =
     let new = outside (g.W.Inputs.files c.leave.new.world) (g.O.Sink.written c.leave.new.output)
     (g.E.Sink.written c.leave.new.errors) in
     not_left_of_two (λ (k l : Option (List ℕ)) (n : ℕ). AddsList k l n)
-    (λ (k l : Option (List ℕ)). AddListFails k l) files a.j.now a.list.now x y
+    (λ (k l : Option (List ℕ)). AddListFails (limits_of a.any_size) k l) files a.j.now a.list.now x
+    y
     c.in_ok-source.ensures.opened.0
     c.in_ok-source.ensures.opened.1
     a.out.now (outside files (g.O.Sink.written a.output.now) (g.E.Sink.written a.errors.now)) new
     c.leave.result
-    (subst (λ f. IfErr c.leave.result (FailsToLeave (λ (n : ℕ). AddsList x y n) (AddListFails x y)
+    (subst (λ f. IfErr c.leave.result (FailsToLeave (λ (n : ℕ). AddsList x y n) (AddListFails
+    (limits_of a.any_size) x y)
     a.out.now (outside f (g.O.Sink.written a.output.now) (g.E.Sink.written a.errors.now)) new))
     c.begin_with_two.ensures.same_files
     c.leave.ensures.failed)

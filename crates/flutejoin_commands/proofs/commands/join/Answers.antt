@@ -1,6 +1,7 @@
 -- What was joined, told by the names.
 use Rattle.std.proofs.Common.{map, subst, IfErr}
 use Rattle.std.specs.Prelude.{OnOk}
+use Rattle.flutejoin.specs.Limits.{limits_of}
 use Rattle.flutejoin_commands.specs.Works.{JoinsAll, JoinAllFails, join_lines}
 use Rattle.flutejoin_commands.specs.Worlds.{Leaves, FailsToLeave, outside}
 use Rattle.flutejoin_commands.proofs.OfNames.{joined, not_joined}
@@ -12,10 +13,10 @@ returns-clause-joined g c =
     let unread = g.W.Input.Source.unread in
     let names = map (λ path. path.now) c.args.paths.now in
     let a = c.args in
-    let all = JoinsAll unread a.sender a.scope c.in_ok-inputs.inputs.items in
+    let all = JoinsAll unread (limits_of a.any_size) a.sender a.scope c.in_ok-inputs.inputs.items in
     let new = outside (g.W.Inputs.files c.leave.new.world) (g.O.Sink.written c.leave.new.output)
     (g.E.Sink.written c.leave.new.errors) in
-    joined unread a.sender a.scope names c.in_ok-inputs.inputs.items files
+    joined unread (limits_of a.any_size) a.sender a.scope names c.in_ok-inputs.inputs.items files
     c.in_ok-inputs.ensures.opened
     a.out.now (outside files (g.O.Sink.written a.output.now) (g.E.Sink.written a.errors.now)) new
     (join_lines a.scope) c.leave.result
@@ -30,11 +31,13 @@ returns-clause-failed g c =
     let unread = g.W.Input.Source.unread in
     let names = map (λ path. path.now) c.args.paths.now in
     let a = c.args in
-    let all = JoinsAll unread a.sender a.scope c.in_ok-inputs.inputs.items in
-    let fails = JoinAllFails unread a.sender a.scope c.in_ok-inputs.inputs.items in
+    let all = JoinsAll unread (limits_of a.any_size) a.sender a.scope c.in_ok-inputs.inputs.items in
+    let fails = JoinAllFails unread (limits_of a.any_size) a.sender a.scope
+    c.in_ok-inputs.inputs.items in
     let new = outside (g.W.Inputs.files c.leave.new.world) (g.O.Sink.written c.leave.new.output)
     (g.E.Sink.written c.leave.new.errors) in
-    not_joined unread a.sender a.scope names c.in_ok-inputs.inputs.items files
+    not_joined unread (limits_of a.any_size) a.sender a.scope names c.in_ok-inputs.inputs.items
+    files
     c.in_ok-inputs.ensures.opened
     a.out.now (outside files (g.O.Sink.written a.output.now) (g.E.Sink.written a.errors.now)) new
     c.leave.result

@@ -2,6 +2,7 @@ use Rattle.std.proofs.Common.{Result, ℕ, inr, subst, sym}
 use Rattle.std.specs.Prelude.{IfOk}
 use Rattle.flutejoin.specs.ExtractAll.{ExtractsAll}
 use Rattle.flutejoin.specs.declared.command_fault.CommandFault.{CommandFault}
+use Rattle.flutejoin.specs.Limits.{limits_of}
 use Rattle.flutejoin_commands.proofs.FolderSteps.{made_ready, made_nothing, filled_beside}
 use Rattle.flutejoin_commands.proofs.FolderSteps.{one_always, leaves_folder, there_failed, on_ok}
 use Rattle.flutejoin_commands.specs.Folders.{FolderFails}
@@ -34,7 +35,8 @@ returns-in-Ok-clause-extracted g c = λ o h.
     let r = g.P.Sink.written c.args.report.now in
     let r' = g.P.Sink.written c.fill-filled.new.report in
     let r'' = g.P.Sink.written c.tell.new.report in
-    let e = subst (λ (x : Result ℕ CommandFault). IfOk x (ExtractsAll u w picked m f r r'))
+    let e = subst (λ (x : Result ℕ CommandFault). IfOk x (ExtractsAll (limits_of c.args.any_size) u
+    w picked m f r r'))
     c.in-Ok.ensures.done c.fill-filled.ensures.filled in
     on_ok c.tell.result (λ line. leaves_folder u w picked o m f n r r' r'' c.in-Ok.count h e
     c.in-Ok.ensures.kept c.in-Ok.ensures.lasts c.in-Ok.ensures.gone_ok line) c.tell.ensures.told
@@ -49,7 +51,8 @@ returns-in-Ok-clause-failed g c = λ o h.
     let picked = c.args.picked.now in
     let r = g.P.Sink.written c.args.report.now in
     let r' = g.P.Sink.written c.fill-filled.new.report in
-    let e = subst (λ (x : Result ℕ CommandFault). IfOk x (ExtractsAll u w picked m f r r'))
+    let e = subst (λ (x : Result ℕ CommandFault). IfOk x (ExtractsAll (limits_of c.args.any_size) u
+    w picked m f r r'))
     c.in-Ok.ensures.done c.fill-filled.ensures.filled in
     if_err c.tell.result (λ fault is. there_failed u w picked o m f n r r' c.in-Ok.count fault
     (inr is) h e c.in-Ok.ensures.kept) c.tell.ensures.failed
@@ -71,7 +74,7 @@ returns-in-Err-clause-failed g c = λ o h.
     c.in-Err.fault c.in-Err.is h
     c.fill-filled.ensures.stays c.fill-filled.ensures.filled c.fill-filled.ensures.failed
     c.finish_folder.ensures.fault c.finish_folder.ensures.work c.finish_folder.ensures.dropped in
-    subst (λ x. FolderFails u w c.args.picked.now o
+    subst (λ x. FolderFails (limits_of c.args.any_size) u w c.args.picked.now o
     (g.D.NewFolder.places c.finish_folder.new.folder)
     x) (sym c.fault_of.ensures) e
 

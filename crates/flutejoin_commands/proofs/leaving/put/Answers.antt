@@ -1,6 +1,8 @@
 -- What is left, by what the name of the output leads to.
 use Rattle.std.proofs.Common.{subst}
+use Rattle.flutejoin_commands.specs.Closings.{ClosesWhole}
 use Rattle.flutejoin_commands.specs.Worlds.{Closes, HasOut, IsFileName, IsPlaced}
+use Rattle.flutejoin_commands.proofs.Closed.{closed_whole}
 use Rattle.flutejoin_commands.proofs.LeftFiles.{left_file, left_device, left_output, failed_file}
 use Rattle.flutejoin_commands.proofs.leaving.put.Goals as goal
 
@@ -69,3 +71,18 @@ returns-in-Ok-StandardOutput-clause-left g c =
     t.result (subst (λ p. IsPlaced g.W.Folder.Folder.entries (g.W.Inputs.files c.args.world.now)
     c.args.out.now p) c.in-Ok-StandardOutput.field-0-is c.in-Ok-StandardOutput.ensures.placed)
     c.place.ensures.same_files t.ensures.written
+
+pub returns-in-Ok-File-clause-any_moment : goal.returns-in-Ok-File-clause-any_moment
+returns-in-Ok-File-clause-any_moment g c =
+    let files = g.W.Inputs.files c.args.world.now in
+    let entries = g.W.Folder.Folder.entries in
+    let placed : HasOut files c.args.out.now (entries c.in-Ok-File.folder)
+    × IsFileName files c.args.out.now =
+    subst (λ p. IsPlaced entries files c.args.out.now p) c.in-Ok-File.field-0-is
+    c.in-Ok-File.ensures.placed in
+    subst (λ k. ClosesWhole c.args.out.now files k (g.W.Inputs.closed c.close.new.self))
+    c.place.ensures.same_closed
+    (closed_whole c.args.out.now files (g.W.Inputs.closed c.place.new.self)
+    (g.W.Inputs.closed c.close.new.self) (entries c.in-Ok-File.folder)
+    (entries c.write_into-done.result.1) placed.0 c.write_into-done.ensures.any_moment
+    c.close.ensures.noted)

@@ -36,6 +36,7 @@ loop-k-preserved g c =
     let one = c.open_one.ensures.asked in
     record {
       same_files = c.open_one.ensures.same_files ∙ c.loop-k.invariant.same_files;
+      same_closed = c.open_one.ensures.same_closed ∙ c.loop-k.invariant.same_closed;
       opened =
           one_opened files g.I.Input.Source.unread (map (λ path. path.now) paths)
           c.loop-k.opened.items c.push.new.self.items c.loop-k.k

@@ -2,6 +2,7 @@
 use Rattle.std.proofs.Common.{◌⊎◌, List, ℕ, Option, IfErr, ap, subst, ◌∙◌}
 use Rattle.flute_output.specs.NewFolders.{Places}
 use Rattle.flutejoin.specs.declared.command_fault.CommandFault.{CommandFault}
+use Rattle.flutejoin.specs.Limits.{limits_of}
 use Rattle.flutejoin_commands.specs.Folders.{FolderFails}
 use Rattle.flutejoin_commands.specs.Printed.{IsUnread}
 use Rattle.flutejoin_commands.specs.Worlds.{IsNotMade}
@@ -19,12 +20,13 @@ returns-clause-failed g c =
     let left = unread c.extract_all_into.new.source in
     not_printed files c.args.j.now (unread c.in_ok-source.source) c.in_ok-source.ensures.opened
     (λ (k l : Option (List ℕ)) (fault : CommandFault). (a : Option Places)
-    × FolderFails k l picked folder a fault)
+    × FolderFails (limits_of c.args.any_size) k l picked folder a fault)
     (λ (fault : CommandFault). IsUnread files c.args.j.now fault ⊎ IsNotMade fault)
     left result
     (of_place (λ (a : Option Places) (fault : CommandFault).
-    FolderFails (unread c.in_ok-source.source) left picked folder a fault) after result
+    FolderFails (limits_of c.args.any_size) (unread c.in_ok-source.source) left picked folder a
+    fault) after result
     (subst (λ b. IfErr result
-    (FolderFails (unread c.in_ok-source.source) left picked b after))
+    (FolderFails (limits_of c.args.any_size) (unread c.in_ok-source.source) left picked b after))
     (c.in_ok-folder.ensures.named ∙ ap (λ f. f c.args.out.now) c.open_input.ensures.same_folders)
     c.extract_all_into.ensures.failed))

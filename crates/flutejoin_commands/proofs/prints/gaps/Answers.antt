@@ -1,27 +1,78 @@
 -- Why what is missing was not listed, told by the name of the journal.
-use Rattle.std.proofs.Common.{◌≡◌, ◌≢◌, ◌⊎◌, List, ℕ, Option}
-use Rattle.std.specs.Io.KnownBytes.{IsAtEnd}
-use Rattle.flutejoin.specs.Gaps.{GapsFail}
+use Rattle.std.proofs.Common.{◌≡◌, ◌≢◌, ◌⊎◌, List, ℕ, Option, Bool, true, false, Result, IfErr}
+use Rattle.std.proofs.Common.{inl, inr, subst, ◌∙◌}
+use Rattle.std.specs.Io.KnownBytes.{Appends, IsAtEnd}
+use Rattle.flutejoin.specs.Gaps.{GapsFail, ListsJournal}
+use Rattle.flutejoin.specs.Limits.{limits_of}
+use Rattle.flutejoin.specs.Styles.{passes_check, printed}
 use Rattle.flutejoin.specs.declared.command_fault.CommandFault.{CommandFault}
 use Rattle.flutejoin.specs.declared.command_fault.CommandFault.TheVariants.{CannotWrite}
-use Rattle.flutejoin_commands.specs.Files.{IfFiles}
-use Rattle.flutejoin_commands.specs.Printed.{IsUnread}
-use Rattle.flutejoin_commands.specs.Prints.{FailsToFlush}
-use Rattle.flutejoin_commands.proofs.PrintedNames.{both, not_printed}
+use Rattle.flutejoin.specs.declared.command_fault.CommandFault.TheVariants.{NotAllWhole}
+use Rattle.flutejoin_commands.specs.Files.{Files}
+use Rattle.flutejoin_commands.specs.Prints.{FailsToFlush, IfPrinted}
+use Rattle.flutejoin_commands.specs.Worlds.{IsEmptyAside}
+use Rattle.flutejoin_commands.proofs.OfNames.{told_of}
+use Rattle.flutejoin_commands.proofs.PrintedNames.{by_done, by_fault, if_empty, if_told}
 use Rattle.flutejoin_commands.proofs.prints.gaps.Goals as goal
+
+pub returns-clause-listed : goal.returns-clause-listed
+returns-clause-listed g c =
+    let files = g.W.Inputs.files c.args.world.now in
+    let style = c.args.style in
+    let old = g.P.Sink.written c.args.output.now in
+    let new = g.P.Sink.written c.gaps_on.new.report in
+    let known = g.W.Input.Source.unread c.in_ok-source.source in
+    let a = g.W.Aside.Sink.written c.in_ok-lines.lines in
+    let b = g.W.Aside.Sink.written c.in_ok-gap_lines.gap_lines in
+    let r = c.gaps_on.result in
+    let same = c.open_input.ensures.same_files in
+    let Lists : Bool → Option (List ℕ) → Type 0 = λ p k.
+    ListsJournal (limits_of c.args.any_size) c.args.selection.now k
+    (λ objects. Appends old new (printed style objects) × (passes_check style objects ≡ p)) in
+    let first = subst (λ (x : Option Files). IsEmptyAside x a) same c.in_ok-lines.ensures.empty in
+    let second = subst (λ (x : Option Files). IsEmptyAside x b) (c.aside.ensures.same_files ∙ same)
+    c.in_ok-gap_lines.ensures.empty in
+    by_done r (λ is. if_told files c.args.j.now known c.in_ok-source.ensures.opened (Lists true)
+    (if_empty files a b (Lists true known) first second (λ e f. (subst
+    (λ (x : Result (Unit {0}) CommandFault). IfPrinted x (λ p. Lists p known)) is
+    (c.gaps_on.ensures.listed e f)).0)))
 
 pub returns-clause-failed : goal.returns-clause-failed
 returns-clause-failed g c =
     let files = g.W.Inputs.files c.args.world.now in
-    let unread = g.W.Input.Source.unread in
+    let style = c.args.style in
+    let name = c.args.j.now in
     let old = g.P.Sink.written c.args.output.now in
     let new = g.P.Sink.written c.gaps_on.new.report in
-    let fails = λ (k l : Option (List ℕ)) (fault : CommandFault).
-    GapsFail k l fault ⊎ FailsToFlush (IsAtEnd l) fault in
-    both (λ (fault : CommandFault). IsUnread files c.args.j.now fault
-    ⊎ IfFiles files (λ f. (left : Option (List ℕ)) × fails (f c.args.j.now) left fault))
-    (λ (fault : CommandFault). fault ≢ CannotWrite → new ≡ old) c.gaps_on.result
-    (not_printed files c.args.j.now (unread c.in_ok-source.source) c.in_ok-source.ensures.opened
-    fails (λ (fault : CommandFault). IsUnread files c.args.j.now fault)
-    (unread c.gaps_on.new.source) c.gaps_on.result c.gaps_on.ensures.failed)
-    c.gaps_on.ensures.kept
+    let known = g.W.Input.Source.unread c.in_ok-source.source in
+    let left = g.W.Input.Source.unread c.gaps_on.new.source in
+    let opened = c.in_ok-source.ensures.opened in
+    let a = g.W.Aside.Sink.written c.in_ok-lines.lines in
+    let b = g.W.Aside.Sink.written c.in_ok-gap_lines.gap_lines in
+    let r = c.gaps_on.result in
+    let same = c.open_input.ensures.same_files in
+    let Lists : Bool → Option (List ℕ) → Type 0 = λ p k.
+    ListsJournal (limits_of c.args.any_size) c.args.selection.now k
+    (λ objects. Appends old new (printed style objects) × (passes_check style objects ≡ p)) in
+    let first = subst (λ (x : Option Files). IsEmptyAside x a) same c.in_ok-lines.ensures.empty in
+    let second = subst (λ (x : Option Files). IsEmptyAside x b) (c.aside.ensures.same_files ∙ same)
+    c.in_ok-gap_lines.ensures.empty in
+    let fails : Option (List ℕ) → Option (List ℕ) → CommandFault → Type 0 = λ k l fault.
+    GapsFail (limits_of c.args.any_size) k l fault ⊎ FailsToFlush (IsAtEnd l) fault in
+    let F : CommandFault → Type 0 = λ fault. (fault ≡ NotAllWhole)
+    ⊎ (fails known left fault × (fault ≢ CannotWrite → new ≡ old)) in
+    by_fault r (λ fault is. elim (subst (λ (x : Result (Unit {0}) CommandFault). IfErr x F) is
+    c.gaps_on.ensures.failed) [
+      | inl n ↦ inl (
+        n,
+        if_told files name known opened (Lists false)
+            (if_empty files a b (Lists false known) first second (λ e f. (subst
+            (λ (x : Result (Unit {0}) CommandFault). IfPrinted x (λ p. Lists p known)) is
+            (c.gaps_on.ensures.listed e f)).1 n)),
+      )
+      | inr p ↦ inr (
+        inr (told_of files name known opened
+            (λ k. (l : Option (List ℕ)) × fails k l fault) (left, p.0)),
+        p.1,
+      )
+    ])

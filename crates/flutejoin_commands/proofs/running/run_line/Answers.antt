@@ -2,6 +2,7 @@
 use Rattle.std.proofs.Common.{◌≡◌, ℕ, IfErr, subst, sym}
 use Rattle.flute_parts.specs.Information.{Information, information}
 use Rattle.flutejoin.specs.declared.command_fault.CommandFault.{CommandFault}
+use Rattle.flutejoin.specs.Limits.{limits_of}
 use Rattle.flutejoin_commands.specs.Named.{AddsToName, AddToNameFails}
 use Rattle.flutejoin_commands.specs.Runs.{FailsToDo, IsBadInformation}
 use Rattle.flutejoin_commands.specs.Worlds.{FailsToLeave, outside}
@@ -17,7 +18,8 @@ returns-in-Ok-clause-failed g c =
     let new = outside (g.W.Inputs.files c.info.new.world) (g.O.Sink.written c.info.new.output)
     (g.E.Sink.written c.info.new.errors) in
     let named = subst (λ (x : Information). IfErr c.info.result (FailsToLeave {A = ℕ}
-    (AddsToName files i.j.now i.key x) (AddToNameFails files i.j.now i.key x) i.out.now old
+    (AddsToName files i.j.now i.key x) (AddToNameFails files (limits_of i.any_size) i.j.now i.key
+    x) i.out.now old
     new)) c.in-Ok.ensures.0 c.info.ensures.failed in
     let numbers = information i.length i.symbol i.block in
     let fails = FailsToDo (g.W.Inputs.folders a.world.now) in
@@ -25,4 +27,5 @@ returns-in-Ok-clause-failed g c =
     (or_fails (λ (fault : CommandFault).
     (new ≡ old) × IsBadInformation i.length i.symbol i.block fault)
     (FailsToLeave {A = ℕ} (AddsToName files i.j.now i.key numbers)
-    (AddToNameFails files i.j.now i.key numbers) i.out.now old new) c.info.result named)
+    (AddToNameFails files (limits_of i.any_size) i.j.now i.key numbers) i.out.now old new)
+    c.info.result named)

@@ -1,10 +1,38 @@
+use Rattle.std.proofs.Common.{true, false}
+use Rattle.flutejoin.specs.Limits.{limits_of}
 use Rattle.flutejoin_commands.proofs.ObjectBytes.{object_written, object_fails}
 use Rattle.flutejoin_commands.proofs.extracting.ExtractWorkWork.write.Goals as goal
 
-pub returns-clause-written : goal.returns-clause-written
-returns-clause-written g c =
-    object_written g.W.Sink.written (g.R.Source.unread c.args.self.now.source) (g.R.Source.unread c.extract_to.new.source) c.args.self.now.key c.args.sink.now c.extract_to.new.sink c.extract_to.result c.extract_to.ensures.as_others
+pub returns-then-self-clause-written : goal.returns-then-self-clause-written
+returns-then-self-clause-written g c =
+    let w = c.args.self.now in
+    rw c.if-self.true
+    (object_written g.W.Sink.written (limits_of true) (g.R.Source.unread w.source)
+    (g.R.Source.unread c.extract_to.new.source) w.key c.args.sink.now c.extract_to.new.sink
+    c.extract_to.result c.extract_to.ensures.as_others)
 
-pub returns-clause-failed : goal.returns-clause-failed
-returns-clause-failed g c =
-    object_fails g.W.Sink.written (g.R.Source.unread c.args.self.now.source) (g.R.Source.unread c.extract_to.new.source) c.args.self.now.key c.args.sink.now c.extract_to.new.sink c.extract_to.result c.extract_to.ensures.as_others
+pub returns-then-self-clause-failed : goal.returns-then-self-clause-failed
+returns-then-self-clause-failed g c =
+    let w = c.args.self.now in
+    rw c.if-self.true
+    (object_fails g.W.Sink.written (limits_of true) (g.R.Source.unread w.source)
+    (g.R.Source.unread c.extract_to.new.source) w.key c.args.sink.now c.extract_to.new.sink
+    c.extract_to.result c.extract_to.ensures.as_others)
+
+pub returns-else-self-clause-written : goal.returns-else-self-clause-written
+returns-else-self-clause-written g c =
+    let w = c.args.self.now in
+    rw c.if-self.false
+    (object_written g.W.Sink.written (limits_of false) (g.R.Source.unread w.source)
+    (g.R.Source.unread c.extract_to-else-self.new.source) w.key c.args.sink.now
+    c.extract_to-else-self.new.sink
+    c.extract_to-else-self.result c.extract_to-else-self.ensures.as_others)
+
+pub returns-else-self-clause-failed : goal.returns-else-self-clause-failed
+returns-else-self-clause-failed g c =
+    let w = c.args.self.now in
+    rw c.if-self.false
+    (object_fails g.W.Sink.written (limits_of false) (g.R.Source.unread w.source)
+    (g.R.Source.unread c.extract_to-else-self.new.source) w.key c.args.sink.now
+    c.extract_to-else-self.new.sink
+    c.extract_to-else-self.result c.extract_to-else-self.ensures.as_others)

@@ -1,20 +1,37 @@
-use Rattle.std.proofs.Common.{ℕ, List, length, subst, sym}
+use Rattle.std.proofs.Common.{ℕ, List, true, false, length, subst, sym}
 use Rattle.std.specs.Prelude.{IfErr}
 use Rattle.flutejoin.specs.JoinInputs.{AreInputs}
 use Rattle.flutejoin.specs.Joined.{choice_of}
-use Rattle.flutejoin.specs.Joining.{JoinToFails, NamesOneOf}
+use Rattle.flutejoin.specs.JoinFaults.{JoinToFails, NamesOneOf}
 use Rattle.flutejoin.specs.declared.command_fault.CommandFault.{CommandFault}
+use Rattle.flutejoin.specs.Limits.{limits_of}
 use Rattle.flutejoin_commands.proofs.Failing.{IfErr-both}
 use Rattle.flutejoin_commands.proofs.joining.JoinWorkWork.write.Goals as goal
 
-pub returns-clause-failed : goal.returns-clause-failed
-returns-clause-failed g c =
+pub returns-then-self-clause-failed : goal.returns-then-self-clause-failed
+returns-then-self-clause-failed g c =
     let w = c.args.self.now in
-    IfErr-both c.join_to.result (AreInputs g.R.Source.unread w.inputs.items)
+    rw c.if-self.true
+    (IfErr-both c.join_to.result (AreInputs g.R.Source.unread w.inputs.items)
     (λ (contents : List (List ℕ)) (e : CommandFault).
-    JoinToFails (choice_of w.sender w.scope) contents e)
+    JoinToFails (choice_of (limits_of true) w.sender w.scope) contents e)
     (λ (e : CommandFault). NamesOneOf (length w.inputs.items) e)
     (λ contents inputs. c.join_to.ensures.failed contents
     (subst (λ l. AreInputs g.R.Source.unread l contents) (sym c.deref_mut.ensures.value) inputs))
     (subst (λ l. IfErr c.join_to.result (NamesOneOf (length l))) c.deref_mut.ensures.value
-    c.join_to.ensures.names)
+    c.join_to.ensures.names))
+
+pub returns-else-self-clause-failed : goal.returns-else-self-clause-failed
+returns-else-self-clause-failed g c =
+    let w = c.args.self.now in
+    rw c.if-self.false
+    (IfErr-both c.join_to-else-self.result (AreInputs g.R.Source.unread w.inputs.items)
+    (λ (contents : List (List ℕ)) (e : CommandFault).
+    JoinToFails (choice_of (limits_of false) w.sender w.scope) contents e)
+    (λ (e : CommandFault). NamesOneOf (length w.inputs.items) e)
+    (λ contents inputs. c.join_to-else-self.ensures.failed contents
+    (subst (λ l. AreInputs g.R.Source.unread l contents) (sym c.deref_mut-else-self.ensures.value)
+    inputs))
+    (subst (λ l. IfErr c.join_to-else-self.result (NamesOneOf (length l)))
+    c.deref_mut-else-self.ensures.value
+    c.join_to-else-self.ensures.names))

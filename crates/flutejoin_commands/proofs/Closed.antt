@@ -1,0 +1,29 @@
+-- What became of an output that was closed.
+use Rattle.std.proofs.Common.{◌≡◌, ℕ, List, Option, Some, None, inl, inr, refl, subst}
+use Rattle.flute_output.specs.Entries.{Entries}
+use Rattle.flutejoin_commands.specs.Closings.{Closing, ClosesWhole, IsNoted}
+use Rattle.flutejoin_commands.specs.Commands.{IsWholeAlways}
+use Rattle.flutejoin_commands.specs.Files.{Files}
+use Rattle.flutejoin_commands.specs.Worlds.{HasOut}
+
+-- an output with these entries, which was whole at any moment
+pub closed_whole : (name : List ℕ) (files : Option Files) (old new : Option (List Closing))
+    (first last : Option Entries) → HasOut files name first → IsWholeAlways first last
+    → IsNoted name last old new → ClosesWhole name files old new
+closed_whole name files None new first last h w n = inl n
+closed_whole name files (Some old) new first None h w n = absurd n
+closed_whole name files (Some old) new first (Some e) h w n = inr (record {
+  before = old;
+  entries = e;
+  was = refl;
+  is = n;
+  whole = (first, h, w);
+})
+
+-- the same, told of what was before
+pub closes_since : (name : List ℕ) (files now : Option Files)
+    (old between new : Option (List Closing)) → now ≡ files → between ≡ old
+    → ClosesWhole name now between new → ClosesWhole name files old new
+closes_since name files now old between new same kept h =
+    subst (λ f. ClosesWhole name f old new) same
+    (subst (λ c. ClosesWhole name now c new) kept h)

@@ -1,0 +1,14 @@
+-- What is closed comes before all that the names had.
+use Rattle.std.proofs.Common.{Some, ap, map}
+use Rattle.flute_output.specs.Memory.{memory_entries}
+use Rattle.flutejoin_memory.specs.NamedFiles.{with_bytes}
+use Rattle.flutejoin_memory.proofs.Replacing.{closes}
+use Rattle.flutejoin_memory.proofs.memory_world.MemoryWorldWorld.close.Goals as goal
+
+pub returns : goal.returns
+returns c = record {
+  closed = closes c.args.out.now (memory_entries c.args.folder)
+      c.args.self.now.changes.told.closed c.close.new.self.told.closed
+      (map with_bytes c.args.self.now.given.now) c.close.ensures;
+  noted = ap Some c.close.ensures;
+}
