@@ -44,35 +44,36 @@ SOURCES := crates.txt $(shell find crates -name out -prune -o -name README.md -o
 bin/flutejoin: $(SOURCES)
 	@tools/build.sh
 
+test: export FLUTEJOIN = $(abspath $(BUILT))
 test:
 	rt ci
 	$(MAKE) --no-print-directory --jobs=2 --output-sync=line test-wrong-bodies test-trials
 	tests/wrong_bodies.sh
-	tests/program.sh $(BUILT)
-	tests/outputs.sh $(BUILT)
+	tests/test_run.py
+	tests/test_program.py
+	tests/test_outputs.py
 	tests/large.py $(BUILT)
-	tests/capture.sh $(BUILT)
+	tests/test_capture.py
 	tests/capture_cases.py
-	tests/values.sh $(BUILT)
+	tests/test_values.py
 	tests/files.py $(BUILT)
 	tests/extract_all.py $(BUILT)
-	tests/receive.sh $(BUILT)
+	tests/test_any_size.py
+	tests/test_receive.py
 	tests/receiving.py $(BUILT)
-	tests/map.sh $(BUILT)
+	tests/test_map.py
 	tests/map_cases.py
-	tests/readme.sh $(BUILT)
-	tests/library_pages.sh
+	tests/test_pages.py
+	tests/test_libraries.py
 	tests/python.py
-	tests/tree.sh $(BUILT)
-	tests/examples.sh $(BUILT)
+	tests/test_tree.py
+	tests/test_examples.py
 	tests/station.py $(BUILT)
-	tests/package.sh $(BUILT)
+	tests/test_package.py
 	tests/longest_journal.py $(BUILT)
-	tests/man.sh $(BUILT)
-	tests/completion.sh $(BUILT)
-	tests/tutorial.sh $(BUILT)
-	tests/refused_memory.sh $(SWEEP) $(SWEEP).by-rattle
-	tests/refused_program.sh $(BUILT) $(BUILT).by-rattle
+	tests/test_man.py
+	tests/test_completion.py
+	SWEEP=$(abspath $(SWEEP)) tests/test_refused.py
 
 # Neither waits for anything but the processor.
 test-wrong-bodies:

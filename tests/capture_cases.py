@@ -15,6 +15,7 @@ import sys
 import tempfile
 import time
 import unittest
+from typing import Callable
 
 sys.dont_write_bytecode = True
 TESTS = os.path.dirname(os.path.realpath(__file__))
@@ -194,7 +195,7 @@ class Fragments(Cases):
         class Counted(bytes):
             copied = 0
 
-            def __getitem__(self, place):
+            def __getitem__(self, place: int | slice) -> int | Counted:
                 part = bytes.__getitem__(self, place)
                 if isinstance(place, slice):
                     Counted.copied += len(part)
@@ -419,7 +420,7 @@ class Runs(Cases):
         self.addCleanup(ended, process)
         return process
 
-    def wait_for(self, holds) -> None:
+    def wait_for(self, holds: Callable[[], object]) -> None:
         for _ in range(200):
             if holds():
                 return

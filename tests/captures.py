@@ -1,5 +1,5 @@
 #!/usr/bin/env python3
-"""Captures for tests/capture.sh, written by Python's own library.
+"""Captures for tests/test_capture.py, written by Python's own library.
 
   captures.py make ROWS FOLDER
       of each row NAME|OPTIONS|.. of a file: FOLDER/NAME, a capture of the datagram files that its

@@ -26,8 +26,8 @@ SVG = "{http://www.w3.org/2000/svg}"
 PARTIAL = "partial missing 1 conflicting 0 misfit 0\ngap 0/1-1 missing"
 PROGRAM = """#!/bin/sh
 case $*-$1 in
-    "gaps -"*) cat > /dev/null; cat joined.gaps ;;
-    *-gaps) cat "$2.gaps" ;;
+    "gaps --any-size -"*) cat > /dev/null; cat joined.gaps ;;
+    *-gaps) cat "$3.gaps" ;;
     *-show) cat "$2.show" ;;
 esac
 """
@@ -142,13 +142,13 @@ class Pictures(unittest.TestCase):
         class Program:
             """Tells an object of 65,536 blocks of 16 symbols, of which every second is missing."""
 
-            def states(self, _journals, _wanted) -> dict[str, flutejoin_gaps.State]:
+            def states(self, _journals: object, _wanted: object) -> dict[str, flutejoin_gaps.State]:
                 return {"object": flutejoin_gaps.State("partial")}
 
-            def information(self, _journal, _keys) -> dict[str, tuple]:
+            def information(self, _journal: object, _keys: object) -> dict[str, tuple]:
                 return {"object": (1 << 20, 1, 16)}
 
-            def gaps(self, _journals, begin) -> None:
+            def gaps(self, _journals: object, begin: flutejoin_gaps.Begin) -> None:
                 take = begin("object", flutejoin_gaps.State("partial"))
                 for block, number in places():
                     take(block, number, number, flutejoin_gaps.MISSING)
@@ -169,13 +169,13 @@ class Pictures(unittest.TestCase):
         states = {f"object {n}": flutejoin_gaps.State("partial", 0, n) for n in (9, 4, 1, 2)}
 
         class Program:
-            def states(self, _journals, _wanted) -> dict[str, flutejoin_gaps.State]:
+            def states(self, _journals: object, _wanted: object) -> dict[str, flutejoin_gaps.State]:
                 return states
 
-            def information(self, _journal, _keys) -> dict[str, tuple]:
+            def information(self, _journal: object, _keys: object) -> dict[str, tuple]:
                 return dict.fromkeys(states, (400, 10, 8))
 
-            def gaps(self, _journals, begin) -> None:
+            def gaps(self, _journals: object, begin: flutejoin_gaps.Begin) -> None:
                 with contextlib.suppress(flutejoin_gaps.Enough):
                     for key, state in states.items():
                         take = begin(key, state)

@@ -1,6 +1,6 @@
 #!/usr/bin/env python3
-"""Reads the Python of tools/ and examples/: it needs no package, each function has type hints, and
-pyflakes, if it is installed, finds nothing in it or in the tests.
+"""Reads the Python of tools/ and examples/, which needs no package, and of the tests: each function
+has type hints, and pyflakes, if it is installed, finds nothing.
 
 usage: tests/python.py
 """
@@ -59,7 +59,7 @@ class Sources(unittest.TestCase):
             self.assertLessEqual(others, OF_DASK, path)
 
     def test_type_hints(self) -> None:
-        for path in sources("tools", "examples"):
+        for path in sources(*FOLDERS):
             self.assertEqual(without_hints(ast.parse(path.read_text())), [], path)
 
     def test_lengths(self) -> None:

@@ -25,6 +25,7 @@ import tempfile
 import threading
 import time
 import unittest
+from typing import Callable, Iterable, Sequence
 
 sys.dont_write_bytecode = True
 TOOLS = os.path.join(os.path.dirname(os.path.dirname(os.path.abspath(__file__))), "tools")
@@ -37,7 +38,9 @@ LONGEST_WAIT = 30  # seconds
 STAMP = re.compile(r"^\d{4}-\d\d-\d\dT\d\d:\d\d:\d\dZ (?=flutejoin-receive: )", re.M)
 
 
-def packet(symbol: bytes, number: int = 0, toi: int = 1, instance=None, tsi: int = 7) -> bytes:
+def packet(
+    symbol: bytes, number: int = 0, toi: int = 1, instance: int | None = None, tsi: int = 7
+) -> bytes:
     """A FLUTE packet, of an FDT Instance if one is named."""
     extension = b"" if instance is None else struct.pack(">I", 0xC0200000 | instance)
     words = 4 + len(extension) // 4
@@ -69,7 +72,15 @@ def free_port() -> int:
 class Receiver:
     """A run of the tool, with its folder and what it tells."""
 
-    def __init__(self, test, *words: str, before=(), tool=(TOOL,), listens: bool = True, **run):
+    def __init__(
+        self,
+        test: unittest.TestCase,
+        *words: str,
+        before: Sequence[str] = (),
+        tool: Sequence[str] = (TOOL,),
+        listens: bool = True,
+        **run: object,
+    ) -> None:
         self.test, self.port = test, free_port()
         self.told = tempfile.TemporaryFile()
         run.setdefault("stderr", self.told)
@@ -90,7 +101,7 @@ class Receiver:
         """What it told until now, without the times."""
         return STAMP.sub("", os.pread(self.told.fileno(), 1 << 20, 0).decode())
 
-    def until(self, holds, what: str) -> None:
+    def until(self, holds: Callable[[], object], what: str) -> None:
         end = time.monotonic() + LONGEST_WAIT
         while not holds():
             has_ended = self.process.poll() is not None
@@ -101,7 +112,7 @@ class Receiver:
     def until_told(self, text: str, count: int = 1) -> None:
         self.until(lambda: self.stderr().count(text) >= count, text)
 
-    def send(self, datagrams, source: str = "127.0.0.1", port: int = 0) -> None:
+    def send(self, datagrams: Iterable[bytes], source: str = "127.0.0.1", port: int = 0) -> None:
         with socket.socket(socket.AF_INET, socket.SOCK_DGRAM) as udp:
             udp.bind((source, 0))
             for datagram in datagrams:
@@ -446,7 +457,7 @@ class Disk(Case):
     def part(self, number: int) -> list[bytes]:
         return records(self.path(f"kept/127.0.0.1.{number}.fldg"))
 
-    def lost_name(self, lose, told: str) -> tuple[Receiver, list[bytes]]:
+    def lost_name(self, lose: Callable[[], object], told: str) -> tuple[Receiver, list[bytes]]:
         receiver = Receiver(self, "-o", "kept")
         before, after = self.symbols(30), self.symbols(30, toi=2)
         receiver.send(before)
@@ -506,7 +517,7 @@ class Disk(Case):
         receiver = Receiver(self, "-o", "kept")
         sent: list[bytes] = []
 
-        def send_until(holds) -> None:
+        def send_until(holds: Callable[[], object]) -> None:
             end = time.monotonic() + LONGEST_WAIT
             while not holds():
                 self.assertLess(time.monotonic(), end, receiver.stderr())
@@ -906,7 +917,7 @@ class Modules(unittest.TestCase):
         self.assertFalse(epoch.contradicts(b"no packet"))
 
 
-def tests_of(suite) -> list[unittest.TestCase]:
+def tests_of(suite: unittest.TestSuite | unittest.TestCase) -> list[unittest.TestCase]:
     if isinstance(suite, unittest.TestCase):
         return [suite]
     return [test for part in suite for test in tests_of(part)]

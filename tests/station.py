@@ -23,6 +23,7 @@ import sys
 import tempfile
 import threading
 import time
+from typing import Callable
 
 HERE = pathlib.Path(__file__).resolve().parent
 TOOLS = HERE.parent / "tools"
@@ -175,7 +176,7 @@ class Run:
             return self.child.wait()
 
 
-def until(holds, run: Run | None = None) -> bool:
+def until(holds: Callable[[], object], run: Run | None = None) -> bool:
     """Waits until something holds, 30 seconds at most."""
     end = time.monotonic() + 30
     while not holds():

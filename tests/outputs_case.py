@@ -1,0 +1,94 @@
+"""What is received of two files in two stations, and the runs of the tests of outputs.
+
+Each station, `one` and `two`, has one of the files, `content` and `other`; both come to `both`.
+"""
+from __future__ import annotations
+
+import atexit
+import functools
+import os
+import pathlib
+import shutil
+import stat
+import subprocess
+import tempfile
+
+import run
+from run import TESTS, Run, until
+
+LINES_OF_TWO = "datagrams 0\nrefused 0\nentries 3\n"
+LINES_OF_BOTH = "datagrams 0\nrefused 0\nentries 14\n"
+FIRST, SECOND = "--tsi 7 --toi 1", "--tsi 7 --toi 2"
+CUT = "--symbol 4 --block 2"
+# Information of a third object
+THIRD = f"--tsi 7 --toi 3 --length 5 {CUT}"
+CREATE, WRITE = "cannot create output", "cannot write"
+# The wish of tests/disk.c comes first; what it is asked goes to stream 9, here standard output.
+THROUGH = 'disk=$0 wish=$1; shift; exec env LD_PRELOAD="$disk" DISK="$wish" "$@" 9>&1'
+
+
+@functools.lru_cache(maxsize=None)
+def library(name: str) -> pathlib.Path:
+    """The library of tests/NAME.c, which is loaded before a program."""
+    folder = pathlib.Path(tempfile.mkdtemp(prefix="flutejoin-test."))
+    atexit.register(shutil.rmtree, folder, ignore_errors=True)
+    folder.chmod(0o755)
+    path = folder / f"{name}.so"
+    subprocess.run([TESTS / "preload.sh", name, path], check=True)
+    return path
+
+
+class Case(run.Case):
+    def setUp(self) -> None:
+        super().setUp()
+        self.write("content", "a file of some bytes, in many symbols")
+        self.write("other", "hello")
+        self.made(f"carousel -o sent1 {FIRST} {CUT} content")
+        self.made(f"carousel -o sent2 {SECOND} {CUT} other")
+        self.made("join -o one sent1")
+        self.made("join -o two sent2")
+        self.made("join -o both one two")
+
+    def copy(self, name: str, to: str) -> None:
+        """The bytes of a file, in another that may be there."""
+        self.write(to, self.read(name))
+
+    def part(self, name: str, size: int) -> bytes:
+        """So many bytes of a file, or, below zero, all but so many."""
+        return self.read(name)[:size]
+
+    def mode(self, name: str) -> str:
+        return oct(stat.S_IMODE(self.path(name).stat().st_mode))
+
+    def alone(self, name: str, file: str) -> None:
+        """Nothing is beside it."""
+        self.absent(f"{name}: nothing beside {file}", f"{file}.partial")
+
+    def through(self, wish: str, words: str, **how: object) -> Run:
+        """A run with tests/disk.c between it and its files. What it asks of the disk and what it
+        prints are its output, in that order."""
+        command = ["sh", "-c", THROUGH, library("disk"), wish, run.PROGRAM, *run.split(words)]
+        return self.command(command, **how)
+
+    def fed(self, name: str) -> int:
+        """The pipe with a name, once a run reads from it."""
+        found: list[int] = []
+
+        def is_read() -> bool:
+            try:
+                found.append(os.open(self.path(name), os.O_WRONLY | os.O_NONBLOCK))
+            except OSError:
+                return False
+            return True
+
+        self.assertTrue(until(is_read), f"{name} is not read")
+        os.set_blocking(found[0], True)
+        return found[0]
+
+    def feed(self, pipe: int, content: bytes) -> None:
+        """Writes what is left to a pipe, and closes it."""
+        with open(pipe, "wb") as out:
+            out.write(content)
+
+    def until_there(self, name: str) -> None:
+        self.assertTrue(until(lambda: self.exists(name)), f"{name} does not come")

@@ -1,0 +1,142 @@
+"""Tests of `join`: its inputs, its outputs, and the limits of what it joins."""
+from __future__ import annotations
+
+from program_case import FIELDS, HEADER, KEY, NAME, Case, ended, joined, sessions
+
+FULL = {"to": "/dev/full"}
+
+
+class Join(Case):
+    def test_inputs(self) -> None:
+        self.makes("a datagram file", "join -o got sent", joined(2, 3), "whole2")
+        words = "join -o got sent whole sent"
+        self.makes("files and journals", words, joined(4, 3), "whole2")
+        self.makes("journals", "join -o got whole others", joined(0, 4), "joined2")
+        self.makes("a refused datagram", "join -o got refused", joined(1, 0, 1), "empty2")
+        self.file("no_datagram", "464C44470001")
+        self.makes("nothing", "join -o got no_datagram empty", joined(0, 0), "empty2")
+        self.row("over another journal", "join -o got whole others", 0, joined(0, 4))
+        self.same("the other journal is gone", "got", "joined2")
+
+    def test_number_of_inputs(self) -> None:
+        words = ["join", "-o", "got", *["whole"] * 63]
+        self.makes("as many as may be", [*words, "others"], joined(0, 4), "joined2")
+        self.row("one more", [*words, "whole", "whole"], 2, "", "too many inputs")
+        self.row("none", "join -o got", 2, "", None)
+        # The last of the inputs alone has a symbol.
+        self.file("last_alone", HEADER, f"03 {KEY} 0000 0001 0001 6F", ended(1))
+        for count in 33, 34, 48, 62, 63:
+            words = ["join", "-o", "got", *["part"] * (count - 1), "last_alone"]
+            self.makes(f"{count} inputs", words, joined(0, 3), "whole2")
+
+    def test_faults(self) -> None:
+        mem = "join -o got whole /proc/self/mem"
+        self.rows(
+            ("no inputs", "join -o got missing missing", 3, "", "cannot open input 1"),
+            ("no second input", "join -o got whole missing", 3, "", "cannot open input 2"),
+            ("no known kind", "join -o got bad content", 1, "", "input 2: unknown kind"),
+            ("a bad journal", "join -o got whole bad", 1, "", "input 2: Trailing"),
+            ("a datagram file that is cut", "join -o got cut", 1, "", "input 1: Cut"),
+            ("an input that cannot be read", mem, 3, "", "input 2: Read"),
+        )
+        self.absent("no file after a fault", "got")
+
+    def test_outputs(self) -> None:
+        self.rows(
+            ("no folder", "join -o no/got whole", 3, "", "cannot create output"),
+            ("a full output", "join -o /dev/full whole", 3, "", "cannot write"),
+        )
+        words = "join -o got whole"
+        self.row("a full standard output", words, 3, "", "cannot write", **FULL)
+
+    def test_faults_before_the_output(self) -> None:
+        """Where OUT cannot be created or written, a fault of the inputs comes first."""
+        for out in "no/got", "/dev/full":
+            many = f"info -o {out} --tsi 64 --toi 1 {FIELDS} many"
+            kind = f"join -o {out} bad content"
+            self.rows(
+                (f"a bad journal, {out}", f"join -o {out} whole bad", 1, "", "input 2: Trailing"),
+                (f"cut, {out}", f"join -o {out} whole cut", 1, "", "input 2: Cut"),
+                (f"no known kind, {out}", kind, 1, "", "input 2: unknown kind"),
+                (f"info, {out}", f"info -o {out} {NAME} {FIELDS} bad", 1, "", "input 1: Trailing"),
+                (f"info of one session too many, {out}", many, 1, "", "full"),
+            )
+
+    def test_pipes(self) -> None:
+        words = "join -o got others -"
+        self.makes("standard input", words, joined(2, 4), "joined2", stdin=self.read("sent"))
+        with self.piped("pipe", self.read("sent")):
+            self.makes("datagrams", "join -o got pipe others", joined(2, 4), "joined2")
+        with self.piped("pipe", self.read("others")):
+            self.makes("a journal", "join -o got sent pipe sent", joined(4, 4), "joined2")
+
+
+class JoinLimits(Case):
+    """Alone before a later fault, together behind each fault."""
+
+    def setUp(self) -> None:
+        super().setUp()
+        self.file("more", HEADER, sessions(range(40, 65)), ended(25))
+
+    def test_one_session_too_many(self) -> None:
+        for out in "kept", "got", "no/got", "/dev/full":
+            self.write("kept", "before")
+            self.row(f"to {out}", f"join -o {out} many more", 1, "", "full")
+            self.same(f"the output that was there, to {out}", "kept", b"before")
+            self.absent(f"nothing is left, to {out}", "kept.partial", "got", "got.partial")
+
+    def test_faults_before_the_limits(self) -> None:
+        self.write("cut_more", self.read("more")[:100])
+        self.rows(
+            ("a fault", "join -o got many more bad", 1, "", "input 3: Trailing"),
+            ("a cut journal", "join -o got many cut_more", 1, "", "input 2: Cut"),
+            ("a cut datagram file beside a journal", "join -o got many cut", 1, "", "input 2: Cut"),
+        )
+        self.absent("nothing is left after a fault", "got", "got.partial")
+
+
+class Symbols(Case):
+    """As many symbols of one object as a store holds, from the network and from a journal, and one
+    more of each."""
+
+    MOST = 1 << 20
+
+    def setUp(self) -> None:
+        super().setUp()
+        self.write("border", bytes(self.MOST))
+        of = f"{NAME} --symbol 1 --block 65536"
+        words = f"carousel -o border.sent {of} border"
+        self.row("carousel of as many", words, 0, f"datagrams {self.MOST}")
+        words = "join -o border.joined border.sent"
+        self.row("join of as many", words, 0, joined(self.MOST, self.MOST + 1))
+        self.file("further", f"{HEADER} 03 {KEY} 0010 0000 0001 00 {ended(1)}")
+
+    def test_as_many(self) -> None:
+        words = "join -o got border.joined border.joined"
+        self.makes("join with itself", words, joined(0, self.MOST + 1), "border.joined")
+        words = f"info -o got {NAME} --length 1048576 --symbol 1 --block 65536 border.joined"
+        self.row("info", words, 0, f"entries {self.MOST + 1}")
+        self.row("gaps", "gaps border.joined", 0, f"session 7 object 1 whole {self.MOST}")
+        words = f"extract -f -o got {NAME} border.joined"
+        self.makes("extract", words, f"bytes {self.MOST}", "border")
+
+    def test_one_more(self) -> None:
+        self.write("beyond", bytes(self.MOST + 1))
+        words = f"carousel -o beyond.sent {NAME} --symbol 1 --block 65536 beyond"
+        self.row("carousel", words, 0, f"datagrams {self.MOST + 1}")
+        self.rows(
+            ("join of a datagram file", "join -o got beyond.sent", 1, "", "full"),
+            ("join together", "join -o got border.joined further", 1, "", "full"),
+            ("join of a file, together", "join -o got border.sent further", 1, "", "full"),
+        )
+        self.absent("no file after a full join", "got")
+        words = "merge -o more border.joined further"
+        self.row("merge", words, 0, f"entries {self.MOST + 2}")
+        self.rows(
+            ("limits before a later fault", "join -o got more bad", 1, "", "input 2: Trailing"),
+            ("a fault before the limits", "join -o got bad more", 1, "", "input 1: Trailing"),
+            ("gaps", "gaps more", 1, "", "full"),
+            ("extract", f"extract -o got {NAME} more", 1, "", "full"),
+            ("full before no object", "extract -o got --tsi 7 --toi 9 more", 1, "", "full"),
+        )
+        self.absent("no file after them", "got")

@@ -1,0 +1,106 @@
+"""Tests of `carousel` as a stream: from files, pipes and files that change meanwhile."""
+from __future__ import annotations
+
+import os
+import resource
+import struct
+import subprocess
+
+import run
+from program_case import NAME, Case
+
+MEBIBYTE = 1 << 20
+LITTLE = {resource.RLIMIT_AS: 16 * MEBIBYTE}
+
+
+def partition(length: int, symbol: int, block: int) -> list[tuple[int, int]]:
+    """The source block number and the encoding symbol ID of each symbol (RFC 5052, section 9.1)."""
+    symbols = -(-length // symbol)
+    blocks = -(-symbols // block)
+    small, large_blocks = divmod(symbols, blocks)
+    sizes = [small + 1] * large_blocks + [small] * (blocks - large_blocks)
+    return [(sbn, esi) for sbn, size in enumerate(sizes) for esi in range(size)]
+
+
+def datagrams(content: bytes, symbol: int, block: int) -> bytes:
+    """The datagram file of the object 1 of the session 7 (RFC 5651, RFC 5775, RFC 5445)."""
+    fixed = bytes([0x10, 0xA0, 8, 0]) + struct.pack(">III", 0, 7, 1)
+    length = len(content).to_bytes(6, "big")
+    fti = bytes([64, 4]) + length + struct.pack(">HHI", 0, symbol, block)
+    records = [b"FLDG\0\1"]
+    for place, (sbn, esi) in enumerate(partition(len(content), symbol, block)):
+        piece = content[place * symbol : (place + 1) * symbol]
+        datagram = fixed + fti + struct.pack(">HH", sbn, esi) + piece
+        records.append(struct.pack(">H", len(datagram)) + datagram)
+    return b"".join(records)
+
+
+def counted(number: int) -> bytes:
+    """Bytes in which each place is another."""
+    return b"".join(struct.pack(">I", place) for place in range(-(-number // 4)))[:number]
+
+
+class Sending(Case):
+    def test_lengths(self) -> None:
+        """Around what is believed of a file, held, and read at once; of a file and of a pipe."""
+        for length in (1, 1400, 65_535, 65_536, 131_072, 131_073, MEBIBYTE, MEBIBYTE + 1):
+            content = counted(length)
+            self.write("content", content)
+            of = f"{NAME} --symbol 1400 --block 64"
+            wanted = datagrams(content, 1400, 64)
+            told = f"datagrams {-(-length // 1400)}"
+            self.makes(f"{length} bytes", f"carousel -f -o got {of} content", told, wanted)
+            piped = f"carousel -f -o got {of} -"
+            self.makes(f"{length} bytes of a pipe", piped, told, wanted, stdin=content)
+
+    def test_memory(self) -> None:
+        """400 MB of a file, and 40 of a pipe, in 16 MiB of address space."""
+        with self.path("large").open("wb") as file:
+            file.truncate(400_000_000)
+        of = f"carousel -o /dev/null {NAME} --symbol 1400 --block 1024"
+        self.row("a file", f"{of} large", 0, "datagrams 285715", limits=LITTLE)
+        content = bytes(40_000_000)
+        self.row("a pipe", f"{of} -", 0, "datagrams 28572", stdin=content, limits=LITTLE)
+
+    def test_nothing_put_aside(self) -> None:
+        """Without a folder for it, no more than what memory holds is sent of a pipe."""
+        self.write("got", "old")
+        of = f"carousel -f -o got {NAME} --symbol 1400 --block 64 -"
+        nowhere = {"TMPDIR": "missing"}
+        large = counted(3 * MEBIBYTE)
+        self.row("too much", of, 3, "", "cannot write", stdin=large, env=nowhere)
+        self.same("OUT is as before", "got", b"old")
+        self.absent("nothing beside it", "got.partial")
+        small = counted(MEBIBYTE // 2)
+        self.row("what memory holds", of, 0, "datagrams 375", stdin=small, env=nowhere)
+        self.same("its datagrams", "got", datagrams(small, 1400, 64))
+
+    def test_no_file_is_left(self) -> None:
+        os.mkdir(self.path("aside"))
+        of = f"carousel -o got {NAME} --symbol 1400 --block 64 -"
+        self.row("a pipe", of, 0, None, stdin=counted(3 * MEBIBYTE), env={"TMPDIR": "aside"})
+        self.holds("nothing aside", not os.listdir(self.path("aside")))
+
+    def test_files_of_the_system(self) -> None:
+        """The length that they tell is not theirs."""
+        content = self.path("/proc/version").read_bytes()
+        of = f"carousel -o got {NAME} --symbol 1400 --block 64 /proc/version"
+        self.makes("a file of /proc", of, "datagrams 1", datagrams(content, 1400, 64))
+
+    def test_a_length_that_changes(self) -> None:
+        """The program waits for its output to be read when the file is cut, or gets longer."""
+        for name, length in (("shorter", 2 * MEBIBYTE), ("longer", 8 * MEBIBYTE + 1)):
+            self.write("content", bytes(8 * MEBIBYTE))
+            words = ["carousel", "-o", "-", *run.split(NAME), "--symbol", "1400", "--block", "64"]
+            with subprocess.Popen(
+                [run.PROGRAM, *words, "content"],
+                stdout=subprocess.PIPE,
+                stderr=subprocess.PIPE,
+                cwd=self.folder,
+            ) as sending:
+                begun = sending.stdout.read(1)
+                os.truncate(self.path("content"), length)
+                rest, told = sending.communicate(timeout=run.LONGEST)
+            done = run.Run(sending.returncode, b"", told)
+            self.check(f"a file that gets {name}", done, 3, "", "input 1: Read")
+            self.holds(f"{name}: not all was written", len(begun + rest) < 9 * MEBIBYTE)

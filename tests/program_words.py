@@ -1,0 +1,60 @@
+"""Tests of the command line itself: no command, help and its examples, versions."""
+from __future__ import annotations
+
+import re
+
+from program_case import SYMBOL, Case, lines
+
+FULL = {"to": "/dev/full"}
+
+
+class Words(Case):
+    def test_no_command(self) -> None:
+        self.rows(
+            ("a command that does not exist", "frob", 2, "", None),
+            ("no command", "", 2, "", None),
+            ("no datagram", "packet", 2, "", None),
+            ("no text", ["packet", b"\xff\xfe"], 2, "", "an argument is not text"),
+        )
+
+    def test_versions(self) -> None:
+        self.row("the version", "-V", 0, "flutejoin 0.1.0")
+        journals = "Journals of versions 1 and 2 are read, and those of version 2 written."
+        self.row("and those of journals", "--version", 0, lines("flutejoin 0.1.0", journals))
+
+    def test_streams(self) -> None:
+        self.row("a full output", f"packet {SYMBOL}", 3, "", "cannot write", **FULL)
+        self.row("help to a full output", "--help", 3, "", "cannot write", **FULL)
+        self.row("a closed output", f"packet {SYMBOL}", 3, "", "cannot write", closed=[1])
+
+
+class Help(Case):
+    """The examples of each help are run as they stand, in one folder, by their order."""
+
+    def examples(self, text: str) -> str:
+        behind = re.split("[Ee]xample", text, maxsplit=1)[-1]
+        return lines(*re.findall("^  ((?:flutejoin|seq) .*)", behind, re.MULTILINE))
+
+    def test_examples(self) -> None:
+        done = self.row("help", "--help", 0, None)
+        text = done.out.decode()
+        self.holds("help gives an example", SYMBOL in text, text)
+        listed = re.search("^Commands:\n(.*?)^$", text, re.MULTILINE | re.DOTALL)
+        commands = re.findall("^  ([a-z]+) ", listed[1], re.MULTILINE)
+        self.assertIn("join", commands)
+        self.path("tried").mkdir()
+        self.run_examples("program", text)
+        self.path("tried/station2").write_bytes(self.read("tried/station1"))
+        for command in commands:
+            if command != "help":
+                done = self.row(f"help of {command}", f"{command} --help", 0, None)
+                self.run_examples(command, done.out.decode())
+        self.same("the file that comes out", "tried/file", "tried/out")
+
+    def run_examples(self, command: str, text: str) -> None:
+        examples = self.examples(text)
+        self.holds(f"help of {command} gives an example", examples)
+        if command == "carousel":
+            self.remove("tried/sent")
+        done = self.shell(f"set -e\n{examples}", folder="tried")
+        self.check(f"the example of {command} runs", done, 0, None)

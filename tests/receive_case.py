@@ -1,0 +1,143 @@
+"""What is sent to flutejoin-receive: a file in 40 datagrams, and 2 small ones of another file.
+
+Nothing is sent anywhere but to this machine, or to a network namespace.
+"""
+from __future__ import annotations
+
+import os
+import re
+import socket
+import struct
+import subprocess
+import sys
+from typing import Iterator
+
+import run
+from run import ROOT, Run, until
+
+TOOL = ROOT / "tools" / "flutejoin-receive"
+# The interpreter itself, and without packages of the machine (-S): what stands for it on the PATH
+# may take longer than the tool.
+PYTHON = sys.executable, "-S"
+# A run that hangs ends by itself.
+OPTIONS = "--buffer 200000 --seconds 600"
+TIME = re.compile(rb"^[0-9-]*T[0-9:]*Z (?=flutejoin-receive: )", re.MULTILINE)
+LISTENING = re.compile(rb"^.*: listening .*\n", re.MULTILINE)
+SEND = """
+import socket, struct, sys
+file, source, target, port, first, count = *sys.argv[1:4], *map(int, sys.argv[4:])
+family = socket.AF_INET6 if ":" in target else socket.AF_INET
+udp = socket.socket(family, socket.SOCK_DGRAM)
+udp.bind((source, 0))
+data, place, number = open(file, "rb").read(), 6, 0
+while place < len(data):
+    (length,) = struct.unpack_from(">H", data, place)
+    if first <= number < first + count:
+        udp.sendto(data[place + 2 : place + 2 + length], (target, port))
+    place, number = place + 2 + length, number + 1
+"""
+
+
+def said(*texts: str) -> str:
+    return "".join(f"flutejoin-receive: {text}\n" for text in texts)
+
+
+def join_line(source: str, folder: str, *files: str, address: str = "127.0.0.1") -> str:
+    """The line that joins these files of a sender, or its one file."""
+    names = " ".join(f"{folder}/{name}" for name in files or (f"{address}.fldg",))
+    return f"flutejoin join --source {source} -o {folder}/{address}.journal {names}\n"
+
+
+def count_line(count: int, file: str, address: str = "127.0.0.1", new: str = "") -> str:
+    return f"{file}: {count} datagrams from {address}{new}\n"
+
+
+def free_port() -> int:
+    with socket.socket(socket.AF_INET, socket.SOCK_DGRAM) as udp:
+        udp.bind(("127.0.0.1", 0))
+        return udp.getsockname()[1]
+
+
+class Receiver:
+    """A run of the tool, and the files that have what it prints."""
+
+    def __init__(self, test: Case, child: subprocess.Popen, out: str, err: str) -> None:
+        self.test, self.child, self.out, self.err = test, child, out, err
+
+    def told(self) -> bytes:
+        return self.test.read(self.err)
+
+    def ended(self) -> Run:
+        """What it left, without times and without the line that says that it listens."""
+        self.child.wait(run.LONGEST)
+        err = LISTENING.sub(b"", TIME.sub(b"", self.told()))
+        return Run(self.child.returncode, self.test.bytes_of(self.out) or b"", err)
+
+
+class Case(run.Case):
+    listen_at = "--interface 127.0.0.1"
+    prefix: tuple[object, ...] = ()  # a command that has others run in a network namespace
+
+    def setUp(self) -> None:
+        super().setUp()
+        self.port, self.number = free_port(), 0
+        self.write("file", os.urandom(40_000))
+        self.write("small", "hello")
+        self.made("carousel -o sent --tsi 7 --toi 1 --symbol 1000 --block 16 file")
+        self.made("carousel -o sent2 --tsi 7 --toi 2 --symbol 4 --block 2 small")
+
+    def direct(self, source: str, *files: str) -> str:
+        """The name of the journal that the program makes of datagram files of a sender."""
+        self.made(["join", "-f", "-o", "direct", "--source", source, *(files or ("sent",))])
+        return "direct"
+
+    def records_of(self, name: str, first: int = 0, count: int = 1000) -> bytes:
+        """The datagram file of some records of another."""
+        data = self.read(name)
+        return data[:6] + b"".join([*self.pieces(data)][first : first + count])
+
+    @staticmethod
+    def pieces(data: bytes) -> Iterator[bytes]:
+        place = 6
+        while place < len(data):
+            end = place + 2 + struct.unpack_from(">H", data, place)[0]
+            yield data[place:end]
+            place = end
+
+    def send(
+        self,
+        file: str,
+        source: str = "127.0.0.1",
+        target: str = "127.0.0.1",
+        first: int = 0,
+        count: int = 1000,
+        port: int | None = None,
+    ) -> None:
+        """Sends the datagrams of a file, of which the first has the number 0."""
+        words = [*PYTHON, "-c", SEND, file, source, target, port or self.port, first, count]
+        done = self.command([*self.prefix, *words])
+        self.assertEqual(done.status, 0, done)
+
+    def receive(self, words: str, to: str | None = None, **how: object) -> Receiver:
+        """Starts to receive, and waits until it listens or has ended."""
+        self.number += 1
+        out, err = to or f"out{self.number}", f"err{self.number}"
+        options = run.split(f"--port {self.port} {self.listen_at} {OPTIONS} {words}")
+        command = [*self.prefix, *PYTHON, TOOL, *options]
+        child = self.start(command, to=out, err=err, **how)
+        receiver = Receiver(self, child, out, err)
+
+        def is_ready() -> bool:
+            return b": listening " in receiver.told() or child.poll() is not None
+
+        self.assertTrue(until(is_ready), words)
+        return receiver
+
+    def tried(self, name: str, words: str, *wanted: object, **how: object) -> None:
+        """A run that ends by itself."""
+        self.check(name, self.receive(words, **how).ended(), *wanted)
+
+    def run_lines(self, name: str, done: Run) -> None:
+        """Runs the lines that are printed, as a user would."""
+        lines = [line for line in done.lines() if line.startswith("flutejoin join ")]
+        self.check(f"{name}: its lines", self.shell("\n".join(["set -e", *lines])), 0, None)

@@ -1,0 +1,97 @@
+"""Groups, in a network namespace of each test's own, whose loopback takes them."""
+from __future__ import annotations
+
+from receive_case import Case, count_line, join_line
+
+LOOPBACK = "ip link set lo up && ip link set lo multicast on && ip route add 224.0.0.0/4 dev lo"
+# A loopback takes no groups of IPv6 unless they are routed to it as addresses of its own.
+IPV6 = (
+    "ip -6 addr add 2001:db8::1/128 dev lo nodad && ip -6 addr add 2001:db8::2/128 dev lo nodad && "
+    "ip -6 route add local ff00::/8 dev lo table local"
+)
+FIRST, SECOND = "127.0.0.1", "127.0.0.2"
+
+
+class Groups(Case):
+    listen_at = ""
+
+    def setUp(self) -> None:
+        super().setUp()
+        self.port = 4001
+        words = ["unshare", "-rn", "sh", "-c", f"{LOOPBACK} && echo ready && exec cat"]
+        holder = self.start(words)
+        if holder.stdout.readline() != b"ready\n":
+            self.skipTest("no network namespace with a loopback can be had here")
+        self.prefix = (
+            *("nsenter", "--preserve-credentials", "-U", "-n", "-t", holder.pid),
+            "--",
+        )
+
+    def group(self, group: str, first: str, second: str, source: str) -> None:
+        """A group, and the same of one sender."""
+        stems = first.replace(":", "-"), second.replace(":", "-")
+        of = f"--group {group} --interface lo"
+        receiver = self.receive(f"{of} --count 80 -o group")
+        self.send("sent", first, group)
+        self.send("sent", second, group)
+        done = receiver.ended()
+        self.check("a group", done, 0, None)
+        for stem in stems:
+            self.same(f"a group, the datagrams of {stem}", f"group/{stem}.fldg", "sent")
+        self.run_lines("a group", done)
+        self.same("a group, the journal", f"group/{stems[0]}.journal", self.direct(source))
+        receiver = self.receive(f"{of} --from {second} --count 40 -o of_one")
+        self.send("sent", first, group)
+        self.send("sent", second, group)
+        done = receiver.ended()
+        self.check("one sender, where the system leaves others out", done, 0, None)
+        self.holds("nothing is left out by the tool", b"left out" not in done.out, done)
+        self.same("a group of one sender", f"of_one/{stems[1]}.fldg", "sent")
+        self.absent("no file of another", f"of_one/{stems[0]}.fldg")
+
+    def test_ipv4(self) -> None:
+        self.group("239.1.1.1", FIRST, SECOND, "7f000001")
+
+    def test_source_specific_ipv4(self) -> None:
+        self.group("232.1.1.1", FIRST, SECOND, "7f000001")
+
+    def test_interface_by_its_address(self) -> None:
+        """Another group at the port is not received, nor what is sent to the address itself."""
+        of = f"--group 239.1.1.1 --interface {FIRST} --from {SECOND}"
+        receiver = self.receive(f"{of} --count 2 -o by_address")
+        for target in "239.1.1.2", FIRST, "239.1.1.1":
+            self.send("sent2", SECOND, target)
+        self.check("the interface by its address", receiver.ended(), 0, None)
+        self.same("nothing of another group", f"by_address/{SECOND}.fldg", "sent2")
+
+    def test_two_runs(self) -> None:
+        """At once, which receive all of one group."""
+        of = "--group 239.1.1.1 --count 40 -o"
+        receivers = [self.receive(f"{of} {folder}") for folder in ("first", "second")]
+        self.send("sent", FIRST, "239.1.1.1")
+        for receiver, folder in zip(receivers, ("first", "second")):
+            self.check(f"the {folder}", receiver.ended(), 0, None)
+            self.same(f"the datagrams of the {folder}", f"{folder}/{FIRST}.fldg", "sent")
+
+    def test_each_address(self) -> None:
+        """Without a group, what another run joined is not received. The interface by its name."""
+        first = self.receive("--group 239.1.1.1 --count 2 -o first")
+        self.port = 4002
+        other = self.receive("--interface lo --count 2 -o alone")
+        self.send("sent2", FIRST, "239.1.1.1")
+        self.send("sent2", FIRST, FIRST)
+        self.send("sent2", FIRST, "239.1.1.1", port=4001)
+        self.check("the group", first.ended(), 0, None)
+        wanted = count_line(2, f"alone/{FIRST}.fldg") + join_line("7f000001", "alone")
+        self.check("each address of an interface, of IPv4", other.ended(), 0, wanted)
+
+    def test_ipv6(self) -> None:
+        if self.command([*self.prefix, "sh", "-c", IPV6]).status != 0:
+            self.skipTest("the loopback cannot have addresses of IPv6")
+        source = "20010db8000000000000000000000001"
+        self.group("ff3e::8000:1", "2001:db8::1", "2001:db8::2", source)
+        receiver = self.receive("--count 2 -o alone6")
+        self.send("sent2", "2001:db8::1", "::1")
+        wanted = count_line(2, "alone6/2001-db8--1.fldg", "2001:db8::1")
+        wanted += join_line(source, "alone6", address="2001-db8--1")
+        self.check("each address, of IPv6", receiver.ended(), 0, wanted)

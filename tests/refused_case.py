@@ -1,0 +1,32 @@
+"""Runs with the requests for memory refused in turn, by tests/refuse.c."""
+from __future__ import annotations
+
+import os
+import pathlib
+
+import run
+from outputs_case import library
+
+OF_REFUSED = 9  # the stream where the library says that it refused a request
+
+
+def by_rattle(path: pathlib.Path) -> pathlib.Path:
+    """What the kit's own code generator built of a program."""
+    return path.with_name(f"{path.name}.by-rattle")
+
+
+class Case(run.Case):
+    def setUp(self) -> None:
+        super().setUp()
+        flags = os.O_RDWR | os.O_CREAT | os.O_APPEND
+        file = os.open(self.bin / "refused", flags)
+        os.dup2(file, OF_REFUSED, inheritable=True)
+        os.close(file)
+        self.addCleanup(os.close, OF_REFUSED)
+
+    def refusing(self, words: run.Words, number: int) -> tuple[run.Run, bool]:
+        """A run whose request of this number is refused, and whether it made so many."""
+        os.ftruncate(OF_REFUSED, 0)
+        env = {"LD_PRELOAD": str(library("refuse")), "REFUSE": str(number)}
+        done = self.command(words, env=env, kept=[OF_REFUSED])
+        return done, os.fstat(OF_REFUSED).st_size > 0

@@ -1,0 +1,338 @@
+"""Runs of the built program and the tools for tests, each in a temporary folder of the test's own.
+
+A file of tests is a script that ends in `run.main(NAME)`. It runs all its tests, or those that are
+named: `tests/test_program.py Packet.test_refused`, as does
+`python3 -m unittest tests.test_program.Packet.test_refused`. Its last line counts checks: each call
+of `check`, `same`, `holds` and `absent` is one, whose failure doesn't end its test.
+
+The program is that of the environment variable FLUTEJOIN, or else bin/flutejoin.
+"""
+from __future__ import annotations
+
+import contextlib
+import os
+import pathlib
+import re
+import resource
+import shlex
+import shutil
+import signal
+import subprocess
+import sys
+import tempfile
+import threading
+import time
+import unittest
+from typing import (
+    IO,
+    Callable,
+    Iterable,
+    Iterator,
+    Mapping,
+    NamedTuple,
+    Optional,
+    Pattern,
+    Sequence,
+    Union,
+)
+
+TESTS = pathlib.Path(__file__).resolve().parent
+ROOT = TESTS.parent
+PROGRAM = pathlib.Path(os.environ.get("FLUTEJOIN", ROOT / "bin" / "flutejoin")).absolute()
+LONGEST = 600.0  # seconds that a run may take, on a machine under load
+NOBODY = 65534  # the number of a user without leave
+SHOWN = 600  # bytes of an output that the text of a failure has
+
+# The words of a command line: a text is split as a shell does
+Words = Union[str, Sequence[object]]
+# A text is whole lines, of which the last may lack its line feed; `None` is any output
+Expected = Union[str, bytes, Pattern[str], None]
+# The name of a file of the test's folder, or bytes
+Content = Union[str, pathlib.Path, bytes]
+
+
+class Run(NamedTuple):
+    """What a run left."""
+
+    status: int  # of a run that a signal ended: below zero
+    out: bytes
+    err: bytes
+
+    def lines(self) -> list[str]:
+        return self.out.decode().splitlines()
+
+
+class Row(NamedTuple):
+    """A run of the program, and what it has to leave."""
+
+    name: str
+    words: Words
+    status: Optional[int] = 0
+    out: Expected = ""
+    err: Expected = ""
+
+
+class Counts:
+    passed = 0
+
+
+def split(words: Words) -> list[object]:
+    if isinstance(words, str):
+        return [*shlex.split(words)]
+    return [word if isinstance(word, bytes) else str(word) for word in words]
+
+
+def is_expected(wanted: Expected, output: bytes) -> bool:
+    if wanted is None:
+        return True
+    if isinstance(wanted, bytes):
+        return output == wanted
+    if isinstance(wanted, str):
+        end = "\n" if wanted and not wanted.endswith("\n") else ""
+        return output == (wanted + end).encode()
+    return wanted.search(output.decode(errors="replace")) is not None
+
+
+def end(child: subprocess.Popen) -> None:
+    with contextlib.suppress(ProcessLookupError):
+        child.kill()
+    child.wait()
+    for stream in child.stdin, child.stdout, child.stderr:
+        if stream:
+            with contextlib.suppress(OSError):
+                stream.close()
+
+
+def until(is_so: Callable[[], object], seconds: float = LONGEST) -> bool:
+    """Waits until something is so; whether it came to be."""
+    ends = time.monotonic() + seconds
+    while not is_so():
+        if time.monotonic() > ends:
+            return False
+        time.sleep(0.005)
+    return True
+
+
+def hexadecimal(text: str) -> bytes:
+    return bytes.fromhex(text)
+
+
+# An entry of a journal of version 1 begins with its kind, the TSI, and the object's tag and number,
+# with one space between them.
+ENTRY = re.compile(r"(?<!\S)(0[1-4])\s+([0-9A-F]{12} 0[01] [0-9A-F]{28})")
+ZERO = "0" * 32
+
+
+def version2(sender: str, text: str) -> str:
+    """A journal of version 1 in hexadecimal, or some of its entries, in version 2 with this sender
+    in each entry."""
+    return ENTRY.sub(rf"\1 {sender} \2", re.sub("^464C4A4E0001", "464C4A4E0002", text))
+
+
+class Case(unittest.TestCase):
+    """`folder` is where runs are, `bin` has links to the program and the tools."""
+
+    def setUp(self) -> None:
+        whole = pathlib.Path(tempfile.mkdtemp(prefix="flutejoin-test."))
+        self.addCleanup(shutil.rmtree, whole, ignore_errors=True)
+        self.folder, self.bin = whole / "work", whole / "bin"
+        for folder in (self.folder, self.bin):
+            folder.mkdir()
+        (self.bin / "flutejoin").symlink_to(PROGRAM)
+        for tool in (ROOT / "tools").glob("flutejoin-*"):
+            (self.bin / tool.name).symlink_to(tool)
+
+    # Files
+
+    def path(self, name: str | pathlib.Path) -> pathlib.Path:
+        return self.folder / name
+
+    def write(self, name: str, content: str | bytes) -> None:
+        self.path(name).write_bytes(content if isinstance(content, bytes) else content.encode())
+
+    def read(self, name: str | pathlib.Path) -> bytes:
+        return self.path(name).read_bytes()
+
+    def file(self, name: str, *text: str) -> None:
+        """Makes a file of bytes in hexadecimal."""
+        self.write(name, hexadecimal(" ".join(text)))
+
+    def journal(self, name: str, *text: str) -> None:
+        """Makes NAME, a journal of version 1, and NAME2, the same in version 2, where each sender
+        is zero."""
+        self.file(name, *text)
+        self.file(f"{name}2", version2(ZERO, " ".join(text)))
+
+    def remove(self, *names: str) -> None:
+        for name in names:
+            self.path(name).unlink()
+
+    def exists(self, *names: str) -> list[str]:
+        """Which of these names the folder has."""
+        return [name for name in names if os.path.lexists(self.path(name))]
+
+    # Runs
+
+    def environment(self, more: Mapping[str, str]) -> dict[str, str]:
+        path = f"{self.bin}:{os.environ.get('PATH', os.defpath)}"
+        given = {name: value for name, value in os.environ.items() if name != "FLUTEJOIN"}
+        return {**given, "PATH": path, "PYTHONDONTWRITEBYTECODE": "1", **more}
+
+    def start(
+        self,
+        words: Words,
+        *,
+        stdin: bytes | pathlib.Path = b"",
+        to: str | IO[bytes] | None = None,
+        err: str | None = None,
+        closed: Iterable[int] = (),
+        env: Mapping[str, str] = {},
+        limits: Mapping[int, int] = {},
+        signals: Mapping[int, signal.Handlers] = {},
+        nobody: bool = False,
+        kept: Sequence[int] = (),
+        folder: str | pathlib.Path = ".",
+    ) -> subprocess.Popen:
+        """Starts a command. `stdin` is its input (of bytes, a pipe for them) or a file's name, `to`
+        a file for its standard output and `err` one for standard error, `closed` the numbers of
+        streams that are closed, `limits` those of `setrlimit`, `signals` how it takes signals at
+        first; `nobody` is a user without leave, if this one is root, `kept` are open files that it
+        has too."""
+
+        def prepare() -> None:
+            for number, most in limits.items():
+                resource.setrlimit(number, (most, most))
+            for number, handler in signals.items():
+                signal.signal(number, handler)
+            for stream in closed:
+                os.close(stream)
+
+        other = {"user": NOBODY, "group": NOBODY, "extra_groups": []}
+        with contextlib.ExitStack() as files:
+            given, out = subprocess.PIPE, subprocess.PIPE if to is None else to
+            if isinstance(stdin, pathlib.Path):
+                given = files.enter_context(self.path(stdin).open("rb"))
+            if isinstance(to, str):
+                out = files.enter_context(self.path(to).open("wb"))
+            told = files.enter_context(self.path(err).open("wb")) if err else subprocess.PIPE
+            child = subprocess.Popen(
+                split(words),
+                stdin=given,
+                stdout=out,
+                stderr=told,
+                cwd=self.path(folder),
+                env=self.environment(env),
+                pass_fds=kept,
+                preexec_fn=prepare if limits or signals or closed else None,
+                **(other if nobody and os.geteuid() == 0 else {}),
+            )
+        self.addCleanup(end, child)
+        return child
+
+    def finish(self, child: subprocess.Popen, given: bytes = b"", within: float = LONGEST) -> Run:
+        """Waits for what was started, which reads these bytes if its input is a pipe."""
+        out, err = child.communicate(given if child.stdin else None, timeout=within)
+        return Run(child.returncode, out or b"", err or b"")
+
+    def command(self, words: Words, *, seconds: float = LONGEST, **how: object) -> Run:
+        """Runs a command, as `start` says."""
+        given = how.get("stdin", b"")
+        child = self.start(words, **how)
+        return self.finish(child, given if isinstance(given, bytes) else b"", seconds)
+
+    def program(self, words: Words, **how: object) -> Run:
+        return self.command([PROGRAM, *split(words)], **how)
+
+    def tool(self, name: str, words: Words, **how: object) -> Run:
+        """Runs a tool, by this Python."""
+        return self.command([sys.executable, ROOT / "tools" / name, *split(words)], **how)
+
+    def shell(self, script: str, **how: object) -> Run:
+        return self.command(["sh", "-c", script], **how)
+
+    def made(self, words: Words, **how: object) -> Run:
+        """Runs the program for what it makes: it has to succeed."""
+        done = self.program(words, **how)
+        self.assertEqual(done.status, 0, (words, done))
+        return done
+
+    @contextlib.contextmanager
+    def piped(self, name: str, content: bytes) -> Iterator[None]:
+        """A pipe with a name, into which these bytes are written meanwhile."""
+        if not self.exists(name):
+            os.mkfifo(self.path(name))
+        writer = threading.Thread(target=self.path(name).write_bytes, args=[content], daemon=True)
+        writer.start()
+        yield
+        writer.join(LONGEST)
+
+    # Checks
+
+    def holds(self, name: str, claim: object, told: object = "") -> None:
+        with self.subTest(name):
+            self.assertTrue(claim, told)
+            Counts.passed += 1
+
+    def check(
+        self,
+        name: str,
+        run: Run,
+        status: int | None = 0,
+        out: Expected = "",
+        err: Expected = "",
+    ) -> None:
+        """What a run left must be this (`None`: anything)."""
+        told = f"status {run.status}, output {run.out[:SHOWN]!r}, error {run.err[:SHOWN]!r}"
+        is_status = status is None or run.status == status
+        self.holds(
+            name,
+            is_status and is_expected(out, run.out) and is_expected(err, run.err),
+            f"{told}; and not {status}, {f'{out!r}, {err!r}'[:SHOWN]}",
+        )
+
+    def same(self, name: str, left: Content, right: Content) -> None:
+        """Two files have the same bytes."""
+        pair = [it if isinstance(it, bytes) else self.bytes_of(it) for it in (left, right)]
+        self.holds(name, pair[0] is not None and pair[0] == pair[1], f"{left!r:.600} is another")
+
+    def bytes_of(self, name: str | pathlib.Path) -> bytes | None:
+        return self.read(name) if self.path(name).is_file() else None
+
+    def absent(self, name: str, *files: str) -> None:
+        """The folder has none of these names."""
+        found = self.exists(*files)
+        self.holds(name, not found, f"there is {found}")
+
+    # Rows
+
+    def row(
+        self,
+        name: str,
+        words: Words,
+        status: int | None = 0,
+        out: Expected = "",
+        err: Expected = "",
+        **how: object,
+    ) -> Run:
+        """Runs the program, and checks what it left."""
+        done = self.program(words, **how)
+        self.check(name, done, status, out, err)
+        return done
+
+    def rows(self, *rows: Sequence[object]) -> None:
+        """Rows with the fields of `Row`, of which the last may be left out, one after another."""
+        for row in rows:
+            self.row(*Row(*row))
+
+
+def main(suite: str, needs_program: bool = True) -> None:
+    """Runs the tests of the script that calls it; its last line is theirs."""
+    if needs_program and not PROGRAM.exists():
+        sys.exit(f"{suite}: there is no program {PROGRAM}; FLUTEJOIN may name one")
+    result = unittest.main(exit=False).result
+    for test, why in result.skipped:
+        print(f"{suite}: skipped: {test.id().rpartition('.')[2]}, {why}")
+    failed = len(result.failures) + len(result.errors) + len(result.unexpectedSuccesses)
+    failed += result.testsRun == 0
+    print(f"{suite}: {Counts.passed} passed, {failed} failed", flush=True)
+    sys.exit(failed > 0)

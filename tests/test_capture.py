@@ -1,0 +1,22 @@
+#!/usr/bin/env python3
+"""From captures to journals, and what killed writers left: runs tools/flutejoin-capture and
+tools/flutejoin-mend as a user would, and compares with what the program makes of the datagram files
+themselves.
+
+usage: tests/test_capture.py [CLASS[.TEST]..], with the program's path in FLUTEJOIN
+"""
+import sys
+
+sys.dont_write_bytecode = True
+import run
+from capture_faults import Damaged, Growing, Inputs
+from capture_mended import EachByte, Mend, MendSignals
+from capture_read import Epochs, Parts, Printed, Rows, SendingHost, There
+
+__all__ = [
+    "Rows", "Printed", "SendingHost", "Epochs", "Parts", "There", "Inputs", "Growing", "Damaged",
+    "EachByte", "Mend", "MendSignals",
+]
+
+if __name__ == "__main__":
+    run.main("capture")

@@ -1,0 +1,116 @@
+#!/usr/bin/env python3
+"""Installs by make and takes it away; makes the package for Debian, installs it in a scratch root,
+runs what is in it and removes it; and has systemd look at the unit.
+
+usage: tests/test_package.py [CLASS[.TEST]..], with the program's path in FLUTEJOIN
+"""
+from __future__ import annotations
+
+import re
+import shutil
+import sys
+import unittest
+
+sys.dont_write_bytecode = True
+import run
+from run import ROOT, Run
+
+COMMANDS = ("flutejoin", *sorted(path.name for path in (ROOT / "tools").glob("flutejoin-*")))
+UNIT = "flutejoin-station@.service"
+IN_PACKAGE = (
+    *("./usr/bin/flutejoin-station", "./usr/lib/flutejoin/flutejoin_keeping.py"),
+    *("./usr/share/man/man1/flutejoin-station.1.gz", "./etc/flutejoin/example.toml"),
+    "./usr/share/bash-completion/completions/flutejoin",
+    *("./usr/share/flutejoin/examples/push.sh", f"./usr/lib/systemd/system/{UNIT}"),
+)
+# Below a scratch root this system is, in a mount namespace of its own; status 3: it can't be.
+SCRATCH = """
+mount -t tmpfs none scratch && mkdir scratch/new scratch/work scratch/root &&
+    mount -t overlay overlay -o \\
+    "lowerdir=/,upperdir=$PWD/scratch/new,workdir=$PWD/scratch/work" scratch/root || exit 3
+root=scratch/root
+mount -t proc proc "$root/proc" 2> /dev/null
+mount --bind /dev "$root/dev"
+cp "$1" "$root/flutejoin.deb"
+chroot "$root" dpkg --force-depends -i /flutejoin.deb > /dev/null || exit 1
+chroot "$root" flutejoin --version | grep -q "^flutejoin $2" || exit 1
+chroot "$root" flutejoin-station --help | grep -q 'what is in FOLDER' || exit 1
+chroot "$root" flutejoin-station --config /etc/flutejoin/example.toml -o /station --seconds 1
+[ -d "$root/station/journals" ] || exit 1
+echo changed >> "$root/etc/flutejoin/example.toml"
+chroot "$root" dpkg -r flutejoin > /dev/null || exit 1
+[ ! -e "$root/usr/bin/flutejoin" ] && [ ! -e "$root/usr/lib/flutejoin" ] || exit 1
+grep -q changed "$root/etc/flutejoin/example.toml" || exit 1
+chroot "$root" dpkg -P flutejoin > /dev/null || exit 1
+[ ! -e "$root/etc/flutejoin" ]
+"""
+
+
+def needs(program: str) -> object:
+    return unittest.skipUnless(shutil.which(program), f"since there is no {program}")
+
+
+class Installed(run.Case):
+    def make(self, *words: str) -> Run:
+        given = "--no-print-directory", "-s", "-C", ROOT, f"PROGRAM={run.PROGRAM}"
+        place = f"DESTDIR={self.path('by_make')}", "PREFIX=/usr/local"
+        return self.command(["make", *given, *words, *place])
+
+    def test_make(self) -> None:
+        self.path("by_make").mkdir()
+        self.check("make install", self.make("install"), 0, None, None)
+        local = self.path("by_make/usr/local")
+        for name in COMMANDS:
+            done = self.command([local / "bin" / name, "--help"])
+            self.check(f"{name} runs", done, 0, None, None)
+            page = local / "share" / "man" / "man1" / f"{name}.1"
+            self.holds(f"{name} has a man page", page.is_file())
+        unit = (local / "lib" / "systemd" / "system" / UNIT).read_text()
+        is_installed = "\nExecStart=/usr/local/bin/flutejoin-station" in unit
+        self.holds("the unit runs what is installed", is_installed, unit)
+        self.check("make uninstall", self.make("uninstall"), 0, None, None)
+        left = [path for path in self.path("by_make").rglob("*") if not path.is_dir()]
+        self.holds("nothing is left", not left, left)
+
+    @needs("systemd-analyze")
+    def test_unit(self) -> None:
+        # It looks for the program at its place.
+        unit = (ROOT / "packaging" / UNIT).read_text()
+        self.write(UNIT, unit.replace("/usr/bin/", f"{ROOT}/tools/"))
+        done = self.command(["systemd-analyze", "verify", "--man=no", self.path(UNIT)])
+        self.check("the unit", done, None)
+        words = ["systemd-analyze", "security", "--offline=yes", self.path(UNIT)]
+        told = re.search(r"exposure level.*: (\d)\.\d", self.command(words).out.decode())
+        self.holds("the sandbox of the unit", told and int(told[1]) <= 1, told)
+
+
+@needs("dpkg-deb")
+class Package(run.Case):
+    def setUp(self) -> None:
+        super().setUp()
+        self.version = self.made("--version").lines()[0].split()[1]
+        done = self.command([ROOT / "packaging" / "deb.sh", run.PROGRAM, self.folder])
+        self.check("make deb", done, 0, None, None)
+        machine = self.command("dpkg --print-architecture").out.decode().strip()
+        self.package = self.path(f"flutejoin_{self.version}_{machine}.deb")
+
+    def test_contents(self) -> None:
+        done = self.command(["dpkg-deb", "--contents", self.package])
+        for path in IN_PACKAGE:
+            self.holds(f"the package has {path}", path.encode() in done.out)
+        others = [line for line in done.lines() if " root/root " not in line]
+        self.holds("it is of root", not others, others)
+        done = self.command(["dpkg-deb", "--info", self.package, "conffiles"])
+        self.check("settings stay", done, 0, "/etc/flutejoin/example.toml")
+
+    def test_in_scratch_root(self) -> None:
+        self.path("scratch").mkdir()
+        words = ["unshare", "-m", "sh", "-c", SCRATCH, "sh", self.package, self.version]
+        done = self.command(words)
+        if done.status == 3 or self.command("unshare -m true").status != 0:
+            self.skipTest("since nothing can be mounted here")
+        self.check("in a scratch root", done, 0, None, None)
+
+
+if __name__ == "__main__":
+    run.main("package")

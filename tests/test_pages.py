@@ -1,0 +1,117 @@
+#!/usr/bin/env python3
+"""The sessions of README, of docs/OPERATING.md and of docs/TUTORIAL.md, run as they are printed. A
+page's block of commands that is not run is a failure. The commands that need a network are not
+run: what they leave is made of the files of the first session.
+
+usage: tests/test_pages.py [CLASS[.TEST]..], with the program's path in FLUTEJOIN
+"""
+from __future__ import annotations
+
+import shutil
+import sys
+
+sys.dont_write_bytecode = True
+import run
+from pages_case import Case, sections, steps
+from run import ROOT
+
+README = (ROOT / "README.md").read_text()
+OPERATING = (ROOT / "docs" / "OPERATING.md").read_text()
+TUTORIAL = (ROOT / "docs" / "TUTORIAL.md").read_text()
+CAROUSEL = "carousel -o {} --tsi 7 {} --symbol 1000 --block 16 {}"
+
+
+class Sessions(Case):
+    def short(self) -> None:
+        """The session of README, and its datagrams behind those of an FDT Instance."""
+        self.session(README, "A short session", "short")
+        self.instance("fdt_sent", "numbers.txt", "short/file")
+        self.write("all_sent", self.read("fdt_sent") + self.read("short/sent")[6:])
+
+    def instance(self, sent: str, name: str, file: str) -> None:
+        """The datagrams of an FDT Instance that describes a file."""
+        fdt = ROOT / "examples" / "fdt.py"
+        words = [sys.executable, fdt, 1, f"http://example.com/{name}", file]
+        self.write("fdt.xml", self.command(words).out)
+        self.made(CAROUSEL.format(sent, "--toi 0 --fdt 1", "fdt.xml"))
+
+    def test_readme(self) -> None:
+        self.short()
+        self.path("monday").mkdir()
+        self.write("rows", "monday.pcap|10.0.0.1=all_sent\n")
+        words = [sys.executable, run.TESTS / "captures.py", "make", "rows", "monday"]
+        self.check("the capture", self.command(words), 0, None)
+        for kept in self.path("monday").glob("*.kept"):
+            shutil.rmtree(kept) if kept.is_dir() else kept.unlink()
+        self.session(README, "From your network", "monday")
+        self.same("the file", "short/file", "monday/files/example.com/numbers.txt")
+        self.all_run(README, "A short session", "From your network")
+
+    def test_operating(self) -> None:
+        self.short()
+        self.session(OPERATING, "Two stations, two senders", "session")
+        # The first two stations of it as a picture
+        self.path("picture").mkdir()
+        for station in "station1", "station2":
+            self.write(f"picture/{station}", self.read(f"session/{station}"))
+        self.session(OPERATING, "What is missing, as a picture", "picture")
+        self.named()
+        self.events()
+        self.all_run(
+            OPERATING,
+            *("Two stations, two senders", "What is missing, as a picture"),
+            *("From objects to files", "What poisons a journal"),
+        )
+
+    def named(self) -> None:
+        """The session of which files are listed and written."""
+        self.path("named").mkdir()
+        words = [sys.executable, run.TESTS / "flute_sender.py", "sent"]
+        self.check("datagrams", self.command(words, folder="named"), 0, None)
+        self.made("join -o all --source 10.0.0.1 sent", folder="named")
+        self.remove("named/sent")
+        self.session(OPERATING, "From objects to files", "named")
+        self.same("the file", "session/file", "named/files/example.com/news/numbers.txt")
+
+    def events(self) -> None:
+        """Two events: station 2 received a wrong symbol 1/2, and station 3 both; and a sender that
+        restarts."""
+        for station in 1, 2, 3:
+            self.path(f"events/station{station}").mkdir(parents=True)
+        every = self.read("all_sent")
+        self.write("events/station1/10.0.0.1.fldg", every)
+        self.write("other", "".join(f"{number}\n" for number in range(3_000_000, 3_005_000)))
+        self.made(CAROUSEL.format("other_sent", "--toi 1", "other"))
+        other = self.read("other_sent")
+        begin = 6 + 16 * 1038
+        wrong = other[begin : begin + 1038]
+        sent = self.read("short/sent")[:begin]
+        self.write("events/station2/10.0.0.1.fldg", sent + wrong)
+        self.write("events/station3/10.0.0.1.fldg", every + wrong)
+        self.instance("restarted", "more.txt", "other")
+        self.write("sent", every + self.read("restarted")[6:] + other[6:])
+        captures_of = ROOT / "examples" / "captures.py"
+        words = [sys.executable, captures_of, "sent", 0, "events/week.pcap"]
+        self.check("the capture of a week", self.command(words), 0, None)
+        title = "What poisons a journal"
+        self.session(OPERATING, title, "events")
+        for folder in "files", "checked", "before":
+            of_folder = f"events/{folder}/example.com/numbers.txt"
+            self.same(f"the file in {folder}", "session/file", of_folder)
+        self.same("the file since", "other", "events/since/example.com/more.txt")
+
+
+class Tutorial(Case):
+    """docs/TUTORIAL.md, in an empty folder beside an installed program."""
+
+    def test_tutorial(self) -> None:
+        share = self.bin.parent / "share" / "flutejoin"
+        share.mkdir(parents=True)
+        (share / "examples").symlink_to(ROOT / "examples")
+        for title, lines in sections(TUTORIAL).items():
+            if steps(lines):
+                self.session(TUTORIAL, title, "tutorial")
+
+
+if __name__ == "__main__":
+    run.main("pages")

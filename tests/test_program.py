@@ -1,0 +1,30 @@
+#!/usr/bin/env python3
+"""Runs the built program as a user would, and compares its output, its faults and its status.
+
+usage: tests/test_program.py [CLASS[.TEST]..], with the program's path in FLUTEJOIN
+"""
+import sys
+
+sys.dont_write_bytecode = True
+import run
+from program_extract import Extract, Info, InfoList
+from program_gaps import GapsCheck, GapsDrawn, GapsSummary
+from program_join import Join, JoinLimits, Symbols
+from program_merge import Carousel, Forget, Merge
+from program_only import Names, OnlyObjects, Sessions
+from program_prints import Gaps, Objects, Packet, Show
+from program_sends import Sending
+from program_sources import BadSources, ExtractOf, InfoOf, JoinOf
+from program_sparse import Sparse
+from program_versions import BothVersions, Faults, Senders
+from program_words import Help, Words
+
+__all__ = [
+    "Packet", "Show", "Gaps", "GapsCheck", "GapsSummary", "GapsDrawn", "Objects", "Extract",
+    "Info", "InfoList", "Merge", "Forget", "Carousel", "Sending", "Join", "JoinLimits",
+    "Symbols", "Sessions", "Names", "OnlyObjects", "Sparse", "BothVersions", "Senders",
+    "Faults", "ExtractOf", "InfoOf", "JoinOf", "BadSources", "Help", "Words",
+]
+
+if __name__ == "__main__":
+    run.main("program")

@@ -1,0 +1,18 @@
+#!/usr/bin/env python3
+"""Receives what is sent to 127.0.0.1, and to groups on the loopback of a network namespace, and
+compares the datagram files and the journals with those of what was sent.
+
+usage: tests/test_receive.py [CLASS[.TEST]..], with the program's path in FLUTEJOIN
+"""
+import sys
+
+sys.dont_write_bytecode = True
+import run
+from receive_faults import Folders, Outputs, Words
+from receive_groups import Groups
+from receive_runs import Ends, Files, Senders
+
+__all__ = ["Senders", "Files", "Ends", "Folders", "Outputs", "Words", "Groups"]
+
+if __name__ == "__main__":
+    run.main("receive")

@@ -1,0 +1,144 @@
+#!/usr/bin/env python3
+"""Runs each command of the built program again and again, each time with another of its requests
+for memory refused, up to the run that makes no more. A run that was refused one has to end
+
+- with status 3 and one line, `out of memory` or `input N: OutOfMemory`, with nothing on standard
+  output (of `show` the lines of first entries), and with OUT as it was;
+- or just as with ample memory.
+
+And runs builds of crates/refused_memory, which have requests refused in turn: each line that tells
+a number of refused requests has to tell at least one.
+
+usage: tests/test_refused.py [CLASS[.TEST]..], with the programs' paths in FLUTEJOIN and SWEEP. What
+the kit's own code generator built is beside them. With SWEEP, all of them have to be there.
+"""
+from __future__ import annotations
+
+import os
+import pathlib
+import re
+import sys
+import unittest
+
+sys.dont_write_bytecode = True
+import run
+from outputs_case import library
+from program_case import FIELDS, FIRST, HEADER, INFO, KEY, LAST, NAME, SYMBOL, ended
+from refused_case import Case, by_rattle
+from run import PROGRAM, ROOT, Run
+
+SWEEP = ROOT / "crates" / "refused_memory" / "out" / "refused_memory"
+SWEEPS = pathlib.Path(os.environ.get("SWEEP", SWEEP)).absolute()
+ARE_NEEDED = "SWEEP" in os.environ
+FAULT = re.compile(rb"out of memory\n|input [12]: OutOfMemory\n")
+MOST = 10_000  # runs of a command
+PRINTS = "--help", f"packet {SYMBOL}", "show whole", "gaps whole"
+OUTPUTS = (
+    f"extract -o made {NAME} whole",
+    f"info -o made {NAME} {FIELDS} others",
+    f"info -o made --source 0a000001 {NAME} {FIELDS} others",
+    "join -o made sent others",
+    "join -o made --source 0a000001 sent others",
+    "merge -o made whole others",
+    f"forget -o made {NAME} --symbol 0/1 whole",
+    f"carousel -o made {NAME} --symbol 4 --block 2 content",
+    f"carousel -o made {NAME} --symbol 4 --block 2 /dev/null",
+)
+
+
+class Sweeps(Case):
+    built = PROGRAM
+
+    def setUp(self) -> None:
+        super().setUp()
+        self.file("whole", HEADER, INFO, FIRST, LAST, ended(3))
+        misfit = f"03 {KEY} 0000 0002 0001 78"
+        self.file("others", HEADER, FIRST, f"03 {KEY} 0000 0001 0004 6F000000", misfit, ended(3))
+        header = "00000000 00000007 00000001 40040000 00000005 00000004 00000002"
+        self.file(
+            "sent",
+            "464C44470001",
+            f"0028 10A00800 {header} 00000000 68656C6C",
+            f"0025 10A00800 {header} 00000001 6F",
+        )
+        self.write("content", "hello")
+
+    def begin(self, before: bytes | None) -> None:
+        """OUT is not there, or as it was before."""
+        if before is not None:
+            self.write("made", before)
+        elif self.exists("made"):
+            self.remove("made")
+
+    def left(self) -> bytes | None:
+        """What OUT has; nothing may be beside it."""
+        self.assertFalse(self.exists("made.partial"))
+        return self.bytes_of("made")
+
+    def sweep(self, words: str, status: int = 0, before: bytes | None = None) -> None:
+        self.begin(before)
+        command = [self.built, *run.split(words)]
+        ample = self.command(command), self.left()
+        self.holds(f"{words}: with ample memory", ample[0].status == status, ample[0])
+        told, as_ample, wrong = 0, 0, []
+        for number in range(1, MOST):
+            self.begin(before)
+            done, was_refused = self.refusing(command, number)
+            if (done, self.left()) == ample:
+                as_ample += was_refused
+            elif was_refused and self.left() == before and self.is_told(words, done, ample[0]):
+                told += 1
+            else:
+                wrong.append((number, done))
+            if not was_refused:
+                break
+        self.holds(f"{words}: each run", not wrong, wrong[:3])
+        self.holds(f"{words}: faults of memory", told and number < MOST - 1, (told, number))
+        print(f"refused: {words}: {told} refused requests told, {as_ample} as with ample memory")
+
+    def is_told(self, words: str, done: Run, ample: Run) -> bool:
+        """It ended with a fault of memory, and wrote nothing but lines of first entries."""
+        is_part = done.out.endswith(b"\n") and ample.out.startswith(done.out)
+        is_quiet = not done.out or words.startswith("show") and is_part
+        return done.status == 3 and bool(FAULT.fullmatch(done.err)) and is_quiet
+
+    def test_prints(self) -> None:
+        for words in PRINTS:
+            self.sweep(words)
+        self.sweep("frob", 2)
+
+    def test_new_outputs(self) -> None:
+        for words in OUTPUTS:
+            self.sweep(words)
+
+    def test_outputs_over_a_file(self) -> None:
+        for words in OUTPUTS:
+            self.sweep(words, before=b"what was there before")
+
+
+@unittest.skipUnless(ARE_NEEDED or by_rattle(PROGRAM).exists(), "since it is not built")
+class SweepsByRattle(Sweeps):
+    built = by_rattle(PROGRAM)
+
+
+class Libraries(run.Case):
+    def swept(self, path: pathlib.Path) -> None:
+        if not ARE_NEEDED and not path.exists():
+            self.skipTest(f"since there is no {path.name}")
+        done = self.command([path], env={"LD_PRELOAD": str(library("refuse"))})
+        found = re.findall(r"(\d+) requests refused$", done.out.decode(), re.MULTILINE)
+        numbers = [*map(int, found)]
+        is_right = done.status == 0 and numbers and 0 not in numbers
+        self.holds(path.name, is_right, done)
+        lines = f"in {len(numbers)} lines"
+        print(f"refused memory: {sum(numbers)} requests refused in turn, {lines}")
+
+    def test_libraries(self) -> None:
+        self.swept(SWEEPS)
+
+    def test_libraries_by_rattle(self) -> None:
+        self.swept(by_rattle(SWEEPS))
+
+
+if __name__ == "__main__":
+    run.main("refused")
