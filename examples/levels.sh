@@ -5,7 +5,8 @@
 # are joined to one of the next level, so what is kept is written again once for each level, and not
 # with each input. WORDs go to the join of INPUT, as --source 0a000001 of a datagram file.
 #
-#   flutejoin join -o - STORE/*/*[0-9] | flutejoin gaps -      asks all that was added
+#   flutejoin join --any-size -o - STORE/*/*[0-9] | flutejoin gaps --any-size -
+#                                                             asks all that was added
 #
 # A kill may leave journals twice, which changes no answer, and a file .partial, which the next run
 # removes: give it the same INPUT again. Two runs in one STORE wait for one another (flock).
@@ -19,13 +20,13 @@ exec 9< "$store"
 flock 9
 rm -f "$store"/*/*.partial
 name=$(date +%s%N)
-"$program" join "$@" -o "$store/0/$name" "$input" > /dev/null
+"$program" join --any-size "$@" -o "$store/0/$name" "$input" > /dev/null
 while
     set -- "$store/$level"/*
     [ $# -ge 8 ]
 do
     mkdir -p "$store/$((level + 1))"
-    "$program" join -o "$store/$((level + 1))/$name" "$@" > /dev/null
+    "$program" join --any-size -o "$store/$((level + 1))/$name" "$@" > /dev/null
     sync "$store/$((level + 1))/$name" "$store/$((level + 1))"
     rm -- "$@"
     level=$((level + 1))

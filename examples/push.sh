@@ -44,9 +44,9 @@ push() {
     new=$(cd "$outbox" && printf '%s\n' "$1".[0-9]*.journal | head -n 64)
     shift
     # shellcheck disable=SC2086
-    (cd "$outbox" && flutejoin join -o - $new 2> /dev/null) |
+    (cd "$outbox" && flutejoin join --any-size -o - $new 2> /dev/null) |
         "$@" "mkdir -p $target && cd $target && old= && { [ ! -e $name ] || old=$name; } &&
-            flutejoin join -o $name \$old - > /dev/null && sync $name ." &&
+            flutejoin join --any-size -o $name \$old - > /dev/null && sync $name ." &&
         (cd "$outbox" && rm -f $new)
 }
 

@@ -27,7 +27,8 @@ while [ $depth = 0 ] || [ "$(wc -l < "$parts/list")" -gt 1 ]; do
     split -d -l 64 -a 5 "$parts/list" "$parts/$depth."
     for group in "$parts/$depth".?????; do
         new="$group.\$(hostname).\$\$"
-        join="xargs -x -n 64 -d '\\n' -a $group flutejoin join -o $new > $group.told"
+        join="xargs -x -n 64 -d '\\n' -a $group flutejoin join --any-size"
+        join="$join -o $new > $group.told"
         printf '%s\n' "$join && mv $new $group.journal"
     done > "$parts/lines"
     "$@" < "$parts/lines" || stop "a group failed, and nothing was made of the others"

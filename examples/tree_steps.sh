@@ -268,7 +268,7 @@ join() {
     # With -x xargs stops where the names are too long for one command, so that a list is joined in
     # one command or not at all.
     if told=$(cut -d ' ' -f 2- "$3" | tr '\n' '\0' |
-        xargs -0 -x -n 64 "$1" join -o "$2" ${sender:+"--source=$sender"} 2>&1); then
+        xargs -0 -x -n 64 "$1" join --any-size -o "$2" ${sender:+"--source=$sender"} 2>&1); then
         entries=$(echo "$told" | sed -n 's/^entries //p')
         echo "$2: $(wc -l < "$3" | tr -d ' ') inputs, $entries entries"
         return

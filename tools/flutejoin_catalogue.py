@@ -15,7 +15,7 @@ from flutejoin_holdings import NOTHING, Held, Key
 from flutejoin_partition import Partition, fault_of
 
 MOST_FILES = 1 << 14  # that are described in all
-MOST_OBJECTS = 4096  # of a session in a store
+MOST_OBJECTS = 1 << 24  # of a session, with --any-size
 MOST_TOLD = 20  # lines of one kind
 KEY = re.compile(r"(?:source ([0-9a-f]{32}) )?session (\d+) object (fdt )?(\d+)")
 
@@ -153,7 +153,7 @@ class Session:
     def wanted_lines(self) -> Iterator[tuple[Key, tuple[int, int, int]]]:
         """The transmission information that an FDT Instance has, and the journal not.
 
-        Files of no bytes, of which nothing has to be received, have the room that a store leaves.
+        Files of no bytes, of which nothing has to be received, have the room that is left.
         """
         room = MOST_OBJECTS - len(self.held) - len(self.heads) - len(self.unread)
         for toi, described in self.files.items():

@@ -10,7 +10,7 @@ import flutejoin_holdings as holdings
 from flutejoin_catalogue import Catalogue, State, Told, key_of
 from flutejoin_content import md5_of
 from flutejoin_entries import FILE
-from flutejoin_gaps import Fault, argument, shown
+from flutejoin_gaps import GAPS, Fault, argument, shown
 from flutejoin_holdings import Held, Key
 from flutejoin_places import Work
 from flutejoin_resolving import Resolving
@@ -73,7 +73,7 @@ class Delivery:
             self.name = shown(self.journal)
             return
         self.journal, self.name = self.work.at("journal"), JOINED
-        words = ["join", *self.wanted.sessions(), "-o", self.journal]
+        words = ["join", "--any-size", *self.wanted.sessions(), "-o", self.journal]
         self.run([*words, *map(argument, self.journals)], list(map(shown, self.journals)))
 
     def run(self, words: list[str], names: list[str]) -> None:
@@ -131,7 +131,8 @@ class Delivery:
         self, journal: str, folder: str, words: list[str], name: str
     ) -> Iterator[tuple[Key, State]]:
         """Extracts all that is whole, and tells what flutejoin says of each object."""
-        command = ["extract", "--all", "-o", self.work.at(folder), *words, argument(journal)]
+        command = ["extract", "--all", "--any-size", "-o", self.work.at(folder)]
+        command += [*words, argument(journal)]
         for line in self.program.lines([(command, [name])]):
             if not line.startswith(b"written "):
                 yield self.told(line)
@@ -166,7 +167,8 @@ class Delivery:
 
     def add_lines(self, journal: str, out: str) -> tuple[list[str], list[str]]:
         """What adds those lines to the journal."""
-        words = ["info", "-o", out, "--list", self.work.at("lines"), argument(journal)]
+        words = ["info", "--any-size", "-o", out, "--list", self.work.at("lines")]
+        words.append(argument(journal))
         return words, [self.name]
 
     def look(self) -> None:
@@ -180,9 +182,9 @@ class Delivery:
             journal = self.work.at("described")
             with open(self.journal, "rb", buffering=0) as file, open(journal, "wb") as out:
                 holdings.copy(file, self.catalogue.describes, out)
-        commands = [(["gaps", argument(journal)], [self.name])]
+        commands = [([*GAPS, argument(journal)], [self.name])]
         if self.has_lines:
-            commands = [self.add_lines(journal, "-"), (["gaps", "-"], [self.name])]
+            commands = [self.add_lines(journal, "-"), ([*GAPS, "-"], [self.name])]
         for line in self.program.lines(commands):
             if not line.startswith(b"gap "):
                 self.take(*self.told(line))

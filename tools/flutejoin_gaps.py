@@ -38,6 +38,7 @@ STATE = re.compile(
     OBJECT + rb"(?:(whole) \d+|(no information)|(conflicting information)"
     rb"|(partial) missing (\d+) conflicting (\d+) misfit (\d+))\n"
 )
+GAPS = ["gaps", "--any-size"]
 GAP = re.compile(rb"gap (\d+)/(\d+)-(\d+) (missing|conflicting|misfit)\n")
 INFORMATION = re.compile(OBJECT + rb"info length (\d+) symbol (\d+) block (\d+)\n")
 
@@ -114,8 +115,8 @@ def later() -> Iterator[None]:
     finally:
         for number, answer in before.items():
             signal.signal(number, answer)
-    if came:
-        signal.raise_signal(came[0])
+    for number in came:  # the first may be ignored
+        signal.raise_signal(number)
 
 
 class Program:
@@ -156,9 +157,9 @@ class Program:
         paths = [argument(path) for path in journals]
         names = [shown(path) for path in journals]
         if len(paths) == 1:
-            return [(["gaps", *paths], names)]
-        joined = (["join", "-o", "-", *paths], names)
-        return [joined, (["gaps", "-"], ["the journals joined"])]
+            return [([*GAPS, *paths], names)]
+        joined = (["join", "--any-size", "-o", "-", *paths], names)
+        return [joined, ([*GAPS, "-"], ["the journals joined"])]
 
     def gaps_with(
         self, journal: str, information: Iterable[Tuple[str, Numbers]], begin: Begin
@@ -166,11 +167,11 @@ class Program:
         """The same of a journal once information is added to it: pairs `(object, numbers)`."""
         name = shown(journal)
         added = [
-            (["info", "-o", "-", *options(key), *numbers_of(numbers), "-"], [name])
+            (["info", "--any-size", "-o", "-", *options(key), *numbers_of(numbers), "-"], [name])
             for key, numbers in information
         ]
         added[0][0][-1] = argument(journal)
-        self.read_gaps([*added, (["gaps", "-"], [name])], begin)
+        self.read_gaps([*added, ([*GAPS, "-"], [name])], begin)
 
     def read_gaps(self, commands: list[Command], begin: Begin) -> None:
         take = None

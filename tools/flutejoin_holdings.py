@@ -28,7 +28,7 @@ SYMBOL_ID, LENGTH, NUMBERS = 4, 2, 12
 # Bytes behind the object of an entry that is no symbol
 SIZES = {INFORMATION: NUMBERS, INFORMATION_CONFLICT: 0, SYMBOL_CONFLICT: SYMBOL_ID}
 LONGEST = 1 + KEY + SYMBOL_ID + LENGTH + (1 << 16)
-MOST_OBJECTS = 64 * 4096  # that a store holds
+MOST_OBJECTS = 1 << 18  # that are kept
 
 
 class Key(NamedTuple):

@@ -65,21 +65,8 @@ class Program:
 
     def __init__(self, path: str, tend: Callable[[], None], sessions: Sequence[int] = ()) -> None:
         self.path, self.tend = path, tend
-        self.words = [word for tsi in sessions for word in ("--tsi", str(tsi))]
-        if self.knows("--any-size"):
-            self.words.append("--any-size")
-
-    def knows(self, option: str) -> bool:
-        try:
-            told = subprocess.run(
-                [self.path, "join", "--help"],
-                stdin=subprocess.DEVNULL,
-                stdout=subprocess.PIPE,
-                stderr=subprocess.DEVNULL,
-            )
-        except OSError:
-            return False  # each join tells of it
-        return option.encode() in told.stdout.split()
+        self.words = ["--any-size"]
+        self.words += [word for tsi in sessions for word in ("--tsi", str(tsi))]
 
     def join(
         self, source: bytes, out: str, inputs: Sequence[str], fed: Optional[Fed] = None
