@@ -22,12 +22,15 @@ _flutejoin_options() {
     case $1 in
         packet) echo '--help' ;;
         show) echo '--conflicts --source --tsi --toi --fdt --help' ;;
-        gaps) echo '--source --tsi --toi --fdt --help' ;;
-        extract) echo '-o --all --force --source --tsi --toi --fdt --help' ;;
-        info)
-            echo '-o --force --list --source --tsi --toi --fdt --length --symbol --block --help'
+        gaps)
+            echo '--any-size --check --summary --conflicts --source --tsi --toi --fdt --help'
             ;;
-        join) echo '-o --force --source --tsi --toi --fdt --no-fdt --help' ;;
+        extract) echo '-o --all --any-size --force --source --tsi --toi --fdt --help' ;;
+        info)
+            echo '-o --any-size --force --list --source --tsi --toi --fdt --length --symbol' \
+                '--block --help'
+            ;;
+        join) echo '-o --any-size --force --source --tsi --toi --fdt --no-fdt --help' ;;
         merge) echo '-o --force --help' ;;
         forget)
             echo '-o --force --conflicts --source --tsi --toi --fdt --symbol --info --help'
