@@ -144,7 +144,7 @@ pub ruleset symbol_faults = (err_from_is_err_and, stops_behind, symbol_comes)
 
 -- ---- what stands after an entry of the same object
 
-then-equal : (x o : Ordering) → is_eq x ≡ true → ordering_then x o ≡ o
+pub then-equal : (x o : Ordering) → is_eq x ≡ true → ordering_then x o ≡ o
 then-equal Equal o h = refl
 then-equal Less o h = absurd (false≢true h)
 then-equal Greater o h = absurd (false≢true h)

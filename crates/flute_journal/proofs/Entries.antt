@@ -51,7 +51,7 @@ header-injective Two Two x y e = (refl, cc)
 
 -- What is written has room for each sender.
 
-room_two : (key : Key) → IsKey key → HasRoom Two key.session
+pub room_two : (key : Key) → IsKey key → HasRoom Two key.session
 unfolding sender_size
 room_two key p = p.0.0
 

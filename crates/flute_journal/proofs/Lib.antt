@@ -13,6 +13,7 @@ mod Decisions
 mod Framings
 mod Calls
 mod Seen
+mod SameFile
 mod Bodies
 mod Passes
 mod Existence

@@ -11,7 +11,8 @@ use std::alloc::Global;
 /// How many streams of a slice are taken.
 const MOST: usize = 65_535;
 
-/// A stream, and then those of a slice. What a slice has beyond the first 65,535 is left out.
+/// A stream, and then those of a slice. What a slice has beyond the first 65,535 is left out: for a
+/// slice of a type parameter the prover does not know that its length and one fit a `usize`.
 #[derive(Debug, Drop)]
 pub struct Chained<'a, 'b, A, B> {
     /// It has the number 0.

@@ -9,7 +9,9 @@ mod encode;
 pub mod number;
 mod version;
 
-pub use decode::{check_end, check_header, check_opening, parse, symbol_in};
+pub use decode::{
+    check_end, check_header, check_opening, names_file, next_symbol_in, parse, symbol_in,
+};
 pub use encode::{HeadBytes, end_of, put_head, symbol_value};
 use flute_parts::{Fact, Key, SymbolId};
 pub use version::Version;

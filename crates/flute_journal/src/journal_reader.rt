@@ -1,5 +1,5 @@
 //! Reading a journal, entry by entry.
-ghost use Rattle.std.specs.Prelude.{◌≡◌, ℕ, ◌+◌, ◌<◌, ◌^◌, IfOk, IfSome, Some, None};
+ghost use Rattle.std.specs.Prelude.{◌≡◌, ℕ, ◌+◌, ◌<◌, ◌^◌, IfOk, IfSome, Ok, Some, None, true, false};
 ghost use Rattle.flute_journal.specs.Input.{Fails, FailsIf};
 ghost use Rattle.flute_journal.specs.Readers.{source_of, limit_of, state_of};
 ghost use Rattle.flute_journal.specs.JournalFraming.{journal_framing};
@@ -8,9 +8,10 @@ ghost use Rattle.flute_journal.specs.declared.reader_state.ReaderState.TheVarian
 
 use crate::entry_fields::{Before, read_entry, read_header};
 use crate::fault::ReadFault;
-use crate::lent::take_entry;
+use crate::format::Version;
+use crate::lent::{take_entry, take_next};
 use crate::reader_state::ReaderState;
-use flute_parts::{Fact, Source};
+use flute_parts::{Fact, Part, Source};
 use std::alloc::Global;
 
 /// A journal that is read entry by entry. It never reads past what it has given.
@@ -93,6 +94,60 @@ impl<'a, R: Source> JournalReader<'a, R> {
     {
         read_at(alloc, self.source, self.max_entries, &mut self.state, spare)
     }
+
+    /// Puts the next entry in place of the one that is held, if it lies whole in the source's
+    /// buffer and both are of symbols of one file with as many bytes. False if not, and nothing was
+    /// read then. It asks for no memory.
+    #[inline(always)]
+    pub fn next_in_place(&mut self, held: &mut Option<Fact>) -> bool
+        ensures source { (source_of self.new).ghost_name ≡ (source_of self.old).ghost_name }
+        ensures limit { limit_of self.new ≡ limit_of self.old }
+        ensures gives { result ≡ true → Gives journal_framing (limit_of self.old)
+            (state_of self.old) (state_of self.new) (R.unread (source_of self.old).now)
+            (R.unread (source_of self.new).now) (Ok held.new) }
+        ensures nothing { result ≡ false
+            → ((source_of self.new).now ≡ (source_of self.old).now)
+            × (state_of self.new ≡ state_of self.old) × (held.new ≡ held.old) }
+        ensures failures { result ≡ true → FailsIf (is_open (state_of self.old))
+            (R.failures (source_of self.old).now) (R.failures (source_of self.new).now)
+            (Ok held.new) }
+    {
+        read_in_place(self.source, self.max_entries, &mut self.state, held)
+    }
+}
+
+// Puts the next entry of a journal whose reader has this state in place of the one that is held,
+// if it lies whole in the source's buffer and both are of symbols of one file with as many bytes.
+// False if not, and nothing was read then.
+#[inline(always)]
+pub(crate) fn read_in_place<R: Source>(
+    source: &mut R,
+    max_entries: u64,
+    state: &mut ReaderState<Before>,
+    held: &mut Option<Fact>,
+) -> bool
+    ensures gives { result ≡ true → Gives journal_framing max_entries state.old state.new
+        (R.unread source.old) (R.unread source.new) (Ok held.new) }
+    ensures nothing { result ≡ false → (source.new ≡ source.old) × (state.new ≡ state.old)
+        × (held.new ≡ held.old) }
+    ensures failures { result ≡ true → FailsIf (is_open state.old)
+        (R.failures source.old) (R.failures source.new) (Ok held.new) }
+{
+    let ReaderState::Items(before) = state else {
+        return false;
+    };
+    if before.version != Version::Two || before.count >= max_entries {
+        return false;
+    }
+    let Some(last) = &mut before.last else {
+        return false;
+    };
+    let Some(id) = take_next(source, last, held) else {
+        return false;
+    };
+    before.count += 1;
+    last.part = Part::Symbol(id);
+    true
 }
 
 // The next entry of a journal whose reader has this state, and its state afterwards.

@@ -15,6 +15,9 @@ pub struct JournalWriter<'a, W> {
     pub sink: &'a mut W,
     /// Whether the sink has failed.
     pub failed: bool,
+    /// The bytes of the key of a symbol that was written before: the next one is mostly of the same
+    /// object.
+    key: [u8; 37],
 }
 
 impl<'a, W: Sink> JournalWriter<'a, W> {
@@ -27,6 +30,7 @@ impl<'a, W: Sink> JournalWriter<'a, W> {
         JournalWriter {
             sink,
             failed: false,
+            key: [0; 37],
         }
     }
 
@@ -44,7 +48,7 @@ impl<'a, W: Sink> JournalWriter<'a, W> {
         ensures puts { Puts W.written W.failures (entry (fact_of fact.now)) self.old self.new }
     {
         let mut head = HeadBytes::new();
-        put_head(&mut head, fact);
+        put_head(&mut head, &mut self.key, fact);
         self.put(head.as_slice());
         self.put(symbol_value(fact));
     }

@@ -1,12 +1,14 @@
 //! Entries and records that lie whole in the buffer of their source, looked at where they lie.
-ghost use Rattle.std.specs.Prelude.{◌≡◌, IfOk, IfErr, IfSome};
+ghost use Rattle.std.specs.Prelude.{◌≡◌, IfOk, IfErr, IfSome, MatchOption, Ok, Some, None, length as length_of};
+ghost use Rattle.flute_journal.specs.declared.format.version.Version.TheVariants.{Two};
+ghost use Rattle.flute_parts.specs.Addresses.{address, symbol_address};
 ghost use Rattle.flute_parts.specs.declared.fact.Fact.TheVariants.{Symbol};
 ghost use Rattle.flute_journal.specs.Lent.{BeginsWithEntry, TakesEntry, BeginsWithRecord, TakesRecord};
 ghost use Rattle.flute_journal.specs.declared.fault.ReadFault.TheVariants.{OutOfMemory};
 
 use crate::fault::ReadFault;
 use crate::format::number::length_in;
-use crate::format::{Kind, Version, symbol_in};
+use crate::format::{Kind, Version, next_symbol_in, symbol_in};
 use flute_parts::{Address, Bytes, Fact, Key, Source, SymbolId};
 use flute_wire::Datagram;
 
@@ -35,6 +37,70 @@ pub fn take_entry<R: Source>(
     };
     source.consume(size);
     Ok(Some(Fact::Symbol { key, id, bytes }))
+}
+
+/// Takes the next entry of a journal of version 2, puts it in place of the one that is held, and
+/// returns its id: if it lies whole in the source's buffer, has no fault, and is of a symbol of the
+/// same file as the entry before it, at `last`, with as many bytes as the symbol that is held.
+///
+/// None if it is not so, and nothing was taken then. It asks for no memory.
+#[inline(always)]
+pub fn take_next<R: Source>(
+    source: &mut R,
+    last: &Address,
+    held: &mut Option<Fact>,
+) -> Option<SymbolId>
+    ensures takes { IfSome result (λ id. MatchOption held.new ⊥ (λ f.
+        (address f ≡ symbol_address last.now.key id) × TakesEntry Two (Some last.now)
+        (R.unread source.old) (R.unread source.new) (Ok (Some f)))) }
+    ensures nothing { result ≡ None → (source.new ≡ source.old) × (held.new ≡ held.old) }
+    ensures failures { R.failures source.new ≡ R.failures source.old }
+{
+    let length = match &*held {
+        Some(Fact::Symbol { bytes, .. }) => bytes.as_slice().len(),
+        _ => return None,
+    };
+    let (id, symbol, count) = next_in(source.buffer(), last, length)?;
+    let Some(Fact::Symbol { bytes, .. }) = held.take() else {
+        unreachable!();
+    };
+    let mut copy = bytes.into_vec();
+    copy.copy_from_slice(symbol);
+    let Ok(bytes) = Bytes::from_vec(copy) else {
+        unreachable!();
+    };
+    *held = Some(Fact::Symbol {
+        key: last.key,
+        id,
+        bytes,
+    });
+    source.consume(count);
+    Some(id)
+}
+
+// The symbol of so many bytes whose entry is at the front of the bytes, after the entry at `last`,
+// and how many bytes the entry has.
+#[inline(always)]
+fn next_in<'a>(
+    bytes: &'a [u8],
+    last: &Address,
+    length: usize,
+) -> Option<(SymbolId, &'a [u8], usize)>
+    ensures begins { IfSome result (λ e. BeginsWithEntry Two (Some last.now) bytes.now
+        (Symbol last.now.key e.0 e.1.now) e.2) }
+    ensures length { IfSome result (λ e. length_of e.1.now ≡ length) }
+{
+    let (&first, rest) = bytes.split_first()?;
+    let Some(Kind::Symbol) = Kind::from_byte(first) else {
+        return None;
+    };
+    let (head, rest) = rest.split_at_checked(Kind::Symbol.head_size(Version::Two))?;
+    let (id, told) = next_symbol_in(last, head)?;
+    if usize::from(told) != length {
+        return None;
+    }
+    let symbol = rest.get(..length)?;
+    Some((id, symbol, 1 + head.len() + symbol.len()))
 }
 
 // The symbol whose entry is at the front of the bytes, and how many bytes the entry has. None

@@ -73,6 +73,6 @@ impl Choice for Scope {
 
     #[inline(always)]
     fn takes_fact(&self, fact: &FactRef<'_>) -> bool {
-        self.takes(&fact.address().key)
+        self.is_all() || self.takes(&fact.address().key)
     }
 }

@@ -4,12 +4,15 @@ ghost use Rattle.std.specs.Prelude.{◌≡◌, ◌<◌, ◌≤◌, ◌++◌, IfS
 ghost use Rattle.flute_parts.specs.Information.{info_fault};
 ghost use Rattle.flute_journal.specs.Numbers.{in_bytes};
 ghost use Rattle.flute_parts.specs.BigEndian.{big_endian};
-ghost use Rattle.flute_journal.specs.Format.{header_in, sender_size, id_bytes};
+ghost use Rattle.flute_journal.specs.Format.{header_in, sender_size, id_bytes, key_bytes, name_bytes};
 ghost use Rattle.flute_journal.specs.Faults.{is_after, is_name, is_key, key_size, named_in, key_in as key_of_bytes, info_in as info_of_bytes, opening_fault, header_fault};
 ghost use Rattle.flute_journal.specs.Journal.{IsKeyIn};
 ghost use Rattle.flute_parts.specs.Ranges.{IsKey, IsId, IsInfo};
+ghost use Rattle.flute_parts.specs.Session.{IsTsi};
+ghost use Rattle.flute_parts.specs.ObjectName.{IsObjectName};
 ghost use Rattle.flute_journal.specs.Parsing.{HeadIn, RestIs, Parses, StopsReading, head_bytes, head_size, rest_size, body_fault, rest_fault, bytes_fault, end_fault};
 ghost use Rattle.flute_journal.specs.declared.format.EntryHead.TheVariants.{Symbol};
+ghost use Rattle.flute_journal.specs.declared.format.version.Version.TheVariants.{Two};
 ghost use Rattle.flute_journal.specs.declared.format.Kind.TheVariants as kinds;
 ghost use Rattle.flute_journal.specs.declared.fault.ReadFault.TheVariants.{Order, Cut};
 
@@ -125,6 +128,80 @@ pub fn symbol_in(
         Ok((id, length)) => Some((key, id, length)),
         Err(_) => None,
     }
+}
+
+/// What follows the kind of the entry of a symbol in version 2, up to its bytes, if it is of the
+/// same file as the entry before, at `last`: its id and how many bytes follow. None if it is of
+/// another object, or there is a fault.
+#[inline(always)]
+pub fn next_symbol_in(last: &Address, bytes: &[u8]) -> Option<(SymbolId, u16)>
+    requires { length bytes.now ≤ head_size Two kinds.Symbol }
+    ensures { IfSome result (λ s.
+        HeadIn Two (Some last.now) kinds.Symbol (Symbol last.now.key s.0 s.1)
+        × (head_bytes Two (Symbol last.now.key s.0 s.1) ≡ bytes.now)) }
+{
+    let (field, rest) = bytes.split_at_checked(Version::Two.sender_size() + 21)?;
+    if names_file(field, &last.key) {
+        next_in(last, rest)
+    } else {
+        None
+    }
+}
+
+// The id and the number of the bytes of a symbol of the same object as the entry at `last`.
+#[tactic(auto, using(crate::proofs::SameFile::part_after))]
+#[inline(always)]
+fn next_in(last: &Address, bytes: &[u8]) -> Option<(SymbolId, u16)>
+    requires key { IsKey last.now.key }
+    requires most { length bytes.now ≤ 6 }
+    ensures { IfSome result (λ s.
+        RestIs (Some last.now) kinds.Symbol last.now.key bytes.now (Symbol last.now.key s.0 s.1)) }
+{
+    let Ok((id, rest)) = id_at(bytes) else {
+        return None;
+    };
+    let is_after = last.part < Part::Symbol(id);
+    match length_at(rest) {
+        Ok(length) if is_after => Some((id, length)),
+        _ => None,
+    }
+}
+
+/// Whether these are the bytes of this key in version 2, and it names a file.
+#[tactic(auto, using(crate::proofs::SameFile::key_named, crate::proofs::Numbers::octets))]
+#[inline(always)]
+pub fn names_file(bytes: &[u8], key: &Key) -> bool
+    requires { length bytes.now ≡ key_size Two }
+    ensures spelled { result ≡ true → key_bytes Two key.now ≡ bytes.now }
+    ensures valid { IsKey key.now }
+{
+    let own = key.session.sender().number();
+    let (sender, name) = bytes.split_at(Version::Two.sender_size());
+    let is_named = is_file_in(name, key);
+    is_named && sender_in(Version::Two, sender).number() == own
+}
+
+// Whether these are the bytes that name the file with this key, but for its sender.
+#[tactic(auto, using(crate::proofs::SameFile::file_named, crate::proofs::Numbers::octets))]
+#[inline(always)]
+fn is_file_in(bytes: &[u8], key: &Key) -> bool
+    requires { length bytes.now ≡ 21 }
+    ensures spelled { result ≡ true → name_bytes key.now ≡ bytes.now }
+    ensures session { IsTsi key.now.session.tsi }
+    ensures object { IsObjectName key.now.object }
+{
+    let toi = key.object.toi();
+    let tsi = key.session.tsi();
+    if toi == 0 {
+        return false;
+    }
+    if bytes[6] != 1 {
+        return false;
+    }
+    if number(&bytes[..6]) != u128::from(tsi) {
+        return false;
+    }
+    number_of_14(&bytes[7..]) == toi
 }
 
 // The key of which these are the bytes.

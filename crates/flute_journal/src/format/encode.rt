@@ -11,6 +11,7 @@ ghost use Rattle.flute_parts.specs.Ranges.{IsByte, IsKey, IsId, IsInfo, IsFact};
 ghost use Rattle.flute_journal.specs.Writing.{symbol_value};
 
 use super::END;
+use super::decode::names_file;
 use super::number::length_field;
 use arrayvec::ArrayVec;
 use flute_parts::{FactRef, Info, Key, SymbolId};
@@ -18,9 +19,10 @@ use flute_parts::{FactRef, Info, Key, SymbolId};
 /// The front of an entry, up to the bytes of a symbol.
 pub type HeadBytes = ArrayVec<u8, 50>;
 
-/// Puts the front of an entry into `head`, which is empty.
+/// Puts the front of an entry into `head`, which is empty. `last` are the bytes of the key of a
+/// symbol before it, in whose place those of its key are put if it is of a symbol.
 #[inline(always)]
-pub fn put_head(head: &mut HeadBytes, fact: &FactRef<'_>)
+pub fn put_head(head: &mut HeadBytes, last: &mut [u8; 37], fact: &FactRef<'_>)
     requires empty { head.old.items ≡ [] }
     requires room { array_vec_len head.old ≡ 0 }
     requires sized { IsSized (fact_of fact.now) }
@@ -39,7 +41,7 @@ pub fn put_head(head: &mut HeadBytes, fact: &FactRef<'_>)
         }
         FactRef::Symbol { key, id, bytes } => {
             put(head, &[3]);
-            put_key(head, key);
+            put_same_key(head, last, key);
             put_id(head, *id);
             put_length(head, bytes);
         }
@@ -99,6 +101,42 @@ fn put_key(head: &mut HeadBytes, key: &Key)
     let (upper, lower) = halves(number);
     put(head, &upper.to_be_bytes()[2..]);
     put(head, &lower.to_be_bytes());
+}
+
+// The same, by way of the bytes of the key of a symbol before it, in whose place these are put.
+#[inline(always)]
+fn put_same_key(head: &mut HeadBytes, last: &mut [u8; 37], key: &Key)
+    requires { array_vec_len head.old ≤ 1 }
+    ensures items { head.new.items ≡ head.old.items ++ key_bytes Two key.now }
+    ensures len { array_vec_len head.new ≡ array_vec_len head.old + 37 }
+    ensures valid { IsKey key.now }
+{
+    set_key(last, key);
+    put(head, last.as_slice());
+}
+
+// Puts the bytes of a key in place of those of another, unless they are there. Most symbols are of
+// the object of the one before.
+#[tactic(auto, using(crate::proofs::SameFile::key_size_two))]
+#[inline(always)]
+fn set_key(bytes: &mut [u8; 37], key: &Key)
+    ensures spelled { bytes.new ≡ key_bytes Two key.now }
+    ensures valid { IsKey key.now }
+{
+    if names_file(bytes.as_slice(), key) {
+        return;
+    }
+    spell_key(bytes, key);
+}
+
+// Puts down the bytes of a key.
+#[inline(never)]
+fn spell_key(bytes: &mut [u8; 37], key: &Key)
+    ensures { bytes.new ≡ key_bytes Two key.now }
+{
+    let mut head = HeadBytes::new();
+    put_key(&mut head, key);
+    bytes.copy_from_slice(head.as_slice());
 }
 
 // The high and the low half of a number: the bytes of each are put down faster than those of both.
