@@ -59,6 +59,7 @@ test:
 	tests/files.py $(BUILT)
 	tests/extract_all.py $(BUILT)
 	tests/test_any_size.py
+	tests/test_memory.py
 	tests/test_receive.py
 	tests/receiving.py $(BUILT)
 	tests/test_map.py

@@ -30,7 +30,9 @@ _flutejoin_options() {
             echo '-o --any-size --force --list --source --tsi --toi --fdt --length --symbol' \
                 '--block --help'
             ;;
-        join) echo '-o --any-size --force --source --tsi --toi --fdt --no-fdt --help' ;;
+        join)
+            echo '-o --any-size --memory --force --source --tsi --toi --fdt --no-fdt --help'
+            ;;
         merge) echo '-o --force --help' ;;
         forget)
             echo '-o --force --conflicts --source --tsi --toi --fdt --symbol --info --help'
@@ -88,7 +90,7 @@ _flutejoin() {
             [ "$tool" != flutejoin-files ] || _flutejoin_files "$word"
             return ;;
         --interface) _flutejoin_words "$word" "$(_flutejoin_interfaces)"; return ;;
-        --source | --tsi | --toi | --length | --symbol | --block | --without) return ;;
+        --source | --tsi | --toi | --length | --symbol | --block | --without | --memory) return ;;
         --port | --group | --count | --seconds | --senders | --split | --most | --buffer)
             return ;;
         --every | --window | --keep-raw | --nightly) return ;;

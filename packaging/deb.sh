@@ -30,8 +30,8 @@ Depends: libc6, python3 (>= 3.11)
 Suggests: openssh-client, rsync
 Installed-Size: $(du -sk --exclude=DEBIAN "$root" | cut -f 1)
 Description: reception store for files sent by FLUTE (RFC 6726)
- FLUTE sends files by multicast to receivers that cannot answer. flutejoin keeps
- what each station received as a journal, joins journals in any order, tells
+ FLUTE sends files by multicast to receivers that cannot reply. flutejoin keeps
+ what each station received as a journal, joins journals in any order, lists
  what is missing, and writes a file once it is whole. Its tools receive
  datagrams, run stations by themselves, and draw what is missing.
 END

@@ -17,7 +17,7 @@ pub trait Join: Drop {
     // Joining the second value into the first may ask for memory.
     ghost needs_memory: { Self → Self → Type 0 };
 
-    // What is asked of the values in a map. A join keeps it, refused or not.
+    // What has to hold of the values in a map. A join keeps it, refused or not.
     ghost sound: { Self → Type 0 };
 
     /// Joins `other` into this value.

@@ -7,8 +7,8 @@
 //! idempotent ([`laws`]), so the join of many parts does not depend on their order, on how they
 //! are grouped, or on repeats.
 //!
-//! A join that is refused, by a limit or for want of memory, leaves a value between the old one
-//! and the join: joined again with success, it gives the join.
+//! A join that is refused, by a limit or for lack of memory, leaves a value between the old one and
+//! the join: joined again with success, it gives the join.
 //!
 //! Two values of one key are a conflict, however often each is joined (from `join_sample`):
 //!

@@ -148,9 +148,9 @@ impl<K: Place, V: Join, const LIMIT: u32> JoinMap<K, V, LIMIT> {
 
     /// Joins a value into the one at a key, as joining a map of that one pair.
     ///
-    /// At a new key `Full` comes exactly if the map has `LIMIT` keys, before any memory is
-    /// asked for, and a refusal leaves the map unchanged. At a held key the answer is that of
-    /// joining the two values.
+    /// At a new key `Full` comes exactly if the map has `LIMIT` keys, before any memory is asked
+    /// for, and a refusal leaves the map unchanged. At a held key the result is that of joining the
+    /// two values.
     pub fn join_at(&mut self, alloc: Global, key: K, value: &V) -> Result<(), JoinRefusal>
         ensures ok { OnOk result
             (self.new ≡ map_join K.cmp V.joined self.old ((key, value.now) ∷ [])) }
@@ -277,7 +277,7 @@ impl<K: Place, V: Join, const LIMIT: u32> Join for JoinMap<K, V, LIMIT> {
         for (key, value) in other.iter() {
             self.join_at(alloc, *key, value)?;
         }
-        // By this the proof knows that the keys are in order, and within the limit.
+        // From this the proof knows that the keys are in order, and within the limit.
         let _ = &self.entries;
         Ok(())
     }

@@ -1,4 +1,5 @@
 -- Two entries of a folder: the name OUT, and the file beside it whose bytes are to become OUT's.
+-- They keep what OUT was, since a command whose sink is an output promises nothing of its folder.
 use Rattle.std.specs.Prelude.{◌≡◌, ◌⊎◌, ℕ, Bool, true, false, List, [], ◌∷◌, ◌++◌, Option, Some, None, IsSome, option_map, Contains, ⊤}
 use Rattle.flute_output.specs.declared.folder.Name.{Name}
 use Rattle.flute_output.specs.declared.folder.Name.TheVariants.{Out, Beside}
@@ -28,17 +29,17 @@ pub record Entries : Type 0 where
   pub found : Option Stored
   -- what OUT has been since then and is no more, the oldest first
   pub past : List (Option Stored)
-  -- whether the disk has told that it has the name OUT as it is
+  -- whether the disk has confirmed the name OUT as it is
   pub named : Bool
 
--- R of what was and what is, if the folder tells; it tells always or never
+-- R of the entries before and after, if contracts see them; they see them always or never
 abbrev pub Leads : (Entries → Entries → Type 0) → Option Entries → Option Entries → Type 0
 Leads R None None = ⊤
 Leads R None (Some new) = ⊥
 Leads R (Some old) None = ⊥
 Leads R (Some old) (Some new) = R old new
 
--- f was done, if the folder tells
+-- f was done, if contracts see the entries
 abbrev pub Does : (Entries → Entries) → Option Entries → Option Entries → Type 0
 Does f old new = Leads (λ before after. after ≡ f before) old new
 
@@ -92,7 +93,7 @@ whole bytes = record { bytes = bytes; on_disk = true }
 abbrev pub found_in : Entries → Option Stored
 found_in e = e.found
 
--- whether the disk has told that it has the name OUT as it is
+-- whether the disk has confirmed the name OUT as it is
 abbrev pub named_in : Entries → Bool
 named_in e = e.named
 
@@ -138,7 +139,7 @@ Survives None left = left ≡ None
 Survives (Some s) left = s.on_disk ≡ true → left ≡ Some s.bytes
 
 -- what the name OUT may be on the disk, if it was what was found when the file beside it was made:
--- what OUT is, if the disk has told so; else also what it has been since
+-- what OUT is, if the disk has confirmed that; else also what it has been since
 abbrev pub IsNamed : Bool → Entries → Option Stored → Type 0
 IsNamed true e file = file ≡ e.out
 IsNamed false e file = (file ≡ e.found) ⊎ WasOut e file
@@ -161,7 +162,7 @@ pub record IsEitherAlways (file : Stored) (old e : Entries) : Type 0 where
       → (seen : Option Stored) (left : Option (List ℕ)) → (seen ≡ e.found) ⊎ WasOut e seen
       → Survives seen left → (left ≡ option_map (λ s. s.bytes) e.found) ⊎ (left ≡ Some file.bytes)
 
--- what a fault of finishing says of OUT
+-- what a fault of finishing means for OUT
 abbrev pub Ends : {E : Type 0} → FinishFault E → Entries → Entries → Type 0
 Ends (Work fault) old new = OutIsAsFound old new
 Ends Write old new = OutIsAsFound old new

@@ -23,17 +23,17 @@ pub record Places : Type 0 where
   pub open_file : Option NamedFile
   -- what OUT has been since the folder beside it was made and is no more, the oldest first
   pub past : List (Option Filled)
-  -- whether the disk has told that it has the name OUT as it is
+  -- whether the disk has confirmed the name OUT as it is
   pub named : Bool
 
--- R of what was and what is, if the folder tells; it tells always or never
+-- R of the entries before and after, if contracts see them; they see them always or never
 abbrev pub LeadsTo : (Places → Places → Type 0) → Option Places → Option Places → Type 0
 LeadsTo R None None = ⊤
 LeadsTo R None (Some new) = ⊥
 LeadsTo R (Some old) None = ⊥
 LeadsTo R (Some old) (Some new) = R old new
 
--- f was done, if the folder tells
+-- f was done, if contracts see the entries
 abbrev pub Makes : (Places → Places) → Option Places → Option Places → Type 0
 Makes f old new = LeadsTo (λ before after. after ≡ f before) old new
 
@@ -159,7 +159,7 @@ LeavesFiles None left = left ≡ None
 LeavesFiles (Some f) left = f.on_disk ≡ true → left ≡ Some f.files
 
 -- what the name OUT may be on the disk, where there was none when the folder beside it was made:
--- what OUT is, if the disk has told so; else also nothing, and what it has been since
+-- what OUT is, if the disk has confirmed that; else also nothing, and what it has been since
 abbrev pub MayBeThere : Bool → Places → Option Filled → Type 0
 MayBeThere true p seen = seen ≡ p.out
 MayBeThere false p seen = (seen ≡ None) ⊎ WasThere p seen
@@ -178,7 +178,7 @@ pub record IsWholeOrNothing (folder : Filled) (old p : Places) : Type 0 where
       → (seen ≡ None) ⊎ WasThere p seen
       → LeavesFiles seen left → (left ≡ None) ⊎ (left ≡ Some folder.files)
 
--- what a fault of finishing says of OUT
+-- what a fault of finishing means for OUT
 abbrev pub EndsAt : {E : Type 0} → FinishFault E → Places → Places → Type 0
 EndsAt (Work fault) old new = StaysNothing old new
 EndsAt Write old new = StaysNothing old new

@@ -32,8 +32,7 @@ impl Write for Target {
     }
 }
 
-/// A file of the system whose bytes wait in memory until a flush. It tells contracts nothing of
-/// them.
+/// A file of the system whose bytes wait in memory until a flush. Contracts see nothing of them.
 #[derive(Drop)]
 pub struct BufferedFile {
     writer: BufWriter<Target>,
@@ -54,7 +53,7 @@ impl BufferedFile {
         })
     }
 
-    /// Hands on to this file from now on.
+    /// Flushes to this file from now on.
     pub fn open(&mut self, file: File)
         ensures { self.new.failures ≡ self.old.failures }
     {
@@ -83,7 +82,7 @@ impl BufferedFile {
         }
     }
 
-    /// Hands on the bytes that wait.
+    /// Flushes the bytes that wait.
     ///
     /// # Errors
     ///

@@ -9,7 +9,7 @@ use std::io;
 use std::rt::Files;
 
 /// A pipe, a device, or a file without a name, at a path. It takes its bytes itself, and what it
-/// took is not taken back. It tells contracts nothing of them.
+/// took is not taken back. Contracts see nothing of them.
 #[derive(Drop)]
 pub struct DeviceFile<'a, R: Files<File = File>> {
     rt: &'a R,
@@ -46,7 +46,7 @@ impl<'a, R: Files<File = File>> DeviceFile<'a, R> {
         Ok(())
     }
 
-    /// Hands on the bytes that wait.
+    /// Flushes the bytes that wait.
     ///
     /// # Errors
     ///

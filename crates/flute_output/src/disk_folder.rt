@@ -11,7 +11,7 @@ use std::fs::File;
 use std::io::{self, ErrorKind};
 use std::rt::Files;
 
-/// The folder of an output in the file system. It tells contracts nothing of its files.
+/// The folder of an output in the file system. Contracts see nothing of its files.
 #[derive(Drop)]
 pub struct DiskFolder<'a, R: Files<File = File>> {
     rt: &'a R,
@@ -44,8 +44,8 @@ impl<'a, R: Files<File = File>> DiskFolder<'a, R> {
         })
     }
 
-    // The folder, which is opened first, so that it then needs only to be brought to the disk; and
-    // the file beside OUT.
+    // The folder, which is opened first, so that later it only needs to be synced; and the file
+    // beside OUT.
     fn open(&self) -> io::Result<(Option<File>, File)> {
         let folder = self.names.folder(self.rt)?;
         let file = self.names.create(self.rt, &self.inputs)?;
@@ -109,7 +109,7 @@ impl<R: Files<File = File>> Folder for DiskFolder<'_, R> {
 }
 
 // Waits until the disk has the names in a folder. A file system without such a call for folders
-// answers that it is no valid one.
+// reports it as invalid.
 fn sync_folder(folder: &File) -> io::Result<()> {
     match folder.sync_all() {
         Err(error) => match error.kind() {

@@ -13,7 +13,7 @@ use std::rt::Files;
 /// How many bytes wait in memory at most.
 const BUFFER: usize = 131_072;
 
-/// A new folder in the file system. It tells contracts nothing of its files.
+/// A new folder in the file system. Contracts see nothing of its files.
 #[derive(Drop)]
 pub struct DiskNewFolder<'a, R: Files<File = File> + Alloc + Clone + Drop> {
     rt: &'a R,
@@ -195,7 +195,7 @@ fn write_to(file: &mut Option<File>, bytes: &[u8]) -> io::Result<()> {
 }
 
 // Waits until the disk has the names in a folder. A file system without such a call for folders
-// answers that it is no valid one.
+// reports it as invalid.
 fn sync_open(folder: &Option<File>) -> io::Result<()> {
     match folder {
         Some(folder) => match folder.sync_all() {

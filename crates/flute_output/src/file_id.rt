@@ -12,7 +12,7 @@ pub struct FileId {
 }
 
 impl FileId {
-    /// The file that was asked about.
+    /// The file of this metadata.
     pub fn of(metadata: &Metadata) -> FileId {
         FileId {
             device: metadata.dev(),

@@ -66,8 +66,8 @@ pub fn finish_folder<D: NewFolder, T: Drop, E: Drop>(
     Err(fault)
 }
 
-// Names the folder beside OUT OUT once the disk has its files and their names, so that a lost power
-// leaves all of it or nothing.
+// Renames the folder beside OUT to OUT once the disk has its files and their names, so that a lost
+// power leaves all of it or nothing.
 fn keep_folder<D: NewFolder>(folder: &mut D) -> Result<(), DeviceFault>
     requires nothing { IfSome (D.places folder.old) IsNothing }
     requires beside { IfSome (D.places folder.old) HasBeside }

@@ -1,4 +1,4 @@
-//! What an output asks of the folder that OUT is in.
+//! What an output needs of the folder that OUT is in.
 ghost use Rattle.std.specs.Prelude.{◌≡◌, ℕ, ◌+◌, ◌<◌, ◌≤◌, length, take, IfOk, OnOk, OnErr, Option, if◌then◌else◌, is_ok};
 ghost use Rattle.flute_output.specs.Entries.{Entries, Leads, Does, OutStays, created, takes, flushed, synced, put_in_place, names_synced, removes};
 
@@ -15,7 +15,7 @@ pub enum Name {
 
 /// A folder, as far as an output needs it: the name OUT, and a file beside it, which takes bytes.
 pub trait Folder {
-    // What the two names stand for, if the folder tells.
+    // What the two names lead to, if contracts see that.
     ghost entries: { Self → Option Entries };
 
     // How often a call has failed.
@@ -32,7 +32,7 @@ pub trait Folder {
         ensures failures { failures self.new
             ≡ failures self.old + (if is_ok result then 0 else 1) };
 
-    /// Takes the first bytes of `bytes` for the file beside OUT, and answers how many: at least
+    /// Takes the first bytes of `bytes` for the file beside OUT, and returns how many: at least
     /// one, unless `bytes` is empty. They may wait in memory.
     ///
     /// # Errors
@@ -69,7 +69,7 @@ pub trait Folder {
         ensures failures { failures self.new
             ≡ failures self.old + (if is_ok result then 0 else 1) };
 
-    /// Names the file beside OUT OUT, in the place of what had that name, in one step.
+    /// Renames the file beside OUT to OUT, which replaces what had that name, in one step.
     ///
     /// # Errors
     ///
@@ -80,8 +80,8 @@ pub trait Folder {
         ensures failures { failures self.new
             ≡ failures self.old + (if is_ok result then 0 else 1) };
 
-    /// Waits until the disk has both names as they are. A folder of a file system that has no such
-    /// call, or that may not be read, is as if it had.
+    /// Waits until the disk has both names as they are. It also succeeds if the file system has no
+    /// such call for folders, or the folder may not be read.
     ///
     /// # Errors
     ///

@@ -7,7 +7,7 @@ use std::io::{self, ErrorKind};
 use std::path::PathBuf;
 use std::rt::Files;
 
-/// What the name of the folder beside OUT has after OUT's.
+/// What is appended to OUT's name for the folder beside it.
 const SUFFIX: &str = ".partial";
 
 /// The folder of a path that names none.
@@ -78,8 +78,8 @@ impl FolderNames {
     /// # Errors
     ///
     /// Those of the system; `AlreadyExists` if OUT is there, whatever it is, or if what has the
-    /// name beside it is no folder of files alone; and `WouldBlock` if a running program has that
-    /// locked.
+    /// name beside it is not a folder that contains only files; and `WouldBlock` if a running
+    /// program has that locked.
     pub fn create<R: Files<File = File> + Alloc + Clone + Drop>(&self, rt: &R) -> io::Result<File> {
         for _ in 0..ATTEMPTS {
             self.check_out(rt)?;
@@ -99,7 +99,7 @@ impl FolderNames {
         Err(ErrorKind::AlreadyExists.into())
     }
 
-    /// Names the folder beside OUT OUT.
+    /// Renames the folder beside OUT to OUT.
     ///
     /// # Errors
     ///
@@ -186,8 +186,8 @@ impl FolderNames {
     }
 }
 
-// Locks the folder, or answers `WouldBlock` if another program has it locked. A file system
-// that knows no locks is used without.
+// Locks the folder, or returns `WouldBlock` if another program has it locked. A file system without
+// locks is used without them.
 fn lock(folder: &File) -> io::Result<()> {
     match folder.try_lock() {
         Err(TryLockError::WouldBlock) => Err(ErrorKind::WouldBlock.into()),

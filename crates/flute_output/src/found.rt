@@ -5,14 +5,14 @@ use std::fs::{self, File, Metadata};
 use std::io::Read;
 use std::rt::Files;
 
-/// What is standard output, whatever it was started with.
+/// Standard output, whatever the program was started with.
 const STANDARD_OUTPUT: &str = "/proc/self/fd/1";
 
-/// A regular file at the path of an output, and how it begins.
+/// A regular file at the path of an output, and its first bytes.
 #[derive(Clone, Copy, Debug)]
 pub struct Found {
     id: FileId,
-    /// Its first four bytes, if it has so many and they can be read.
+    /// Its first four bytes, if it has four and they can be read.
     first: Option<[u8; 4]>,
 }
 

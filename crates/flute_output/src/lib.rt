@@ -1,8 +1,8 @@
 //! An output that becomes the file OUT whole or not at all.
 //!
-//! [`Output`] hands its bytes to a file beside OUT, and puts that in OUT's place once it is whole.
+//! [`Output`] writes its bytes to a file beside OUT, and puts that in OUT's place once it is whole.
 //! What it needs of a folder is the trait [`Folder`], which the system's folders meet
-//! ([`DiskFolder`]), and one in memory, for tests ([`MemoryFolder`]). [`place_at`] tells whether
+//! ([`DiskFolder`]), and one in memory, for tests ([`MemoryFolder`]). [`place_at`] returns whether
 //! the path of an output leads to a file, to a device ([`DeviceFile`]) or to standard output.
 //!
 //! Promised of each folder that meets the trait: at any moment OUT is what it was, or the new file,

@@ -13,8 +13,8 @@ pub struct StoredFile {
     pub on_disk: bool,
 }
 
-/// A folder for tests. Bytes wait in memory until a flush, and it fails for good
-/// after so many calls.
+/// A folder for tests. Bytes wait in memory until a flush, and it fails for good after a given
+/// number of calls.
 #[derive(Debug, Drop)]
 pub struct MemoryFolder {
     alloc: Global,

@@ -20,7 +20,7 @@ pub struct MemoryFiles {
     pub on_disk: bool,
 }
 
-/// A new folder for tests. It fails for good after so many calls.
+/// A new folder for tests. It fails for good after a given number of calls.
 #[derive(Debug, Drop)]
 pub struct MemoryNewFolder {
     alloc: Global,

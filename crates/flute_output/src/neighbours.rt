@@ -10,7 +10,7 @@ use std::os::unix::fs::{OpenOptionsExt, PermissionsExt};
 use std::path::PathBuf;
 use std::rt::Files;
 
-/// What the name of the file beside OUT has after OUT's.
+/// What is appended to OUT's name for the file beside it.
 const SUFFIX: &str = ".partial";
 
 /// The folder of a path that names none.
@@ -22,10 +22,10 @@ const MAX_LINKS: u32 = 40;
 /// How often a run tries to make the file beside OUT while other runs take its name.
 const ATTEMPTS: u32 = 16;
 
-/// Who may read and write a new file, but for what the user's mask takes away.
+/// The permissions of a new file, before the user's mask.
 pub const NEW_MODE: u32 = 0o666;
 
-/// Who may read, write and run a file, of all that a mode says.
+/// The bits of a mode that are permissions.
 pub const ACCESS: u32 = 0o777;
 
 /// The two names, and what is known of OUT.
@@ -33,7 +33,7 @@ pub const ACCESS: u32 = 0o777;
 pub struct Neighbours {
     out: PathBuf,
     beside: String,
-    /// Who may read, write and run OUT, if it was there.
+    /// The permissions of OUT, if it was there.
     mode: Option<u32>,
     /// Which file OUT was before the inputs were opened, if it was there.
     before: Option<FileId>,
@@ -71,8 +71,8 @@ impl Neighbours {
         })
     }
 
-    /// Who may read, write and run the new file: whoever may OUT, if it was there, and else all
-    /// but for what the user's mask takes away.
+    /// The permissions of the new file: those of OUT, if it was there, and else those of any new
+    /// file, before the user's mask.
     pub fn new_mode(&self) -> u32
         ensures { result ≡ mode_of self.now.mode }
     {
@@ -206,7 +206,7 @@ impl Neighbours {
         }
     }
 
-    /// Names the file beside OUT OUT.
+    /// Renames the file beside OUT to OUT.
     ///
     /// # Errors
     ///
@@ -242,8 +242,8 @@ impl Neighbours {
     }
 }
 
-// Locks the file, or answers `WouldBlock` if another program has it locked. A file system
-// that knows no locks is used without.
+// Locks the file, or returns `WouldBlock` if another program has it locked. A file system without
+// locks is used without them.
 fn lock(file: &File) -> io::Result<()> {
     match file.try_lock() {
         Err(TryLockError::WouldBlock) => Err(ErrorKind::WouldBlock.into()),

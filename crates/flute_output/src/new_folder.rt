@@ -7,7 +7,7 @@ use flute_parts::DeviceFault;
 /// A folder OUT, which is not there yet: it is made beside its name, filled with files, one after
 /// another, and then named OUT.
 pub trait NewFolder {
-    // What the two names stand for, if the folder tells.
+    // What the two names lead to, if contracts see that.
     ghost places: { Self → Option Places };
 
     // How often a call has failed.
@@ -85,7 +85,7 @@ pub trait NewFolder {
         ensures failures { failures self.new
             ≡ failures self.old + (if is_ok result then 0 else 1) };
 
-    /// Names the folder beside OUT OUT, in one step.
+    /// Renames the folder beside OUT to OUT, in one step.
     ///
     /// # Errors
     ///
@@ -97,8 +97,8 @@ pub trait NewFolder {
         ensures failures { failures self.new
             ≡ failures self.old + (if is_ok result then 0 else 1) };
 
-    /// Waits until the disk has the name OUT as it is. A file system that has no such call for
-    /// folders, or a folder that may not be read, is as if it had.
+    /// Waits until the disk has the name OUT as it is. It also succeeds if the file system has no
+    /// such call for folders, or the folder may not be read.
     ///
     /// # Errors
     ///

@@ -34,8 +34,8 @@ pub enum FinishFault<E> {
     Work(E),
     /// The device did not take the bytes, or the file could not be put in place. OUT is as before.
     Write,
-    /// OUT is the new file, but the disk did not tell that it has this name: a lost power may
-    /// leave what OUT was.
+    /// OUT is the new file, but the disk did not confirm this name: a lost power may leave what OUT
+    /// was.
     NotOnDisk,
 }
 
@@ -46,8 +46,8 @@ pub enum OutputFault {
     Create,
     /// The device did not take the bytes, or the file could not be put in place. OUT is as before.
     Write,
-    /// OUT is the new file, but the disk did not tell that it has this name: a lost power may
-    /// leave what OUT was.
+    /// OUT is the new file, but the disk did not confirm this name: a lost power may leave what OUT
+    /// was.
     NotOnDisk,
 }
 
@@ -185,9 +185,9 @@ fn take_all<F: Folder>(folder: &mut F, bytes: &[u8]) -> Result<(), DeviceFault>
 ///
 /// # Errors
 ///
-/// `Create` if the file beside OUT could not be made, `NotOnDisk` if the disk did not tell that it
-/// has the name OUT, and `Write` if a step between failed. The file beside OUT is gone, unless the
-/// folder failed to remove it.
+/// `Create` if the file beside OUT could not be made, `NotOnDisk` if the disk did not confirm the
+/// name OUT, and `Write` if a step between failed. The file beside OUT is gone, unless the folder
+/// failed to remove it.
 pub fn write_file<F: Folder + Drop>(folder: F, bytes: &[u8]) -> (Result<(), OutputFault>, F)
     ensures written { OnOk result.0
         (Leads (λ old new. OutBecomes (whole bytes.now) (created old) new)

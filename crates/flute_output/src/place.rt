@@ -33,8 +33,9 @@ pub enum Place<F, D> {
     StandardOutput,
 }
 
-/// The file that the path of an output leads to, if the system tells. Asked before the inputs are
-/// opened, it shows later whether another run has put a new file there meanwhile.
+/// The file that the path of an output leads to, if there is one and it can be looked at. Called
+/// before the inputs are opened, it shows later whether another run has put a new file there
+/// meanwhile.
 pub fn file_at<R: Files>(rt: &R, path: &str) -> Option<FileId> {
     match fs::metadata(rt, path) {
         Ok(found) => Some(FileId::of(&found)),

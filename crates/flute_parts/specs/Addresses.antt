@@ -9,7 +9,7 @@ use Rattle.flute_parts.specs.declared.fact.Fact.TheVariants.{Info, InfoConflict,
 use Rattle.flute_parts.specs.declared.fact.FactRef.{FactRef}
 use Rattle.flute_parts.specs.declared.fact.FactRef.TheVariants.{Info as InfoRef, InfoConflict as InfoConflictRef, Symbol as SymbolRef, SymbolConflict as SymbolConflictRef}
 
--- the address of the information of an object, and of a symbol of it
+-- the address of the transmission information of an object, and of a symbol of it
 abbrev pub info_address : Key → Address
 info_address key = record { key = key; part = InfoPart }
 

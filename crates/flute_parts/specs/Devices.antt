@@ -1,4 +1,4 @@
--- What is written to a sink that tells its bytes, and how often a device failed.
+-- What is written to a sink whose bytes contracts see, and how often a device failed.
 use Rattle.std.specs.Prelude.{◌≡◌, ◌≢◌, ℕ, Bool, true, false, List, [], ◌++◌, Option, Result, MatchResult}
 use Rattle.std.specs.Io.KnownBytes.{Appends}
 

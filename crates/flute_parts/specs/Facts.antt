@@ -12,7 +12,7 @@ use Rattle.flute_parts.specs.declared.fact.Fact.TheVariants.{Info, InfoConflict,
 use Rattle.flute_parts.specs.Order.{address_cmp, same_key, same_symbol_id, same_address}
 use Rattle.flute_parts.specs.Addresses.{address}
 
--- the fact that two values were told of a part of an object, and at an address
+-- the fact that two values came for a part of an object, and at an address
 abbrev pub conflict_in : Key → Part → Fact
 conflict_in key InfoPart = InfoConflict key
 conflict_in key (SymbolPart id) = SymbolConflict key id
@@ -26,7 +26,7 @@ same_information i j =
     (i.transfer_length == j.transfer_length)
     && ((i.symbol_length == j.symbol_length) && (i.max_block_length == j.max_block_length))
 
--- the facts tell the same of the same address
+-- the facts have the same address and the same value
 abbrev pub same_fact : Fact → Fact → Bool
 same_fact (Info k i) (Info l j) = same_key k l && same_information i j
 same_fact (InfoConflict k) (InfoConflict l) = same_key k l
@@ -34,7 +34,7 @@ same_fact (Symbol k i b) (Symbol l j c) = same_key k l && (same_symbol_id i j &&
 same_fact (SymbolConflict k i) (SymbolConflict l j) = same_key k l && same_symbol_id i j
 same_fact _ _ = false
 
--- the value of facts at one address: the one fact that all of them tell, or else the conflict
+-- the value of facts at one address: the one fact that all of them are, or else the conflict
 abbrev pub agreed : Address → List Fact → Option Fact
 agreed a [] = None
 agreed a (f ∷ fs) = Some (if list_all (same_fact f) fs then f else conflict_at a)
@@ -47,7 +47,7 @@ fact_at facts a = agreed a (filter (λ f. same_address (address f) a) facts)
 pub record Same (F G : List Fact) : Type 0 where
   pub each : (a : Address) → fact_at F a ≡ fact_at G a
 
--- the first list tells nothing more than the second
+-- the first list contains nothing more than the second
 abbrev pub Below : List Fact → List Fact → Type 0
 Below F G = Same (F ++ G) G
 

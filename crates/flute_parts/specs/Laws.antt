@@ -1,4 +1,4 @@
--- Laws of lists of facts, of partitions and of information.
+-- Laws of lists of facts, of partitions and of transmission information.
 use Rattle.std.specs.Prelude.{◌≡◌, ℕ, ◌+◌, ◌-◌, ◌<◌, ◌⊎◌, true, length, slice_get, slice_index, List, ◌++◌, Contains, ◌↔◌, Some, None}
 use Rattle.std.specs.declared.cmp.Ordering.TheVariants.{Less}
 use Rattle.flute_parts.specs.Information.{Information, sizes, IsValid, info_fault, symbol_count}
@@ -41,7 +41,7 @@ BelowBothWays = (F G : List Fact) → Below F G → Below G F → Same F G
 abbrev pub OverIsMonotone : Type 0
 OverIsMonotone = (F G : List Fact) (s o y : ℕ) → Below F G → Over F s o y → Over G s o y
 
--- the value at an address is nothing, the one that is told there, or the conflict of two
+-- the value at an address is nothing, the one value of the facts there, or the conflict of two
 abbrev pub AbsentWhereNoneStands : Type 0
 AbsentWhereNoneStands =
     (F : List Fact) (a : Address)
@@ -57,7 +57,7 @@ ConflictWhereTwoDiffer =
     (F : List Fact) (a : Address) (f g : Fact) → Contains F f → Contains F g → address f ≡ a
     → address g ≡ a → (f ≡ g → ⊥) → fact_at F a ≡ Some (conflict_at a)
 
--- a conflict that was told stays one, whatever else is told
+-- a conflict stays one, whatever other facts there are
 abbrev pub ConflictWhereOneIsTold : Type 0
 ConflictWhereOneIsTold =
     (F : List Fact) (a : Address) → Contains F (conflict_at a) → fact_at F a ≡ Some (conflict_at a)
@@ -98,7 +98,7 @@ IdsFollow =
     → id.esi + 1 < slice_index (sizes info) id.sbn
     → slice_get (ids info) (k + 1) ≡ Some (symbol_id id.sbn (id.esi + 1))
 
--- valid information gives as many symbols as its transfer length needs
+-- valid transmission information gives as many symbols as its transfer length needs
 abbrev pub IdsAreCounted : Type 0
 IdsAreCounted = (info : Information) → IsValid info → length (ids info) ≡ symbol_count info
 
@@ -112,6 +112,6 @@ FitsMeans =
     × ((n ≡ info.symbol_length)
     ⊎ ((slice_get (ids info) (length (ids info) - 1) ≡ Some id) × (n ≡ last_length info))))
 
--- information is valid exactly if it has no fault
+-- transmission information is valid exactly if it has no fault
 abbrev pub ValidHasNoFault : Type 0
 ValidHasNoFault = (info : Information) → IsValid info ↔ (info_fault info ≡ None)

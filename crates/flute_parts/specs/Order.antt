@@ -33,7 +33,7 @@ key_cmp a b = ordering_then (session_cmp a.session b.session) (object_cmp a.obje
 abbrev pub symbol_id_cmp : SymbolId → SymbolId → Ordering
 symbol_id_cmp a b = ordering_then (nat_cmp a.sbn b.sbn) (nat_cmp a.esi b.esi)
 
--- the information of an object before its symbols
+-- the transmission information of an object before its symbols
 abbrev pub part_cmp : Part → Part → Ordering
 part_cmp InfoPart InfoPart = Equal
 part_cmp InfoPart (SymbolPart n) = Less

@@ -3,7 +3,7 @@
 use crate::key::Key;
 use crate::symbol_id::SymbolId;
 
-/// A part of an object. The information is ordered before the symbols.
+/// A part of an object. The transmission information is ordered before the symbols.
 #[derive(Clone, Copy, Debug, PartialEq, Eq, PartialOrd, Ord)]
 pub enum Part {
     /// The transmission information.

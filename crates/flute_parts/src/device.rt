@@ -5,7 +5,7 @@ ghost use Rattle.flute_parts.specs.Devices.{Writes};
 
 use thiserror::Error;
 
-/// A device did not do what it was asked. What it holds is as before that call.
+/// A call of a device failed. What the device holds is as before that call.
 #[derive(Clone, Copy, Debug, PartialEq, Eq, Error)]
 #[error("the device failed")]
 pub struct DeviceFault;
@@ -15,11 +15,11 @@ pub trait Sink {
     // How often a call has failed.
     ghost failures: { Self → ℕ };
 
-    // The bytes taken so far, if the sink tells them.
+    // The bytes taken so far, if contracts see them.
     ghost written: { Self → Option (List ℕ) };
 
-    /// Takes the first bytes of `bytes`, and answers how many: at least one,
-    /// unless `bytes` is empty.
+    /// Takes the first bytes of `bytes`, and returns how many: at least one, unless `bytes` is
+    /// empty.
     ///
     /// # Errors
     ///
@@ -35,8 +35,7 @@ pub trait Sink {
     ///
     /// # Errors
     ///
-    /// `DeviceFault` if one of them failed. The device then took a first part of
-    /// the bytes, and not all.
+    /// `DeviceFault` if one of them failed. The device then took a proper prefix of the bytes.
     final fn write_all(&mut self, bytes: &[u8]) -> Result<(), DeviceFault>
         ensures bytes { Writes (written self.old) (written self.new) bytes.now result }
         ensures failures { failures self.new ≡ failures self.old + (if is_ok result then 0 else 1) }

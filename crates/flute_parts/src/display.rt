@@ -1,4 +1,4 @@
-//! Names, information and facts, as the program prints them.
+//! Names, transmission information and facts, as the program prints them.
 
 use crate::fact::{Fact, FactRef};
 use crate::info::Info;
@@ -16,7 +16,7 @@ impl fmt::Display for Sender {
     }
 }
 
-/// The TSI, as `session 7`, with `source`, the sender and a space in front if that is not 0.
+/// The TSI, as `session 7`, after `source`, the sender and a space if the sender is not 0.
 impl fmt::Display for SessionKey {
     fn fmt<W: fmt::Write>(&self, f: &mut fmt::Formatter<W>) -> fmt::Result {
         let sender = self.sender();

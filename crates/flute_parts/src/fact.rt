@@ -9,7 +9,7 @@ use crate::key::Key;
 use crate::symbol_id::SymbolId;
 use std::alloc::Global;
 
-/// What is known of a part of an object: its one value, or that two different values were told.
+/// What is known of a part of an object: its one value, or that two different values came.
 #[derive(Debug, Drop, PartialEq, Eq)]
 pub enum Fact {
     /// The transmission information.
@@ -17,7 +17,7 @@ pub enum Fact {
         key: Key,
         info: Info,
     },
-    /// Two different pieces of transmission information were told.
+    /// Two different values of the transmission information came.
     InfoConflict {
         key: Key,
     },
@@ -27,7 +27,7 @@ pub enum Fact {
         id: SymbolId,
         bytes: Bytes,
     },
-    /// Two different values of an encoding symbol were told.
+    /// Two different values of an encoding symbol came.
     SymbolConflict {
         key: Key,
         id: SymbolId,
@@ -42,7 +42,7 @@ pub enum FactRef<'a> {
         key: Key,
         info: Info,
     },
-    /// Two different pieces of transmission information were told.
+    /// Two different values of the transmission information came.
     InfoConflict {
         key: Key,
     },
@@ -52,7 +52,7 @@ pub enum FactRef<'a> {
         id: SymbolId,
         bytes: &'a [u8],
     },
-    /// Two different values of an encoding symbol were told.
+    /// Two different values of an encoding symbol came.
     SymbolConflict {
         key: Key,
         id: SymbolId,

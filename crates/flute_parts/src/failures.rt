@@ -1,4 +1,4 @@
-//! A count that only contracts see. It takes no bytes, and its calls do nothing at run time.
+//! A count that only contracts see. It has no size, and its calls do nothing at run time.
 ghost use Rattle.std.specs.Prelude.{◌≡◌, ℕ, ◌+◌};
 ghost use Rattle.std.specs.Borrow.{ftrue};
 

@@ -37,7 +37,7 @@ impl Model for Info {
     } };
 }
 
-/// Why numbers are no transmission information. The first that applies is told.
+/// Why numbers are not valid transmission information. The first that applies is returned.
 #[derive(Clone, Copy, Debug, PartialEq, Eq, Error)]
 pub enum InfoFault {
     /// The transfer length is 2^48 or more.
@@ -60,8 +60,8 @@ pub enum InfoFault {
 impl Info {
     ghost use Rattle.flute_parts.specs.Information.{IsValid};
 
-    /// The information of an object of `length` bytes, in symbols of `symbol` bytes and blocks of
-    /// at most `block` symbols. If `length` is 0, the other two may be anything.
+    /// The transmission information of an object of `length` bytes, in symbols of `symbol` bytes
+    /// and blocks of at most `block` symbols. If `length` is 0, the other two may be anything.
     ///
     /// # Errors
     ///
@@ -138,7 +138,7 @@ impl Value for Info {
 
     ghost same_where_equal = { information_same };
 
-    /// The same information. It takes no memory, and is never refused.
+    /// The same transmission information. It takes no memory, and is never refused.
     fn copy(&self, _alloc: Global) -> Result<Info, JoinRefusal>
         ensures copied { result ≡ Ok self.now }
         ensures equal { IfOk result (λ copy. copy ≡ self.now) }

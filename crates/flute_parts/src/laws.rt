@@ -19,8 +19,8 @@ use crate::object_key::ObjectKey;
 use crate::session_key::SessionKey;
 use crate::symbol_id::SymbolId;
 
-/// Lists with the same facts have the same value at each address, in whatever order and
-/// however often each is told.
+/// Lists with the same facts have the same value at each address, in whatever order these come and
+/// however often.
 pub fn members_decide()
     ensures members { MembersDecide }
     ensures order { OrderIsFree }
@@ -32,7 +32,7 @@ pub fn same_is_kept()
     ensures { AppendKeepsSame }
 {}
 
-/// A list that tells nothing more than another is below it, and this is an order.
+/// A list that contains nothing more than another is below it, and this is an order.
 pub fn below_is_an_order()
     ensures reflexive { BelowIsReflexive }
     ensures transitive { BelowIsTransitive }
@@ -40,7 +40,7 @@ pub fn below_is_an_order()
     ensures append { AppendKeepsBelow }
 {}
 
-/// If a list passes limits, each list above it passes them too.
+/// If a list is over limits, each list above it is over them too.
 pub fn over_is_monotone()
     ensures { OverIsMonotone }
 {}
@@ -84,7 +84,7 @@ pub fn symbols_fit()
     ensures { FitsMeans }
 {}
 
-/// Information is valid exactly if it has no fault.
+/// Transmission information is valid exactly if it has no fault.
 pub fn valid_has_no_fault()
     ensures { ValidHasNoFault }
 {}

@@ -4,8 +4,8 @@
 //! An object is named by a [`Key`]: its session ([`SessionKey`]: the [`Sender`] and the TSI) and,
 //! in that, an FDT Instance or a file ([`ObjectKey`]). Its [`Info`] says how it is cut into
 //! symbols, and its [`Partition`] which these are (RFC 5052, section 9.1). A [`Fact`] is what is
-//! told at one [`Address`]: the information of an object, one of its symbols, or that there were
-//! two values. Bytes are read from a [`Source`] and written to a [`Sink`].
+//! known at one [`Address`]: the transmission information of an object, one of its symbols, or that
+//! there were two values. Bytes are read from a [`Source`] and written to a [`Sink`].
 //!
 //! Ten symbols in blocks of at most four (from `flute_parts_tests`):
 //!

@@ -5,7 +5,7 @@ use crate::device::DeviceFault;
 use crate::source::Source;
 
 // Copies the first bytes of `unread` to the front of `buffer`, as many as both have and at most
-// `most`. Answers their number and what is left of `unread`.
+// `most`. Returns their number and what is left of `unread`.
 pub fn hand_out<'a>(unread: &'a [u8], most: usize, buffer: &mut [u8]) -> (usize, &'a [u8])
     ensures count { result.0 ≡ min (min most (length unread.now)) (length buffer.new) }
     ensures given { unread.now ≡ take result.0 buffer.new ++ result.1.now }

@@ -36,7 +36,7 @@ impl Model for Partition {
 }
 
 impl Partition {
-    /// The partition that the information gives.
+    /// The partition of an object with this transmission information.
     pub fn of(info: &Info) -> Partition
         ensures { result ≡ info.now }
     {

@@ -5,7 +5,7 @@ use flute_join::Place;
 use std::marker::Model;
 
 /// A session, named by its sender and its Transport Session Identifier of at most 48 bits, which
-/// tells the sessions of one sender apart (RFC 5651, section 5.1).
+/// distinguishes the sessions of one sender (RFC 5651, section 5.1).
 ///
 /// Sessions are ordered by sender, then by that number.
 #[derive(Clone, Copy, Debug, PartialEq, Eq, PartialOrd, Ord)]

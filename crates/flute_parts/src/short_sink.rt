@@ -5,7 +5,8 @@ use crate::device::{DeviceFault, Sink};
 use crate::failures::Failures;
 use std::alloc::Global;
 
-/// A sink for tests: it takes so many bytes, which it keeps in memory, and then fails for good.
+/// A sink for tests: it takes a given number of bytes, keeps them in memory, and then fails for
+/// good.
 #[derive(Debug, Drop)]
 pub struct ShortSink {
     bytes: Vec<u8>,

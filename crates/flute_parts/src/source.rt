@@ -10,13 +10,13 @@ pub trait Source {
     // How often a call has failed.
     ghost failures: { Self → ℕ };
 
-    // The bytes still unread, if the source tells them.
+    // The bytes still unread, if contracts see them.
     ghost unread: { Self → Option (List ℕ) };
 
     // The next of these, as far as they lie in memory.
     ghost buffered: { Self → List ℕ } = { λ _. [] };
 
-    /// Puts the next bytes at the front of `buffer`, and answers how many: none only at the end, or
+    /// Puts the next bytes at the front of `buffer`, and returns how many: none only at the end, or
     /// if `buffer` is empty.
     ///
     /// # Errors

@@ -6,13 +6,13 @@ use crate::device::{DeviceFault, Sink};
 use crate::failures::Failures;
 use std::io::{ErrorKind, Write};
 
-/// How often an interrupted call is made again.
+/// How often an interrupted call is repeated.
 const REPEATS: u32 = 64;
 
-/// A sink over a writer, as a file or standard output. It tells contracts the bytes that the writer
-/// tells them: those of a writer over memory, and none of a file.
+/// A sink over a writer, as a file or standard output. Contracts see the bytes that they see of the
+/// writer: those of a writer over memory, and none of a file.
 ///
-/// An interrupted call is made again at most 64 times, and then it is a failure. No clause has that
+/// An interrupted call is repeated at most 64 times, and then it is a failure. No clause has that
 /// bound. A writer that takes none of some bytes has failed.
 #[derive(Debug, Drop)]
 pub struct StdSink<W> {
@@ -32,7 +32,7 @@ impl<W: Write> StdSink<W> {
         }
     }
 
-    /// Hands on what a buffering writer still holds.
+    /// Flushes what a buffering writer still holds.
     ///
     /// # Errors
     ///

@@ -6,14 +6,15 @@ use crate::failures::Failures;
 use crate::source::Source;
 use std::io::{ErrorKind, Read};
 
-/// How often an interrupted call is made again.
+/// How often an interrupted call is repeated.
 const REPEATS: u32 = 64;
 
-/// A source over a reader, as a file or standard input. It tells contracts the bytes that the
-/// reader tells them: those of a reader over memory, and none of a file.
+/// A source over a reader, as a file or standard input. Contracts see the bytes that they see of
+/// the reader: those of a reader over memory, and none of a file. So a body that reports a failed
+/// read as the end cannot be proved.
 ///
-/// An interrupted call is made again at most 64 times, and then it is a failure. No
-/// clause has that bound.
+/// An interrupted call is repeated at most 64 times, and then it is a failure. No clause has that
+/// bound.
 #[derive(Debug, Drop)]
 pub struct StdSource<R> {
     pub(crate) reader: R,

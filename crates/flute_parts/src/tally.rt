@@ -6,7 +6,7 @@ use crate::address::{Address, Part};
 use crate::key::Key;
 
 /// How many sessions, objects of the last session and symbols of the last object were named by
-/// addresses that came in rising order. It tells whether they pass a limit: `SESSIONS` sessions,
+/// addresses that came in rising order. It knows whether they pass a limit: `SESSIONS` sessions,
 /// `OBJECTS` objects of one session or `SYMBOLS` symbols of one object.
 ///
 /// As the addresses rise, a session, an object or a symbol that differs from the last was not named
@@ -43,9 +43,9 @@ impl<const SESSIONS: u32, const OBJECTS: u32, const SYMBOLS: u32> Tally<
         }
     }
 
-    /// Counts the next address. True if no limit is passed by it and those before. Each has
-    /// to be after all that were counted: once one was not, or the answer was false, the
-    /// tally tells nothing more.
+    /// Counts the next address. True if no limit is passed by it and those before. Each has to be
+    /// after all that were counted: once one was not, or the result was false, later results mean
+    /// nothing.
     pub fn count(&mut self, next: &Address) -> bool
         ensures within { (F : List Fact) (f : Fact) → address f ≡ next.now → IsRising (F ++ f ∷ [])
             → Counts SESSIONS OBJECTS SYMBOLS F self.old

@@ -14,7 +14,7 @@ use Rattle.flute_store.specs.declared.object.Object.{Object}
 abbrev pub key_in : Session → ObjectName → Key
 key_in session object = record { session = session; object = object }
 
--- the fact that a cell tells, given the fact that tells a value and the fact that tells a conflict
+-- the facts of a cell, given the fact of a value and the fact of a conflict
 abbrev pub cell_facts : {T : Type 0} → (T → Fact) → Fact → Cell T → List Fact
 cell_facts told clash Absent = []
 cell_facts told clash (One value) = told value ∷ []
@@ -30,7 +30,7 @@ abbrev pub symbols_facts : Key → List (SymbolId × Cell (List ℕ)) → List F
 symbols_facts key symbols = flat_map (λ e. symbol_cell_facts key e.0 e.1) symbols
 
 module _ {n : ℕ} where
-  -- an object's information comes before its symbols
+  -- an object's transmission information comes before its symbols
   abbrev pub object_facts : Key → Object n → List Fact
   object_facts key x = info_cell_facts key x.info ++ symbols_facts key x.symbols
 

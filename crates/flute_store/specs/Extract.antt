@@ -36,7 +36,7 @@ module _ {W : Type 0} (written : W → Option (List ℕ)) (F : List Fact) (key :
     pub length_is : n ≡ info.transfer_length
     pub exact : length (object F key info) ≡ n
 
-  -- the object is whole, and a first part of it was written, and not all
+  -- the object is whole, and a proper prefix of it was written
   pub record WritesPart : Type 0 where
     pub info : Information
     pub whole : Whole F key info

@@ -1,4 +1,4 @@
--- What a list of facts tells of an object.
+-- What a list of facts contains of an object.
 use Rattle.std.specs.Prelude.{◌≡◌, ◌≢◌, ℕ, List, length, Option, Some, None}
 use Rattle.flute_join.specs.JoinMap.{value_at}
 use Rattle.flute_join.specs.declared.cell.Cell.{Cell}
@@ -20,7 +20,7 @@ use Rattle.flute_store.specs.WellFormed.{IsObject}
 abbrev pub IsUnheard : List Fact → Key → Type 0
 IsUnheard F key = (part : Part) → fact_at F (record { key = key; part = part }) ≡ None
 
--- the fact that a cell tells
+-- the fact of a cell
 abbrev pub cell_fact : {T : Type 0} → (T → Fact) → Fact → Cell T → Option Fact
 cell_fact told clash Absent = None
 cell_fact told clash (One value) = Some (told value)
@@ -30,7 +30,7 @@ abbrev pub symbol_fact : Key → SymbolId → Option (Cell (List ℕ)) → Optio
 symbol_fact key id None = None
 symbol_fact key id (Some cell) = cell_fact (Symbol key id) (SymbolConflict key id) cell
 
--- x is all that the facts tell of the object
+-- x is all that the facts contain of the object
 pub record IsTold {n : ℕ} (F : List Fact) (key : Key) (x : Object n) : Type 0 where
   pub heard : HoldsObject F key
   pub info : fact_at F (info_address key) ≡ cell_fact (Info key) (InfoConflict key) x.info

@@ -1,4 +1,4 @@
--- What a store answers of the gaps of an object.
+-- What a store returns as the gaps of an object.
 use Rattle.std.specs.Prelude.{◌≡◌, ◌≢◌, ◌+◌, ◌↔◌, false, List, length, Contains, Some, None}
 use Rattle.std.specs.List.Sorted.{IsStrictlySortedBy}
 use Rattle.flute_parts.specs.Information.{Information, sizes}
@@ -32,7 +32,7 @@ pub record GivesGaps (F : List Fact) (key : Key) (left : GapsLeft) : Type 0 wher
   pub ticks_are : left.ticks ≡ 0
   pub bound_is : left.bound ≡ length (sizes info) + length (symbols F key) + 1
 
--- something of the object is held, and no information, or two values of it
+-- something of the object is held, and no transmission information, or two values of it
 abbrev pub LacksInformation : List Fact → Key → Type 0
 LacksInformation F key = HoldsObject F key × (fact_at F (info_address key) ≡ None)
 

@@ -11,8 +11,8 @@ use Rattle.flute_parts.specs.Facts.{fact_at}
 abbrev pub HoldsObject : List Fact → Key → Type 0
 HoldsObject F key = (part : Part) × (fact_at F (record { key = key; part = part }) ≢ None)
 
--- the fact needs no new session, object or symbol: its symbol is held, or if it tells information,
--- something of its object
+-- the fact needs no new session, object or symbol: its symbol is held, or, of transmission
+-- information, something of its object
 abbrev pub HasCell : List Fact → Fact → Type 0
 HasCell F (Info key info) = HoldsObject F key
 HasCell F (InfoConflict key) = HoldsObject F key

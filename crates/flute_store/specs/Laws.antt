@@ -9,7 +9,7 @@ use Rattle.flute_parts.specs.declared.fact.Fact.TheVariants.{Info}
 use Rattle.flute_store.specs.declared.gap.Gap.{Gap}
 use Rattle.flute_store.specs.Objects.{Whole, object, wants, gaps, listed, AreRuns}
 
--- lists with the same value at each address make the same of each object
+-- lists with the same value at each address have the same whole objects, bytes and gaps
 abbrev pub SameWhole : Type 0
 SameWhole =
     (F G : List Fact) (key : Key) (info : Information) → Same F G → Whole F key info

@@ -1,4 +1,4 @@
--- A walk over the blocks of an object, beside the symbols that are held of it.
+-- A walk over the blocks of an object, along with the symbols that are held of it.
 use Rattle.std.specs.Prelude.{◌≡◌, ℕ, cond, ◌&&◌, ◌+◌, ◌-◌, ◌<◌, ◌≤◌, ◌==◌, nat_lt, List, [], ◌∷◌, ◌++◌, length, drop, slice_index, Option, Some, None, if◌then◌else◌}
 use Rattle.std.specs.List.{AllByRecursion}
 use Rattle.std.specs.Map.{keys_of}
@@ -215,7 +215,7 @@ after_block w = record w {
   begun = w.begun + 1;
 }
 
--- what is answered, or nothing if a block is begun, and the walk after that
+-- what is returned, or nothing if a block is begun, and the walk after that
 abbrev pub turn_on : PartitionScan → Option (SymbolId × Option ℕ) → Upcoming
     → Option Turn × PartitionScan
 turn_on w next End = (Some Turn.End, w)

@@ -1,5 +1,5 @@
--- A scan over what is held of an object, in the order of a journal, beside the symbols
--- of its partition.
+-- A scan over what is held of an object, in the order of a journal, along with the symbols of its
+-- partition.
 use Rattle.std.specs.Prelude.{◌≡◌, ℕ, ◌<◌, List, [], ◌∷◌, ◌++◌, length, take, flat_map, Contains, Option, Some, None, IfSome, option_map}
 use Rattle.std.specs.Borrow.{Bor}
 use Rattle.std.specs.List.{AllByRecursion}
@@ -27,13 +27,12 @@ pub record Scanned : Type 0 where
   -- the values of the symbols of the partition up to the last one passed, if each of them
   -- is held as one fitting value
   pub bytes : Option (List ℕ)
-  -- what comes next, if it was said with a gap or at the end: the fact of a symbol,
-  -- or that none is left
+  -- what comes next, if a gap or the end showed it: the fact of a symbol, or that none is left
   pub coming : Option (Option Fact)
   -- it falls with each gap
   pub ahead : ℕ
 
--- what is held of a symbol: its one value, or that two were told
+-- what is held of a symbol: its one value, or that two values came
 abbrev pub next_fact : Key → SymbolId × Option (Bor (List ℕ)) → Fact
 next_fact key (id, Some bytes) = Symbol key id bytes.now
 next_fact key (id, None) = SymbolConflict key id
@@ -47,7 +46,7 @@ abbrev pub CanFollow : Scanned → Option (SymbolId × Option (Bor (List ℕ))) 
 CanFollow s None = Unit {0}
 CanFollow s (Some next) = IsRising (s.facts ++ next_fact s.key next ∷ [])
 
--- what comes next is what was said to
+-- what comes next is what was shown
 abbrev pub CanCome : Scanned → Option (SymbolId × Option (Bor (List ℕ))) → Type 0
 CanCome s next = IfSome s.coming (λ coming. coming ≡ coming_fact s.key next)
 
@@ -75,7 +74,8 @@ pub record IsFirstPart (F : List Fact) (key : Key) (info : Information)
   pub held : (id : SymbolId) → Contains first id → IsHeld F key info id
   pub values : bytes ≡ flat_map (λ id. value_bytes (fact_at F (symbol_address key id))) first
 
--- a gap was given, and nothing passed; if it is the first one, it tells what is not whole
+-- a gap was given, and nothing passed; if it is the first one, it shows that the object is not
+-- whole
 pub record GaveGap (old : Scanned) (next : Option (SymbolId × Option (Bor (List ℕ)))) (gap : Gap)
     (new : Scanned) : Type 0 where
   pub now : new
@@ -140,8 +140,8 @@ at_begin key info = record {
   ahead = length (ids info);
 }
 
--- the bytes are a first part of the object, in all facts in which those that were passed
--- follow one another
+-- the bytes are a prefix of the object, in all facts in which those that were passed follow one
+-- another
 abbrev pub PartOf : Scanned → Type 0
 PartOf s =
     IfSome s.bytes (λ bytes. (F before rest : List Fact) → F ≡ before ++ (s.facts ++ rest)

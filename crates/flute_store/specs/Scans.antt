@@ -54,7 +54,7 @@ pub record IsScan (o : ScanState) : Type 0 where
   pub within : CountsWithin o.walk o.wanted
   pub partition : o.walk.partition ≡ o.info
 
--- these come next, if that was said
+-- these come next, if that was shown
 abbrev pub ComesAs : Key → Option Fact → List (SymbolId × Cell (List ℕ)) → Type 0
 ComesAs key None more = more ≡ []
 ComesAs key (Some f) more =
@@ -100,7 +100,7 @@ pub record Scans (o : ScanState) (s : Scanned) : Type 0 where
   pub counts : IsCount o.wanted (flat_map listed s.given)
   pub ahead_is : s.ahead ≡ length (symbols_left (walk_of o.walk [])) + one_run o.walk.run
 
--- what comes next was said
+-- what comes next was shown
 abbrev pub announced : Scanned → Next → Scanned
 announced s next = record s { coming = Some (coming_fact s.key next) }
 

@@ -16,8 +16,8 @@ use Rattle.flute_store.specs.Objects.{Whole, object}
 abbrev pub facts_at_key : Key → List Fact → List Fact
 facts_at_key key F = filter (λ f. same_key (address f).key key) F
 
--- if as much is known of an object as its datagrams tell from its sender, in any order
--- and with any repeats, it is whole, and its bytes are those that were sent
+-- if an object's facts are those of its datagrams from its sender, in any order and with any
+-- repeats, it is whole, and its bytes are those that were sent
 abbrev pub DatagramsGiveTheObject : Type 0
 DatagramsGiveTheObject =
     (F : List Fact) (key : Key) (info : Information) (content : List ℕ) (datagrams : List (List ℕ))

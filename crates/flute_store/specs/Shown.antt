@@ -13,7 +13,7 @@ shown_by key (Symbol k id bytes) = if same_key k key then (id, One bytes) ∷ []
 shown_by key (SymbolConflict k id) = if same_key k key then (id, Conflict) ∷ [] else []
 shown_by key _ = []
 
--- the symbols of which something is told, in the order of the facts
+-- the symbols that have a fact, in the order of the facts
 unfoldable pub shown : Key → List Fact → List (SymbolId × Cell (List ℕ))
 shown key [] = []
 shown key (f ∷ F) = shown_by key f ++ shown key F

@@ -30,7 +30,7 @@ update_symbols (Some (id, update)) = (id, update_cell update) ∷ []
 abbrev pub update_object : {n : ℕ} → Update → Object n
 update_object update = record { info = update.info; symbols = update_symbols update.symbol }
 
--- the bytes that are told are a symbol's
+-- the bytes of the update are a symbol's
 abbrev pub HasSize : SymbolUpdate → Type 0
 HasSize (BorrowedUpdate bytes) = HasSymbolSize bytes.now
 HasSize (OwnedUpdate bytes) = HasSymbolSize bytes
@@ -40,17 +40,17 @@ abbrev pub HasSizes : Option (SymbolId × SymbolUpdate) → Type 0
 HasSizes None = Unit {0}
 HasSizes (Some (id, update)) = HasSize update
 
--- something is told, of a symbol that can be one
+-- the update has something, and its bytes can be a symbol's
 pub record IsUpdate (update : Update) : Type 0 where
   pub some : update.info ≡ Absent → update.symbol ≢ None
   pub sizes : HasSizes update.symbol
 
--- what is told, as facts
+-- the update, as facts
 abbrev pub update_facts : Key → Update → List Fact
 update_facts key update =
     info_cell_facts key update.info ++ symbols_facts key (update_symbols update.symbol)
 
--- something is known already at each address that is told of
+-- something is known already at each address of the update
 abbrev pub IsHeldSymbol : List (SymbolId × Cell (List ℕ)) → Option (SymbolId × SymbolUpdate)
     → Type 0
 IsHeldSymbol symbols None = Unit {0}
@@ -66,7 +66,7 @@ IsHeldSession {n} m key update =
     (os : List (ObjectName × Object n)) × (value_at session_cmp m key.session ≡ Some os)
     × IsHeldObject os key.object update
 
--- what is told, joined into the symbols of an object, into a session and into a store
+-- the update, joined into the symbols of an object, into a session and into a store
 abbrev pub with_symbol : List (SymbolId × Cell (List ℕ)) → SymbolId → SymbolUpdate
     → List (SymbolId × Cell (List ℕ))
 with_symbol symbols id update = symbols_join symbols ((id, update_cell update) ∷ [])

@@ -21,12 +21,12 @@ abbrev pub option_rest : {X : Type 0} → Option (List X) → List X
 option_rest None = []
 option_rest (Some rest) = rest
 
--- the facts of the objects of a session, by what an object tells
+-- the facts of the objects of a session, given those of an object
 abbrev pub facts_in : {O : Type 0} → (Key → O → List Fact) → Session → List (ObjectName × O)
     → List Fact
 facts_in facts_of session objects = flat_map (λ e. facts_of (key_in session e.0) e.1) objects
 
--- the bytes of a symbol are as many as one has; the types of all other parts tell their ranges
+-- the bytes of a symbol are as many as one has; the types of all other parts have their ranges
 abbrev pub IsSized : Fact → Type 0
 IsSized (Symbol key id bytes) = HasSymbolSize bytes
 IsSized _ = Unit {0}

@@ -21,16 +21,16 @@ use flute_parts::{DeviceFault, Info, Key, Sink, SymbolId};
 use std::collections::btree_map;
 use thiserror::Error;
 
-/// Why an object is not written. The first that applies is told.
+/// Why an object is not written. The first that applies is returned.
 #[derive(Clone, Copy, Debug, PartialEq, Eq, Error)]
 pub enum ExtractFault {
     /// Nothing of the object is held.
     #[error("no object")]
     NoObject,
-    /// Symbols of the object are held, and no information.
+    /// Symbols of the object are held, and no transmission information.
     #[error("no information")]
     NoInformation,
-    /// Two values of the information were told.
+    /// Two values of the transmission information came.
     #[error("conflicting information")]
     ConflictingInformation,
     /// Some symbol of the partition is not held as one fitting value.
@@ -110,7 +110,7 @@ impl<'a> HeldScan<'a> {
     }
 }
 
-// Writes the object of this information and these symbols, of which none is wanted.
+// Writes the object of this transmission information and these symbols, of which none is wanted.
 fn write_object<W: Sink>(
     info: &Info,
     symbols: btree_map::Iter<'_, SymbolId, HeldSymbol>,
@@ -133,15 +133,15 @@ impl<const SESSIONS: u32, const OBJECTS: u32, const SYMBOLS: u32> Store<
     OBJECTS,
     SYMBOLS,
 > {
-    /// Writes an object that is whole, and answers its length in bytes: its symbols in the order of
+    /// Writes an object that is whole, and returns its length in bytes: its symbols in the order of
     /// the partition, without the padding of the last one (RFC 5052, section 9.1).
     ///
-    /// `NoObject` if nothing of the object is held, `NoInformation` if no information of it is,
-    /// `ConflictingInformation` if two values of it were told, and `NotWhole` if some symbol of
-    /// the partition is not held as one fitting value: after these nothing was written. `Write` if
-    /// the sink failed: it then took a first part of the object, and not all.
+    /// `NoObject` if nothing of the object is held, `NoInformation` if no transmission information
+    /// of it is, `ConflictingInformation` if two values of it came, and `NotWhole` if some symbol
+    /// of the partition is not held as one fitting value: after these nothing was written. `Write`
+    /// if the sink failed: it then took a proper prefix of the object.
     ///
-    /// It hands each symbol to the sink as it lies in the store. It takes no memory of its own, and
+    /// It writes each symbol from where it lies in the store. It takes no memory of its own, and
     /// time by the number of blocks and of held symbols.
     pub fn extract<W: Sink>(&self, key: &Key, sink: &mut W) -> Result<u64, ExtractFault>
         ensures bytes { Extracts W.written self.now key.now sink.old sink.new result }

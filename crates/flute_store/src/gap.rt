@@ -5,7 +5,7 @@
 pub enum Reason {
     /// Nothing of it is held.
     Missing,
-    /// Two values of it were told.
+    /// Two values of it came.
     Conflicting,
     /// The one value of it has a length that does not fit.
     Misfit,

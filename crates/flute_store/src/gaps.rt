@@ -22,16 +22,16 @@ use std::collections::btree_map;
 use std::marker::Model;
 use thiserror::Error;
 
-/// Why the gaps of an object are not told. The first that applies is told.
+/// Why the gaps of an object are not returned. The first reason that applies is.
 #[derive(Clone, Copy, Debug, PartialEq, Eq, Error)]
 pub enum GapFault {
     /// Nothing of the object is held.
     #[error("no object")]
     NoObject,
-    /// Symbols of the object are held, and no information.
+    /// Symbols of the object are held, and no transmission information.
     #[error("no information")]
     NoInformation,
-    /// Two values of the information were told.
+    /// Two values of the transmission information came.
     #[error("conflicting information")]
     ConflictingInformation,
 }
@@ -70,7 +70,7 @@ impl<'a> Model for Gaps<'a> {
 }
 
 impl<'a> Gaps<'a> {
-    // The gaps of an object with this information and these symbols.
+    // The gaps of an object with this transmission information and these symbols.
     pub(crate) fn new(info: &Info, symbols: btree_map::Iter<'a, SymbolId, HeldSymbol>) -> Gaps<'a>
         requires ordered { IsOrdered symbol_id_cmp symbols }
         requires known { EachValue IsKnown symbols }
@@ -106,11 +106,12 @@ impl Iterator for Gaps<'_> {
 
     ghost remaining = { item_count (λ g. g.gaps) };
 
-    /// The next gap, by constant time a tick. None if none is left, and again None after that.
+    /// The next gap, in constant time for each tick. None if none is left, and again None after
+    /// that.
     ///
-    /// Each block that it begins takes a tick, and each held symbol that it passes, and, once, that
-    /// it finds nothing left. At a gap it has begun the blocks up to the gap's, and passed the held
-    /// symbols up to the gap's last one.
+    /// Each block that it begins and each held symbol that it passes takes a tick, and so does,
+    /// once, finding that nothing is left. At a gap it has begun the blocks up to the gap's, and
+    /// passed the held symbols up to the gap's last one.
     fn next(&mut self) -> Option<Gap>
         ensures steps { YieldsFirst (λ g. g.gaps) self.old result self.new }
         ensures goes { MakesProgress (λ _. Unit {0})
@@ -135,9 +136,9 @@ impl<const SESSIONS: u32, const OBJECTS: u32, const SYMBOLS: u32> Store<
     /// the longest runs of symbols of one block that follow one another and are missing for one
     /// reason. A held symbol that the partition does not have is no gap.
     ///
-    /// `NoObject` if nothing of the object is held, `NoInformation` if no information of it
-    /// is, and `ConflictingInformation` if two values of it were told. It takes no memory, and
-    /// the time of two look-ups: of the session, and of its object.
+    /// `NoObject` if nothing of the object is held, `NoInformation` if no transmission information
+    /// of it is, and `ConflictingInformation` if two values of it came. It takes no memory, and the
+    /// time of two look-ups: of the session, and of its object.
     pub fn gaps(&self, key: &Key) -> Result<Gaps<'_>, GapFault>
         ensures { MatchResult result (λ gaps. GivesGaps self.now key.now gaps)
             (λ fault. TellsGapFault self.now key.now fault) }

@@ -28,7 +28,7 @@ pub struct HeldScan<'a> {
 }
 
 impl<'a> HeldScan<'a> {
-    /// A walk over an object with this information and these symbols.
+    /// A walk over an object with this transmission information and these symbols.
     pub fn new(info: &Info, symbols: btree_map::Iter<'a, SymbolId, HeldSymbol>) -> HeldScan<'a>
         requires ordered { IsOrdered symbol_id_cmp symbols }
         requires known { EachValue IsKnown symbols }

@@ -20,7 +20,7 @@ pub fn held_addresses_have_cells()
         → fact_at held (address fact) ≢ None → HasCell held fact }
 {}
 
-/// Lists of facts with the same value at each address make the same of each object.
+/// Lists of facts with the same value at each address have the same whole objects, bytes and gaps.
 pub fn objects_agree()
     ensures whole { SameWhole }
     ensures bytes { SameObject }
@@ -41,8 +41,8 @@ pub fn whole_objects_have_their_length()
     ensures { WholeHasItsLength }
 {}
 
-/// If as much is known of an object as the datagrams tell that carry it, from its sender,
-/// in any order and with any repeats, it is whole, and its bytes are those that were sent.
+/// If an object's facts are those of the datagrams that carry it, from its sender, in any order and
+/// with any repeats, it is whole, and its bytes are those that were sent.
 pub fn datagrams_give_the_object()
     ensures { DatagramsGiveTheObject }
 {}

@@ -3,10 +3,10 @@
 //!
 //! What a [`Store`] holds is a list of facts, one at an address, and what is taken, added or
 //! absorbed is joined into it: the order in which facts come, and how often they come, makes no
-//! difference. Two values at one address are a conflict, and stay one. [`Store::gaps`] says what is
-//! missing of an object, and [`Store::extract`] writes it exactly if nothing is.
+//! difference. Two values at one address are a conflict, and stay one. [`Store::gaps`] returns what
+//! is missing of an object, and [`Store::extract`] writes it exactly if nothing is.
 //!
-//! A station's store is fed with datagrams (from `reception_sample`):
+//! A station's store takes datagrams (from `reception_sample`):
 //!
 //! ```
 //! let datagram = datagrams.get(place).context("a datagram")?;

@@ -19,7 +19,7 @@ use flute_join::{Cell, Join, JoinMap, JoinRefusal};
 use flute_parts::{Info, SymbolId};
 use std::alloc::Global;
 
-/// An object: its information and its symbols.
+/// An object: its transmission information and its symbols.
 #[derive(Debug, Drop)]
 pub struct Object<const SYMBOLS: u32> {
     pub info: Cell<Info>,

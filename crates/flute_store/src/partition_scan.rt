@@ -28,7 +28,7 @@ pub enum Upcoming {
     NotHeld,
 }
 
-/// A held symbol: its ID, and how many bytes its one value has. None if two were told.
+/// A held symbol: its ID, and how many bytes its one value has. None if two values came.
 pub type Held = (SymbolId, Option<usize>);
 
 /// A walk over the blocks of an object, beside the symbols that are held of it, which are shown to
@@ -47,7 +47,7 @@ pub struct PartitionScan {
 }
 
 impl PartitionScan {
-    /// A walk over an object with this information.
+    /// A walk over an object with this transmission information.
     pub fn new(info: &Info) -> PartitionScan
         ensures start { (held : List (Id × Cell (List ℕ)))
             → walk_of result held ≡ at_start info.now held }

@@ -12,9 +12,9 @@ use crate::turn::Turn;
 use flute_parts::{Info, Key, SymbolId};
 use std::marker::Model;
 
-/// A scan over what is held of an object with one information, which is read in the order of a
-/// journal: symbol after symbol, beside the symbols of its partition. It holds none of them, and
-/// takes no memory.
+/// A scan over what is held of an object with one value of its transmission information, in the
+/// order of a journal: symbol after symbol, along with the symbols of its partition. It holds none
+/// of them, and takes no memory.
 #[derive(Debug, Drop)]
 pub struct ObjectScan {
     key: Key,
@@ -44,7 +44,7 @@ impl Model for ObjectScan {
 }
 
 impl ObjectScan {
-    /// A scan over the object with this information, of which no symbol was read yet.
+    /// A scan over the object with this transmission information, of which no symbol was read yet.
     pub fn new(key: Key, info: &Info) -> ObjectScan
         ensures { Scans result (at_begin key info.now) }
     {
@@ -57,11 +57,11 @@ impl ObjectScan {
     }
 
     /// What comes next, given the next symbol that is held, with its one value, or None if two
-    /// were told; or that none is left. It is passed if the answer is `Fitting`, `Wanted` or
-    /// `Passed`. After `Gap` the same is to be given again.
+    /// values came; or that none is left. The symbol is passed if the result is `Fitting`, `Wanted`
+    /// or `Passed`. After `Gap` the same is to be given again.
     ///
-    /// It takes constant time for each block that it begins, and besides; and all calls together
-    /// begin no more blocks than the object has.
+    /// It takes constant time, and constant time more for each block that it begins; all calls
+    /// together begin no more blocks than the object has.
     #[inline(always)]
     pub fn next(&mut self, next: Option<(SymbolId, Option<&[u8]>)>) -> Turn
         ensures turned { (s : Scanned) → Scans self.old s
@@ -70,7 +70,7 @@ impl ObjectScan {
         ensures part { (s : Scanned) → Scans self.new s → PartOf s }
         ensures blocks { BeginsBlocks self.old self.new }
     {
-        // By this the proof knows where the scan may be.
+        // From this the proof knows where the scan may be.
         let _ = &self.key;
         let held = held_next(&next);
         loop {

@@ -14,15 +14,15 @@ use flute_parts::Key;
 /// How much of an object is held.
 #[derive(Clone, Copy, Debug, PartialEq, Eq)]
 pub enum Status {
-    /// Symbols are held, and no information.
+    /// Symbols are held, and no transmission information.
     NoInformation,
-    /// Two values of the information were told.
+    /// Two values of the transmission information came.
     ConflictingInformation,
     /// Some symbols of the partition are not held as one fitting value.
     Partial {
         /// How many of them are not held.
         missing: u64,
-        /// How many were told two values.
+        /// How many have two values.
         conflicting: u64,
         /// How many have one value, of a length that does not fit.
         misfit: u64,

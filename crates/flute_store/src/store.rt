@@ -54,7 +54,8 @@ use std::marker::Model;
 /// of each object, with an object's transmission information beside them. Proofs see it as the list
 /// of its facts in the order of their addresses, one at each.
 ///
-/// No session is held without an object, and no object without information or a symbol.
+/// No session is held without an object, and no object without transmission information or a
+/// symbol.
 #[derive(Debug, Drop)]
 pub struct Store<const SESSIONS: u32, const OBJECTS: u32, const SYMBOLS: u32> {
     pub(crate) sessions: Sessions<SESSIONS, OBJECTS, SYMBOLS>,
@@ -116,7 +117,7 @@ impl<const SESSIONS: u32, const OBJECTS: u32, const SYMBOLS: u32> Store<
     }
 
     /// Joins another store into this one: it holds the facts of both, and the conflict at each
-    /// address where they tell two values.
+    /// address where they have two values.
     ///
     /// It looks up each session, object and symbol of the other store once, and copies the bytes of
     /// a symbol only if the symbol is new.
@@ -134,7 +135,7 @@ impl<const SESSIONS: u32, const OBJECTS: u32, const SYMBOLS: u32> Store<
             → Over (self.old ++ other.now) SESSIONS OBJECTS SYMBOLS }
         ensures memory { result ≡ Err JoinRefusal.OutOfMemory → HasNew self.old other.now }
     {
-        // By this the proof knows that the other store is one.
+        // From this the proof knows that the other store is one.
         let _ = &other.sessions;
         join_sessions(&mut self.sessions, alloc, &other.sessions)
     }
@@ -157,8 +158,8 @@ impl<const SESSIONS: u32, const OBJECTS: u32, const SYMBOLS: u32> Store<
         join_session(&mut self.sessions, alloc, key, update)
     }
 
-    /// Adds a fact. If another value is held at its address, the conflict is held from then on,
-    /// and a conflict that is told makes one. It costs as much as [`take`](Store::take).
+    /// Adds a fact. If another value is held at its address, the conflict is held from then on, as
+    /// it is after a fact that is a conflict. It costs as much as [`take`](Store::take).
     ///
     /// # Errors
     ///
@@ -210,7 +211,7 @@ impl<const SESSIONS: u32, const OBJECTS: u32, const SYMBOLS: u32> Store<
         ensures held { AllByRecursion (HasCell self.old) (facts_of sender packet.now)
             → IsOk result }
     {
-        // By this the proof knows that the store is within its limits.
+        // From this the proof knows that the store is within its limits.
         let _ = &self.sessions;
         let Some(update) = Update::of_packet(packet) else {
             return Ok(Taken { facts: 0 });
@@ -222,8 +223,9 @@ impl<const SESSIONS: u32, const OBJECTS: u32, const SYMBOLS: u32> Store<
 
     /// Adds the facts of a datagram that this sender sent: the transmission information of its
     /// object and its encoding symbol, as far as it has them. What is held at an address already is
-    /// joined, as by [`add`](Store::add). Whether a symbol fits the information is not looked at,
-    /// nor whether there is any. The sender has no part in whether a datagram is refused.
+    /// joined, as by [`add`](Store::add). Whether a symbol fits the transmission information is not
+    /// checked, nor whether there is any. Whether a datagram is refused does not depend on the
+    /// sender.
     ///
     /// It looks up the session, the object and the symbol once each. A new symbol's bytes are
     /// copied once; at a held address nothing is copied, and no memory is asked for.
@@ -250,7 +252,7 @@ impl<const SESSIONS: u32, const OBJECTS: u32, const SYMBOLS: u32> Store<
         ensures held { (p : Content) → Spells datagram.now p
             → AllByRecursion (HasCell self.old) (facts sender datagram.now) → IsOk result }
     {
-        // By this the proof knows that the store is within its limits.
+        // From this the proof knows that the store is within its limits.
         let _ = &self.sessions;
         match read(datagram) {
             Ok(packet) => Ok(self.take_packet(alloc, sender, &packet)?),
@@ -259,8 +261,8 @@ impl<const SESSIONS: u32, const OBJECTS: u32, const SYMBOLS: u32> Store<
     }
 
     /// The facts in the rising order of their addresses: sessions, in each its FDT Instances and
-    /// then its files, and of each object the information before the symbols. The bytes of a symbol
-    /// are borrowed, 1 to 65,535 of them.
+    /// then its files, and of each object the transmission information before the symbols. The
+    /// bytes of a symbol are borrowed, 1 to 65,535 of them.
     ///
     /// It takes no memory, and goes once over what is held.
     pub fn walk(&self) -> Walk<'_, Objects<OBJECTS, SYMBOLS>>
@@ -269,7 +271,7 @@ impl<const SESSIONS: u32, const OBJECTS: u32, const SYMBOLS: u32> Store<
         ensures within { ¬ Over self.now SESSIONS OBJECTS SYMBOLS }
         ensures few { length self.now ≤ SESSIONS * OBJECTS * (SYMBOLS + 1) }
     {
-        // By this the proof knows that the store is within its limits.
+        // From this the proof knows that the store is within its limits.
         let _ = &self.sessions;
         let sessions = self.sessions.iter();
         Walk::new(sessions)
@@ -290,7 +292,7 @@ impl<const SESSIONS: u32, const OBJECTS: u32, const SYMBOLS: u32> Store<
         ensures rising { IsStrictlySortedBy key_cmp result }
         ensures held { (key : Name) → Contains result key ↔ HoldsObject self.now key }
     {
-        // By this the proof knows that each session has an object.
+        // From this the proof knows that each session has an object.
         let _ = &self.sessions;
         let sessions = self.sessions.iter();
         Keys::new(sessions)

@@ -11,8 +11,8 @@ pub struct Taken {
     pub facts: u64,
 }
 
-/// Why a datagram is not taken. The first that applies is told, and after each
-/// the store is unchanged.
+/// Why a datagram is not taken. The first that applies is returned, and after each the store is
+/// unchanged.
 #[derive(Clone, Copy, Debug, PartialEq, Eq, Error)]
 pub enum TakeFault {
     /// The datagram is no packet, for this reason.

@@ -2,7 +2,7 @@
 
 use crate::gap::Gap;
 
-/// What comes next of an object, whose held symbols are read beside those of its partition.
+/// What comes next of an object, whose held symbols are read along with those of its partition.
 #[derive(Clone, Copy, Debug, PartialEq, Eq)]
 pub enum Turn {
     /// A gap, which lies before the held symbol that was given, or ends with the one before it.

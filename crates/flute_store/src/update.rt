@@ -1,4 +1,4 @@
-//! An update of an object: what one fact or one packet tells of it.
+//! An update of an object: what one fact or one packet adds to it.
 ghost use Rattle.std.specs.Prelude.{◌≡◌, [], ◌∷◌, length, List, ℕ, IfSome, IfNone, IfOk, IfErr, IsOk, bytes_eq};
 ghost use Rattle.flute_join.specs.Cell.{cell_join, IsKnown};
 ghost use Rattle.flute_parts.specs.Addresses.{address};
@@ -22,7 +22,7 @@ pub enum SymbolUpdate<'a> {
     Conflict,
 }
 
-/// An update of an object: of its information, of one of its symbols, or of both.
+/// An update of an object: of its transmission information, of one of its symbols, or of both.
 #[derive(Debug, Drop)]
 pub struct Update<'a> {
     pub info: Cell<Info>,
@@ -30,7 +30,7 @@ pub struct Update<'a> {
 }
 
 impl<'a> Update<'a> {
-    /// What a fact tells.
+    /// The update of a fact.
     pub fn of_fact(fact: &'a Fact) -> Self
         ensures update { IsUpdate result }
         ensures facts { update_facts (address fact.now).key result ≡ fact.now ∷ [] }
@@ -55,7 +55,7 @@ impl<'a> Update<'a> {
         }
     }
 
-    /// What a fact tells, which is handed over: none of its bytes is copied.
+    /// The update of a fact that is handed over: none of its bytes is copied.
     pub fn of_owned(fact: Fact) -> Self
         ensures update { IsUpdate result }
         ensures facts { update_facts (address fact).key result ≡ fact ∷ [] }
@@ -80,7 +80,7 @@ impl<'a> Update<'a> {
         }
     }
 
-    /// What a packet tells. None if it has neither information nor a symbol.
+    /// The update of a packet. None if it contains neither transmission information nor a symbol.
     pub fn of_packet(packet: &Packet<'a>) -> Option<Self>
         requires { IfSome packet.now.symbol (λ symbol. HasSymbolSize symbol.1) }
         ensures update { IfSome result IsUpdate }
@@ -154,7 +154,7 @@ impl SymbolUpdate<'_> {
     }
 }
 
-/// Joins an update of the information. It takes no memory.
+/// Joins an update of the transmission information. It takes no memory.
 pub fn join_info(held: &mut Cell<Info>, update: &Cell<Info>)
     ensures { held.new ≡ cell_join same_information held.old update.now }
 {

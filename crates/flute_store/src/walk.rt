@@ -45,7 +45,7 @@ impl<'a> Model for ObjectWalk<'a> {
         × IfSome w.info (λ fact. IsSized (fact_of fact)) };
 }
 
-// What is known of the information, as a fact.
+// What is known of the transmission information, as a fact.
 fn info_fact<'a>(key: &Key, info: &Cell<Info>) -> Option<FactRef<'a>>
     ensures fact { option_facts result ≡ info_cell_facts key.now info.now }
     ensures size { IfSome result (λ fact. IsSized (fact_of fact)) }
@@ -226,7 +226,8 @@ impl<const OBJECTS: u32, const SYMBOLS: u32> HasObjects for Objects<OBJECTS, SYM
     }
 }
 
-/// The facts of a store that are left.
+/// The facts of a store that are left. The type has a parameter for the store's maps, since in a
+/// function generic in a number the toolchain takes no reference from an iterator.
 #[derive(Debug, Drop)]
 pub struct Walk<'a, S: HasObjects + 'a> {
     session: Option<SessionWalk<'a, S::Object>>,

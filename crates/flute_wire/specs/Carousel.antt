@@ -26,7 +26,8 @@ with_piece i content s = (s.1, piece i content s.0)
 unfoldable pub symbols_of : Information → List ℕ → List (SymbolId × List ℕ)
 symbols_of i content = map (with_piece i content) (enumerate_from 0 (ids i))
 
--- what is sent with the information: each symbol in turn, or none once, if the object has none
+-- what is sent with the transmission information: each symbol in turn, or none once, if the object
+-- has none
 unfoldable pub payloads_of : Information → List ℕ → List (Option (SymbolId × List ℕ))
 payloads_of i content =
     if i.transfer_length == 0 then None ∷ [] else map (λ s. Some s) (symbols_of i content)
@@ -47,6 +48,7 @@ carousel_fault key i content =
     then option_map (λ fault. Write fault) (first_object_fault (packets_of key i content))
     else Some Length
 
--- what the datagrams of an object tell: its information, with each symbol in turn, or once alone
+-- the facts in the datagrams of an object: its transmission information, with each symbol in turn,
+-- or once alone
 unfoldable pub facts_sent : Key → Information → List ℕ → List Fact
 facts_sent key i content = flat_map (outgoing_facts key (Some i)) (payloads_of i content)

@@ -1,4 +1,4 @@
--- What a packet says.
+-- What a packet contains.
 use Rattle.std.specs.Prelude.{ℕ, List, Option, Some, None}
 use Rattle.flute_parts.specs.Session.{IsTsi}
 use Rattle.flute_parts.specs.ObjectName.{IsObjectName}

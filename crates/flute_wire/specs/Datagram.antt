@@ -29,7 +29,7 @@ pub record HasParts (d : List ℕ) (p : Parts) : Type 0 where
       ≡ header_len (fields (big_endian p.word))
   pub extensions : HasExtensions p.area p.extensions
 
--- this profile takes it: one EXT_FTI, EXT_FDT and EXT_CENC at most, with what it can read in them
+-- this profile accepts it: one EXT_FTI, EXT_FDT and EXT_CENC at most, with what it can read in them
 pub record IsAccepted (d : List ℕ) (p : Parts) : Type 0 where
   pub limit : length d ≤ 65535
   pub version : (fields (big_endian p.word)).version ≡ 1
@@ -58,7 +58,7 @@ tail_symbol tail =
     )
     else None
 
--- what the parts say
+-- what the parts contain
 abbrev pub content_of : Parts → Content
 content_of p = record {
   tsi = big_endian p.tsi;

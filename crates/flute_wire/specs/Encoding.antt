@@ -9,7 +9,7 @@ abbrev pub HasFittingId : Option (SymbolId × List ℕ) → Type 0
 HasFittingId None = Unit {0}
 HasFittingId (Some s) = IsId s.0
 
--- the information is valid, and fits the fields of EXT_FTI
+-- the transmission information is valid, and fits the fields of EXT_FTI
 abbrev pub HasFittingInformation : Option Information → Type 0
 HasFittingInformation None = Unit {0}
 HasFittingInformation (Some i) = IsValid i × HasInfoFields i

@@ -1,4 +1,4 @@
--- The facts that a packet of a sender tells.
+-- The facts of a packet from a sender.
 use Rattle.std.specs.Prelude.{ℕ, List, [], ◌∷◌, ◌++◌, Option, Some, None}
 use Rattle.flute_parts.specs.Session.{session}
 use Rattle.flute_parts.specs.Information.{Information}
@@ -27,6 +27,6 @@ abbrev pub symbol_facts : Key → Option (SymbolId × List ℕ) → List Fact
 symbol_facts key None = []
 symbol_facts key (Some symbol) = Symbol key symbol.0 symbol.1 ∷ []
 
--- the information of its object, if there is any, and then the symbol, if there is one
+-- the transmission information of its object, if there is any, and then the symbol, if there is one
 abbrev pub facts_of : ℕ → Content → List Fact
 facts_of sender c = info_facts (key_of sender c) c.info ++ symbol_facts (key_of sender c) c.symbol

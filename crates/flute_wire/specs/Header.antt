@@ -2,7 +2,7 @@
 use Rattle.std.specs.Prelude.{ℕ, ◌+◌, ◌*◌, ◌/◌, ◌%◌, ◌^◌, List, take, drop, slice_range}
 use Rattle.flute_parts.specs.BigEndian.{big_endian}
 
--- the fields of the first word that are looked at (RFC 5651, 5.1)
+-- the fields of the first word that are read (RFC 5651, 5.1)
 pub record Fields : Type 0 where
   pub version : ℕ
   -- C: the congestion control information has one 32-bit word more than this

@@ -1,4 +1,4 @@
--- The packet of a datagram, and the facts that it tells from a sender, computed.
+-- The packet of a datagram, and its facts from a sender, computed.
 use Rattle.std.specs.Prelude.{ℕ, zero, suc, ◌-◌, ◌*◌, nat_le, nat_lt, ◌==◌, Bool, true, false, ◌&&◌, ◌||◌, is_none, List, [], ◌∷◌, length, take, drop, slice_index, Option, Some, None, if◌then◌else◌}
 use Rattle.std.specs.Option.{option_map, option_and_then}
 use Rattle.flute_parts.specs.Information.{info_fault}
@@ -45,7 +45,7 @@ abbrev pub has : (List ℕ → Bool) → Option (List ℕ) → Bool
 has p None = false
 has p (Some body) = p body
 
--- this profile takes what the extensions say, and what follows the header
+-- this profile accepts what the extensions contain, and what follows the header
 abbrev pub is_accepted : List ℕ → List HeaderExtension → Bool
 is_accepted d es =
     nat_le (length (bodies ext_fti es)) 1
@@ -58,7 +58,7 @@ is_accepted d es =
     && (passes (λ body. content_encoding body == 0) (first (bodies ext_cenc es))
     && ((length (after_header d) == 0) || nat_le 4 (length (after_header d))))))))
 
--- what the datagram says, by place
+-- what the datagram contains, by place
 abbrev pub content_by : List ℕ → List HeaderExtension → Content
 content_by d es = record {
   tsi = tsi_in d;
@@ -82,6 +82,6 @@ abbrev pub packet_facts : ℕ → Option Content → List Fact
 packet_facts sender None = []
 packet_facts sender (Some c) = facts_of sender c
 
--- the facts that a datagram of a sender tells: none, if it spells no packet
+-- the facts of a datagram from a sender: none, if it spells no packet
 unfoldable pub facts : ℕ → List ℕ → List Fact
 facts sender d = packet_facts sender (packet d)

@@ -29,7 +29,7 @@ rank FluteVersion = 14
 rank ContentEncoded = 15
 rank PayloadIdCut = 16
 
--- what each refusal says of the datagram
+-- when each refusal applies to the datagram
 abbrev pub Applies : Refusal → List ℕ → Type 0
 Applies TooLong d = 65535 < length d
 Applies TooShort d = length d < 4

@@ -12,7 +12,7 @@ use Rattle.flute_wire.specs.Facts.{info_facts, symbol_facts}
 use Rattle.flute_wire.specs.declared.writing.WriteFault.{WriteFault}
 use Rattle.flute_wire.specs.declared.writing.WriteFault.TheVariants.{Tsi, Toi, EmptySymbol, TooLong}
 
--- the packet of this object, information and symbol
+-- the packet of this object, transmission information and symbol
 abbrev pub packet_at : Key → Option Information → Option (SymbolId × List ℕ) → Content
 packet_at key info symbol = record {
   tsi = key.session.tsi;
@@ -22,7 +22,7 @@ packet_at key info symbol = record {
   symbol = symbol;
 }
 
--- what such a datagram tells
+-- the facts of such a datagram
 abbrev pub outgoing_facts : Key → Option Information → Option (SymbolId × List ℕ) → List Fact
 outgoing_facts key info symbol = info_facts key info ++ symbol_facts key symbol
 

@@ -7,7 +7,7 @@ use thiserror::Error;
 /// The most bytes that a datagram has, as 16 bits count them.
 pub const MAX_LEN: usize = 65_535;
 
-/// Why bytes are not kept as a datagram. Their number is looked at first. Shown by its name.
+/// Why bytes are not kept as a datagram. Their number is checked first. Shown by its name.
 #[derive(Clone, Copy, Debug, PartialEq, Eq, Error)]
 pub enum DatagramFault {
     /// There are more than 65,535 bytes.
@@ -18,7 +18,7 @@ pub enum DatagramFault {
     OutOfMemory,
 }
 
-/// A datagram: 0 to 65,535 bytes, whatever they say. [`read`](crate::read) tells what that is.
+/// A datagram: 0 to 65,535 bytes, whatever they contain. [`read`](crate::read) reads them.
 #[derive(Debug, Drop)]
 pub struct Datagram {
     bytes: Vec<u8>,

@@ -27,8 +27,8 @@ const FTI_WORDS: u8 = 4;
 /// The bytes of the FEC Payload ID (RFC 5445, section 3.2.1).
 pub const PAYLOAD_ID_LEN: usize = 4;
 
-/// The header up to its extensions, with so many words in all: the congestion
-/// control information is 0.
+/// The header up to its extensions, with this many words in all: the congestion control information
+/// is 0.
 fn fixed_fields(words: u8, tsi: u32, toi: u32) -> [u8; 16]
     ensures { result ≡ word_bytes words ++ (big_bytes 4 0 ++ (big_bytes 4 tsi ++ big_bytes 4 toi)) }
 {
@@ -68,7 +68,7 @@ fn fti_of(info: &Info) -> [u8; 16]
     bytes
 }
 
-/// Appends EXT_FTI, if there is information.
+/// Appends EXT_FTI, if there is transmission information.
 fn put_fti(out: &mut Vec<u8>, info: Option<Info>) -> Result<(), AllocError>
     ensures bytes { OnOk result (out.new.items ≡ out.old.items ++ fti_bytes info) }
     ensures fits { OnOk result (HasFittingInformation info) }
@@ -102,7 +102,7 @@ fn put_symbol(out: &mut Vec<u8>, symbol: Option<(SymbolId, &[u8])>) -> Result<()
     Ok(())
 }
 
-/// The bytes of a datagram, with so many words in its header.
+/// The bytes of a datagram, with this many words in its header.
 pub fn bytes_of(alloc: Global, outgoing: &Outgoing<'_>, words: u8) -> Result<Vec<u8>, AllocError>
     requires words { words ≡ words_to_write (said outgoing.now) }
     requires sound { write_fault (said outgoing.now) ≡ None }

@@ -2,8 +2,8 @@
 
 use std::marker::Model;
 
-/// The first 32-bit word of an LCT header, which says how long the header's fields are
-/// (RFC 5651, section 5.1).
+/// The first 32-bit word of an LCT header, which gives the lengths of the header's fields (RFC
+/// 5651, section 5.1).
 #[derive(Debug, Drop)]
 pub struct FirstWord {
     bits: u32,
@@ -34,7 +34,7 @@ impl FirstWord {
         (self.bits >> 28) as u8
     }
 
-    /// What the header's codepoint field has, CP.
+    /// The codepoint, CP.
     pub fn codepoint(&self) -> u8
         ensures { result ≡ self.now.codepoint }
     {

@@ -24,8 +24,8 @@ pub fn one_reading()
     ensures decided { (d : List ℕ) → ((p : Content) × Spells d p) ⊎ ((r : Refusal) × Applies r d) }
 {}
 
-/// The packet of a datagram can be computed, and from it the facts that the datagram tells if
-/// some sender sent it: none, if it is refused.
+/// The packet of a datagram can be computed, and from it the facts of the datagram if some sender
+/// sent it: none, if it is refused.
 pub fn computed_reading()
     ensures packet { (d : List ℕ) (p : Content) → (packet d ≡ Some p) ↔ Spells d p }
     ensures facts { (s : ℕ) (d : List ℕ) (p : Content) → Spells d p → facts s d ≡ facts_of s p }
@@ -48,8 +48,8 @@ pub fn an_object_is_cut_into_symbols()
         → Contains (symbols_of i content) t → s.0 ≡ t.0 → s ≡ t }
 {}
 
-/// What an object's datagrams tell, if the key's sender sent them, is its information
-/// and each of its symbols, and nothing else.
+/// An object's datagrams, if the key's sender sent them, contain its transmission information and
+/// each of its symbols, and nothing else.
 pub fn an_object_is_told_by_its_datagrams()
     ensures facts { (key : Key) (i : Information) (content : List ℕ) (f : Fact) → IsValid i
         → Contains (facts_sent key i content) f

@@ -1,12 +1,13 @@
 //! Datagrams of FLUTE version 2 (RFC 6726), read and written.
 //!
 //! A datagram is an LCT header with its extensions (RFC 5651, section 5), and after it the FEC
-//! Payload ID and the payload of ALC (RFC 5775, section 4.1). Those with Compact No-Code FEC
-//! (RFC 5445, section 3), one encoding symbol in each packet and no content encoding are read; any
-//! other is refused, and the [`Refusal`] says why. [`write`] writes a datagram in one form of the
+//! Payload ID and the payload of ALC (RFC 5775, section 4.1). Those with Compact No-Code FEC (RFC
+//! 5445, section 3), one encoding symbol in each packet and no content encoding are read; any other
+//! is refused, and the [`Refusal`] is the reason. [`write`] writes a datagram in one form of the
 //! many that [`read`] takes, and [`carousel`] those of a whole object.
 //!
-//! A packet says at most one symbol, and perhaps the information (from `reception_sample`):
+//! A packet contains at most one symbol, and perhaps the transmission information
+//! (from `reception_sample`):
 //!
 //! ```
 //! let packet = read(datagram.as_slice())?;
@@ -14,8 +15,8 @@
 //! ```
 //!
 //! Promised: every list of bytes is the datagram of one packet or has one first refusal
-//! ([`one_reading`]), [`read`] answers that, and the datagrams of an object spell it
-//! ([`an_object_is_told_by_its_datagrams`]).
+//! ([`one_reading`]), [`read`] returns that, and the datagrams of an object contain exactly the
+//! object ([`an_object_is_told_by_its_datagrams`]).
 #![tactic(auto)]
 
 mod datagram;

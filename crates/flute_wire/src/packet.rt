@@ -1,9 +1,9 @@
-//! Packets: what datagrams say.
+//! Packets: what datagrams contain.
 
 use flute_parts::{Info, Key, ObjectKey, Sender, SessionKey, SymbolId};
 use std::marker::Model;
 
-/// What a datagram says. [`read`](crate::read) makes it. The symbol's bytes are those of the
+/// What a datagram contains. [`read`](crate::read) makes it. The symbol's bytes are those of the
 /// datagram: nothing is copied, and no call takes memory.
 #[derive(Debug, Drop)]
 pub struct Packet<'a> {
@@ -107,9 +107,9 @@ impl<'a> Packet<'a> {
         self.info
     }
 
-    /// The numbers of the encoding symbol and its bytes, 1 to 65,519 of them. None if the
-    /// datagram ends with its header or with the FEC Payload ID (RFC 5445, section 3.2.1). Whether
-    /// they fit the transmission information is not looked at.
+    /// The numbers of the encoding symbol and its bytes, 1 to 65,519 of them. None if the datagram
+    /// ends with its header or with the FEC Payload ID (RFC 5445, section 3.2.1). Whether they fit
+    /// the transmission information is not checked.
     pub fn symbol(&self) -> Option<(SymbolId, &'a [u8])>
         ensures { option_map (λ s. (s.0, s.1.now)) result ≡ self.now.symbol }
     {

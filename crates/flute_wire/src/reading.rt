@@ -151,9 +151,9 @@ fn packet_of(datagram: &[u8]) -> Result<Packet<'_>, Refusal>
 /// (RFC 5651, section 5), the FEC Payload ID and one encoding symbol (RFC 5775, section 4.1;
 /// RFC 5445, section 3.2.1).
 ///
-/// It takes no memory: the symbol is a part of the datagram. The answer depends on these bytes
+/// It takes no memory: the symbol is a part of the datagram. The result depends on these bytes
 /// alone. Congestion control information, reserved bits, the close flags and extensions other than
-/// EXT_FTI, EXT_FDT and EXT_CENC are not looked at.
+/// EXT_FTI, EXT_FDT and EXT_CENC are ignored.
 ///
 /// # Errors
 ///

@@ -3,9 +3,9 @@
 use flute_parts::InfoFault;
 use thiserror::Error;
 
-/// Why a datagram is refused, in the order of the checks: the first that applies is told. Shown as
-/// its number in that order, from 1, and its name, as `4 HeaderLength`; `Information` with the name
-/// of its fault after that.
+/// Why a datagram is refused, in the order of the checks: the first that applies is returned. Shown
+/// as its number in that order, from 1, and its name, as `4 HeaderLength`; `Information` with the
+/// name of its fault after that.
 ///
 /// The header is that of RFC 5651, section 5.
 #[derive(Clone, Copy, Debug, PartialEq, Eq, Error)]
@@ -22,7 +22,7 @@ pub enum Refusal {
     /// The header's length, HDR_LEN, is less than its fields before the extensions take.
     #[error("4 HeaderLength")]
     HeaderLength,
-    /// It has fewer bytes than its header's length tells.
+    /// It has fewer bytes than its header's length, HDR_LEN.
     #[error("5 HeaderCut")]
     HeaderCut,
     /// The Transport Session Identifier has no bits.
@@ -44,8 +44,8 @@ pub enum Refusal {
     /// EXT_FTI does not have four words (RFC 5775, section 4.2; RFC 5445, section 3.2.2.2).
     #[error("11 FtiLength")]
     FtiLength,
-    /// The numbers of EXT_FTI are no transmission information, for this reason. The transfer length
-    /// is never too large: EXT_FTI has 48 bits for it.
+    /// The numbers of EXT_FTI are not valid transmission information, for this reason. The transfer
+    /// length is never too large: EXT_FTI has 48 bits for it.
     #[error("12 Information {0}")]
     Information(InfoFault),
     /// The TOI is 0, so this is an FDT Instance, and there is no EXT_FDT (RFC 6726, section 3.4.1).
@@ -54,7 +54,7 @@ pub enum Refusal {
     /// The TOI is 0, and EXT_FDT is not of FLUTE version 2.
     #[error("14 FluteVersion")]
     FluteVersion,
-    /// EXT_CENC tells a content encoding, whatever the TOI (RFC 6726, section 3.4.3).
+    /// EXT_CENC names a content encoding, whatever the TOI (RFC 6726, section 3.4.3).
     #[error("15 ContentEncoded")]
     ContentEncoded,
     /// 1 to 3 bytes follow the header: less than an FEC Payload ID (RFC 5445, section 3.2.1).

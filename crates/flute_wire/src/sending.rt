@@ -16,14 +16,14 @@ use flute_parts::{Info, Key, Partition, SymbolId};
 use std::alloc::{AllocError, Global};
 use thiserror::Error;
 
-/// Why an object is not sent, in the order of the checks: the first that applies is told. Shown by
-/// its name, `Write` with the name of its fault after that.
+/// Why an object is not sent, in the order of the checks: the first that applies is returned. Shown
+/// by its name, `Write` with the name of its fault after that.
 #[derive(Clone, Copy, Debug, PartialEq, Eq, Error)]
 pub enum CarouselFault {
     /// The content does not have as many bytes as the transfer length says.
     #[error("Length")]
     Length,
-    /// A datagram cannot be written, for this reason, which is not want of memory: that of the
+    /// A datagram cannot be written, for this reason, which is not lack of memory: that of the
     /// first such datagram.
     #[error("Write {0}")]
     Write(WriteFault),
@@ -90,10 +90,10 @@ fn datagrams_of(
     Ok(datagrams)
 }
 
-/// Makes the datagrams that carry an object: one for each symbol of its partition, in that
-/// order (RFC 5052, section 9.1), each with the transmission information in EXT_FTI. The last
-/// symbol is sent without padding. An object of no bytes has one datagram, with the
-/// information and no symbol. The key's sender is not written.
+/// Makes the datagrams that carry an object: one for each symbol of its partition, in that order
+/// (RFC 5052, section 9.1), each with the transmission information in EXT_FTI. The last symbol is
+/// sent without padding. An object of no bytes has one datagram, with the transmission information
+/// and no symbol. The key's sender is not written.
 ///
 /// # Errors
 ///

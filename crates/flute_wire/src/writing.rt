@@ -12,21 +12,21 @@ use flute_parts::{Info, Key, SymbolId};
 use std::alloc::{AllocError, Global};
 use thiserror::Error;
 
-/// What a datagram is to say: an object, its transmission information if that is to be told, and
-/// one symbol with its bytes if there is one.
+/// What a datagram is to contain: an object, its transmission information if that is to be sent,
+/// and one symbol with its bytes if there is one.
 #[derive(Clone, Copy, Debug)]
 pub struct Outgoing<'a> {
     /// The session and the object in it.
     pub key: Key,
-    /// What EXT_FTI is to tell.
+    /// What EXT_FTI is to contain.
     pub info: Option<Info>,
     /// The source block number and the encoding symbol ID, and the bytes of the
     /// symbol, at least one.
     pub symbol: Option<(SymbolId, &'a [u8])>,
 }
 
-/// Why no datagram is written, in the order of the checks: the first that applies is
-/// told. Shown by its name.
+/// Why no datagram is written, in the order of the checks: the first that applies is returned.
+/// Shown by its name.
 #[derive(Clone, Copy, Debug, PartialEq, Eq, Error)]
 pub enum WriteFault {
     /// The Transport Session Identifier is 2^32 or more.
@@ -77,7 +77,7 @@ pub fn header_words(outgoing: &Outgoing<'_>) -> Result<u8, WriteFault>
     Ok(words)
 }
 
-/// The datagram of a packet that can be written, with so many words in its header.
+/// The datagram of a packet that can be written, with this many words in its header.
 pub fn encoded(alloc: Global, outgoing: &Outgoing<'_>, words: u8) -> Result<Datagram, AllocError>
     requires words { words ≡ words_to_write (said outgoing.now) }
     requires sound { write_fault (said outgoing.now) ≡ None }
@@ -89,15 +89,15 @@ pub fn encoded(alloc: Global, outgoing: &Outgoing<'_>, words: u8) -> Result<Data
     Ok(Datagram::of(bytes))
 }
 
-/// Writes a packet of FLUTE version 2 as a datagram. [`read`](crate::read) gives back the same TSI
-/// and object, information and symbol, and with the key's sender the same key. The sender is not
-/// written.
+/// Writes a packet of FLUTE version 2 as a datagram. [`read`](crate::read) returns the same TSI and
+/// object, transmission information and symbol, and with the key's sender the same key. The sender
+/// is not written.
 ///
 /// There is one form (RFC 5651, section 5.1): a TSI, a TOI and congestion control information of 32
 /// bits each, the last of them 0. EXT_FDT follows if the object is an FDT Instance (RFC 6726,
-/// section 3.4.1), and then EXT_FTI if there is information (RFC 5775, section 4.2). The FEC
-/// Payload ID and the symbol's bytes end the datagram; without a symbol it ends with its header.
-/// The symbol's bytes are copied once, into the one piece of memory that is asked for.
+/// section 3.4.1), and then EXT_FTI if there is transmission information (RFC 5775, section 4.2).
+/// The FEC Payload ID and the symbol's bytes end the datagram; without a symbol it ends with its
+/// header. The symbol's bytes are copied once, into the one piece of memory that is asked for.
 ///
 /// # Errors
 ///

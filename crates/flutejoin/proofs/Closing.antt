@@ -37,7 +37,7 @@ use Rattle.flutejoin.specs.Told.{Told, told_of}
 use Rattle.flutejoin.specs.declared.closed_objects.ClosedObjects.{ClosedObjects}
 use Rattle.flutejoin.specs.declared.session_sums.SessionSums.{SessionSums}
 use Rattle.flutejoin.specs.declared.style.Style.{Style}
-use Rattle.flutejoin.proofs.Asides.{knows_more}
+use Rattle.flutejoin.proofs.MovedAside.{knows_more}
 use Rattle.flutejoin.proofs.Sessions.{all_summed}
 
 module _ (style : Style) (objects : List Told) (t : Told) where

@@ -2,15 +2,18 @@
 use Rattle.std.proofs.Common.{◌≡◌, ◌<◌, ◌≤◌, ◌^◌, ℕ, Bool, true, false, ◌&&◌, List, [], length, map}
 use Rattle.std.proofs.Common.{Option, Some, None, option_map, unwrap_or, nat_lt, nat_le, Result, Ok}
 use Rattle.std.proofs.Common.{Err, Bor, refl, sym, ap, ap₂, ◌∙◌, rules, true≢false}
+use Rattle.std.proofs.Common.{◌≢◌, ◌∷◌, ◌++◌, inl, inr}
 use Rattle.std.specs.Prelude.{Box}
 use Rattle.std.specs.Box.{box_value}
 use Rattle.std.specs.Char.{is_ascii_digit}
 use Rattle.std.specs.List.{list_all}
 use Rattle.std.specs.Result.{result_ok}
 use Rattle.std.specs.Str.Parse.{ParsesUnsigned, digits_value}
-use Rattle.std.proofs.lemmas.Bool.{le-leb, lt-leb, lt-ltb, ltb-true}
+use Rattle.std.proofs.lemmas.Bool.{cases_Bool, le-leb, lt-leb, lt-ltb, ltb-true}
+use Rattle.std.proofs.lemmas.Bool.Decides.{Decides-eqb}
 use Rattle.std.proofs.Math.Bool.{and-false}
 use Rattle.std.proofs.lemmas.List.{length-map}
+use Rattle.std.proofs.lemmas.Slice.Eq.{ends_is}
 use Rattle.std.proofs.lemmas.Str.Parse.{IsNumeralModel, numerals_by_value, parse_digits}
 use Rattle.clap.specs.Matches.{found_of, matched_of, raw_values}
 use Rattle.clap.specs.Simple.{subcommand_rows}
@@ -20,6 +23,7 @@ use Rattle.clap.specs.declared.parser.matches.ArgMatches.TheViews.{out-SubComman
 use Rattle.clap.specs.declared.parser.matches.SubCommand.{SubCommand}
 use Rattle.clap.proofs.WalkLemmas.{raw_values-rows}
 use Rattle.flutejoin.specs.Options.{found_rows, is_numeral, number_in, times_of, words}
+use Rattle.flutejoin.specs.Sizes.{ends_in}
 
 -- the default stands for no word
 pub word_or : (found : Option (Bor (List ℕ))) (default : Bor (List ℕ)) →
@@ -101,6 +105,14 @@ not_digits text is = rw (is, and-false (nat_le (length text) 39)) (and-false _)
 pub no_number : (text : List ℕ) → is_numeral text ≡ false → None ≡ number_in text
 unfolding number_in
 no_number text is = rw is refl
+
+-- a text that does not end in a letter has not that suffix
+pub not_ended : (letter : ℕ) (text : List ℕ) → ((front : List ℕ) → text ≢ front ++ (letter ∷ []))
+    → ends_in (letter ∷ []) text ≡ false
+not_ended letter text none = elim (cases_Bool (ends_in (letter ∷ []) text)) [
+  | inl t ↦ absurd (none _ ((ends_is Decides-eqb text (letter ∷ []) _ refl).0 t))
+  | inr f ↦ f
+]
 
 -- the command that was found, by its name and what was found for its arguments
 pub command_found : {Z : Type 0} (found : Option (Box SubCommand Z)) (name : Text)

@@ -1,7 +1,7 @@
 -- Inputs that are inspected, one after the other.
 use Rattle.std.proofs.Common.{◌≡◌, ℕ, zero, suc, ◌+◌, ◌*◌, ◌≤◌, List, [], ◌∷◌, ◌++◌, length, take}
 use Rattle.std.proofs.Common.{append-nil, append_assoc, Option, Some, Err, inl, inr, refl, sym, ap}
-use Rattle.std.proofs.Common.{◌∙◌, subst, arith}
+use Rattle.std.proofs.Common.{◌∙◌, subst, arith, Bool, true}
 use Rattle.std.proofs.Math.ListN.{set}
 use Rattle.std.specs.Prelude.{slice_get}
 use Rattle.std.specs.List.{AllByRecursion}
@@ -23,7 +23,7 @@ use Rattle.flutejoin.specs.InputStreams.{failures_of, NoneFailed, OneFailed}
 use Rattle.flutejoin.specs.Joined.{Choice}
 use Rattle.flutejoin.specs.JoinFaults.{HasKnownKind, IsOfAKind}
 use Rattle.flutejoin.specs.JoinParts.{HoldsDatagrams, HoldsMore}
-use Rattle.flutejoin.specs.JoinParts.{IsCounted, CountsUpTo}
+use Rattle.flutejoin.specs.JoinParts.{IsSound, CountsUpTo}
 use Rattle.flutejoin.specs.JoinParts.{NamesOnly, InspectionFails, SomeInspectionFails}
 use Rattle.flutejoin.specs.JoinFaults.{NamesOneOf}
 use Rattle.flutejoin.specs.JoinParts.{IsInspected, AreInspected, Finds, IsReady}
@@ -101,27 +101,28 @@ module _ (choice : Choice) {R : Type 0} (unread : R → Option (List ℕ)) where
 
   module _ (failures : R → ℕ) where
     -- the first inputs were inspected, and the others are as they were
-    pub record InspectedSoFar {s o y : ℕ} (start now : List (JoinInput R)) (held : HeldFiles s o y)
-        (k : ℕ) : Type 0 where
+    pub record InspectedSoFar {s o y : ℕ} (told : Bool) (start now : List (JoinInput R))
+        (held : HeldFiles s o y R) (k : ℕ) : Type 0 where
       pub as_many : length now ≡ length start
       pub later : (j : ℕ) → k ≤ j → slice_get now j ≡ slice_get start j
       pub ready : AllByRecursion (IsReady unread failures) (take k now)
-      pub finds : (contents : List (List ℕ)) → AreInputs unread start contents
+      pub finds : told ≡ true → (contents : List (List ℕ)) → AreInputs unread start contents
           → Finds unread choice (take k now) (take k contents) held
       pub few : held.told.datagrams ≤ k * 16777216
-      pub counted : IsCounted held
+      pub sound : IsSound unread failures held
       pub none_failed : NoneFailed failures start now
 
-    pub inspected_none : {s o y : ℕ} (start : List (JoinInput R)) (held : HeldFiles s o y)
-        → ((c : Choice) → HoldsDatagrams c held []) → IsCounted held → held.told.datagrams ≡ 0
-        → InspectedSoFar start start held 0
-    inspected_none start held holds counted none = record {
+    pub inspected_none : {s o y : ℕ} (told : Bool) (start : List (JoinInput R))
+        (held : HeldFiles s o y R) → ((c : Choice) → HoldsDatagrams unread c held [])
+        → IsSound unread failures held → held.told.datagrams ≡ 0
+        → InspectedSoFar told start start held 0
+    inspected_none told start held holds sound none = record {
       as_many = refl;
       later = λ j past. refl;
       ready = tt;
-      finds = λ contents inputs. ([], refl, holds choice);
+      finds = λ is contents inputs. ([], refl, holds choice);
       few = omega (arith, none);
-      counted = counted;
+      sound = sound;
       none_failed = record {
         as_many = refl;
         each = λ j before after was is. ap (failures_of failures)
@@ -129,8 +130,8 @@ module _ (choice : Choice) {R : Type 0} (unread : R → Option (List ℕ)) where
       };
     }
 
-    module _ {s o y : ℕ} {start now : List (JoinInput R)} {held : HeldFiles s o y} {k : ℕ}
-        (h : InspectedSoFar start now held k) (one : JoinInput R)
+    module _ {s o y : ℕ} {told : Bool} {start now : List (JoinInput R)}
+        {held : HeldFiles s o y R} {k : ℕ} (h : InspectedSoFar told start now held k) (one : JoinInput R)
         (at : slice_get now k ≡ Some one) where
       was : slice_get start k ≡ Some one
       was = sym (h.later k (omega arith)) ∙ at
@@ -165,14 +166,14 @@ module _ (choice : Choice) {R : Type 0} (unread : R → Option (List ℕ)) where
                 ];
           }
 
-      pub inspected_more : (new : JoinInput R) (after : HeldFiles s o y)
+      pub inspected_more : (new : JoinInput R) (after : HeldFiles s o y R)
           → IsReady unread failures new
-          → ((bytes : List ℕ) → IsInput unread one bytes → (datagrams : List (List ℕ))
-          × IsInspected unread choice new bytes datagrams
-          × HoldsMore choice held after datagrams)
-          → CountsUpTo 16777216 held after
+          → (told ≡ true → (bytes : List ℕ) → IsInput unread one bytes
+          → (datagrams : List (List ℕ)) × IsInspected unread choice new bytes datagrams
+          × HoldsMore unread choice held after datagrams)
+          → CountsUpTo unread failures 16777216 held after
           → failures_of failures new ≡ failures_of failures one
-          → InspectedSoFar start (set now k new) after (k + 1)
+          → InspectedSoFar told start (set now k new) after (k + 1)
       inspected_more new after ready looks counts failed =
           let next : suc k ≡ k + 1 = omega arith in
           record {
@@ -183,10 +184,10 @@ module _ (choice : Choice) {R : Type 0} (unread : R → Option (List ℕ)) where
             ready =
                 subst (λ n. AllByRecursion (IsReady unread failures) (take n (set now k new))) next
                 (all_more (IsReady unread failures) new k now at h.ready ready);
-            finds = λ contents inputs.
+            finds = λ is contents inputs.
                 let own = is_input contents inputs in
-                let all = h.finds contents inputs in
-                let more = looks own.0 own.2 in (
+                let all = h.finds is contents inputs in
+                let more = looks is own.0 own.2 in (
                   all.0 ++ more.0,
                   subst
                       (λ n. AreInspected unread choice (take n (set now k new)) (take n contents)
@@ -195,17 +196,17 @@ module _ (choice : Choice) {R : Type 0} (unread : R → Option (List ℕ)) where
                   more.2 all.0 all.2,
                 );
             few = omega (arith, counts.0, h.few);
-            counted = counts.1;
+            sound = counts.1;
             none_failed = none_more new failed;
           }
 
       pub inspect_fails : (fault : CommandFault)
           → ((bytes : List ℕ) → IsInput unread one bytes → InspectionFails (k + 1) bytes fault)
-          → (contents : List (List ℕ)) → AreInputs unread start contents
+          → told ≡ true → (contents : List (List ℕ)) → AreInputs unread start contents
           → SomeInspectionFails contents fault
-      inspect_fails fault fails contents inputs =
+      inspect_fails fault fails is contents inputs =
           let own = is_input contents inputs in
-          let all = h.finds contents inputs in (
+          let all = h.finds is contents inputs in (
             k + 1,
             first_at HasKnownKind (λ bytes. InspectionFails (k + 1) bytes fault) contents k own.0
                 own.1 (all_known (take k now) (take k contents) all.0 all.1) (fails own.0 own.2),
@@ -247,18 +248,18 @@ module _ (choice : Choice) {R : Type 0} (unread : R → Option (List ℕ)) where
     inspect_reads k fault names e = subst (NamesOnly (k + 1)) e names
 
     -- all were inspected
-    module _ {s o y : ℕ} {start now : List (JoinInput R)} {held : HeldFiles s o y} {k : ℕ}
-        (h : InspectedSoFar start now held k) (past : length start ≤ k) where
+    module _ {s o y : ℕ} {told : Bool} {start now : List (JoinInput R)}
+        {held : HeldFiles s o y R} {k : ℕ} (h : InspectedSoFar told start now held k) (past : length start ≤ k) where
       all_of_them : take k now ≡ now
       all_of_them = take_all k now (omega (arith, past, h.as_many))
 
       pub ready_all : AllByRecursion (IsReady unread failures) now
       ready_all = subst (AllByRecursion (IsReady unread failures)) all_of_them h.ready
 
-      pub finds_all : (contents : List (List ℕ)) → AreInputs unread start contents
+      pub finds_all : told ≡ true → (contents : List (List ℕ)) → AreInputs unread start contents
           → Finds unread choice now contents held
-      finds_all contents inputs =
+      finds_all is contents inputs =
           let every : take k contents ≡ contents =
           take_all k contents (omega (arith, past, inputs.as_many)) in
           subst (λ xs. Finds unread choice xs contents held) all_of_them
-          (subst (λ cs. Finds unread choice (take k now) cs held) every (h.finds contents inputs))
+          (subst (λ cs. Finds unread choice (take k now) cs held) every (h.finds is contents inputs))

@@ -36,7 +36,8 @@ use Rattle.flutejoin.specs.declared.command_fault.CommandFault.{CommandFault}
 use Rattle.flutejoin.specs.declared.command_fault.CommandFault.TheVariants.{Input, Full}
 use Rattle.flutejoin.specs.declared.command_fault.CommandFault.TheVariants.{OutOfMemory}
 use Rattle.flutejoin.specs.declared.command_fault.CommandFault.TheVariants.{CannotWrite}
-use Rattle.flutejoin.specs.declared.held_files.HeldFiles.{HeldFiles}
+use Rattle.flutejoin.specs.declared.command_fault.CommandFault.TheVariants.{CannotPutAside}
+use Rattle.flutejoin.specs.declared.join_counts.JoinCounts.{JoinCounts}
 use Rattle.flutejoin.specs.declared.join_input.JoinInput.{JoinInput}
 use Rattle.flutejoin.specs.declared.join_input.JoinInput.TheVariants.{Journal, Datagrams, Unknown}
 use Rattle.flutejoin.specs.InputStreams.{failures_of, NoneFailed, OneFailed}
@@ -44,18 +45,19 @@ use Rattle.flutejoin.specs.Joined.{Choice, facts_by, InputContent, of_journal, o
 use Rattle.flutejoin.specs.Joined.{content_facts, content_others, is_of_others, Tells, TellAll}
 use Rattle.flutejoin.specs.JoinFaults.{IsValid, FirstInput, HasKnownKind, IsOfAKind, IsJournalAt}
 use Rattle.flutejoin.specs.JoinFaults.{IsFileAt, JoinFails}
-use Rattle.flutejoin.specs.JoinParts.{HoldsAll, HoldsDatagrams, FileFails}
+use Rattle.flutejoin.specs.JoinParts.{FileFails}
 use Rattle.flutejoin.specs.Joining.{JoinsTo}
-use Rattle.flutejoin.specs.JoinFaults.{JoinToFails, of_inputs, of_source, of_sink, NamesOneOf}
+use Rattle.flutejoin.specs.JoinFaults.{JoinToFails, of_inputs, of_source, of_sink, of_aside}
+use Rattle.flutejoin.specs.JoinFaults.{NamesOneOf}
 use Rattle.flutejoin.specs.JoinParts.{InspectionFails, of_kind, of_file as of_a_file}
 use Rattle.flutejoin.specs.JoinParts.{SomeInspectionFails, IsInspected, AreInspected, IsReady}
 use Rattle.flutejoin.specs.JoinParts.{JoinsInspected}
 use Rattle.flutejoin.specs.Refused.{is_refused}
 use Rattle.flutejoin.specs.Limits.{IsOver}
-use Rattle.flutejoin.specs.Status.{of_load}
+use Rattle.flutejoin.specs.Status.{of_load, of_stop}
 use Rattle.flutejoin.proofs.Firsts.{at_place, first_at, first_with}
 use Rattle.flutejoin.proofs.Inspections.{all_known}
-use Rattle.flutejoin.proofs.JoinStreams.{all_taken, joins, are_ready, as_streams, IsHeld}
+use Rattle.flutejoin.proofs.JoinStreams.{all_taken, joins, are_ready, as_streams}
 use Rattle.flutejoin.proofs.JoinStreams.{valid_before, over_same}
 use Rattle.flutejoin.proofs.Receptions.{Below-left}
 
@@ -122,13 +124,17 @@ module _ {R : Type 0} (unread : R → Option (List ℕ)) (failures : R → ℕ) 
     pub stops : all.stops (Second input) fault
     pub before : TellBefore all place (streams xs)
 
-  module _ {w : S} {store : List Fact} (held : IsHeld b w store) where
+  -- what is held has this fault, or an input
+  abbrev pub Stops : S → List (JoinInput R) → ℕ → LoadFault → Type 0
+  Stops w xs zero fault = b.stops w fault
+  Stops w xs (suc n) fault = StopsIn xs (suc n) fault
+
+  module _ (w : S) where
     stops_at : (xs : List (JoinInput R)) (number : ℕ) (s : Either S (JoinInput R))
         (fault : LoadFault) → slice_get (chained w xs) number ≡ Some s → all.stops s fault
-        → TellBefore all number (chained w xs) → StopsIn xs number fault
+        → TellBefore all number (chained w xs) → Stops w xs number fault
     stops_at xs zero s fault e h t =
-        let is : First w ≡ s = cc in
-        absurd (held.never fault (subst (λ z. all.stops z fault) (sym is) h))
+        let is : First w ≡ s = cc in subst (λ z. all.stops z fault) (sym is) h
     stops_at xs (suc n) s fault e h t =
         let o = one_at xs n s e in record {
           place = n;
@@ -142,7 +148,7 @@ module _ {R : Type 0} (unread : R → Option (List ℕ)) (failures : R → ℕ) 
     pub stops_in : (xs : List (JoinInput R)) → length xs ≤ 64
         → (now : List (Either S (JoinInput R))) (first : InputFault)
         → FirstFault all (chained w (taken xs)) now first
-        → StopsIn xs first.number first.fault
+        → Stops w xs first.number first.fault
     stops_in xs many now first f =
         let h = subst (λ l. FirstFault all (chained w l) now first) (all_taken xs many) f in
         stops_at xs first.number h.stopped.new first.fault h.stopped.was h.stopped.stop.stops
@@ -159,23 +165,28 @@ module _ {R : Type 0} (unread : R → Option (List ℕ)) (failures : R → ℕ) 
 
   module _ {xs : List (JoinInput R)} {number : ℕ} {fault : LoadFault}
       (h : StopsIn xs number fault) where
-    pub no_memory : of_load number fault ≡ OutOfMemory → ⊥
+    no_memory : of_load number fault ≡ OutOfMemory → ⊥
     no_memory e =
         let f = reads h.input fault h.stops in
         let d : Input number f.0 ≡ OutOfMemory = ap (of_load number) (sym f.1) ∙ e in cc
 
-    pub no_sink : of_load number fault ≡ CannotWrite → ⊥
+    no_sink : of_load number fault ≡ CannotWrite → ⊥
     no_sink e =
         let f = reads h.input fault h.stops in
         let d : Input number f.0 ≡ CannotWrite = ap (of_load number) (sym f.1) ∙ e in cc
 
-    pub names_one : NamesOneOf (length xs) (of_load number fault)
+    names_one : NamesOneOf (length xs) (of_load number fault)
     names_one =
         let f = reads h.input fault h.stops in
         let within = slice_get_within xs h.place h.input h.own in
         let few : NamesOneOf (length xs) (Input number f.0) =
         (omega (arith, h.number_is), omega (arith, h.number_is, within)) in
         subst (λ g. NamesOneOf (length xs) (of_load number g)) (sym f.1) few
+
+    no_aside : of_load number fault ≡ CannotPutAside → ⊥
+    no_aside e =
+        let f = reads h.input fault h.stops in
+        let d : Input number f.0 ≡ CannotPutAside = ap (of_load number) (sym f.1) ∙ e in cc
 
     module _ (choice : Choice) (contents datagrams : List (List ℕ))
         (ready : are_ready unread failures b xs)
@@ -207,7 +218,7 @@ module _ {R : Type 0} (unread : R → Option (List ℕ)) (failures : R → ℕ) 
       stops_one (Datagrams x) bytes own f r i s = absurd s
       stops_one Unknown bytes own f r i s = absurd s
 
-      pub first_fails : JoinToFails choice contents (of_load number fault)
+      first_fails : JoinToFails choice contents (of_load number fault)
       first_fails =
           let f = reads h.input fault h.stops in
           let own = own_bytes xs contents datagrams h.place h.input inspected h.own in
@@ -237,6 +248,37 @@ module _ {R : Type 0} (unread : R → Option (List ℕ)) (failures : R → ℕ) 
           ] in
           subst (λ n. JoinToFails choice contents (of_load n fault)) (sym at)
           (subst (λ g. JoinToFails choice contents (of_load (h.place + 1) g)) (sym f.1) told)
+
+  -- why a join stopped, whatever stream it was
+  module _ (w : S) (xs : List (JoinInput R)) where
+    pub stop_no_memory : (number : ℕ) (fault : LoadFault) → Stops w xs number fault
+        → of_stop number fault ≡ OutOfMemory → ⊥
+    stop_no_memory zero fault h e = cc
+    stop_no_memory (suc n) fault h e = no_memory h e
+
+    pub stop_no_sink : (number : ℕ) (fault : LoadFault) → Stops w xs number fault
+        → of_stop number fault ≡ CannotWrite → ⊥
+    stop_no_sink zero fault h e = cc
+    stop_no_sink (suc n) fault h e = no_sink h e
+
+    pub stop_names : (number : ℕ) (fault : LoadFault) → Stops w xs number fault
+        → NamesOneOf (length xs) (of_stop number fault)
+    stop_names zero fault h = tt
+    stop_names (suc n) fault h = names_one h
+
+    -- what is held has no fault
+    pub stop_no_aside : ((fault : LoadFault) → b.stops w fault → ⊥) → (number : ℕ)
+        (fault : LoadFault) → Stops w xs number fault → of_stop number fault ≡ CannotPutAside → ⊥
+    stop_no_aside never zero fault h e = never fault h
+    stop_no_aside never (suc n) fault h e = no_aside h e
+
+    pub stop_fails : (number : ℕ) (fault : LoadFault) → Stops w xs number fault
+        → (choice : Choice) (contents datagrams : List (List ℕ))
+        → are_ready unread failures b xs → AreInspected unread choice xs contents datagrams
+        → JoinToFails choice contents (of_stop number fault)
+    stop_fails zero fault h choice contents datagrams ready inspected = of_aside refl
+    stop_fails (suc n) fault h choice contents datagrams ready inspected =
+        first_fails h choice contents datagrams ready inspected
 
   -- What has failed.
 
@@ -286,11 +328,10 @@ module _ {R : Type 0} (unread : R → Option (List ℕ)) (failures : R → ℕ) 
       (all_taken ys (omega (arith, many, same))) f) in
       record { as_many = same; each = none_at xs ys h.1 }
 
-  module _ {w : S} {store : List Fact} (held : IsHeld b w store) (now : S)
-      (xs ys : List (JoinInput R)) (many : length xs ≤ 64) (same : length ys ≡ length xs)
-      (first : InputFault) where
+  module _ {w : S} (now : S) (xs ys : List (JoinInput R)) (many : length xs ≤ 64)
+      (same : length ys ≡ length xs) (first : InputFault) where
     pub read_failed : FirstFault all (chained w (taken xs)) (chained now (taken ys)) first
-        → (number : ℕ) → of_load first.number first.fault ≡ Input number Read
+        → (number : ℕ) → of_stop first.number first.fault ≡ Input number Read
         → OneFailed failures number xs ys
     read_failed f number e =
         let h =
@@ -307,10 +348,8 @@ module _ {R : Type 0} (unread : R → Option (List ℕ)) (failures : R → ℕ) 
 
         at_number : (n : ℕ) (fault : LoadFault) (s : Either S (JoinInput R))
             → slice_get (chained w xs) n ≡ Some s → IsStopOf all s n (chained now ys) fault
-            → of_load n fault ≡ Input number Read → OneFailed failures number xs ys
-        at_number zero fault s was stop d =
-            let is : First w ≡ s = cc in
-            absurd (held.never fault (subst (λ z. all.stops z fault) (sym is) stop.stops))
+            → of_stop n fault ≡ Input number Read → OneFailed failures number xs ys
+        at_number zero fault s was stop d = absurd cc
         at_number (suc n) fault s was stop d =
             let x = one_at xs n s was in
             let y = one_at ys n stop.stream stop.is in
@@ -374,6 +413,7 @@ file_not_held {choice} P inputs number first (Input told f) kind h =
     ]
 file_not_held {choice} P inputs number first OutOfMemory kind h =
     of_inputs (number, first_with HasKnownKind P IsOfAKind number inputs first (inr kind))
+file_not_held {choice} P inputs number first CannotPutAside kind h = of_aside refl
 file_not_held {choice} P inputs number first fault kind h = absurd h
 
 pub not_inspected : {choice : Choice} (inputs : List (List ℕ)) (fault : CommandFault)
@@ -425,27 +465,23 @@ full_of_files {choice} {inputs} {datagrams} h over =
           choice.most.symbols (Below-left files h.entries) over),
     )
 
-module _ {choice : Choice} {inputs datagrams : List (List ℕ)} {s o y : ℕ}
-    {held : HeldFiles s o y} {passed : ℕ}
+module _ {choice : Choice} {inputs datagrams : List (List ℕ)} {facts : List Fact} {passed : ℕ}
     {joined : MergedJournal} {w w' : Option (List ℕ)} where
   -- all of them are held
-  module _ (h : JoinsInspected choice inputs datagrams held.told.store passed joined w w')
-      (fits : held.fits ≡ true) (holds : HoldsDatagrams choice held datagrams) where
+  module _ (h : JoinsInspected choice inputs datagrams facts passed joined w w')
+      (held : Same facts (flat_map (facts_by choice) datagrams)) where
     abbrev told : List Fact
     told = flat_map (content_facts choice) h.told
 
     abbrev written : List Fact
-    written = held.told.store ++ h.entries
-
-    all_held : HoldsAll choice true held.told datagrams
-    all_held = subst (λ c. HoldsAll choice c held.told datagrams) fits holds.holds
+    written = facts ++ h.entries
 
     same_told : Same told written
     same_told =
         Same-trans told (flat_map (facts_by choice) datagrams ++ h.entries) written h.same
         (Same-sym written (flat_map (facts_by choice) datagrams ++ h.entries)
-        (Same-append held.told.store (flat_map (facts_by choice) datagrams) h.entries h.entries
-        all_held.content (Same-itself h.entries)))
+        (Same-append facts (flat_map (facts_by choice) datagrams) h.entries h.entries held
+        (Same-itself h.entries)))
 
     within_limits : (within : Bool) → joined.within ≡ within
         → IsWithinLimits choice.most.sessions choice.most.objects choice.most.symbols told within
@@ -467,17 +503,13 @@ module _ {choice : Choice} {inputs datagrams : List (List ℕ)} {s o y : ℕ}
         (record { told = h.told; tell = h.tell; together = within_limits true within })
 
     pub joins_to : length inputs ≤ 64 → joined.within ≡ true → joined.cut ≡ false
-        → (others : ℕ) → others ≡ min (held.others + passed) (2 ^ 64 - 1)
-        → JoinsTo choice inputs
-        (record {
-          datagrams = held.told.datagrams;
-          refused = held.told.refused;
-          others = others;
-          entries = joined.entries;
-        }) w w'
-    joins_to few within whole others sum =
+        → (counts : JoinCounts) → counts.entries ≡ joined.entries
+        → counts.datagrams ≡ length datagrams → counts.refused ≡ count_by is_refused datagrams
+        → (of_files : ℕ) → of_files ≡ count_by (is_of_others choice) datagrams
+        → counts.others ≡ min (of_files + passed) (2 ^ 64 - 1)
+        → JoinsTo choice inputs counts w w'
+    joins_to few within whole counts entries all refused of_files counted sum =
         let puts = subst (λ c. PutsJournal c w w' written joined.entries) whole h.puts in
-        let counted = holds.others fits in
         record {
           told = h.told;
           tell = h.tell;
@@ -494,14 +526,11 @@ module _ {choice : Choice} {inputs datagrams : List (List ℕ)} {s o y : ℕ}
               puts.journal.2,
               puts.journal.3,
             );
-            entries = puts.entries;
+            entries = entries ∙ puts.entries;
             appended = puts.appended;
           };
-          datagrams = all_held.count ∙ ap (λ l. 0 + length l) (sym h.datagrams_are) ∙ omega arith;
-          refused =
-              all_held.refused
-              ∙ ap (λ l. 0 + count_by is_refused l)
-              (sym h.datagrams_are) ∙ omega arith;
+          datagrams = all ∙ ap length (sym h.datagrams_are);
+          refused = refused ∙ ap (count_by is_refused) (sym h.datagrams_are);
           others =
               let total = others_few choice inputs h.told h.tell in
               omega (arith, sum, counted, h.others, total, few);

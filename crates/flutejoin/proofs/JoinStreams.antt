@@ -18,11 +18,9 @@ use Rattle.flute_journal.specs.Journal.{IsJournalWithin}
 use Rattle.flute_journal.specs.JournalWriters.{PutsJournal}
 use Rattle.flute_journal.specs.Scopes.{takes_key, is_chosen, chosen, others_in}
 use Rattle.flute_journal.specs.StreamMerges.{all_of, EachSince, EndsMerged, IsWithinLimits}
-use Rattle.flute_journal.specs.Listed.{listed_behaviour}
-use Rattle.flute_journal.specs.Streams.{Behaviour, IsNew, most_of, option_list}
+use Rattle.flute_journal.specs.Streams.{Behaviour, IsNew, most_of}
 use Rattle.flute_journal.specs.declared.all_streams.MergedJournal.{MergedJournal}
 use Rattle.flute_journal.specs.declared.either.Either.{Either}
-use Rattle.flute_journal.specs.declared.fault.LoadFault.{LoadFault}
 use Rattle.flute_journal.specs.declared.either.Either.TheVariants.{Second}
 use Rattle.flutejoin.specs.declared.join_input.JoinInput.{JoinInput}
 use Rattle.flutejoin.specs.declared.join_input.JoinInput.TheVariants.{Journal, Datagrams, Unknown}
@@ -33,7 +31,7 @@ use Rattle.flutejoin.specs.Joined.{of_file, content_facts, content_datagrams, co
 use Rattle.flutejoin.specs.Joined.{TellAll}
 use Rattle.flutejoin.specs.JoinFaults.{IsValid}
 use Rattle.flutejoin.specs.JoinParts.{IsInspected, AreInspected, IsReady, JoinsInspected}
-use Rattle.flutejoin.specs.JoinParts.{joined_behaviour}
+use Rattle.flutejoin.specs.JoinParts.{joined_behaviour, IsHeld, Ends}
 use Rattle.flutejoin.specs.Limits.{Limits, at_most, IsOver}
 
 pub over_same : (most : Limits) (F G : List Fact) → Same F G → IsOver most F → IsOver most G
@@ -57,23 +55,6 @@ regroup O D F G R h =
 -- all inputs are taken
 pub all_taken : {X : Type 0} (xs : List X) → length xs ≤ 64 → taken xs ≡ xs
 all_taken xs many = taken_all xs (omega (arith, many))
-
--- the stream of what is held: it is in memory
-pub record IsHeld {S : Type 0} (b : Behaviour S) (w : S) (store : List Fact) : Type 0 where
-  pub new : IsNew b w
-  pub few : b.most w ≤ 2 ^ 63
-  pub ends : (now : S) (F : List Fact) → b.ends w now F → F ≡ store
-  pub never : (fault : LoadFault) → b.stops w fault → ⊥
-
-pub is_held : {S : Type 0} (held : S → Option Fact) (rest : S → List Fact) (w : S)
-    (store : List Fact) → IsNew (listed_behaviour held rest (λ _. Unit {0})) w → rest w ≡ store
-    → length (rest w) ≤ 2 ^ 63 → IsHeld (listed_behaviour held rest (λ _. Unit {0})) w store
-is_held held rest w store new is few = record {
-  new = new;
-  few = let e = ap (λ o. length (option_list o)) new.held in omega (arith, e, few);
-  ends = λ now F e. e ∙ is;
-  never = λ fault h. h;
-}
 
 module _ {R : Type 0} (unread : R → Option (List ℕ)) (failures : R → ℕ) {S : Type 0}
     (b : Behaviour S) where
@@ -109,7 +90,7 @@ module _ {R : Type 0} (unread : R → Option (List ℕ)) (failures : R → ℕ) 
   inputs_few [] h = omega arith
   inputs_few (x ∷ xs) h = omega (arith, few_input x h.0, inputs_few xs h.1)
 
-  module _ {w : S} {store : List Fact} (xs : List (JoinInput R)) (held : IsHeld b w store)
+  module _ {w : S} (xs : List (JoinInput R)) (held : IsHeld b w)
       (many : length xs ≤ 64) (h : are_ready xs) where
     pub all_new : AreNew joins (chained w (taken xs))
     all_new =
@@ -271,7 +252,7 @@ module _ {R : Type 0} (unread : R → Option (List ℕ)) (failures : R → ℕ) 
     -- what was joined
     module _ (xs ys : List (JoinInput R)) (contents datagrams : List (List ℕ))
         (ready : are_ready xs) (inspected : AreInspected unread choice xs contents datagrams)
-        {w : S} {store : List Fact} (held : IsHeld b w store) (joined : MergedJournal)
+        {w : S} {store : List Fact} (held : Ends b w store) (joined : MergedJournal)
         (u v : Option (List ℕ)) where
       abbrev Joins : Type 0
       Joins = JoinsInspected choice contents datagrams store (sum_by passed_over ys) joined u v
@@ -283,7 +264,7 @@ module _ {R : Type 0} (unread : R → Option (List ℕ)) (failures : R → ℕ) 
           (all_of told) joined.within → Joins
       of_told now [] h puts limits = absurd h
       of_told now (F ∷ given) h puts limits =
-          let is = held.ends now F h.0 in
+          let is = held now F h.0 in
           let all = tells_each xs ys contents datagrams given ready inspected h.1 in
           record {
             told = all.told;

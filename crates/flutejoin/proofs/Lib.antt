@@ -7,7 +7,7 @@ mod SelectedFacts
 mod Shown
 mod Mapped
 mod Written
-mod Asides
+mod MovedAside
 mod ObjectsListed
 mod OpenObjects
 mod Keys
@@ -15,6 +15,7 @@ mod Scanning
 mod GapsRead
 mod StatusLines
 mod Receptions
+mod Runs
 mod Taking
 mod Blobs
 mod Held

@@ -1,5 +1,5 @@
 -- Lists of facts, what stands above them, and their journals.
-use Rattle.std.proofs.Common.{◌≡◌, ℕ, List, ◌++◌, sym, ap, subst, ◌∙◌, append_assoc, arith}
+use Rattle.std.proofs.Common.{◌≡◌, ℕ, ◌<◌, ◌^◌, List, ◌++◌, sym, ap, subst, ◌∙◌, append_assoc, arith}
 use Rattle.flute_parts.specs.declared.fact.Fact.{Fact}
 use Rattle.flute_parts.specs.Facts.{Same, Below}
 use Rattle.flute_parts.proofs.Public.{rising_unique, Same-append, Same-itself, Same-sym}
@@ -26,9 +26,9 @@ Journal-only bs cs F G same j k =
     (Same-trans j.0 F k.0 (Same-sym F j.0 j.1.same) (Same-trans F G k.0 same k.1.same)) in
     j.3 ∙ ap spelling one ∙ sym k.3
 
-pub IsJournal-from_within : (bs : List ℕ) (entries : List Fact)
-    → IsJournalWithin MAX_ENTRIES bs entries → IsJournal bs entries
-IsJournal-from_within bs entries j =
+pub IsJournal-from_bound : (limit : ℕ) → limit < 2 ^ 64 → (bs : List ℕ) (entries : List Fact)
+    → IsJournalWithin limit bs entries → IsJournal bs entries
+IsJournal-from_bound limit small bs entries j =
     let v = j.are_items.told in (
       v,
       parts_journal v bs entries (record {
@@ -39,11 +39,15 @@ IsJournal-from_within bs entries j =
               j.are_items.in_order;
           same = Same-itself entries;
         };
-        small = omega (arith, j.are_items.few);
+        small = omega (arith, j.are_items.few, small);
         bytes_are = j.bytes_are;
         valid = j.are_items.valid;
       }),
     )
+
+pub IsJournal-from_within : (bs : List ℕ) (entries : List Fact)
+    → IsJournalWithin MAX_ENTRIES bs entries → IsJournal bs entries
+IsJournal-from_within = IsJournal-from_bound MAX_ENTRIES (omega arith)
 
 -- what is read of the journal of facts comes to the same as others that do
 pub Same-read_of_joined : (held joined others : List Fact) (bs : List ℕ)

@@ -18,7 +18,7 @@ use Rattle.flutejoin.specs.Sums.{in_front, misfit_in, missing_in, partial_in, se
 use Rattle.flutejoin.specs.Sums.{sums_line, sums_of, unknown_in, whole_in}
 use Rattle.flutejoin.specs.Told.{Told}
 use Rattle.flutejoin.specs.declared.session_sums.SessionSums.{SessionSums}
-use Rattle.flutejoin.proofs.Asides.{knows_more}
+use Rattle.flutejoin.proofs.MovedAside.{knows_more}
 
 -- ---- objects of one session, and of the next
 

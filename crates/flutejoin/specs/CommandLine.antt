@@ -22,6 +22,7 @@ use Rattle.flutejoin.specs.Parser.{command_in, refusals_of}
 use Rattle.flutejoin.specs.Scoping.{AreScopeNumbers, IsScope, IsWrongOfScope}
 use Rattle.flutejoin.specs.Selecting.{IsChoiceFault, IsSelection, IsSelectionFault}
 use Rattle.flutejoin.specs.Selecting.{NamesObject}
+use Rattle.flutejoin.specs.Sizes.{memory_in}
 use Rattle.flutejoin.specs.declared.command_fault.CommandFault.{CommandFault}
 use Rattle.flutejoin.specs.declared.command_fault.CommandFault.TheVariants.{CommandLine, BadNumber}
 use Rattle.flutejoin.specs.declared.command_fault.CommandFault.TheVariants.{BadOption, BadSource}
@@ -88,9 +89,9 @@ IsLine name rows (Info out force any_size key len symbol block j) =
     × IsKey (HasSource rows) rows key × IsNumber (codes "length") (2 ^ 64) rows len
     × IsNumber (codes "symbol") (2 ^ 16) rows symbol
     × IsNumber (codes "block") (2 ^ 32) rows block × IsWord (codes "J") rows j
-IsLine name rows (Join out force any_size sender scope inputs) =
+IsLine name rows (Join out force any_size memory sender scope inputs) =
     (name ≡ codes "join") × IsWord (codes "OUT") rows out × IsFlag (codes "force") rows force
-    × IsFlag (codes "any-size") rows any_size
+    × IsFlag (codes "any-size") rows any_size × (memory_in rows ≡ Some memory)
     × HasSource rows sender × IsScope rows scope
     × (map (λ input. input.now) inputs.items ≡ words (codes "INPUT") rows)
     × (length inputs.items ≤ 64)
@@ -122,14 +123,25 @@ IsManyInputs count TooManyInputs = 64 < count
 IsManyInputs count OutOfMemory = count ≤ 64
 IsManyInputs count _ = ⊥
 
+-- of a join each number is one of its range
+abbrev pub AreJoinNumbers : List Row → Type 0
+AreJoinNumbers rows = AreScopeNumbers rows × (is_some (memory_in rows) ≡ true)
+
+-- the option with this name is the first that is none of its range
+abbrev pub IsWrongOfJoin : List Row → List ℕ → Type 0
+IsWrongOfJoin rows name =
+    IsWrongOfScope rows name
+    ⊎ (AreScopeNumbers rows × (name ≡ codes "memory") × (memory_in rows ≡ None))
+
 abbrev pub IsJoinFault : List Row → CommandFault → Type 0
-IsJoinFault rows (BadNumber option) = IsWrongOfScope rows option.now
+IsJoinFault rows (BadNumber option) = IsWrongOfJoin rows option.now
 IsJoinFault rows BadSource =
-    AreScopeNumbers rows × ((sender : ℕ) → HasSource rows sender → ⊥)
+    AreJoinNumbers rows × ((sender : ℕ) → HasSource rows sender → ⊥)
 IsJoinFault rows BadKey =
-    AreScopeNumbers rows × ((sender : ℕ) × HasSource rows sender) × NamesObject rows None
+    AreJoinNumbers rows × ((sender : ℕ) × HasSource rows sender) × NamesObject rows None
 IsJoinFault rows fault =
-    ((scope : Scope) × IsScope rows scope) × ((sender : ℕ) × HasSource rows sender)
+    ((scope : Scope) × IsScope rows scope) × (is_some (memory_in rows) ≡ true)
+    × ((sender : ℕ) × HasSource rows sender)
     × IsManyInputs (length (words (codes "INPUT") rows)) fault
 
 -- of `extract --all`, which takes no `--force`

@@ -16,6 +16,7 @@ use Rattle.flutejoin.specs.declared.command_fault.CommandFault.{CommandFault}
 use Rattle.flutejoin.specs.declared.command_fault.CommandFault.TheVariants.{UnknownKind, Input}
 use Rattle.flutejoin.specs.declared.command_fault.CommandFault.TheVariants.{Full, OutOfMemory}
 use Rattle.flutejoin.specs.declared.command_fault.CommandFault.TheVariants.{CannotWrite}
+use Rattle.flutejoin.specs.declared.command_fault.CommandFault.TheVariants.{CannotPutAside}
 use Rattle.flutejoin.specs.Joined.{InputContent, Choice, content_facts, Tells, TellAll}
 
 -- the input with this number, from 1, has P, and all before it have Q
@@ -87,13 +88,14 @@ ReadFailsAt inputs number =
     × FirstInput IsValid (HasKind kinds.Journal) number inputs)
 
 -- why inputs were not joined: as those in memory; or a device failed, the sink only if all
--- the inputs could be joined
+-- the inputs could be joined; or what is not held in memory could not be put aside and read again
 pub data JoinToFails (choice : Choice) (inputs : List (List ℕ))
     (fault : CommandFault) : Type 0 where
   of_inputs : JoinFails choice inputs fault → JoinToFails choice inputs fault
   of_source : (number : ℕ) → fault ≡ Input number Read → ReadFailsAt inputs number
       → JoinToFails choice inputs fault
   of_sink : fault ≡ CannotWrite → AllTell choice inputs → JoinToFails choice inputs fault
+  of_aside : fault ≡ CannotPutAside → JoinToFails choice inputs fault
 
 -- the number that a fault tells is that of one of so many inputs, from 1
 abbrev pub NamesOneOf : ℕ → CommandFault → Type 0

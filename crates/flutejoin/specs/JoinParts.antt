@@ -1,13 +1,16 @@
 -- What the parts of a join answer.
-use Rattle.std.specs.Prelude.{◌≡◌, ℕ, ◌+◌, List, [], ◌∷◌, ◌++◌, ◌≤◌, length, Option, Some, Bool}
+use Rattle.std.specs.Prelude.{◌≡◌, ℕ, ◌+◌, List, [], ◌∷◌, ◌++◌, ◌≤◌, length, Option, Some, None}
+use Rattle.std.specs.Prelude.{◌^◌, Bool}
 use Rattle.std.specs.Prelude.{true, false, if◌then◌else◌, ⊤, ◌⊎◌}
-use Rattle.std.specs.List.{flat_map, count_by, sum_by}
+use Rattle.std.specs.List.{flat_map, count_by, sum_by, AllByRecursion}
 use Rattle.flute_parts.specs.Facts.{Same}
 use Rattle.flute_parts.specs.declared.fact.Fact.{Fact}
 use Rattle.flute_journal.specs.Scopes.{takes_key}
 use Rattle.flute_journal.specs.Records.{IsFileWithin}
 use Rattle.flute_journal.specs.FileFraming.{file_framing}
 use Rattle.flute_journal.specs.Framing.{HasFault}
+use Rattle.flute_journal.specs.declared.owned_journal_stream.OwnedJournalStream.{OwnedJournalStream}
+use Rattle.flutejoin.specs.Asides.{AreRunsOf, AreHeld, IsNewRun}
 use Rattle.flutejoin.specs.Limits.{Limits, IsOver}
 use Rattle.flutejoin.specs.Refused.{is_refused}
 use Rattle.flutejoin.specs.declared.limits.TheConstants.{MAX_ENTRIES}
@@ -18,9 +21,11 @@ use Rattle.flutejoin.specs.declared.command_fault.CommandFault.{CommandFault}
 use Rattle.flutejoin.specs.declared.command_fault.CommandFault.TheVariants.{UnknownKind, Input}
 use Rattle.flutejoin.specs.declared.command_fault.CommandFault.TheVariants.{Full, OutOfMemory}
 use Rattle.flutejoin.specs.declared.command_fault.CommandFault.TheVariants.{CannotWrite}
+use Rattle.flutejoin.specs.declared.command_fault.CommandFault.TheVariants.{CannotPutAside}
 use Rattle.flute_journal.specs.JournalWriters.{PutsJournal}
 use Rattle.flute_journal.specs.StreamMerges.{IsWithinLimits}
 use Rattle.flute_journal.specs.Streams.{Behaviour, IsNew}
+use Rattle.flute_journal.specs.declared.fault.LoadFault.{LoadFault}
 use Rattle.flute_journal.specs.Eithers.{either_behaviour}
 use Rattle.flute_journal.specs.declared.either.Either.{Either}
 use Rattle.flute_journal.specs.declared.all_streams.MergedJournal.{MergedJournal}
@@ -45,46 +50,57 @@ module _ {s o y : ℕ} where
     pub datagrams : now.datagrams ≡ before.datagrams + 1
     pub refused : now.refused ≡ (if is_refused datagram then before.refused + 1 else before.refused)
 
-  -- datagrams are counted, and their facts held
-  pub record TakesDatagrams (choice : Choice) (before : Joined s o y) (datagrams : List (List ℕ))
-      (now : Joined s o y) : Type 0 where
-    pub content : Same now.store (before.store ++ flat_map (facts_by choice) datagrams)
-    pub count : now.datagrams ≡ before.datagrams + length datagrams
-    pub refused : now.refused ≡ before.refused + count_by is_refused datagrams
+module _ {s o y : ℕ} {R : Type 0} (unread : R → Option (List ℕ)) where
+  -- these datagrams are counted, and their facts held, in memory or aside
+  pub record HoldsFacts (choice : Choice) (held : HeldFiles s o y R)
+      (datagrams : List (List ℕ)) : Type 0 where
+    pub aside : List Fact
+    pub runs : AreRunsOf unread held.runs.items aside
+    pub content : Same (held.told.store ++ aside) (flat_map (facts_by choice) datagrams)
+    pub count : held.told.datagrams ≡ length datagrams
+    pub refused : held.told.refused ≡ count_by is_refused datagrams
 
-  -- a store of these datagrams; or their facts alone are over the limits
-  abbrev pub HoldsAll : Choice → Bool → Joined s o y → List (List ℕ) → Type 0
-  HoldsAll choice true told datagrams =
-      TakesDatagrams choice (record { store = []; datagrams = 0; refused = 0 }) datagrams told
-  HoldsAll choice false told datagrams = IsOver choice.most (flat_map (facts_by choice) datagrams)
+  -- so it is; or their facts alone are over the limits
+  abbrev pub HoldsAll : Choice → Bool → HeldFiles s o y R → List (List ℕ) → Type 0
+  HoldsAll choice true held datagrams = HoldsFacts choice held datagrams
+  HoldsAll choice false held datagrams = IsOver choice.most (flat_map (facts_by choice) datagrams)
 
   -- datagrams are held as what they tell
-  pub record HoldsDatagrams (choice : Choice) (held : HeldFiles s o y)
+  pub record HoldsDatagrams (choice : Choice) (held : HeldFiles s o y R)
       (datagrams : List (List ℕ)) : Type 0 where
     pub others : held.fits ≡ true → held.others ≡ count_by (is_of_others choice) datagrams
-    pub holds : HoldsAll choice held.fits held.told datagrams
+    pub holds : HoldsAll choice held.fits held datagrams
 
   -- these datagrams are held too
-  abbrev pub HoldsMore : Choice → HeldFiles s o y → HeldFiles s o y → List (List ℕ) → Type 0
+  abbrev pub HoldsMore : Choice → HeldFiles s o y R → HeldFiles s o y R → List (List ℕ) → Type 0
   HoldsMore choice old new datagrams =
       (before : List (List ℕ)) → HoldsDatagrams choice old before
       → HoldsDatagrams choice new (before ++ datagrams)
 
-  -- no more datagrams are refused, or of others, than there are
-  abbrev pub IsCounted : HeldFiles s o y → Type 0
-  IsCounted held =
-      (held.told.refused ≤ held.told.datagrams) × (held.others ≤ held.told.datagrams)
+  -- the facts of these datagrams are held so
+  abbrev pub HoldsRun : Choice → HeldFiles s o y R → Option (OwnedJournalStream R)
+      → List (List ℕ) → Type 0
+  HoldsRun choice held run datagrams =
+      (facts : List Fact) × AreHeld unread held.told.store run facts
+      × Same facts (flat_map (facts_by choice) datagrams)
 
-  -- and there are at most so many more
-  abbrev pub CountsUpTo : ℕ → HeldFiles s o y → HeldFiles s o y → Type 0
-  CountsUpTo most old new =
-      (new.told.datagrams ≤ old.told.datagrams + most) × IsCounted new
+  -- no more datagrams are refused, or of others, than there are; and there are few runs, all new
+  abbrev pub IsSound : (R → ℕ) → HeldFiles s o y R → Type 0
+  IsSound failures held =
+      (held.told.refused ≤ held.told.datagrams) × (held.others ≤ held.told.datagrams)
+      × (length held.runs.items ≤ 64) × AllByRecursion (IsNewRun unread failures) held.runs.items
+
+  -- so it is, with at most so many datagrams more
+  abbrev pub CountsUpTo : (R → ℕ) → ℕ → HeldFiles s o y R → HeldFiles s o y R → Type 0
+  CountsUpTo failures most old new =
+      (new.told.datagrams ≤ old.told.datagrams + most) × IsSound failures new
 
 -- why a datagram file was not held
 abbrev pub FileFails : ℕ → Option (List ℕ) → CommandFault → Type 0
 FileFails number input (Input told fault) =
     (told ≡ number) × HasFault file_framing MAX_ENTRIES input fault
 FileFails number input OutOfMemory = ⊤
+FileFails number input CannotPutAside = ⊤
 FileFails number input _ = ⊥
 
 -- the number that a fault of reading tells is that of the input
@@ -128,11 +144,11 @@ module _ {R : Type 0} (unread : R → Option (List ℕ)) where
   AreInspected choice _ _ datagrams = ⊥
 
   -- and all of these are held
-  abbrev pub Finds : {s o y : ℕ} → Choice → List (JoinInput R) → List (List ℕ) → HeldFiles s o y
-      → Type 0
+  abbrev pub Finds : {s o y : ℕ} → Choice → List (JoinInput R) → List (List ℕ)
+      → HeldFiles s o y R → Type 0
   Finds choice inputs contents held =
       (datagrams : List (List ℕ)) × AreInspected choice inputs contents datagrams
-      × HoldsDatagrams choice held datagrams
+      × HoldsDatagrams unread choice held datagrams
 
   module _ (failures : R → ℕ) where
     -- of a journal nothing was read yet, and nothing was passed over
@@ -147,6 +163,19 @@ module _ {R : Type 0} (unread : R → Option (List ℕ)) where
     -- what is said of inputs as streams, with one before them
     abbrev pub joined_behaviour : {S : Type 0} → Behaviour S → Behaviour (Either S (JoinInput R))
     joined_behaviour b = either_behaviour b (input_behaviour unread failures)
+
+-- nothing was read of the stream of what is held, and its facts can be counted
+pub record IsHeld {S : Type 0} (b : Behaviour S) (held : S) : Type 0 where
+  pub new : IsNew b held
+  pub few : b.most held ≤ 2 ^ 63
+
+-- it gives these facts if it ends
+abbrev pub Ends : {S : Type 0} → Behaviour S → S → List Fact → Type 0
+Ends {S} b held facts = (now : S) (given : List Fact) → b.ends held now given → given ≡ facts
+
+-- it has no fault
+abbrev pub NeverStops : {S : Type 0} → Behaviour S → S → Type 0
+NeverStops b held = (fault : LoadFault) → b.stops held fault → ⊥
 
 -- The journals among inputs that were inspected were joined with what is held, and so many entries
 -- of them were passed over; the others are datagram files with these datagrams.

@@ -24,6 +24,7 @@ pub mod Merge
 pub mod Forget
 pub mod Carousel
 pub mod Sending
+pub mod Asides
 pub mod Joined
 pub mod Begins
 pub mod JoinInputs
@@ -42,6 +43,7 @@ pub mod FileNames
 pub mod ObjectFiles
 pub mod Parser
 pub mod Options
+pub mod Sizes
 pub mod Selecting
 pub mod Scoping
 pub mod CommandLine

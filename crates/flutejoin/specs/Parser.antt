@@ -109,8 +109,9 @@ info_rules =
 
 abbrev pub join_rules : List Rule
 join_rules =
-    out ∷ force_flag ∷ size_flag ∷ option (codes "source") ∷ session_list ∷ option (codes "toi")
-    ∷ option (codes "fdt") ∷ long_flag (codes "no-fdt") ∷ input_list ∷ []
+    out ∷ force_flag ∷ size_flag ∷ option (codes "memory") ∷ option (codes "source")
+    ∷ session_list ∷ option (codes "toi") ∷ option (codes "fdt") ∷ long_flag (codes "no-fdt")
+    ∷ input_list ∷ []
 
 abbrev pub merge_rules : List Rule
 merge_rules = out ∷ force_flag ∷ place (codes "A") ∷ place (codes "B") ∷ []

@@ -1,5 +1,5 @@
 -- The program's status after a fault.
-use Rattle.std.specs.Prelude.{ℕ}
+use Rattle.std.specs.Prelude.{ℕ, zero, suc}
 use Rattle.flutejoin.specs.declared.command_fault.CommandFault.{CommandFault}
 use Rattle.flutejoin.specs.declared.command_fault.CommandFault.TheVariants.{CommandLine, NotText}
 use Rattle.flutejoin.specs.declared.command_fault.CommandFault.TheVariants.{BadNumber, BadSource}
@@ -20,6 +20,7 @@ use Rattle.flutejoin.specs.declared.command_fault.CommandFault.TheVariants.{NotW
 use Rattle.flutejoin.specs.declared.command_fault.CommandFault.TheVariants.{CannotCreate}
 use Rattle.flutejoin.specs.declared.command_fault.CommandFault.TheVariants.{CannotWrite, NotOnDisk}
 use Rattle.flutejoin.specs.declared.command_fault.CommandFault.TheVariants.{NotAllWhole}
+use Rattle.flutejoin.specs.declared.command_fault.CommandFault.TheVariants.{CannotPutAside}
 use Rattle.flute_journal.specs.declared.fault.ReadFault.{ReadFault}
 use Rattle.flute_journal.specs.declared.fault.ReadFault.TheVariants as faults
 use Rattle.flute_journal.specs.declared.fault.LoadFault.{LoadFault}
@@ -63,6 +64,7 @@ exit_status (NotWhole sbn esi) = 1
 exit_status OutOfMemory = 3
 exit_status CannotCreate = 3
 exit_status CannotWrite = 3
+exit_status CannotPutAside = 3
 exit_status NotOnDisk = 3
 exit_status NotAllWhole = 1
 
@@ -77,3 +79,8 @@ abbrev pub of_load : ℕ → LoadFault → CommandFault
 of_load number (loads.Read fault) = Input number fault
 of_load number loads.Full = Full
 of_load number loads.OutOfMemory = OutOfMemory
+
+-- why a join stopped at a stream: the first, 0, is that of what is held, and the others are inputs
+abbrev pub of_stop : ℕ → LoadFault → CommandFault
+of_stop zero fault = CannotPutAside
+of_stop (suc number) fault = of_load (suc number) fault

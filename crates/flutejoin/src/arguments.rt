@@ -12,6 +12,10 @@ The sender's address, as 10.0.0.1, 2001:db8::1 or its 8 or 32 hexadecimal digits
 is ::, and not 0.0.0.0 (but any sender with `show`, `gaps`, \
 `forget` and `extract --all`)";
 
+const MEMORY_HELP: &str = "\
+Hold at most SIZE bytes of datagram files in memory, 256M by default: the rest is put aside in a \
+file without a name beside OUT, or in TMPDIR for `-o -`";
+
 /// The journal that is read.
 pub fn journal<'a>(alloc: Global) -> Arg<'a>
     ensures { IsArgument (place (codes "J")) result }
@@ -97,6 +101,13 @@ pub fn any_size<'a>(alloc: Global) -> Arg<'a>
         "any-size",
         "Take in more sessions, objects and symbols than a store holds",
     )
+}
+
+/// How much of datagram files a join holds in memory.
+pub fn memory<'a>(alloc: Global) -> Arg<'a>
+    ensures { IsArgument (option (codes "memory")) result }
+{
+    value(alloc, "memory", "SIZE", MEMORY_HELP)
 }
 
 /// The flag for conflicts alone.

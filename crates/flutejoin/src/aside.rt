@@ -1,9 +1,13 @@
 //! Bytes that are put aside until all are known.
 ghost use Rattle.std.specs.Prelude.{◌≡◌, ◌+◌, List, ℕ, Some, OnOk, OnErr, [], if◌then◌else◌, is_ok};
+ghost use Rattle.std.specs.Prelude.{Bool, true, IfOk, IfErr};
 ghost use Rattle.std.specs.Io.KnownBytes.{Appends};
 ghost use Rattle.flute_parts.specs.Devices.{AppendsPart};
+ghost use Rattle.flutejoin.specs.Asides.{HasAside, IsNotAgain};
+ghost use Rattle.flutejoin.specs.declared.command_fault.CommandFault.TheVariants.{OutOfMemory};
 
-use flute_parts::{DeviceFault, Failures, Sink};
+use crate::command_fault::CommandFault;
+use flute_parts::{DeviceFault, Failures, Sink, Source};
 use std::alloc::Global;
 
 /// A sink whose bytes are put aside, in memory or in a file, and moved to another sink later.
@@ -22,6 +26,43 @@ pub trait Aside: Sink {
             → OnErr result (AppendsPart (W.written sink.old) (W.written sink.new) bytes) }
         ensures failures { Self.failures self.new + W.failures sink.new
             ≡ Self.failures self.old + W.failures sink.old + (if is_ok result then 0 else 1) };
+}
+
+/// Makes what bytes are put aside in, and inputs of these bytes.
+pub trait Asides {
+    type Aside: Aside + Drop;
+
+    type Input: Source + Drop;
+
+    // Whether contracts are told which bytes are put aside.
+    ghost tells: { Self → Bool };
+
+    // How often something was to be put aside so far.
+    ghost made: { Self → ℕ };
+
+    /// Where bytes are put aside. None is there yet.
+    ///
+    /// # Errors
+    ///
+    /// `OutOfMemory`.
+    fn aside(&mut self) -> Result<Self::Aside, CommandFault>
+        ensures empty { tells self.old ≡ true
+            → IfOk result (λ aside. Self.Aside.written aside ≡ Some []) }
+        ensures refused { IfErr result (λ fault. fault ≡ OutOfMemory) }
+        ensures same_tells { tells self.new ≡ tells self.old }
+        ensures made { made self.new ≡ made self.old + 1 };
+
+    /// An input of the bytes that were put aside.
+    ///
+    /// # Errors
+    ///
+    /// `CannotWrite` if they cannot be read again, and `OutOfMemory`.
+    fn again(&mut self, aside: Self::Aside) -> Result<Self::Input, CommandFault>
+        ensures told { IfOk result
+            (λ input. HasAside (Self.Aside.written aside) (Self.Input.unread input)) }
+        ensures refused { IfErr result IsNotAgain }
+        ensures same_tells { tells self.new ≡ tells self.old }
+        ensures same_made { made self.new ≡ made self.old };
 }
 
 /// Bytes that are put aside in memory. It fails only if it finds no memory for more.

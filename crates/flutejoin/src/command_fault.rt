@@ -103,6 +103,9 @@ pub enum CommandFault {
     /// The output could not be written.
     #[error("cannot write")]
     CannotWrite,
+    /// What is not held in memory could not be put aside, or not be read again.
+    #[error("cannot write what is put aside")]
+    CannotPutAside,
     /// The output was written, and the disk did not tell that it has its name: a lost power may
     /// leave what was there before.
     #[error("output may not be on the disk")]
@@ -138,7 +141,8 @@ impl CommandFault {
             CommandFault::Input(..) | CommandFault::UnknownKind(_) => 1,
             CommandFault::CannotOpen(_) | CommandFault::CannotCreate => 3,
             CommandFault::OutOfMemory => 3,
-            CommandFault::CannotWrite | CommandFault::NotOnDisk => 3,
+            CommandFault::CannotWrite | CommandFault::CannotPutAside => 3,
+            CommandFault::NotOnDisk => 3,
         }
     }
 }

@@ -18,6 +18,7 @@ use crate::numbers::{number_below, sessions, source};
 use crate::object_numbers::ObjectNumbers;
 use crate::parser::command;
 use crate::selection_options::selection;
+use crate::sizes::memory;
 use crate::style::Style;
 use crate::words::{flag, text};
 use clap::ArgMatches;
@@ -89,11 +90,13 @@ pub enum Line<'a> {
         j: &'a str,
     },
     /// Join what the journals and datagram files `inputs`, 1 to 64 of them, have of these objects
-    /// into the journal `out`. The datagrams of the files are of this sender.
+    /// into the journal `out`. The datagrams of the files are of this sender, and so many bytes of
+    /// them may be held in memory.
     Join {
         out: &'a str,
         force: bool,
         any_size: bool,
+        memory: u64,
         sender: Sender,
         scope: Scope,
         inputs: Vec<&'a str>,
@@ -131,10 +134,10 @@ pub enum Line<'a> {
 /// `CommandLine` with the parser's text if that refuses the words, or if they ask for help or
 /// the version; `BadOption` with the first option that the form of `extract` or `info` lacks, or
 /// does not take; `BadNumber` with the first option, in the order `--tsi`, `--toi`, `--fdt`,
-/// `--length`, `--symbol`, `--block`, that is not a number of its range, or with `--tsi` if
-/// `join` has it more than 64 times; `BadSource` if `--source` is neither 32 or 8 hexadecimal
-/// digits nor an address; `BadKey` if `--fdt` does not go with `--toi`; `TooManyInputs` if `join`
-/// has more than 64 inputs; `OutputIsInput` if `merge` is to write one of its inputs; and
+/// `--length`, `--symbol`, `--block`, `--memory`, that is not a number of its range, or with
+/// `--tsi` if `join` has it more than 64 times; `BadSource` if `--source` is neither 32 or 8
+/// hexadecimal digits nor an address; `BadKey` if `--fdt` does not go with `--toi`; `TooManyInputs`
+/// if `join` has more than 64 inputs; `OutputIsInput` if `merge` is to write one of its inputs; and
 /// `OutOfMemory`.
 pub fn line_of(alloc: Global, words: &[String]) -> Result<Line<'_>, CommandFault>
     ensures read { let texts = map string_bytes words.now in
@@ -228,6 +231,7 @@ fn join_of<'a>(alloc: Global, matches: &ArgMatches<'a>) -> Result<Line<'a>, Comm
 {
     let sessions = sessions(matches)?;
     let numbers = ObjectNumbers::of(matches)?;
+    let memory = memory(matches)?;
     let sender = source(matches)?;
     let object = numbers.object()?;
     let scope = Scope {
@@ -240,6 +244,7 @@ fn join_of<'a>(alloc: Global, matches: &ArgMatches<'a>) -> Result<Line<'a>, Comm
         out: text(matches, "OUT"),
         force: flag(matches, "force"),
         any_size: flag(matches, "any-size"),
+        memory,
         sender,
         scope,
         inputs,

@@ -7,8 +7,10 @@
 //! Inputs, joined (from `flutejoin_tests`):
 //!
 //! ```
-//! let counts = join_to::<MAX_SESSIONS, MAX_OBJECTS, MAX_SYMBOLS, _, _>(
+//! let counts = join_to::<MAX_SESSIONS, MAX_OBJECTS, MAX_SYMBOLS, _, _, _>(
 //!     alloc,
+//!     &mut NoAsides::new(),
+//!     u64::MAX,
 //!     Sender::new(0),
 //!     &Scope::all(),
 //!     &mut inputs,
@@ -62,6 +64,7 @@ mod packet;
 mod parser;
 mod peeked_source;
 mod picked;
+mod putting_aside;
 mod report_lines;
 mod selection_options;
 mod sender;
@@ -69,11 +72,12 @@ mod sending;
 mod sent_object;
 mod session_sums;
 mod show;
+mod sizes;
 mod style;
 mod text;
 mod words;
 
-pub use aside::{Aside, MemoryAside};
+pub use aside::{Aside, Asides, MemoryAside};
 pub use blob::{Blob, BlobFault, is_too_large, put_aside};
 pub use command_fault::{CommandFault, at_input, blob_fault, load_fault};
 pub use command_line::{Line, line_of};
@@ -90,8 +94,8 @@ pub use joined::{Joined, JoinedShelf};
 pub use joined_inputs::join_to;
 pub use journal_gaps::gaps_from;
 pub use limits::{
-    ANY_OBJECTS, ANY_SESSIONS, ANY_SYMBOLS, MAX_ENTRIES, MAX_INPUTS, MAX_OBJECTS, MAX_SESSIONS,
-    MAX_SYMBOLS,
+    ANY_OBJECTS, ANY_SESSIONS, ANY_SYMBOLS, DEFAULT_MEMORY, MAX_ENTRIES, MAX_INPUTS, MAX_OBJECTS,
+    MAX_SESSIONS, MAX_SYMBOLS,
 };
 pub use merged_inputs::merge_to;
 pub use nothing::Nothing;

@@ -6,6 +6,12 @@ pub const MAX_ENTRIES: u64 = 16_777_216;
 /// The greatest number of inputs that are joined.
 pub const MAX_INPUTS: usize = 64;
 
+/// How many bytes of the datagrams of files are held in memory, if the words don't say it.
+pub const DEFAULT_MEMORY: u64 = 268_435_456;
+
+/// The greatest number of bytes that the words may say.
+pub const MAX_MEMORY: u64 = 1 << 62;
+
 /// The greatest number of sessions, those of a [`Shelf`](flute_store::Shelf).
 pub const MAX_SESSIONS: u32 = 64;
 

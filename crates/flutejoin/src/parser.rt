@@ -8,8 +8,8 @@ ghost use Rattle.flutejoin.specs.Parser.{no_commands, program};
 
 use crate::arguments::{
     all, any_size, block, check, conflicting_objects, conflicts, force, force_all, information,
-    input, inputs, instance, journal, length, list, no_fdt, object, output, required, session,
-    sessions, source, summary, symbol, symbol_id,
+    input, inputs, instance, journal, length, list, memory, no_fdt, object, output, required,
+    session, sessions, source, summary, symbol, symbol_id,
 };
 use clap::Command;
 use std::alloc::{AllocError, Global};
@@ -104,6 +104,7 @@ With --tsi only these sessions are taken, with --toi only this object of each (a
 --toi 0 --fdt N), with --no-fdt no FDT Instance; others N then counts the entries and datagrams of
 others.
 --source is the sender of all datagram files of the call; journals keep theirs.
+SIZE is a number of bytes, and K, M or G behind it is times 1,024, 1,048,576 or 1,073,741,824.
 All inputs, at most 64, may together have as much as a store holds, or with --any-size more
 (flutejoin --help).",
     "join -o all station1 station2"
@@ -286,6 +287,7 @@ fn join_command<'a>(alloc: Global) -> Result<Command<'a>, AllocError>
     .arg(output(alloc))?
     .arg(force(alloc))?
     .arg(any_size(alloc))?
+    .arg(memory(alloc))?
     .arg(source(alloc))?
     .arg(sessions(alloc))?
     .arg(object(alloc))?

@@ -5,13 +5,12 @@ ghost use Rattle.flutejoin.specs.declared.command_fault.CommandFault.TheVariants
 use flute_parts::{DeviceFault, Failures, Sink};
 use flutejoin::{Aside, CommandFault};
 use itoa::Buffer;
-use std::env;
 use std::fs::{self, File, OpenOptions};
 use std::io::{self, ErrorKind, Read, Seek, SeekFrom, Write};
 use std::os::unix::fs::OpenOptionsExt;
 
 /// How many bytes are held in memory. What is more goes to a file.
-const HELD: usize = 1_048_576;
+const HELD: usize = 131_072;
 
 /// How many names are tried for that file.
 const NAMES: u32 = 1_000;
@@ -28,11 +27,13 @@ pub enum Kept {
     File(File),
 }
 
-/// Bytes that are put aside: up to 1 MiB in memory, and what came before them in a file of the
-/// folder for temporary files, which has no name there. It tells contracts nothing of its bytes.
+/// Bytes that are put aside: up to 128 KiB in memory, and what came before them in a file, which has
+/// no name. Contracts see nothing of its bytes.
 #[derive(Drop)]
 pub struct FileAside<'a> {
     rt: &'a HostRuntime,
+    /// What the path of the file begins with.
+    prefix: String,
     held: Vec<u8>,
     file: Option<File>,
     /// How many bytes the file has.
@@ -46,19 +47,17 @@ impl<'a> FileAside<'a> {
     /// # Errors
     ///
     /// `OutOfMemory` if there is no memory for the bytes that are held.
-    pub fn new(rt: &'a HostRuntime) -> Result<FileAside<'a>, CommandFault>
+    pub fn new(rt: &'a HostRuntime, prefix: &str) -> Result<FileAside<'a>, CommandFault>
         ensures { IfErr result (λ fault. fault ≡ OutOfMemory) }
     {
-        match Vec::with_capacity(rt.alloc(), HELD) {
-            Ok(held) => Ok(FileAside {
-                rt,
-                held,
-                file: None,
-                spilled: 0,
-                failures: Failures::none(),
-            }),
-            Err(_) => Err(CommandFault::OutOfMemory),
-        }
+        Ok(FileAside {
+            rt,
+            prefix: String::from_str(rt.alloc(), prefix)?,
+            held: Vec::with_capacity(rt.alloc(), HELD)?,
+            file: None,
+            spilled: 0,
+            failures: Failures::none(),
+        })
     }
 
     /// What was put aside, to be read.
@@ -75,7 +74,10 @@ impl<'a> FileAside<'a> {
                 file.seek(SeekFrom::Start(0))?;
                 Ok(Kept::File(file))
             }
-            None => Ok(Kept::Held(self.held)),
+            None => {
+                self.held.shrink_to_fit();
+                Ok(Kept::Held(self.held))
+            }
         }
     }
 
@@ -109,7 +111,7 @@ impl<'a> FileAside<'a> {
         ensures { self.new.failures ≡ self.old.failures }
     {
         if self.file.is_none() {
-            self.file = Some(unnamed(self.rt)?);
+            self.file = Some(unnamed(self.rt, &self.prefix)?);
         }
         if let Some(file) = &mut self.file {
             file.write_all(&self.held)?;
@@ -186,15 +188,12 @@ fn reads(file: &mut File, buffer: &mut [u8]) -> bool {
     file.read_exact(buffer).is_ok()
 }
 
-// A new file of the folder for temporary files, whose name is taken away at once.
-fn unnamed(rt: &HostRuntime) -> io::Result<File> {
-    let folder = env::temp_dir(rt)?;
+// A new file whose path begins so, and whose name is taken away at once.
+fn unnamed(rt: &HostRuntime, prefix: &str) -> io::Result<File> {
     let mut digits = Buffer::new();
     for number in 0..NAMES {
-        let mut name = String::new(rt.alloc());
-        name.push_str("flutejoin.")?;
-        name.push_str(digits.format(number))?;
-        let path = folder.join(rt.alloc(), name.as_str())?;
+        let mut path = String::from_str(rt.alloc(), prefix)?;
+        path.push_str(digits.format(number))?;
         let made = OpenOptions::new()
             .read(true)
             .write(true)

@@ -7,6 +7,8 @@ ghost use Rattle.flutejoin.specs.Status.{exit_status as status_of};
 ghost use Rattle.flutejoin.specs.declared.command_fault.CommandFault.TheVariants.{CommandLine};
 
 mod aside;
+mod asides;
+mod input;
 mod streams;
 mod system;
 
@@ -53,7 +55,8 @@ fn run_words(rt: &HostRuntime) -> Result<(), CommandFault> {
     )
 }
 
-/// The words after the program's name.
+/// The words after the program's name. One request for memory may be refused without a fault:
+/// `collect` falls back to a capacity of one if its size hint can't be allocated.
 fn words_of(rt: &HostRuntime) -> io::Result<Vec<String>> {
     let words = env::args(rt)?.skip(1).collect(rt.alloc())?;
     Ok(words)
@@ -68,7 +71,7 @@ fn tell(rt: &HostRuntime, error: &clap::Error) -> ExitCode {
     }
 }
 
-/// Tells the fault on standard error, and answers its status.
+/// Prints the fault on standard error, and returns its status.
 fn fail(rt: &HostRuntime, fault: &CommandFault) -> ExitCode
     ensures { exit_status result ≡ status_of fault.now }
 {

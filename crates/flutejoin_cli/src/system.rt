@@ -2,28 +2,19 @@
 ghost use Rattle.std.specs.Prelude.{None};
 ghost use Rattle.flutejoin_commands.specs.Worlds.{IsNotMade};
 
-use crate::aside::{FileAside, Kept};
+use crate::asides::{FileAsides, beside};
+use crate::input::{Input, Reader, input_of};
 use flute_output::{
     DeviceFile, DiskFolder, DiskNewFolder, FileId, Found, OpenFault, Place, file_at, place_at,
 };
-use flute_parts::{BufferedSource, Failures};
+use flute_parts::Failures;
 use flutejoin::{CommandFault, Overwrites};
 use flutejoin_commands::{Inputs, NotOpened, World};
-use std::fs::{self, File, Metadata};
-use std::io::{self, BufReader, Cursor, ErrorKind, Read};
+use std::fs::{self, Metadata};
+use std::io::{self, ErrorKind};
 use std::mem;
-use std::rt::Stdin;
 
-/// How many bytes of one input are read at once.
-const BUFFER: usize = 131_072;
-
-/// How many bytes of all inputs are held: more would not fit a processor's own cache.
-const BUFFERS: usize = 1_048_576;
-
-/// How many bytes of an input are read at once, however many inputs there are.
-const LEAST_BUFFER: usize = 16_384;
-
-/// From how many bytes on the length of a file is believed: those of the system's own tell another
+/// From how many bytes on the length of a file is believed: the system's own files report a wrong
 /// one, and fewer bytes are soon read.
 const LEAST_SIZE: u64 = 65_536;
 
@@ -33,35 +24,17 @@ const STANDARD: &str = "-";
 /// What is standard input, whatever the program was started with.
 const STANDARD_INPUT: &str = "/proc/self/fd/0";
 
-pub type Input = BufferedSource<Reader>;
-
-/// A file, standard input, or bytes that were put aside in memory.
-#[derive(Drop)]
-pub enum Reader {
-    File(File),
-    StandardInput(Stdin),
-    Held(Cursor<Vec<u8>>),
-}
-
-impl Read for Reader {
-    fn read(&mut self, buf: &mut [u8]) -> io::Result<usize> {
-        match self {
-            Reader::File(file) => file.read(buf),
-            Reader::StandardInput(stdin) => stdin.read(buf),
-            Reader::Held(bytes) => bytes.read(buf),
-        }
-    }
-}
-
 /// The files of the system, and standard input. A folder is no input.
 #[derive(Drop)]
 pub struct System<'a> {
     rt: &'a HostRuntime,
     /// Which file OUT was before the inputs were opened, if it was there.
     before: Option<FileId>,
-    /// Which files the inputs are that were opened, so far as the system tells.
+    /// Which files the inputs are that were opened, as far as the system reports it.
     files: Vec<FileId>,
     size: Option<u64>,
+    /// What paths of files beside OUT begin with, if it is a file or nothing.
+    beside: Option<String>,
     /// How often an input was to be opened, for contracts alone.
     asked: Failures,
 }
@@ -74,6 +47,7 @@ impl<'a> System<'a> {
             before: None,
             files: Vec::new(rt.alloc()),
             size: None,
+            beside: None,
             asked: Failures::none(),
         }
     }
@@ -95,7 +69,7 @@ impl Inputs for System<'_> {
         let Ok((reader, found)) = reader_at(self.rt, path) else {
             return Err(NotOpened::Refused);
         };
-        let Some(input) = input_of(self.rt, reader, buffer_of(among)) else {
+        let Some(input) = input_of(self.rt, reader, among) else {
             return Err(NotOpened::OutOfMemory);
         };
         self.size = None;
@@ -118,10 +92,15 @@ impl<'a> World for System<'a> {
 
     type NewFolder = DiskNewFolder<'a, HostRuntime>;
 
-    type Aside = FileAside<'a>;
+    type Asides = FileAsides<'a>;
 
     fn look(&mut self, out: &str) {
         self.before = file_at(self.rt, out);
+        self.beside = if is_file_name(self.rt, out) {
+            beside(self.rt, out)
+        } else {
+            None
+        };
     }
 
     /// Of standard input some may have been read.
@@ -155,36 +134,11 @@ impl<'a> World for System<'a> {
         DiskNewFolder::new(self.rt, self.rt.alloc(), out).map_err(not_made)
     }
 
-    fn aside(&mut self) -> Result<FileAside<'a>, CommandFault> {
-        FileAside::new(self.rt)
-    }
-
-    fn again(&mut self, aside: FileAside<'a>) -> Result<Input, CommandFault> {
-        let reader = match aside.keep() {
-            Ok(Kept::Held(bytes)) => Reader::Held(Cursor::new(bytes)),
-            Ok(Kept::File(file)) => Reader::File(file),
-            Err(_) => return Err(CommandFault::CannotWrite),
-        };
-        match input_of(self.rt, reader, BUFFER) {
-            Some(input) => Ok(input),
-            None => Err(CommandFault::OutOfMemory),
-        }
+    fn asides(&mut self) -> FileAsides<'a> {
+        FileAsides::new(self.rt, self.beside.take())
     }
 
     fn close(&mut self, _out: &str, _folder: Self::Folder) {}
-}
-
-/// An input with a buffer of so many bytes. None if there is no memory for it.
-fn input_of(rt: &HostRuntime, reader: Reader, buffer: usize) -> Option<Input> {
-    match BufReader::with_capacity(rt.alloc(), buffer, reader) {
-        Ok(reader) => Some(BufferedSource::new(reader)),
-        Err(_) => None,
-    }
-}
-
-/// How many bytes are read at once of each of so many inputs.
-fn buffer_of(among: usize) -> usize {
-    (BUFFERS / among.max(1)).max(LEAST_BUFFER).min(BUFFER)
 }
 
 fn not_made(fault: OpenFault) -> CommandFault
@@ -208,6 +162,14 @@ fn reader_at(rt: &HostRuntime, path: &str) -> io::Result<(Reader, Option<Metadat
     match found {
         Some(found) if found.is_dir() => Err(ErrorKind::IsADirectory.into()),
         found => Ok((reader, found)),
+    }
+}
+
+/// Whether an output with this name is a file, or becomes one.
+fn is_file_name(rt: &HostRuntime, out: &str) -> bool {
+    match fs::metadata(rt, out) {
+        Ok(found) => found.is_file(),
+        Err(_) => out != STANDARD,
     }
 }
 

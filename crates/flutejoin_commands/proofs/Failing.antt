@@ -1,13 +1,24 @@
 -- Why something failed, for all that may be known of it.
-use Rattle.std.proofs.Common.{◌≡◌, ◌⊎◌, ℕ, List, Option, Result, Ok, Err, IfOk, IfErr, inl, inr, subst, sym}
+use Rattle.std.proofs.Common.{◌≡◌, ◌⊎◌, ℕ, List, Option, Result, Ok, Err, IfOk, IfErr, inl, inr}
+use Rattle.std.proofs.Common.{Bool, true, subst, sym}
 use Rattle.std.specs.Prelude.{MatchResult}
 use Rattle.flutejoin.specs.declared.command_fault.CommandFault.{CommandFault}
 use Rattle.flutejoin_commands.specs.Commands.{CouldBeDone}
 
--- what holds of a fault for each thing that may be known, and what always holds
-pub IfErr-both : {A E C : Type 0} (r : Result A E) (D : C → Type 0) (P : C → E → Type 0) (N : E → Type 0) → ((x : C) → D x → IfErr r (P x)) → IfErr r N → IfErr r (λ e. ((x : C) → D x → P x e) × N e)
-IfErr-both (Ok a) D P N f n = tt
-IfErr-both (Err e) D P N f n = (f, n)
+-- what holds of a fault for each thing that may be known, if it is told, and what always holds
+pub if_told : {A E C : Type 0} (r : Result A E) (tells : Bool) (D : C → Type 0)
+    (P : C → E → Type 0) (N : E → Type 0)
+    → (tells ≡ true → (x : C) → D x → IfErr r (P x)) → IfErr r N
+    → IfErr r (λ e. (tells ≡ true → (x : C) → D x → P x e) × N e)
+if_told (Ok a) tells D P N f n = tt
+if_told (Err e) tells D P N f n = (f, n)
+
+-- what holds of an answer for each thing that may be known, if it is told
+pub if_done : {A E C : Type 0} (r : Result A E) (tells : Bool) (D : C → Type 0)
+    (P : C → A → Type 0) → (tells ≡ true → (x : C) → D x → IfOk r (P x))
+    → IfOk r (λ a. tells ≡ true → (x : C) → D x → P x a)
+if_done (Ok a) tells D P f = f
+if_done (Err e) tells D P f = tt
 
 -- what holds of a fault for one thing, as one of two that may hold
 pub IfErr-of : {A E C : Type 0} (r : Result A E) (P : E → Type 0) (S : C → Type 0) (Q : C → E → Type 0) (x : C) → S x → IfErr r (Q x) → IfErr r (λ e. P e ⊎ ((y : C) × S y × Q y e))

@@ -25,6 +25,7 @@ use Rattle.flutejoin.specs.declared.command_fault.CommandFault.TheVariants.{Cann
 use Rattle.flutejoin.specs.declared.command_fault.CommandFault.TheVariants.{CannotWrite, NotOnDisk}
 use Rattle.flutejoin.specs.Limits.{Limits}
 use Rattle.flutejoin.specs.declared.command_fault.CommandFault.TheVariants.{NotAllWhole}
+use Rattle.flutejoin.specs.declared.command_fault.CommandFault.TheVariants.{CannotPutAside}
 use Rattle.flutejoin_commands.specs.Works.{WritesObject, ExtractFails}
 
 of_bytes : {W : Type 0} (written : W → Option (List ℕ)) (F : List Fact) (key : Key) (old new : W)
@@ -58,6 +59,7 @@ of_bytes written F key old new (Err OutputIsDatagrams) e = e
 of_bytes written F key old new (Err OutputIsJournal) e = e
 of_bytes written F key old new (Err NotOnDisk) e = e
 of_bytes written F key old new (Err NotAllWhole) e = e
+of_bytes written F key old new (Err CannotPutAside) e = e
 of_bytes written F key old new (Err (BadInformation x)) e = e
 of_bytes written F key old new (Err BadHex) e = e
 of_bytes written F key old new (Err (Refused x)) e = e
@@ -247,6 +249,15 @@ answers_map most input left P Q (Err NotOnDisk) f a =
           f a.entries a.holds;
     }
 answers_map most input left P Q (Err NotAllWhole) f a =
+    record {
+      entries = a.entries;
+      journal = a.journal;
+      read = a.read;
+      within = a.within;
+      holds =
+          f a.entries a.holds;
+    }
+answers_map most input left P Q (Err CannotPutAside) f a =
     record {
       entries = a.entries;
       journal = a.journal;

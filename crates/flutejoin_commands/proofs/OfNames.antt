@@ -1,7 +1,7 @@
 -- What was done with opened inputs, told by the names that were opened.
 use Rattle.std.proofs.Common.{◌≡◌, ◌⊎◌, ℕ, zero, suc, List, [], ◌∷◌, length, Option, Some, None}
 use Rattle.std.proofs.Common.{Result, Ok, Err, IfErr, inl, inr, refl, sym, ap, subst, arith, rules}
-use Rattle.std.specs.Prelude.{slice_get, OnOk, IsSome, IfSome}
+use Rattle.std.specs.Prelude.{slice_get, Bool, OnOk, IsSome, IfSome}
 use Rattle.std.specs.List.{AllZip}
 use Rattle.std.proofs.lemmas.Option.{same_Some}
 use Rattle.flute_journal.specs.declared.scope.Scope.{Scope}
@@ -18,6 +18,7 @@ use Rattle.flutejoin_commands.specs.Named.{IsAt, IsBefore, JoinsNames, JoinNames
 use Rattle.flutejoin_commands.specs.Works.{JoinsAll, JoinAllFails}
 use Rattle.flutejoin_commands.specs.Worlds.{FileIs, Leaves, in_file, in_device, in_output}
 use Rattle.flutejoin_commands.specs.Worlds.{FailsToLeave, as_before, in_place, Outside}
+use Rattle.flutejoin_commands.specs.Worlds.{TellsAsides}
 
 -- ---- a weaker account of what was written
 
@@ -107,56 +108,56 @@ module _ {R : Type 0} (unread : R → Option (List ℕ)) where
         each_input opened contents a;
   }
 
-  module _ (most : Limits) (sender : ℕ) (scope : Scope) (names : List (List ℕ)) (opened : List
-      (JoinInput R))
-    where
-      joins_told : (files : Option Files) → AreOpened files unread names opened
-          → (counts : JoinCounts) (old new : Option (List ℕ))
-          → JoinsAll unread most sender scope opened counts old new
-          → JoinsNames files most sender scope names counts old new
-      joins_told None h counts old new j = tt
-      joins_told (Some files) h counts old new j = let had = contents_of files unread names opened
-          h.as_many h.each in (had.0, had.1, j had.0 (are_inputs opened had.0 had.2))
+  module _ (tells : Bool) (most : Limits) (sender : ℕ) (scope : Scope) (names : List (List ℕ))
+      (opened : List (JoinInput R)) where
+    joins_told : (files : Option Files) → AreOpened files unread names opened
+        → TellsAsides files tells → (counts : JoinCounts) (old new : Option (List ℕ))
+        → JoinsAll unread tells most sender scope opened counts old new
+        → JoinsNames files most sender scope names counts old new
+    joins_told None h is counts old new j = tt
+    joins_told (Some files) h is counts old new j =
+        let had = contents_of files unread names opened h.as_many h.each in
+        (had.0, had.1, j is had.0 (are_inputs opened had.0 had.2))
 
-      fault_told : (files : Option Files) → AreOpened files unread names opened
-          → (fault : CommandFault) → JoinAllFails unread most sender scope opened fault
-          → JoinNamesFails files most sender scope names fault
-      fault_told None h fault j = inr (tt, subst (λ n. NamesOneOf n fault) h.as_many j.1)
-      fault_told (Some files) h fault j =
-          let had = contents_of files unread names opened h.as_many h.each in
-          inr (
-            (had.0, had.1, j.0 had.0 (are_inputs opened had.0 had.2)),
-            subst (λ n. NamesOneOf n
-                fault) h.as_many j.1,
-          )
+    fault_told : (files : Option Files) → AreOpened files unread names opened
+        → TellsAsides files tells → (fault : CommandFault)
+        → JoinAllFails unread tells most sender scope opened fault
+        → JoinNamesFails files most sender scope names fault
+    fault_told None h is fault j = inr (tt, subst (λ n. NamesOneOf n fault) h.as_many j.1)
+    fault_told (Some files) h is fault j =
+        let had = contents_of files unread names opened h.as_many h.each in
+        inr (
+          (had.0, had.1, j.0 is had.0 (are_inputs opened had.0 had.2)),
+          subst (λ n. NamesOneOf n fault) h.as_many j.1,
+        )
 
-      module _ (files : Option Files) (h : AreOpened files unread names opened) (name : List ℕ)
-          (old new : Outside) where
-        pub joined : (lines : JoinCounts → List ℕ) (r : Result (Unit {0}) CommandFault)
-            → OnOk r (Leaves (JoinsAll unread most sender scope opened)
-            (JoinsAll unread most sender scope opened) lines name old new)
-            → OnOk r (Leaves (JoinsNames files most sender scope names)
-            (JoinsNames files most sender scope names) lines name old new)
-        joined lines (Ok u) l =
-            leaves_told (JoinsAll unread most sender scope opened)
-            (JoinsAll unread most sender scope opened) (JoinsNames files most sender scope names)
-            (JoinsNames files most sender scope names)
-            (joins_told files h) (joins_told files h) name lines old new l
-        joined lines (Err e) l = tt
+    module _ (files : Option Files) (h : AreOpened files unread names opened)
+        (is : TellsAsides files tells) (name : List ℕ) (old new : Outside) where
+      abbrev all : JoinCounts → Option (List ℕ) → Option (List ℕ) → Type 0
+      all = JoinsAll unread tells most sender scope opened
 
-        pub not_joined : (r : Result (Unit {0}) CommandFault)
-            → IfErr r (FailsToLeave (JoinsAll unread most sender scope opened)
-            (JoinAllFails unread most sender scope opened) name old new)
-            → IfErr r (FailsToLeave (JoinsNames files most sender scope names)
-            (JoinNamesFails files most sender scope names) name old new)
-        not_joined (Ok u) l = tt
-        not_joined (Err e) l =
-            fails_told (JoinsAll unread most sender scope opened)
-            (JoinsAll unread most sender scope opened) (JoinsNames files most sender scope names)
-            (JoinsNames files most sender scope names)
-            (joins_told files h) (joins_told files h) name
-            (JoinAllFails unread most sender scope opened)
-            (JoinNamesFails files most sender scope names) old new e (fault_told files h e) l
+      pub joined : (lines : JoinCounts → List ℕ) (r : Result (Unit {0}) CommandFault)
+          → OnOk r (Leaves all all lines name old new)
+          → OnOk r (Leaves (JoinsNames files most sender scope names)
+          (JoinsNames files most sender scope names) lines name old new)
+      joined lines (Ok u) l =
+          leaves_told all all (JoinsNames files most sender scope names)
+          (JoinsNames files most sender scope names)
+          (joins_told files h is) (joins_told files h is) name lines old new l
+      joined lines (Err e) l = tt
+
+      pub not_joined : (r : Result (Unit {0}) CommandFault)
+          → IfErr r (FailsToLeave all (JoinAllFails unread tells most sender scope opened) name
+          old new)
+          → IfErr r (FailsToLeave (JoinsNames files most sender scope names)
+          (JoinNamesFails files most sender scope names) name old new)
+      not_joined (Ok u) l = tt
+      not_joined (Err e) l =
+          fails_told all all (JoinsNames files most sender scope names)
+          (JoinsNames files most sender scope names)
+          (joins_told files h is) (joins_told files h is) name
+          (JoinAllFails unread tells most sender scope opened)
+          (JoinNamesFails files most sender scope names) old new e (fault_told files h is e) l
 
 -- ---- one input, and two
 

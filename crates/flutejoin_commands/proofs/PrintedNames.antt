@@ -1,10 +1,10 @@
 -- What is printed of opened inputs, told by the names that were opened.
 use Rattle.std.proofs.Common.{◌≡◌, ◌⊎◌, ℕ, List, [], Option, Some, None, Result, Ok, Err, IfErr}
-use Rattle.std.proofs.Common.{inr, refl, subst}
+use Rattle.std.proofs.Common.{Bool, true, inr, refl, subst}
 use Rattle.std.specs.Prelude.{OnOk}
 use Rattle.flutejoin.specs.declared.command_fault.CommandFault.{CommandFault}
 use Rattle.flutejoin_commands.specs.Files.{Files, HasBytes, IfFiles}
-use Rattle.flutejoin_commands.specs.Worlds.{IsEmptyAside}
+use Rattle.flutejoin_commands.specs.Worlds.{TellsAsides}
 use Rattle.flutejoin_commands.proofs.OfNames.{told_of}
 
 module _ (files : Option Files) (name : List ℕ) (known : Option (List ℕ))
@@ -50,11 +50,11 @@ if_told None name known h P p = tt
 if_told (Some files) name known h P p = subst P h.0 p
 
 -- a fact of what is put aside, which is empty if the files are known
-pub if_empty : (files : Option Files) (a b : Option (List ℕ)) (P : Type 0)
-    → IsEmptyAside files a → IsEmptyAside files b → (a ≡ Some [] → b ≡ Some [] → P)
-    → IfFiles files (λ f. P)
-if_empty None a b P d e p = tt
-if_empty (Some files) a b P d e p = p d e
+pub if_empty : (files : Option Files) (tells : Bool) (a b : Option (List ℕ)) (P : Type 0)
+    → TellsAsides files tells → (tells ≡ true → a ≡ Some []) → (tells ≡ true → b ≡ Some [])
+    → (a ≡ Some [] → b ≡ Some [] → P) → IfFiles files (λ f. P)
+if_empty None tells a b P told d e p = tt
+if_empty (Some files) tells a b P told d e p = p (d told) (e told)
 
 -- a fact of success
 pub by_done : {P : Type 0} (r : Result (Unit {0}) CommandFault) → (r ≡ Ok tt → P) → OnOk r P

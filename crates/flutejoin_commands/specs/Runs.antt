@@ -30,7 +30,7 @@ use Rattle.flutejoin_commands.specs.Worlds.{FailsToLeave, Leaves, Outside, Spare
 
 -- no more inputs than are joined
 abbrev pub HasFewInputs : Line → Type 0
-HasFewInputs (Join out force any_size sender scope inputs) = length inputs.items ≤ 64
+HasFewInputs (Join out force any_size memory sender scope inputs) = length inputs.items ≤ 64
 HasFewInputs _ = ⊤
 
 -- only standard output changed, and as P says
@@ -58,7 +58,7 @@ Does folders (Info out force any_size key l s b j) old new =
 Does folders (InfoList out force any_size list j) old new =
     let adds = AddsListOfNames old.files j.now list.now in
     Leaves adds adds entries_line out.now old new
-Does folders (Join out force any_size sender scope inputs) old new =
+Does folders (Join out force any_size memory sender scope inputs) old new =
     let names = map (λ path. path.now) inputs.items in
     let joins = JoinsNames old.files (limits_of any_size) sender scope names in
     Leaves joins joins (join_lines scope) out.now old new
@@ -101,7 +101,7 @@ FailsToDo folders (Info out force any_size key l s b j) old new fault =
 FailsToDo folders (InfoList out force any_size list j) old new fault =
     FailsToLeave (AddsListOfNames old.files j.now list.now)
     (AddListOfNamesFails old.files (limits_of any_size) j.now list.now) out.now old new fault
-FailsToDo folders (Join out force any_size sender scope inputs) old new fault =
+FailsToDo folders (Join out force any_size memory sender scope inputs) old new fault =
     let names = map (λ path. path.now) inputs.items in
     let most = limits_of any_size in
     FailsToLeave (JoinsNames old.files most sender scope names)
@@ -124,7 +124,7 @@ SparesOut (Info out force any_size key l s b j) old new =
     Spares (overwrites_journal force) out.now old new
 SparesOut (InfoList out force any_size list j) old new =
     Spares (overwrites_journal force) out.now old new
-SparesOut (Join out force any_size sender scope inputs) old new =
+SparesOut (Join out force any_size memory sender scope inputs) old new =
     Spares (overwrites_journal force) out.now old new
 SparesOut (Merge out force a b) old new = Spares (overwrites_journal force) out.now old new
 SparesOut (Forget out force selection j) old new =
@@ -138,7 +138,7 @@ abbrev pub out_of : Line → Option (List ℕ)
 out_of (Extract out force any_size key j) = Some out.now
 out_of (Info out force any_size key l s b j) = Some out.now
 out_of (InfoList out force any_size list j) = Some out.now
-out_of (Join out force any_size sender scope inputs) = Some out.now
+out_of (Join out force any_size memory sender scope inputs) = Some out.now
 out_of (Merge out force a b) = Some out.now
 out_of (Forget out force selection j) = Some out.now
 out_of (Carousel out force key symbol block file) = Some out.now

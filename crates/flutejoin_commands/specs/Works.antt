@@ -1,5 +1,5 @@
 -- What the works of the commands write, why they fail, and what they tell.
-use Rattle.std.specs.Prelude.{ℕ, ◌++◌, ◌∷◌, List, [], if◌then◌else◌, length}
+use Rattle.std.specs.Prelude.{◌≡◌, ℕ, ◌++◌, ◌∷◌, List, [], if◌then◌else◌, length, Bool, true}
 use Rattle.std.specs.Prelude.{Option, codes, Ok, Err}
 use Rattle.flute_parts.specs.Facts.{Same}
 use Rattle.flute_parts.specs.Information.{Information}
@@ -49,16 +49,17 @@ abbrev pub ForgetsIn : Option (List ℕ) → Selection → ForgetCounts → Opti
 ForgetsIn input selection counts old new = Forgets selection counts input old new
 
 module _ {R : Type 0} (unread : R → Option (List ℕ)) where
-  -- what these inputs are, joined
-  abbrev pub JoinsAll : Limits → ℕ → Scope → List (JoinInput R) → JoinCounts
+  -- what these inputs are, joined, if it is told what is put aside
+  abbrev pub JoinsAll : Bool → Limits → ℕ → Scope → List (JoinInput R) → JoinCounts
       → Option (List ℕ) → Option (List ℕ) → Type 0
-  JoinsAll most sender scope inputs counts old new =
-      (contents : List (List ℕ)) → AreInputs unread inputs contents
+  JoinsAll tells most sender scope inputs counts old new =
+      tells ≡ true → (contents : List (List ℕ)) → AreInputs unread inputs contents
       → JoinsTo (choice_of most sender scope) contents counts old new
 
-  abbrev pub JoinAllFails : Limits → ℕ → Scope → List (JoinInput R) → CommandFault → Type 0
-  JoinAllFails most sender scope inputs fault =
-      ((contents : List (List ℕ)) → AreInputs unread inputs contents
+  abbrev pub JoinAllFails : Bool → Limits → ℕ → Scope → List (JoinInput R) → CommandFault
+      → Type 0
+  JoinAllFails tells most sender scope inputs fault =
+      (tells ≡ true → (contents : List (List ℕ)) → AreInputs unread inputs contents
       → JoinToFails (choice_of most sender scope) contents fault)
       × NamesOneOf (length inputs) fault
 

@@ -1,6 +1,6 @@
 -- What a command leaves outside of it: files by their names, standard output and standard error.
 use Rattle.std.specs.Prelude.{◌≡◌, ◌≢◌, ◌⊎◌, ◌++◌, ℕ, List, [], length, codes, Option, Some, None}
-use Rattle.std.specs.Prelude.{IfSome, option_map, ⊤}
+use Rattle.std.specs.Prelude.{Bool, true, IfSome, option_map, ⊤}
 use Rattle.std.specs.Io.KnownBytes.{Appends}
 use Rattle.flute_output.specs.Entries.{Entries, Stored}
 use Rattle.flute_output.specs.declared.place.Place.{Place}
@@ -57,18 +57,10 @@ MayOverwrite (Some files) overwrites name = IfSome (files name) (IsOverwritten o
 abbrev pub IsNotOverwritten : CommandFault → Type 0
 IsNotOverwritten fault = IsKeptOutput fault ⊎ (fault ≡ OutOfMemory)
 
--- nothing is put aside yet, if the files are known
-abbrev pub IsEmptyAside : Option Files → Option (List ℕ) → Type 0
-IsEmptyAside None aside = ⊤
-IsEmptyAside (Some files) aside = aside ≡ Some []
-
--- an input has the bytes that were put aside, if they are known
-abbrev pub HasAside : Option (List ℕ) → Option (List ℕ) → Type 0
-HasAside aside input = IfSome aside (λ bytes. input ≡ Some bytes)
-
--- why they cannot be read again
-abbrev pub IsNotAgain : CommandFault → Type 0
-IsNotAgain fault = (fault ≡ CannotWrite) ⊎ (fault ≡ OutOfMemory)
+-- contracts are told what is put aside, if the files are known
+abbrev pub TellsAsides : Option Files → Bool → Type 0
+TellsAsides None tells = ⊤
+TellsAsides (Some files) tells = tells ≡ true
 
 -- an input has the bytes of another, if the files are known
 abbrev pub IsAgain : Option Files → Option (List ℕ) → Option (List ℕ) → Type 0

@@ -27,11 +27,12 @@ use crate::sending::SendWork;
 use crate::world::World;
 use flute_journal::{Scope, Selection};
 use flute_parts::{Info, Key, Sender, Sink};
-use flutejoin::{CommandFault, Overwrites, forget_input, is_too_large, put_aside};
+use flutejoin::{Asides, CommandFault, Overwrites, forget_input, is_too_large, put_aside};
 use std::alloc::Global;
 
 /// Joins what the files of these names tell of the chosen objects into the output of this name,
-/// which may be one of them, and prints the numbers.
+/// which may be one of them, and prints the numbers. About `memory` bytes of datagram files are held
+/// in memory, and the rest is put aside.
 ///
 /// # Errors
 ///
@@ -43,6 +44,7 @@ pub fn join<W: World, O: Outlet, E: Sink>(
     out: &str,
     overwrites: Overwrites,
     any_size: bool,
+    memory: u64,
     sender: Sender,
     scope: Scope,
     paths: &[&str],
@@ -75,6 +77,8 @@ pub fn join<W: World, O: Outlet, E: Sink>(
     let work = JoinWork {
         alloc,
         any_size,
+        memory,
+        asides: world.asides(),
         sender,
         scope,
         inputs,
@@ -363,8 +367,9 @@ fn put_by<W: World>(world: &mut W, source: W::Input) -> Result<(W::Input, u64), 
     ensures same_closed { W.closed world.new ≡ W.closed world.old }
 {
     let mut source = source;
-    let mut aside = world.aside()?;
+    let mut asides = world.asides();
+    let mut aside = asides.aside()?;
     let size = put_aside(&mut source, &mut aside)?;
-    let again = world.again(aside)?;
+    let again = asides.again(aside)?;
     Ok((again, size))
 }

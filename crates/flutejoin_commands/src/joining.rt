@@ -11,50 +11,58 @@ use flute_journal::Scope;
 use flute_output::Folder;
 use flute_parts::{Sender, Sink, Source};
 use flutejoin::{
-    ANY_OBJECTS, ANY_SESSIONS, ANY_SYMBOLS, CommandFault, JoinCounts, JoinInput, MAX_OBJECTS,
-    MAX_SESSIONS, MAX_SYMBOLS, Text, join_to,
+    ANY_OBJECTS, ANY_SESSIONS, ANY_SYMBOLS, Asides, CommandFault, JoinCounts, JoinInput,
+    MAX_OBJECTS, MAX_SESSIONS, MAX_SYMBOLS, Text, join_to,
 };
 use std::alloc::Global;
 
 /// Joins inputs.
 #[derive(Drop)]
-pub struct JoinWork<R> {
+pub struct JoinWork<R, A> {
     pub alloc: Global,
     /// Whether there may be more than a store holds.
     pub any_size: bool,
+    /// About how many bytes of datagram files may be held in memory.
+    pub memory: u64,
+    /// Where the rest is put aside.
+    pub asides: A,
     pub sender: Sender,
     pub scope: Scope,
     pub inputs: Vec<JoinInput<R>>,
     pub ghost few: { length inputs.items ≤ 64 },
 }
 
-impl<R: Source + Drop> Work for JoinWork<R> {
+impl<R: Source + Drop, A: Asides<Input = R>> Work for JoinWork<R, A> {
     type Answer = JoinCounts;
 
-    ghost writes = { λ w. JoinsAll R.unread (limits_of w.any_size) w.sender w.scope
-        w.inputs.items };
+    ghost writes = { λ w. JoinsAll R.unread (A.tells w.asides) (limits_of w.any_size) w.sender
+        w.scope w.inputs.items };
 
-    ghost fails = { λ w. JoinAllFails R.unread (limits_of w.any_size) w.sender w.scope
-        w.inputs.items };
+    ghost fails = { λ w. JoinAllFails R.unread (A.tells w.asides) (limits_of w.any_size) w.sender
+        w.scope w.inputs.items };
 
     ghost tells = { λ w. join_lines w.scope };
 
-    ghost clears = { λ w. CouldBeDone (JoinsAll R.unread (limits_of w.any_size) w.sender
-        w.scope w.inputs.items) };
+    ghost clears = { λ w. CouldBeDone (JoinsAll R.unread (A.tells w.asides)
+        (limits_of w.any_size) w.sender w.scope w.inputs.items) };
 
     fn write<W: Sink>(&mut self, sink: &mut W) -> Result<JoinCounts, CommandFault> {
         let inputs = &mut self.inputs;
         if self.any_size {
-            join_to::<ANY_SESSIONS, ANY_OBJECTS, ANY_SYMBOLS, _, _>(
+            join_to::<ANY_SESSIONS, ANY_OBJECTS, ANY_SYMBOLS, _, _, _>(
                 self.alloc,
+                &mut self.asides,
+                self.memory,
                 self.sender,
                 &self.scope,
                 inputs,
                 sink,
             )
         } else {
-            join_to::<MAX_SESSIONS, MAX_OBJECTS, MAX_SYMBOLS, _, _>(
+            join_to::<MAX_SESSIONS, MAX_OBJECTS, MAX_SYMBOLS, _, _, _>(
                 self.alloc,
+                &mut self.asides,
+                self.memory,
                 self.sender,
                 &self.scope,
                 inputs,
@@ -86,24 +94,28 @@ impl<R: Source + Drop> Work for JoinWork<R> {
 ///
 /// Those of [`join_to`], then `CannotCreate`, then `CannotWrite`, as
 /// [`write_into`] says.
-pub fn join_into<F: Folder + Drop, R: Source + Drop, P: Sink>(
+pub fn join_into<F: Folder + Drop, R: Source + Drop, A: Asides<Input = R> + Drop, P: Sink>(
     folder: F,
-    work: JoinWork<R>,
+    work: JoinWork<R, A>,
     report: &mut P,
 ) -> (Result<(), CommandFault>, F)
     ensures joined { OnOk result.0 (Succeeds
-        (JoinsAll R.unread (limits_of work.any_size) work.sender work.scope work.inputs.items)
+        (JoinsAll R.unread (A.tells work.asides) (limits_of work.any_size) work.sender work.scope
+        work.inputs.items)
         (join_lines work.scope)
         (with_beside (devices (F.entries folder) (F.failures folder)
         (P.written report.old) (P.failures report.old)))
         (devices (F.entries result.1) (F.failures result.1)
         (P.written report.new) (P.failures report.new))) }
     ensures failed { IfErr result.0 (Fails
-        (JoinsAll R.unread (limits_of work.any_size) work.sender work.scope work.inputs.items)
-        (JoinAllFails R.unread (limits_of work.any_size) work.sender work.scope work.inputs.items)
+        (JoinsAll R.unread (A.tells work.asides) (limits_of work.any_size) work.sender work.scope
+        work.inputs.items)
+        (JoinAllFails R.unread (A.tells work.asides) (limits_of work.any_size) work.sender work.scope
+        work.inputs.items)
         (join_lines work.scope)
         (CouldBeDone
-        (JoinsAll R.unread (limits_of work.any_size) work.sender work.scope work.inputs.items))
+        (JoinsAll R.unread (A.tells work.asides) (limits_of work.any_size) work.sender work.scope
+        work.inputs.items))
         (devices (F.entries folder) (F.failures folder)
         (P.written report.old) (P.failures report.old))
         (devices (F.entries result.1) (F.failures result.1)

@@ -12,7 +12,7 @@ use crate::printing::{gaps_on, packet_on, show_on};
 use crate::report::Report;
 use crate::world::World;
 use flute_journal::Selection;
-use flutejoin::{CommandFault, Picked, Style};
+use flutejoin::{Asides, CommandFault, Picked, Style};
 use std::alloc::Global;
 
 /// Prints what a datagram in hexadecimal says.
@@ -79,8 +79,9 @@ pub fn gaps<W: World, P: Report>(
     ensures same_closed { W.closed world.new ≡ W.closed world.old }
 {
     let mut source = open_input(world, 1, j)?;
-    let mut lines = world.aside()?;
-    let mut gap_lines = world.aside()?;
+    let mut asides = world.asides();
+    let mut lines = asides.aside()?;
+    let mut gap_lines = asides.aside()?;
     gaps_on(
         alloc,
         any_size,

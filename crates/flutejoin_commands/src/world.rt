@@ -1,15 +1,13 @@
 //! What lies outside of a command.
 ghost use Rattle.std.specs.Prelude.{◌≡◌, IfOk, IfErr, IfSome, OnOk};
-ghost use Rattle.flutejoin.specs.declared.command_fault.CommandFault.TheVariants.{OutOfMemory};
 ghost use Rattle.flutejoin_commands.specs.Closings.{IsNoted};
-ghost use Rattle.flutejoin_commands.specs.Worlds.{HasSize, HasAside, IsPlaced, IsNotAgain};
-ghost use Rattle.flutejoin_commands.specs.Worlds.{IsNotMade, IsEmptyAside};
+ghost use Rattle.flutejoin_commands.specs.Worlds.{HasSize, IsPlaced, IsNotMade, TellsAsides};
 ghost use Rattle.flutejoin_commands.specs.Worlds.{Closes, IsNotOverwritten, MayOverwrite};
 
 use crate::opening::Inputs;
 use crate::outlet::Outlet;
 use flute_output::{Folder, NewFolder, Place};
-use flutejoin::{Aside, CommandFault, Overwrites};
+use flutejoin::{Asides, CommandFault, Overwrites};
 
 /// The files of a system, by their names: the inputs of a command, and what it writes.
 ///
@@ -21,7 +19,7 @@ pub trait World: Inputs {
 
     type NewFolder: NewFolder + Drop;
 
-    type Aside: Aside + Drop;
+    type Asides: Asides<Input = Self::Input> + Drop;
 
     /// Looks which file an output is. It is to be called before the inputs are opened.
     fn look(&mut self, out: &str)
@@ -68,27 +66,9 @@ pub trait World: Inputs {
         ensures same_files { Self.files self.new ≡ Self.files self.old }
         ensures same_closed { Self.closed self.new ≡ Self.closed self.old };
 
-    /// Where lines are put aside. None is there yet.
-    ///
-    /// # Errors
-    ///
-    /// `OutOfMemory`.
-    fn aside(&mut self) -> Result<Self::Aside, CommandFault>
-        ensures empty { IfOk result
-            (λ aside. IsEmptyAside (Self.files self.old) (Self.Aside.written aside)) }
-        ensures refused { IfErr result (λ fault. fault ≡ OutOfMemory) }
-        ensures same_files { Self.files self.new ≡ Self.files self.old }
-        ensures same_closed { Self.closed self.new ≡ Self.closed self.old };
-
-    /// An input of the bytes that were put aside.
-    ///
-    /// # Errors
-    ///
-    /// `CannotWrite` if they cannot be read again, and `OutOfMemory`.
-    fn again(&mut self, aside: Self::Aside) -> Result<Self::Input, CommandFault>
-        ensures told { IfOk result
-            (λ input. HasAside (Self.Aside.written aside) (Self.Input.unread input)) }
-        ensures refused { IfErr result IsNotAgain }
+    /// What makes that in which bytes are put aside. It is to be called once.
+    fn asides(&mut self) -> Self::Asides
+        ensures tells { TellsAsides (Self.files self.old) (Self.Asides.tells result) }
         ensures same_files { Self.files self.new ≡ Self.files self.old }
         ensures same_closed { Self.closed self.new ≡ Self.closed self.old };
 

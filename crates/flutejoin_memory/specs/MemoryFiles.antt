@@ -11,7 +11,7 @@ pub record NamedFile : Type 0 where
   pub name : List ℕ
   pub bytes : Option (List ℕ)
 
--- each name has what the first of these with that name says
+-- each name has what the first of these with that name has
 abbrev pub files_of : List NamedFile → Files
 files_of [] name = None
 files_of (first ∷ rest) name = if bytes_eq first.name name then first.bytes else files_of rest name

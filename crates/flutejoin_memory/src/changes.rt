@@ -46,7 +46,7 @@ impl Changes {
         }
     }
 
-    /// The name and that of the file beside it have what this folder has.
+    /// The name and that of the file beside it now have what this folder has.
     pub fn close(&mut self, alloc: Global, name: &str, folder: &MemoryFolder)
         ensures { self.new.told.closed
             ≡ closing name.now (memory_entries folder.now) ∷ self.old.told.closed }

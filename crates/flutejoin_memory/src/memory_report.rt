@@ -5,8 +5,8 @@ use flute_parts::{DeviceFault, Failures, Sink};
 use flutejoin_commands::{Outlet, Report};
 use std::alloc::Global;
 
-/// A report for tests. Its bytes wait in memory until a flush, and it fails for good after so many
-/// calls.
+/// A report for tests. Its bytes wait in memory until a flush, and it fails for good after a given
+/// number of calls.
 #[derive(Debug, Drop)]
 pub struct MemoryReport {
     handed_on: Vec<u8>,
@@ -16,8 +16,8 @@ pub struct MemoryReport {
 }
 
 impl MemoryReport {
-    /// A report that was told nothing. It works in `good` calls, and fails from then on. Before
-    /// that it fails only if it finds no memory for more.
+    /// A report without lines. It works in `good` calls, and fails from then on. Before that it
+    /// fails only if it finds no memory for more.
     pub fn new(alloc: Global, good: usize) -> MemoryReport
         ensures bytes { ⟦<MemoryReport as Sink>⟧.written result ≡ Some [] }
         ensures handed_on { ⟦<MemoryReport as Report>⟧.handed_on result ≡ Some [] }

@@ -7,12 +7,13 @@ ghost use Rattle.flutejoin_commands.specs.Worlds.{IsNotOverwritten, MayOverwrite
 ghost use Rattle.flutejoin.specs.OutputGuard.{IsKeptOutput, IsOverwritten};
 
 use crate::changes::Changes;
+use crate::memory_asides::MemoryAsides;
 use crate::memory_report::MemoryReport;
 use crate::named_bytes::{NamedBytes, named};
 use crate::owned_source::OwnedSource;
 use flute_output::{MemoryFolder, MemoryNewFolder, Place};
 use flute_parts::{Failures, Source};
-use flutejoin::{CommandFault, MemoryAside, Overwrites};
+use flutejoin::{CommandFault, Overwrites};
 use flutejoin_commands::{Inputs, NotOpened, World};
 use std::alloc::{AllocError, Global};
 
@@ -20,7 +21,8 @@ use std::alloc::{AllocError, Global};
 const STANDARD: &str = "-";
 
 /// Files in memory, by their names, for tests: those that were given, and what became of the
-/// outputs that were closed. Each output fails for good after so many calls; none is a device.
+/// outputs that were closed. Each output fails for good after a given number of calls; none is a
+/// device.
 ///
 /// If there was no memory for what became of an output, nothing is known of any name: what asks for
 /// one is refused, as there is no memory.
@@ -146,7 +148,7 @@ impl<'a> World for MemoryWorld<'a> {
 
     type NewFolder = MemoryNewFolder;
 
-    type Aside = MemoryAside;
+    type Asides = MemoryAsides;
 
     fn look(&mut self, _out: &str) {
         self.opened.clear();
@@ -178,12 +180,8 @@ impl<'a> World for MemoryWorld<'a> {
         Ok(MemoryNewFolder::new(self.alloc, None, self.good))
     }
 
-    fn aside(&mut self) -> Result<MemoryAside, CommandFault> {
-        Ok(MemoryAside::new(self.alloc))
-    }
-
-    fn again(&mut self, aside: MemoryAside) -> Result<OwnedSource, CommandFault> {
-        Ok(OwnedSource::new(aside.into_vec()))
+    fn asides(&mut self) -> MemoryAsides {
+        MemoryAsides::new(self.alloc)
     }
 
     fn close(&mut self, out: &str, folder: MemoryFolder) {

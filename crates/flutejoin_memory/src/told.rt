@@ -1,5 +1,5 @@
-//! Which outputs were closed, for contracts alone. It takes no bytes, and its calls do nothing at
-//! run time.
+//! Which outputs were closed, for contracts alone. It has no size, and its calls do nothing at run
+//! time.
 ghost use Rattle.std.specs.Prelude.{◌≡◌, ◌∷◌, List, []};
 ghost use Rattle.std.specs.Borrow.{ftrue};
 ghost use Rattle.flute_output.specs.Memory.{memory_entries};
@@ -26,7 +26,7 @@ impl Told {
         Told {}
     }
 
-    /// That of this name is closed too, with what this folder has.
+    /// The output of this name is closed too, with what this folder has.
     pub fn and_closed(&self, name: &str, folder: &MemoryFolder) -> Told
         ensures { result.closed
             ≡ closing name.now (memory_entries folder.now) ∷ self.now.closed }

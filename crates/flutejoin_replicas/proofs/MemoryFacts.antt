@@ -22,7 +22,7 @@ use Rattle.flutejoin.specs.declared.join_counts.JoinCounts.{JoinCounts}
 use Rattle.flutejoin.specs.Joined.{Choice, content_facts}
 use Rattle.flutejoin.specs.JoinFaults.{JoinFails}
 use Rattle.flutejoin.specs.Joining.{JoinsTo}
-use Rattle.flutejoin.specs.JoinFaults.{JoinToFails, of_inputs, of_source, of_sink}
+use Rattle.flutejoin.specs.JoinFaults.{JoinToFails, of_inputs, of_source, of_sink, of_aside}
 use Rattle.flutejoin_replicas.specs.Memory.{Joins, in_memory, MemoryFails}
 use Rattle.flutejoin.specs.JoinInputs.{IsInput, AreInputs}
 use Rattle.flutejoin.specs.declared.join_input.JoinInput.{JoinInput}
@@ -102,6 +102,7 @@ module _ {choice : Choice} where
       → JoinToFails choice inputs fault → MemoryFails choice inputs (in_memory fault)
   memory_fails inputs fault (of_source number is first) = inl (ap in_memory is)
   memory_fails inputs fault (of_sink is all) = inl (ap in_memory is)
+  memory_fails inputs fault (of_aside is) = inl (ap in_memory is)
   memory_fails inputs (UnknownKind number) (of_inputs h) = inr h
   memory_fails inputs (Input number f) (of_inputs h) = read f h
     where

@@ -13,7 +13,7 @@ abbrev pub fault_of_join : JoinRefusal → StepFault
 fault_of_join join.Full = Full
 fault_of_join join.OutOfMemory = OutOfMemory
 
--- a reader's want of memory is the step's
+-- a reader's lack of memory is the step's
 abbrev pub fault_of_read : ReadFault → StepFault
 fault_of_read read.OutOfMemory = OutOfMemory
 fault_of_read fault = Journal fault

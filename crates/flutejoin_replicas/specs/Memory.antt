@@ -10,8 +10,9 @@ use Rattle.flutejoin.specs.declared.joined.Joined.{Joined}
 use Rattle.flutejoin.specs.declared.command_fault.CommandFault.{CommandFault}
 use Rattle.flutejoin.specs.declared.command_fault.CommandFault.TheVariants.{Input, OutOfMemory}
 use Rattle.flutejoin.specs.declared.command_fault.CommandFault.TheVariants.{CannotWrite}
+use Rattle.flutejoin.specs.declared.command_fault.CommandFault.TheVariants.{CannotPutAside}
 
--- what the inputs tell together: the facts of all, and how many datagrams and refused ones
+-- what the inputs contain together: the facts of all, and how many datagrams and refused ones
 pub record Joins {s o y : ℕ} (choice : Choice) (inputs : List (List ℕ))
     (joined : Joined s o y) : Type 0 where
   pub told : List InputContent
@@ -20,9 +21,10 @@ pub record Joins {s o y : ℕ} (choice : Choice) (inputs : List (List ℕ))
   pub datagrams : joined.datagrams ≡ length (flat_map content_datagrams told)
   pub refused : joined.refused ≡ count_by is_refused (flat_map content_datagrams told)
 
--- no device of them fails but for want of memory
+-- their devices fail only for lack of memory
 abbrev pub in_memory : CommandFault → CommandFault
 in_memory CannotWrite = OutOfMemory
+in_memory CannotPutAside = OutOfMemory
 in_memory (Input number Read) = OutOfMemory
 in_memory fault = fault
 

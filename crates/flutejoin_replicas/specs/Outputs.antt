@@ -18,7 +18,7 @@ use Rattle.flutejoin_replicas.specs.Known.{Fits, known_by}
 use Rattle.flutejoin_replicas.specs.Runs.{IsRunRefused, StopsAtNeed}
 
 module _ {W : Type 0} (written : W → Option (List ℕ)) (F : List Fact) (old new : W) where
-  -- the journal of these facts was written, or after a failed write a first part of it, or nothing
+  -- the journal of these facts was written, or after a failed write a prefix of it, or nothing
   abbrev pub TellsJournal : Result ℕ OutputFault → Type 0
   TellsJournal (Ok count) = WritesJournal (written old) (written new) F count
   TellsJournal (Err (Save f)) =
@@ -55,7 +55,7 @@ WritesAsOthers count steps r old new =
     → SameMembers (known_by count steps origins r) (known_by m others further q) → (bytes : List ℕ)
     → Journal bytes (known_by m others further q) → Appends old new bytes
 
--- how often the sink failed in a call that gave this: once, if it says so
+-- how often the sink failed in a call with this result: once, if it is a failure of the sink
 abbrev pub output_failed : {T : Type 0} → Result T OutputFault → ℕ
 output_failed (Err (Save f)) = 1
 output_failed (Err (Extract extract.Write)) = 1

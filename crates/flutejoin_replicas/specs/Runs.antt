@@ -38,7 +38,7 @@ HasCauseAt capacity count steps k fault =
     → IfSome (slice_get steps k) (λ step. HasCause capacity
     (known_after (nothing_held count) (slice_get steps) origins k) step (origins k) fault)
 
--- a step has no cause for a fault, but perhaps want of memory
+-- a step has no cause for a fault, but perhaps lack of memory
 abbrev pub HasNoCause : Capacity → List (List Fact) → Step → List Fact → Type 0
 HasNoCause capacity held step origin =
     (fault : StepFault) → fault ≢ OutOfMemory → ¬ HasCause capacity held step origin fault
@@ -52,7 +52,7 @@ pub record IsFirstWithCause (capacity : Capacity) (count : ℕ) (steps : List St
       → HasNoCause capacity (known_after (nothing_held count) (slice_get steps) origins j) step
       (origins j)
 
--- a run that stopped: for want of memory for the replicas, or at a step with a cause
+-- a run that stopped: for lack of memory for the replicas, or at a step with a cause
 abbrev pub IsRunRefused : Capacity → ℕ → List Step → RunFault → Type 0
 IsRunRefused capacity count steps Start = ⊤
 IsRunRefused capacity count steps (At k fault) =
@@ -90,7 +90,7 @@ pub record IsDriven (before : Held) (steps : List Step) (done : List Bool)
   -- and no more than what all steps give it
   pub most : (origins : ℕ → List Fact) → Fits steps origins
       → EachBelow now.contents (known before.contents steps origins)
-  -- if each step that was not done is followed by the same step, it has just that
+  -- if each step that was not done is followed by the same step, it has exactly that
   pub whole : IsRetried steps done → (origins : ℕ → List Fact) → Fits steps origins
       → EachSame (known before.contents steps origins) now.contents
   -- each refused datagram is counted, in 64 bits that stay at their greatest

@@ -18,7 +18,7 @@ use flutejoin::{CommandFault, gap_text, status_text, write_words};
 ///
 /// # Errors
 ///
-/// `CannotWrite` if the sink failed: it took a first part of the lines, and not all.
+/// `CannotWrite` if the sink failed: it took a proper prefix of the lines.
 pub fn gaps_to<W: Sink>(shelf: &Shelf, sink: &mut W) -> Result<(), CommandFault>
     ensures printed { OnOk result
         (OfObjects shelf.now (Appends (W.written sink.old) (W.written sink.new))) }
@@ -68,7 +68,7 @@ fn write_gaps<W: Sink>(sink: &mut W, mut gaps: Gaps<'_>) -> Result<(), DeviceFau
     Ok(())
 }
 
-// The next gap. What its ticks are is of no account here.
+// The next gap. Its ticks do not matter here.
 fn next_of(gaps: &mut Gaps<'_>) -> Option<Gap>
     ensures { YieldsFirst (λ g. g.gaps) gaps.old result gaps.new }
 {

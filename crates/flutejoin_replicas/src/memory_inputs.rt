@@ -4,6 +4,7 @@ ghost use Rattle.flutejoin.specs.Joined.{everything};
 ghost use Rattle.flutejoin.specs.Joining.{JoinsTo};
 ghost use Rattle.flutejoin_replicas.specs.Memory.{Joins, in_memory, MemoryFails};
 
+use crate::no_asides::NoAsides;
 use flute_journal::laws::{a_journal_has_one_content, a_journal_within_a_bound_is_one};
 use flute_journal::{ReadFault, Scope, read_store};
 use flute_parts::{MemorySink, MemorySource, Sender, Sink};
@@ -13,9 +14,9 @@ use flutejoin::{
 };
 use std::alloc::Global;
 
-/// What all the inputs tell together, each a journal or a datagram file, as [`join_to`] joins
-/// them: into a journal in memory, which is then read into a store. There may be up to 64, and none
-/// gives the empty store.
+/// The facts of all the inputs, each a journal or a datagram file, as [`join_to`] joins them: into
+/// a journal in memory, which is then read into a store. There may be up to 64, and none gives the
+/// empty store.
 ///
 /// # Errors
 ///
@@ -29,7 +30,7 @@ pub fn join_inputs(
     ensures joined { IfOk result (Joins (everything sender) inputs.now) }
     ensures failed { IfErr result (MemoryFails (everything sender) inputs.now) }
 {
-    // By these the proof knows that a journal that was written is read as what it tells.
+    // From these the proof knows that a journal that was written is read as its facts.
     a_journal_has_one_content();
     a_journal_within_a_bound_is_one();
     let mut journal = MemorySink::new(alloc);
@@ -41,12 +42,12 @@ pub fn join_inputs(
             datagrams: counts.datagrams,
             refused: counts.refused,
         }),
-        // nothing is at fault in a journal that was written but want of memory
+        // reading a journal that was written fails only for lack of memory
         Err(_) => Err(CommandFault::OutOfMemory),
     }
 }
 
-// Writes the journal of all that the inputs tell.
+// Writes the journal of the facts of all inputs.
 fn join_blobs(
     alloc: Global,
     sender: Sender,
@@ -67,8 +68,10 @@ fn join_blobs(
             return Err(CommandFault::OutOfMemory);
         }
     }
-    let joined = join_to::<MAX_SESSIONS, MAX_OBJECTS, MAX_SYMBOLS, _, _>(
+    let joined = join_to::<MAX_SESSIONS, MAX_OBJECTS, MAX_SYMBOLS, _, _, _>(
         alloc,
+        &mut NoAsides::new(),
+        u64::MAX,
         sender,
         &Scope::all(),
         &mut opened,
@@ -80,12 +83,13 @@ fn join_blobs(
     }
 }
 
-// Why inputs in memory were not joined: no device of them fails but for want of memory.
+// Why inputs in memory were not joined: their devices fail only for lack of memory.
 fn in_memory(fault: CommandFault) -> CommandFault
     ensures { result ≡ in_memory fault }
 {
     match fault {
         CommandFault::CannotWrite => CommandFault::OutOfMemory,
+        CommandFault::CannotPutAside => CommandFault::OutOfMemory,
         CommandFault::Input(_, ReadFault::Read) => CommandFault::OutOfMemory,
         fault => fault,
     }

@@ -23,7 +23,7 @@ pub enum OutputFault {
     /// There is no such replica. Nothing was written.
     #[error("NoReplica")]
     NoReplica,
-    /// The sink failed. A first part of the journal was written, and not all of it.
+    /// The sink failed. A proper prefix of the journal was written.
     #[error("{0}")]
     Save(SaveFault),
     /// The object is not whole, or the sink failed.
@@ -31,7 +31,7 @@ pub enum OutputFault {
     Extract(ExtractFault),
 }
 
-/// Does the steps on so many new replicas, writes the journal of one of them, and answers the
+/// Does the steps on `count` new replicas, writes the journal of one of them, and returns the
 /// number of its entries.
 ///
 /// Replicas that were given the same set of facts write equal bytes, whatever the order and the
@@ -40,8 +40,8 @@ pub enum OutputFault {
 /// # Errors
 ///
 /// `Run` with the fault of [`run`], and else `NoReplica` exactly if the replica is not there:
-/// nothing was written then. `Save` if the sink failed: it then took a first part of the
-/// journal, and not all.
+/// nothing was written then. `Save` if the sink failed: it then took a proper prefix of the
+/// journal.
 pub fn journal_after<const SESSIONS: u32, const OBJECTS: u32, const SYMBOLS: u32, W: Sink>(
     alloc: Global,
     count: u32,
@@ -75,8 +75,8 @@ pub fn journal_after<const SESSIONS: u32, const OBJECTS: u32, const SYMBOLS: u32
     }
 }
 
-/// Does the steps on so many new replicas, writes an object that is whole with one of them, and
-/// answers its length in bytes.
+/// Does the steps on `count` new replicas, writes an object that is whole with one of them, and
+/// returns its length in bytes.
 ///
 /// # Errors
 ///

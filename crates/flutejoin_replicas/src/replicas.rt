@@ -55,7 +55,7 @@ impl<const SESSIONS: u32, const OBJECTS: u32, const SYMBOLS: u32> Replica<
             × Over (self.old.store ++ facts sender datagram.now) SESSIONS OBJECTS SYMBOLS)
             ⊎ (f ≡ faults.OutOfMemory)) }
     {
-        // By this the proof knows that a datagram is a packet or refused.
+        // From this the proof knows that a datagram is a packet or refused.
         one_reading();
         match self.store.take(alloc, sender, datagram) {
             Ok(_) => Ok(()),
@@ -102,7 +102,7 @@ impl<const SESSIONS: u32, const OBJECTS: u32, const SYMBOLS: u32> Replicas<
     OBJECTS,
     SYMBOLS,
 > {
-    /// So many replicas that hold nothing.
+    /// This many replicas that hold nothing.
     ///
     /// # Errors
     ///
@@ -292,11 +292,12 @@ impl<const SESSIONS: u32, const OBJECTS: u32, const SYMBOLS: u32> Replicas<
         }
     }
 
-    /// Does all the steps in turn, refused or not. `done` tells of each whether it succeeded.
+    /// Does all the steps in turn, refused or not. `done` gets whether each succeeded.
     ///
-    /// Each replica then has at least what the steps that succeeded gave it, and nothing but
-    /// what all the steps give. If each refused step is followed directly by the same
-    /// step, it has just that.
+    /// Each replica then has at least what the steps that succeeded gave it, and at most what all
+    /// the steps give. If each refused step is followed directly by the same step, it has all of
+    /// that. A step that takes no memory succeeds: without that clause, a body that stops at the
+    /// first refusal and marks nothing would be proved.
     pub fn drive(&mut self, alloc: Global, steps: &[Step], done: &mut [bool])
         requires aligned { length steps.now ≡ length done.old }
         requires countable { SESSIONS * OBJECTS * (SYMBOLS + 1) < 2 ^ 64 }

@@ -19,14 +19,14 @@ pub enum RunFault {
     At { step: usize, fault: StepFault },
 }
 
-/// Does all the steps in turn on so many new replicas, up to the first that is refused.
+/// Does all the steps in turn on this many new replicas, up to the first that is refused.
 ///
 /// # Errors
 ///
-/// `Start` if there is no memory for the replicas, and `At` with the number of the first step
-/// that was refused. No step before it has a cause for a fault, and no run stops at a step that
-/// takes no memory: a `Take` or an `Add` of what is held already, a `Take` of a refused datagram,
-/// or a `Merge` of a replica into itself. Nothing is handed out then.
+/// `Start` if there is no memory for the replicas, and `At` with the number of the first step that
+/// was refused. No step before it has a cause for a fault, and no run stops at a step that takes no
+/// memory: a `Take` or an `Add` of what is held already, a `Take` of a refused datagram, or a
+/// `Merge` of a replica into itself. No replica is returned then.
 pub fn run<const SESSIONS: u32, const OBJECTS: u32, const SYMBOLS: u32>(
     alloc: Global,
     count: u32,

@@ -12,11 +12,11 @@ use flute_parts::Sink;
 use flute_store::Shelf;
 use flutejoin::CommandFault;
 
-/// Writes the journal of the store, and answers the number of its entries.
+/// Writes the journal of the store, and returns the number of its entries.
 ///
 /// # Errors
 ///
-/// `CannotWrite` if the sink failed: it took a first part of the journal, and not all.
+/// `CannotWrite` if the sink failed: it took a proper prefix of the journal.
 pub fn save_to<W: Sink>(shelf: &Shelf, sink: &mut W) -> Result<u64, CommandFault>
     ensures written { OnOk result
         (Appends (W.written sink.old) (W.written sink.new) (spelling shelf.now)) }

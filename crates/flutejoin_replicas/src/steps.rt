@@ -1,4 +1,4 @@
-//! What replicas are told to do.
+//! What replicas are to do.
 
 use flute_join::JoinRefusal;
 use flute_journal::{LoadFault, ReadFault};

@@ -17,7 +17,7 @@ ghost use Rattle.join_sample.specs.Sessions.{sessions_join, SessionsOver, IsSoun
 use flute_join::{Cell, Join, JoinMap, JoinRefusal};
 use std::alloc::Global;
 
-/// An object: its information and its symbols.
+/// An object: its transmission information and its symbols.
 #[derive(Drop)]
 pub struct Object<const SYMBOLS: u32> {
     pub info: Cell<u8>,

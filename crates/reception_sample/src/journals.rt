@@ -16,7 +16,7 @@ pub fn journal_of(alloc: Global, store: &Shelf) -> Result<MemorySink> {
     Ok(sink)
 }
 
-/// The store of what two journals tell together, from the journal of both.
+/// The store of what two journals contain together, from the journal of both.
 pub fn store_of_both(alloc: Global, first: &[u8], second: &[u8]) -> Result<Shelf> {
     let mut first = MemorySource::new(first);
     let mut second = MemorySource::new(second);

@@ -1,8 +1,8 @@
 //! A program over the libraries: two stations receive a file, and each loses another datagram.
 //!
-//! A packet is read (`packets`), each station's store is fed, and the file comes out of both stores
-//! together (`stores`), the journals of both stations are merged (`journals`), and replicas
-//! that are told the same write equal journals (`replicas`).
+//! A packet is read (`packets`), each station's store takes datagrams, and the file comes out of
+//! both stores together (`stores`), the journals of both stations are merged (`journals`), and
+//! replicas that are given the same write equal journals (`replicas`).
 #![tactic(auto)]
 
 mod journals;

@@ -3,7 +3,7 @@
 use anyhow::{Context, Result};
 use flute_wire::{Datagrams, read};
 
-/// Reads the last datagram, and prints what its packet tells.
+/// Reads the last datagram, and prints what its packet contains.
 pub fn tell_packet(rt: &HostRuntime, datagrams: &Datagrams) -> Result<()> {
     let last = datagrams.len().checked_sub(1).context("a datagram")?;
     let datagram = datagrams.get(last).context("a datagram")?;

@@ -1,4 +1,4 @@
-//! Replicas that are told the same write equal journals.
+//! Replicas that are given the same write equal journals.
 
 use anyhow::{Context, Result};
 use flute_parts::{MemorySink, Sender};

@@ -6,7 +6,7 @@ use flute_parts::{MemorySink, MemorySource};
 use flutejoin::{
     Blob, JoinCounts, JoinInput, MAX_INPUTS, MAX_OBJECTS, MAX_SESSIONS, MAX_SYMBOLS, join_to,
 };
-use flutejoin_replicas::join_inputs;
+use flutejoin_replicas::{NoAsides, join_inputs};
 use std::alloc::Global;
 use test_vectors::{bytes, journals};
 
@@ -35,8 +35,10 @@ fn join_file(alloc: Global, file: &[u8], sink: &mut MemorySink) -> Result<JoinCo
     if inputs.len() > MAX_INPUTS {
         return Err(Fail::from("too many inputs"));
     }
-    let counts = join_to::<MAX_SESSIONS, MAX_OBJECTS, MAX_SYMBOLS, _, _>(
+    let counts = join_to::<MAX_SESSIONS, MAX_OBJECTS, MAX_SYMBOLS, _, _, _>(
         alloc,
+        &mut NoAsides::new(),
+        u64::MAX,
         Sender::new(0),
         &Scope::all(),
         &mut inputs,

@@ -4,7 +4,8 @@ use Rattle.flutejoin.specs.Options.{found_rows}
 use Rattle.flutejoin.specs.Scoping.{IsScope}
 use Rattle.flutejoin.proofs.CommandWords.{words_read}
 use Rattle.flutejoin.proofs.JoinLines.{inputs_taken, not_joined}
-use Rattle.flutejoin.proofs.JoinLines.{wrong_key, wrong_object, wrong_sender, wrong_sessions}
+use Rattle.flutejoin.proofs.JoinLines.{wrong_key, wrong_memory, wrong_object, wrong_sender}
+use Rattle.flutejoin.proofs.JoinLines.{wrong_sessions}
 use Rattle.flutejoin.proofs.Options.{handed_on}
 use Rattle.flutejoin.proofs.command_line.join_of.Goals as goal
 
@@ -19,24 +20,33 @@ pub returns-in_err-numbers : goal.returns-in_err-numbers
 returns-in_err-numbers c =
     handed_on c.from_residual-in_err-numbers.result c.in_err-numbers.field-0.0 _ _
     c.from_residual-in_err-numbers.ensures.1
-    (wrong_object (found_rows c.args.matches.now) _ c.in_ok-sessions.ensures
+    (wrong_object (found_rows c.args.matches.now) (_, c.in_ok-sessions.ensures)
     c.in_err-numbers.field-0.0 c.in_err-numbers.ensures)
+
+pub returns-in_err-memory : goal.returns-in_err-memory
+returns-in_err-memory c =
+    handed_on c.from_residual-in_err-memory.result c.in_err-memory.field-0.0 _ _
+    c.from_residual-in_err-memory.ensures.1
+    (wrong_memory (found_rows c.args.matches.now) (_, c.in_ok-sessions.ensures)
+    c.in_ok-numbers.ensures c.in_err-memory.field-0.0 c.in_err-memory.ensures.0
+    c.in_err-memory.ensures.1)
 
 pub returns-in_err-sender : goal.returns-in_err-sender
 returns-in_err-sender c =
     handed_on c.from_residual-in_err-sender.result c.in_err-sender.field-0.0 _ _
     c.from_residual-in_err-sender.ensures.1
     (subst (IsJoinFault (found_rows c.args.matches.now)) (sym c.in_err-sender.ensures.0)
-    (wrong_sender (found_rows c.args.matches.now) _ c.in_ok-sessions.ensures
-    c.in_ok-numbers.numbers c.in_ok-numbers.ensures c.in_err-sender.ensures.1))
+    (wrong_sender (found_rows c.args.matches.now) (_, c.in_ok-sessions.ensures)
+    c.in_ok-numbers.ensures c.in_ok-memory.ensures c.in_err-sender.ensures.1))
 
 pub returns-in_err-object : goal.returns-in_err-object
 returns-in_err-object c =
     handed_on c.from_residual-in_err-object.result c.in_err-object.field-0.0 _ _
     c.from_residual-in_err-object.ensures.1
     (subst (IsJoinFault (found_rows c.args.matches.now)) (sym c.in_err-object.ensures.0)
-    (wrong_key (found_rows c.args.matches.now) _ c.in_ok-sessions.ensures c.in_ok-numbers.numbers
-    c.in_ok-numbers.ensures _ c.in_ok-sender.ensures c.in_err-object.ensures.1))
+    (wrong_key (found_rows c.args.matches.now) (_, c.in_ok-sessions.ensures)
+    c.in_ok-numbers.ensures c.in_ok-memory.ensures (_, c.in_ok-sender.ensures)
+    c.in_err-object.ensures.1))
 
 pub returns-in_err-inputs : goal.returns-in_err-inputs
 returns-in_err-inputs c =
@@ -66,8 +76,8 @@ returns-in_err-inputs c =
     } in
     handed_on c.from_residual-in_err-inputs.result c.in_err-inputs.field-0.0 _ _
     c.from_residual-in_err-inputs.ensures.1
-    (not_joined rows c.unwrap_or.result.now are _ _ c.in_err-inputs.field-0.0 taken
-    c.in_ok-sender.ensures c.in_err-inputs.ensures)
+    (not_joined rows c.unwrap_or.result.now are c.in_err-inputs.field-0.0 taken
+    c.in_ok-memory.ensures (_, c.in_ok-sender.ensures) c.in_err-inputs.ensures)
 
 pub returns : goal.returns
 returns c =
@@ -77,6 +87,7 @@ returns c =
       c.text.ensures,
       c.flag-2.ensures,
       c.flag-3.ensures,
+      c.in_ok-memory.ensures,
       c.in_ok-sender.ensures,
       record {
         sessions = c.in_ok-sessions.ensures;

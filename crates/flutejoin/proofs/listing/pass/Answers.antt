@@ -1,7 +1,7 @@
 use Rattle.std.proofs.Common.{◌≡◌, ◌∙◌, ◌++◌, List, ℕ, Some, false, flat_map, subst}
 use Rattle.std.proofs.Common.{refl, arith, rules}
 use Rattle.flutejoin.specs.Styles.{shown_gap}
-use Rattle.flutejoin.proofs.Asides.{knows_more, knows_nothing}
+use Rattle.flutejoin.proofs.MovedAside.{knows_more, knows_nothing}
 use Rattle.flutejoin.proofs.Scanning.{gave_none, can_pass, gave_more, gave_all}
 use Rattle.flutejoin.proofs.listing.pass.Goals as goal
 

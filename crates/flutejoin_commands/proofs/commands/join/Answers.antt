@@ -1,9 +1,9 @@
 -- What was joined, told by the names.
-use Rattle.std.proofs.Common.{map, subst, IfErr}
+use Rattle.std.proofs.Common.{◌∙◌, map, subst, IfErr}
 use Rattle.std.specs.Prelude.{OnOk}
 use Rattle.flutejoin.specs.Limits.{limits_of}
 use Rattle.flutejoin_commands.specs.Works.{JoinsAll, JoinAllFails, join_lines}
-use Rattle.flutejoin_commands.specs.Worlds.{Leaves, FailsToLeave, outside}
+use Rattle.flutejoin_commands.specs.Worlds.{Leaves, FailsToLeave, TellsAsides, outside}
 use Rattle.flutejoin_commands.proofs.OfNames.{joined, not_joined}
 use Rattle.flutejoin_commands.proofs.commands.join.Goals as goal
 
@@ -13,16 +13,21 @@ returns-clause-joined g c =
     let unread = g.W.Input.Source.unread in
     let names = map (λ path. path.now) c.args.paths.now in
     let a = c.args in
-    let all = JoinsAll unread (limits_of a.any_size) a.sender a.scope c.in_ok-inputs.inputs.items in
+    let tells = g.W.Asides.Asides.tells c.asides.result in
+    let all = JoinsAll unread tells (limits_of a.any_size) a.sender a.scope
+    c.in_ok-inputs.inputs.items in
+    let same = c.asides.ensures.same_files ∙ c.begin_join.ensures.same_files in
+    let told =
+    subst (λ f. TellsAsides f tells) c.begin_join.ensures.same_files c.asides.ensures.tells in
     let new = outside (g.W.Inputs.files c.leave.new.world) (g.O.Sink.written c.leave.new.output)
     (g.E.Sink.written c.leave.new.errors) in
-    joined unread (limits_of a.any_size) a.sender a.scope names c.in_ok-inputs.inputs.items files
-    c.in_ok-inputs.ensures.opened
+    joined unread tells (limits_of a.any_size) a.sender a.scope names
+    c.in_ok-inputs.inputs.items files c.in_ok-inputs.ensures.opened told
     a.out.now (outside files (g.O.Sink.written a.output.now) (g.E.Sink.written a.errors.now)) new
     (join_lines a.scope) c.leave.result
     (subst (λ f. OnOk c.leave.result (Leaves all all (join_lines a.scope)
     a.out.now (outside f (g.O.Sink.written a.output.now) (g.E.Sink.written a.errors.now)) new))
-    c.begin_join.ensures.same_files
+    same
     c.leave.ensures.left)
 
 pub returns-clause-failed : goal.returns-clause-failed
@@ -31,18 +36,22 @@ returns-clause-failed g c =
     let unread = g.W.Input.Source.unread in
     let names = map (λ path. path.now) c.args.paths.now in
     let a = c.args in
-    let all = JoinsAll unread (limits_of a.any_size) a.sender a.scope c.in_ok-inputs.inputs.items in
-    let fails = JoinAllFails unread (limits_of a.any_size) a.sender a.scope
+    let tells = g.W.Asides.Asides.tells c.asides.result in
+    let all = JoinsAll unread tells (limits_of a.any_size) a.sender a.scope
+    c.in_ok-inputs.inputs.items in
+    let same = c.asides.ensures.same_files ∙ c.begin_join.ensures.same_files in
+    let told =
+    subst (λ f. TellsAsides f tells) c.begin_join.ensures.same_files c.asides.ensures.tells in
+    let fails = JoinAllFails unread tells (limits_of a.any_size) a.sender a.scope
     c.in_ok-inputs.inputs.items in
     let new = outside (g.W.Inputs.files c.leave.new.world) (g.O.Sink.written c.leave.new.output)
     (g.E.Sink.written c.leave.new.errors) in
-    not_joined unread (limits_of a.any_size) a.sender a.scope names c.in_ok-inputs.inputs.items
-    files
-    c.in_ok-inputs.ensures.opened
+    not_joined unread tells (limits_of a.any_size) a.sender a.scope names
+    c.in_ok-inputs.inputs.items files c.in_ok-inputs.ensures.opened told
     a.out.now (outside files (g.O.Sink.written a.output.now) (g.E.Sink.written a.errors.now)) new
     c.leave.result
     (subst (λ f. IfErr c.leave.result
     (FailsToLeave all fails a.out.now (outside f (g.O.Sink.written a.output.now)
     (g.E.Sink.written a.errors.now)) new))
-    c.begin_join.ensures.same_files
+    same
     c.leave.ensures.failed)

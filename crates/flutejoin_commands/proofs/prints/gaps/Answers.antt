@@ -10,7 +10,7 @@ use Rattle.flutejoin.specs.declared.command_fault.CommandFault.TheVariants.{Cann
 use Rattle.flutejoin.specs.declared.command_fault.CommandFault.TheVariants.{NotAllWhole}
 use Rattle.flutejoin_commands.specs.Files.{Files}
 use Rattle.flutejoin_commands.specs.Prints.{FailsToFlush, IfPrinted}
-use Rattle.flutejoin_commands.specs.Worlds.{IsEmptyAside}
+use Rattle.flutejoin_commands.specs.Worlds.{TellsAsides}
 use Rattle.flutejoin_commands.proofs.OfNames.{told_of}
 use Rattle.flutejoin_commands.proofs.PrintedNames.{by_done, by_fault, if_empty, if_told}
 use Rattle.flutejoin_commands.proofs.prints.gaps.Goals as goal
@@ -22,18 +22,19 @@ returns-clause-listed g c =
     let old = g.P.Sink.written c.args.output.now in
     let new = g.P.Sink.written c.gaps_on.new.report in
     let known = g.W.Input.Source.unread c.in_ok-source.source in
-    let a = g.W.Aside.Sink.written c.in_ok-lines.lines in
-    let b = g.W.Aside.Sink.written c.in_ok-gap_lines.gap_lines in
+    let a = g.W.Asides.Aside.Sink.written c.in_ok-lines.lines in
+    let b = g.W.Asides.Aside.Sink.written c.in_ok-gap_lines.gap_lines in
     let r = c.gaps_on.result in
     let same = c.open_input.ensures.same_files in
     let Lists : Bool → Option (List ℕ) → Type 0 = λ p k.
     ListsJournal (limits_of c.args.any_size) c.args.selection.now k
     (λ objects. Appends old new (printed style objects) × (passes_check style objects ≡ p)) in
-    let first = subst (λ (x : Option Files). IsEmptyAside x a) same c.in_ok-lines.ensures.empty in
-    let second = subst (λ (x : Option Files). IsEmptyAside x b) (c.aside.ensures.same_files ∙ same)
-    c.in_ok-gap_lines.ensures.empty in
+    let tells = g.W.Asides.Asides.tells c.asides-asides.result in
+    let told = subst (λ (x : Option Files). TellsAsides x tells) same c.asides-asides.ensures.tells in
+    let first = c.in_ok-lines.ensures.empty in
     by_done r (λ is. if_told files c.args.j.now known c.in_ok-source.ensures.opened (Lists true)
-    (if_empty files a b (Lists true known) first second (λ e f. (subst
+    (if_empty files tells a b (Lists true known) told first
+    (λ t. c.in_ok-gap_lines.ensures.empty (c.aside.ensures.same_tells ∙ t)) (λ e f. (subst
     (λ (x : Result (Unit {0}) CommandFault). IfPrinted x (λ p. Lists p known)) is
     (c.gaps_on.ensures.listed e f)).0)))
 
@@ -47,16 +48,16 @@ returns-clause-failed g c =
     let known = g.W.Input.Source.unread c.in_ok-source.source in
     let left = g.W.Input.Source.unread c.gaps_on.new.source in
     let opened = c.in_ok-source.ensures.opened in
-    let a = g.W.Aside.Sink.written c.in_ok-lines.lines in
-    let b = g.W.Aside.Sink.written c.in_ok-gap_lines.gap_lines in
+    let a = g.W.Asides.Aside.Sink.written c.in_ok-lines.lines in
+    let b = g.W.Asides.Aside.Sink.written c.in_ok-gap_lines.gap_lines in
     let r = c.gaps_on.result in
     let same = c.open_input.ensures.same_files in
     let Lists : Bool → Option (List ℕ) → Type 0 = λ p k.
     ListsJournal (limits_of c.args.any_size) c.args.selection.now k
     (λ objects. Appends old new (printed style objects) × (passes_check style objects ≡ p)) in
-    let first = subst (λ (x : Option Files). IsEmptyAside x a) same c.in_ok-lines.ensures.empty in
-    let second = subst (λ (x : Option Files). IsEmptyAside x b) (c.aside.ensures.same_files ∙ same)
-    c.in_ok-gap_lines.ensures.empty in
+    let tells = g.W.Asides.Asides.tells c.asides-asides.result in
+    let told = subst (λ (x : Option Files). TellsAsides x tells) same c.asides-asides.ensures.tells in
+    let first = c.in_ok-lines.ensures.empty in
     let fails : Option (List ℕ) → Option (List ℕ) → CommandFault → Type 0 = λ k l fault.
     GapsFail (limits_of c.args.any_size) k l fault ⊎ FailsToFlush (IsAtEnd l) fault in
     let F : CommandFault → Type 0 = λ fault. (fault ≡ NotAllWhole)
@@ -66,7 +67,8 @@ returns-clause-failed g c =
       | inl n ↦ inl (
         n,
         if_told files name known opened (Lists false)
-            (if_empty files a b (Lists false known) first second (λ e f. (subst
+            (if_empty files tells a b (Lists false known) told first
+            (λ t. c.in_ok-gap_lines.ensures.empty (c.aside.ensures.same_tells ∙ t)) (λ e f. (subst
             (λ (x : Result (Unit {0}) CommandFault). IfPrinted x (λ p. Lists p known)) is
             (c.gaps_on.ensures.listed e f)).1 n)),
       )

@@ -1,5 +1,5 @@
 -- One input more is opened.
-use Rattle.std.proofs.Common.{ℕ, false, List, Option, Some, sym, ap, ◌∙◌, subst, arith}
+use Rattle.std.proofs.Common.{ℕ, false, List, Option, Some, refl, sym, ap, ◌∙◌, subst, arith}
 use Rattle.std.proofs.Math.Path.{fun_ext}
 use Rattle.std.proofs.lemmas.Option.{slice_get-get_or}
 use Rattle.std.specs.Prelude.{IfSome}
@@ -32,7 +32,7 @@ returns-in-Ok-joined-clause-joined c =
     c.args.inputs.now
     c.in-Ok-joined.counts (Some c.args.sink.now.bytes.items) (Some
     c.join_to-joined.new.sink.bytes.items))
-    (fun_ext c.all.ensures) (c.in-Ok-joined.ensures.joined c.args.inputs.now opened)
+    (fun_ext c.all.ensures) (c.in-Ok-joined.ensures.joined refl c.args.inputs.now opened)
 
 pub returns-clause-failed : goal.returns-clause-failed
 returns-clause-failed c =
@@ -47,4 +47,4 @@ returns-clause-failed c =
       sender = c.args.sender;
       takes = takes;
     }) c.args.inputs.now
-    c.in-Err.fault) (fun_ext c.all.ensures) (c.in-Err.ensures.failed c.args.inputs.now opened)))
+    c.in-Err.fault) (fun_ext c.all.ensures) (c.in-Err.ensures.failed refl c.args.inputs.now opened)))

@@ -4,7 +4,7 @@ use Rattle.std.proofs.Common.{[], refl, arith}
 use Rattle.flutejoin.specs.Listing.{AreFew, Knows, ListsWith}
 use Rattle.flutejoin.specs.Told.{told_of}
 use Rattle.flutejoin.specs.declared.listing.OpenObject.{OpenObject}
-use Rattle.flutejoin.proofs.Asides.{closed_known}
+use Rattle.flutejoin.proofs.MovedAside.{closed_known}
 use Rattle.flutejoin.proofs.Closing.{no_stray, none_closed}
 use Rattle.flutejoin.proofs.OpenObjects.{before_short, heard_open, none_open, one_more_closed}
 use Rattle.flutejoin.proofs.Sessions.{few_more}

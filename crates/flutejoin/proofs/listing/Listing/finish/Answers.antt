@@ -1,6 +1,6 @@
 use Rattle.std.proofs.Common.{List, ℕ, subst}
 use Rattle.flutejoin.specs.Listing.{Knows, last_line}
-use Rattle.flutejoin.proofs.Asides.{knows_more}
+use Rattle.flutejoin.proofs.MovedAside.{knows_more}
 use Rattle.flutejoin.proofs.Closing.{all_printed}
 use Rattle.flutejoin.proofs.listing.Listing.finish.Goals as goal
 

@@ -7,7 +7,9 @@ use Rattle.flutejoin_commands.proofs.joining.JoinWorkWork.without_output.Goals a
 pub returns-clause-first : goal.returns-clause-first
 returns-clause-first g c =
     let w = c.args.self.now in
-    first_fault (JoinsAll g.R.Source.unread (limits_of w.any_size) w.sender w.scope w.inputs.items)
-    (JoinAllFails g.R.Source.unread (limits_of w.any_size) w.sender w.scope w.inputs.items)
+    let tells = g.A.Asides.tells w.asides in
+    first_fault (JoinsAll g.R.Source.unread tells (limits_of w.any_size) w.sender w.scope
+    w.inputs.items)
+    (JoinAllFails g.R.Source.unread tells (limits_of w.any_size) w.sender w.scope w.inputs.items)
     None None c.write.result c.args.reason c.fault_or.result
     c.write.ensures.written c.write.ensures.failed c.fault_or.ensures

@@ -1,0 +1,55 @@
+-- Bytes that are put aside, and runs: journals that are put aside.
+use Rattle.std.specs.Prelude.{◌≡◌, ◌⊎◌, ◌≤◌, ◌<◌, ◌++◌, ◌^◌, ℕ, List, [], ◌∷◌, Option, Some, None}
+use Rattle.std.specs.Prelude.{IfSome, Result, IfErr}
+use Rattle.flute_parts.specs.Facts.{Same}
+use Rattle.flute_parts.specs.declared.fact.Fact.{Fact}
+use Rattle.flute_journal.specs.Journal.{IsJournalWithin}
+use Rattle.flute_journal.specs.OwnedStreams.{owned_behaviour, owned_limit}
+use Rattle.flute_journal.specs.Streams.{IsNew}
+use Rattle.flute_journal.specs.declared.owned_journal_stream.OwnedJournalStream.{OwnedJournalStream}
+use Rattle.flutejoin.specs.declared.command_fault.CommandFault.{CommandFault}
+use Rattle.flutejoin.specs.declared.command_fault.CommandFault.TheVariants.{CannotWrite}
+use Rattle.flutejoin.specs.declared.command_fault.CommandFault.TheVariants.{OutOfMemory}
+use Rattle.flutejoin.specs.declared.command_fault.CommandFault.TheVariants.{CannotPutAside}
+
+-- an input has the bytes that were put aside, if they are known
+abbrev pub HasAside : Option (List ℕ) → Option (List ℕ) → Type 0
+HasAside aside input = IfSome aside (λ bytes. input ≡ Some bytes)
+
+-- why they cannot be read again
+abbrev pub IsNotAgain : CommandFault → Type 0
+IsNotAgain fault = (fault ≡ CannotWrite) ⊎ (fault ≡ OutOfMemory)
+
+-- something was to be put aside, if that could not be done
+abbrev pub Makes : {T : Type 0} → ℕ → ℕ → Result T CommandFault → Type 0
+Makes old new result =
+    (old ≤ new) × IfErr result (λ fault. fault ≡ CannotPutAside → old < new)
+
+module _ {R : Type 0} (unread : R → Option (List ℕ)) where
+  -- a run reads the journal of these entries
+  abbrev pub IsRunOf : OwnedJournalStream R → List Fact → Type 0
+  IsRunOf run entries =
+      (bytes : List ℕ) × (unread run.source ≡ Some bytes)
+      × IsJournalWithin (owned_limit run) bytes entries
+
+  -- runs read journals of these facts together
+  abbrev pub AreRunsOf : List (OwnedJournalStream R) → List Fact → Type 0
+  AreRunsOf [] told = told ≡ []
+  AreRunsOf (run ∷ runs) told =
+      (own : List Fact) × (others : List Fact) × IsRunOf run own × (told ≡ own ++ others)
+      × AreRunsOf runs others
+
+  -- runs read journals that have the same facts as these
+  abbrev pub HoldTogether : List (OwnedJournalStream R) → List Fact → Type 0
+  HoldTogether runs facts = (own : List Fact) × AreRunsOf runs own × Same own facts
+
+  -- these facts are held: in a run, if there is one, and else in a store
+  abbrev pub AreHeld : List Fact → Option (OwnedJournalStream R) → List Fact → Type 0
+  AreHeld store None facts = facts ≡ store
+  AreHeld store (Some run) facts = IsRunOf run facts
+
+  -- nothing of a run was read yet, and it has at most so many entries
+  abbrev pub IsNewRun : (R → ℕ) → OwnedJournalStream R → Type 0
+  IsNewRun failures run =
+      IsNew (owned_behaviour unread failures) run
+      × ((owned_behaviour unread failures).most run ≤ 2 ^ 57) × (owned_limit run ≤ 2 ^ 57)

@@ -1,0 +1,153 @@
+//! Stores that are put aside as journals.
+ghost use Rattle.std.specs.Prelude.{◌≡◌, true, ◌<◌, ◌≤◌, ◌+◌, ◌++◌, List, length, OnOk, IfErr};
+ghost use Rattle.std.specs.Prelude.{ℕ, Some};
+ghost use Rattle.std.specs.List.{AllByRecursion};
+ghost use Rattle.flute_parts.specs.declared.fact.Fact.{Fact};
+ghost use Rattle.flute_journal.specs.Journal.{Journal};
+ghost use Rattle.flutejoin.specs.declared.command_fault.CommandFault.TheVariants.{CannotPutAside};
+ghost use Rattle.flutejoin.specs.Asides.{AreRunsOf, HoldTogether, IsNewRun, Makes};
+ghost use Rattle.flutejoin.specs.Limits.{IsCountable};
+
+use crate::aside::Asides;
+use crate::command_fault::CommandFault;
+use flute_journal::{OwnedJournalStream, merge_slice, write_store};
+use flute_parts::Source;
+use flute_store::Store;
+use std::alloc::Global;
+
+/// How many runs there may be. Before there are more, they are merged into one.
+const MAX_RUNS: usize = 64;
+
+/// The greatest number of entries of a run: 2^57.
+const MAX_RUN: u64 = 144_115_188_075_855_872;
+
+/// Puts aside what a store holds, as a run more.
+///
+/// # Errors
+///
+/// `CannotPutAside`. The runs are of no further use then.
+pub(crate) fn put_store<
+    const SESSIONS: u32,
+    const OBJECTS: u32,
+    const SYMBOLS: u32,
+    R: Source + Drop,
+    A: Asides<Input = R>,
+>(
+    alloc: Global,
+    asides: &mut A,
+    store: &Store<SESSIONS, OBJECTS, SYMBOLS>,
+    runs: &mut Vec<OwnedJournalStream<R>>,
+) -> Result<(), CommandFault>
+    requires countable { IsCountable SESSIONS OBJECTS SYMBOLS }
+    requires few { length runs.old.items ≤ 64 }
+    requires new { AllByRecursion (IsNewRun R.unread R.failures) runs.old.items }
+    ensures few { OnOk result (length runs.new.items ≤ 64) }
+    ensures new { OnOk result (AllByRecursion (IsNewRun R.unread R.failures) runs.new.items) }
+    ensures held { A.tells asides.old ≡ true → (facts : List Fact)
+        → AreRunsOf R.unread runs.old.items facts
+        → OnOk result (HoldTogether R.unread runs.new.items (facts ++ store.now)) }
+    ensures failed { IfErr result (λ fault. fault ≡ CannotPutAside) }
+    ensures same_tells { A.tells asides.new ≡ A.tells asides.old }
+    ensures made { A.made asides.old < A.made asides.new }
+{
+    merge_beyond(alloc, asides, MAX_RUNS - 1, runs)?;
+    let Ok(mut aside) = asides.aside() else {
+        return Err(CommandFault::CannotPutAside);
+    };
+    // By this the proof knows that the store's facts are the entries of its journal.
+    store.keeps_order_and_limits();
+    match write_store(store, &mut aside) {
+        Ok(entries) => add_run(asides, aside, entries, runs),
+        Err(_) => Err(CommandFault::CannotPutAside),
+    }
+}
+
+/// Merges runs into one if they are more than this.
+///
+/// # Errors
+///
+/// `CannotPutAside`. The runs are of no further use then.
+pub(crate) fn merge_beyond<R: Source + Drop, A: Asides<Input = R>>(
+    alloc: Global,
+    asides: &mut A,
+    most: usize,
+    runs: &mut Vec<OwnedJournalStream<R>>,
+) -> Result<(), CommandFault>
+    requires few { length runs.old.items ≤ 64 }
+    requires some { 1 ≤ most }
+    requires new { AllByRecursion (IsNewRun R.unread R.failures) runs.old.items }
+    ensures few { OnOk result (length runs.new.items ≤ most) }
+    ensures new { OnOk result (AllByRecursion (IsNewRun R.unread R.failures) runs.new.items) }
+    ensures held { A.tells asides.old ≡ true → (facts : List Fact)
+        → AreRunsOf R.unread runs.old.items facts
+        → OnOk result (HoldTogether R.unread runs.new.items facts) }
+    ensures failed { IfErr result (λ fault. fault ≡ CannotPutAside) }
+    ensures same_tells { A.tells asides.new ≡ A.tells asides.old }
+    ensures made { Makes (A.made asides.old) (A.made asides.new) result }
+{
+    if runs.len() <= most {
+        return Ok(());
+    }
+    merge_runs(alloc, asides, runs)
+}
+
+// Merges runs into one.
+fn merge_runs<R: Source + Drop, A: Asides<Input = R>>(
+    alloc: Global,
+    asides: &mut A,
+    runs: &mut Vec<OwnedJournalStream<R>>,
+) -> Result<(), CommandFault>
+    requires few { length runs.old.items ≤ 64 }
+    requires new { AllByRecursion (IsNewRun R.unread R.failures) runs.old.items }
+    ensures one { OnOk result (length runs.new.items ≡ 1) }
+    ensures new { OnOk result (AllByRecursion (IsNewRun R.unread R.failures) runs.new.items) }
+    ensures held { A.tells asides.old ≡ true → (facts : List Fact)
+        → AreRunsOf R.unread runs.old.items facts
+        → OnOk result (HoldTogether R.unread runs.new.items facts) }
+    ensures failed { IfErr result (λ fault. fault ≡ CannotPutAside) }
+    ensures same_tells { A.tells asides.new ≡ A.tells asides.old }
+    ensures made { A.made asides.old < A.made asides.new }
+{
+    let Ok(mut aside) = asides.aside() else {
+        return Err(CommandFault::CannotPutAside);
+    };
+    // no limits are told, so none are counted
+    match merge_slice::<0, 0, 0, _, _>(alloc, runs, &mut aside) {
+        Ok(merged) => {
+            runs.clear();
+            add_run(asides, aside, merged.entries, runs)
+        }
+        Err(_) => Err(CommandFault::CannotPutAside),
+    }
+}
+
+// Adds the run of a journal that was put aside, of so many entries.
+fn add_run<R: Source + Drop, A: Asides<Input = R>>(
+    asides: &mut A,
+    aside: A::Aside,
+    entries: u64,
+    runs: &mut Vec<OwnedJournalStream<R>>,
+) -> Result<(), CommandFault>
+    requires new { AllByRecursion (IsNewRun R.unread R.failures) runs.old.items }
+    ensures more { OnOk result (length runs.new.items ≡ length runs.old.items + 1) }
+    ensures new { OnOk result (AllByRecursion (IsNewRun R.unread R.failures) runs.new.items) }
+    ensures held { (bytes : List ℕ) (own facts : List Fact)
+        → A.Aside.written aside ≡ Some bytes → (journal : Journal bytes own)
+        → entries ≡ length journal.0
+        → AreRunsOf R.unread runs.old.items facts
+        → OnOk result (HoldTogether R.unread runs.new.items (facts ++ own)) }
+    ensures failed { IfErr result (λ fault. fault ≡ CannotPutAside) }
+    ensures same_tells { A.tells asides.new ≡ A.tells asides.old }
+    ensures same_made { A.made asides.new ≡ A.made asides.old }
+{
+    if entries > MAX_RUN {
+        return Err(CommandFault::CannotPutAside);
+    }
+    let Ok(source) = asides.again(aside) else {
+        return Err(CommandFault::CannotPutAside);
+    };
+    match runs.push(OwnedJournalStream::new(source, entries)) {
+        Ok(()) => Ok(()),
+        Err(_) => Err(CommandFault::CannotPutAside),
+    }
+}

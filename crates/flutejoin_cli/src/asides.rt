@@ -1,0 +1,86 @@
+//! Where a command puts bytes aside.
+
+use crate::aside::{FileAside, Kept};
+use crate::input::{Input, Reader, input_of};
+use flute_parts::Failures;
+use flutejoin::{Asides, CommandFault};
+use std::alloc::AllocError;
+use std::env;
+use std::io::{self, Cursor};
+
+/// How the name of a file begins that is put aside in the folder for temporary files.
+const NAME: &str = "flutejoin.";
+
+/// What a command puts aside, in files without names: beside its output, or in the folder for
+/// temporary files. They tell contracts nothing of their bytes.
+#[derive(Drop)]
+pub struct FileAsides<'a> {
+    rt: &'a HostRuntime,
+    /// What the paths of files begin with: else it is the folder for temporary files.
+    beside: Option<String>,
+    /// How often something was to be put aside, for contracts alone.
+    made: Failures,
+}
+
+impl<'a> FileAsides<'a> {
+    /// Nothing is put aside yet.
+    pub fn new(rt: &'a HostRuntime, beside: Option<String>) -> FileAsides<'a> {
+        FileAsides {
+            rt,
+            beside,
+            made: Failures::none(),
+        }
+    }
+}
+
+impl<'a> Asides for FileAsides<'a> {
+    ghost use Rattle.std.specs.Prelude.{false};
+
+    type Aside = FileAside<'a>;
+
+    type Input = Input;
+
+    ghost tells = { λ _. false };
+
+    ghost made = { λ a. a.made.count };
+
+    fn aside(&mut self) -> Result<FileAside<'a>, CommandFault> {
+        self.made = self.made.and_one();
+        match &self.beside {
+            Some(beside) => FileAside::new(self.rt, beside),
+            None => match temporary(self.rt) {
+                Ok(prefix) => FileAside::new(self.rt, &prefix),
+                Err(_) => Err(CommandFault::OutOfMemory),
+            },
+        }
+    }
+
+    fn again(&mut self, aside: FileAside<'a>) -> Result<Input, CommandFault> {
+        let reader = match aside.keep() {
+            Ok(Kept::Held(bytes)) => Reader::Held(Cursor::new(bytes)),
+            Ok(Kept::File(file)) => Reader::File(file),
+            Err(_) => return Err(CommandFault::CannotWrite),
+        };
+        match input_of(self.rt, reader, 1) {
+            Some(input) => Ok(input),
+            None => Err(CommandFault::OutOfMemory),
+        }
+    }
+}
+
+// What paths of the folder for temporary files begin with.
+fn temporary(rt: &HostRuntime) -> io::Result<String> {
+    let path = env::temp_dir(rt)?.join(rt.alloc(), NAME)?;
+    Ok(String::from_str(rt.alloc(), path.as_os_str())?)
+}
+
+/// What paths of files beside an output begin with. None if there is no memory.
+pub fn beside(rt: &HostRuntime, out: &str) -> Option<String> {
+    prefix(rt, out).ok()
+}
+
+fn prefix(rt: &HostRuntime, out: &str) -> Result<String, AllocError> {
+    let mut prefix = String::from_str(rt.alloc(), out)?;
+    prefix.push_str(".aside.")?;
+    Ok(prefix)
+}

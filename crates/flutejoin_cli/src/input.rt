@@ -1,0 +1,48 @@
+//! An input of a command: a file, standard input, or bytes that were put aside.
+
+use flute_parts::BufferedSource;
+use std::fs::File;
+use std::io::{self, BufReader, Cursor, Read};
+use std::rt::Stdin;
+
+/// How many bytes of one input are read at once.
+const BUFFER: usize = 131_072;
+
+/// How many bytes of all inputs are held: more would not fit a processor's own cache.
+const BUFFERS: usize = 1_048_576;
+
+/// How many bytes of an input are read at once, however many inputs there are.
+const LEAST_BUFFER: usize = 16_384;
+
+pub type Input = BufferedSource<Reader>;
+
+/// A file, standard input, or bytes that were put aside in memory.
+#[derive(Drop)]
+pub enum Reader {
+    File(File),
+    StandardInput(Stdin),
+    Held(Cursor<Vec<u8>>),
+}
+
+impl Read for Reader {
+    fn read(&mut self, buf: &mut [u8]) -> io::Result<usize> {
+        match self {
+            Reader::File(file) => file.read(buf),
+            Reader::StandardInput(stdin) => stdin.read(buf),
+            Reader::Held(bytes) => bytes.read(buf),
+        }
+    }
+}
+
+/// An input, one of so many, which share the memory for reading. None if there is no memory for it.
+pub fn input_of(rt: &HostRuntime, reader: Reader, among: usize) -> Option<Input> {
+    match BufReader::with_capacity(rt.alloc(), buffer_of(among), reader) {
+        Ok(reader) => Some(BufferedSource::new(reader)),
+        Err(_) => None,
+    }
+}
+
+/// How many bytes are read at once of each of so many inputs.
+fn buffer_of(among: usize) -> usize {
+    (BUFFERS / among.max(1)).max(LEAST_BUFFER).min(BUFFER)
+}
