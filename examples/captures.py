@@ -10,7 +10,9 @@ from __future__ import annotations
 import random
 import struct
 import sys
-from typing import Iterator
+
+sys.dont_write_bytecode = True
+import datagram_files
 
 SENDER, GROUP, PORT = bytes([10, 0, 0, 1]), bytes([239, 1, 1, 1]), 4001
 MULTICAST = bytes.fromhex("01005e010101" "020000000001" "0800")
@@ -34,23 +36,12 @@ def frame(payload: bytes) -> bytes:
     return MULTICAST + head[:10] + struct.pack(">H", checksum(head)) + head[12:] + udp
 
 
-def payloads(name: str) -> Iterator[bytes]:
-    """The datagrams of a datagram file: each is its length in two bytes, and its bytes."""
-    with open(name, "rb") as file:
-        data = file.read()
-    place = 6
-    while place < len(data):
-        (length,) = struct.unpack_from(">H", data, place)
-        yield data[place + 2 : place + 2 + length]
-        place += 2 + length
-
-
 def main() -> None:
     if len(sys.argv) < 4:
         print("usage: captures.py SENT PERCENT OUT..", file=sys.stderr)
         sys.exit(2)
     source, percent, outs = sys.argv[1], float(sys.argv[2]), sys.argv[3:]
-    frames = [frame(payload) for payload in payloads(source)]
+    frames = [frame(payload) for payload in datagram_files.read(source)]
     for station, out in enumerate(outs, 1):
         draw = random.Random(station)
         with open(out, "wb") as file:

@@ -8,7 +8,7 @@
 #   flutejoin join --any-size -o - STORE/*/*[0-9] | flutejoin gaps --any-size -
 #                                                             asks all that was added
 #
-# A kill may leave journals twice, which changes no answer, and a file .partial, which the next run
+# A kill may leave journals twice, which changes no result, and a file .partial, which the next run
 # removes: give it the same INPUT again. Two runs in one STORE wait for one another (flock).
 set -eu
 program=${FLUTEJOIN:-flutejoin}

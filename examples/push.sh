@@ -29,7 +29,7 @@ flock -n 9 || {
     exit 1
 }
 
-# senders: whose journals wait. Their names have no spaces; behind each are a time and .journal
+# senders: whose journals wait. Their names have no spaces; after each come a time and .journal
 senders() {
     for path in "$outbox"/*.journal; do
         name=${path##*/}

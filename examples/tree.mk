@@ -9,7 +9,7 @@
 # TREE       a folder for the journals between, and for the list of each join
 # FANIN      the greatest number of inputs of a join, from 2 to 64
 # SOURCE     the sender of the inputs that are datagram files (--source). Without it the tools'
-#            names tell it, as 10.0.0.1.fldg; with it one of another name stops
+#            names give it, as 10.0.0.1.fldg; with it one of another name stops
 # FLUTEJOIN  the program
 #
 # An input is joined again, with the path from it to OUT, where its file has other times, another

@@ -17,7 +17,7 @@ stop() {
     exit 1
 }
 
-# plain WHAT TEXT: names that stand in make's rules
+# plain WHAT TEXT: names that are used in make's rules
 plain() {
     case $2 in
     '' | -* | *[!A-Za-z0-9._+,@/-]*)
@@ -86,7 +86,7 @@ sourced() {
             while (at && length(front back) < 32) front = front "0"
             return front back ~ /^[0-9a-f]*$/ && length(front back) == 32 ? front back : ""
         }
-        # address TEXT: its 32 digits, of IPv6 with hyphens as its colons, and what is behind in
+        # address TEXT: its 32 digits, of IPv6 with hyphens as its colons, and what follows in
         # `rest`
         function address(text,   words, count, i) {
             count = split(text, words, ".")
@@ -155,7 +155,7 @@ plan() {
     work=$(mktemp -d -- "$5/plan.XXXXXX")
     trap 'rm -rf -- "$work"' EXIT
     named "$1" "$2" "$3" "$4" "$5" > "$work/all"
-    # No name is an option or standard input, and each stands once.
+    # No name is an option or standard input, and each is there once.
     sed -e '/^$/d' -e 's|^-|./-|' "$work/all" | awk '!seen[$0]++' > "$work/names"
     check "$work/names"
     stamped "$work/names" > "$work/unsourced" || stop 'an input is not there'

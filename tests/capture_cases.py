@@ -15,7 +15,7 @@ import sys
 import tempfile
 import time
 import unittest
-from typing import Callable
+from typing import Any, Callable
 
 sys.dont_write_bytecode = True
 TESTS = os.path.dirname(os.path.realpath(__file__))
@@ -238,8 +238,9 @@ class Epochs(Cases):
         self.assertEqual(self.ran.stderr.splitlines(), told)
         stem = self.path("out/10.0.0.1")
         joins = [line for line in self.ran.stdout.splitlines() if line.startswith("flutejoin join")]
+        join = "flutejoin join --any-size --source 0a000001"
         lines = [
-            f"flutejoin join --source 0a000001 -o {stem}{epoch}.journal {stem}{epoch}.fldg"
+            f"{join} -o {stem}{epoch}.journal {stem}{epoch}.fldg"
             for epoch in ("", ".e2", ".e3")
         ]
         self.assertEqual(joins, lines)
@@ -412,7 +413,7 @@ def gzip_stored(data: bytes) -> bytes:
 
 
 class Runs(Cases):
-    def begun(self, *words: str, **more) -> subprocess.Popen:
+    def begun(self, *words: str, **more: Any) -> subprocess.Popen:
         command = [sys.executable, os.path.join(TOOLS, "flutejoin-capture"), *words]
         process = subprocess.Popen(
             command, stdout=subprocess.PIPE, stderr=subprocess.PIPE, text=True, **more
@@ -531,8 +532,8 @@ class Names(Cases):
         line = ran.stdout.splitlines()[-1].replace("flutejoin join ", "printf '%s\\0' ", 1)
         words = subprocess.run(["sh", "-c", line], capture_output=True).stdout.split(b"\0")
         stem = os.fsencode(folder) + b"/10.0.0.1"
-        wanted = [b"--source", b"0a000001", b"-o", stem + b".journal", stem + b".fldg", b""]
-        self.assertEqual(words, wanted)
+        options = [b"--any-size", b"--source", b"0a000001", b"-o"]
+        self.assertEqual(words, [*options, stem + b".journal", stem + b".fldg", b""])
 
 
 if __name__ == "__main__":

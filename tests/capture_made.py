@@ -5,6 +5,7 @@ from __future__ import annotations
 import pathlib
 import re
 import sys
+from typing import Any
 
 import run
 from run import ROOT, TESTS, Run
@@ -126,10 +127,10 @@ class Case(run.Case):
         self.path(folder).mkdir(exist_ok=True)
         self.helper("make", "rows", folder)
 
-    def capture(self, words: run.Words, **how: object) -> Run:
+    def capture(self, words: run.Words, **how: Any) -> Run:
         return self.tool("flutejoin-capture", words, **how)
 
-    def capture_row(self, name: str, words: run.Words, *wanted: object, **how: object) -> Run:
+    def capture_row(self, name: str, words: run.Words, *wanted: Any, **how: Any) -> Run:
         done = self.capture(words, **how)
         self.check(name, done, *wanted)
         return done

@@ -6,6 +6,7 @@ import resource
 import signal
 import sys
 from signal import SIG_DFL, SIG_IGN, SIGHUP, SIGINT, SIGTERM
+from typing import Any
 
 import run
 from capture_made import Case
@@ -24,16 +25,31 @@ sys.argv = sys.argv[1:]
 runpy.run_path(sys.argv[0], run_name="__main__")
 """
 
+# A signal comes as soon as the file is there.
+AT_ONCE = """
+import builtins, os, runpy, signal, sys
+opened = builtins.open
+def opened_and_stopped(name, mode="r", *more, **how):
+    file = opened(name, mode, *more, **how)
+    if mode == "xb":
+        signal.raise_signal(signal.SIGTERM)
+    return file
+builtins.open = opened_and_stopped
+sys.path.insert(0, os.path.dirname(sys.argv[1]))
+sys.argv = sys.argv[1:]
+runpy.run_path(sys.argv[0], run_name="__main__")
+"""
+
 
 def said(text: str) -> str:
     return f"flutejoin-mend: {text}\n"
 
 
 class Mended(Case):
-    def mend(self, words: run.Words, **how: object) -> Run:
+    def mend(self, words: run.Words, **how: Any) -> Run:
         return self.tool("flutejoin-mend", words, **how)
 
-    def mend_row(self, name: str, words: run.Words, *wanted: object, **how: object) -> Run:
+    def mend_row(self, name: str, words: run.Words, *wanted: Any, **how: Any) -> Run:
         done = self.mend(words, **how)
         self.check(name, done, *wanted)
         return done
@@ -208,3 +224,9 @@ class MendSignals(Mended):
         self.ended("HUP", 129, SIGHUP, hangup=SIG_DFL)
         self.ended("nohup", 143, SIGHUP, SIGTERM, hangup=SIG_IGN)
         self.ended("several", None, SIGHUP, SIGTERM, SIGINT, hangup=SIG_DFL)
+
+    def test_a_signal_at_once(self) -> None:
+        self.write("cut.fldg", self.read("got1")[:3000])
+        done = self.command([sys.executable, "-c", AT_ONCE, TOOL, "-o", "whole", "cut.fldg"])
+        self.check("a signal", done, 143)
+        self.absent("nothing is left", "whole", "whole.mending")

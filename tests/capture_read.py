@@ -12,8 +12,9 @@ sys.path.append(str(ROOT / "tools"))
 import captures
 import datagram_files
 
-JOIN6 = "flutejoin join --source 20010db8000000000000000000000001"
-JOIN1 = "flutejoin join --source 0a000001"
+JOIN6 = "flutejoin join --any-size --source 20010db8000000000000000000000001"
+JOIN1 = "flutejoin join --any-size --source 0a000001"
+JOIN99 = "flutejoin join --any-size --source 0a000063"
 NONE = "no UDP datagrams"
 LISTED = "without --port all flows are listed"
 OCCUPIED = "is there already, and is left as it is; no other file is written for its sender"
@@ -107,7 +108,7 @@ class Printed(Case):
             "ports/2001-db8--1.fldg: 27 datagrams from 2001:db8::1\n"
             "ports/10.0.0.99.fldg: 10 datagrams from 10.0.0.99\n"
             f"{JOIN6} -o ports/2001-db8--1.journal ports/2001-db8--1.fldg\n"
-            "flutejoin join --source 0a000063 -o ports/10.0.0.99.journal ports/10.0.0.99.fldg\n"
+            f"{JOIN99} -o ports/10.0.0.99.journal ports/10.0.0.99.fldg\n"
         )
         of = "--port 5353 --port 4001 --group ff3e::4321 --group 239.1.1.2"
         self.capture_row("two of both", f"{of} -o ports made/ipv6", 0, wanted)

@@ -109,8 +109,9 @@ def ip6(source: bytes, target: bytes, kind: int, data: bytes) -> bytes:
 
 
 def ip(source: bytes, target: bytes, protocol: int, data: bytes) -> bytes:
-    packet = ip4 if len(source) == 4 else ip6
-    return packet(source, target, protocol, data)
+    if len(source) == 4:
+        return ip4(source, target, protocol, data)
+    return ip6(source, target, protocol, data)
 
 
 def udp(source: bytes, target: bytes, payload: bytes, port: int = PORT) -> bytes:
@@ -147,9 +148,9 @@ class Capture:
 
         It is whole and right unless it is one of those that an option spoils.
         """
-        source = ipaddress.ip_address(sender)
-        target = ipaddress.ip_address(GROUPS[source.version]).packed
-        source, spoil = source.packed, self.options.spoil if count in SPOILT else None
+        address = ipaddress.ip_address(sender)
+        source, target = address.packed, ipaddress.ip_address(GROUPS[address.version]).packed
+        spoil = self.options.spoil if count in SPOILT else None
         data = udp(source, target, payload)
         if spoil == "checksum":
             data = data[:-1] + bytes([data[-1] ^ 1])
@@ -290,15 +291,15 @@ def pcapng(frames: list[Frame], order: str, kind: int, snap: int) -> bytes:
             made.append(block(order, 5, struct.pack(order + "III", 0, 0, at)))
             made.append(block(order, 0x0BAD0BAD, b"\0" * 70000))
         if kind == 6:
-            fields = links.index(link), 0, at, len(frame), length
-            body = struct.pack(order + "IIIII", *fields) + frame + b"\0" * (-len(frame) % 4)
+            head = struct.pack(order + "IIIII", links.index(link), 0, at, len(frame), length)
+            body = head + frame + b"\0" * (-len(frame) % 4)
             body += struct.pack(order + "HHIHH", 2, 4, 0, 0, 0)
             made.append(block(order, 6, body))
         elif kind == 3:
             made.append(block(order, 3, struct.pack(order + "I", length) + frame))
         else:
-            fields = links.index(link), 0, 0, at, len(frame), length
-            made.append(block(order, 2, struct.pack(order + "HHIIII", *fields) + frame))
+            head = struct.pack(order + "HHIIII", links.index(link), 0, 0, at, len(frame), length)
+            made.append(block(order, 2, head + frame))
     return b"".join(made)
 
 
@@ -382,13 +383,13 @@ def pieces(data: bytes) -> Iterator[bytes]:
 
     docs/FORMATS.md has the formats.
     """
-    place, is_journal, sender = 6, data[:4] == b"FLJN", 16 if data[5] == 2 else 0
-    while place < len(data) and not (is_journal and data[place] == 0xFF):
-        if not is_journal:
-            size = 2 + struct.unpack_from(">H", data, place)[0]
-        else:
-            size = 22 + sender + {1: 12, 2: 0, 3: 6, 4: 4}[data[place]]
-            size += struct.unpack_from(">H", data, place + size - 2)[0] if data[place] == 3 else 0
+    if data.startswith(datagram_files.HEADER):
+        yield from datagram_files.records(data)
+        return
+    place, sender = 6, 16 if data[5] == 2 else 0
+    while data[place] != 0xFF:
+        size = 22 + sender + {1: 12, 2: 0, 3: 6, 4: 4}[data[place]]
+        size += struct.unpack_from(">H", data, place + size - 2)[0] if data[place] == 3 else 0
         yield data[place : place + size]
         place += size
 

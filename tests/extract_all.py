@@ -5,6 +5,8 @@ is there before.
 
 usage: tests/extract_all.py PROGRAM
 """
+from __future__ import annotations
+
 import os
 import random
 import shutil
@@ -17,6 +19,10 @@ import time
 import unittest
 from dataclasses import dataclass, field
 from pathlib import Path
+from typing import Any
+
+sys.dont_write_bytecode = True
+from flute_sender import partition
 
 PROGRAM = ""
 
@@ -80,26 +86,12 @@ def journal_of(objects: dict[Name, Object]) -> bytes:
     return b"FLJN\x00\x02" + b"".join(entries) + b"\xff" + struct.pack(">Q", len(entries))
 
 
-def partition(length: int, symbol: int, block: int) -> list[tuple[int, int, int]]:
-    """Block, symbol and length of each symbol (RFC 5052, section 9.1)."""
-    if length == 0:
-        return []
-    symbols = -(-length // symbol)
-    blocks = -(-symbols // block)
-    large, many = -(-symbols // blocks), symbols - symbols // blocks * blocks
-    places, at = [], 0
-    for sbn in range(blocks):
-        for esi in range(large if sbn < many or many == 0 else symbols // blocks):
-            places.append((sbn, esi, min(symbol, length - at)))
-            at += symbol
-    return places
-
-
 def whole(length: int, symbol: int, block: int) -> Object:
-    values = {
-        (sbn, esi): os.urandom(size) for sbn, esi, size in partition(length, symbol, block)
+    values: dict[tuple[int, int], bytes | None] = {
+        place: os.urandom(min(symbol, length - at * symbol))
+        for at, place in enumerate(partition(length, symbol, block))
     }
-    return Object((length, symbol, block), False, dict(values))
+    return Object((length, symbol, block), False, values)
 
 
 def random_object(chance: random.Random) -> Object:
@@ -138,7 +130,7 @@ def random_journal(chance: random.Random) -> dict[Name, Object]:
     return objects
 
 
-def run(*words: str | Path, **options) -> subprocess.CompletedProcess:
+def run(*words: str | Path, **options: Any) -> subprocess.CompletedProcess:
     return subprocess.run([PROGRAM, *words], capture_output=True, check=False, **options)
 
 

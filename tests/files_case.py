@@ -12,11 +12,12 @@ import subprocess
 import sys
 import tempfile
 import unittest
+from typing import Any
 
 HERE = pathlib.Path(__file__).resolve().parent
 TOOL = HERE.parent / "tools" / "flutejoin-files"
-sys.path.append(str(TOOL.parent))
-import flute_sender
+sys.path += [str(TOOL.parent), str(HERE.parent / "examples")]
+import datagram_files
 from flute_sender import Sent, fdt, instance
 
 PROGRAM = os.path.abspath(sys.argv[1])
@@ -52,7 +53,7 @@ class Case(unittest.TestCase):
         self.program.chmod(0o755)
         (self.folder / "tmp").mkdir()
 
-    def start(self, *words: object, **more: object) -> subprocess.Popen:
+    def start(self, *words: object, **more: Any) -> subprocess.Popen:
         command = [sys.executable, TOOL, "--flutejoin", self.program, *words]
         environment = {**os.environ, "TMPDIR": str(self.folder / "tmp")}
         return subprocess.Popen(
@@ -84,13 +85,13 @@ class Case(unittest.TestCase):
         """Makes a journal of packets."""
         sent = [packet for group in of for packet in group]
         datagrams = self.folder / f"{name}.fldg"
-        datagrams.write_bytes(flute_sender.datagram_file(sent))
+        datagrams.write_bytes(datagram_files.content(sent))
         words = "join", "--source", sender, "-o", self.folder / name, datagrams
         done = subprocess.run([PROGRAM, *map(str, words)], capture_output=True, timeout=LONGEST)
         self.assertEqual((done.returncode, b"refused 0" in done.stdout), (0, True), done)
         return name
 
-    def session(self, name: str, files: list[Sent], **root: object) -> str:
+    def session(self, name: str, files: list[Sent], **root: Any) -> str:
         """Makes a journal of a session whose FDT Instance 1 describes these files."""
         sent = [file.packets(7) for file in files]
         return self.journal(name, instance(7, 1, fdt(files, **root)), *sent)

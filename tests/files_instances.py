@@ -8,6 +8,7 @@ import subprocess
 from files_case import PROGRAM, Case, md5, text
 from flute_sender import EXPIRES, Sent, fdt, instance
 
+
 class Instances(Case):
     """What FDT Instances describe, and which of them counts."""
 
@@ -101,6 +102,9 @@ class Instances(Case):
         answer = self.files("--list", "-o", "files", "--fdt", "fdt.xml", "all")
         self.assertIn("FDT Instance fdt.xml, expires 2026", answer.out)
         self.assertEqual(self.tree(), {"h/a": file.content})
+        (self.folder / "None").write_bytes(fdt([file]))  # as no number is named
+        answer = self.files("--list", "--fdt", "None", "all")
+        self.assertIn("FDT Instance None, expires 2026", answer.out)
         self.journal("other", file.packets(8))
         answer = self.files("--list", "--fdt", "fdt.xml", "all", "other", status=2)
         self.assertIn("--fdt is of one session, and there are 2", answer.err)

@@ -5,8 +5,9 @@ import gzip
 import os
 import subprocess
 
+import datagram_files
 from files_case import PROGRAM, Case, md5, text
-from flute_sender import Sent, datagram_file, fdt, instance, packets
+from flute_sender import Sent, fdt, instance, packets
 
 
 class Resolved(Case):
@@ -94,7 +95,7 @@ class Resolved(Case):
             ("some.fldg", [right[0][3][:-1], right[0][4]], "no value of 1 of 2 conflicting"),
         ):
             with self.subTest(told):
-                (self.folder / name).write_bytes(datagram_file(kept))
+                (self.folder / name).write_bytes(datagram_files.content(kept))
                 answer = self.files("-o", "other", *words, name, status=1)
                 self.assertIn(f"not resolved: http://h/a ({told}", answer.out)
                 self.assertIn("not resolved: http://h/b (no value of 1 of 1 con", answer.out)

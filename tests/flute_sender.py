@@ -9,10 +9,15 @@ import base64
 import dataclasses
 import gzip
 import hashlib
+import os
 import struct
 import sys
 from typing import Iterable
 from xml.sax.saxutils import quoteattr
+
+sys.dont_write_bytecode = True
+sys.path.append(os.path.join(os.path.dirname(os.path.realpath(__file__)), "../examples"))
+import datagram_files
 
 NAMESPACE = "urn:ietf:params:xml:ns:fdt"
 EXPIRES = 4_007_664_000  # 2026-12-31 00:00:00Z, in seconds since 1900
@@ -77,12 +82,18 @@ def fdt(
     return "\n".join([*lines, f"</{front}FDT-Instance>", ""]).encode()
 
 
-def partition(length: int, symbol: int, block: int) -> list[tuple[int, int]]:
-    """Block and number of each symbol (RFC 5052, section 9.1)."""
+def block_sizes(length: int, symbol: int, block: int) -> list[int]:
+    """How many symbols each source block has (RFC 5052, section 9.1)."""
     symbols = -(-length // symbol)
     blocks = -(-symbols // block)
     small, larger = divmod(symbols, blocks) if blocks else (0, 0)
-    return [(at, of) for at in range(blocks) for of in range(small + (at < larger))]
+    return [small + 1] * larger + [small] * (blocks - larger)
+
+
+def partition(length: int, symbol: int, block: int) -> list[tuple[int, int]]:
+    """The source block number and the encoding symbol ID of each symbol."""
+    sizes = block_sizes(length, symbol, block)
+    return [(sbn, esi) for sbn, size in enumerate(sizes) for esi in range(size)]
 
 
 def header(tsi: int, toi: int, extensions: bytes) -> bytes:
@@ -121,10 +132,6 @@ def instance(tsi: int, number: int, xml: bytes) -> list[bytes]:
     return packets(tsi, 0, xml, FDT_SYMBOL, FDT_BLOCK, instance=number)
 
 
-def datagram_file(of: Iterable[bytes]) -> bytes:
-    return b"FLDG\0\1" + b"".join(struct.pack(">H", len(it)) + it for it in of)
-
-
 def small_session() -> list[bytes]:
     """Three files, of which the last lacks two symbols, and symbols that nothing describes."""
     numbers = b"".join(b"%d\n" % number for number in range(1_000_000, 1_005_000))
@@ -144,4 +151,4 @@ def small_session() -> list[bytes]:
 
 if __name__ == "__main__":
     with open(sys.argv[1], "xb") as out:
-        out.write(datagram_file(small_session()))
+        out.write(datagram_files.content(small_session()))

@@ -4,6 +4,8 @@ go on where a smaller input would not tell that it gave up.
 
 usage: tests/large.py PROGRAM
 """
+from __future__ import annotations
+
 import os
 import struct
 import subprocess
@@ -11,6 +13,10 @@ import sys
 import tempfile
 import unittest
 from pathlib import Path
+
+sys.dont_write_bytecode = True
+sys.path.append(str(Path(__file__).resolve().parent.parent / "examples"))
+import datagram_files
 
 PROGRAM = ""
 
@@ -121,10 +127,10 @@ class Large(unittest.TestCase):
         sent, journal = self.room / "sent", self.room / "journal"
         lengths = struct.pack(">BBHIHHI", 64, 4, 0, 65_536, 0, 1, 1)
         with sent.open("wb") as file:
-            file.write(b"FLDG\0\1")
+            file.write(datagram_files.HEADER)
             for toi in range(1, 401):
                 header = struct.pack(">BBBBIII", 0x10, 0xA0, 8, 0, 0, 7, toi)
-                file.write(struct.pack(">H", 37) + header + lengths + bytes(4) + b"x")
+                file.write(datagram_files.record(header + lengths + bytes(4) + b"x"))
         self.assertEqual(counted(run("join", "-o", journal, sent))["entries"], 800)
         limited = f'ulimit -v {32 << 10}; exec "$@"'
         command = ["sh", "-c", limited, "sh", PROGRAM, "gaps", str(journal)]

@@ -16,6 +16,9 @@ import sys
 import tempfile
 from typing import BinaryIO
 
+sys.dont_write_bytecode = True
+from flute_sender import block_sizes
+
 OBJECTS = 16
 SYMBOLS = 1_048_575  # with the entry of its information, an object has 1,048,576 entries
 BLOCK = 65_536
@@ -28,24 +31,17 @@ def key(toi: int) -> bytes:
     return bytes(16) + (7).to_bytes(6, "big") + b"\1" + toi.to_bytes(14, "big")
 
 
-def block_lengths() -> list[int]:
-    """How many symbols each block has (RFC 5052, section 9.1)."""
-    blocks = -(-SYMBOLS // BLOCK)
-    small, large_blocks = divmod(SYMBOLS, blocks)
-    return [small + 1] * large_blocks + [small] * (blocks - large_blocks)
-
-
 def write_journal(out: BinaryIO) -> None:
     """Writes the journal, a block of entries at a time."""
     out.write(b"FLJN" + struct.pack(">H", 2))
-    lengths = block_lengths()
+    sizes = block_sizes(SYMBOLS, 1, BLOCK)
     for toi in range(1, OBJECTS + 1):
         name = key(toi)
         out.write(b"\1" + name + SYMBOLS.to_bytes(6, "big") + struct.pack(">HI", 1, BLOCK))
         behind = struct.pack(">H", 1) + BYTE
-        for sbn, length in enumerate(lengths):
+        for sbn, size in enumerate(sizes):
             before = b"\3" + name + struct.pack(">H", sbn)
-            entries = [before + struct.pack(">H", esi) + behind for esi in range(length)]
+            entries = [before + struct.pack(">H", esi) + behind for esi in range(size)]
             out.write(b"".join(entries))
     out.write(b"\xff" + (OBJECTS * (SYMBOLS + 1)).to_bytes(8, "big"))
 

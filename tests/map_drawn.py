@@ -5,6 +5,7 @@ from __future__ import annotations
 import os
 import re
 import sys
+from typing import Any
 
 import run
 from run import ROOT, TESTS, Run
@@ -14,10 +15,10 @@ V4, V6 = "0a000001", "20010db8000000000000000000000001"
 
 
 class Case(run.Case):
-    def map(self, words: run.Words, **how: object) -> Run:
+    def map(self, words: run.Words, **how: Any) -> Run:
         return self.tool("flutejoin-map", words, **how)
 
-    def map_row(self, name: str, words: run.Words, *wanted: object, **how: object) -> Run:
+    def map_row(self, name: str, words: run.Words, *wanted: Any, **how: Any) -> Run:
         done = self.map(words, **how)
         self.check(name, done, *wanted)
         return done

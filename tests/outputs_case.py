@@ -12,6 +12,7 @@ import shutil
 import stat
 import subprocess
 import tempfile
+from typing import Any
 
 import run
 from run import TESTS, Run, until
@@ -64,7 +65,7 @@ class Case(run.Case):
         """Nothing is beside it."""
         self.absent(f"{name}: nothing beside {file}", f"{file}.partial")
 
-    def through(self, wish: str, words: str, **how: object) -> Run:
+    def through(self, wish: str, words: str, **how: Any) -> Run:
         """A run with tests/disk.c between it and its files. What it asks of the disk and what it
         prints are its output, in that order."""
         command = ["sh", "-c", THROUGH, library("disk"), wish, run.PROGRAM, *run.split(words)]

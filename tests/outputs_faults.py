@@ -4,6 +4,7 @@ from __future__ import annotations
 import os
 import resource
 from signal import SIG_IGN, SIGXFSZ
+from typing import Any
 
 from outputs_case import CREATE, FIRST, LINES_OF_BOTH, SECOND, THIRD, WRITE, Case
 from run import Run
@@ -14,7 +15,7 @@ TARGETS = "all", "fresh"
 class Stays(Case):
     """`all` is there, and `fresh` isn't."""
 
-    def stays(self, name: str, done: Run, target: str, before: str, *wanted: object) -> None:
+    def stays(self, name: str, done: Run, target: str, before: str, *wanted: Any) -> None:
         self.check(f"{name}, to {target}", done, *wanted)
         self.alone(name, target)
         if target == "all":
@@ -118,7 +119,7 @@ class Disk(Case):
         super().setUp()
         self.path("kept").mkdir()
 
-    def asked(self, target: str, wish: str, *wanted: object) -> Run:
+    def asked(self, target: str, wish: str, *wanted: Any) -> Run:
         """A join of both stations to a file that is there, or that is new."""
         self.copy("one", "kept/there")
         done = self.through(wish, f"join -o kept/{target} one two")

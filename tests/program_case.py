@@ -5,6 +5,8 @@ as the program writes them. All are of the object 1 of the session 7, "hello", u
 """
 from __future__ import annotations
 
+from typing import Any
+
 import run
 from run import ZERO, version2
 
@@ -114,7 +116,7 @@ class Case(run.Case):
         self.file("hello_both", HEADER2, HELLO_OF_ZERO, version2(V4, both), ended(6))
 
     def makes(
-        self, name: str, words: run.Words, out: run.Expected, wanted: run.Content, **how: object
+        self, name: str, words: run.Words, out: run.Expected, wanted: run.Content, **how: Any
     ) -> None:
         """A run that leaves the file `got`, with these bytes; what it had before is gone."""
         if self.exists("got"):

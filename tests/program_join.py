@@ -29,6 +29,24 @@ class Join(Case):
             words = ["join", "-o", "got", *["part"] * (count - 1), "last_alone"]
             self.makes(f"{count} inputs", words, joined(0, 3), "whole2")
 
+    def test_memory(self) -> None:
+        """However much may be held, the journal is the same."""
+        for size in "1", "1K", "2M", "3G", "4611686018427387904", "4294967296G":
+            words = f"join -o got --memory {size} sent whole"
+            self.makes(f"at most {size}", words, joined(2, 3), "whole2")
+        for size in "0", "0K", "''", "K", "1k", "1MB", "-1", "4294967297G", "1" + "0" * 39:
+            words = f"join -o none --memory={size} sent"
+            self.row(f"a memory of {size}", words, 2, "", "bad number: --memory")
+        key = "join -o none --memory x --source x --toi 0 missing"
+        self.rows(
+            ("the first bad number", "join -o none --memory x --toi x missing", 2, "",
+             "bad number: --toi"),
+            ("before a bad source", key, 2, "", "bad number: --memory"),
+            ("twice", "join -o none --memory 1 --memory 1 sent", 2, "", None),
+            ("of another command", "merge -o none --memory 1 whole others", 2, "", None),
+        )
+        self.absent("no file after a fault", "none")
+
     def test_faults(self) -> None:
         mem = "join -o got whole /proc/self/mem"
         self.rows(

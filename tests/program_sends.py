@@ -6,33 +6,18 @@ import resource
 import struct
 import subprocess
 
-import run
+import run  # before datagram_files, which it finds
+import datagram_files
+from flute_sender import packets
 from program_case import NAME, Case
 
 MEBIBYTE = 1 << 20
 LITTLE = {resource.RLIMIT_AS: 16 * MEBIBYTE}
 
 
-def partition(length: int, symbol: int, block: int) -> list[tuple[int, int]]:
-    """The source block number and the encoding symbol ID of each symbol (RFC 5052, section 9.1)."""
-    symbols = -(-length // symbol)
-    blocks = -(-symbols // block)
-    small, large_blocks = divmod(symbols, blocks)
-    sizes = [small + 1] * large_blocks + [small] * (blocks - large_blocks)
-    return [(sbn, esi) for sbn, size in enumerate(sizes) for esi in range(size)]
-
-
 def datagrams(content: bytes, symbol: int, block: int) -> bytes:
-    """The datagram file of the object 1 of the session 7 (RFC 5651, RFC 5775, RFC 5445)."""
-    fixed = bytes([0x10, 0xA0, 8, 0]) + struct.pack(">III", 0, 7, 1)
-    length = len(content).to_bytes(6, "big")
-    fti = bytes([64, 4]) + length + struct.pack(">HHI", 0, symbol, block)
-    records = [b"FLDG\0\1"]
-    for place, (sbn, esi) in enumerate(partition(len(content), symbol, block)):
-        piece = content[place * symbol : (place + 1) * symbol]
-        datagram = fixed + fti + struct.pack(">HH", sbn, esi) + piece
-        records.append(struct.pack(">H", len(datagram)) + datagram)
-    return b"".join(records)
+    """The datagram file of the object 1 of the session 7."""
+    return datagram_files.content(packets(7, 1, content, symbol, block))
 
 
 def counted(number: int) -> bytes:
@@ -63,17 +48,20 @@ class Sending(Case):
         self.row("a pipe", f"{of} -", 0, "datagrams 28572", stdin=content, limits=LITTLE)
 
     def test_nothing_put_aside(self) -> None:
-        """Without a folder for it, no more than what memory holds is sent of a pipe."""
-        self.write("got", "old")
-        of = f"carousel -f -o got {NAME} --symbol 1400 --block 64 -"
+        """Without a folder for it, no more than what memory holds is sent of a pipe to standard
+        output; a file of its own is beside OUT."""
+        of = f"carousel -o - {NAME} --symbol 1400 --block 64 -"
         nowhere = {"TMPDIR": "missing"}
         large = counted(3 * MEBIBYTE)
         self.row("too much", of, 3, "", "cannot write", stdin=large, env=nowhere)
-        self.same("OUT is as before", "got", b"old")
-        self.absent("nothing beside it", "got.partial")
-        small = counted(MEBIBYTE // 2)
-        self.row("what memory holds", of, 0, "datagrams 375", stdin=small, env=nowhere)
-        self.same("its datagrams", "got", datagrams(small, 1400, 64))
+        small = counted(MEBIBYTE // 10)
+        sent = datagrams(small, 1400, 64)
+        self.row("what memory holds", of, 0, sent, "datagrams 75", stdin=small, env=nowhere)
+        self.write("got", "old")
+        beside = of.replace("-o -", "-f -o got")
+        self.row("beside OUT", beside, 0, "datagrams 2247", stdin=large, env=nowhere)
+        self.same("its datagrams", "got", datagrams(large, 1400, 64))
+        self.absent("nothing beside it", "got.partial", "got.aside.0")
 
     def test_no_file_is_left(self) -> None:
         os.mkdir(self.path("aside"))

@@ -1,22 +1,33 @@
 #!/usr/bin/env python3
-"""Reads the Python of tools/ and examples/, which needs no package, and of the tests: each function
-has type hints, and pyflakes, if it is installed, finds nothing.
+"""Reads the Python of tools/ and examples/, which needs no package, and of the tests.
+
+Each function has type hints, each file can be read by Python 3.9. What is installed of pyflakes,
+pycodestyle, ruff and mypy finds nothing; mypy reads the tools, the examples, and of the tests what
+several share.
 
 usage: tests/python.py
 """
 from __future__ import annotations
 
 import ast
+import os
 import pathlib
 import shutil
 import subprocess
 import sys
+import tempfile
 import unittest
+from typing import Iterator
 
 ROOT = pathlib.Path(__file__).resolve().parent.parent
 FOLDERS = "tools", "examples", "tests"
+OLDEST = 3, 9  # the version of Python
 MOST_COLUMNS, MOST_LINES = 100, 400
 OF_DASK = {"distributed"}  # examples/join_on_dask.py is run by Dask's Python
+SHARED = "run.py", "captures.py", "flute_sender.py", "*_case.py", "python.py"
+# Imports stand behind what a tool does first, as answering signals (E402). What the formatter does
+# at colons and operators is as it should be (E203, W503).
+IGNORED = "--ignore=E402,E203,W503"
 
 
 def sources(*folders: str) -> list[pathlib.Path]:
@@ -29,6 +40,11 @@ def is_script(path: pathlib.Path) -> bool:
         return b"python3" in file.readline() if path.is_file() else False
 
 
+def trees(*folders: str) -> Iterator[tuple[pathlib.Path, ast.Module]]:
+    for path in sources(*folders):
+        yield path, ast.parse(path.read_text(), feature_version=OLDEST)
+
+
 def imported(tree: ast.AST) -> set[str]:
     found = set()
     for node in ast.walk(tree):
@@ -39,28 +55,44 @@ def imported(tree: ast.AST) -> set[str]:
     return found
 
 
-def without_hints(tree: ast.AST) -> list[str]:
-    """The functions that lack a type of what they take or return."""
-    found = []
-    for node in ast.walk(tree):
-        if isinstance(node, ast.FunctionDef):
-            arguments = [*node.args.posonlyargs, *node.args.args, *node.args.kwonlyargs]
-            named = [it for it in arguments if it.arg not in ("self", "cls")]
-            if node.returns is None or any(it.annotation is None for it in named):
-                found.append(node.name)
-    return found
+def functions(tree: ast.AST) -> list[ast.FunctionDef]:
+    return [node for node in ast.walk(tree) if isinstance(node, ast.FunctionDef)]
+
+
+def lacks_hints(function: ast.FunctionDef) -> bool:
+    """Whether a type is missing of what it takes or returns."""
+    of = function.args
+    arguments = [*of.posonlyargs, *of.args, *of.kwonlyargs]
+    named = [it for it in arguments if it.arg not in ("self", "cls")]
+    named += [it for it in (of.vararg, of.kwarg) if it]
+    return function.returns is None or any(it.annotation is None for it in named)
+
+
+def keeps_hints_unread(tree: ast.Module) -> bool:
+    """Whether types are not evaluated, so that Python 3.9 takes those of later versions."""
+    return any(
+        isinstance(node, ast.ImportFrom)
+        and node.module == "__future__"
+        and any(name.name == "annotations" for name in node.names)
+        for node in tree.body
+    )
 
 
 class Sources(unittest.TestCase):
     def test_what_is_imported(self) -> None:
+        known: frozenset[str] | None = getattr(sys, "stdlib_module_names", None)
+        if known is None:
+            self.skipTest("Python's own modules are named since 3.10")
         own = {path.stem for path in sources(*FOLDERS)}
-        for path in sources("tools", "examples"):
-            others = imported(ast.parse(path.read_text())) - sys.stdlib_module_names - own
+        for path, tree in trees("tools", "examples"):
+            others = imported(tree) - known - own
             self.assertLessEqual(others, OF_DASK, path)
 
     def test_type_hints(self) -> None:
-        for path in sources(*FOLDERS):
-            self.assertEqual(without_hints(ast.parse(path.read_text())), [], path)
+        for path, tree in trees(*FOLDERS):
+            found = functions(tree)
+            self.assertEqual([it.name for it in found if lacks_hints(it)], [], path)
+            self.assertTrue(not found or keeps_hints_unread(tree), path)
 
     def test_lengths(self) -> None:
         for path in sources("tools", "examples"):
@@ -70,12 +102,41 @@ class Sources(unittest.TestCase):
             longest = max(map(len, path.read_text().splitlines()), default=0)
             self.assertLessEqual(longest, MOST_COLUMNS, path)
 
+
+class Checkers(unittest.TestCase):
+    """Other programs that read Python."""
+
+    def finds_nothing(self, names: str, *words: object, **paths: str) -> None:
+        found = [path for path in map(shutil.which, names.split()) if path]
+        if not found:
+            self.skipTest(f"{names.split()[0]} is not installed")
+        command = [found[0], *map(str, words)]
+        environment = {**os.environ, **paths}
+        done = subprocess.run(command, capture_output=True, text=True, cwd=ROOT, env=environment)
+        self.assertEqual(done.returncode, 0, done.stdout + done.stderr)
+
     def test_pyflakes(self) -> None:
-        program = shutil.which("pyflakes3") or shutil.which("pyflakes")
-        if not program:
-            self.skipTest("pyflakes is not installed")
-        done = subprocess.run([program, *sources(*FOLDERS)], capture_output=True, text=True)
-        self.assertEqual(done.stdout + done.stderr, "")
+        self.finds_nothing("pyflakes3 pyflakes", *sources(*FOLDERS))
+
+    def test_pycodestyle(self) -> None:
+        length = f"--max-line-length={MOST_COLUMNS}"
+        self.finds_nothing("pycodestyle pycodestyle3", length, IGNORED, *sources(*FOLDERS))
+
+    def test_ruff(self) -> None:
+        options = "check", "--isolated", "--no-cache", "--ignore=E402"
+        length = f"--line-length={MOST_COLUMNS}"
+        self.finds_nothing("ruff", *options, length, *sources(*FOLDERS))
+
+    def test_types(self) -> None:
+        shared = [path for name in SHARED for path in (ROOT / "tests").glob(name)]
+        options = ["--ignore-missing-imports", "--explicit-package-bases", "--scripts-are-modules"]
+        options.append("--python-version={}.{}".format(*OLDEST))
+        places = ":".join(str(ROOT / folder) for folder in FOLDERS)
+        with tempfile.TemporaryDirectory(prefix="flutejoin-mypy.") as cache:
+            # Two folders have a captures.py.
+            for paths in sources("tools", "examples"), shared:
+                words = *options, f"--cache-dir={cache}", *paths
+                self.finds_nothing("mypy", *words, MYPYPATH=places)
 
 
 if __name__ == "__main__":

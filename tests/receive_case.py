@@ -4,15 +4,16 @@ Nothing is sent anywhere but to this machine, or to a network namespace.
 """
 from __future__ import annotations
 
+import itertools
 import os
 import re
 import socket
-import struct
 import subprocess
 import sys
-from typing import Iterator
+from typing import Any
 
-import run
+import run  # before datagram_files, which it finds
+import datagram_files
 from run import ROOT, Run, until
 
 TOOL = ROOT / "tools" / "flutejoin-receive"
@@ -24,17 +25,13 @@ OPTIONS = "--buffer 200000 --seconds 600"
 TIME = re.compile(rb"^[0-9-]*T[0-9:]*Z (?=flutejoin-receive: )", re.MULTILINE)
 LISTENING = re.compile(rb"^.*: listening .*\n", re.MULTILINE)
 SEND = """
-import socket, struct, sys
+import datagram_files, itertools, socket, sys
 file, source, target, port, first, count = *sys.argv[1:4], *map(int, sys.argv[4:])
 family = socket.AF_INET6 if ":" in target else socket.AF_INET
 udp = socket.socket(family, socket.SOCK_DGRAM)
 udp.bind((source, 0))
-data, place, number = open(file, "rb").read(), 6, 0
-while place < len(data):
-    (length,) = struct.unpack_from(">H", data, place)
-    if first <= number < first + count:
-        udp.sendto(data[place + 2 : place + 2 + length], (target, port))
-    place, number = place + 2 + length, number + 1
+for datagram in itertools.islice(datagram_files.read(file), first, first + count):
+    udp.sendto(datagram, (target, port))
 """
 
 
@@ -45,7 +42,8 @@ def said(*texts: str) -> str:
 def join_line(source: str, folder: str, *files: str, address: str = "127.0.0.1") -> str:
     """The line that joins these files of a sender, or its one file."""
     names = " ".join(f"{folder}/{name}" for name in files or (f"{address}.fldg",))
-    return f"flutejoin join --source {source} -o {folder}/{address}.journal {names}\n"
+    join = f"flutejoin join --any-size --source {source}"
+    return f"{join} -o {folder}/{address}.journal {names}\n"
 
 
 def count_line(count: int, file: str, address: str = "127.0.0.1", new: str = "") -> str:
@@ -93,16 +91,8 @@ class Case(run.Case):
 
     def records_of(self, name: str, first: int = 0, count: int = 1000) -> bytes:
         """The datagram file of some records of another."""
-        data = self.read(name)
-        return data[:6] + b"".join([*self.pieces(data)][first : first + count])
-
-    @staticmethod
-    def pieces(data: bytes) -> Iterator[bytes]:
-        place = 6
-        while place < len(data):
-            end = place + 2 + struct.unpack_from(">H", data, place)[0]
-            yield data[place:end]
-            place = end
+        found = datagram_files.read(str(self.path(name)))
+        return datagram_files.content(itertools.islice(found, first, first + count))
 
     def send(
         self,
@@ -115,10 +105,10 @@ class Case(run.Case):
     ) -> None:
         """Sends the datagrams of a file, of which the first has the number 0."""
         words = [*PYTHON, "-c", SEND, file, source, target, port or self.port, first, count]
-        done = self.command([*self.prefix, *words])
+        done = self.command([*self.prefix, *words], env={"PYTHONPATH": str(ROOT / "examples")})
         self.assertEqual(done.status, 0, done)
 
-    def receive(self, words: str, to: str | None = None, **how: object) -> Receiver:
+    def receive(self, words: str, to: str | None = None, **how: Any) -> Receiver:
         """Starts to receive, and waits until it listens or has ended."""
         self.number += 1
         out, err = to or f"out{self.number}", f"err{self.number}"
@@ -133,7 +123,7 @@ class Case(run.Case):
         self.assertTrue(until(is_ready), words)
         return receiver
 
-    def tried(self, name: str, words: str, *wanted: object, **how: object) -> None:
+    def tried(self, name: str, words: str, *wanted: Any, **how: Any) -> None:
         """A run that ends by itself."""
         self.check(name, self.receive(words, **how).ended(), *wanted)
 

@@ -25,11 +25,14 @@ import tempfile
 import threading
 import time
 import unittest
-from typing import Callable, Iterable, Sequence
+from typing import Any, Callable, Iterable, Sequence
 
 sys.dont_write_bytecode = True
-TOOLS = os.path.join(os.path.dirname(os.path.dirname(os.path.abspath(__file__))), "tools")
-sys.path.insert(0, TOOLS)
+ROOT = os.path.dirname(os.path.dirname(os.path.abspath(__file__)))
+TOOLS = os.path.join(ROOT, "tools")
+sys.path[:0] = [TOOLS, os.path.join(ROOT, "examples")]
+import datagram_files
+
 TOOL = os.path.join(TOOLS, "flutejoin-receive")
 PROGRAM = os.path.abspath(sys.argv[1])
 INSIDE = "flutejoin_receiving_inside"
@@ -53,14 +56,9 @@ def records(path: str) -> list[bytes]:
     """The datagrams of a datagram file. It has to be whole."""
     with open(path, "rb") as file:
         data = file.read()
-    assert data[:6] == b"FLDG\0\1", path
-    place, found = 6, []
-    while place < len(data):
-        end = place + 2 + int.from_bytes(data[place : place + 2], "big")
-        assert end <= len(data), path
-        found.append(data[place + 2 : end])
-        place = end
-    return found
+    found = list(datagram_files.records(data))
+    assert datagram_files.HEADER + b"".join(found) == data, path
+    return [record[2:] for record in found]
 
 
 def free_port() -> int:
@@ -79,7 +77,7 @@ class Receiver:
         before: Sequence[str] = (),
         tool: Sequence[str] = (TOOL,),
         listens: bool = True,
-        **run: object,
+        **run: Any,
     ) -> None:
         self.test, self.port = test, free_port()
         self.told = tempfile.TemporaryFile()
@@ -546,7 +544,7 @@ class Disk(Case):
         """One wrong byte of a length: what does not fit behind it is no record that was cut."""
         os.mkdir(self.path("kept"))
         sent = self.symbols(1000, 1380)
-        data = b"FLDG\0\1" + b"".join(struct.pack(">H", len(each)) + each for each in sent)
+        data = datagram_files.content(sent)
         wrong = bytearray(data)
         wrong[6 + 1402 * 970] = 0xFF
         with open(self.path("kept/127.0.0.1.fldg"), "wb") as file:
@@ -742,12 +740,12 @@ class Epochs(Case):
         self.assertEqual(records(self.path("kept/127.0.0.1.fldg"))[:22], first + first)
         told = "127.0.0.1 starts again: an FDT Instance has other contents; epoch 2 begins"
         self.assertEqual(receiver.stderr().count(told), 1)
+        join = "flutejoin join --any-size --source 7f000001"
         self.assertEqual(
             lines[2:],
             [
-                "flutejoin join --source 7f000001 -o kept/127.0.0.1.journal kept/127.0.0.1.fldg",
-                "flutejoin join --source 7f000001 -o kept/127.0.0.1.e2.journal "
-                "kept/127.0.0.1.e2.fldg",
+                f"{join} -o kept/127.0.0.1.journal kept/127.0.0.1.fldg",
+                f"{join} -o kept/127.0.0.1.e2.journal kept/127.0.0.1.e2.fldg",
             ],
         )
 
@@ -783,7 +781,7 @@ class Epochs(Case):
         self.assertEqual(records(self.path("kept/127.0.0.1.e3.fldg")), runs[2])
         last = f"kept/127.0.0.1.e2.{len(parts)}.fldg"
         self.assertEqual(records(self.path(last))[-11:], runs[1])
-        self.assertEqual(lines[-1].split()[5:], [
+        self.assertEqual(lines[-1].split()[-2:], [
             "kept/127.0.0.1.e3.journal",
             "kept/127.0.0.1.e3.fldg",
         ])

@@ -25,6 +25,7 @@ import time
 import unittest
 from typing import (
     IO,
+    Any,
     Callable,
     Iterable,
     Iterator,
@@ -38,6 +39,7 @@ from typing import (
 
 TESTS = pathlib.Path(__file__).resolve().parent
 ROOT = TESTS.parent
+sys.path.append(str(ROOT / "examples"))  # for datagram_files
 PROGRAM = pathlib.Path(os.environ.get("FLUTEJOIN", ROOT / "bin" / "flutejoin")).absolute()
 LONGEST = 600.0  # seconds that a run may take, on a machine under load
 NOBODY = 65534  # the number of a user without leave
@@ -76,7 +78,7 @@ class Counts:
     passed = 0
 
 
-def split(words: Words) -> list[object]:
+def split(words: Words) -> list[str | bytes]:
     if isinstance(words, str):
         return [*shlex.split(words)]
     return [word if isinstance(word, bytes) else str(word) for word in words]
@@ -207,14 +209,19 @@ class Case(unittest.TestCase):
             for stream in closed:
                 os.close(stream)
 
-        other = {"user": NOBODY, "group": NOBODY, "extra_groups": []}
+        other: dict[str, Any] = {"user": NOBODY, "group": NOBODY, "extra_groups": []}
+        given: int | IO[bytes] = subprocess.PIPE
+        out: int | IO[bytes] = subprocess.PIPE
+        told: int | IO[bytes] = subprocess.PIPE
         with contextlib.ExitStack() as files:
-            given, out = subprocess.PIPE, subprocess.PIPE if to is None else to
             if isinstance(stdin, pathlib.Path):
                 given = files.enter_context(self.path(stdin).open("rb"))
             if isinstance(to, str):
                 out = files.enter_context(self.path(to).open("wb"))
-            told = files.enter_context(self.path(err).open("wb")) if err else subprocess.PIPE
+            elif to is not None:
+                out = to
+            if err:
+                told = files.enter_context(self.path(err).open("wb"))
             child = subprocess.Popen(
                 split(words),
                 stdin=given,
@@ -234,23 +241,23 @@ class Case(unittest.TestCase):
         out, err = child.communicate(given if child.stdin else None, timeout=within)
         return Run(child.returncode, out or b"", err or b"")
 
-    def command(self, words: Words, *, seconds: float = LONGEST, **how: object) -> Run:
+    def command(self, words: Words, *, seconds: float = LONGEST, **how: Any) -> Run:
         """Runs a command, as `start` says."""
         given = how.get("stdin", b"")
         child = self.start(words, **how)
         return self.finish(child, given if isinstance(given, bytes) else b"", seconds)
 
-    def program(self, words: Words, **how: object) -> Run:
+    def program(self, words: Words, **how: Any) -> Run:
         return self.command([PROGRAM, *split(words)], **how)
 
-    def tool(self, name: str, words: Words, **how: object) -> Run:
+    def tool(self, name: str, words: Words, **how: Any) -> Run:
         """Runs a tool, by this Python."""
         return self.command([sys.executable, ROOT / "tools" / name, *split(words)], **how)
 
-    def shell(self, script: str, **how: object) -> Run:
+    def shell(self, script: str, **how: Any) -> Run:
         return self.command(["sh", "-c", script], **how)
 
-    def made(self, words: Words, **how: object) -> Run:
+    def made(self, words: Words, **how: Any) -> Run:
         """Runs the program for what it makes: it has to succeed."""
         done = self.program(words, **how)
         self.assertEqual(done.status, 0, (words, done))
@@ -312,14 +319,14 @@ class Case(unittest.TestCase):
         status: int | None = 0,
         out: Expected = "",
         err: Expected = "",
-        **how: object,
+        **how: Any,
     ) -> Run:
         """Runs the program, and checks what it left."""
         done = self.program(words, **how)
         self.check(name, done, status, out, err)
         return done
 
-    def rows(self, *rows: Sequence[object]) -> None:
+    def rows(self, *rows: Sequence[Any]) -> None:
         """Rows with the fields of `Row`, of which the last may be left out, one after another."""
         for row in rows:
             self.row(*Row(*row))

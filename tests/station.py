@@ -17,7 +17,6 @@ import pathlib
 import random
 import signal
 import socket
-import struct
 import subprocess
 import sys
 import tempfile
@@ -30,14 +29,15 @@ TOOLS = HERE.parent / "tools"
 STATION = TOOLS / "flutejoin-station"
 FILES = TOOLS / "flutejoin-files"
 PUSH = HERE.parent / "examples" / "push.sh"
-HEADER = b"FLDG\0\1"
 SOURCE = "7f000001"
 NAME = "127.0.0.1"
 
 sys.dont_write_bytecode = True
-sys.path.insert(0, str(TOOLS))
+sys.path[:0] = [str(TOOLS), str(PUSH.parent)]
+import datagram_files
 import flute_sender
 import flutejoin_files
+from datagram_files import HEADER, record
 from flutejoin_joining import Program
 from flutejoin_keeping import Keeper, Settings
 
@@ -61,14 +61,7 @@ def flutejoin(*words: object) -> subprocess.CompletedProcess:
 
 def records(data: bytes) -> list[bytes]:
     """The whole records of a datagram file, which may be cut."""
-    found, place = [], len(HEADER)
-    while place + 2 <= len(data):
-        end = place + 2 + struct.unpack_from(">H", data, place)[0]
-        if end > len(data):
-            break
-        found.append(data[place:end])
-        place = end
-    return found
+    return list(datagram_files.records(data))
 
 
 def datagram_file(path: pathlib.Path, of: list[bytes]) -> pathlib.Path:
@@ -91,8 +84,7 @@ def described(file: pathlib.Path) -> list[bytes]:
     """The records of an FDT Instance of a file."""
     location = f"http://example.com/{file.name}"
     sent = flute_sender.Sent(1, file.read_bytes(), location, symbol=1000, block=64)
-    packets = flute_sender.instance(7, 2, flute_sender.fdt([sent]))
-    return [struct.pack(">H", len(packet)) + packet for packet in packets]
+    return list(map(record, flute_sender.instance(7, 2, flute_sender.fdt([sent]))))
 
 
 def journal_of(*inputs: object) -> bytes:
@@ -132,8 +124,8 @@ class Port:
         self.udp = socket.socket(socket.AF_INET, socket.SOCK_DGRAM)
 
     def send(self, of: list[bytes], pause: float = 0.0) -> None:
-        for number, record in enumerate(of):
-            self.udp.sendto(record[2:], (NAME, self.number))
+        for number, sent in enumerate(of):
+            self.udp.sendto(sent[2:], (NAME, self.number))
             if number % 16 == 15:
                 time.sleep(pause)
 

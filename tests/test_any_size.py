@@ -12,7 +12,8 @@ import struct
 import sys
 
 sys.dont_write_bytecode = True
-import run
+import run  # before datagram_files, which it finds
+import datagram_files
 
 SESSIONS, OBJECTS = 64, 4096  # as many as a store holds
 ANY_SESSIONS = 32_767
@@ -128,7 +129,7 @@ class AnySize(run.Case):
         places = [at for at in range(half) if first.startswith(toi, at) and at + 3 in differ]
         self.assertEqual(len(places), len(differ))
         for count, is_within in (OBJECTS, True), (OBJECTS + 1, False):
-            sent = [b"FLDG\0\1"]
+            sent = [datagram_files.HEADER]
             for number in range(1, count + 1):
                 datagram = bytearray(first)
                 for at in places:

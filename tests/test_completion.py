@@ -77,6 +77,7 @@ class Completion(run.Case):
     def test_values_of_options(self) -> None:
         for option in "source", "tsi", "toi", "fdt", "length", "symbol", "block":
             self.offers("", "flutejoin", "info", f"--{option}", "")
+        self.offers("", "flutejoin", "join", "--memory", "")
         self.rows(
             ("--tsi,--toi", "flutejoin extract -o out --t"),
             ("--source,--symbol", "flutejoin info -o out --s"),

@@ -10,6 +10,7 @@ import hashlib
 import os
 import resource
 import sys
+from typing import Any
 
 sys.dont_write_bytecode = True
 import run
@@ -66,10 +67,10 @@ class Values(run.Case):
         of = f"{name}/10.0.0.1.fldg"
         self.made(f"join -o {name}/journal --source 0a000001 {of}")
 
-    def values(self, words: str, **how: object) -> Run:
+    def values(self, words: str, **how: Any) -> Run:
         return self.tool("flutejoin-values", words, **how)
 
-    def values_row(self, name: str, words: str, *wanted: object, **how: object) -> Run:
+    def values_row(self, name: str, words: str, *wanted: Any, **how: Any) -> Run:
         done = self.values(words, **how)
         self.check(name, done, *wanted)
         return done

@@ -15,8 +15,10 @@ from flutejoin_packets import FIXED_ALL
 
 try:
     import ctypes
+
+    CALLS_SYSTEM = sys.platform == "linux"
 except ImportError:  # a Python without it receives them one by one
-    ctypes = None
+    CALLS_SYSTEM = False
 
 MOST = 32  # datagrams of one call
 ROOM = 1 << 16  # bytes of a datagram, one more than a record can hold
@@ -26,7 +28,7 @@ DONT_WAIT = 0x40  # MSG_DONTWAIT of Linux
 
 # The sender's address, the datagram's length, its first bytes, and where its record begins. Of a
 # short datagram the first bytes end with some of an earlier one.
-Datagram = Tuple[bytes, int, Tuple[bytes], int]
+Datagram = Tuple[bytes, int, Tuple[bytes, ...], int]
 
 
 class Batch:
@@ -64,11 +66,12 @@ class Batch:
 
 def many_at_once(batch: Batch) -> Optional[Callable[[int], Iterable[Datagram]]]:
     """The call recvmmsg of Linux for a batch; None where it cannot be had."""
-    if ctypes is None or sys.platform != "linux":
+    if not CALLS_SYSTEM:
         return None
-    call = getattr(ctypes.CDLL(None, use_errno=True), "recvmmsg", None)
-    if call is None:
+    system = ctypes.CDLL(None, use_errno=True)
+    if not hasattr(system, "recvmmsg"):
         return None
+    call = system.recvmmsg
 
     class Piece(ctypes.Structure):
         _fields_ = [("base", ctypes.c_void_p), ("length", ctypes.c_size_t)]

@@ -298,9 +298,10 @@ def block_packets(stream: io.BufferedReader) -> Iterator[Packet]:
         size = taken(stream, 4) if len(kind) == 4 else taken(stream, 1 << 20)
         begun = 0
         if kind == SECTION:
-            order, interfaces, begun = SECTION_ORDERS.get(taken(stream, 4)), [], 4
-            if order is None:
+            named = SECTION_ORDERS.get(taken(stream, 4))
+            if named is None:
                 raise Damage("a section without an order of bytes")
+            order, interfaces, begun = named, [], 4
         number, length = struct.unpack(order + "II", kind + size)
         is_read = number in (INTERFACE, OLD_PACKET, SIMPLE_PACKET, PACKET)
         if length % 4 or length < 12 + begun or is_read and length > MOST_PACKET + 65536:

@@ -34,7 +34,7 @@ class State(NamedTuple):
             missing, disputed, misfits = (int(line[at]) for at in (6, 7, 8))
             wanted = missing + disputed + misfits
             return cls(gaps.PARTIAL, wanted, disputed, disputed + misfits > 0)
-        words = line[line.lastindex].decode()
+        words = (line[2] or line[3] or line[4]).decode()
         return cls(words, 0, 0, words == gaps.CONFLICTING_INFORMATION)
 
     def is_whole(self) -> bool:
@@ -49,7 +49,9 @@ MISSING = State("missing")
 
 def key_of(text: str) -> Key:
     """The object of a line of flutejoin."""
-    source, tsi, is_instance, number = KEY.fullmatch(text).groups()
+    found = KEY.fullmatch(text)
+    assert found, text
+    source, tsi, is_instance, number = found.groups()
     tag = FDT_INSTANCE if is_instance else FILE
     return Key(bytes.fromhex(source) if source else bytes(16), int(tsi), tag, int(number))
 

@@ -44,27 +44,28 @@ class Decoder:
 
     def pieces(self, data: bytes) -> Iterator[bytes]:
         while data:
-            if self.stream is None or self.stream.eof:
-                if self.stream and self.format != GZIP:
+            stream = self.stream
+            if stream is None or stream.eof:
+                if stream and self.format != GZIP:
                     raise Undecodable("bytes follow its end")
-                self.begin(data)
-            yield from self.pieces_of_stream(data)
-            data = self.stream.unused_data
+                stream = self.begin(data)
+            yield from self.pieces_of_stream(stream, data)
+            data = stream.unused_data
 
-    def pieces_of_stream(self, data: bytes) -> Iterator[bytes]:
+    def pieces_of_stream(self, stream: zlib._Decompress, data: bytes) -> Iterator[bytes]:
         piece = bytes(PIECE)
-        while not self.stream.eof and (data or len(piece) == PIECE):
+        while not stream.eof and (data or len(piece) == PIECE):
             try:
-                piece = self.stream.decompress(data, PIECE)
+                piece = stream.decompress(data, PIECE)
             except zlib.error as fault:
                 raise Undecodable(str(fault)) from None
-            data = self.stream.unconsumed_tail
+            data = stream.unconsumed_tail
             self.size += len(piece)
             if self.size > self.most:
                 raise Undecodable(f"more than {self.most:,} bytes come out")
             yield piece
 
-    def begin(self, data: bytes) -> None:
+    def begin(self, data: bytes) -> zlib._Decompress:
         """Begins a stream; a file of gzip may have several.
 
         What is called deflate is a zlib format at many senders, as HTTP has it.
@@ -73,6 +74,7 @@ class Decoder:
         if form == RAW and len(data) > 1 and data[0] & 15 == DEFLATED:
             form = RAW if (data[0] << 8 | data[1]) % 31 else ZLIB
         self.stream = zlib.decompressobj(form)
+        return self.stream
 
     def finish(self) -> None:
         if self.stream is None or not self.stream.eof:

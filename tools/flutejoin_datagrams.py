@@ -151,9 +151,9 @@ class Datagrams:
         elif place & 0x3FFF:
             key = source, target, number, UDP, self.vlans
             offset, more = (place & 0x1FFF) * 8, bool(place & 0x2000)
-            data = self.fragments.add(key, offset, more, data, is_whole, self.when)
-            if data is not None:
-                self.take_udp(source, target, data, True, True)
+            joined = self.fragments.add(key, offset, more, data, is_whole, self.when)
+            if joined is not None:
+                self.take_udp(source, target, joined, True, True)
         else:
             self.take_udp(source, target, data, is_whole)
 
@@ -172,10 +172,10 @@ class Datagrams:
                     return
                 key = source, target, number, kind, self.vlans
                 offset, more = place & 0xFFF8, bool(place & 1)
-                data = self.fragments.add(key, offset, more, data, is_whole, self.when)
-                if data is None:
+                joined = self.fragments.add(key, offset, more, data, is_whole, self.when)
+                if joined is None:
                     return
-                is_whole = is_joined = True
+                data, is_whole, is_joined = joined, True, True
             kind, data = behind_headers(kind, data)
         if kind == UDP:
             self.take_udp(source, target, data, is_whole, is_joined)

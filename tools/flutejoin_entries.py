@@ -5,7 +5,7 @@ import struct
 from typing import BinaryIO, Iterator, NamedTuple, Union
 
 from flutejoin_partition import fault_of
-from flutejoin_records import MOST, Fault, Reader, Records
+from flutejoin_records import MOST, Buffer, Fault, Reader, Records
 
 # How an entry begins.
 INFORMATION, INFORMATION_CONFLICT, SYMBOL, SYMBOL_CONFLICT, END = 1, 2, 3, 4, 0xFF
@@ -27,6 +27,12 @@ class Entry(NamedTuple):
     address: Address
     kind: int
     value: bytes  # of a symbol that is in no conflict
+
+
+def information_of(value: Buffer) -> tuple[int, int, int]:
+    """An object's length, the bytes of a symbol and the symbols of a block."""
+    high, low, symbol, block = struct.unpack(">HIHI", value)
+    return high << 32 | low, symbol, block
 
 
 class Entries(Reader):
@@ -66,8 +72,7 @@ class Entries(Reader):
 
     def value(self, kind: int) -> bytes:
         if kind == INFORMATION:
-            high, low, symbol, block = struct.unpack(">HIHI", self.take(12))
-            fault = fault_of(high << 32 | low, symbol, block)
+            fault = fault_of(*information_of(self.take(12)))
             if fault:
                 raise Fault(f"Information {fault}")
         if kind != SYMBOL:

@@ -104,6 +104,9 @@ class Instance(NamedTuple):
     files: dict[int, File]
     notes: collections.Counter  # what is wrong in it, and how often
 
+    def is_named_by_number(self) -> bool:
+        return self.number is not None and self.name == str(self.number)
+
     def rank(self) -> tuple[int, int]:
         """The one of several Instances that counts has the greatest."""
         last = -1 if self.number is None else self.number

@@ -15,9 +15,8 @@ import string
 import sys
 from typing import IO, BinaryIO, Callable, Iterator, NamedTuple, NoReturn, Optional, Union
 
-import flutejoin_records as records
+from flutejoin_records import PIECE
 
-HEADER = records.HEADER  # of a datagram file
 MOST_BYTES = (1 << 32) - 1  # of a datagram file, so that it can be kept on any disk
 MOST_INPUTS = 64  # of one `flutejoin join`
 PARTIAL = ".partial"
@@ -143,6 +142,26 @@ def stop(number: int, _frame: object) -> None:
     raise KeyboardInterrupt(number)
 
 
+@contextlib.contextmanager
+def later() -> Iterator[None]:
+    """Signals that come meanwhile are answered behind it.
+
+    What was begun by then is known, and is ended with the run.
+    """
+    came: list[int] = []
+    before = {
+        number: signal.signal(number, lambda number, _frame: came.append(number))
+        for number in STOPPING
+    }
+    try:
+        yield
+    finally:
+        for number, answer in before.items():
+            signal.signal(number, answer)
+    for one in came:  # the first may be ignored
+        signal.raise_signal(one)
+
+
 def keep_status() -> None:
     """For the end of a run: it keeps the status that the run ends with.
 
@@ -178,7 +197,7 @@ def open_at_once(name: str, flags: int) -> int:
 
 def opened(name: str) -> BinaryIO:
     """Opens a file that may be read from any place."""
-    file = open(name, "rb", buffering=records.PIECE, opener=open_at_once)
+    file = open(name, "rb", buffering=PIECE, opener=open_at_once)
     if not file.seekable():
         file.close()
         raise OSError(errno.ESPIPE, "is no regular file", name)
@@ -241,13 +260,14 @@ def name_of(name: str) -> Optional[Name]:
 def join_lines(sender: bytes, journal: str, inputs: list[str]) -> Iterator[str]:
     """The lines that join a sender's files, and what an earlier run of such a line made of some.
 
-    A line takes 64 inputs.
+    A line takes 64 inputs. It has `--any-size`, since whoever can send to a port chooses how many
+    sessions and objects there are.
     """
     inputs = [journal, *inputs] if os.path.lexists(journal) else inputs
     while inputs:
         paths = [journal, *inputs[:MOST_INPUTS]]
         paths = [f"./{path}" if path.startswith("-") else path for path in paths]
-        words = ["flutejoin", "join", "--source", sender.hex(), "-o", *paths]
+        words = ["flutejoin", "join", "--any-size", "--source", sender.hex(), "-o", *paths]
         yield " ".join(map(quoted, words))
         rest = inputs[MOST_INPUTS:]
         inputs = [journal, *rest] if rest else []
@@ -269,21 +289,28 @@ def write_new(name: str, ending: str, fill: Callable[[BinaryIO], None]) -> None:
     partial = name + ending
     if os.path.lexists(name):
         raise FileExistsError(errno.EEXIST, "is there already, and is left as it is", name)
+    out: Optional[BinaryIO] = None
     try:
-        out = open(partial, "xb")
-    except FileExistsError:
-        told = "is there already: left by a run that was killed, or being written"
-        raise FileExistsError(errno.EEXIST, told, partial) from None
-    try:
+        with later():
+            out = new_file(partial)
         with out:
             fill(out)
             out.flush()
             os.fsync(out.fileno())
         give_name(partial, name)
     except BaseException:
-        with contextlib.suppress(FileNotFoundError):
-            os.remove(partial)
+        if out:
+            with contextlib.suppress(FileNotFoundError):
+                os.remove(partial)
         raise
+
+
+def new_file(partial: str) -> BinaryIO:
+    try:
+        return open(partial, "xb")
+    except FileExistsError:
+        told = "is there already: left by a run that was killed, or being written"
+        raise FileExistsError(errno.EEXIST, told, partial) from None
 
 
 def write_out(fill: Callable[[BinaryIO], None]) -> None:

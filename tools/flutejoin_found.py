@@ -57,8 +57,8 @@ def look_at(folder: str, name: Name) -> Found:
             epoch = epoch_of(file, size, looked)
             if not epoch.hashes and name.part > 1:
                 epoch = epoch_in(folder, name._replace(part=name.part - 1))
-            size = size if mended(file, path, size, found.st_size) else None
-            return Found(name, (found.st_dev, found.st_ino), size, records, epoch)
+            kept = size if mended(file, path, size, found.st_size) else None
+            return Found(name, (found.st_dev, found.st_ino), kept, records, epoch)
     except OSError as error:
         raise Fault(3, f"cannot open {path}: {error.strerror}") from None
 

@@ -31,7 +31,9 @@ class Fragmented:
 
     def is_over(self, when: int | None) -> bool:
         """Whether what comes at this second is too late for it. A capture may tell no times."""
-        return None not in (when, self.when) and abs(when - self.when) > MOST_SECONDS
+        if when is None or self.when is None:
+            return False
+        return abs(when - self.when) > MOST_SECONDS
 
     def fail(self, cause: str) -> None:
         """It is never put together, whatever comes. What is kept is where its port stands."""

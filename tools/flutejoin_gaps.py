@@ -17,12 +17,10 @@ from typing import (
     Container,
     Generator,
     Iterable,
-    Iterator,
     List,
     NamedTuple,
     Optional,
     Tuple,
-    Union,
 )
 
 import flutejoin_files as files
@@ -82,7 +80,7 @@ class State(NamedTuple):
     def of(cls, line: re.Match) -> State:
         if line[5]:
             return cls(PARTIAL, int(line[7]) + int(line[8]))
-        return cls(line[line.lastindex].decode())
+        return cls((line[2] or line[3] or line[4]).decode())
 
     def has_information(self) -> bool:
         return self.words in (WHOLE, PARTIAL)
@@ -97,26 +95,6 @@ Begin = Callable[[str, State], Optional[Take]]
 Numbers = Tuple[int, int, int]
 # The words of a run of the program, and the names of its inputs
 Command = Tuple[List[str], List[str]]
-
-
-@contextlib.contextmanager
-def later() -> Iterator[None]:
-    """Signals that come meanwhile are answered behind it.
-
-    What was begun by then is known, and is ended with the run.
-    """
-    came = []
-    before = {
-        number: signal.signal(number, lambda number, _frame: came.append(number))
-        for number in files.STOPPING
-    }
-    try:
-        yield
-    finally:
-        for number, answer in before.items():
-            signal.signal(number, answer)
-    for number in came:  # the first may be ignored
-        signal.raise_signal(number)
 
 
 class Program:
@@ -191,7 +169,7 @@ class Program:
 
         It is the object's length, the bytes of a symbol and the symbols of a block.
         """
-        found = {}
+        found: dict[str, Numbers] = {}
         show = (["show", argument(journal)], [shown(journal)])
         with contextlib.closing(self.lines([show])) as lines:
             for line in lines:
@@ -202,7 +180,7 @@ class Program:
                     raise unknown(line)
                 key = information[1].decode()
                 if key in keys:
-                    found[key] = tuple(int(number) for number in information.groups()[1:])
+                    found[key] = int(information[2]), int(information[3]), int(information[4])
                     if len(found) == len(keys):
                         return found
         raise Fault(3, f"{shown(journal)}: changed while it was read")
@@ -213,33 +191,33 @@ class Program:
         Each command is its words and the names of its inputs, and takes what the one before it
         writes.
         """
-        running: list[subprocess.Popen] = []
+        running: list[subprocess.Popen[bytes]] = []
         try:
             for words, _ in commands:
-                feed = running[-1].stdout if running else subprocess.DEVNULL
-                with later():
+                feed = out_of(running[-1]) if running else None
+                with files.later():
                     running.append(self.start(words, feed))
-                if len(running) > 1:
+                if feed:
                     feed.close()
-            yield from running[-1].stdout
-            faults = [fault_of(process, names) for process, (_, names) in zip(running, commands)]
-            faults = [fault for fault in faults if fault]
+            yield from out_of(running[-1])
+            ended = [fault_of(process, names) for process, (_, names) in zip(running, commands)]
+            faults = [fault for fault in ended if fault]
         finally:
             for process in running:
                 process.kill()
-                process.stdout.close()
-                process.stderr.close()
+                out_of(process).close()
+                told_by(process).close()
                 process.wait()
         # The one before a command that stopped reading could not write.
         first = [fault for fault in faults if not fault.is_write] or faults
         if first:
             raise first[0]
 
-    def start(self, words: list[str], feed: Union[IO[bytes], int]) -> subprocess.Popen:
+    def start(self, words: list[str], feed: Optional[IO[bytes]]) -> subprocess.Popen[bytes]:
         try:
             return subprocess.Popen(
                 [self.path, *words],
-                stdin=feed,
+                stdin=feed or subprocess.DEVNULL,
                 stdout=subprocess.PIPE,
                 stderr=subprocess.PIPE,
                 pass_fds=self.kept,
@@ -275,19 +253,31 @@ def numbers_of(information: Numbers) -> list[str]:
     return ["--length", str(length), "--symbol", str(symbol), "--block", str(block)]
 
 
-def fault_of(process: subprocess.Popen, names: list[str]) -> Optional[Fault]:
+def out_of(process: subprocess.Popen[bytes]) -> IO[bytes]:
+    """What a run of the program prints, through a pipe."""
+    assert process.stdout
+    return process.stdout
+
+
+def told_by(process: subprocess.Popen[bytes]) -> IO[bytes]:
+    """What it writes to standard error."""
+    assert process.stderr
+    return process.stderr
+
+
+def fault_of(process: subprocess.Popen[bytes], names: list[str]) -> Optional[Fault]:
     """What a run of the program tells to be wrong, with the name of the file.
 
     None where it did its work.
     """
-    told = process.stderr.read().decode(errors="replace").strip()
+    told = told_by(process).read().decode(errors="replace").strip()
     status = process.wait()
     if not status:
         return None
     text = shown(told.rpartition("\n")[2])
     place = re.fullmatch(r"(?:input (\d+): (.*)|(cannot open) input (\d+))", text)
     number = int(place[1] or place[4]) if place else 0
-    if 0 < number <= len(names):
+    if place and 0 < number <= len(names):
         text = f"{names[number - 1]}: {place[2] or place[3]}"
     elif status < 0:
         text = f"flutejoin was ended by signal {-status}"

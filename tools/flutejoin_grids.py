@@ -2,7 +2,7 @@
 from __future__ import annotations
 
 import array
-from typing import Callable, Iterable, Iterator, Sequence
+from typing import Callable, Iterable, Iterator, Optional, Sequence
 
 from flutejoin_gaps import (
     CONFLICTING,
@@ -103,7 +103,9 @@ class Grid:
 
         Of each its first column, the one behind, and its counts.
         """
-        begin, one, kind = 0, None, None
+        begin = column = 0
+        one: Counts = ()
+        kind: Optional[list[bool]] = None
         for column, counts in enumerate(self.row_cells(row)):
             pure = sum(count > 0 for count in counts) == 1
             if pure and kind == [count > 0 for count in counts]:

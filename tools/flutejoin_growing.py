@@ -115,16 +115,15 @@ class Growing:
 
     def write(self, block: Block) -> None:
         self.opened.make_room(len(HEADER) + len(block.data))  # which may end this file
-        if self.descriptor is None:
-            self.open()
+        descriptor = self.open() if self.descriptor is None else self.descriptor
         self.opened.touch(self)
         data = block.data if self.size else HEADER + block.data
         view, written = memoryview(data), 0
         try:
             while written < len(data):
-                written += os.write(self.descriptor, view[written:])
+                written += os.write(descriptor, view[written:])
         except OSError:
-            self.keep_whole(block, data, written)
+            self.keep_whole(descriptor, block, data, written)
             raise
         self.add(len(data), len(block.data), block.records)
 
@@ -134,13 +133,13 @@ class Growing:
         self.taken += of_block
         self.records += records
 
-    def keep_whole(self, block: Block, data: Buffer, written: int) -> None:
+    def keep_whole(self, descriptor: int, block: Block, data: Buffer, written: int) -> None:
         """After a write of which so many bytes got to the file: the rest of the block waits."""
         begin = 0 if self.size else len(HEADER)
         end, records = whole_records(memoryview(data)[begin:written])
         whole = begin + end if records else 0
         try:
-            os.ftruncate(self.descriptor, self.size + whole)
+            os.ftruncate(descriptor, self.size + whole)
         except OSError as fault:
             told = "the record that is cut at its end cannot be taken away"
             note(f"{self.path()}: {told}: {fault.strerror}")
@@ -150,7 +149,7 @@ class Growing:
         if records:
             self.orders[0] = Block(memoryview(data)[whole:], block.records - records)
 
-    def open(self) -> None:
+    def open(self) -> int:
         """Makes the file, or opens again what is made, where nobody changed it since.
 
         A file of its name that somebody else made is left as it is, and the next number taken.
@@ -159,7 +158,7 @@ class Growing:
             is_made = self.identity is not None
             try:
                 flags = LOOK_FLAGS if is_made else MAKE_FLAGS
-                self.descriptor = self.opened.open(self.path(), flags)
+                self.descriptor = descriptor = self.opened.open(self.path(), flags)
             except FileExistsError:
                 self.part += 1
                 continue
@@ -168,13 +167,13 @@ class Growing:
                     raise  # it is the folder that is not there
                 self.lose("was removed or moved while it was closed")
                 continue
-            found = os.fstat(self.descriptor)
+            found = os.fstat(descriptor)
             if not is_made:
                 self.identity = found.st_dev, found.st_ino
             elif self.identity != (found.st_dev, found.st_ino) or found.st_size != self.size:
                 self.lose("was changed by another")
                 continue
-            return
+            return descriptor
 
     def lose(self, what: str) -> None:
         """Leaves the file that grew as it is, and begins another."""
@@ -199,7 +198,7 @@ class Growing:
             return
         if not found.st_nlink and self.records:
             note(f"{self.path()}: was removed while it grew; what it held is written anew")
-            self.copies.append(Copy(self))
+            self.copies.append(Copy(self, self.descriptor))
             self.descriptor = None
             self.opened.forget(self)
             self.identity, self.size, self.records, self.before = None, 0, 0, 0
@@ -238,8 +237,8 @@ class Growing:
 class Copy:
     """What a removed file held, which is written anew from the descriptor that is still there."""
 
-    def __init__(self, growing: Growing) -> None:
-        self.growing, self.source = growing, growing.descriptor
+    def __init__(self, growing: Growing, source: int) -> None:
+        self.growing, self.source = growing, source
         self.epoch, self.part = growing.epoch, growing.part
         self.size, self.records, self.before = growing.size, growing.records, growing.before
         self.copied, self.is_done = 0, False
@@ -250,23 +249,23 @@ class Copy:
 
     def step(self) -> None:
         """Copies some of it. What fails in the middle is written again from there."""
-        if self.target is None:
-            self.make()
+        target = self.make() if self.target is None else self.target
         for _ in range(COPY_STEP):
             piece = os.pread(self.source, min(PIECE, self.size - self.copied), self.copied)
             if not piece:
                 note(f"{self.path()}: {self.copied} bytes of it are written anew")
                 self.end(self.records)
                 return
-            written = os.pwrite(self.target, piece, self.copied)
+            written = os.pwrite(target, piece, self.copied)
             self.copied += written
             self.growing.opened.held += written
 
-    def make(self) -> None:
+    def make(self) -> int:
         flags = os.O_RDWR | os.O_CREAT | os.O_EXCL | os.O_CLOEXEC
-        while self.target is None:
+        while True:
             try:
-                self.target = self.growing.opened.open(self.path(), flags)
+                self.target = target = self.growing.opened.open(self.path(), flags)
+                return target
             except FileExistsError:
                 self.part += 1
 

@@ -6,8 +6,7 @@ what is wrong in it.
 """
 from __future__ import annotations
 
-import struct
-from typing import BinaryIO, Callable, Iterator, NamedTuple, Optional
+from typing import BinaryIO, Callable, Iterator, NamedTuple, Optional, Union
 
 from flutejoin_entries import (
     END,
@@ -17,6 +16,7 @@ from flutejoin_entries import (
     INFORMATION_CONFLICT,
     SYMBOL,
     SYMBOL_CONFLICT,
+    information_of,
 )
 from flutejoin_records import Cut, Fault
 
@@ -68,8 +68,7 @@ class Held:
 
     def add(self, kind: int, more: memoryview) -> None:
         if kind == INFORMATION:
-            high, low, symbol, block = struct.unpack(">HIHI", more)
-            self.information = high << 32 | low, symbol, block
+            self.information = information_of(more)
         elif kind == INFORMATION_CONFLICT:
             self.is_disputed = True
         else:
@@ -120,7 +119,7 @@ class Copy:
         self.out, self.count = out, 0
         out.write(HEADER)
 
-    def add(self, kind: int, raw: bytes, more: memoryview) -> None:
+    def add(self, kind: int, raw: bytes, more: Union[bytes, memoryview]) -> None:
         self.out.write(bytes([kind]) + raw + more)
         self.count += 1
 

@@ -94,6 +94,7 @@ class Program:
     def feed(self, child: subprocess.Popen, fed: Fed) -> None:
         """Hands records to a join. One that ends before has something to tell."""
         pipe, child.stdin = child.stdin, None
+        assert pipe
         try:
             with pipe:
                 for piece in fed.pieces():

@@ -104,7 +104,8 @@ class Keeper:
 
         The last one of an address may grow.
         """
-        found, last = collections.defaultdict(list), {}
+        found: dict[Sender, list[Part]] = collections.defaultdict(list)
+        last: dict[files.IPAddress, int] = {}
         for name in os.listdir(self.incoming):
             sender, number = sender_of(name) or (None, 0)
             part = self.parts.get(name) or Part(os.path.join(self.incoming, name), number)
@@ -309,8 +310,9 @@ class Keeper:
     def promote_all(self) -> None:
         """Joins each small journal into its large one."""
         for name in os.listdir(self.small.path):
-            sender, _ = sender_of(name.removesuffix(".journal") + ".fldg") or (None, 0)
-            if sender and name.endswith(".journal"):
+            found = sender_of(name.removesuffix(".journal") + ".fldg")
+            if found and name.endswith(".journal"):
+                sender, _ = found
                 self.attempt(sender, lambda: self.promote(sender))
 
     def retire(self, sender: Sender, parts: list[Part]) -> None:

@@ -62,6 +62,7 @@ def shortened(name: str, whole: str) -> str:
 def path_of(location: str) -> str:
     """The path that a Content-Location has below a folder."""
     found = URI.fullmatch(location)
+    assert found, "it is of any text"
     authority, path, query = found[1] or "", found[2], found[3] or ""
     steps: list[str] = []
     for step in path.split("/")[:-1]:

@@ -66,7 +66,6 @@ class Notes:
             except (OSError, AttributeError, ValueError):
                 self.waiting.clear()
 
-
     def finish(self) -> None:
         """At the end of a run: waits a second at most for what still waits."""
         for _ in range(10):

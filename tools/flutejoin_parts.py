@@ -133,7 +133,9 @@ class Files:
         epochs = self.epochs.get(sender)
         if epochs is None and sender not in self.refused and len(self.epochs) < MOST_SENDERS:
             epochs = self.epochs[sender] = Epochs()
-        begins = epochs.begins(payload, when) if epochs else False
+        if epochs is None:
+            return False
+        begins = epochs.begins(payload, when)
         if begins:
             self.report.warn(f"{files.address(sender)} {epochs.told()}")
             if sender in self.open:

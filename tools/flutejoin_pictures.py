@@ -197,7 +197,8 @@ def swatch(x: float, y: float, kind: int, words: str) -> str:
 
 def drawing_svg(drawing: Drawing) -> tuple[list[str], float]:
     """Draws an object, and answers how high that is."""
-    body, top = [], 24
+    body: list[str] = []
+    top: float = 24
     body.append(f'<path d="M{MARGIN} {top - 20}H{WIDTH - MARGIN}" stroke="#bbb"/>')
     body.append(text(MARGIN, top, drawing.title, 'font-size="15" font-weight="bold"'))
     scale = drawing.scale()
@@ -285,7 +286,7 @@ def bars(counts: Counts, left: float, right: float, y: float, height: float) -> 
     """The share of each kind, one above the other. What is there at all can be seen."""
     kinds = [kind for kind in (MISSING, CONFLICTING, MISFIT, HELD) if counts[kind]]
     parts = {kind: max(1, height * counts[kind] / sum(counts)) for kind in kinds}
-    most = max(kinds, key=parts.get)
+    most = max(kinds, key=lambda kind: parts[kind])
     parts[most] -= sum(parts.values()) - height
     for kind, part in parts.items():
         outline = f"M{edge(left)} {edge(y)}H{edge(right)}V{edge(y + part)}H{edge(left)}Z"

@@ -33,7 +33,7 @@ class Receiver:
         """Sees whether it runs, and begins it where that is due."""
         now = time.monotonic()
         if self.child and self.child.poll() is not None:
-            self.end(now)
+            self.end(self.child, now)
         if not self.child and not self.is_stopped and now >= self.start_at:
             self.begin(now)
 
@@ -50,8 +50,8 @@ class Receiver:
         except (OSError, subprocess.SubprocessError) as fault:
             self.put_off(now, f"the receiver cannot be run: {fault}")
 
-    def end(self, now: float) -> None:
-        self.status, self.child = self.child.returncode, None
+    def end(self, child: subprocess.Popen, now: float) -> None:
+        self.status, self.child = child.returncode, None
         if self.status == 2:
             raise Fault(2, "the receiver does not take its settings")
         if not self.is_stopped:
@@ -70,7 +70,7 @@ class Receiver:
         if self.child:
             self.child.terminate()
             self.child.wait()
-            self.end(time.monotonic())
+            self.end(self.child, time.monotonic())
 
     def told(self) -> Optional[dict]:
         """What it told last of what it receives."""

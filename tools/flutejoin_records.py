@@ -111,4 +111,4 @@ class Records(Reader):
                 at = end
             rest = data[at:]
         if rest:
-            raise Fault("TooMany") if self.count == MOST else Cut
+            raise Fault("TooMany") if self.count == MOST else Cut()

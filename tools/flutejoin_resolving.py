@@ -10,7 +10,7 @@ import hashlib
 import itertools
 import math
 import os
-from typing import Iterable, Iterator, NamedTuple
+from typing import Iterable, Iterator, NamedTuple, Tuple
 
 import flutejoin_entries as entries
 import flutejoin_files as files
@@ -165,14 +165,20 @@ class Resolving:
                     continue
                 value = choices[key].get(bytes(more[:4]))
                 if kind == entries.SYMBOL_CONFLICT and value:
-                    kind, more = entries.SYMBOL, bytes(more) + len(value).to_bytes(2, "big") + value
-                copy.add(kind, raw, more)
+                    symbol = bytes(more) + len(value).to_bytes(2, "big") + value
+                    copy.add(entries.SYMBOL, raw, symbol)
+                else:
+                    copy.add(kind, raw, more)
             copy.finish()
+
+
+# An MD5 of some symbols, and which of their values it has of those that are in conflict
+State = Tuple["hashlib._Hash", Tuple[bytes, ...]]
 
 
 def choice_of(wanted: Wanted, of: Iterable[tuple[int, memoryview]]) -> dict[bytes, bytes] | None:
     """The values that make the MD5. The symbols of a journal come in the object's order."""
-    states = [(hashlib.md5(usedforsecurity=False), ())]
+    states: list[State] = [(hashlib.md5(usedforsecurity=False), ())]
     for kind, more in of:
         if kind == entries.SYMBOL and wanted.has(more):
             data = more[6 : 6 + wanted.size(more)]
@@ -187,7 +193,7 @@ def choice_of(wanted: Wanted, of: Iterable[tuple[int, memoryview]]) -> dict[byte
     return None
 
 
-def forked(states: list, values: list[bytes]) -> Iterator[tuple]:
+def forked(states: list[State], values: list[bytes]) -> Iterator[State]:
     for digest, before in states:
         for value in values:
             other = digest.copy()

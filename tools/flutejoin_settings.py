@@ -57,12 +57,11 @@ class SessionOptions:
         group: Optional[IPAddress] = None,
         sender: Optional[IPAddress] = None,
         interface: Optional[str] = None,
-        folder: Optional[str] = None,
+        folder: str = "",
     ) -> None:
         self.port, self.group, self.sender = port, group, sender
         self.interface: Optional[str] = interface
-        self.folder: Optional[str] = folder
-        self.buffer = DEFAULTS["buffer"]
+        self.folder, self.buffer = folder, BUFFER
 
     def wrong(self) -> Optional[str]:
         """What of it does not fit together."""
@@ -127,7 +126,8 @@ SETTINGS = {
         "write there each 10 seconds what came, as JSON; SIGUSR1 tells the same",
     ),
 }
-DEFAULTS = {"folder": ".", "senders": 64, "split": MOST_BYTES, "buffer": 1 << 24}
+BUFFER = 1 << 24
+DEFAULTS = {"folder": ".", "senders": 64, "split": MOST_BYTES, "buffer": BUFFER}
 
 
 def command_line(description: str, epilog: str) -> argparse.Namespace:

@@ -27,7 +27,9 @@ class Interface:
     """
 
     def __init__(self, text: Optional[str]) -> None:
-        self.text, self.name, self.index, self.address = text, None, 0, None
+        self.text, self.index = text, 0
+        self.name: Optional[str] = None
+        self.address: Optional[IPAddress] = None
         if text is None:
             return
         try:
@@ -38,22 +40,23 @@ class Interface:
             except OSError:
                 raise Fault(3, f"there is no interface {text}")
         if self.address and self.address.version == 6:
-            self.index = self.index_of_address()
+            self.index = index_of(self.address)
 
-    def index_of_address(self) -> int:
-        """The number of the interface with this IPv6 address.
 
-        The calls for IPv6 groups take that alone.
-        """
-        try:
-            with open("/proc/net/if_inet6", encoding="ascii") as table:
-                for line in table:
-                    fields = line.split()
-                    if fields[0] == self.address.packed.hex():
-                        return int(fields[1], 16)
-        except OSError:
-            pass
-        raise Fault(3, f"there is no interface with the address {self.text}")
+def index_of(address: IPAddress) -> int:
+    """The number of the interface with this IPv6 address.
+
+    The calls for IPv6 groups take that alone.
+    """
+    try:
+        with open("/proc/net/if_inet6", encoding="ascii") as table:
+            for line in table:
+                fields = line.split()
+                if fields[0] == address.packed.hex():
+                    return int(fields[1], 16)
+    except OSError:
+        pass
+    raise Fault(3, f"there is no interface with the address {address}")
 
 
 def set_option(udp: socket.socket, level: int, option: int, value: Union[int, bytes]) -> bool:
@@ -96,14 +99,15 @@ def open_socket(options: SessionOptions, interface: Interface) -> socket.socket:
     else:
         udp.bind((str(local or "::"), options.port, 0, interface.index if local else 0))
     if options.group:
-        join_group(udp, options, interface)
+        join_group(udp, options.group, options.sender, interface)
     udp.setblocking(False)
     return udp
 
 
-def join_group(udp: socket.socket, options: SessionOptions, interface: Interface) -> None:
+def join_group(
+    udp: socket.socket, group: IPAddress, sender: Optional[IPAddress], interface: Interface
+) -> None:
     """Joins the group: of one sender where one is named and the system can, and else of all."""
-    group, sender = options.group, options.sender
     if sender and LINUX and join_source(udp, group, sender, interface):
         return
     if group.version == 4:

@@ -87,7 +87,9 @@ class Status:
         note(f"status\n{self.text(entries)}")
 
     def write(self, entries: list[Entry]) -> None:
-        """Replaces the file in one step. Where it cannot be written, it is told once."""
+        """Replaces the file, if there is to be one, in one step. A fault is told once."""
+        if self.path is None:
+            return
         beside = f"{self.path}.partial"
         try:
             with open(beside, "w", encoding="utf-8") as file:

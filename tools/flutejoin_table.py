@@ -32,8 +32,8 @@ def title(session: Session) -> str:
     """The line of a session: its FDT Instances, and which is the newest."""
     if session.newest is None:
         return f"{session.title()}: no FDT Instance"
-    numbers = ranges([head.number for head in session.heads if head.name == str(head.number)])
-    named = [head.name for head in session.heads if head.name != str(head.number)]
+    numbers = ranges([int(head.name) for head in session.heads if head.is_named_by_number()])
+    named = [head.name for head in session.heads if not head.is_named_by_number()]
     told = ", ".join([numbers] * bool(numbers) + named)
     several = "s" if len(session.heads) > 1 else ""
     newest = session.newest

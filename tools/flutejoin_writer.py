@@ -94,13 +94,14 @@ class Folder:
         found = []
         for name in self.names():
             of = name_of(name)
+            if not of:
+                continue
             path = os.path.join(self.path, name)
             try:
-                status = os.lstat(path) if of else None
+                status = os.lstat(path)
             except OSError:
                 continue
-            if status:
-                found.append(Entry(status.st_mtime_ns, path, status.st_size, of, self.path))
+            found.append(Entry(status.st_mtime_ns, path, status.st_size, of, self.path))
         return found
 
 
@@ -295,5 +296,3 @@ def sizes(entries: Iterable[Entry]) -> dict:
     for entry in entries:
         held[entry.folder, entry.name.address] += entry.size
     return held
-
-

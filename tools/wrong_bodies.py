@@ -183,7 +183,7 @@ class Crate:
     def group(self, pending: list[Body]) -> list[Body]:
         """As many of these bodies as are of different functions and leave each other's texts."""
         chosen: list[Body] = []
-        functions: set[Optional[str]] = set()
+        functions: set[str] = set()
         texts: dict[str, str] = {}
         for body in pending:
             with_it = self.edited(body, texts)

@@ -31,7 +31,7 @@ class Body:
     def __init__(self, crate: str, file: str) -> None:
         self.name = f"{crate}/{os.path.basename(file)[: -len('.edit')]}"
         self.pairs: list[tuple[str, str, str]] = []
-        self.functions: set[Optional[str]] = set()
+        self.functions: set[str] = set()  # a text outside functions is of ""
         texts: dict[str, str] = {}
         for path, key, old, new in pairs_of(text_of(file)):
             if path not in texts:
@@ -44,14 +44,14 @@ class Body:
                 old, behind = with_wrong_one(text, old, new)
                 new = f"{old}\n{behind}"
             until = text[: text.index(old)] + (new if key == "over" else old)
-            self.functions.add(enclosing(crate, path, until))
+            self.functions.add(enclosing(crate, path, until) or "")
             texts[path] = text.replace(old, new)
             self.pairs.append((path, old, new))
         if not self.pairs:
             raise ValueError(f"{self.name}: no pair of texts")
 
     def is_of_functions(self) -> bool:
-        return None not in self.functions
+        return "" not in self.functions
 
 
 def pairs_of(text: str) -> list[tuple[str, str, str, str]]:
@@ -72,7 +72,7 @@ def with_wrong_one(text: str, head: str, body: str) -> tuple[str, str]:
     """The function with this head, and another with its signature and clauses, and this body."""
     at = text.index(head)
     start = text.rfind("\n", 0, at) + 1
-    indent = re.match(" *", text[start:])[0]
+    indent = " " * (len(text[start:]) - len(text[start:].lstrip(" ")))
     opening = text.find(f"\n{indent}{{\n", at)
     closing = f"\n{indent}}}\n"
     end = text.find(closing, opening) + len(closing)
