@@ -2,7 +2,7 @@
 use Rattle.std.specs.Prelude.{◌≡◌, ◌≢◌, ℕ, zero, suc, List, [], ◌∷◌, ◌⊎◌, Option}
 use Rattle.flute_parts.specs.declared.address.Address.{Address}
 use Rattle.flute_journal.specs.declared.fault.LoadFault.{LoadFault}
-use Rattle.flute_journal.specs.declared.streams_fault.InputFault.{InputFault}
+use Rattle.flute_journal.specs.declared.merge.streams_fault.InputFault.{InputFault}
 use Rattle.flute_journal.specs.Streams.{Behaviour, place_of, GoesOn, StopsAt, IsNew}
 
 module _ {S : Type 0} (b : Behaviour S) where

@@ -1,7 +1,7 @@
 -- A stream and those of a list.
 use Rattle.std.specs.Prelude.{List, ◌∷◌, map, take}
-use Rattle.flute_journal.specs.declared.either.Either.{Either}
-use Rattle.flute_journal.specs.declared.either.Either.TheVariants.{First, Second}
+use Rattle.flute_journal.specs.declared.streams.either.Either.{Either}
+use Rattle.flute_journal.specs.declared.streams.either.Either.TheVariants.{First, Second}
 
 -- the stream, and then those of the list
 abbrev pub chained : {A B : Type 0} → A → List B → List (Either A B)

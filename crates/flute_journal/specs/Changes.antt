@@ -3,8 +3,8 @@ use Rattle.std.specs.Prelude.{Option, Some}
 use Rattle.flute_parts.specs.Addresses.{address}
 use Rattle.flute_parts.specs.Facts.{conflict_at}
 use Rattle.flute_parts.specs.declared.fact.Fact.{Fact}
-use Rattle.flute_journal.specs.declared.lowest.Change.{Change}
-use Rattle.flute_journal.specs.declared.lowest.Change.TheVariants.{Lower, Conflict, Nothing}
+use Rattle.flute_journal.specs.declared.merge.lowest.Change.{Change}
+use Rattle.flute_journal.specs.declared.merge.lowest.Change.TheVariants.{Lower, Conflict, Nothing}
 
 -- the value there after this change, by this fact
 abbrev pub changed : Option Fact → Fact → Change → Option Fact

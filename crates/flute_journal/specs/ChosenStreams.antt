@@ -4,7 +4,7 @@ use Rattle.std.specs.Prelude.{None}
 use Rattle.std.specs.List.{count_by}
 use Rattle.flute_parts.specs.declared.fact.Fact.{Fact}
 use Rattle.flute_journal.specs.Streams.{Behaviour}
-use Rattle.flute_journal.specs.declared.chosen.Chosen.{Chosen}
+use Rattle.flute_journal.specs.declared.streams.chosen.Chosen.{Chosen}
 
 -- so it is with some facts of which these are those that are taken
 abbrev pub OfAll : (Fact → Bool) → (List Fact → Type 0) → List Fact → Type 0

@@ -1,8 +1,8 @@
 -- What a reader of datagrams is made of, for the contracts of its calls.
 use Rattle.std.specs.Prelude.{ℕ}
 use Rattle.std.specs.Borrow.{MutBor}
-use Rattle.flute_journal.specs.declared.reader_state.ReaderState.{ReaderState}
-use Rattle.flute_journal.specs.declared.datagram_reader.DatagramReader.{DatagramReader}
+use Rattle.flute_journal.specs.declared.readers.reader_state.ReaderState.{ReaderState}
+use Rattle.flute_journal.specs.declared.readers.datagram_reader.DatagramReader.{DatagramReader}
 
 -- the source that it reads
 abbrev pub datagrams_source_of : {R : Type 0} → DatagramReader R → MutBor R

@@ -1,8 +1,8 @@
 -- A stream of one kind or of another.
 use Rattle.std.specs.Prelude.{ℕ, Option}
 use Rattle.flute_parts.specs.declared.fact.Fact.{Fact}
-use Rattle.flute_journal.specs.declared.either.Either.{Either}
-use Rattle.flute_journal.specs.declared.either.Either.TheVariants.{First, Second}
+use Rattle.flute_journal.specs.declared.streams.either.Either.{Either}
+use Rattle.flute_journal.specs.declared.streams.either.Either.TheVariants.{First, Second}
 use Rattle.flute_journal.specs.Streams.{Behaviour}
 
 module _ {A B : Type 0} (a : Behaviour A) (b : Behaviour B) where

@@ -1,7 +1,7 @@
 -- One fact as a stream.
 use Rattle.std.specs.List.{AllByRecursion}
 use Rattle.flute_store.specs.Walk.{IsSized}
-use Rattle.flute_journal.specs.declared.fact_stream.FactStream.{FactStream}
+use Rattle.flute_journal.specs.declared.streams.fact_stream.FactStream.{FactStream}
 use Rattle.flute_journal.specs.Streams.{Behaviour, option_list}
 use Rattle.flute_journal.specs.Listed.{listed_behaviour}
 

@@ -15,7 +15,7 @@ use Rattle.flute_parts.specs.declared.address.Address.{Address}
 use Rattle.flute_journal.specs.declared.fault.ReadFault.{ReadFault}
 use Rattle.flute_journal.specs.declared.fault.ReadFault.TheVariants as faults
 use Rattle.flute_journal.specs.Numbers.{number_at}
-use Rattle.flute_journal.specs.declared.entry_fields.Before.{Before}
+use Rattle.flute_journal.specs.declared.readers.entry_fields.Before.{Before}
 use Rattle.flute_journal.specs.declared.format.version.Version.{Version}
 use Rattle.flute_journal.specs.declared.format.version.Version.TheVariants.{One, Two}
 use Rattle.flute_journal.specs.Format.{magic, version_bytes, sender_size}

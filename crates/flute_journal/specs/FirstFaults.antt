@@ -2,7 +2,7 @@
 use Rattle.std.specs.Prelude.{◌≡◌, ℕ, zero, suc, List, [], ◌∷◌, Some, slice_get}
 use Rattle.flute_parts.specs.declared.fact.Fact.{Fact}
 use Rattle.flute_journal.specs.declared.fault.LoadFault.{LoadFault}
-use Rattle.flute_journal.specs.declared.streams_fault.InputFault.{InputFault}
+use Rattle.flute_journal.specs.declared.merge.streams_fault.InputFault.{InputFault}
 use Rattle.flute_journal.specs.Streams.{Behaviour}
 
 module _ {S : Type 0} (b : Behaviour S) where

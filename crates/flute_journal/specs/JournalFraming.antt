@@ -3,7 +3,7 @@ use Rattle.std.specs.Prelude.{◌+◌, List, [], ◌∷◌, length, Option, Some
 use Rattle.flute_parts.specs.declared.address.Address.{Address}
 use Rattle.flute_parts.specs.declared.fact.Fact.{Fact}
 use Rattle.flute_parts.specs.Addresses.{address}
-use Rattle.flute_journal.specs.declared.entry_fields.Before.{Before}
+use Rattle.flute_journal.specs.declared.readers.entry_fields.Before.{Before}
 use Rattle.flute_journal.specs.declared.format.version.Version.{Version}
 use Rattle.flute_journal.specs.Faults.{is_after, header_fault, version_in, next_fault}
 use Rattle.flute_journal.specs.Framing.{Framing}

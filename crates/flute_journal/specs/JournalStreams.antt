@@ -6,12 +6,12 @@ use Rattle.flute_parts.specs.declared.fact.Fact.{Fact}
 use Rattle.flute_journal.specs.declared.fault.ReadFault.{ReadFault}
 use Rattle.flute_journal.specs.declared.fault.LoadFault.{LoadFault}
 use Rattle.flute_journal.specs.declared.fault.LoadFault.TheVariants.{Read, Full, OutOfMemory}
-use Rattle.flute_journal.specs.declared.entry_fields.Before.{Before}
-use Rattle.flute_journal.specs.declared.reader_state.ReaderState.{ReaderState}
-use Rattle.flute_journal.specs.declared.reader_state.ReaderState.TheVariants.{Header, Items, Ended}
-use Rattle.flute_journal.specs.declared.reader_state.ReaderState.TheVariants.{Failed}
-use Rattle.flute_journal.specs.declared.journal_stream.JournalStream.{JournalStream}
-use Rattle.flute_journal.specs.declared.journal_stream.LentStream.{LentStream}
+use Rattle.flute_journal.specs.declared.readers.entry_fields.Before.{Before}
+use Rattle.flute_journal.specs.declared.readers.reader_state.ReaderState.{ReaderState}
+use Rattle.flute_journal.specs.declared.readers.reader_state.ReaderState.TheVariants.{Header, Items, Ended}
+use Rattle.flute_journal.specs.declared.readers.reader_state.ReaderState.TheVariants.{Failed}
+use Rattle.flute_journal.specs.declared.streams.journal_stream.JournalStream.{JournalStream}
+use Rattle.flute_journal.specs.declared.streams.journal_stream.LentStream.{LentStream}
 use Rattle.flute_journal.specs.declared.format.version.Version.{Version}
 use Rattle.flute_journal.specs.Format.{spelling_in}
 use Rattle.flute_journal.specs.Input.{Fails}

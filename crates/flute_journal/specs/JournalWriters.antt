@@ -4,7 +4,7 @@ use Rattle.std.specs.Io.KnownBytes.{Appends}
 use Rattle.flute_parts.specs.declared.fact.Fact.{Fact}
 use Rattle.flute_parts.specs.Devices.{AppendsPart, times_failed}
 use Rattle.flute_journal.specs.Journal.{Journal}
-use Rattle.flute_journal.specs.declared.journal_writer.JournalWriter.{JournalWriter}
+use Rattle.flute_journal.specs.declared.writers.journal_writer.JournalWriter.{JournalWriter}
 
 -- all the bytes were appended; or, if the sink has failed, a part of them
 abbrev pub Written : Bool → Option (List ℕ) → Option (List ℕ) → List ℕ → Type 0

@@ -6,8 +6,8 @@ use Rattle.flute_journal.specs.Journal.{Journal, IsJournal}
 use Rattle.flute_journal.specs.JournalWriters.{WritesJournal}
 use Rattle.flute_journal.specs.Merges.{IsProperPrefix}
 use Rattle.flute_journal.specs.Streams.{Behaviour}
-use Rattle.flute_journal.specs.declared.streams_fault.StreamsFault.{StreamsFault}
-use Rattle.flute_journal.specs.declared.streams_fault.StreamsFault.TheVariants.{Input, Write}
+use Rattle.flute_journal.specs.declared.merge.streams_fault.StreamsFault.{StreamsFault}
+use Rattle.flute_journal.specs.declared.merge.streams_fault.StreamsFault.TheVariants.{Input, Write}
 
 module _ {S : Type 0} (b : Behaviour S) where
   -- it gave some facts and ended, and their journal was written, which has so many entries

@@ -2,9 +2,9 @@
 -- but for the reference to it.
 use Rattle.std.specs.Prelude.{◌≡◌, ℕ, ◌+◌, List, length, Option, None, IfSome}
 use Rattle.flute_parts.specs.declared.fact.Fact.{Fact}
-use Rattle.flute_journal.specs.declared.owned_journal_stream.OwnedJournalStream.{OwnedJournalStream}
-use Rattle.flute_journal.specs.declared.entry_fields.Before.{Before}
-use Rattle.flute_journal.specs.declared.reader_state.ReaderState.{ReaderState}
+use Rattle.flute_journal.specs.declared.streams.owned_journal_stream.OwnedJournalStream.{OwnedJournalStream}
+use Rattle.flute_journal.specs.declared.readers.entry_fields.Before.{Before}
+use Rattle.flute_journal.specs.declared.readers.reader_state.ReaderState.{ReaderState}
 use Rattle.flute_journal.specs.Journal.{IsJournalWithin}
 use Rattle.flute_journal.specs.JournalFraming.{journal_framing}
 use Rattle.flute_journal.specs.Framing.{HasFault}

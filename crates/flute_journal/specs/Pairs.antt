@@ -3,10 +3,10 @@ use Rattle.std.specs.Prelude.{◌≡◌, ℕ, zero, suc}
 use Rattle.flute_journal.specs.declared.fault.ReadFault.{ReadFault}
 use Rattle.flute_journal.specs.declared.fault.LoadFault.{LoadFault}
 use Rattle.flute_journal.specs.declared.fault.LoadFault.TheVariants.{Read, Full, OutOfMemory}
-use Rattle.flute_journal.specs.declared.streams_fault.StreamsFault.{StreamsFault}
-use Rattle.flute_journal.specs.declared.streams_fault.StreamsFault.TheVariants as streams
-use Rattle.flute_journal.specs.declared.two_streams.MergeFault.{MergeFault}
-use Rattle.flute_journal.specs.declared.two_streams.MergeFault.TheVariants.{First, Second, Write}
+use Rattle.flute_journal.specs.declared.merge.streams_fault.StreamsFault.{StreamsFault}
+use Rattle.flute_journal.specs.declared.merge.streams_fault.StreamsFault.TheVariants as streams
+use Rattle.flute_journal.specs.declared.merge.two_streams.MergeFault.{MergeFault}
+use Rattle.flute_journal.specs.declared.merge.two_streams.MergeFault.TheVariants.{First, Second, Write}
 
 -- the fault of the input with that number
 abbrev pub fault_at : ℕ → ReadFault → MergeFault

@@ -8,8 +8,8 @@ use Rattle.flute_parts.specs.declared.address.Part.{Part}
 use Rattle.flute_parts.specs.declared.address.Part.TheVariants.{Info as InfoPart, Symbol as SymbolPart}
 use Rattle.flute_parts.specs.declared.fact.Fact.{Fact}
 use Rattle.flute_parts.specs.declared.key.Key.{Key}
-use Rattle.flute_journal.specs.declared.leading.Lead.{Lead}
-use Rattle.flute_journal.specs.declared.ranks.Ranks.{Ranks}
+use Rattle.flute_journal.specs.declared.merge.leading.Lead.{Lead}
+use Rattle.flute_journal.specs.declared.merge.ranks.Ranks.{Ranks}
 use Rattle.flute_journal.specs.Leads.{Leads}
 use Rattle.flute_journal.specs.Lowest.{IsNotBefore}
 use Rattle.flute_journal.specs.Streams.{Behaviour}

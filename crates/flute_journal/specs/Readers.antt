@@ -1,9 +1,9 @@
 -- What a reader is made of, for the contracts of its calls.
 use Rattle.std.specs.Prelude.{ℕ}
 use Rattle.std.specs.Borrow.{MutBor}
-use Rattle.flute_journal.specs.declared.entry_fields.Before.{Before}
-use Rattle.flute_journal.specs.declared.reader_state.ReaderState.{ReaderState}
-use Rattle.flute_journal.specs.declared.journal_reader.JournalReader.{JournalReader}
+use Rattle.flute_journal.specs.declared.readers.entry_fields.Before.{Before}
+use Rattle.flute_journal.specs.declared.readers.reader_state.ReaderState.{ReaderState}
+use Rattle.flute_journal.specs.declared.readers.journal_reader.JournalReader.{JournalReader}
 
 -- the source that it reads
 abbrev pub source_of : {R : Type 0} → JournalReader R → MutBor R

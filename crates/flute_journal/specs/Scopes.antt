@@ -9,7 +9,7 @@ use Rattle.flute_parts.specs.declared.fact.Fact.{Fact}
 use Rattle.flute_parts.specs.declared.key.Key.{Key}
 use Rattle.flute_parts.specs.declared.object_key.ObjectName.{ObjectName}
 use Rattle.flute_journal.specs.Sessions.{listed_tsis, takes}
-use Rattle.flute_journal.specs.declared.scope.Scope.{Scope}
+use Rattle.flute_journal.specs.declared.choice.scope.Scope.{Scope}
 
 -- it is this one, or any is meant
 abbrev pub takes_object : Option ObjectName → ObjectName → Bool

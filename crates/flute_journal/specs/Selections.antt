@@ -10,7 +10,7 @@ use Rattle.flute_parts.specs.declared.fact.Fact.TheVariants.{InfoConflict, Symbo
 use Rattle.flute_parts.specs.declared.key.Key.{Key}
 use Rattle.flute_parts.specs.declared.symbol_id.SymbolId.{SymbolId}
 use Rattle.flute_journal.specs.Scopes.{is_all, takes_key}
-use Rattle.flute_journal.specs.declared.selection.Selection.{Selection}
+use Rattle.flute_journal.specs.declared.choice.selection.Selection.{Selection}
 
 -- it is this one, or any is meant
 abbrev pub selects_sender : Option ℕ → ℕ → Bool

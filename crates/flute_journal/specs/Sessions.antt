@@ -1,7 +1,7 @@
 -- The sessions that are taken.
 use Rattle.std.specs.Prelude.{ℕ, List, Bool, ◌||◌, take, nat_eq, length}
 use Rattle.std.specs.List.{list_any}
-use Rattle.flute_journal.specs.declared.sessions.Sessions.{Sessions}
+use Rattle.flute_journal.specs.declared.choice.sessions.Sessions.{Sessions}
 
 -- the Transport Session Identifiers that are listed
 abbrev pub listed_tsis : Sessions → List ℕ

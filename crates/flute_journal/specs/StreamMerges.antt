@@ -7,9 +7,9 @@ use Rattle.flute_parts.specs.Facts.{Same}
 use Rattle.flute_parts.specs.Limits.{Over}
 use Rattle.flute_parts.specs.Tally.{Counts}
 use Rattle.flute_journal.specs.declared.fault.LoadFault.{LoadFault}
-use Rattle.flute_journal.specs.declared.all_streams.MergedJournal.{MergedJournal}
-use Rattle.flute_journal.specs.declared.streams_fault.StreamsFault.{StreamsFault}
-use Rattle.flute_journal.specs.declared.streams_fault.StreamsFault.TheVariants.{Input, Write}
+use Rattle.flute_journal.specs.declared.merge.all_streams.MergedJournal.{MergedJournal}
+use Rattle.flute_journal.specs.declared.merge.streams_fault.StreamsFault.{StreamsFault}
+use Rattle.flute_journal.specs.declared.merge.streams_fault.StreamsFault.TheVariants.{Input, Write}
 use Rattle.flute_journal.specs.Journal.{Collects, Journal, IsJournal}
 use Rattle.flute_journal.specs.JournalWriters.{PutsJournal, Written}
 use Rattle.flute_journal.specs.Merges.{IsCutAfter, IsProperPrefix, written_up_to}

@@ -3,6 +3,10 @@ ghost use Rattle.std.specs.Prelude.{◌≡◌, Bool};
 ghost use Rattle.flute_parts.specs.Addresses.{fact_of};
 ghost use Rattle.flute_parts.specs.declared.fact.Fact.{Fact};
 
+pub(crate) mod scope;
+pub(crate) mod selection;
+pub(crate) mod sessions;
+
 use flute_parts::FactRef;
 
 /// A choice of facts, of each of which it says alone whether it is taken.

@@ -17,11 +17,11 @@ ghost use Rattle.flute_journal.specs.Stores.{BeginsWith, IsJournalOf};
 ghost use Rattle.flute_journal.specs.declared.fault.ReadFault.TheVariants as faults;
 ghost use Rattle.flute_journal.specs.Records.{IsFileOf, IsFileWithin};
 ghost use Rattle.flute_journal.specs.FileFraming.{file_framing};
-ghost use Rattle.flute_journal.specs.declared.reader_state.ReaderState.{ReaderState};
-ghost use Rattle.flute_journal.specs.declared.reader_state.ReaderState.TheVariants as states;
+ghost use Rattle.flute_journal.specs.declared.readers.reader_state.ReaderState.{ReaderState};
+ghost use Rattle.flute_journal.specs.declared.readers.reader_state.ReaderState.TheVariants as states;
 
 /// What an entry spells is read in one way, whatever follows it, in each version.
-#[tactic(auto, using(crate::proofs::Entries::entry_injective))]
+#[tactic(auto, using(crate::proofs::format::Entries::entry_injective))]
 pub fn entry_has_one_reading()
     ensures { (v : Version) (f g : Fact) (x y : List ℕ) → IsFactIn v f → IsFactIn v g
         → entry_in v f ++ x ≡ entry_in v g ++ y → (f ≡ g) × (x ≡ y) }
@@ -114,7 +114,7 @@ pub fn bytes_are_a_journal_or_stop()
 {}
 
 /// A datagram file is the file of one list of datagrams.
-#[tactic(auto, using(crate::proofs::Files::one_reading))]
+#[tactic(auto, using(crate::proofs::framing::Files::one_reading))]
 pub fn a_file_has_one_reading()
     ensures { (bs : List ℕ) (ds es : List (List ℕ)) → IsFileOf bs ds → IsFileOf bs es → ds ≡ es }
 {}

@@ -3,9 +3,18 @@ ghost use Rattle.std.specs.Prelude.{◌≡◌, ◌<◌, List, Some, length, slic
 ghost use Rattle.std.specs.Borrow.{GName};
 ghost use Rattle.flute_journal.specs.Streams.{Advances, fact_in};
 
-use crate::either::Either;
+pub(crate) mod chained;
+pub(crate) mod chosen;
+pub(crate) mod either;
+pub(crate) mod fact_stream;
+pub(crate) mod journal_stream;
+pub(crate) mod owned_journal_stream;
+pub(crate) mod stream;
+pub(crate) mod walk_stream;
+
 use crate::fault::LoadFault;
-use crate::stream::Stream;
+use crate::streams::either::Either;
+use crate::streams::stream::Stream;
 use flute_parts::FactRef;
 use std::alloc::Global;
 
@@ -121,7 +130,7 @@ pub struct Pair<'a, 'b, A, B> {
 
 impl<'a, 'b, A: Stream, B: Stream> Streams for Pair<'a, 'b, A, B> {
     ghost use Rattle.std.specs.Prelude.{[], ◌∷◌};
-    ghost use Rattle.flute_journal.specs.declared.either.Either.TheVariants.{First, Second};
+    ghost use Rattle.flute_journal.specs.declared.streams.either.Either.TheVariants.{First, Second};
 
     type Stream = Either<A, B>;
 

@@ -12,11 +12,11 @@ use Rattle.flute_journal.specs.OneStream.{WritesAll, WritesPart}
 use Rattle.flute_journal.specs.OwnedStreams.{owned_behaviour, owned_limit}
 use Rattle.flute_journal.specs.Selections.{left, leaves, selects}
 use Rattle.flute_journal.specs.Streams.{Behaviour}
-use Rattle.flute_journal.specs.declared.selection.AllBut.{AllBut}
+use Rattle.flute_journal.specs.declared.choice.selection.AllBut.{AllBut}
 use Rattle.flutejoin.specs.Forget.{Forgets, ForgetsPart, IsForgetful}
 use Rattle.flutejoin.specs.declared.limits.TheConstants.{MAX_ENTRIES}
-use Rattle.flute_journal.specs.declared.chosen.Chosen.{Chosen}
-use Rattle.flute_journal.specs.declared.owned_journal_stream.OwnedJournalStream.{OwnedJournalStream}
+use Rattle.flute_journal.specs.declared.streams.chosen.Chosen.{Chosen}
+use Rattle.flute_journal.specs.declared.streams.owned_journal_stream.OwnedJournalStream.{OwnedJournalStream}
 
 not_not : (b : Bool) → not (not b) ≡ b
 not_not true = refl

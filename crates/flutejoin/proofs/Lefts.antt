@@ -13,11 +13,11 @@ use Rattle.flute_parts.proofs.Public.{rising_unique}
 use Rattle.flute_journal.specs.Journal.{IsJournalWithin, Journal}
 use Rattle.flute_journal.specs.Selections.{left, leaves, selected_in, selects}
 use Rattle.flute_journal.specs.declared.format.version.Version.TheVariants.{Two}
-use Rattle.flute_journal.specs.declared.selection.Selection.{Selection}
+use Rattle.flute_journal.specs.declared.choice.selection.Selection.{Selection}
 use Rattle.flutejoin.specs.Laws.{Leaves}
 use Rattle.flutejoin.specs.declared.forget.ForgetCounts.{ForgetCounts}
 use Rattle.flutejoin.specs.declared.limits.TheConstants.{MAX_ENTRIES}
-use Rattle.flutejoin.proofs.Receptions.{IsJournal-from_within, Journal-only, Same-from_journals}
+use Rattle.flutejoin.proofs.join.Receptions.{IsJournal-from_within, Journal-only, Same-from_journals}
 
 rising_after : (p : Fact → Bool) (a : Address) (facts : List Fact) → StandAfter a facts
     → StandAfter a (filter p facts)

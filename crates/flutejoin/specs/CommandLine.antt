@@ -12,8 +12,8 @@ use Rattle.clap.specs.declared.error.Error.{Error}
 use Rattle.clap.specs.declared.error.kind.ErrorKind.TheVariants as kind
 use Rattle.flute_journal.specs.Selections.{is_everything}
 use Rattle.flute_journal.specs.Sessions.{listed_tsis}
-use Rattle.flute_journal.specs.declared.scope.Scope.{Scope}
-use Rattle.flute_journal.specs.declared.selection.Selection.{Selection}
+use Rattle.flute_journal.specs.declared.choice.scope.Scope.{Scope}
+use Rattle.flute_journal.specs.declared.choice.selection.Selection.{Selection}
 use Rattle.flutejoin.specs.Options.{HasObject, HasSessions, HasSource, IsFlag, IsFormFault, IsKey}
 use Rattle.flutejoin.specs.Options.{IsNumber, IsSourceIf, IsZero, all_form, are_sessions}
 use Rattle.flutejoin.specs.Options.{carousel_options, extract_form, first_unfit, first_wrong}
@@ -30,7 +30,7 @@ use Rattle.flutejoin.specs.declared.command_fault.CommandFault.TheVariants.{BadK
 use Rattle.flutejoin.specs.declared.command_fault.CommandFault.TheVariants.{TooManyInputs}
 use Rattle.flutejoin.specs.declared.command_fault.CommandFault.TheVariants.{OutputIsInput}
 use Rattle.flutejoin.specs.declared.command_fault.CommandFault.TheVariants.{OutOfMemory}
-use Rattle.flutejoin.specs.declared.style.Style.{Style}
+use Rattle.flutejoin.specs.declared.lines.style.Style.{Style}
 use Rattle.flutejoin.specs.declared.command_line.Line.{Line}
 use Rattle.flutejoin.specs.declared.command_line.Line.TheVariants.{Packet, Show, Gaps, Extract}
 use Rattle.flutejoin.specs.declared.command_line.Line.TheVariants.{Info, Join, Merge, Carousel}

@@ -12,8 +12,8 @@ use Rattle.flute_journal.specs.Sessions.{listed_tsis, takes}
 use Rattle.flutejoin.specs.Gaps.{GapsFail}
 use Rattle.flutejoin.specs.ObjectFiles.{TakesAll, Knows}
 use Rattle.flutejoin.specs.Limits.{Limits, IsOver}
-use Rattle.flutejoin.specs.declared.object_files.ObjectFiles.{ObjectFiles}
-use Rattle.flutejoin.specs.declared.picked.Picked.{Picked}
+use Rattle.flutejoin.specs.declared.extract.object_files.ObjectFiles.{ObjectFiles}
+use Rattle.flutejoin.specs.declared.extract.picked.Picked.{Picked}
 use Rattle.flutejoin.specs.declared.limits.TheConstants.{MAX_ENTRIES}
 use Rattle.flutejoin.specs.declared.command_fault.CommandFault.{CommandFault}
 

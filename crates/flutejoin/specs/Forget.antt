@@ -8,7 +8,7 @@ use Rattle.flute_journal.specs.JournalFraming.{journal_framing}
 use Rattle.flute_journal.specs.JournalWriters.{WritesJournal}
 use Rattle.flute_journal.specs.Merges.{IsProperPrefix}
 use Rattle.flute_journal.specs.Selections.{left, selected_in}
-use Rattle.flute_journal.specs.declared.selection.Selection.{Selection}
+use Rattle.flute_journal.specs.declared.choice.selection.Selection.{Selection}
 use Rattle.flutejoin.specs.declared.command_fault.CommandFault.{CommandFault}
 use Rattle.flutejoin.specs.declared.command_fault.CommandFault.TheVariants.{Input, CannotWrite}
 use Rattle.flutejoin.specs.declared.forget.ForgetCounts.{ForgetCounts}

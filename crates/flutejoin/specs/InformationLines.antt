@@ -15,8 +15,8 @@ use Rattle.flutejoin.specs.declared.command_fault.CommandFault.{CommandFault}
 use Rattle.flutejoin.specs.declared.command_fault.CommandFault.TheVariants.{ListLine}
 use Rattle.flutejoin.specs.declared.command_fault.CommandFault.TheVariants.{ListInformation, Full}
 use Rattle.flutejoin.specs.declared.command_fault.CommandFault.TheVariants.{OutOfMemory}
-use Rattle.flutejoin.specs.declared.information_line.InfoNumbers.{InfoNumbers}
-use Rattle.flutejoin.specs.declared.information_list.InformationList.{InformationList}
+use Rattle.flutejoin.specs.declared.info.information_line.InfoNumbers.{InfoNumbers}
+use Rattle.flutejoin.specs.declared.info.information_list.InformationList.{InformationList}
 
 -- numbers that a line may tell of an object, whether or not they are valid
 abbrev pub HasNumbers : Information → Type 0

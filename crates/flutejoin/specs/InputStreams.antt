@@ -1,17 +1,17 @@
 -- The inputs of a join as streams, and how often their sources failed.
 use Rattle.std.specs.Prelude.{◌≡◌, ℕ, ◌+◌, List, [], length, slice_get, Option, Some, None}
 use Rattle.flute_parts.specs.declared.fact.Fact.{Fact}
-use Rattle.flute_journal.specs.declared.chosen.Chosen.{Chosen}
+use Rattle.flute_journal.specs.declared.streams.chosen.Chosen.{Chosen}
 use Rattle.flute_journal.specs.declared.fault.LoadFault.{LoadFault}
-use Rattle.flute_journal.specs.declared.owned_journal_stream.OwnedJournalStream.{OwnedJournalStream}
-use Rattle.flute_journal.specs.declared.scope.Scope.{Scope}
+use Rattle.flute_journal.specs.declared.streams.owned_journal_stream.OwnedJournalStream.{OwnedJournalStream}
+use Rattle.flute_journal.specs.declared.choice.scope.Scope.{Scope}
 use Rattle.flute_journal.specs.ChosenStreams.{chosen_behaviour}
 use Rattle.flute_journal.specs.OwnedStreams.{owned_behaviour}
 use Rattle.flute_journal.specs.Scopes.{of_scope}
 use Rattle.flute_journal.specs.Streams.{Behaviour}
-use Rattle.flutejoin.specs.declared.join_input.JoinInput.{JoinInput}
-use Rattle.flutejoin.specs.declared.join_input.JoinInput.TheVariants.{Journal, Datagrams, Unknown}
-use Rattle.flutejoin.specs.declared.peeked_source.PeekedSource.{PeekedSource}
+use Rattle.flutejoin.specs.declared.join.join_input.JoinInput.{JoinInput}
+use Rattle.flutejoin.specs.declared.join.join_input.JoinInput.TheVariants.{Journal, Datagrams, Unknown}
+use Rattle.flutejoin.specs.declared.join.peeked_source.PeekedSource.{PeekedSource}
 use Rattle.flutejoin.specs.JoinInputs.{left}
 
 -- a journal of which some objects are taken

@@ -2,9 +2,9 @@
 use Rattle.std.specs.Prelude.{◌≡◌, ℕ, List, length, take, drop, slice_get, Option, Some}
 use Rattle.std.specs.Io.KnownBytes.{prepend_known}
 use Rattle.flute_journal.specs.Kinds.{HasKind, IsNeither}
-use Rattle.flutejoin.specs.declared.join_input.JoinInput.{JoinInput}
-use Rattle.flutejoin.specs.declared.join_input.JoinInput.TheVariants.{Journal, Datagrams, Unknown}
-use Rattle.flutejoin.specs.declared.peeked_source.PeekedSource.{PeekedSource}
+use Rattle.flutejoin.specs.declared.join.join_input.JoinInput.{JoinInput}
+use Rattle.flutejoin.specs.declared.join.join_input.JoinInput.TheVariants.{Journal, Datagrams, Unknown}
+use Rattle.flutejoin.specs.declared.join.peeked_source.PeekedSource.{PeekedSource}
 use Rattle.flute_journal.specs.declared.kind.Kind.TheVariants as kinds
 
 -- the bytes of a source that were read ahead

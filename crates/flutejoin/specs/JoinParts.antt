@@ -9,13 +9,13 @@ use Rattle.flute_journal.specs.Scopes.{takes_key}
 use Rattle.flute_journal.specs.Records.{IsFileWithin}
 use Rattle.flute_journal.specs.FileFraming.{file_framing}
 use Rattle.flute_journal.specs.Framing.{HasFault}
-use Rattle.flute_journal.specs.declared.owned_journal_stream.OwnedJournalStream.{OwnedJournalStream}
+use Rattle.flute_journal.specs.declared.streams.owned_journal_stream.OwnedJournalStream.{OwnedJournalStream}
 use Rattle.flutejoin.specs.Asides.{AreRunsOf, AreHeld, IsNewRun}
 use Rattle.flutejoin.specs.Limits.{Limits, IsOver}
 use Rattle.flutejoin.specs.Refused.{is_refused}
 use Rattle.flutejoin.specs.declared.limits.TheConstants.{MAX_ENTRIES}
-use Rattle.flutejoin.specs.declared.joined.Joined.{Joined}
-use Rattle.flutejoin.specs.declared.held_files.HeldFiles.{HeldFiles}
+use Rattle.flutejoin.specs.declared.join.joined.Joined.{Joined}
+use Rattle.flutejoin.specs.declared.join.held_files.HeldFiles.{HeldFiles}
 use Rattle.flute_journal.specs.Kinds.{HasKind, IsNeither}
 use Rattle.flutejoin.specs.declared.command_fault.CommandFault.{CommandFault}
 use Rattle.flutejoin.specs.declared.command_fault.CommandFault.TheVariants.{UnknownKind, Input}
@@ -27,10 +27,10 @@ use Rattle.flute_journal.specs.StreamMerges.{IsWithinLimits}
 use Rattle.flute_journal.specs.Streams.{Behaviour, IsNew}
 use Rattle.flute_journal.specs.declared.fault.LoadFault.{LoadFault}
 use Rattle.flute_journal.specs.Eithers.{either_behaviour}
-use Rattle.flute_journal.specs.declared.either.Either.{Either}
-use Rattle.flute_journal.specs.declared.all_streams.MergedJournal.{MergedJournal}
-use Rattle.flutejoin.specs.declared.join_input.JoinInput.{JoinInput}
-use Rattle.flutejoin.specs.declared.join_input.JoinInput.TheVariants.{Journal, Datagrams, Unknown}
+use Rattle.flute_journal.specs.declared.streams.either.Either.{Either}
+use Rattle.flute_journal.specs.declared.merge.all_streams.MergedJournal.{MergedJournal}
+use Rattle.flutejoin.specs.declared.join.join_input.JoinInput.{JoinInput}
+use Rattle.flutejoin.specs.declared.join.join_input.JoinInput.TheVariants.{Journal, Datagrams, Unknown}
 use Rattle.flute_journal.specs.declared.kind.Kind.TheVariants as kinds
 use Rattle.flutejoin.specs.Joined.{InputContent, Choice, facts_by, content_facts, content_datagrams}
 use Rattle.flutejoin.specs.Joined.{is_of_others, content_others, TellAll}

@@ -4,7 +4,7 @@ use Rattle.flute_parts.specs.declared.fact.Fact.{Fact}
 use Rattle.flute_journal.specs.Scopes.{chosen}
 use Rattle.flutejoin.specs.Joined.{Choice, InputContent, content_facts, Tells}
 use Rattle.flutejoin.specs.Joining.{JoinsTo}
-use Rattle.flutejoin.specs.declared.join_counts.JoinCounts.{JoinCounts}
+use Rattle.flutejoin.specs.declared.join.join_counts.JoinCounts.{JoinCounts}
 
 -- a join of these inputs wrote these bytes, behind whatever was there before
 abbrev pub Joined : Choice → List (List ℕ) → List ℕ → Type 0

@@ -4,7 +4,7 @@ use Rattle.std.specs.List.{flat_map, count_by, sum_by}
 use Rattle.flutejoin.specs.Limits.{IsOver}
 use Rattle.flutejoin.specs.Refused.{is_refused}
 use Rattle.flute_journal.specs.JournalWriters.{WritesJournal}
-use Rattle.flutejoin.specs.declared.join_counts.JoinCounts.{JoinCounts}
+use Rattle.flutejoin.specs.declared.join.join_counts.JoinCounts.{JoinCounts}
 use Rattle.flutejoin.specs.Joined.{InputContent, Choice, content_facts, content_datagrams}
 use Rattle.flutejoin.specs.Joined.{content_others, TellAll}
 

@@ -11,7 +11,7 @@ use Rattle.flute_parts.specs.declared.key.Key.{Key}
 use Rattle.flute_parts.specs.declared.symbol_id.SymbolId.{SymbolId}
 use Rattle.flute_parts.specs.declared.fact.Fact.{Fact}
 use Rattle.flute_parts.specs.declared.fact.Fact.TheVariants.{InfoConflict}
-use Rattle.flute_journal.specs.declared.selection.Selection.{Selection}
+use Rattle.flute_journal.specs.declared.choice.selection.Selection.{Selection}
 use Rattle.flute_store.specs.declared.status.Status.{Status}
 use Rattle.flute_store.specs.Scan.{Scanned, next_fact, Follows, GaveAll}
 use Rattle.flute_store.specs.Scans.{Scans}
@@ -22,16 +22,16 @@ use Rattle.flutejoin.specs.Styles.{are_whole, listed_by, printed, shown_gap, tol
 use Rattle.flutejoin.specs.Sums.{AddsObject, AreWithin, IsNone, by_session, session_line}
 use Rattle.flutejoin.specs.Sums.{sums_line, sums_of}
 use Rattle.flutejoin.specs.Told.{AreTold, Told}
-use Rattle.flutejoin.specs.declared.closed_objects.ClosedObjects.{ClosedObjects}
+use Rattle.flutejoin.specs.declared.gaps.closed_objects.ClosedObjects.{ClosedObjects}
 use Rattle.flutejoin.specs.declared.limits.TheConstants.{MAX_ENTRIES}
-use Rattle.flutejoin.specs.declared.listing.Listing.{Listing}
-use Rattle.flutejoin.specs.declared.listing.ObjectState.{ObjectState}
-use Rattle.flutejoin.specs.declared.listing.ObjectState.TheVariants.{NoInformation}
-use Rattle.flutejoin.specs.declared.listing.ObjectState.TheVariants.{ConflictingInformation}
-use Rattle.flutejoin.specs.declared.listing.ObjectState.TheVariants.{OneInformation}
-use Rattle.flutejoin.specs.declared.listing.OpenObject.{OpenObject}
-use Rattle.flutejoin.specs.declared.session_sums.SessionSums.{SessionSums}
-use Rattle.flutejoin.specs.declared.style.Style.{Style}
+use Rattle.flutejoin.specs.declared.gaps.listing.Listing.{Listing}
+use Rattle.flutejoin.specs.declared.gaps.listing.ObjectState.{ObjectState}
+use Rattle.flutejoin.specs.declared.gaps.listing.ObjectState.TheVariants.{NoInformation}
+use Rattle.flutejoin.specs.declared.gaps.listing.ObjectState.TheVariants.{ConflictingInformation}
+use Rattle.flutejoin.specs.declared.gaps.listing.ObjectState.TheVariants.{OneInformation}
+use Rattle.flutejoin.specs.declared.gaps.listing.OpenObject.{OpenObject}
+use Rattle.flutejoin.specs.declared.gaps.session_sums.SessionSums.{SessionSums}
+use Rattle.flutejoin.specs.declared.lines.style.Style.{Style}
 
 -- these bytes were put aside, if that is known
 abbrev pub Knows : Bool → Option (List ℕ) → List ℕ → Type 0

@@ -27,15 +27,15 @@ use Rattle.flutejoin.specs.FileNames.{file_name}
 use Rattle.flutejoin.specs.Lines.{status_line}
 use Rattle.flutejoin.specs.Listing.{IsFirstOf}
 use Rattle.flutejoin.specs.Objects.{status_at}
-use Rattle.flutejoin.specs.declared.file_scan.FileScan.{FileScan}
-use Rattle.flutejoin.specs.declared.file_scan.FileState.{FileState}
-use Rattle.flutejoin.specs.declared.file_scan.FileState.TheVariants.{NoInformation}
-use Rattle.flutejoin.specs.declared.file_scan.FileState.TheVariants.{ConflictingInformation}
-use Rattle.flutejoin.specs.declared.file_scan.FileState.TheVariants.{OneInformation}
-use Rattle.flutejoin.specs.declared.file_scan.Passed.{Passed}
-use Rattle.flutejoin.specs.declared.file_scan.Passed.TheVariants as passed
-use Rattle.flutejoin.specs.declared.object_files.ObjectFile.{ObjectFile}
-use Rattle.flutejoin.specs.declared.object_files.ObjectFiles.{ObjectFiles}
+use Rattle.flutejoin.specs.declared.extract.file_scan.FileScan.{FileScan}
+use Rattle.flutejoin.specs.declared.extract.file_scan.FileState.{FileState}
+use Rattle.flutejoin.specs.declared.extract.file_scan.FileState.TheVariants.{NoInformation}
+use Rattle.flutejoin.specs.declared.extract.file_scan.FileState.TheVariants.{ConflictingInformation}
+use Rattle.flutejoin.specs.declared.extract.file_scan.FileState.TheVariants.{OneInformation}
+use Rattle.flutejoin.specs.declared.extract.file_scan.Passed.{Passed}
+use Rattle.flutejoin.specs.declared.extract.file_scan.Passed.TheVariants as passed
+use Rattle.flutejoin.specs.declared.extract.object_files.ObjectFile.{ObjectFile}
+use Rattle.flutejoin.specs.declared.extract.object_files.ObjectFiles.{ObjectFiles}
 
 -- the file of an object with this one information of which these symbols are wanted, if it is whole
 abbrev pub file_wanting : List Fact → Key → Information → List (SymbolId × Reason) → List NamedFile

@@ -24,10 +24,10 @@ use Rattle.flutejoin.specs.Limits.{Limits, IsOver}
 use Rattle.flutejoin.specs.declared.limits.TheConstants.{MAX_ENTRIES}
 use Rattle.flutejoin.specs.declared.command_fault.CommandFault.{CommandFault}
 use Rattle.flutejoin.specs.declared.command_fault.CommandFault.TheVariants.{NoObject, NoInformation, ConflictingInformation, CannotWrite}
-use Rattle.flutejoin.specs.declared.object_writer.ObjectWriter.{ObjectWriter}
-use Rattle.flutejoin.specs.declared.object_writer.WholeSoFar.{WholeSoFar}
-use Rattle.flutejoin.specs.declared.object_writer.Found.{Found}
-use Rattle.flutejoin.specs.declared.object_writer.Found.TheVariants as found
+use Rattle.flutejoin.specs.declared.extract.object_writer.ObjectWriter.{ObjectWriter}
+use Rattle.flutejoin.specs.declared.extract.object_writer.WholeSoFar.{WholeSoFar}
+use Rattle.flutejoin.specs.declared.extract.object_writer.Found.{Found}
+use Rattle.flutejoin.specs.declared.extract.object_writer.Found.TheVariants as found
 
 -- whatever follows these facts in a journal, X holds of all
 abbrev pub Settled : List Fact → (List Fact → Type 0) → Type 0

@@ -19,7 +19,7 @@ use Rattle.flutejoin.specs.Sender.{sender_named}
 use Rattle.flutejoin.specs.declared.command_fault.CommandFault.{CommandFault}
 use Rattle.flutejoin.specs.declared.command_fault.CommandFault.TheVariants.{BadNumber}
 use Rattle.flutejoin.specs.declared.command_fault.CommandFault.TheVariants.{BadOption}
-use Rattle.flutejoin.specs.declared.key_numbers.KeyNumbers.{KeyNumbers}
+use Rattle.flutejoin.specs.declared.command_line.key_numbers.KeyNumbers.{KeyNumbers}
 
 -- ---- words
 

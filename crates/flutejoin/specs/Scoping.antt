@@ -2,7 +2,7 @@
 use Rattle.std.specs.Prelude.{◌≡◌, ◌⊎◌, ℕ, false, List, Some, None, codes}
 use Rattle.clap.specs.Walk.{Row}
 use Rattle.flute_journal.specs.Sessions.{listed_tsis}
-use Rattle.flute_journal.specs.declared.scope.Scope.{Scope}
+use Rattle.flute_journal.specs.declared.choice.scope.Scope.{Scope}
 use Rattle.flutejoin.specs.Options.{HasSessions, IsFlag, are_sessions, first_wrong, words}
 use Rattle.flutejoin.specs.Selecting.{NamesObject, object_options}
 

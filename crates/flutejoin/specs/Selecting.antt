@@ -7,7 +7,7 @@ use Rattle.flute_parts.specs.declared.object_key.ObjectName.{ObjectName}
 use Rattle.flute_parts.specs.declared.symbol_id.SymbolId.{SymbolId}
 use Rattle.flute_journal.specs.Selections.{is_everything}
 use Rattle.flute_journal.specs.Sessions.{listed_tsis}
-use Rattle.flute_journal.specs.declared.selection.Selection.{Selection}
+use Rattle.flute_journal.specs.declared.choice.selection.Selection.{Selection}
 use Rattle.flutejoin.specs.Options.{HasSessions, HasSource, IsFlag, IsInstance}
 use Rattle.flutejoin.specs.Options.{IsSourceIf, IsToi, are_sessions, first_wrong, number_in}
 use Rattle.flutejoin.specs.Options.{object_by}
@@ -15,7 +15,7 @@ use Rattle.flutejoin.specs.Options.{word, words}
 use Rattle.flutejoin.specs.declared.command_fault.CommandFault.{CommandFault}
 use Rattle.flutejoin.specs.declared.command_fault.CommandFault.TheVariants.{BadNumber, BadSource}
 use Rattle.flutejoin.specs.declared.command_fault.CommandFault.TheVariants.{BadKey, BadOption}
-use Rattle.flutejoin.specs.declared.object_numbers.ObjectNumbers.{ObjectNumbers}
+use Rattle.flutejoin.specs.declared.command_line.object_numbers.ObjectNumbers.{ObjectNumbers}
 
 -- ---- symbols
 

@@ -10,7 +10,7 @@ use Rattle.flutejoin.specs.Lines.{gap_line, status_line}
 use Rattle.flutejoin.specs.Styles.{passes_check, printed, told_lines}
 use Rattle.flutejoin.specs.Sums.{by_session, sums_line}
 use Rattle.flutejoin.specs.Told.{Told}
-use Rattle.flutejoin.specs.declared.style.Style.{Style}
+use Rattle.flutejoin.specs.declared.lines.style.Style.{Style}
 
 -- files 1 and 2 of session 7, and file 1 of session 8, of the sender 0
 abbrev whole : Told

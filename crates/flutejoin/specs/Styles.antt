@@ -12,7 +12,7 @@ use Rattle.flute_store.specs.Objects.{same_reason}
 use Rattle.flutejoin.specs.Lines.{gap_line, status_line}
 use Rattle.flutejoin.specs.Sums.{by_session, session_line}
 use Rattle.flutejoin.specs.Told.{Told}
-use Rattle.flutejoin.specs.declared.style.Style.{Style}
+use Rattle.flutejoin.specs.declared.lines.style.Style.{Style}
 
 abbrev pub is_whole : Status → Bool
 is_whole (Whole length) = true

@@ -11,7 +11,7 @@ use Rattle.flute_store.specs.declared.status.Status.TheVariants.{ConflictingInfo
 use Rattle.flutejoin.specs.Lines.{line, source_words}
 use Rattle.flutejoin.specs.Told.{Told}
 use Rattle.flutejoin.specs.declared.limits.TheConstants.{MAX_ENTRIES}
-use Rattle.flutejoin.specs.declared.session_sums.SessionSums.{SessionSums}
+use Rattle.flutejoin.specs.declared.gaps.session_sums.SessionSums.{SessionSums}
 
 -- ---- what an object adds to each sum
 

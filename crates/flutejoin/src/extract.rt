@@ -5,16 +5,23 @@ ghost use Rattle.flute_parts.specs.declared.fact.Fact.{Fact as Known};
 ghost use Rattle.flute_parts.specs.Devices.{times_failed};
 ghost use Rattle.flute_journal.specs.Readers.{source_of, limit_of, state_of};
 ghost use Rattle.flute_journal.specs.Stores.{FailsToLoad};
-ghost use Rattle.flute_journal.specs.declared.reader_state.ReaderState.TheVariants as ReaderState;
+ghost use Rattle.flute_journal.specs.declared.readers.reader_state.ReaderState.TheVariants as ReaderState;
 ghost use Rattle.flutejoin.specs.declared.limits.TheConstants.{MAX_ENTRIES};
 ghost use Rattle.flutejoin.specs.Limits.{at_most};
 ghost use Rattle.flutejoin.specs.Extract.{AnswersFrom, Extracts, WritesFirst, SinkFails};
 ghost use Rattle.flutejoin.specs.ObjectWriters.{WritesNothing, PassesAll, Stands};
 ghost use Rattle.flutejoin.specs.Show.{FailsToRead};
 
+pub(crate) mod extract_all;
+pub(crate) mod file_names;
+pub(crate) mod file_scan;
+pub(crate) mod object_files;
+pub(crate) mod object_writer;
+pub(crate) mod picked;
+
 use crate::command_fault::{CommandFault, load_fault};
+use crate::extract::object_writer::ObjectWriter;
 use crate::limits::MAX_ENTRIES;
-use crate::object_writer::ObjectWriter;
 use flute_journal::{JournalReader, LoadFault};
 use flute_parts::{Key, Sink, Source, Tally};
 use std::alloc::Global;

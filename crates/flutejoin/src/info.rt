@@ -7,8 +7,13 @@ ghost use Rattle.flutejoin.specs.Info.{AddsFacts, InfoFails};
 ghost use Rattle.flutejoin.specs.Limits.{at_most};
 ghost use Rattle.flutejoin.specs.Show.{FailsToRead};
 
-use crate::adding_facts::add_facts;
+pub(crate) mod adding_facts;
+pub(crate) mod info_list;
+pub(crate) mod information_line;
+pub(crate) mod information_list;
+
 use crate::command_fault::CommandFault;
+use crate::info::adding_facts::add_facts;
 use crate::limits::MAX_ENTRIES;
 use flute_journal::{FactStream, JournalReader};
 use flute_parts::{Fact, Info, Key, Sink, Source};

@@ -7,10 +7,10 @@ ghost use Rattle.flutejoin.specs.Pieces.{packet_head, payload};
 ghost use Rattle.flutejoin.specs.Packet.{IsHexOf, IsHexFault, HasLines, FailsWith, write_failures};
 
 use crate::command_fault::CommandFault;
-use crate::fact_lines::{push_info, push_object, push_symbol_head};
-use crate::hex_digits::HexDigits;
-use crate::report_lines::write_line;
-use crate::text::Text;
+use crate::lines::fact_lines::{push_info, push_object, push_symbol_head};
+use crate::lines::hex_digits::HexDigits;
+use crate::lines::report_lines::write_line;
+use crate::lines::text::Text;
 use flute_parts::{DeviceFault, Sender, Sink};
 use flute_wire::{Packet, read};
 use hex::FromHexError;

@@ -4,7 +4,7 @@ ghost use Rattle.flutejoin.specs.Options.{NamesSender};
 ghost use Rattle.flutejoin.specs.Lines.{source_words};
 ghost use Rattle.flutejoin.specs.Sender.{sender_named};
 
-use crate::text::Text;
+use crate::lines::text::Text;
 use byteorder::{BigEndian, ByteOrder};
 use flute_parts::Sender;
 use hex::FromHex;

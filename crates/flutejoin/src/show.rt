@@ -9,11 +9,11 @@ ghost use Rattle.flutejoin.specs.Show.{FailsToRead, ShowsAll, ShowFails, entry_l
 ghost use Rattle.flutejoin.specs.Packet.{write_failures};
 
 use crate::command_fault::{CommandFault, at_input};
-use crate::fact_lines::{push_information, push_key, push_symbol, push_symbol_id};
-use crate::hex_digits::HexDigits;
 use crate::limits::MAX_ENTRIES;
-use crate::report_lines::{write_count, write_line};
-use crate::text::Text;
+use crate::lines::fact_lines::{push_information, push_key, push_symbol, push_symbol_id};
+use crate::lines::hex_digits::HexDigits;
+use crate::lines::report_lines::{write_count, write_line};
+use crate::lines::text::Text;
 use flute_journal::{JournalReader, Selection};
 use flute_parts::{DeviceFault, Fact, Sink, Source};
 use std::alloc::Global;

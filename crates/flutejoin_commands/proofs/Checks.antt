@@ -3,13 +3,13 @@ use Rattle.std.proofs.Common.{◌≡◌, ◌||◌, ℕ, Bool, true, false, List,
 use Rattle.std.proofs.Common.{ap, sym, ◌∙◌}
 use Rattle.std.specs.Prelude.{not}
 use Rattle.std.specs.Io.KnownBytes.{Appends}
-use Rattle.flute_journal.specs.declared.selection.Selection.{Selection}
+use Rattle.flute_journal.specs.declared.choice.selection.Selection.{Selection}
 use Rattle.flutejoin.specs.Gaps.{ListsJournal}
 use Rattle.flutejoin.specs.Limits.{Limits}
 use Rattle.flutejoin.specs.Styles.{are_whole, passes_check, printed}
 use Rattle.flutejoin.specs.Told.{Told}
 use Rattle.flutejoin.specs.declared.command_fault.CommandFault.{CommandFault}
-use Rattle.flutejoin.specs.declared.style.Style.{Style}
+use Rattle.flutejoin.specs.declared.lines.style.Style.{Style}
 use Rattle.flutejoin_commands.specs.Prints.{IfPrinted}
 
 -- what follows of the objects

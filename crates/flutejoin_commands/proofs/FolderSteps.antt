@@ -13,7 +13,7 @@ use Rattle.flute_output.specs.declared.output.FinishFault.{FinishFault}
 use Rattle.flute_output.specs.declared.output.FinishFault.TheVariants as finish
 use Rattle.flutejoin.specs.ExtractAll.{ExtractsAll, ExtractAllFails}
 use Rattle.flutejoin.specs.Lines.{count_line}
-use Rattle.flutejoin.specs.declared.picked.Picked.{Picked}
+use Rattle.flutejoin.specs.declared.extract.picked.Picked.{Picked}
 use Rattle.flutejoin.specs.declared.command_fault.CommandFault.{CommandFault}
 use Rattle.flutejoin.specs.declared.command_fault.CommandFault.TheVariants.{CannotWrite, NotOnDisk}
 use Rattle.flutejoin.specs.Limits.{Limits}

@@ -11,7 +11,7 @@ use Rattle.flutejoin.specs.ExtractAll.{ExtractAllFails, picked_facts}
 use Rattle.flutejoin.specs.Limits.{Limits, IsOver}
 use Rattle.flutejoin.specs.Lines.{count_line}
 use Rattle.flutejoin.specs.ObjectFiles.{AreTaken}
-use Rattle.flutejoin.specs.declared.picked.Picked.{Picked}
+use Rattle.flutejoin.specs.declared.extract.picked.Picked.{Picked}
 use Rattle.flutejoin.specs.declared.limits.TheConstants.{MAX_ENTRIES}
 use Rattle.flutejoin.specs.declared.command_fault.CommandFault.{CommandFault}
 use Rattle.flutejoin.specs.declared.command_fault.CommandFault.TheVariants.{CannotCreate}

@@ -4,8 +4,8 @@ use Rattle.std.specs.Prelude.{Some, IfSome}
 use Rattle.std.specs.List.{AllZip}
 use Rattle.flute_journal.specs.Merges.{Merged}
 use Rattle.flute_journal.specs.declared.fault.ReadFault.TheVariants.{Read}
-use Rattle.flute_journal.specs.declared.scope.Scope.{Scope}
-use Rattle.flute_journal.specs.declared.selection.Selection.{Selection}
+use Rattle.flute_journal.specs.declared.choice.scope.Scope.{Scope}
+use Rattle.flute_journal.specs.declared.choice.selection.Selection.{Selection}
 use Rattle.flute_parts.specs.Information.{Information}
 use Rattle.flute_parts.specs.declared.key.Key.{Key}
 use Rattle.flutejoin.specs.InfoLists.{AddsList, AddListFails}
@@ -17,7 +17,7 @@ use Rattle.flutejoin.specs.JoinFaults.{JoinToFails, NamesOneOf}
 use Rattle.flutejoin.specs.Merge.{MergeFails}
 use Rattle.flutejoin.specs.declared.forget.ForgetCounts.{ForgetCounts}
 use Rattle.flutejoin.specs.Limits.{Limits}
-use Rattle.flutejoin.specs.declared.join_counts.JoinCounts.{JoinCounts}
+use Rattle.flutejoin.specs.declared.join.join_counts.JoinCounts.{JoinCounts}
 use Rattle.flutejoin.specs.declared.limits.TheConstants.{MAX_ENTRIES}
 use Rattle.flutejoin.specs.declared.command_fault.CommandFault.{CommandFault}
 use Rattle.flutejoin.specs.declared.command_fault.CommandFault.TheVariants.{CannotOpen, CannotWrite}

@@ -1,15 +1,15 @@
 -- What the commands print that leave no file, and why they fail, told by the names of their inputs.
 use Rattle.std.specs.Prelude.{◌≡◌, ◌≢◌, ◌⊎◌, ℕ, Bool, true, false, List, [], ◌∷◌, Option}
 use Rattle.std.specs.Io.KnownBytes.{Appends, IsAtEnd}
-use Rattle.flute_journal.specs.declared.selection.Selection.{Selection}
+use Rattle.flute_journal.specs.declared.choice.selection.Selection.{Selection}
 use Rattle.flute_output.specs.NewFolders.{Places}
 use Rattle.flutejoin.specs.Gaps.{ListsJournal, GapsFail}
 use Rattle.flutejoin.specs.Limits.{Limits}
 use Rattle.flutejoin.specs.Packet.{HasLines, FailsWith}
 use Rattle.flutejoin.specs.Show.{ShowsAll, ShowFails}
 use Rattle.flutejoin.specs.Styles.{passes_check, printed}
-use Rattle.flutejoin.specs.declared.style.Style.{Style}
-use Rattle.flutejoin.specs.declared.picked.Picked.{Picked}
+use Rattle.flutejoin.specs.declared.lines.style.Style.{Style}
+use Rattle.flutejoin.specs.declared.extract.picked.Picked.{Picked}
 use Rattle.flutejoin.specs.declared.command_fault.CommandFault.{CommandFault}
 use Rattle.flutejoin.specs.declared.command_fault.CommandFault.TheVariants.{CannotWrite}
 use Rattle.flutejoin.specs.declared.command_fault.CommandFault.TheVariants.{NotAllWhole}

@@ -7,8 +7,8 @@ use Rattle.flute_parts.specs.declared.fact.Fact.{Fact}
 use Rattle.flute_parts.specs.declared.fact.Fact.TheVariants.{Info}
 use Rattle.flute_parts.specs.declared.key.Key.{Key}
 use Rattle.flute_journal.specs.Scopes.{is_all}
-use Rattle.flute_journal.specs.declared.scope.Scope.{Scope}
-use Rattle.flute_journal.specs.declared.selection.Selection.{Selection}
+use Rattle.flute_journal.specs.declared.choice.scope.Scope.{Scope}
+use Rattle.flute_journal.specs.declared.choice.selection.Selection.{Selection}
 use Rattle.flutejoin.specs.Extract.{AnswersFrom, Extracts}
 use Rattle.flutejoin.specs.Forget.{Forgets}
 use Rattle.flutejoin.specs.Info.{AddsFacts, InfoFails}
@@ -19,8 +19,8 @@ use Rattle.flutejoin.specs.JoinFaults.{JoinToFails, NamesOneOf}
 use Rattle.flutejoin.specs.Limits.{Limits}
 use Rattle.flutejoin.specs.Lines.{count_line}
 use Rattle.flutejoin.specs.declared.forget.ForgetCounts.{ForgetCounts}
-use Rattle.flutejoin.specs.declared.join_counts.JoinCounts.{JoinCounts}
-use Rattle.flutejoin.specs.declared.join_input.JoinInput.{JoinInput}
+use Rattle.flutejoin.specs.declared.join.join_counts.JoinCounts.{JoinCounts}
+use Rattle.flutejoin.specs.declared.join.join_input.JoinInput.{JoinInput}
 use Rattle.flutejoin.specs.declared.command_fault.CommandFault.{CommandFault}
 
 -- the one line of a command that tells how many bytes or datagrams it wrote

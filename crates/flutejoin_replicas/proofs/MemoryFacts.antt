@@ -18,14 +18,14 @@ use Rattle.flutejoin.specs.declared.command_fault.CommandFault.{CommandFault}
 use Rattle.flutejoin.specs.declared.command_fault.CommandFault.TheVariants.{Input, UnknownKind}
 use Rattle.flutejoin.specs.declared.command_fault.CommandFault.TheVariants.{Full, OutOfMemory}
 use Rattle.flutejoin.specs.declared.limits.TheConstants.{MAX_SESSIONS, MAX_OBJECTS, MAX_SYMBOLS}
-use Rattle.flutejoin.specs.declared.join_counts.JoinCounts.{JoinCounts}
+use Rattle.flutejoin.specs.declared.join.join_counts.JoinCounts.{JoinCounts}
 use Rattle.flutejoin.specs.Joined.{Choice, content_facts}
 use Rattle.flutejoin.specs.JoinFaults.{JoinFails}
 use Rattle.flutejoin.specs.Joining.{JoinsTo}
 use Rattle.flutejoin.specs.JoinFaults.{JoinToFails, of_inputs, of_source, of_sink, of_aside}
 use Rattle.flutejoin_replicas.specs.Memory.{Joins, in_memory, MemoryFails}
 use Rattle.flutejoin.specs.JoinInputs.{IsInput, AreInputs}
-use Rattle.flutejoin.specs.declared.join_input.JoinInput.{JoinInput}
+use Rattle.flutejoin.specs.declared.join.join_input.JoinInput.{JoinInput}
 use Rattle.flutejoin.proofs.Public.{some_same}
 
 pub pushed : {X T E : Type 0} (r : Result T E) (new old : List X) (x : X) → is_err r ≡ false

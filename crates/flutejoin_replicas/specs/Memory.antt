@@ -6,7 +6,7 @@ use Rattle.flutejoin.specs.Joined.{Choice, InputContent, TellAll}
 use Rattle.flutejoin.specs.JoinFaults.{JoinFails}
 use Rattle.flutejoin.specs.Joined.{content_facts, content_datagrams}
 use Rattle.flutejoin.specs.Refused.{is_refused}
-use Rattle.flutejoin.specs.declared.joined.Joined.{Joined}
+use Rattle.flutejoin.specs.declared.join.joined.Joined.{Joined}
 use Rattle.flutejoin.specs.declared.command_fault.CommandFault.{CommandFault}
 use Rattle.flutejoin.specs.declared.command_fault.CommandFault.TheVariants.{Input, OutOfMemory}
 use Rattle.flutejoin.specs.declared.command_fault.CommandFault.TheVariants.{CannotWrite}

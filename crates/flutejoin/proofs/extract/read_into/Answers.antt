@@ -2,12 +2,12 @@ use Rattle.std.proofs.Common.{[], Err, refl, sym, ap, ◌∙◌, subst, arith}
 use Rattle.std.proofs.lemmas.Result.{err_from_is_err_and}
 use Rattle.flute_journal.specs.Framing.{is_open, Sofar}
 use Rattle.flute_journal.specs.JournalFraming.{journal_framing}
-use Rattle.flute_journal.specs.declared.reader_state.ReaderState.{ReaderState}
-use Rattle.flute_journal.specs.declared.entry_fields.Before.{Before}
+use Rattle.flute_journal.specs.declared.readers.reader_state.ReaderState.{ReaderState}
+use Rattle.flute_journal.specs.declared.readers.entry_fields.Before.{Before}
 use Rattle.flute_journal.specs.declared.format.version.Version.TheVariants.{Two}
 use Rattle.flute_journal.proofs.Public.{given-entry, loaded-read, sofar-none, journal_sound}
 use Rattle.flutejoin.specs.declared.limits.TheConstants.{MAX_ENTRIES}
-use Rattle.flutejoin.proofs.Extracted.{passing-next, passing-fault, passing-full, passing-end, given-fault, given-end}
+use Rattle.flutejoin.proofs.extract.Extracted.{passing-next, passing-fault, passing-full, passing-end, given-fault, given-end}
 use Rattle.flutejoin.proofs.extract.read_into.Goals as goal
 
 pub loop-fact-init : goal.loop-fact-init

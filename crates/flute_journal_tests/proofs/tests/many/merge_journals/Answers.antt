@@ -3,7 +3,7 @@ use Rattle.std.proofs.Common.{◌<◌, ◌^◌, List, subst, sym, ◌∙◌, ari
 use Rattle.flute_journal.specs.Streams.{most_of}
 use Rattle.flute_journal.specs.Advances.{AreNew}
 use Rattle.flute_journal.specs.JournalStreams.{journal_behaviour}
-use Rattle.flute_journal.specs.declared.journal_stream.JournalStream.{JournalStream}
+use Rattle.flute_journal.specs.declared.streams.journal_stream.JournalStream.{JournalStream}
 use Rattle.flute_journal_tests.proofs.NewStreams.{NewStreams, none_yet, one_more, pushed}
 use Rattle.flute_journal_tests.proofs.tests.many.merge_journals.Goals as goal
 

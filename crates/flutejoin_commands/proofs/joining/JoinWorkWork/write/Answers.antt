@@ -4,7 +4,7 @@ use Rattle.flutejoin.specs.JoinInputs.{AreInputs}
 use Rattle.flutejoin.specs.Joined.{choice_of}
 use Rattle.flutejoin.specs.JoinFaults.{JoinToFails, NamesOneOf}
 use Rattle.flutejoin.specs.Joining.{JoinsTo}
-use Rattle.flutejoin.specs.declared.join_counts.JoinCounts.{JoinCounts}
+use Rattle.flutejoin.specs.declared.join.join_counts.JoinCounts.{JoinCounts}
 use Rattle.flutejoin.specs.declared.command_fault.CommandFault.{CommandFault}
 use Rattle.flutejoin.specs.Limits.{limits_of}
 use Rattle.flutejoin_commands.proofs.Failing.{if_done, if_told}

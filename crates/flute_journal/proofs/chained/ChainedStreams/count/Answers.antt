@@ -1,8 +1,0 @@
-use Rattle.flute_journal.proofs.Common.{◌+◌, ap, sym, ◌∙◌}
-use Rattle.flute_journal.proofs.Chaining.{chained_many}
-use Rattle.flute_journal.proofs.chained.ChainedStreams.count.Goals as goal
-
-pub returns : goal.returns
-returns g c =
-    ap (λ n. n + 1) c.min.ensures
-    ∙ sym (chained_many _ _ c.args.self.now.first.now c.args.self.now.others.now)

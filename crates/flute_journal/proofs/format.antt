@@ -1,0 +1,6 @@
+-- Lemmas, in the order in which they cite each other.
+pub mod Entries
+pub mod Parts
+pub mod Written
+pub mod Decoded
+pub mod SameFile

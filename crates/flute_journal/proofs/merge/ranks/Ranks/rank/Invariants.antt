@@ -1,0 +1,11 @@
+-- The first streams are ranked.
+use Rattle.flute_journal.proofs.{Common.{◌≡◌, None, length}, merge.RankedStreams.{AreRankedTo}}
+use Rattle.flute_journal.proofs.merge.ranks.Ranks.rank.Given as goal
+
+abbrev pub invariant-loop-number : goal.invariant-loop-number
+invariant-loop-number g l = record {
+  ranked : AreRankedTo g.G.Stream.Stream.behaviour l.key l.number
+      (g.G.Streams.streams l.fn.streams) l.self.ranks;
+  all : length (g.G.Streams.streams l.fn.streams) ≡ l.number-end;
+  unknown : l.self.key ≡ None;
+}

@@ -1,0 +1,7 @@
+-- Lemmas, in the order in which they cite each other.
+pub mod Calls
+pub mod Seen
+pub mod Bodies
+pub mod Whole
+pub mod Loading
+pub mod FileCalls

@@ -1,0 +1,8 @@
+-- Lemmas, in the order in which they cite each other.
+pub mod Pairs
+pub mod Chaining
+pub mod Loans
+pub mod JournalReads
+pub mod OwnedReads
+pub mod ListedFacts
+pub mod ChosenFacts

@@ -1,0 +1,8 @@
+use Rattle.flute_journal.proofs.Common.{◌+◌, ap, sym, ◌∙◌}
+use Rattle.flute_journal.proofs.streams.Chaining.{chained_many}
+use Rattle.flute_journal.proofs.streams.chained.ChainedStreams.count.Goals as goal
+
+pub returns : goal.returns
+returns g c =
+    ap (λ n. n + 1) c.min.ensures
+    ∙ sym (chained_many _ _ c.args.self.now.first.now c.args.self.now.others.now)

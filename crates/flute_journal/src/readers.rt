@@ -1,0 +1,9 @@
+//! Journals and datagram files, read.
+
+pub(crate) mod datagram_reader;
+pub(crate) mod entry_fields;
+pub(crate) mod input;
+pub(crate) mod journal_reader;
+pub(crate) mod lent;
+pub(crate) mod reader_state;
+pub(crate) mod store_from_journal;

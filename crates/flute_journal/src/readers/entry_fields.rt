@@ -1,0 +1,148 @@
+//! The header, the entries and the end of a journal, out of a source.
+ghost use Rattle.std.specs.Prelude.{◌≡◌, ◌≢◌, ◌<◌, IfErr, length as length_of};
+ghost use Rattle.std.specs.Io.KnownBytes.{Consumes, IsAtEnd};
+ghost use Rattle.std.specs.List.{AllByRecursion};
+ghost use Rattle.flute_journal.specs.Input.{Advances, Fails, Reads, StaysWithin};
+ghost use Rattle.flute_journal.specs.Numbers.{in_bytes};
+ghost use Rattle.flute_journal.specs.Format.{header_in, body, entry_in};
+ghost use Rattle.flute_journal.specs.Faults.{header_fault};
+ghost use Rattle.flute_journal.specs.Journal.{IsFactIn};
+ghost use Rattle.flute_journal.specs.JournalFraming.{journal_framing};
+ghost use Rattle.flute_journal.specs.Framing.{ReadsNext};
+ghost use Rattle.flute_parts.specs.Ranges.{IsByte};
+ghost use Rattle.flute_journal.specs.Parsing.{head_size, head_bytes, HeadIn, BodyIn, IsBody, body_fault, cut_fault, end_fault, ReadsEnd};
+ghost use Rattle.flute_journal.specs.declared.fault.ReadFault.TheVariants.{OutOfMemory};
+
+use crate::fault::ReadFault;
+use crate::format::{END, EntryHead, Kind, LONGEST, Version, check_end, check_header, parse};
+use crate::readers::input::{read_exact, read_up_to};
+use flute_parts::{Address, Bytes, Fact, Source};
+use std::alloc::Global;
+
+/// What is before the next entry of a journal.
+#[derive(Clone, Copy, Debug)]
+pub struct Before {
+    /// The version of the journal.
+    pub version: Version,
+    /// How many entries.
+    pub count: u64,
+    /// The address of the last.
+    pub last: Option<Address>,
+}
+
+/// Reads the magic number and the version.
+#[inline(never)]
+pub fn read_header<R: Source>(source: &mut R) -> Result<Version, ReadFault>
+    ensures reads { Reads header_in (λ _. Unit {0}) header_fault (R.unread source.old)
+        (R.unread source.new) result }
+    ensures advances { Advances (R.unread source.old) (R.unread source.new) 6 }
+    ensures memory { IfErr result (λ f. f ≢ OutOfMemory) }
+    ensures failures { Fails (R.failures source.old) (R.failures source.new) result }
+{
+    let mut buffer = [0; 6];
+    let read = read_up_to(source, &mut buffer);
+    read.or_failed(check_header(read.bytes))
+}
+
+/// Reads the next entry or the end of a journal, field by field. The journal may have at most
+/// `max_entries`.
+#[inline(never)]
+pub fn read_entry<R: Source>(
+    alloc: Global,
+    source: &mut R,
+    max_entries: u64,
+    before: &Before,
+) -> Result<Option<Fact>, ReadFault>
+    ensures reads { ReadsNext journal_framing max_entries before.now (R.unread source.old)
+        (R.unread source.new) result }
+    ensures within { StaysWithin (entry_in before.now.version) (IsFactIn before.now.version)
+        (R.unread source.old) (R.unread source.new) result }
+    ensures failures { Fails (R.failures source.old) (R.failures source.new) result }
+{
+    let mut buffer = [0; 1];
+    let read = read_up_to(source, &mut buffer);
+    let Some(&byte) = read.bytes.first() else {
+        return Err(read.shortage());
+    };
+    if byte == END {
+        read_end(source, before.count)?;
+        return Ok(None);
+    }
+    let Some(kind) = Kind::from_byte(byte) else {
+        return Err(ReadFault::Kind);
+    };
+    if before.count >= max_entries {
+        return Err(ReadFault::TooMany);
+    }
+    let fact = read_body(alloc, source, before.version, kind, before.last)?;
+    Ok(Some(fact))
+}
+
+// Reads the number of entries, which nothing may follow.
+#[tactic(auto, using(crate::proofs::framing::ReadsUpTo::parsed_fails))]
+fn read_end<R: Source>(source: &mut R, count: u64) -> Result<(), ReadFault>
+    ensures reads { ReadsEnd count (R.unread source.old) (R.unread source.new) result }
+    ensures advances { Advances (R.unread source.old) (R.unread source.new) 9 }
+    ensures failures { Fails (R.failures source.old) (R.failures source.new) result }
+{
+    let mut buffer = [0; 9];
+    let read = read_up_to(source, &mut buffer);
+    read.or_failed(check_end(count, read.bytes))
+}
+
+// Reads what follows the kind of an entry.
+#[tactic(auto, using(crate::proofs::readers::Bodies::body_stopped))]
+fn read_body<R: Source>(
+    alloc: Global,
+    source: &mut R,
+    version: Version,
+    kind: Kind,
+    last: Option<Address>,
+) -> Result<Fact, ReadFault>
+    ensures reads { Reads (body version) (BodyIn version last kind) (body_fault version last kind)
+        (R.unread source.old) (R.unread source.new) result }
+    ensures within { StaysWithin (body version) (IsBody version kind) (R.unread source.old)
+        (R.unread source.new) result }
+    ensures failures { Fails (R.failures source.old) (R.failures source.new) result }
+{
+    match read_head(source, version, kind, last)? {
+        EntryHead::Whole(fact) => Ok(fact),
+        EntryHead::Symbol { key, id, length } => {
+            let bytes = read_bytes(alloc, source, length)?;
+            Ok(Fact::Symbol { key, id, bytes })
+        }
+    }
+}
+
+// Reads what follows the kind of an entry, up to the bytes of a symbol.
+#[tactic(auto, using(crate::proofs::framing::ReadsUpTo::parsed_fails))]
+fn read_head<R: Source>(
+    source: &mut R,
+    version: Version,
+    kind: Kind,
+    last: Option<Address>,
+) -> Result<EntryHead, ReadFault>
+    ensures reads { Reads (head_bytes version) (HeadIn version last kind)
+        (body_fault version last kind) (R.unread source.old) (R.unread source.new) result }
+    ensures advances { Advances (R.unread source.old) (R.unread source.new)
+        (head_size version kind) }
+    ensures failures { Fails (R.failures source.old) (R.failures source.new) result }
+{
+    let mut buffer = [0; LONGEST];
+    let read = read_up_to(source, &mut buffer[..kind.head_size(version)]);
+    read.or_failed(parse(version, kind, &last, read.bytes))
+}
+
+// Reads so many bytes of a symbol.
+fn read_bytes<R: Source>(alloc: Global, source: &mut R, length: u16) -> Result<Bytes, ReadFault>
+    requires { 0 < length }
+    ensures reads { Reads (λ bytes. bytes) (λ bytes. (length_of bytes ≡ length) × AllByRecursion
+        IsByte bytes) (cut_fault length) (R.unread source.old) (R.unread source.new) result }
+    ensures advances { Advances (R.unread source.old) (R.unread source.new) length }
+    ensures failures { Fails (R.failures source.old) (R.failures source.new) result }
+{
+    let Ok(bytes) = Bytes::from_vec(read_exact(alloc, source, length)?) else {
+        unreachable!();
+    };
+    Ok(bytes)
+}

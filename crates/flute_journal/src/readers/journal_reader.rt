@@ -1,0 +1,259 @@
+//! Reading a journal, entry by entry.
+ghost use Rattle.std.specs.Prelude.{◌≡◌, ℕ, ◌+◌, ◌<◌, ◌^◌, IfOk, IfSome, Ok, Some, None, true, false};
+ghost use Rattle.flute_journal.specs.Input.{Fails, FailsIf};
+ghost use Rattle.flute_journal.specs.Readers.{source_of, limit_of, state_of};
+ghost use Rattle.flute_journal.specs.JournalFraming.{journal_framing};
+ghost use Rattle.flute_journal.specs.Framing.{Gives, is_open, state_after};
+ghost use Rattle.flute_journal.specs.declared.readers.reader_state.ReaderState.TheVariants as ReaderState;
+
+use crate::fault::ReadFault;
+use crate::format::Version;
+use crate::readers::entry_fields::{Before, read_entry, read_header};
+use crate::readers::lent::{take_entry, take_next};
+use crate::readers::reader_state::ReaderState;
+use flute_parts::{Fact, Part, Source};
+use std::alloc::Global;
+
+/// A journal that is read entry by entry. It never reads past what it has given.
+#[derive(Debug, Drop)]
+pub struct JournalReader<'a, R> {
+    source: &'a mut R,
+    max_entries: u64,
+    state: ReaderState<Before>,
+}
+
+impl<'a, R: Source> JournalReader<'a, R> {
+    /// A reader of the journal that the source holds, which may have at most `max_entries` entries.
+    /// It takes no memory, and reads nothing yet.
+    pub fn new(source: &'a mut R, max_entries: u64) -> JournalReader<'a, R>
+        ensures source { (source_of result).ghost_name ≡ source.entry.ghost_name }
+        ensures unread { (source_of result).now ≡ source.old }
+        ensures limit { limit_of result ≡ max_entries }
+        ensures state { state_of result ≡ ReaderState.Header }
+    {
+        JournalReader {
+            source,
+            max_entries,
+            state: ReaderState::Header,
+        }
+    }
+
+    /// The next entry. None once the end was read and nothing follows it, and from then on.
+    ///
+    /// The entry of a symbol, after the first entry, is looked at in the source's buffer if it lies
+    /// whole there; any other is read field by field. No byte past it is taken. The bytes of a
+    /// symbol are the only memory that is asked for.
+    ///
+    /// # Errors
+    ///
+    /// The first fault of the bytes, in the order of the fields:
+    ///
+    /// - `Magic` and `Version` of the header;
+    /// - `Kind` of the first byte of an entry, and `TooMany` if that is a kind and `max_entries`
+    ///   entries were given;
+    /// - `Key` if the tag or the number of the object is out of range;
+    /// - `Order` if the address is not above that of the entry before;
+    /// - `Information` if transmission information is not valid, `EmptySymbol` if a symbol has no
+    ///   byte;
+    /// - `Count` if the number at the end is not that of the entries given, `Trailing` if a byte
+    ///   follows it;
+    /// - `Cut` if the input ends within a field;
+    /// - `Read` if the source fails in this call, and `OutOfMemory` if there is no memory for a
+    ///   symbol.
+    ///
+    /// The fields that came whole before the source failed are looked at first: `Read` is told
+    /// if the fault would be `Cut` with the input ended there, or if the source fails after the
+    /// end was read.
+    ///
+    /// Each later call answers the same fault, and reads nothing.
+    pub fn next(&mut self, alloc: Global) -> Result<Option<Fact>, ReadFault>
+        ensures source { (source_of self.new).ghost_name ≡ (source_of self.old).ghost_name }
+        ensures limit { limit_of self.new ≡ limit_of self.old }
+        ensures gives { Gives journal_framing (limit_of self.old) (state_of self.old)
+            (state_of self.new) (R.unread (source_of self.old).now)
+            (R.unread (source_of self.new).now) result }
+        ensures failures { FailsIf (is_open (state_of self.old))
+            (R.failures (source_of self.old).now) (R.failures (source_of self.new).now) result }
+    {
+        self.next_with(alloc, Vec::new(alloc))
+    }
+
+    /// The same, but the bytes of a symbol that is looked at in the source's buffer are put into
+    /// the memory of `spare`: a caller that lets go of each entry before it reads the next hands
+    /// its vector on, and memory is taken only where that is too small, or for a symbol that is
+    /// read field by field.
+    #[inline(always)]
+    pub fn next_with(&mut self, alloc: Global, spare: Vec<u8>) -> Result<Option<Fact>, ReadFault>
+        ensures source { (source_of self.new).ghost_name ≡ (source_of self.old).ghost_name }
+        ensures limit { limit_of self.new ≡ limit_of self.old }
+        ensures gives { Gives journal_framing (limit_of self.old) (state_of self.old)
+            (state_of self.new) (R.unread (source_of self.old).now)
+            (R.unread (source_of self.new).now) result }
+        ensures failures { FailsIf (is_open (state_of self.old))
+            (R.failures (source_of self.old).now) (R.failures (source_of self.new).now) result }
+    {
+        read_at(alloc, self.source, self.max_entries, &mut self.state, spare)
+    }
+
+    /// Puts the next entry in place of the one that is held, if it lies whole in the source's
+    /// buffer and both are of symbols of one file with as many bytes. False if not, and nothing was
+    /// read then. It asks for no memory.
+    #[inline(always)]
+    pub fn next_in_place(&mut self, held: &mut Option<Fact>) -> bool
+        ensures source { (source_of self.new).ghost_name ≡ (source_of self.old).ghost_name }
+        ensures limit { limit_of self.new ≡ limit_of self.old }
+        ensures gives { result ≡ true → Gives journal_framing (limit_of self.old)
+            (state_of self.old) (state_of self.new) (R.unread (source_of self.old).now)
+            (R.unread (source_of self.new).now) (Ok held.new) }
+        ensures nothing { result ≡ false
+            → ((source_of self.new).now ≡ (source_of self.old).now)
+            × (state_of self.new ≡ state_of self.old) × (held.new ≡ held.old) }
+        ensures failures { result ≡ true → FailsIf (is_open (state_of self.old))
+            (R.failures (source_of self.old).now) (R.failures (source_of self.new).now)
+            (Ok held.new) }
+    {
+        read_in_place(self.source, self.max_entries, &mut self.state, held)
+    }
+}
+
+// Puts the next entry of a journal whose reader has this state in place of the one that is held,
+// if it lies whole in the source's buffer and both are of symbols of one file with as many bytes.
+// False if not, and nothing was read then.
+#[inline(always)]
+pub(crate) fn read_in_place<R: Source>(
+    source: &mut R,
+    max_entries: u64,
+    state: &mut ReaderState<Before>,
+    held: &mut Option<Fact>,
+) -> bool
+    ensures gives { result ≡ true → Gives journal_framing max_entries state.old state.new
+        (R.unread source.old) (R.unread source.new) (Ok held.new) }
+    ensures nothing { result ≡ false → (source.new ≡ source.old) × (state.new ≡ state.old)
+        × (held.new ≡ held.old) }
+    ensures failures { result ≡ true → FailsIf (is_open state.old)
+        (R.failures source.old) (R.failures source.new) (Ok held.new) }
+{
+    let ReaderState::Items(before) = state else {
+        return false;
+    };
+    if before.version != Version::Two || before.count >= max_entries {
+        return false;
+    }
+    let Some(last) = &mut before.last else {
+        return false;
+    };
+    let Some(id) = take_next(source, last, held) else {
+        return false;
+    };
+    before.count += 1;
+    last.part = Part::Symbol(id);
+    true
+}
+
+// The next entry of a journal whose reader has this state, and its state afterwards.
+#[tactic(auto, using(crate::proofs::readers::Calls::gives_entries, crate::proofs::readers::Calls::entry_wanted))]
+#[inline(always)]
+pub(crate) fn read_at<R: Source>(
+    alloc: Global,
+    source: &mut R,
+    max_entries: u64,
+    state: &mut ReaderState<Before>,
+    spare: Vec<u8>,
+) -> Result<Option<Fact>, ReadFault>
+    ensures gives { Gives journal_framing max_entries state.old state.new
+        (R.unread source.old) (R.unread source.new) result }
+    ensures failures { FailsIf (is_open state.old)
+        (R.failures source.old) (R.failures source.new) result }
+{
+    if let ReaderState::Items(before) = state {
+        if before.count < max_entries {
+            match take_entry(source, before.version, &before.last, spare) {
+                Ok(Some(fact)) => {
+                    before.count += 1;
+                    before.last = Some(fact.address());
+                    return Ok(Some(fact));
+                }
+                Ok(None) => {}
+                Err(fault) => {
+                    *state = ReaderState::Failed(fault);
+                    return Err(fault);
+                }
+            }
+        }
+    }
+    read_fields(alloc, source, max_entries, state)
+}
+
+// The same, but the bytes are read field by field.
+#[tactic(auto, using(crate::proofs::readers::Calls::gives_entries, crate::proofs::readers::Calls::reads_entries))]
+#[inline(never)]
+fn read_fields<R: Source>(
+    alloc: Global,
+    source: &mut R,
+    max_entries: u64,
+    state: &mut ReaderState<Before>,
+) -> Result<Option<Fact>, ReadFault>
+    ensures gives { Gives journal_framing max_entries state.old state.new
+        (R.unread source.old) (R.unread source.new) result }
+    ensures failures { FailsIf (is_open state.old)
+        (R.failures source.old) (R.failures source.new) result }
+{
+    match &*state {
+        ReaderState::Ended => Ok(None),
+        ReaderState::Failed(fault) => Err(*fault),
+        ReaderState::Header => read_first(alloc, source, max_entries, state),
+        ReaderState::Items(before) => {
+            let given = read_entry(alloc, source, max_entries, before);
+            let next = state_after(before, &given);
+            *state = next;
+            given
+        }
+    }
+}
+
+// Reads the header, and then the first entry or the end, and puts the state of the reader
+// afterwards into `state`.
+#[inline(never)]
+fn read_first<R: Source>(
+    alloc: Global,
+    source: &mut R,
+    max_entries: u64,
+    state: &mut ReaderState<Before>,
+) -> Result<Option<Fact>, ReadFault>
+    ensures gives { Gives journal_framing max_entries ReaderState.Header state.new
+        (R.unread source.old) (R.unread source.new) result }
+    ensures failures { Fails (R.failures source.old) (R.failures source.new) result }
+{
+    match read_header(source) {
+        Ok(version) => {
+            let before = Before {
+                version,
+                count: 0,
+                last: None,
+            };
+            let given = read_entry(alloc, source, max_entries, &before);
+            *state = state_after(&before, &given);
+            given
+        }
+        Err(fault) => {
+            *state = ReaderState::Failed(fault);
+            Err(fault)
+        }
+    }
+}
+
+// The state of a reader that gave this after `before`.
+fn state_after(before: &Before, given: &Result<Option<Fact>, ReadFault>) -> ReaderState<Before>
+    requires { IfOk given.now (λ o. IfSome o (λ _. before.now.count + 1 < 2 ^ 64)) }
+    ensures { result ≡ state_after journal_framing before.now given.now }
+{
+    match given {
+        Ok(Some(fact)) => ReaderState::Items(Before {
+            version: before.version,
+            count: before.count + 1,
+            last: Some(fact.address()),
+        }),
+        Ok(None) => ReaderState::Ended,
+        Err(fault) => ReaderState::Failed(*fault),
+    }
+}

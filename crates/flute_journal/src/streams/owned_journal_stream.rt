@@ -1,0 +1,96 @@
+//! A journal as a stream, with its source.
+ghost use Rattle.std.specs.Prelude.{◌≡◌, None, OnOk, IfErr};
+ghost use Rattle.flute_journal.specs.Streams.{IsNew, GoesOn, StopsAt};
+ghost use Rattle.flute_journal.specs.OwnedStreams.{owned_limit, owned_state, held_of, owned_behaviour};
+ghost use Rattle.flute_journal.specs.declared.readers.reader_state.ReaderState.TheVariants as ReaderState;
+
+use crate::fault::LoadFault;
+use crate::readers::entry_fields::Before;
+use crate::readers::journal_reader::{read_at, read_in_place};
+use crate::readers::reader_state::ReaderState;
+use crate::streams::journal_stream::spare_of;
+use crate::streams::stream::Stream;
+use flute_parts::{Fact, FactRef, Source};
+use std::alloc::Global;
+
+/// A journal that is read as a stream, with its source. One entry of it is held.
+#[derive(Debug, Drop)]
+pub struct OwnedJournalStream<R> {
+    pub source: R,
+    max_entries: u64,
+    state: ReaderState<Before>,
+    held: Option<Fact>,
+}
+
+impl<R: Source> OwnedJournalStream<R> {
+    /// The stream of the journal that the source holds, which may have at most `max_entries`
+    /// entries. It takes no memory, and reads nothing yet.
+    pub fn new(source: R, max_entries: u64) -> Self
+        ensures source { result.source ≡ source }
+        ensures limit { owned_limit result ≡ max_entries }
+        ensures state { owned_state result ≡ ReaderState.Header }
+        ensures held { held_of result ≡ None }
+        ensures new { IsNew (owned_behaviour R.unread R.failures) result }
+        ensures most { (owned_behaviour R.unread R.failures).most result ≡ max_entries }
+    {
+        OwnedJournalStream {
+            source,
+            max_entries,
+            state: ReaderState::Header,
+            held: None,
+        }
+    }
+
+    /// Begins anew: the stream of the journal that is left in the source.
+    pub fn restart(&mut self, max_entries: u64)
+        ensures source { self.new.source ≡ self.old.source }
+        ensures limit { self.new.max_entries ≡ max_entries }
+        ensures new { IsNew (owned_behaviour R.unread R.failures) self.new }
+        ensures most { (owned_behaviour R.unread R.failures).most self.new ≡ max_entries }
+    {
+        self.max_entries = max_entries;
+        self.state = ReaderState::Header;
+        self.held = None;
+    }
+
+    // Lets go of the entry that is held, and takes the next. It is not inlined into the step that
+    // advances a stream, which would take longer.
+    #[inline(never)]
+    fn take_next(&mut self, alloc: Global) -> Result<(), LoadFault>
+        ensures goes_on { OnOk result
+            (GoesOn (owned_behaviour R.unread R.failures) self.old self.new) }
+        ensures stops { IfErr result
+            (StopsAt (owned_behaviour R.unread R.failures) self.old self.new) }
+    {
+        let spare = spare_of(alloc, self.held.take());
+        let source = &mut self.source;
+        match read_at(alloc, source, self.max_entries, &mut self.state, spare) {
+            Ok(held) => {
+                self.held = held;
+                Ok(())
+            }
+            Err(fault) => Err(LoadFault::Read(fault)),
+        }
+    }
+}
+
+impl<R: Source> Stream for OwnedJournalStream<R> {
+    ghost behaviour = { owned_behaviour R.unread R.failures };
+
+    #[inline(always)]
+    fn head(&self) -> Option<FactRef<'_>> {
+        match &self.held {
+            Some(fact) => Some(fact.as_ref()),
+            None => None,
+        }
+    }
+
+    #[inline(always)]
+    fn advance(&mut self, alloc: Global) -> Result<(), LoadFault> {
+        let source = &mut self.source;
+        if read_in_place(source, self.max_entries, &mut self.state, &mut self.held) {
+            return Ok(());
+        }
+        self.take_next(alloc)
+    }
+}

@@ -1,0 +1,5 @@
+//! Journals and datagram files, written.
+
+pub(crate) mod datagram_file;
+pub(crate) mod journal_of_store;
+pub(crate) mod journal_writer;

@@ -1,0 +1,5 @@
+pub mod SentPackets
+pub mod SentSoFar
+pub mod SentObjects
+pub mod SentLengths
+pub mod SentReads

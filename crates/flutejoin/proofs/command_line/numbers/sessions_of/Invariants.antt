@@ -1,0 +1,9 @@
+use Rattle.std.proofs.Common.{◌^◌, map, take}
+use Rattle.flute_journal.specs.Sessions.{listed_tsis}
+use Rattle.flutejoin.specs.Options.{AreNumbers}
+use Rattle.flutejoin.proofs.command_line.numbers.sessions_of.Given as goal
+
+abbrev pub invariant-loop-text : goal.invariant-loop-text
+invariant-loop-text l =
+    AreNumbers (2 ^ 48) (map (λ text. text.now) (take l.text-index l.texts))
+    (listed_tsis l.sessions)

@@ -1,0 +1,193 @@
+use Rattle.std.proofs.Common.{◌≡◌, ◌∙◌, List, ℕ, Option, Ok, Err, ap, sym, subst, rules, arith}
+use Rattle.std.proofs.lemmas.Result.{err_from_is_err_and}
+use Rattle.flutejoin.specs.Gaps.{ReadsWithin}
+use Rattle.flutejoin.specs.Load.{LoadFails}
+use Rattle.std.specs.Prelude.{IfOk, IfErr}
+use Rattle.flutejoin.specs.ExtractAll.{ExtractsAll, ExtractAllFails, picked_facts}
+use Rattle.flutejoin.specs.declared.command_fault.CommandFault.{CommandFault}
+use Rattle.flutejoin.specs.declared.command_fault.CommandFault.TheVariants.{Input}
+use Rattle.flutejoin.specs.Limits.{at_most}
+use Rattle.flutejoin.proofs.extract.FolderSteps.{stays_on}
+use Rattle.flutejoin.proofs.Mapped.{read_failed, read_done}
+use Rattle.flutejoin.proofs.Shown.{entry_given, end_given, fault_given, no_read_failure}
+use Rattle.flutejoin.proofs.extract.FilesRead.{if_ok, if_err, entry_rises, within_read, whole_read}
+use Rattle.flutejoin.proofs.extract.FilesRead.{more_read, full_read, fault_read, all_read, read_rises}
+use Rattle.flutejoin.proofs.extract.FilesRead.{known_some, few_files, can_pick}
+use Rattle.flutejoin.proofs.extract.extract_all.extract_all_to.Goals as goal
+
+pub returns-in_err-fact-clause-failed : goal.returns-in_err-fact-clause-failed
+returns-in_err-fact-clause-failed g c =
+    let u = g.R.Source.unread c.args.source.now in
+    let v = g.R.Source.unread c.loop-fact.reader.source.now in
+    let w = g.R.Source.unread c.next_with.new.self.source.now in
+    let from = c.loop-fact.reader.state in
+    let to = c.next_with.new.self.state in
+    let h = c.loop-fact.invariant in
+    let r = read_failed c.next_with.result c.at_input.result 1 c.in_err-fact.field-0.0
+    c.at_input.ensures c.in_err-fact.was in
+    let e = err_from_is_err_and c.from_residual.result c.from_residual.ensures.1 in
+    let here = fault_read u v w from to c.loop-fact.tally c.args.picked.now c.loop-fact.files _ _
+    h.read r.0
+    (fault_given c.loop-fact.reader.max_entries from to v w c.next_with.result r.0
+    c.next_with.ensures.gives h.limit r.1) in
+    let P : Option (List ℕ) → Type 0 = λ left. LoadFails (at_most g.row.SESSIONS g.row.OBJECTS
+    g.row.SYMBOLS) 1
+    u left (Input 1 r.0) in
+    let at : (x : g.row.R.Denot) → c.next_with.new.self.source.now ≡ x → P (g.R.Source.unread x) =
+    λ x same. subst (λ (y : g.row.R.Denot). P (g.R.Source.unread y)) same here in
+    rw (e.1 ∙ ap Err (e.2 ∙ r.2)) (at _ (search rules))
+
+pub returns-then-not-count-clause-failed : goal.returns-then-not-count-clause-failed
+returns-then-not-count-clause-failed g c =
+    let u = g.R.Source.unread c.args.source.now in
+    let v = g.R.Source.unread c.loop-fact.reader.source.now in
+    let w = g.R.Source.unread c.next_with.new.self.source.now in
+    let from = c.loop-fact.reader.state in
+    let to = c.next_with.new.self.state in
+    let h = c.loop-fact.invariant in
+    let f = c.in-Some.fact in
+    let r = read_done c.next_with.result c.at_input.result 1 c.in_ok-fact.field-0
+    c.at_input.ensures c.in_ok-fact.was ∙ ap Ok c.in-Some.is in
+    let gave = entry_given c.loop-fact.reader.max_entries from to v w c.next_with.result f
+    c.next_with.ensures.gives h.limit r in
+    let rises = entry_rises u v w from to c.loop-fact.tally c.args.picked.now c.loop-fact.files _ _
+    h.read f gave in
+    full_read u v w from to c.loop-fact.tally c.args.picked.now c.loop-fact.files _ _ h.read f gave
+    (c.count.ensures.over h.read.entries f (sym c.address.ensures) rises h.read.counts
+    c.if-not-count.true)
+
+pub take_picked-requires-clause-next : goal.take_picked-requires-clause-next
+take_picked-requires-clause-next g c =
+    let v = g.R.Source.unread c.loop-fact.reader.source.now in
+    let w = g.R.Source.unread c.next_with.new.self.source.now in
+    let from = c.loop-fact.reader.state in
+    let to = c.next_with.new.self.state in
+    let h = c.loop-fact.invariant in
+    let f = c.in-Some.fact in
+    let r = read_done c.next_with.result c.at_input.result 1 c.in_ok-fact.field-0
+    c.at_input.ensures c.in_ok-fact.was ∙ ap Ok c.in-Some.is in
+    let gave = entry_given c.loop-fact.reader.max_entries from to v w c.next_with.result f
+    c.next_with.ensures.gives h.limit r in
+    can_pick _ v w from to c.loop-fact.tally c.args.picked.now c.loop-fact.files _ _ h.read f gave
+
+pub take_picked-requires-clause-few : goal.take_picked-requires-clause-few
+take_picked-requires-clause-few g c = few_files _ _ (g.R.Source.unread
+    c.next_with.new.self.source.now) _ c.next_with.new.self.state _ _ _ _ _
+    c.loop-fact.invariant.read
+
+pub returns-in_err-take_picked-clause-failed : goal.returns-in_err-take_picked-clause-failed
+returns-in_err-take_picked-clause-failed g c =
+    let u = g.R.Source.unread c.args.source.now in
+    let v = g.R.Source.unread c.loop-fact.reader.source.now in
+    let w = g.R.Source.unread c.next_with.new.self.source.now in
+    let from = c.loop-fact.reader.state in
+    let to = c.next_with.new.self.state in
+    let h = c.loop-fact.invariant in
+    let f = c.in-Some.fact in
+    let e = err_from_is_err_and c.from_residual-in_err-take_picked.result
+    c.from_residual-in_err-take_picked.ensures.1 in
+    let r = read_done c.next_with.result c.at_input.result 1 c.in_ok-fact.field-0
+    c.at_input.ensures c.in_ok-fact.was ∙ ap Ok c.in-Some.is in
+    let gave = entry_given c.loop-fact.reader.max_entries from to v w c.next_with.result f
+    c.next_with.ensures.gives h.limit r in
+    let rises = entry_rises u v w from to c.loop-fact.tally c.args.picked.now c.loop-fact.files _ _
+    h.read f gave in
+    let here = within_read u v w from to c.loop-fact.tally c.args.picked.now c.loop-fact.files _ _
+    h.read f gave c.count.new.self
+    (c.count.ensures.within h.read.entries f (sym c.address.ensures) rises h.read.counts
+    c.if-not-count.false) in
+    let at : (x : g.row.R.Denot) → c.next_with.new.self.source.now ≡ x → ReadsWithin
+    (at_most g.row.SESSIONS g.row.OBJECTS g.row.SYMBOLS) u
+    (g.R.Source.unread x) = λ x same. subst (λ (y : g.row.R.Denot). ReadsWithin
+    (at_most g.row.SESSIONS g.row.OBJECTS g.row.SYMBOLS) u
+    (g.R.Source.unread y)) same here in
+    rw (e.1 ∙ ap Err (e.2 ∙ c.in_err-take_picked.ensures.fault)) (at _ (search rules))
+
+pub loop-fact-preserved : goal.loop-fact-preserved
+loop-fact-preserved g c =
+    let u = g.R.Source.unread c.args.source.now in
+    let v = g.R.Source.unread c.loop-fact.reader.source.now in
+    let w = g.R.Source.unread c.next_with.new.self.source.now in
+    let from = c.loop-fact.reader.state in
+    let to = c.next_with.new.self.state in
+    let h = c.loop-fact.invariant in
+    let f = c.in-Some.fact in
+    let r = read_done c.next_with.result c.at_input.result 1 c.in_ok-fact.field-0
+    c.at_input.ensures c.in_ok-fact.was ∙ ap Ok c.in-Some.is in
+    let gave = entry_given c.loop-fact.reader.max_entries from to v w c.next_with.result f
+    c.next_with.ensures.gives h.limit r in
+    let rises = entry_rises u v w from to c.loop-fact.tally c.args.picked.now c.loop-fact.files _ _
+    h.read f gave in
+    record {
+      read =
+          more_read u v w from to c.loop-fact.tally c.args.picked.now c.loop-fact.files _ _ h.read
+          f gave c.count.new.self
+          (c.count.ensures.within h.read.entries f (sym c.address.ensures) rises h.read.counts
+          c.if-not-count.false) c.take_picked.new.files _ _
+          (c.in_ok-take_picked.ensures.taken h.read.entries _ _ rises h.read.takes)
+          c.take_picked.ensures.few;
+      limit = c.next_with.ensures.limit ∙ h.limit;
+      source = c.next_with.ensures.source ∙ h.source;
+      reads = no_read_failure c.next_with.result _ _ _ _ _ r c.next_with.ensures.failures h.reads;
+      stays = stays_on _ _ _ h.stays c.take_picked.ensures.stays;
+      failures = let e = c.in_ok-take_picked.ensures.failures in let i = h.failures in omega
+          (arith, e, i);
+    }
+
+pub finish-requires-clause-known : goal.finish-requires-clause-known
+finish-requires-clause-known g c =
+    known_some (g.R.Source.unread c.args.source.now) (g.R.Source.unread
+    c.loop-fact.reader.source.now) (g.R.Source.unread c.next_with.new.self.source.now)
+    c.loop-fact.reader.state c.next_with.new.self.state c.loop-fact.tally
+    c.args.picked.now c.loop-fact.files _ _ c.loop-fact.invariant.read
+
+pub returns-clause-extracted : goal.returns-clause-extracted
+returns-clause-extracted g c =
+    let u = g.R.Source.unread c.args.source.now in
+    let v = g.R.Source.unread c.loop-fact.reader.source.now in
+    let w = g.R.Source.unread c.next_with.new.self.source.now in
+    let from = c.loop-fact.reader.state in
+    let to = c.next_with.new.self.state in
+    let h = c.loop-fact.invariant in
+    let picked = c.args.picked.now in
+    let r = read_done c.next_with.result c.at_input.result 1 c.in_ok-fact.field-0
+    c.at_input.ensures c.in_ok-fact.was ∙ ap Ok c.in_default.is in
+    let gave = end_given c.loop-fact.reader.max_entries from to v w c.next_with.result
+    c.next_with.ensures.gives r in
+    let all = c.finish.ensures.finished (picked_facts picked h.read.entries)
+    (g.D.NewFolder.places c.args.folder.now) (g.W.Sink.written c.args.lines.now)
+    (read_rises u v w from to c.loop-fact.tally picked c.loop-fact.files _ _ h.read)
+    h.read.takes in
+    let P : Option (List ℕ) → Type 0 = λ left.
+    IfOk c.finish.result (ExtractsAll (at_most g.row.SESSIONS g.row.OBJECTS g.row.SYMBOLS) u left
+    picked (g.D.NewFolder.places c.args.folder.now)
+    (g.D.NewFolder.places c.finish.new.folder) (g.W.Sink.written c.args.lines.now)
+    (g.W.Sink.written c.finish.new.lines)) in
+    let here : P w = if_ok c.finish.result (λ count t. all_read u v w from to c.loop-fact.tally
+    picked c.loop-fact.files _ _ h.read gave count _ _ t) all in
+    let at : (x : g.row.R.Denot) → c.next_with.new.self.source.now ≡ x → P (g.R.Source.unread x) =
+    λ x same. subst (λ (y : g.row.R.Denot). P (g.R.Source.unread y)) same here in
+    at _ (search rules)
+
+pub returns-clause-failed : goal.returns-clause-failed
+returns-clause-failed g c =
+    let u = g.R.Source.unread c.args.source.now in
+    let v = g.R.Source.unread c.loop-fact.reader.source.now in
+    let w = g.R.Source.unread c.next_with.new.self.source.now in
+    let from = c.loop-fact.reader.state in
+    let to = c.next_with.new.self.state in
+    let h = c.loop-fact.invariant in
+    let r = read_done c.next_with.result c.at_input.result 1 c.in_ok-fact.field-0
+    c.at_input.ensures c.in_ok-fact.was ∙ ap Ok c.in_default.is in
+    let gave = end_given c.loop-fact.reader.max_entries from to v w c.next_with.result
+    c.next_with.ensures.gives r in
+    let within = whole_read u v w from to c.loop-fact.tally c.args.picked.now c.loop-fact.files _ _
+    h.read gave in
+    let P : Option (List ℕ) → Type 0 = λ left. IfErr c.finish.result (ExtractAllFails (at_most
+    g.row.SESSIONS g.row.OBJECTS g.row.SYMBOLS) u left) in
+    let here : P w = if_err c.finish.result (λ f e. subst
+    (λ (x : CommandFault). ExtractAllFails (at_most g.row.SESSIONS g.row.OBJECTS g.row.SYMBOLS) u w
+    x) (sym e) within) c.finish.ensures.fault in
+    let at : (x : g.row.R.Denot) → c.next_with.new.self.source.now ≡ x → P (g.R.Source.unread x) =
+    λ x same. subst (λ (y : g.row.R.Denot). P (g.R.Source.unread y)) same here in
+    at _ (search rules)

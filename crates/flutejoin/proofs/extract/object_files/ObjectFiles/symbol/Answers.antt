@@ -1,0 +1,113 @@
+use Rattle.std.proofs.Common.{◌≡◌, ℕ, List, Bor, Option, Some, [], ◌∷◌, ◌++◌, sym, subst}
+use Rattle.flute_parts.specs.Facts.{IsRising}
+use Rattle.flute_parts.specs.declared.key.Key.{Key}
+use Rattle.flute_parts.specs.declared.symbol_id.SymbolId.{SymbolId}
+use Rattle.flute_parts.proofs.Public.{rising-front}
+use Rattle.flute_store.specs.Scan.{next_fact}
+use Rattle.flutejoin.specs.Listing.{IsFirstOf}
+use Rattle.flutejoin.specs.ObjectFiles.{HasTaken, Takes, KnowsSome}
+use Rattle.flutejoin.specs.declared.extract.object_files.ObjectFile.{ObjectFile}
+use Rattle.flutejoin.specs.declared.extract.object_files.ObjectFiles.{ObjectFiles}
+use Rattle.flutejoin.proofs.extract.FileObjects.{begins_symbol, first_of_others, mine_rising, takes_more}
+use Rattle.flutejoin.proofs.gaps.Keys.{equal_keys, other_keys}
+use Rattle.flutejoin.proofs.gaps.OpenObjects.{told_key, none_first, on_ok}
+use Rattle.flutejoin.proofs.extract.object_files.ObjectFiles.symbol.Goals as goal
+use Rattle.flutejoin.proofs.extract.object_files.ObjectFiles.symbol.Goals.{in_default-via-in-Some+else-eq}
+use Rattle.flutejoin.proofs.extract.object_files.ObjectFiles.symbol.Goals.{in_default-via-in_default}
+
+pub pass-requires : goal.pass-requires
+pass-requires g c =
+    let n : SymbolId × Option (Bor (List ℕ)) = (c.args.id, c.args.value) in
+    let object = c.in-Some.object in
+    let same : object.key ≡ c.args.key.now = equal_keys object.key c.args.key.now c.if-eq.ensures in
+    let F = c.requires.next.0 in
+    let k = c.requires.next.2 in
+    let h = subst (λ (x : Option ObjectFile). HasTaken F k.0 k.1 x k.2) c.in-Some.is k.3 in
+    let r = subst (λ (x : Key). IsRising (F ++ next_fact x n ∷ [])) (sym same) c.requires.next.1
+    in (
+      object.key,
+      h.mine,
+      k.2,
+      mine_rising F (next_fact object.key n) k.0 k.1 object k.2 h r,
+      h.state_is,
+    )
+
+pub returns-in-Some-clause-taken : goal.returns-in-Some-clause-taken
+returns-in-Some-clause-taken g c = λ F p0 w0 r t.
+    let n : SymbolId × Option (Bor (List ℕ)) = (c.args.id, c.args.value) in
+    let key = c.args.key.now in
+    let object = c.in-Some.object in
+    let same : object.key ≡ key = equal_keys object.key key c.if-eq.ensures in
+    let h = subst (λ (x : Option ObjectFile). HasTaken F t.files t.told x t.open_file) c.in-Some.is
+    t.taken in
+    let r' = subst (λ (x : Key). IsRising (F ++ next_fact x n ∷ [])) (sym same) r in
+    on_ok c.pass.result
+    (λ s.
+    subst (λ (x : Key). Takes (F ++ next_fact x n ∷ [])
+    (record c.args.self.now { last = Some c.pass.new.self }) p0
+    (g.D.NewFolder.places c.pass.new.folder) w0 (g.W.Sink.written c.args.lines.now)) same
+    (takes_more F (next_fact object.key n) c.args.self.now object c.pass.new.self s.0 p0 _ w0 _
+    t.files t.told t.open_file h t.written t.count c.pass.ensures.key (told_key object.key n)
+    s.1 s.2))
+    (c.pass.ensures.passed h.mine object.key t.files p0
+    (mine_rising F (next_fact object.key n) t.files t.told object t.open_file h r')
+    (t.open_file, h.state_is, t.filled))
+
+pub begin-requires-clause-known : goal.begin-requires-clause-known
+begin-requires-clause-known g c =
+    let F = c.requires.next.0 in
+    let r = rising-front F (_ ∷ []) c.requires.next.1 in
+    let k = c.requires.next.2 in
+    elim c.in_default.branch [
+      | in_default-via-in-Some+else-eq w ↦ subst (λ (x : ObjectFiles). KnowsSome x) (sym w.self-is) (
+        F,
+        r,
+        (
+          k.0,
+          k.1,
+          k.2,
+          subst (λ (x : Option ObjectFile). HasTaken F k.0 k.1 x k.2)
+              w.in-Some.is k.3,
+        ),
+      )
+      | in_default-via-in_default w ↦ subst (λ (x : ObjectFiles). KnowsSome x) (sym w.self-is)
+          (F, r, k)
+    ]
+
+pub returns-in_default-clause-taken : goal.returns-in_default-clause-taken
+returns-in_default-clause-taken g c = λ F p0 w0 r t.
+    let key = c.args.key.now in
+    let n : SymbolId × Option (Bor (List ℕ)) = (c.args.id, c.args.value) in
+    let known : IsFirstOf F key × Takes F c.in_default.self p0
+    (g.D.NewFolder.places c.args.folder.now) w0 (g.W.Sink.written c.args.lines.now) = elim
+    c.in_default.branch [
+      | in_default-via-in-Some+else-eq w ↦
+          let object = w.in-Some.object in
+          let q = subst (λ (x : Option ObjectFile). HasTaken F t.files t.told x t.open_file)
+          w.in-Some.is t.taken in
+          let apart = other_keys object.key key w.if-eq.ensures in (
+            first_of_others F t.files t.told object t.open_file key (next_fact key n) q r
+                (told_key key n) apart,
+            subst (λ (x : ObjectFiles). Takes F x p0 (g.D.NewFolder.places c.args.folder.now) w0
+                (g.W.Sink.written c.args.lines.now)) (sym w.self-is)
+                (record {
+                  files = t.files;
+                  told = t.told;
+                  open_file = t.open_file;
+                  taken = q;
+                  filled = t.filled;
+                  written = t.written;
+                  count = t.count;
+                }),
+          )
+      | in_default-via-in_default w ↦
+          let q = subst (λ (x : Option ObjectFile). HasTaken F t.files t.told x t.open_file)
+          w.in_default.is t.taken in (
+            none_first F key q.0,
+            subst (λ (x : ObjectFiles). Takes F x p0
+                (g.D.NewFolder.places c.args.folder.now) w0 (g.W.Sink.written c.args.lines.now))
+                (sym w.self-is) t,
+          )
+    ] in
+    c.begin.ensures.taken F (next_fact key n) p0 w0 r known.0 (told_key key n)
+    (begins_symbol key n) known.1

@@ -1,0 +1,30 @@
+use Rattle.std.proofs.Common.{◌≡◌, List, ℕ, sym, ◌∙◌, ap, subst}
+use Rattle.flute_parts.specs.Devices.{Writes}
+use Rattle.flute_parts.specs.declared.key.Key.{Key}
+use Rattle.flutejoin.specs.Lines.{status_line}
+use Rattle.flutejoin.specs.Styles.{is_told, is_whole, listed_by}
+use Rattle.flutejoin.proofs.gaps.Closing.{are_summed, told_lined, told_summed}
+use Rattle.flutejoin.proofs.gaps.closed_objects.ClosedObjects.tell.Goals as goal
+
+pub returns-then-style-clause-told : goal.returns-then-style-clause-told
+returns-then-style-clause-told g c = λ known objects bytes t e is told h k.
+    let style = c.args.style in
+    told_summed known t c.is_whole.result c.sum_up.new.sums (g.A.Sink.written c.sum_up.new.lines)
+    c.sum_up.result c.if-style.true (ap (is_told style) is ∙ told)
+    (c.is_whole.ensures ∙ ap is_whole (sym is)) h
+    (c.sum_up.ensures.summed known (listed_by style objects) bytes t
+    (ap (λ (x : Key). x.session) e) is (are_summed c.if-style.true h) k)
+
+pub returns-else-style-clause-told : goal.returns-else-style-clause-told
+returns-else-style-clause-told g c = λ known objects bytes t e is told h k.
+    let style = c.args.style in
+    let s = g.A.Sink.written c.args.lines.now in
+    let s' = g.A.Sink.written c.write_words.new.sink in
+    let r = c.write_words.result in
+    let line = subst (λ (x : List ℕ). Writes s s' x r) c.status_text.ensures.line
+    c.write_words.ensures.line in
+    let own : status_line c.args.key.now c.args.status ≡ status_line t.key t.status =
+    λ i. status_line (sym e i) (sym is i) in
+    told_lined t c.is_whole.result s' r c.if-style.false (ap (is_told style) is ∙ told)
+    (c.is_whole.ensures ∙ ap is_whole (sym is)) h k
+    (subst (λ (x : List ℕ). Writes s s' x r) own line)

@@ -1,0 +1,49 @@
+use Rattle.std.proofs.Common.{◌≡◌, Option, sym, ◌∙◌, subst}
+use Rattle.std.specs.Prelude.{OnOk}
+use Rattle.flute_parts.specs.Session.{Session}
+use Rattle.flute_store.specs.declared.status.Status.{Status}
+use Rattle.flutejoin.specs.Listing.{AreSummed, BeginsSession}
+use Rattle.flutejoin.specs.Sums.{AddsObject}
+use Rattle.flutejoin.specs.declared.gaps.session_sums.SessionSums.{SessionSums}
+use Rattle.flutejoin.proofs.gaps.Keys.{equal_sessions, other_sessions}
+use Rattle.flutejoin.proofs.gaps.Sessions.{IsOfOthers, begun_known, more_known}
+use Rattle.flutejoin.proofs.gaps.closed_objects.sum_up.Goals as goal
+use Rattle.flutejoin.proofs.gaps.closed_objects.sum_up.Goals.{in_default-via-in-Some+else-eq}
+use Rattle.flutejoin.proofs.gaps.closed_objects.sum_up.Goals.{in_default-via-in_default}
+
+pub returns-in-Some-clause-summed : goal.returns-in-Some-clause-summed
+returns-in-Some-clause-summed g c = λ known objects bytes t e is h k.
+    let old = c.in-Some.last in
+    let q = subst (λ (o : Option SessionSums). AreSummed objects bytes o) c.in-Some.is h in
+    let same : old.session ≡ t.key.session =
+    equal_sessions old.session c.args.session c.if-eq.ensures ∙ sym e in
+    let a = subst (λ (s : Status). AddsObject s old c.add.new.self) (sym is) c.add.ensures.added in
+    more_known t q same a k
+
+pub returns-in_default-clause-summed : goal.returns-in_default-clause-summed
+returns-in_default-clause-summed g c = λ known objects bytes t e is h k.
+    let old = c.in_default.sums in
+    let P : Option SessionSums → Type 0 = λ o. AreSummed objects bytes o
+    × IsOfOthers t.key.session o in
+    let here : P old = elim c.in_default.branch [
+      | in_default-via-in-Some+else-eq w ↦
+          let last = w.in-Some.last in
+          let apart = other_sessions last.session c.args.session w.if-eq.ensures in
+          subst P (sym w.sums-is) (
+            subst (λ (o : Option SessionSums). AreSummed objects bytes o) w.in-Some.is h,
+            λ same. apart (same ∙ e),
+          )
+      | in_default-via-in_default w ↦
+          subst P (sym w.sums-is) (
+            h,
+            subst (λ (o : Option SessionSums). IsOfOthers t.key.session o)
+                (sym w.in_default.is) tt,
+          )
+    ] in
+    let r = c.begin_session.result in
+    let begun = subst (λ (s : Session). OnOk r (BeginsSession s t.status c.begin_session.new.sums))
+    (sym e) (subst (λ (s : Status). OnOk r
+    (BeginsSession c.args.session s c.begin_session.new.sums)) (sym is)
+    c.begin_session.ensures.begun) in
+    begun_known known objects bytes t old c.begin_session.new.sums
+    (g.A.Sink.written c.begin_session.new.lines) r here k begun c.begin_session.ensures.line

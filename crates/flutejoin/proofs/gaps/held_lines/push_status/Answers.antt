@@ -1,0 +1,14 @@
+use Rattle.std.proofs.Common.{append_assoc, refl}
+use Rattle.flutejoin.proofs.gaps.held_lines.push_status.Goals as goal
+
+pub returns-in-Partial-clause-text : goal.returns-in-Partial-clause-text
+returns-in-Partial-clause-text c =
+    rw (
+      c.in-Partial.is,
+      c.push_number-in-Partial-3.ensures.text,
+      c.push-in-Partial-3.ensures.text,
+      c.push_number-in-Partial-2.ensures.text,
+      c.push-in-Partial-2.ensures.text,
+      c.push_number-in-Partial.ensures.text,
+      c.push-in-Partial.ensures.text,
+    ) (simp append_assoc refl)

@@ -1,0 +1,115 @@
+use Rattle.std.proofs.Common.{◌≡◌, ℕ, List, Bor, Option, Some, [], ◌∷◌, ◌++◌, sym, subst}
+use Rattle.flute_parts.specs.declared.key.Key.{Key}
+use Rattle.flute_parts.specs.declared.symbol_id.SymbolId.{SymbolId}
+use Rattle.flute_store.specs.Scan.{next_fact}
+use Rattle.flute_parts.specs.Facts.{IsRising}
+use Rattle.flutejoin.specs.Listing.{IsFirstOf, IsOpen, Lists, ListsWith}
+use Rattle.flutejoin.specs.declared.gaps.listing.Listing.{Listing}
+use Rattle.flutejoin.specs.declared.gaps.listing.OpenObject.{OpenObject}
+use Rattle.flutejoin.proofs.gaps.Keys.{equal_keys, other_keys}
+use Rattle.flutejoin.proofs.gaps.OpenObjects.{told_key, first_of_others, none_first, begins_symbol}
+use Rattle.flutejoin.proofs.gaps.OpenObjects.{mine_rising, one_more_open, on_ok}
+use Rattle.flutejoin.proofs.gaps.listing.Listing.add_symbol.Goals as goal
+use Rattle.flutejoin.proofs.gaps.listing.Listing.add_symbol.Goals.{in_default-via-in-Some+else-eq}
+use Rattle.flutejoin.proofs.gaps.listing.Listing.add_symbol.Goals.{in_default-via-in_default}
+
+pub pass_symbol-requires : goal.pass_symbol-requires
+pass_symbol-requires g c =
+    let w = c.requires in
+    let style = c.args.style in
+    let closed = c.args.self.now.closed in
+    let n : SymbolId × Option (Bor (List ℕ)) = (c.args.id, c.args.value) in
+    let object = c.in-Some.object in
+    let key = c.args.key.now in
+    let h = subst (λ (o : Option OpenObject). ListsWith style w.0 w.3.0 w.3.1 closed o) c.in-Some.is
+    w.3.2 in
+    let same : key ≡ object.key = sym (equal_keys object.key key c.if-eq.ensures) in
+    let r = subst (λ (k : Key). IsRising (w.0 ++ next_fact k n ∷ [])) same w.1 in (
+      object.key,
+      h.mine,
+      w.3.1,
+      mine_rising style w.0 (next_fact object.key n) w.3.0 w.3.1 closed object h r,
+      h.state_is,
+    )
+
+pub returns-in-Some-clause-added : goal.returns-in-Some-clause-added
+returns-in-Some-clause-added g c = λ known F r l.
+    let style = c.args.style in
+    let closed = c.args.self.now.closed in
+    let key = c.args.key.now in
+    let n : SymbolId × Option (Bor (List ℕ)) = (c.args.id, c.args.value) in
+    let state = c.pass_symbol.new.state in
+    let object = c.in-Some.object in
+    let same : key ≡ object.key = sym (equal_keys object.key key c.if-eq.ensures) in
+    let h = subst (λ (o : Option OpenObject). ListsWith style F l.lines l.gap_lines closed o)
+    c.in-Some.is l.lists in
+    let rises = subst (λ (k : Key). IsRising (F ++ next_fact k n ∷ [])) same r in
+    let new : Listing = record {
+      «open» = Some (record { key = object.key; state = state });
+      closed = closed;
+    } in
+    let s = g.A.Sink.written c.args.lines.now in
+    let t = g.A.Sink.written c.pass_symbol.new.gap_lines in
+    on_ok c.pass_symbol.result
+    (λ p. subst (λ (k : Key). Lists style known (F ++ next_fact k n ∷ []) new s t) (sym same)
+    (record {
+      lines = l.lines;
+      gap_lines = p.0;
+      lists = one_more_open (next_fact object.key n) p.0 state h (told_key object.key n) p.1;
+      lines_known = l.lines_known;
+      gap_lines_known = p.2;
+    }))
+    (c.pass_symbol.ensures.passed known object.key h.mine l.gap_lines
+    (mine_rising style F (next_fact object.key n) l.lines l.gap_lines closed object h rises)
+    h.state_is l.gap_lines_known)
+
+pub begin-requires : goal.begin-requires
+begin-requires g c =
+    let style = c.args.style in
+    let closed = c.args.self.now.closed in
+    let r = c.requires in
+    let was : IsOpen style c.args.self.now = (r.0, r.2, r.3) in
+    elim c.in_default.branch [
+      | in_default-via-in-Some+else-eq w ↦
+          subst (λ (x : Listing). IsOpen style x) (sym w.self-is)
+          (subst (λ (o : Option OpenObject).
+          IsOpen style (record { «open» = o; closed = closed })) w.in-Some.is was)
+      | in_default-via-in_default w ↦ subst (λ (x : Listing). IsOpen style x) (sym w.self-is) was
+    ]
+
+pub returns-in_default-clause-added : goal.returns-in_default-clause-added
+returns-in_default-clause-added g c = λ known F r l.
+    let style = c.args.style in
+    let closed = c.args.self.now.closed in
+    let key = c.args.key.now in
+    let n : SymbolId × Option (Bor (List ℕ)) = (c.args.id, c.args.value) in
+    let s = g.A.Sink.written c.args.lines.now in
+    let t = g.A.Sink.written c.args.gap_lines.now in
+    let first : IsFirstOf F key × Lists style known F c.in_default.self s t = elim
+    c.in_default.branch [
+      | in_default-via-in-Some+else-eq w ↦
+          let object = w.in-Some.object in
+          let q = subst (λ (o : Option OpenObject). ListsWith style F l.lines l.gap_lines closed o)
+          w.in-Some.is l.lists in
+          let apart = other_keys object.key key w.if-eq.ensures in (
+            first_of_others style F l.lines l.gap_lines closed object key (next_fact key n) q r
+                (told_key key n) apart,
+            subst (λ (x : Listing). Lists style known F x s t) (sym w.self-is)
+                (record {
+                  lines = l.lines;
+                  gap_lines = l.gap_lines;
+                  lists = q;
+                  lines_known = l.lines_known;
+                  gap_lines_known = l.gap_lines_known;
+                }),
+          )
+      | in_default-via-in_default w ↦
+          let q = subst (λ (o : Option OpenObject). ListsWith style F l.lines l.gap_lines closed o)
+          w.in_default.is l.lists in (
+            none_first F key q.no_facts,
+            subst (λ (x : Listing). Lists style known F x s t) (sym w.self-is)
+                l,
+          )
+    ] in
+    c.begin.ensures.begun known F (next_fact key n) r first.1 first.0 (told_key key n)
+    (begins_symbol style key n)

@@ -1,0 +1,223 @@
+use Rattle.std.proofs.Common.{◌≡◌, ◌∙◌, List, ℕ, Option, Ok, Err, Bool, Some, true, is_ok}
+use Rattle.std.proofs.Common.{if◌then◌else◌}
+use Rattle.std.proofs.Common.{ap, sym, subst, rules, refl, arith}
+use Rattle.std.proofs.lemmas.Result.{err_from_is_err_and}
+use Rattle.flutejoin.specs.Gaps.{ListsJournal, ReadsWithin}
+use Rattle.flutejoin.specs.Load.{LoadFails}
+use Rattle.flutejoin.specs.Packet.{write_failures}
+use Rattle.flutejoin.specs.Selected.{selected}
+use Rattle.flutejoin.specs.Styles.{are_whole, printed}
+use Rattle.flutejoin.specs.Told.{Told}
+use Rattle.flutejoin.specs.declared.command_fault.CommandFault.TheVariants.{Input}
+use Rattle.flutejoin.specs.Limits.{at_most}
+use Rattle.flutejoin.proofs.gaps.MovedAside.{counted, if_ok, was_value, was_done, on_any, fails_aside}
+use Rattle.flutejoin.proofs.Mapped.{read_failed, read_done}
+use Rattle.flutejoin.proofs.Shown.{entry_given, end_given, fault_given, no_read_failure}
+use Rattle.flutejoin.proofs.gaps.GapsRead.{entry_rises, can_add, within_read, whole_read, one_more_read}
+use Rattle.flutejoin.proofs.gaps.GapsRead.{full_read, fault_read, all_read, read_rises, is_open}
+use Rattle.flutejoin.proofs.gaps.GapsRead.{few_read}
+use Rattle.flutejoin.proofs.gaps.put_aside.Goals as goal
+
+pub returns-in_err-fact-clause-failed : goal.returns-in_err-fact-clause-failed
+returns-in_err-fact-clause-failed g c =
+    let u = g.R.Source.unread c.args.source.now in
+    let v = g.R.Source.unread c.loop-fact.reader.source.now in
+    let w = g.R.Source.unread c.next_with.new.self.source.now in
+    let from = c.loop-fact.reader.state in
+    let to = c.next_with.new.self.state in
+    let h = c.loop-fact.invariant in
+    let r = read_failed c.next_with.result c.at_input.result 1 c.in_err-fact.field-0.0
+    c.at_input.ensures c.in_err-fact.was in
+    let e = err_from_is_err_and c.from_residual.result c.from_residual.ensures.1 in
+    let here = fault_read w to h.read r.0
+    (fault_given c.loop-fact.reader.max_entries from to v w c.next_with.result r.0
+    c.next_with.ensures.gives h.limit r.1) in
+    let P : Option (List ℕ) → Type 0 = λ left. LoadFails (at_most g.row.SESSIONS g.row.OBJECTS
+    g.row.SYMBOLS) 1
+    u left (Input 1 r.0) in
+    let at : (x : g.row.R.Denot) → c.next_with.new.self.source.now ≡ x → P (g.R.Source.unread x) =
+    λ x same. subst (λ (y : g.row.R.Denot). P (g.R.Source.unread y)) same here in
+    rw (e.1 ∙ ap Err (e.2 ∙ r.2)) (at _ (search rules))
+
+pub returns-then-not-count-clause-failed : goal.returns-then-not-count-clause-failed
+returns-then-not-count-clause-failed g c =
+    let v = g.R.Source.unread c.loop-fact.reader.source.now in
+    let w = g.R.Source.unread c.next_with.new.self.source.now in
+    let from = c.loop-fact.reader.state in
+    let to = c.next_with.new.self.state in
+    let h = c.loop-fact.invariant in
+    let f = c.in-Some.fact in
+    let r = read_done c.next_with.result c.at_input.result 1 c.in_ok-fact.field-0
+    c.at_input.ensures c.in_ok-fact.was ∙ ap Ok c.in-Some.is in
+    let gave = entry_given c.loop-fact.reader.max_entries from to v w c.next_with.result f
+    c.next_with.ensures.gives h.limit r in
+    full_read w to h.read f gave
+    (c.count.ensures.over h.read.entries f (sym c.address.ensures) (entry_rises w to h.read f gave)
+    h.read.counts c.if-not-count.true)
+
+pub add_selected-requires : goal.add_selected-requires
+add_selected-requires g c =
+    let v = g.R.Source.unread c.loop-fact.reader.source.now in
+    let w = g.R.Source.unread c.next_with.new.self.source.now in
+    let from = c.loop-fact.reader.state in
+    let to = c.next_with.new.self.state in
+    let h = c.loop-fact.invariant in
+    let f = c.in-Some.fact in
+    let r = read_done c.next_with.result c.at_input.result 1 c.in_ok-fact.field-0
+    c.at_input.ensures c.in_ok-fact.was ∙ ap Ok c.in-Some.is in
+    let gave = entry_given c.loop-fact.reader.max_entries from to v w c.next_with.result f
+    c.next_with.ensures.gives h.limit r in
+    can_add w to h.read f gave
+
+pub returns-in_err-at_aside-clause-failed : goal.returns-in_err-at_aside-clause-failed
+returns-in_err-at_aside-clause-failed g c =
+    let u = g.R.Source.unread c.args.source.now in
+    let v = g.R.Source.unread c.loop-fact.reader.source.now in
+    let w = g.R.Source.unread c.next_with.new.self.source.now in
+    let from = c.loop-fact.reader.state in
+    let to = c.next_with.new.self.state in
+    let h = c.loop-fact.invariant in
+    let f = c.in-Some.fact in
+    let e = err_from_is_err_and c.from_residual-in_err-at_aside.result
+    c.from_residual-in_err-at_aside.ensures.1 in
+    let r = read_done c.next_with.result c.at_input.result 1 c.in_ok-fact.field-0
+    c.at_input.ensures c.in_ok-fact.was ∙ ap Ok c.in-Some.is in
+    let gave = entry_given c.loop-fact.reader.max_entries from to v w c.next_with.result f
+    c.next_with.ensures.gives h.limit r in
+    let here = within_read w to h.read f gave c.count.new.self
+    (c.count.ensures.within h.read.entries f (sym c.address.ensures)
+    (entry_rises w to h.read f gave) h.read.counts c.if-not-count.false) in
+    let at : (x : g.row.R.Denot) → c.next_with.new.self.source.now ≡ x → ReadsWithin
+    (at_most g.row.SESSIONS g.row.OBJECTS g.row.SYMBOLS) u
+    (g.R.Source.unread x) = λ x same. subst (λ (y : g.row.R.Denot). ReadsWithin
+    (at_most g.row.SESSIONS g.row.OBJECTS g.row.SYMBOLS) u
+    (g.R.Source.unread y)) same here in
+    rw (e.1 ∙ ap Err (e.2 ∙ c.in_err-at_aside.ensures.fault)) (at _ (search rules))
+
+pub returns-in_err-at_aside-clause-failures : goal.returns-in_err-at_aside-clause-failures
+returns-in_err-at_aside-clause-failures g c =
+    let e = err_from_is_err_and c.from_residual-in_err-at_aside.result
+    c.from_residual-in_err-at_aside.ensures.1 in
+    let one : ◌≡◌ {A = ℕ} (if is_ok c.add_selected.result then 0 else 1) 1 =
+    counted c.at_aside.result c.add_selected.result c.at_aside.ensures.same c.at_aside.ensures.fault
+    ∙ ap write_failures (c.in_err-at_aside.was ∙ ap Err c.in_err-at_aside.ensures.fault) in
+    rw (e.1 ∙ ap Err (e.2 ∙ c.in_err-at_aside.ensures.fault))
+    (omega (arith, c.add_selected.ensures.failures, one, c.loop-fact.invariant.failures))
+
+pub loop-fact-preserved : goal.loop-fact-preserved
+loop-fact-preserved g c =
+    let v = g.R.Source.unread c.loop-fact.reader.source.now in
+    let w = g.R.Source.unread c.next_with.new.self.source.now in
+    let from = c.loop-fact.reader.state in
+    let to = c.next_with.new.self.state in
+    let h = c.loop-fact.invariant in
+    let f = c.in-Some.fact in
+    let r = read_done c.next_with.result c.at_input.result 1 c.in_ok-fact.field-0
+    c.at_input.ensures c.in_ok-fact.was ∙ ap Ok c.in-Some.is in
+    let gave = entry_given c.loop-fact.reader.max_entries from to v w c.next_with.result f
+    c.next_with.ensures.gives h.limit r in
+    let rises = entry_rises w to h.read f gave in
+    let done : is_ok c.add_selected.result ≡ true = sym c.at_aside.ensures.same ∙ ap is_ok
+    c.in_ok-at_aside.was in
+    let none : ◌≡◌ {A = ℕ} (if is_ok c.add_selected.result then 0 else 1) 0 = ap
+    (λ (b : Bool). if b then 0 else 1) done in
+    record {
+      read =
+          one_more_read w to h.read f gave c.count.new.self c.add_selected.new.listing
+          (record {
+            lines = g.A.Sink.written c.add_selected.new.lines;
+            gap_lines = g.A.Sink.written c.add_selected.new.gap_lines;
+          })
+          (c.count.ensures.within h.read.entries f (sym c.address.ensures) rises h.read.counts
+          c.if-not-count.false)
+          (λ known l. was_done c.add_selected.result done
+          (c.add_selected.ensures.added known h.read.entries rises l));
+      limit = c.next_with.ensures.limit ∙ h.limit;
+      source = c.next_with.ensures.source ∙ h.source;
+      reads = no_read_failure c.next_with.result _ _ _ _ _ r c.next_with.ensures.failures h.reads;
+      failures = omega (arith, c.add_selected.ensures.failures, none, h.failures);
+    }
+
+pub finish-requires : goal.finish-requires
+finish-requires g c =
+    let h = c.loop-fact.invariant in
+    let v = g.R.Source.unread c.loop-fact.reader.source.now in
+    let from = c.loop-fact.reader.state in (
+      selected c.args.selection.now h.read.entries,
+      few_read v from h.read,
+      is_open v from h.read,
+    )
+
+pub returns-clause-listed : goal.returns-clause-listed
+returns-clause-listed g c = λ none no_gaps.
+    let style = c.args.style in
+    let v = g.R.Source.unread c.loop-fact.reader.source.now in
+    let w = g.R.Source.unread c.next_with.new.self.source.now in
+    let from = c.loop-fact.reader.state in
+    let to = c.next_with.new.self.state in
+    let h = c.loop-fact.invariant in
+    let r = read_done c.next_with.result c.at_input.result 1 c.in_ok-fact.field-0
+    c.at_input.ensures c.in_ok-fact.was ∙ ap Ok c.in_default.is in
+    let gave = end_given c.loop-fact.reader.max_entries from to v w c.next_with.result
+    c.next_with.ensures.gives r in
+    let aside = g.A.Sink.written c.finish.new.lines in
+    let P : Bool → List Told → Type 0 = λ all_whole objects.
+    (aside ≡ Some (printed style objects)) × (all_whole ≡ are_whole style objects) in
+    was_value (λ x. ListsJournal (at_most g.row.SESSIONS g.row.OBJECTS g.row.SYMBOLS)
+    c.args.selection.now (g.R.Source.unread c.args.source.now) (P x))
+    c.at_aside-2.result c.finish.result c.at_aside-2.ensures.value
+    (if_ok c.finish.result
+    (λ x l. all_read w to h.read gave l.objects l.told (l.lines_known refl, l.whole_is))
+    (c.finish.ensures.finished true (selected c.args.selection.now h.read.entries)
+    (read_rises w to h.read)
+    (h.read.lists true (λ is. (none, no_gaps)))))
+
+pub returns-clause-whole : goal.returns-clause-whole
+returns-clause-whole g c =
+    let u = g.R.Source.unread c.args.source.now in
+    let v = g.R.Source.unread c.loop-fact.reader.source.now in
+    let w = g.R.Source.unread c.next_with.new.self.source.now in
+    let from = c.loop-fact.reader.state in
+    let to = c.next_with.new.self.state in
+    let h = c.loop-fact.invariant in
+    let r = read_done c.next_with.result c.at_input.result 1 c.in_ok-fact.field-0
+    c.at_input.ensures c.in_ok-fact.was ∙ ap Ok c.in_default.is in
+    let gave = end_given c.loop-fact.reader.max_entries from to v w c.next_with.result
+    c.next_with.ensures.gives r in
+    let here = whole_read w to h.read gave in
+    let at : (x : g.row.R.Denot) → c.next_with.new.self.source.now ≡ x → ReadsWithin
+    (at_most g.row.SESSIONS g.row.OBJECTS g.row.SYMBOLS) u
+    (g.R.Source.unread x) = λ x same. subst (λ (y : g.row.R.Denot). ReadsWithin
+    (at_most g.row.SESSIONS g.row.OBJECTS g.row.SYMBOLS) u
+    (g.R.Source.unread y)) same here in
+    on_any c.at_aside-2.result (at _ (search rules))
+
+pub returns-clause-failed : goal.returns-clause-failed
+returns-clause-failed g c =
+    let u = g.R.Source.unread c.args.source.now in
+    let v = g.R.Source.unread c.loop-fact.reader.source.now in
+    let w = g.R.Source.unread c.next_with.new.self.source.now in
+    let from = c.loop-fact.reader.state in
+    let to = c.next_with.new.self.state in
+    let h = c.loop-fact.invariant in
+    let r = read_done c.next_with.result c.at_input.result 1 c.in_ok-fact.field-0
+    c.at_input.ensures c.in_ok-fact.was ∙ ap Ok c.in_default.is in
+    let gave = end_given c.loop-fact.reader.max_entries from to v w c.next_with.result
+    c.next_with.ensures.gives r in
+    let here = whole_read w to h.read gave in
+    let at : (x : g.row.R.Denot) → c.next_with.new.self.source.now ≡ x → ReadsWithin
+    (at_most g.row.SESSIONS g.row.OBJECTS g.row.SYMBOLS) u
+    (g.R.Source.unread x) = λ x same. subst (λ (y : g.row.R.Denot). ReadsWithin
+    (at_most g.row.SESSIONS g.row.OBJECTS g.row.SYMBOLS) u
+    (g.R.Source.unread y)) same here in
+    fails_aside u _ c.at_aside-2.result c.at_aside-2.ensures.fault (at _ (search rules))
+
+pub returns-clause-failures : goal.returns-clause-failures
+returns-clause-failures g c =
+    omega (
+      arith,
+      c.finish.ensures.failures,
+      counted c.at_aside-2.result c.finish.result
+          c.at_aside-2.ensures.same c.at_aside-2.ensures.fault,
+      c.loop-fact.invariant.failures,
+    )

@@ -1,0 +1,22 @@
+use Rattle.std.proofs.Common.{append_assoc, refl}
+use Rattle.flutejoin.specs.Sums.{sums_line}
+use Rattle.flutejoin.proofs.gaps.session_sums.SessionSums.text.Goals as goal
+
+pub returns-clause-line : goal.returns-clause-line
+unfolding sums_line
+returns-clause-line c =
+    rw (
+      c.push_sum-7.ensures.text,
+      c.push_sum-6.ensures.text,
+      c.push_sum-5.ensures.text,
+      c.push_sum-4.ensures.text,
+      c.push_sum-3.ensures.text,
+      c.push_sum-2.ensures.text,
+      c.push_sum.ensures.text,
+      c.push_number.ensures.text,
+      c.push.ensures.text,
+      c.push_source.ensures.text,
+      c.new-text.ensures,
+      c.sender.ensures,
+      c.tsi.ensures.value,
+    ) (simp append_assoc refl)

@@ -1,0 +1,228 @@
+-- What a join of a journal and of facts in memory comes to.
+use Rattle.std.proofs.Common.{◌≡◌, ℕ, zero, suc, ◌+◌, Bool, true, false, List, [], ◌∷◌, ◌++◌}
+use Rattle.std.proofs.Common.{Option, Some, None, Result, Ok, Err, refl, sym, subst, arith}
+use Rattle.std.proofs.Common.{append-nil}
+use Rattle.std.specs.Prelude.{slice_get, IfErr, IfSome}
+use Rattle.flute_parts.specs.declared.fact.Fact.{Fact}
+use Rattle.flute_parts.specs.Facts.{Same}
+use Rattle.flute_parts.proofs.Public.{Below-from_Same, Over-below, Same-append, Same-itself}
+use Rattle.flute_parts.proofs.Public.{Same-sym, Same-trans}
+use Rattle.flute_journal.specs.Journal.{IsJournalWithin}
+use Rattle.flute_journal.specs.JournalFraming.{journal_framing}
+use Rattle.flute_journal.specs.JournalWriters.{PutsJournal, WritesJournal}
+use Rattle.flute_journal.specs.Readers.{source_of, limit_of}
+use Rattle.flute_journal.specs.Streams.{Behaviour}
+use Rattle.flute_journal.specs.Eithers.{either_behaviour}
+use Rattle.flute_journal.specs.FirstFaults.{FirstFault, IsStopOf}
+use Rattle.flute_journal.specs.JournalStreams.{FailsBy, lent_behaviour}
+use Rattle.flute_journal.specs.StreamMerges.{all_of, Each, IsWithinLimits, MergedAll}
+use Rattle.flute_journal.specs.Framing.{HasFault}
+use Rattle.flute_journal.specs.declared.streams.either.Either.{Either}
+use Rattle.flute_journal.specs.declared.streams.either.Either.TheVariants.{First, Second}
+use Rattle.flute_journal.specs.declared.fault.LoadFault.{LoadFault}
+use Rattle.flute_journal.specs.declared.fault.LoadFault.TheVariants as load
+use Rattle.flute_journal.specs.declared.fault.ReadFault.TheVariants as read
+use Rattle.flute_journal.specs.declared.streams.journal_stream.LentStream.{LentStream}
+use Rattle.flute_journal.specs.declared.merge.all_streams.MergedJournal.{MergedJournal}
+use Rattle.flute_journal.specs.declared.merge.streams_fault.InputFault.{InputFault}
+use Rattle.flutejoin.specs.declared.command_fault.CommandFault.{CommandFault}
+use Rattle.flutejoin.specs.declared.command_fault.CommandFault.TheVariants.{Full, CannotWrite}
+use Rattle.flutejoin.specs.declared.command_fault.CommandFault.TheVariants.{Input}
+use Rattle.flutejoin.specs.declared.limits.TheConstants.{MAX_ENTRIES}
+use Rattle.flutejoin.specs.Info.{AddsFacts, InfoFails}
+use Rattle.flutejoin.specs.InfoLists.{TellsSame}
+use Rattle.flutejoin.specs.Limits.{Limits}
+use Rattle.flutejoin.specs.Show.{FailsToRead}
+use Rattle.flutejoin.specs.Status.{of_load}
+
+if_some : (o : Option (List ℕ)) (P Q : List ℕ → Type 0) → ((x : List ℕ) → P x → Q x) → IfSome o P
+    → IfSome o Q
+if_some None P Q f h = tt
+if_some (Some x) P Q f h = f x h
+
+-- facts that are the same have one journal, and are within the limits together
+puts_same : (cut : Bool) (old new : Option (List ℕ)) (F G : List Fact) (count : ℕ) → Same F G
+    → PutsJournal cut old new F count → PutsJournal cut old new G count
+puts_same cut old new F G count same p = record {
+  bytes = p.bytes;
+  journal = (
+    p.journal.0,
+    record {
+      valid = p.journal.1.valid;
+      rising = p.journal.1.rising;
+      same = Same-trans G F p.journal.0 (Same-sym F G same) p.journal.1.same;
+    },
+    p.journal.2,
+    p.journal.3,
+  );
+  entries = p.entries;
+  appended = p.appended;
+}
+
+abbrev IsWithin : Limits → List Fact → Bool → Type 0
+IsWithin most F within = IsWithinLimits most.sessions most.objects most.symbols F within
+
+within_same : (most : Limits) (F G : List Fact) (within : Bool) → Same F G
+    → IsWithin most F within → IsWithin most G within
+within_same most F G true same h = λ over.
+    h (Over-below G F most.sessions most.objects most.symbols
+    (Below-from_Same G F (Same-sym F G same)) over)
+within_same most F G false same h =
+    Over-below F G most.sessions most.objects most.symbols (Below-from_Same F G same) h
+
+-- The stream of a journal that is lent, and one of facts.
+module _ {R : Type 0} (unread : R → Option (List ℕ)) (failures : R → ℕ) {S : Type 0}
+    (b : Behaviour S) where
+  abbrev journals : Behaviour (LentStream R)
+  journals = lent_behaviour unread failures
+
+  abbrev both : Behaviour (Either (LentStream R) S)
+  both = either_behaviour journals b
+
+  module _ (j : LentStream R) (f : S) where
+    abbrev bytes_of : Option (List ℕ)
+    bytes_of = unread (source_of j.reader.now).now
+
+    abbrev inputs : List (Either (LentStream R) S)
+    inputs = First j ∷ Second f ∷ []
+
+    module _ (facts : List Fact) (same : TellsSame b f facts)
+        (limit : limit_of j.reader.now ≡ MAX_ENTRIES) where
+      -- the entries of the journal, and those facts
+      record Two (told : List (List Fact)) : Type 0 where
+        pub entries : List Fact
+        pub tells : IfSome bytes_of (λ bytes. IsJournalWithin MAX_ENTRIES bytes entries)
+        pub all : Same (all_of told) (entries ++ facts)
+
+      two : (told : List (List Fact)) → Each both.tells inputs told → Two told
+      two [] h = absurd h
+      two (F ∷ []) h = absurd h.1
+      two (F ∷ G ∷ []) h = record {
+        entries = F;
+        tells = subst (λ n. IfSome bytes_of (λ bytes. IsJournalWithin n bytes F)) limit h.0;
+        all =
+            Same-append F F (G ++ []) facts (Same-itself F)
+            (subst (λ (l : List Fact). Same l facts) (sym (append-nil G)) (same G h.1.0));
+      }
+      two (F ∷ G ∷ H ∷ told) h = absurd h.1.1
+
+      -- Both were joined.
+      module _ (most : Limits) (joined : MergedJournal) (w w' : Option (List ℕ))
+          (m : MergedAll both inputs most.sessions most.objects most.symbols joined w w') where
+        t : Two m.told
+        t = two m.told m.tell
+
+        abbrev together : List Fact
+        together = t.entries ++ facts
+
+        in_limits : (within : Bool) → joined.within ≡ within
+            → IsWithin most together within
+        in_limits within e =
+            within_same most (all_of m.told) together within t.all
+            (subst (λ c. IsWithin most (all_of m.told) c) e m.limits)
+
+        pub adds_facts : joined.cut ≡ false → AddsFacts bytes_of facts w w' joined.entries
+        adds_facts whole =
+            let writes : WritesJournal w w' together joined.entries =
+            puts_same false w w' (all_of m.told) together joined.entries t.all
+            (subst (λ (c : Bool). PutsJournal c w w' (all_of m.told) joined.entries) whole m.puts)
+            in
+            if_some bytes_of _ _ (λ bytes is. (t.entries, is, writes)) t.tells
+
+        pub over_with : joined.within ≡ false → InfoFails most bytes_of facts Full
+        over_with out =
+            if_some bytes_of _ _ (λ bytes is. (t.entries, is, in_limits false out)) t.tells
+
+        pub within_with : joined.within ≡ true → InfoFails most bytes_of facts CannotWrite
+        within_with within =
+            if_some bytes_of _ _ (λ bytes is. (t.entries, is, in_limits true within)) t.tells
+
+    -- The first fault is that of the journal.
+    module _ (goes_on : (fault : LoadFault) → b.stops f fault → ⊥) where
+      stop_at : (number : ℕ) (fault : LoadFault) (s : Either (LentStream R) S)
+          → slice_get inputs number ≡ Some s → both.stops s fault
+          → (number ≡ 0) × journals.stops j fault
+      stop_at zero fault s was h =
+          let p : s ≡ First j = (let e = was in cc) in
+          (refl, subst (λ z. both.stops z fault) p h)
+      stop_at (suc zero) fault s was h =
+          let p : s ≡ Second f = (let e = was in cc) in
+          absurd (goes_on fault (subst (λ z. both.stops z fault) p h))
+      stop_at (suc (suc number)) fault s was h = absurd (let e : None ≡ Some s = was in cc)
+
+      journal_stops : (most : Limits) (facts : List Fact) (fault : LoadFault)
+          → limit_of j.reader.now ≡ MAX_ENTRIES → journals.stops j fault
+          → InfoFails most bytes_of facts (of_load 1 fault)
+      journal_stops most facts (load.Read r) limit h =
+          (refl, subst (λ n. HasFault journal_framing n bytes_of r) limit h)
+      journal_stops most facts load.Full limit h = absurd h
+      journal_stops most facts load.OutOfMemory limit h = absurd h
+
+      pub first_fails : (most : Limits) (facts : List Fact)
+          (after : List (Either (LentStream R) S)) (first : InputFault)
+          → limit_of j.reader.now ≡ MAX_ENTRIES → FirstFault both inputs after first
+          → InfoFails most bytes_of facts (of_load (first.number + 1) first.fault)
+      first_fails most facts after first limit h =
+          let o = stop_at first.number first.fault h.stopped.new h.stopped.was
+          h.stopped.stop.stops in
+          subst (λ n. InfoFails most bytes_of facts (of_load (n + 1) first.fault)) (sym o.0)
+          (journal_stops most facts first.fault limit o.1)
+
+      -- its source failed as the fault tells, and it is lent as before
+      module _ (j' : LentStream R) (f' : S) where
+        abbrev new : List (Either (LentStream R) S)
+        new = First j' ∷ Second f' ∷ []
+
+        failed_at : (number : ℕ) (fault : LoadFault) (s : Either (LentStream R) S)
+            → slice_get inputs number ≡ Some s → IsStopOf both s number new fault
+            → journals.fails j j' (Some fault)
+        failed_at zero fault s was h =
+            let p : s ≡ First j = (let e = was in cc) in
+            let q : h.stream ≡ First j' = (let e = h.is in cc) in
+            subst (λ z. both.fails (First j) z (Some fault)) q
+            (subst (λ z. both.fails z h.stream (Some fault)) p h.fails)
+        failed_at (suc zero) fault s was h =
+            let p : s ≡ Second f = (let e = was in cc) in
+            absurd (goes_on fault (subst (λ z. both.stops z fault) p h.stops))
+        failed_at (suc (suc number)) fault s was h = absurd (let e : None ≡ Some s = was in cc)
+
+        pub failed_as : (first : InputFault) → FirstFault both inputs new first
+            → journals.fails j j' (Some first.fault)
+        failed_as first h =
+            failed_at first.number first.fault h.stopped.new h.stopped.was h.stopped.stop
+
+-- how often the source failed that a fault of reading is of
+pub load_failures : (number old new : ℕ) (fault : LoadFault) → FailsBy old new (Some fault)
+    → FailsToRead {T = ℕ} old new (Err (of_load number fault))
+load_failures number old new (load.Read read.Read) h = h
+load_failures number old new (load.Read read.Magic) h = h
+load_failures number old new (load.Read read.Version) h = h
+load_failures number old new (load.Read read.Kind) h = h
+load_failures number old new (load.Read read.Key) h = h
+load_failures number old new (load.Read (read.Information why)) h = h
+load_failures number old new (load.Read read.EmptySymbol) h = h
+load_failures number old new (load.Read read.Order) h = h
+load_failures number old new (load.Read read.Count) h = h
+load_failures number old new (load.Read read.Cut) h = h
+load_failures number old new (load.Read read.TooMany) h = h
+load_failures number old new (load.Read read.Trailing) h = h
+load_failures number old new (load.Read read.OutOfMemory) h = h
+load_failures number old new load.Full h = h
+load_failures number old new load.OutOfMemory h = h
+
+-- No fault of a journal is told of the second input.
+pub never_second : (most : Limits) (r : Result ℕ CommandFault) (input : Option (List ℕ))
+    (facts : List Fact) (Q : Type 0) → IfErr r (InfoFails most input facts)
+    → IfErr r (λ fault. fault ≡ Input 2 read.Read → Q)
+never_second most (Ok count) input facts Q h = tt
+never_second most (Err fault) input facts Q h = λ e.
+    let k : InfoFails most input facts (Input 2 read.Read) =
+    subst (InfoFails most input facts) e h in
+    absurd (omega (arith, k.0))
+
+-- the same of the source that the journal is read of
+pub of_source : {R : Type 0} (unread : R → Option (List ℕ)) (most : Limits) (source now : R)
+    (facts : List Fact) (r : Result ℕ CommandFault) → now ≡ source
+    → IfErr r (InfoFails most (unread now) facts) → IfErr r (InfoFails most (unread source) facts)
+of_source unread most source now facts r e h =
+    subst (λ x. IfErr r (InfoFails most (unread x) facts)) e h

@@ -1,0 +1,16 @@
+-- The walk tells what the store holds.
+use Rattle.std.proofs.Common.{List, sym, subst, ◌∙◌}
+use Rattle.flute_parts.specs.declared.fact.Fact.{Fact}
+use Rattle.flute_parts.specs.Facts.{Same}
+use Rattle.flutejoin.specs.Limits.{at_most}
+use Rattle.flutejoin.proofs.info.AddedFacts.{of_source}
+use Rattle.flutejoin.proofs.info.info_list.add_store.Goals as goal
+
+pub returns-clause-failed : goal.returns-clause-failed
+returns-clause-failed g c = λ told same.
+    of_source g.R.Source.unread (at_most g.row.SESSIONS g.row.OBJECTS g.row.SYMBOLS)
+    c.args.source.now _ told c.add_facts.result
+    c.new-journal.ensures.unread
+    (c.add_facts.ensures.failed told
+    (λ F is. subst (λ (l : List Fact). Same l told)
+    (sym (is ∙ c.new-facts.ensures.facts ∙ c.walk.ensures.value)) same))

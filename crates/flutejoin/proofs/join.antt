@@ -1,0 +1,9 @@
+pub mod Receptions
+pub mod Runs
+pub mod Taking
+pub mod Held
+pub mod Inspections
+pub mod InputStreams
+pub mod JoinStreams
+pub mod JoinStops
+pub mod JoinTrees

@@ -1,0 +1,265 @@
+-- Inputs that are inspected, one after the other.
+use Rattle.std.proofs.Common.{◌≡◌, ℕ, zero, suc, ◌+◌, ◌*◌, ◌≤◌, List, [], ◌∷◌, ◌++◌, length, take}
+use Rattle.std.proofs.Common.{append-nil, append_assoc, Option, Some, Err, inl, inr, refl, sym, ap}
+use Rattle.std.proofs.Common.{◌∙◌, subst, arith, Bool, true}
+use Rattle.std.proofs.Math.ListN.{set}
+use Rattle.std.specs.Prelude.{slice_get}
+use Rattle.std.specs.List.{AllByRecursion}
+use Rattle.std.proofs.lemmas.Bool.{cases_eq}
+use Rattle.std.proofs.lemmas.List.{length-set, take_all}
+use Rattle.std.proofs.lemmas.Option.{slice_get_within}
+use Rattle.flute_journal.specs.Kinds.{HasKind, IsNeither}
+use Rattle.flute_journal.specs.declared.kind.Kind.{Kind}
+use Rattle.flute_journal.specs.declared.kind.Kind.TheVariants as kinds
+use Rattle.flute_journal.specs.declared.fault.ReadFault.TheVariants.{Read}
+use Rattle.flutejoin.specs.declared.command_fault.CommandFault.{CommandFault}
+use Rattle.flutejoin.specs.declared.command_fault.CommandFault.TheVariants.{Input, UnknownKind}
+use Rattle.flutejoin.specs.declared.command_fault.CommandFault.TheVariants.{CannotWrite}
+use Rattle.flutejoin.specs.declared.join.held_files.HeldFiles.{HeldFiles}
+use Rattle.flutejoin.specs.declared.join.join_input.JoinInput.{JoinInput}
+use Rattle.flutejoin.specs.declared.join.join_input.JoinInput.TheVariants.{Journal, Datagrams, Unknown}
+use Rattle.flutejoin.specs.JoinInputs.{IsInput, AreInputs}
+use Rattle.flutejoin.specs.InputStreams.{failures_of, NoneFailed, OneFailed}
+use Rattle.flutejoin.specs.Joined.{Choice}
+use Rattle.flutejoin.specs.JoinFaults.{HasKnownKind, IsOfAKind}
+use Rattle.flutejoin.specs.JoinParts.{HoldsDatagrams, HoldsMore}
+use Rattle.flutejoin.specs.JoinParts.{IsSound, CountsUpTo}
+use Rattle.flutejoin.specs.JoinParts.{NamesOnly, InspectionFails, SomeInspectionFails}
+use Rattle.flutejoin.specs.JoinFaults.{NamesOneOf}
+use Rattle.flutejoin.specs.JoinParts.{IsInspected, AreInspected, Finds, IsReady}
+use Rattle.flutejoin.specs.Show.{FailsToRead}
+use Rattle.flutejoin.proofs.Slots.{slice_get-set_other, slice_get-set_same, some_same}
+use Rattle.flutejoin.proofs.Firsts.{at_place, first_at}
+
+pub same_kind : (kind : Kind) (xs ys : List ℕ) → take 4 xs ≡ take 4 ys → HasKind kind xs
+    → HasKind kind ys
+same_kind kinds.Journal xs ys e h = sym e ∙ h
+same_kind kinds.Datagrams xs ys e h = sym e ∙ h
+
+pub same_neither : (xs ys : List ℕ) → take 4 xs ≡ take 4 ys → IsNeither xs → IsNeither ys
+same_neither xs ys e h = λ kind is. h kind (same_kind kind ys xs (sym e) is)
+
+pub one_is : {X : Type 0} (xs : List X) (k : ℕ) (x y : X) → slice_get xs k ≡ Some x
+    → slice_get xs k ≡ Some y → x ≡ y
+one_is xs k x y e h = some_same _ x y e h
+
+pub of_a_kind : (bytes : List ℕ) → HasKnownKind bytes → IsOfAKind bytes
+of_a_kind bytes (inl journal) = inl journal
+of_a_kind bytes (inr file) = inr (ap (take 4) file.1.bytes_are)
+
+-- so it is with one more of a list in which it stands then
+all_more : {X : Type 0} (P : X → Type 0) {x : X} (new : X) (k : ℕ) (xs : List X)
+    → slice_get xs k ≡ Some x → AllByRecursion P (take k xs) → P new
+    → AllByRecursion P (take (suc k) (set xs k new))
+all_more P {x} new k [] at h p = let within = slice_get_within [] k x at in absurd
+    (omega (arith, within))
+all_more P new zero (y ∷ xs) at h p = (p, tt)
+all_more P new (suc k) (y ∷ xs) at h p = (h.0, all_more P new k xs at h.1 p)
+
+module _ (choice : Choice) {R : Type 0} (unread : R → Option (List ℕ)) where
+  is_known : (input : JoinInput R) (bytes : List ℕ) (datagrams : List (List ℕ))
+      → IsInspected unread choice input bytes datagrams → HasKnownKind bytes
+  is_known (Journal journal) bytes datagrams h = inl h.1
+  is_known (Datagrams source) bytes datagrams h = inr (datagrams, h)
+  is_known Unknown bytes datagrams h = absurd h
+
+  pub all_known : (xs : List (JoinInput R)) (contents datagrams : List (List ℕ))
+      → AreInspected unread choice xs contents datagrams → AllByRecursion HasKnownKind contents
+  all_known [] [] datagrams h = tt
+  all_known (x ∷ xs) (bytes ∷ contents) datagrams h =
+      (is_known x bytes h.0 h.2, all_known xs contents h.1 h.4)
+  all_known [] (bytes ∷ contents) datagrams h = absurd h
+  all_known (x ∷ xs) [] datagrams h = absurd h
+
+  -- one input more was inspected
+  module _ {x : JoinInput R} (new : JoinInput R) {bytes : List ℕ} (own : List (List ℕ))
+      (one : IsInspected unread choice new bytes own) where
+    one_more : (k : ℕ) (xs : List (JoinInput R)) (contents datagrams : List (List ℕ))
+        → slice_get xs k ≡ Some x → slice_get contents k ≡ Some bytes
+        → AreInspected unread choice (take k xs) (take k contents) datagrams
+        → AreInspected unread choice (take (suc k) (set xs k new)) (take (suc k) contents)
+        (datagrams ++ own)
+    one_more k [] contents datagrams at here h =
+        let within = slice_get_within [] k x at in absurd (omega (arith, within))
+    one_more k (y ∷ xs) [] datagrams at here h =
+        let within = slice_get_within [] k bytes here in absurd (omega (arith, within))
+    one_more zero (y ∷ xs) (c ∷ contents) datagrams at here h =
+        let same : bytes ≡ c = cc in (
+          own,
+          [],
+          subst (λ b. IsInspected unread choice new b own) same one,
+          ap (λ l. l ++ own) h ∙ sym (append-nil own),
+          refl,
+        )
+    one_more (suc k) (y ∷ xs) (c ∷ contents) datagrams at here h = (
+      h.0,
+      h.1 ++ own,
+      h.2,
+      ap (λ l. l ++ own) h.3 ∙ append_assoc h.0 h.1 own,
+      one_more k xs contents h.1 at here h.4,
+    )
+
+  module _ (failures : R → ℕ) where
+    -- the first inputs were inspected, and the others are as they were
+    pub record InspectedSoFar {s o y : ℕ} (told : Bool) (start now : List (JoinInput R))
+        (held : HeldFiles s o y R) (k : ℕ) : Type 0 where
+      pub as_many : length now ≡ length start
+      pub later : (j : ℕ) → k ≤ j → slice_get now j ≡ slice_get start j
+      pub ready : AllByRecursion (IsReady unread failures) (take k now)
+      pub finds : told ≡ true → (contents : List (List ℕ)) → AreInputs unread start contents
+          → Finds unread choice (take k now) (take k contents) held
+      pub few : held.told.datagrams ≤ k * 16777216
+      pub sound : IsSound unread failures held
+      pub none_failed : NoneFailed failures start now
+
+    pub inspected_none : {s o y : ℕ} (told : Bool) (start : List (JoinInput R))
+        (held : HeldFiles s o y R) → ((c : Choice) → HoldsDatagrams unread c held [])
+        → IsSound unread failures held → held.told.datagrams ≡ 0
+        → InspectedSoFar told start start held 0
+    inspected_none told start held holds sound none = record {
+      as_many = refl;
+      later = λ j past. refl;
+      ready = tt;
+      finds = λ is contents inputs. ([], refl, holds choice);
+      few = omega (arith, none);
+      sound = sound;
+      none_failed = record {
+        as_many = refl;
+        each = λ j before after was is. ap (failures_of failures)
+            (one_is start j after before is was);
+      };
+    }
+
+    module _ {s o y : ℕ} {told : Bool} {start now : List (JoinInput R)}
+        {held : HeldFiles s o y R} {k : ℕ} (h : InspectedSoFar told start now held k) (one : JoinInput R)
+        (at : slice_get now k ≡ Some one) where
+      was : slice_get start k ≡ Some one
+      was = sym (h.later k (omega arith)) ∙ at
+
+      -- the input at this place, and its bytes
+      is_input : (contents : List (List ℕ)) → AreInputs unread start contents
+          → (bytes : List ℕ) × (slice_get contents k ≡ Some bytes) × IsInput unread one bytes
+      is_input contents inputs =
+          let within = slice_get_within start k one was in
+          let here = at_place contents k (omega (arith, within, inputs.as_many)) in
+          (here.0, here.1, inputs.each k one here.0 was here.1)
+
+      -- no source failed, the one that was read now neither
+      none_more : (new : JoinInput R) → failures_of failures new ≡ failures_of failures one
+          → NoneFailed failures start (set now k new)
+      none_more new failed =
+          let within = slice_get_within now k one at in
+          record {
+            as_many = length-set now k new ∙ h.none_failed.as_many;
+            each = λ j before input is it.
+                elim (cases_eq j k) [
+                  | inl same ↦
+                      let P : ℕ → Type 0 = λ i. slice_get (set now k new) i ≡ Some input in
+                      let Q : ℕ → Type 0 = λ i. slice_get start i ≡ Some before in
+                      let put : new ≡ input =
+                      some_same _ new input (slice_get-set_same now k new within)
+                      (subst P same it) in
+                      ap (failures_of failures) (sym put) ∙ failed
+                      ∙ ap (failures_of failures) (one_is start k one before was (subst Q same is))
+                  | inr differs ↦ h.none_failed.each j before input is
+                      (sym (slice_get-set_other now k j new differs) ∙ it)
+                ];
+          }
+
+      pub inspected_more : (new : JoinInput R) (after : HeldFiles s o y R)
+          → IsReady unread failures new
+          → (told ≡ true → (bytes : List ℕ) → IsInput unread one bytes
+          → (datagrams : List (List ℕ)) × IsInspected unread choice new bytes datagrams
+          × HoldsMore unread choice held after datagrams)
+          → CountsUpTo unread failures 16777216 held after
+          → failures_of failures new ≡ failures_of failures one
+          → InspectedSoFar told start (set now k new) after (k + 1)
+      inspected_more new after ready looks counts failed =
+          let next : suc k ≡ k + 1 = omega arith in
+          record {
+            as_many = length-set now k new ∙ h.as_many;
+            later = λ j past.
+                slice_get-set_other now k j new (λ same. omega (arith, same, past))
+                ∙ h.later j (omega (arith, past));
+            ready =
+                subst (λ n. AllByRecursion (IsReady unread failures) (take n (set now k new))) next
+                (all_more (IsReady unread failures) new k now at h.ready ready);
+            finds = λ is contents inputs.
+                let own = is_input contents inputs in
+                let all = h.finds is contents inputs in
+                let more = looks is own.0 own.2 in (
+                  all.0 ++ more.0,
+                  subst
+                      (λ n. AreInspected unread choice (take n (set now k new)) (take n contents)
+                      (all.0 ++ more.0)) next
+                      (one_more new more.0 more.1 k now contents all.0 at own.1 all.1),
+                  more.2 all.0 all.2,
+                );
+            few = omega (arith, counts.0, h.few);
+            sound = counts.1;
+            none_failed = none_more new failed;
+          }
+
+      pub inspect_fails : (fault : CommandFault)
+          → ((bytes : List ℕ) → IsInput unread one bytes → InspectionFails (k + 1) bytes fault)
+          → told ≡ true → (contents : List (List ℕ)) → AreInputs unread start contents
+          → SomeInspectionFails contents fault
+      inspect_fails fault fails is contents inputs =
+          let own = is_input contents inputs in
+          let all = h.finds is contents inputs in (
+            k + 1,
+            first_at HasKnownKind (λ bytes. InspectionFails (k + 1) bytes fault) contents k own.0
+                own.1 (all_known (take k now) (take k contents) all.0 all.1) (fails own.0 own.2),
+          )
+
+      pub inspect_names : (fault : CommandFault) → NamesOnly (k + 1) fault
+          → NamesOneOf (length start) fault
+      inspect_names (Input number f) e =
+          let within = slice_get_within start k one was in
+          (omega (arith, e), omega (arith, e, within))
+      inspect_names (UnknownKind number) e =
+          let within = slice_get_within start k one was in
+          (omega (arith, e), omega (arith, e, within))
+      inspect_names fault e = tt
+
+      pub inspect_failed : (new : JoinInput R) (fault : CommandFault) → NamesOnly (k + 1) fault
+          → FailsToRead {T = Unit {0}} (failures_of failures one) (failures_of failures new)
+          (Err fault)
+          → (number : ℕ) → fault ≡ Input number Read
+          → OneFailed failures number start (set now k new)
+      inspect_failed new fault names fails number e =
+          let within = slice_get_within now k one at in
+          let named : k + 1 ≡ number = sym (subst (NamesOnly (k + 1)) e names) in
+          record {
+            place = k;
+            number_is = sym named;
+            before = one;
+            after = new;
+            was = was;
+            is = slice_get-set_same now k new within;
+            failed =
+                subst
+                (λ f. FailsToRead {T = Unit {0}} (failures_of failures one)
+                (failures_of failures new) (Err f)) e fails;
+          }
+
+    pub inspect_reads : (k : ℕ) (fault : CommandFault) → NamesOnly (k + 1) fault
+        → fault ≡ CannotWrite → ⊥
+    inspect_reads k fault names e = subst (NamesOnly (k + 1)) e names
+
+    -- all were inspected
+    module _ {s o y : ℕ} {told : Bool} {start now : List (JoinInput R)}
+        {held : HeldFiles s o y R} {k : ℕ} (h : InspectedSoFar told start now held k) (past : length start ≤ k) where
+      all_of_them : take k now ≡ now
+      all_of_them = take_all k now (omega (arith, past, h.as_many))
+
+      pub ready_all : AllByRecursion (IsReady unread failures) now
+      ready_all = subst (AllByRecursion (IsReady unread failures)) all_of_them h.ready
+
+      pub finds_all : told ≡ true → (contents : List (List ℕ)) → AreInputs unread start contents
+          → Finds unread choice now contents held
+      finds_all is contents inputs =
+          let every : take k contents ≡ contents =
+          take_all k contents (omega (arith, past, inputs.as_many)) in
+          subst (λ xs. Finds unread choice xs contents held) all_of_them
+          (subst (λ cs. Finds unread choice (take k now) cs held) every (h.finds is contents inputs))

@@ -1,0 +1,297 @@
+-- Inputs that were inspected, as streams that are joined with what is held: what they tell.
+use Rattle.std.proofs.Common.{◌≡◌, ℕ, zero, suc, ◌+◌, ◌*◌, ◌^◌, ◌<◌, ◌≤◌, not, List, [], ◌∷◌, ◌++◌}
+use Rattle.std.proofs.Common.{length, take, map, count_by, cond, append-nil, append_assoc, Option}
+use Rattle.std.proofs.Common.{refl, sym, ap, ◌∙◌, subst, arith}
+use Rattle.std.specs.Prelude.{sum_by, IfSome}
+use Rattle.std.specs.List.{flat_map, AllByRecursion}
+use Rattle.std.proofs.lemmas.Grind.{flat_map-append}
+use Rattle.std.proofs.lemmas.List.Sums.{count_by-le-length, sum_by-append, sum_by-cons}
+use Rattle.flute_parts.specs.Facts.{Same}
+use Rattle.flute_parts.specs.declared.fact.Fact.{Fact}
+use Rattle.flute_parts.proofs.Public.{Below-from_Same, Over-below, Same-append, Same-itself}
+use Rattle.flute_parts.proofs.Public.{Same-swap, Same-trans}
+use Rattle.flute_journal.proofs.Public.{taken_all}
+use Rattle.flute_journal.specs.Advances.{AreNew}
+use Rattle.flute_journal.specs.Chains.{chained, taken}
+use Rattle.flute_journal.specs.FirstFaults.{TellBefore}
+use Rattle.flute_journal.specs.Journal.{IsJournalWithin}
+use Rattle.flute_journal.specs.JournalWriters.{PutsJournal}
+use Rattle.flute_journal.specs.Scopes.{takes_key, is_chosen, chosen, others_in}
+use Rattle.flute_journal.specs.StreamMerges.{all_of, EachSince, EndsMerged, IsWithinLimits}
+use Rattle.flute_journal.specs.Streams.{Behaviour, IsNew, most_of}
+use Rattle.flute_journal.specs.declared.merge.all_streams.MergedJournal.{MergedJournal}
+use Rattle.flute_journal.specs.declared.streams.either.Either.{Either}
+use Rattle.flute_journal.specs.declared.streams.either.Either.TheVariants.{Second}
+use Rattle.flutejoin.specs.declared.join.join_input.JoinInput.{JoinInput}
+use Rattle.flutejoin.specs.declared.join.join_input.JoinInput.TheVariants.{Journal, Datagrams, Unknown}
+use Rattle.flutejoin.specs.declared.limits.TheConstants.{MAX_ENTRIES}
+use Rattle.flutejoin.specs.InputStreams.{passed_over, input_behaviour}
+use Rattle.flutejoin.specs.Joined.{Choice, facts_by, is_of_others, InputContent, of_journal}
+use Rattle.flutejoin.specs.Joined.{of_file, content_facts, content_datagrams, content_others, Tells}
+use Rattle.flutejoin.specs.Joined.{TellAll}
+use Rattle.flutejoin.specs.JoinFaults.{IsValid}
+use Rattle.flutejoin.specs.JoinParts.{IsInspected, AreInspected, IsReady, JoinsInspected}
+use Rattle.flutejoin.specs.JoinParts.{joined_behaviour, IsHeld, Ends}
+use Rattle.flutejoin.specs.Limits.{Limits, at_most, IsOver}
+
+pub over_same : (most : Limits) (F G : List Fact) → Same F G → IsOver most F → IsOver most G
+over_same most F G same over =
+    Over-below F G most.sessions most.objects most.symbols (Below-from_Same F G same) over
+
+-- facts in front of others, in two ways
+regroup : (O D F G R : List Fact) → Same R (D ++ G)
+    → Same ((O ++ F) ++ R) ((O ++ D) ++ (F ++ G))
+regroup O D F G R h =
+    let turned : Same (F ++ R) (D ++ (F ++ G)) =
+    Same-trans (F ++ R) ((F ++ D) ++ G) (D ++ (F ++ G))
+    (subst (λ l. Same (F ++ R) l) (sym (append_assoc F D G))
+    (Same-append F F R (D ++ G) (Same-itself F) h))
+    (subst (λ l. Same ((F ++ D) ++ G) l) (append_assoc D F G)
+    (Same-append (F ++ D) (D ++ F) G G (Same-swap F D) (Same-itself G))) in
+    subst (λ l. Same l ((O ++ D) ++ (F ++ G))) (sym (append_assoc O F R))
+    (subst (λ l. Same (O ++ (F ++ R)) l) (sym (append_assoc O D (F ++ G)))
+    (Same-append O O (F ++ R) (D ++ (F ++ G)) (Same-itself O) turned))
+
+-- all inputs are taken
+pub all_taken : {X : Type 0} (xs : List X) → length xs ≤ 64 → taken xs ≡ xs
+all_taken xs many = taken_all xs (omega (arith, many))
+
+module _ {R : Type 0} (unread : R → Option (List ℕ)) (failures : R → ℕ) {S : Type 0}
+    (b : Behaviour S) where
+  abbrev pub joins : Behaviour (Either S (JoinInput R))
+  joins = joined_behaviour unread failures b
+
+  abbrev pub are_ready : List (JoinInput R) → Type 0
+  are_ready xs = AllByRecursion (IsReady unread failures) xs
+
+  abbrev pub as_streams : List (JoinInput R) → List (Either S (JoinInput R))
+  as_streams xs = map Second xs
+
+  -- They are new, and few.
+
+  new_input : (x : JoinInput R) → IsReady unread failures x → IsNew joins (Second x)
+  new_input (Journal journal) h =
+      record { held = h.1.held; passes = h.1.passes; reads = h.1.reads; fails = h.1.fails }
+  new_input (Datagrams source) h =
+      record { held = refl; passes = (refl, refl); reads = (refl, refl); fails = (refl, refl) }
+  new_input Unknown h = record { held = refl; passes = refl; reads = refl; fails = refl }
+
+  inputs_new : (xs : List (JoinInput R)) → are_ready xs → AreNew joins (as_streams xs)
+  inputs_new [] h = tt
+  inputs_new (x ∷ xs) h = (new_input x h.0, inputs_new xs h.1)
+
+  few_input : (x : JoinInput R) → IsReady unread failures x → joins.most (Second x) ≤ 16777216
+  few_input (Journal journal) h = let e = h.2 in omega (arith, e)
+  few_input (Datagrams source) h = omega arith
+  few_input Unknown h = omega arith
+
+  inputs_few : (xs : List (JoinInput R)) → are_ready xs
+      → most_of joins (as_streams xs) ≤ length xs * 16777216
+  inputs_few [] h = omega arith
+  inputs_few (x ∷ xs) h = omega (arith, few_input x h.0, inputs_few xs h.1)
+
+  module _ {w : S} (xs : List (JoinInput R)) (held : IsHeld b w)
+      (many : length xs ≤ 64) (h : are_ready xs) where
+    pub all_new : AreNew joins (chained w (taken xs))
+    all_new =
+        subst (λ l. AreNew joins (chained w l)) (sym (all_taken xs many)) (
+          record {
+            held = held.new.held;
+            passes = held.new.passes;
+            reads = held.new.reads;
+            fails = held.new.fails;
+          },
+          inputs_new xs h,
+        )
+
+    pub all_few : most_of joins (chained w (taken xs)) < 2 ^ 64
+    all_few =
+        subst (λ l. most_of joins (chained w l) < 2 ^ 64) (sym (all_taken xs many))
+        (omega (arith, held.few, inputs_few xs h, many))
+
+  -- What they tell.
+
+  module _ (choice : Choice) where
+    -- what one input tells, and how much of it was passed over
+    record TellsOne (bytes : List ℕ) (own : List (List ℕ)) (F : List Fact)
+        (passed : ℕ) : Type 0 where
+      pub told : InputContent
+      pub tells : Tells bytes told
+      pub datagrams : content_datagrams told ≡ own
+      pub facts : content_facts choice told ≡ flat_map (facts_by choice) own ++ F
+      pub others : passed + count_by (is_of_others choice) own ≡ content_others choice told
+
+    tells_one : (x y : JoinInput R) (bytes : List ℕ) (own : List (List ℕ)) (F : List Fact)
+        → IsReady unread failures x → IsInspected unread choice x bytes own
+        → (input_behaviour unread failures).ends x y F → TellsOne bytes own F (passed_over y)
+    tells_one (Journal x) (Journal y) bytes own F ready inspected h =
+        let all = h.0 in
+        let P : Option (List ℕ) → Type 0 =
+        λ o. IfSome o (λ bs. IsJournalWithin x.stream.max_entries bs all) in
+        let Q : ℕ → Type 0 = λ n. IsJournalWithin n bytes all in
+        let journal : IsJournalWithin MAX_ENTRIES bytes all =
+        subst Q ready.3 (subst P inspected.2 h.1.0) in
+        let is : F ≡ chosen choice.takes all =
+        h.2 ∙ ap (λ takes. chosen takes all) inspected.3 in
+        let few = count_by-le-length (λ f. not (is_chosen (takes_key x.choice) f)) all in
+        let count : y.others ≡ x.others + others_in (takes_key x.choice) all =
+        h.1.1 (omega (arith, ready.0, few, journal.are_items.few)) in
+        let same = ap (λ takes. others_in takes all) inspected.3 in
+        let none = ap (count_by (is_of_others choice)) inspected.0 in
+        record {
+          told = of_journal all;
+          tells = journal;
+          datagrams = sym inspected.0;
+          facts = sym is ∙ ap (λ ds. flat_map (facts_by choice) ds ++ F) (sym inspected.0);
+          others = omega (arith, count, same, none, ready.0);
+        }
+    tells_one (Datagrams x) (Datagrams y) bytes own F ready inspected h = record {
+      told = of_file own;
+      tells = inspected;
+      datagrams = refl;
+      facts =
+          sym (append-nil (flat_map (facts_by choice) own))
+          ∙ ap (λ l. flat_map (facts_by choice) own ++ l) (sym h.1);
+      others = omega arith;
+    }
+    tells_one Unknown y bytes own F ready inspected h = absurd inspected
+    tells_one (Journal x) (Datagrams y) bytes own F ready inspected h = absurd h
+    tells_one (Journal x) Unknown bytes own F ready inspected h = absurd h
+    tells_one (Datagrams x) (Journal y) bytes own F ready inspected h = absurd h
+    tells_one (Datagrams x) Unknown bytes own F ready inspected h = absurd h
+
+    -- what all tell
+    record TellsEach (contents datagrams : List (List ℕ)) (F : List Fact)
+        (passed : ℕ) : Type 0 where
+      pub told : List InputContent
+      pub tell : TellAll contents told
+      pub datagrams_are : flat_map content_datagrams told ≡ datagrams
+      pub same : Same (flat_map (content_facts choice) told)
+          (flat_map (facts_by choice) datagrams ++ F)
+      pub others : passed + count_by (is_of_others choice) datagrams
+          ≡ sum_by (content_others choice) told
+
+    none_told : TellsEach [] [] [] 0
+    unfolding TellAll
+    none_told = record {
+      told = [];
+      tell = tt;
+      datagrams_are = refl;
+      same = Same-itself [];
+      others = refl;
+    }
+
+    one_more : {bytes : List ℕ} {contents own others : List (List ℕ)} {F G : List Fact} {m n : ℕ}
+        → TellsOne bytes own F m → TellsEach contents others G n
+        → TellsEach (bytes ∷ contents) (own ++ others) (F ++ G) (m + n)
+    unfolding TellAll
+    one_more {bytes} {contents} {own} {others} {F} {G} one all =
+        let O = flat_map (facts_by choice) own in
+        let D = flat_map (facts_by choice) others in
+        let rest = flat_map (content_facts choice) all.told in
+        let of_own = sum_by-append (λ d. cond (is_of_others choice d) 1 0) own others in
+        let of_told = sum_by-cons (content_others choice) one.told all.told in
+        record {
+          told = one.told ∷ all.told;
+          tell = (one.tells, all.tell);
+          datagrams_are =
+              ap (λ l. l ++ flat_map content_datagrams all.told) one.datagrams
+              ∙ ap (λ l. own ++ l) all.datagrams_are;
+          same =
+              subst (λ l. Same (l ++ rest) (flat_map (facts_by choice) (own ++ others) ++ (F ++ G)))
+              (sym one.facts)
+              (subst (λ l. Same ((O ++ F) ++ rest) (l ++ (F ++ G)))
+              (sym (flat_map-append (facts_by choice) own others))
+              (regroup O D F G rest all.same));
+          others = omega (arith, one.others, all.others, of_own, of_told);
+        }
+
+    tells_each : (xs ys : List (JoinInput R)) (contents datagrams : List (List ℕ))
+        (given : List (List Fact)) → are_ready xs
+        → AreInspected unread choice xs contents datagrams
+        → EachSince joins.ends (as_streams xs) (as_streams ys) given
+        → TellsEach contents datagrams (all_of given) (sum_by passed_over ys)
+    tells_each [] [] [] datagrams [] r h t =
+        subst (λ ds. TellsEach [] ds [] 0) (sym h) none_told
+    tells_each (x ∷ xs) (y ∷ ys) (bytes ∷ contents) datagrams (F ∷ given) r h t =
+        let one = tells_one x y bytes h.0 F r.0 h.2 t.0 in
+        let all = tells_each xs ys contents h.1 given r.1 h.4 t.1 in
+        subst (λ ds. TellsEach (bytes ∷ contents) ds (F ++ all_of given)
+        (sum_by passed_over (y ∷ ys)))
+        (sym h.3)
+        (subst (TellsEach (bytes ∷ contents) (h.0 ++ h.1) (F ++ all_of given))
+        (sym (sum_by-cons passed_over y ys)) (one_more one all))
+    tells_each [] [] [] datagrams (F ∷ given) r h t = absurd t
+    tells_each [] [] (bytes ∷ contents) datagrams given r h t = absurd h
+    tells_each [] (y ∷ ys) contents datagrams given r h t = absurd t
+    tells_each (x ∷ xs) [] contents datagrams given r h t = absurd t
+    tells_each (x ∷ xs) (y ∷ ys) [] datagrams given r h t = absurd h
+    tells_each (x ∷ xs) (y ∷ ys) (bytes ∷ contents) datagrams [] r h t = absurd t
+
+    is_valid : (x : JoinInput R) (bytes : List ℕ) (own : List (List ℕ)) (F : List Fact)
+        → IsReady unread failures x → IsInspected unread choice x bytes own
+        → joins.tells (Second x) F → IsValid bytes
+    is_valid (Journal x) bytes own F ready inspected h =
+        let P : Option (List ℕ) → Type 0 =
+        λ o. IfSome o (λ bs. IsJournalWithin x.stream.max_entries bs h.0) in
+        let Q : ℕ → Type 0 = λ n. IsJournalWithin n bytes h.0 in
+        (of_journal h.0, subst Q ready.3 (subst P inspected.2 h.1))
+    is_valid (Datagrams x) bytes own F ready inspected h = (of_file own, inspected)
+    is_valid Unknown bytes own F ready inspected h = absurd inspected
+
+    -- those before an input that tell facts are valid
+    pub valid_before : (n : ℕ) (xs : List (JoinInput R)) (contents datagrams : List (List ℕ))
+        → are_ready xs → AreInspected unread choice xs contents datagrams
+        → TellBefore joins n (as_streams xs) → AllByRecursion IsValid (take n contents)
+    valid_before zero xs contents datagrams r h t = tt
+    valid_before (suc n) (x ∷ xs) (bytes ∷ contents) datagrams r h t =
+        (is_valid x bytes h.0 t.0.0 r.0 h.2 t.0.1, valid_before n xs contents h.1 r.1 h.4 t.1)
+    valid_before (suc n) [] contents datagrams r h t = absurd t
+    valid_before (suc n) (x ∷ xs) [] datagrams r h t = absurd h
+
+    -- what was joined
+    module _ (xs ys : List (JoinInput R)) (contents datagrams : List (List ℕ))
+        (ready : are_ready xs) (inspected : AreInspected unread choice xs contents datagrams)
+        {w : S} {store : List Fact} (held : Ends b w store) (joined : MergedJournal)
+        (u v : Option (List ℕ)) where
+      abbrev Joins : Type 0
+      Joins = JoinsInspected choice contents datagrams store (sum_by passed_over ys) joined u v
+
+      of_told : (now : S) (told : List (List Fact))
+          → EachSince joins.ends (chained w xs) (chained now ys) told
+          → PutsJournal joined.cut u v (all_of told) joined.entries
+          → IsWithinLimits choice.most.sessions choice.most.objects choice.most.symbols
+          (all_of told) joined.within → Joins
+      of_told now [] h puts limits = absurd h
+      of_told now (F ∷ given) h puts limits =
+          let is = held now F h.0 in
+          let all = tells_each xs ys contents datagrams given ready inspected h.1 in
+          record {
+            told = all.told;
+            tell = all.tell;
+            datagrams_are = all.datagrams_are;
+            entries = all_of given;
+            same = all.same;
+            puts =
+                subst (λ l. PutsJournal joined.cut u v (l ++ all_of given) joined.entries) is puts;
+            limits =
+                subst (λ l. IsWithinLimits choice.most.sessions choice.most.objects
+                choice.most.symbols (l ++ all_of given) joined.within) is limits;
+            others = all.others;
+          }
+
+      pub joins_inspected : (now : S) → length xs ≤ 64 → length ys ≡ length xs
+          → (s o y : ℕ) → choice.most ≡ at_most s o y
+          → EndsMerged joins (chained w (taken xs)) (chained now (taken ys)) s o y joined u v
+          → Joins
+      joins_inspected now many same s o y e h =
+          of_told now h.merged.told
+          (subst
+          (λ l. EachSince joins.ends (chained w l) (chained now ys) h.merged.told)
+          (all_taken xs many)
+          (subst
+          (λ l. EachSince joins.ends (chained w (taken xs)) (chained now l) h.merged.told)
+          (all_taken ys (omega (arith, many, same))) h.ends))
+          h.merged.puts
+          (subst (λ (most : Limits). IsWithinLimits most.sessions most.objects most.symbols
+          (all_of h.merged.told) joined.within) (sym e) h.merged.limits)

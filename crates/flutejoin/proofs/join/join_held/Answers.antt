@@ -1,0 +1,92 @@
+-- Each exit is a lemma on the streams.
+use Rattle.flutejoin.proofs.join.JoinStreams.{all_new, all_few, joins_inspected}
+use Rattle.flutejoin.proofs.join.JoinStops.{stops_in, stop_fails, stop_names, stop_no_memory}
+use Rattle.flutejoin.proofs.join.JoinStops.{stop_no_aside, stop_no_sink, none_failed, read_failed}
+use Rattle.flutejoin.proofs.join.join_held.Goals as goal
+
+pub join_chained-requires-clause-new : goal.join_chained-requires-clause-new
+join_chained-requires-clause-new g c =
+    let b = g.S.Stream.behaviour in
+    all_new g.R.Source.unread g.R.Source.failures b c.args.inputs.now c.requires.held
+    c.requires.few c.requires.ready
+
+pub join_chained-requires-clause-most : goal.join_chained-requires-clause-most
+join_chained-requires-clause-most g c =
+    let b = g.S.Stream.behaviour in
+    all_few g.R.Source.unread g.R.Source.failures b c.args.inputs.now c.requires.held
+    c.requires.few c.requires.ready
+
+pub returns-in-Ok-clause-joined : goal.returns-in-Ok-clause-joined
+returns-in-Ok-clause-joined g c = λ choice contents datagrams facts most inspected ends.
+    let b = g.S.Stream.behaviour in
+    joins_inspected g.R.Source.unread g.R.Source.failures b choice c.args.inputs.now
+    c.join_chained.new.inputs contents datagrams c.requires.ready inspected
+    ends c.in-Ok.joined _ _
+    c.join_chained.new.first c.requires.few c.join_chained.auto.inputs g.row.SESSIONS
+    g.row.OBJECTS g.row.SYMBOLS most c.in-Ok.ensures.ended
+
+pub returns-in-Ok-clause-none_failed : goal.returns-in-Ok-clause-none_failed
+returns-in-Ok-clause-none_failed g c =
+    let b = g.S.Stream.behaviour in
+    none_failed g.R.Source.unread g.R.Source.failures b c.args.held.now
+    c.join_chained.new.first c.args.inputs.now c.join_chained.new.inputs c.requires.few
+    c.join_chained.auto.inputs c.in-Ok.ensures.failures
+
+pub returns-in-Err-clause-failed : goal.returns-in-Err-clause-failed
+returns-in-Err-clause-failed g c = λ choice contents datagrams inspected.
+    let b = g.S.Stream.behaviour in
+    rw c.stop_fault.ensures
+    (stop_fails g.R.Source.unread g.R.Source.failures b c.args.held.now
+    c.args.inputs.now c.in-Err.fault.number
+    c.in-Err.fault.fault
+    (stops_in g.R.Source.unread g.R.Source.failures b c.args.held.now c.args.inputs.now
+    c.requires.few _ c.in-Err.fault c.in-Err.ensures.first) choice
+    contents datagrams c.requires.ready inspected)
+
+pub returns-in-Err-clause-names : goal.returns-in-Err-clause-names
+returns-in-Err-clause-names g c =
+    let b = g.S.Stream.behaviour in
+    rw c.stop_fault.ensures
+    (stop_names g.R.Source.unread g.R.Source.failures b c.args.held.now
+    c.args.inputs.now c.in-Err.fault.number
+    c.in-Err.fault.fault
+    (stops_in g.R.Source.unread g.R.Source.failures b c.args.held.now c.args.inputs.now
+    c.requires.few _ c.in-Err.fault c.in-Err.ensures.first))
+
+pub returns-in-Err-clause-no_memory : goal.returns-in-Err-clause-no_memory
+returns-in-Err-clause-no_memory g c =
+    let b = g.S.Stream.behaviour in
+    rw c.stop_fault.ensures
+    (stop_no_memory g.R.Source.unread g.R.Source.failures b c.args.held.now
+    c.args.inputs.now c.in-Err.fault.number
+    c.in-Err.fault.fault
+    (stops_in g.R.Source.unread g.R.Source.failures b c.args.held.now c.args.inputs.now
+    c.requires.few _ c.in-Err.fault c.in-Err.ensures.first))
+
+pub returns-in-Err-clause-no_sink : goal.returns-in-Err-clause-no_sink
+returns-in-Err-clause-no_sink g c =
+    let b = g.S.Stream.behaviour in
+    rw c.stop_fault.ensures
+    (stop_no_sink g.R.Source.unread g.R.Source.failures b c.args.held.now
+    c.args.inputs.now c.in-Err.fault.number
+    c.in-Err.fault.fault
+    (stops_in g.R.Source.unread g.R.Source.failures b c.args.held.now c.args.inputs.now
+    c.requires.few _ c.in-Err.fault c.in-Err.ensures.first))
+
+pub returns-in-Err-clause-no_aside : goal.returns-in-Err-clause-no_aside
+returns-in-Err-clause-no_aside g c = λ never.
+    let b = g.S.Stream.behaviour in
+    rw c.stop_fault.ensures
+    (stop_no_aside g.R.Source.unread g.R.Source.failures b c.args.held.now
+    c.args.inputs.now never
+    c.in-Err.fault.number c.in-Err.fault.fault
+    (stops_in g.R.Source.unread g.R.Source.failures b c.args.held.now c.args.inputs.now
+    c.requires.few _ c.in-Err.fault c.in-Err.ensures.first))
+
+pub returns-in-Err-clause-read_failed : goal.returns-in-Err-clause-read_failed
+returns-in-Err-clause-read_failed g c =
+    let b = g.S.Stream.behaviour in
+    rw c.stop_fault.ensures
+    (read_failed g.R.Source.unread g.R.Source.failures b c.join_chained.new.first
+    c.args.inputs.now c.join_chained.new.inputs c.requires.few c.join_chained.auto.inputs
+    c.in-Err.fault c.in-Err.ensures.first)

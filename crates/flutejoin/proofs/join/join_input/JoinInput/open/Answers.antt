@@ -1,0 +1,9 @@
+use Rattle.std.proofs.Common.{subst}
+use Rattle.flute_journal.specs.Kinds.{IsNeither}
+use Rattle.flutejoin.proofs.join.InputStreams.{unknown}
+use Rattle.flutejoin.proofs.join.join_input.JoinInput.open.Goals as goal
+
+pub returns-in-None-clause-input : goal.returns-in-None-clause-input
+returns-in-None-clause-input g c =
+    unknown g.R.Source.unread _ _ _ c.in_ok-first.ensures.begins
+    (subst IsNeither c.as_slice.ensures.bytes c.in-None.ensures)

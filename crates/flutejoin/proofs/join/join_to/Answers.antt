@@ -1,0 +1,177 @@
+-- First one pass, and then the other.
+use Rattle.std.proofs.Common.{◌≡◌, ◌≤◌, ◌<◌, ◌+◌, ◌∙◌, ℕ, Bool, true, false, not, Option, Some, None}
+use Rattle.std.proofs.Common.{refl, sym, ap, subst, arith}
+use Rattle.std.specs.Prelude.{IfSome}
+use Rattle.flute_parts.specs.Devices.{times_failed}
+use Rattle.std.proofs.lemmas.Result.{err_from_is_err_and}
+use Rattle.flutejoin.specs.Joined.{choice_of}
+use Rattle.flutejoin.specs.JoinParts.{HoldsAll}
+use Rattle.flutejoin.specs.Limits.{at_most}
+use Rattle.flutejoin.proofs.join.Held.{held_as}
+use Rattle.flutejoin.proofs.join.JoinStops.{nothing_appended, not_inspected, one_failed_more}
+use Rattle.flutejoin.proofs.join.JoinStops.{none_failed_more, full_together, not_written, joins_to}
+use Rattle.flutejoin.proofs.join.join_to.Goals as goal
+
+not_true : (b : Bool) → not b ≡ true → b ≡ false
+not_true true e = absurd cc
+not_true false e = refl
+
+not_false : (b : Bool) → not b ≡ false → b ≡ true
+not_false true e = refl
+not_false false e = absurd cc
+
+-- what is aside was put there
+made_run : {R P : Type 0} {m n : ℕ} (run : Option R) → IfSome run (λ r. m < n)
+    → (run ≡ None → P → ⊥) → P → m < n
+made_run (Some run) made never p = made
+made_run None made never p = absurd (never refl p)
+
+pub returns-in_err-held-clause-failed : goal.returns-in_err-held-clause-failed
+returns-in_err-held-clause-failed g c = λ told contents inputs.
+    let e = err_from_is_err_and c.from_residual.result c.from_residual.ensures.1 in
+    rw (e.1, e.2)
+    (not_inspected contents c.in_err-held.field-0.0
+    (c.in_err-held.ensures.failed told contents inputs))
+
+pub returns-then-not-held-clause-failed : goal.returns-then-not-held-clause-failed
+returns-then-not-held-clause-failed g c = λ told contents inputs.
+    let found = c.in_ok-held.ensures.inspected told contents inputs in
+    let choice =
+    choice_of (at_most g.row.SESSIONS g.row.OBJECTS g.row.SYMBOLS) c.args.sender
+    c.args.scope.now in
+    let over =
+    held_as g.R.Source.unread choice c.in_ok-held.held.fits false c.in_ok-held.held found.0
+    c.if-not-held.true found.2.holds in
+    c.fault_or_full.ensures.failed choice contents found.0 refl found.1 over
+
+pub returns-then-not-held-clause-read_failed : goal.returns-then-not-held-clause-read_failed
+returns-then-not-held-clause-read_failed g c = λ number is.
+    one_failed_more g.R.Source.failures number c.args.inputs.now c.inspect_all.new.inputs
+    c.fault_or_full.new.inputs c.in_ok-held.ensures.none_failed
+    (c.fault_or_full.ensures.read_failed number is)
+
+pub returns-in_err-joined-clause-failed : goal.returns-in_err-joined-clause-failed
+returns-in_err-joined-clause-failed g c = λ told contents inputs.
+    let e =
+    err_from_is_err_and c.from_residual-in_err-joined.result
+    c.from_residual-in_err-joined.ensures.1 in
+    let found = c.in_ok-held.ensures.inspected told contents inputs in
+    rw (e.1, e.2)
+    (c.in_err-joined.ensures.failed (choice_of (at_most g.row.SESSIONS g.row.OBJECTS g.row.SYMBOLS)
+    c.args.sender c.args.scope.now) contents found.0
+    found.1)
+
+pub returns-in_err-joined-clause-read_failed : goal.returns-in_err-joined-clause-read_failed
+returns-in_err-joined-clause-read_failed g c =
+    let e =
+    err_from_is_err_and c.from_residual-in_err-joined.result
+    c.from_residual-in_err-joined.ensures.1 in
+    rw (e.1, e.2) (λ number is.
+    one_failed_more g.R.Source.failures number c.args.inputs.now c.inspect_all.new.inputs
+    c.join_inspected.new.inputs c.in_ok-held.ensures.none_failed
+    (c.in_err-joined.ensures.read_failed number is))
+
+pub returns-then-not-joined-clause-failed : goal.returns-then-not-joined-clause-failed
+returns-then-not-joined-clause-failed g c = λ told contents inputs.
+    let choice =
+    choice_of (at_most g.row.SESSIONS g.row.OBJECTS g.row.SYMBOLS) c.args.sender
+    c.args.scope.now in
+    let found = c.in_ok-held.ensures.inspected told contents inputs in
+    let run =
+    c.in_ok-run.ensures.held (c.inspect_all.ensures.same_tells ∙ told) choice found.0 found.2 in
+    full_together
+    (c.in_ok-joined.ensures.joined choice contents found.0 run.0 refl found.1 run.1)
+    run.2 (not_true c.in_ok-joined.joined.within c.if-not-joined.true)
+
+pub returns-then-joined-clause-failed : goal.returns-then-joined-clause-failed
+returns-then-joined-clause-failed g c = λ told contents inputs.
+    let choice =
+    choice_of (at_most g.row.SESSIONS g.row.OBJECTS g.row.SYMBOLS) c.args.sender
+    c.args.scope.now in
+    let found = c.in_ok-held.ensures.inspected told contents inputs in
+    let run =
+    c.in_ok-run.ensures.held (c.inspect_all.ensures.same_tells ∙ told) choice found.0 found.2 in
+    not_written
+    (c.in_ok-joined.ensures.joined choice contents found.0 run.0 refl found.1 run.1)
+    run.2 (not_false c.in_ok-joined.joined.within c.if-not-joined.false)
+
+pub returns-clause-joined : goal.returns-clause-joined
+returns-clause-joined g c = λ told contents inputs.
+    let choice =
+    choice_of (at_most g.row.SESSIONS g.row.OBJECTS g.row.SYMBOLS) c.args.sender
+    c.args.scope.now in
+    let found = c.in_ok-held.ensures.inspected told contents inputs in
+    let run =
+    c.in_ok-run.ensures.held (c.inspect_all.ensures.same_tells ∙ told) choice found.0 found.2 in
+    let fits = c.if-not-held.false in
+    let all =
+    held_as g.R.Source.unread choice c.in_ok-held.held.fits true c.in_ok-held.held found.0 fits
+    found.2.holds in
+    let counts = c.in_ok-run.ensures.counts in
+    joins_to
+    (c.in_ok-joined.ensures.joined choice contents found.0 run.0 refl found.1 run.1)
+    run.2
+    (subst (λ n. n ≤ 64) inputs.as_many c.requires.few)
+    (not_false c.in_ok-joined.joined.within c.if-not-joined.false) c.if-joined.false
+    _ refl (counts.0 ∙ all.count) (counts.1 ∙ all.refused) _ (counts.2 ∙ found.2.others fits)
+    c.others_of.ensures
+
+pub returns-clause-none_failed : goal.returns-clause-none_failed
+returns-clause-none_failed g c =
+    none_failed_more g.R.Source.failures c.args.inputs.now c.inspect_all.new.inputs
+    c.join_inspected.new.inputs c.in_ok-held.ensures.none_failed
+    c.in_ok-joined.ensures.none_failed
+
+pub returns-in_err-held-clause-short : goal.returns-in_err-held-clause-short
+returns-in_err-held-clause-short g c =
+    let e = err_from_is_err_and c.from_residual.result c.from_residual.ensures.1 in
+    rw e.1 (nothing_appended (g.W.Sink.written c.args.sink.now))
+
+pub returns-then-not-joined-clause-short : goal.returns-then-not-joined-clause-short
+returns-then-not-joined-clause-short g c =
+    c.in_ok-joined.ensures.cut
+    (c.in_ok-joined.ensures.over (not_true c.in_ok-joined.joined.within c.if-not-joined.true))
+
+pub returns-then-joined-clause-short : goal.returns-then-joined-clause-short
+returns-then-joined-clause-short g c = c.in_ok-joined.ensures.cut c.if-joined.true
+
+pub returns-in_err-joined-clause-made : goal.returns-in_err-joined-clause-made
+returns-in_err-joined-clause-made g c =
+    let e =
+    err_from_is_err_and c.from_residual-in_err-joined.result
+    c.from_residual-in_err-joined.ensures.1 in
+    let before = c.inspect_all.ensures.made.0 in (
+      omega (arith, before, c.run.ensures.grows),
+      rw (e.1, e.2) (λ is.
+          let more =
+          made_run c.in_ok-run.run' c.in_ok-run.ensures.made c.in_err-joined.ensures.no_aside is in
+          omega (arith, before, more)),
+    )
+
+pub returns-then-not-joined-clause-made : goal.returns-then-not-joined-clause-made
+returns-then-not-joined-clause-made g c =
+    (omega (arith, c.inspect_all.ensures.made.0, c.run.ensures.grows), λ e. cc)
+
+pub returns-then-joined-clause-made : goal.returns-then-joined-clause-made
+returns-then-joined-clause-made g c =
+    (omega (arith, c.inspect_all.ensures.made.0, c.run.ensures.grows), λ e. cc)
+
+pub returns-clause-made : goal.returns-clause-made
+returns-clause-made g c =
+    (omega (arith, c.inspect_all.ensures.made.0, c.run.ensures.grows), tt)
+
+pub returns-then-joined-clause-write_failed : goal.returns-then-joined-clause-write_failed
+returns-then-joined-clause-write_failed g c = λ e.
+    subst (λ b. g.W.Sink.failures c.join_inspected.new.sink
+    ≡ g.W.Sink.failures c.args.sink.now + times_failed b) c.if-joined.true
+    (c.in_ok-joined.ensures.sink_failures
+    (not_false c.in_ok-joined.joined.within c.if-not-joined.false))
+
+pub returns-clause-sink_failures : goal.returns-clause-sink_failures
+returns-clause-sink_failures g c =
+    let same =
+    subst (λ b. g.W.Sink.failures c.join_inspected.new.sink
+    ≡ g.W.Sink.failures c.args.sink.now + times_failed b) c.if-joined.false
+    (c.in_ok-joined.ensures.sink_failures
+    (not_false c.in_ok-joined.joined.within c.if-not-joined.false)) in
+    omega (arith, same)

@@ -1,0 +1,4 @@
+pub mod Encoded
+pub mod Senders
+pub mod WrittenPieces
+pub mod Written

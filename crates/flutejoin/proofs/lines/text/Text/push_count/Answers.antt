@@ -1,0 +1,12 @@
+use Rattle.std.proofs.Common.{◌≡◌, List, ℕ, ◌++◌, codes, decimal, refl, append_assoc}
+use Rattle.flutejoin.specs.Lines.{count_line}
+use Rattle.flutejoin.proofs.lines.text.Text.push_count.Goals as goal
+
+regroup : (a w s n l : List ℕ) → (((a ++ w) ++ s) ++ n) ++ l ≡ a ++ (((w ++ s) ++ n) ++ l)
+regroup a w s n l = simp append_assoc refl
+
+pub returns-clause-text : goal.returns-clause-text
+unfolding count_line
+returns-clause-text c =
+    rw (c.push-3.ensures.text, c.push_number.ensures.text, c.push-2.ensures.text, c.push.ensures.text)
+    (regroup c.args.self.now c.args.word.now (codes " ") (decimal c.args.count) (codes "\n"))

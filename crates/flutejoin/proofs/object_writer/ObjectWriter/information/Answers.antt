@@ -1,6 +1,0 @@
-use Rattle.std.proofs.Common.{refl}
-use Rattle.flutejoin.proofs.ObjectWriters.{information-passes}
-use Rattle.flutejoin.proofs.object_writer.ObjectWriter.information.Goals as goal
-
-pub returns-in_default-clause-passed : goal.returns-in_default-clause-passed
-returns-in_default-clause-passed c = λ P start now r h. information-passes P _ _ _ start now _ c.in_default.not-Nothing refl r h

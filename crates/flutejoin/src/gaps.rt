@@ -1,0 +1,166 @@
+//! The command `gaps`: what is held of each object of a journal, told as it is read.
+ghost use Rattle.std.specs.Prelude.{◌≡◌, ◌≢◌, ◌+◌, ◌⊎◌, ◌∷◌, ◌++◌, [], List, ℕ, Bool, Some};
+ghost use Rattle.std.specs.Prelude.{IfErr, IfOk, Ok, OnOk, if◌then◌else◌, is_ok};
+ghost use Rattle.std.specs.Io.KnownBytes.{Appends, IsAtEnd, Keeps};
+ghost use Rattle.flute_parts.specs.Devices.{AppendsPart};
+ghost use Rattle.flute_parts.specs.declared.fact.Fact.{Fact as Known};
+ghost use Rattle.flute_parts.specs.Facts.{IsRising};
+ghost use Rattle.flutejoin.specs.declared.command_fault.CommandFault.TheVariants.{CannotWrite};
+ghost use Rattle.flutejoin.specs.Gaps.{ListsJournal, GapsFail, ReadsWithin};
+ghost use Rattle.flutejoin.specs.Limits.{at_most};
+ghost use Rattle.flutejoin.specs.Listing.{CanAddSelected, Lists};
+ghost use Rattle.flutejoin.specs.Selected.{selected};
+ghost use Rattle.flutejoin.specs.Styles.{are_whole, printed};
+ghost use Rattle.flutejoin.specs.Show.{FailsToRead};
+ghost use Rattle.flutejoin.specs.Packet.{write_failures};
+
+pub(crate) mod closed_objects;
+pub(crate) mod held_lines;
+pub(crate) mod listing;
+pub(crate) mod session_sums;
+
+use crate::aside::Aside;
+use crate::command_fault::{CommandFault, at_input};
+use crate::gaps::listing::Listing;
+use crate::limits::MAX_ENTRIES;
+use crate::lines::style::Style;
+use flute_journal::{JournalReader, Selection};
+use flute_parts::{DeviceFault, Fact, Sink, Source, Tally};
+use std::alloc::Global;
+
+/// Writes how much the selected entries of the journal that the source gives, of at most
+/// 16,777,216 entries, hold of each of their objects, in the order of the keys: a line for the
+/// object, and if some symbols are missing, in conflict or of a length that does not fit, a line
+/// for each longest run of those; or what the style has in place of that, whose `check` changes
+/// nothing here. Answers whether all objects that are listed are whole. A selection of objects
+/// takes all of them or nothing.
+/// One entry is held. The lines are put aside as `lines`, and those of the gaps of one object as
+/// `gap_lines`, both of which are empty at first; they are written once the whole journal was read.
+///
+/// # Errors
+///
+/// The first that is met: `Input` with the fault of the journal, as input 1, or if the source
+/// failed or there was no memory for a symbol; `Full` if it has more than `SESSIONS`
+/// sessions, `OBJECTS` objects of one or `SYMBOLS` symbols of one; `CannotWrite` if lines could not
+/// be put aside. Nothing was written then. Last,
+/// `CannotWrite` if the lines could not be read back or the sink failed: it took a proper prefix
+/// of the lines.
+pub fn gaps_from<
+    const SESSIONS: u32,
+    const OBJECTS: u32,
+    const SYMBOLS: u32,
+    R: Source,
+    A: Aside,
+    W: Sink,
+>(
+    alloc: Global,
+    source: &mut R,
+    selection: &Selection,
+    style: Style,
+    lines: &mut A,
+    gap_lines: &mut A,
+    sink: &mut W,
+) -> Result<bool, CommandFault>
+    ensures printed { A.written lines.old ≡ Some [] → A.written gap_lines.old ≡ Some []
+        → IfOk result (λ all_whole. ListsJournal (at_most SESSIONS OBJECTS SYMBOLS)
+        selection.now (R.unread source.old)
+        (λ objects. Appends (W.written sink.old) (W.written sink.new) (printed style objects)
+        × (all_whole ≡ are_whole style objects))) }
+    ensures end { OnOk result (IsAtEnd (R.unread source.new)) }
+    ensures failed { IfErr result (GapsFail (at_most SESSIONS OBJECTS SYMBOLS)
+        (R.unread source.old) (R.unread source.new)) }
+    ensures part { A.written lines.old ≡ Some [] → A.written gap_lines.old ≡ Some []
+        → IfErr result (λ fault. fault ≡ CannotWrite → (sink.new ≡ sink.old)
+        ⊎ ListsJournal (at_most SESSIONS OBJECTS SYMBOLS) selection.now
+        (R.unread source.old)
+        (λ objects. AppendsPart (W.written sink.old) (W.written sink.new)
+        (printed style objects))) }
+    ensures kept { IfErr result (λ fault. fault ≢ CannotWrite → sink.new ≡ sink.old) }
+    ensures read_failures { FailsToRead (R.failures source.old) (R.failures source.new) result }
+    ensures failures { A.failures lines.new + A.failures gap_lines.new + W.failures sink.new
+        ≡ A.failures lines.old + A.failures gap_lines.old + W.failures sink.old
+        + write_failures result }
+{
+    let all_whole = put_aside::<SESSIONS, OBJECTS, SYMBOLS, _, _>(
+        alloc, source, selection, style, lines, gap_lines,
+    )?;
+    match lines.move_to(sink) {
+        Ok(()) => Ok(all_whole),
+        Err(_) => Err(CommandFault::CannotWrite),
+    }
+}
+
+// Puts aside the lines of the selected objects of a journal.
+fn put_aside<const SESSIONS: u32, const OBJECTS: u32, const SYMBOLS: u32, R: Source, A: Aside>(
+    alloc: Global,
+    source: &mut R,
+    selection: &Selection,
+    style: Style,
+    lines: &mut A,
+    gap_lines: &mut A,
+) -> Result<bool, CommandFault>
+    ensures listed { A.written lines.old ≡ Some [] → A.written gap_lines.old ≡ Some []
+        → IfOk result (λ all_whole. ListsJournal (at_most SESSIONS OBJECTS SYMBOLS)
+        selection.now (R.unread source.old)
+        (λ objects. (A.written lines.new ≡ Some (printed style objects))
+        × (all_whole ≡ are_whole style objects))) }
+    ensures end { OnOk result (IsAtEnd (R.unread source.new)) }
+    ensures whole { OnOk result (ReadsWithin (at_most SESSIONS OBJECTS SYMBOLS)
+        (R.unread source.old) (R.unread source.new)) }
+    ensures failed { IfErr result (GapsFail (at_most SESSIONS OBJECTS SYMBOLS)
+        (R.unread source.old) (R.unread source.new)) }
+    ensures read_failures { FailsToRead (R.failures source.old) (R.failures source.new) result }
+    ensures failures { A.failures lines.new + A.failures gap_lines.new
+        ≡ A.failures lines.old + A.failures gap_lines.old + write_failures result }
+{
+    let mut listing = Listing::new();
+    let mut tally = Tally::<SESSIONS, OBJECTS, SYMBOLS>::new();
+    let mut reader = JournalReader::new(source, MAX_ENTRIES);
+    let mut spare = Vec::new(alloc);
+    while let Some(fact) = at_input(1, reader.next_with(alloc, spare))? {
+        if !tally.count(&fact.address()) {
+            return Err(CommandFault::Full);
+        }
+        at_aside(add_selected(&mut listing, selection, style, &fact, lines, gap_lines))?;
+        spare = fact.into_vec(alloc);
+    }
+    at_aside(listing.finish(style, lines, gap_lines))
+}
+
+// Takes the next fact, if it is selected.
+#[inline(always)]
+fn add_selected<A: Aside>(
+    listing: &mut Listing,
+    selection: &Selection,
+    style: Style,
+    fact: &Fact,
+    lines: &mut A,
+    gap_lines: &mut A,
+) -> Result<(), DeviceFault>
+    requires { CanAddSelected style selection.now fact.now listing.old }
+    ensures added { (known : Bool) (F : List Known) → IsRising (F ++ fact.now ∷ [])
+        → Lists style known (selected selection.now F) listing.old
+        (A.written lines.old) (A.written gap_lines.old)
+        → OnOk result (Lists style known (selected selection.now (F ++ fact.now ∷ []))
+        listing.new (A.written lines.new) (A.written gap_lines.new)) }
+    ensures failures { A.failures lines.new + A.failures gap_lines.new
+        ≡ A.failures lines.old + A.failures gap_lines.old + (if is_ok result then 0 else 1) }
+{
+    if selection.selects(&fact.as_ref()) {
+        listing.add(style, fact, lines, gap_lines)
+    } else {
+        Ok(())
+    }
+}
+
+// What was done, or that lines could not be put aside.
+fn at_aside<T: Drop>(done: Result<T, DeviceFault>) -> Result<T, CommandFault>
+    ensures same { is_ok result ≡ is_ok done }
+    ensures value { IfOk result (λ x. done ≡ Ok x) }
+    ensures fault { IfErr result (λ fault. fault ≡ CannotWrite) }
+{
+    match done {
+        Ok(value) => Ok(value),
+        Err(_) => Err(CommandFault::CannotWrite),
+    }
+}

@@ -1,0 +1,160 @@
+//! What is remembered of the objects of which all facts came.
+ghost use Rattle.std.specs.Prelude.{◌≡◌, ◌+◌, ◌∷◌, ◌++◌, [], List, ℕ, Bool, OnOk, true, false};
+ghost use Rattle.std.specs.Prelude.{None};
+ghost use Rattle.std.specs.Prelude.{if◌then◌else◌, is_ok};
+ghost use Rattle.std.specs.List.{flat_map};
+ghost use Rattle.std.specs.Io.KnownBytes.{Appends};
+ghost use Rattle.flutejoin.specs.Listing.{AreClosed, AreFew, ArePut, AreSummed, AreSummedUp};
+ghost use Rattle.flutejoin.specs.Listing.{BeginsSession, CanClose, Knows, last_line};
+ghost use Rattle.flutejoin.specs.Styles.{HasNoStray, is_told, shown_gap};
+ghost use Rattle.flutejoin.specs.Told.{Told};
+
+use crate::aside::Aside;
+use crate::gaps::held_lines::status_text;
+use crate::gaps::session_sums::SessionSums;
+use crate::lines::report_lines::write_words;
+use crate::lines::style::{Style, is_whole};
+use flute_parts::{DeviceFault, Key, SessionKey};
+use flute_store::Status;
+
+/// What is remembered of the objects of which all facts came. Their lines were put aside.
+#[derive(Debug, Drop)]
+pub struct ClosedObjects {
+    /// Whether all that are listed are whole.
+    pub all_whole: bool,
+    /// With a line for each session, the sums of the last one, which may have more objects.
+    pub sums: Option<SessionSums>,
+}
+
+impl ClosedObjects {
+    /// No object.
+    pub fn none() -> ClosedObjects
+        ensures whole { result.all_whole ≡ true }
+        ensures sums { result.sums ≡ None }
+    {
+        ClosedObjects {
+            all_whole: true,
+            sums: None,
+        }
+    }
+
+    /// Takes the next object. If it is listed, its line is put aside, or, if it is the first of its
+    /// session and a session has a line, that of the session before.
+    ///
+    /// # Errors
+    ///
+    /// If lines could not be put aside.
+    pub fn add<A: Aside>(
+        &mut self,
+        style: Style,
+        key: &Key,
+        status: Status,
+        lines: &mut A,
+    ) -> Result<(), DeviceFault>
+        requires { CanClose self.old.sums }
+        ensures added { (known : Bool) (objects : List Told) (bytes : List ℕ) (t : Told)
+            → t.key ≡ key.now → t.status ≡ status → HasNoStray style t
+            → AreClosed style objects bytes self.old → Knows known (A.written lines.old) bytes
+            → OnOk result (ArePut known style (objects ++ t ∷ [])
+            (flat_map (shown_gap style) t.gaps) (A.written lines.new) self.new) }
+        ensures few { (n : ℕ) → AreFew n self.old.sums
+            → OnOk result (AreFew (n + 1) self.new.sums) }
+        ensures failures { A.failures lines.new
+            ≡ A.failures lines.old + (if is_ok result then 0 else 1) }
+    {
+        if style.tells(status) {
+            self.tell(style, key, status, lines)
+        } else {
+            Ok(())
+        }
+    }
+
+    // Takes the next object, which is listed.
+    fn tell<A: Aside>(
+        &mut self,
+        style: Style,
+        key: &Key,
+        status: Status,
+        lines: &mut A,
+    ) -> Result<(), DeviceFault>
+        requires { CanClose self.old.sums }
+        ensures told { (known : Bool) (objects : List Told) (bytes : List ℕ) (t : Told)
+            → t.key ≡ key.now → t.status ≡ status → is_told style status ≡ true
+            → AreClosed style objects bytes self.old → Knows known (A.written lines.old) bytes
+            → OnOk result (ArePut known style (objects ++ t ∷ [])
+            (flat_map (shown_gap style) t.gaps) (A.written lines.new) self.new) }
+        ensures few { (n : ℕ) → AreFew n self.old.sums
+            → OnOk result (AreFew (n + 1) self.new.sums) }
+        ensures failures { A.failures lines.new
+            ≡ A.failures lines.old + (if is_ok result then 0 else 1) }
+    {
+        self.all_whole &= is_whole(status);
+        if style.summary {
+            sum_up(&mut self.sums, key.session, status, lines)
+        } else {
+            write_words(lines, status_text(key, status))
+        }
+    }
+}
+
+// Adds an object to the sums of its session. Those of the session before are put aside.
+fn sum_up<A: Aside>(
+    sums: &mut Option<SessionSums>,
+    session: SessionKey,
+    status: Status,
+    lines: &mut A,
+) -> Result<(), DeviceFault>
+    requires { CanClose sums.old }
+    ensures summed { (known : Bool) (objects : List Told) (bytes : List ℕ) (t : Told)
+        → t.key.session ≡ session → t.status ≡ status → AreSummed objects bytes sums.old
+        → Knows known (A.written lines.old) bytes
+        → OnOk result (AreSummedUp known (objects ++ t ∷ []) (A.written lines.new) sums.new) }
+    ensures few { (n : ℕ) → AreFew n sums.old → OnOk result (AreFew (n + 1) sums.new) }
+    ensures failures { A.failures lines.new
+        ≡ A.failures lines.old + (if is_ok result then 0 else 1) }
+{
+    match sums {
+        Some(last) if last.session == session => {
+            last.add(status);
+            Ok(())
+        }
+        _ => begin_session(sums, session, status, lines),
+    }
+}
+
+// Puts aside the line of the last session, and begins the sums of the next.
+fn begin_session<A: Aside>(
+    sums: &mut Option<SessionSums>,
+    session: SessionKey,
+    status: Status,
+    lines: &mut A,
+) -> Result<(), DeviceFault>
+    ensures begun { OnOk result (BeginsSession session status sums.new) }
+    ensures line { OnOk result
+        (Appends (A.written lines.old) (A.written lines.new) (last_line sums.old)) }
+    ensures failures { A.failures lines.new
+        ≡ A.failures lines.old + (if is_ok result then 0 else 1) }
+{
+    end_session(sums, lines)?;
+    let mut next = SessionSums::new(session);
+    next.add(status);
+    *sums = Some(next);
+    Ok(())
+}
+
+/// Puts aside the line of the last session, if there is one.
+///
+/// # Errors
+///
+/// If it could not be put aside.
+pub fn end_session<A: Aside>(sums: &Option<SessionSums>, lines: &mut A) -> Result<(), DeviceFault>
+    ensures line { OnOk result
+        (Appends (A.written lines.old) (A.written lines.new) (last_line sums.now)) }
+    ensures failures { A.failures lines.new
+        ≡ A.failures lines.old + (if is_ok result then 0 else 1) }
+{
+    match sums {
+        Some(sums) => write_words(lines, sums.text()),
+        None => Ok(()),
+    }
+}

@@ -1,0 +1,101 @@
+//! How much is held of the objects of a session together.
+ghost use Rattle.std.specs.Prelude.{◌≡◌, ◌≤◌, ◌+◌, ◌++◌, length, decimal, ℕ};
+ghost use Rattle.flutejoin.specs.Lines.{line};
+ghost use Rattle.flutejoin.specs.Sums.{AddsObject, AreWithin, CanAddObject, IsNone, sums_line};
+
+use crate::lines::text::Text;
+use crate::sender::push_source;
+use flute_parts::SessionKey;
+use flute_store::Status;
+
+/// How many objects of a session are listed, and how much is held of them. Sums of 128 bits hold
+/// those of all objects that a journal can have.
+#[derive(Debug, Drop, PartialEq, Eq)]
+pub struct SessionSums {
+    pub session: SessionKey,
+    /// How many objects are listed.
+    pub objects: u128,
+    /// How many of them are whole.
+    pub whole: u128,
+    /// How many have one information, and some symbols that are wanted.
+    pub partial: u128,
+    /// How many of the wanted symbols of these are not held.
+    pub missing: u128,
+    /// How many were told two values.
+    pub conflicting: u128,
+    /// How many have one value, of a length that does not fit.
+    pub misfit: u128,
+    /// How many of the objects have no information, or two values of it.
+    pub unknown: u128,
+}
+
+impl SessionSums {
+    /// The sums of no object.
+    pub fn new(session: SessionKey) -> SessionSums
+        ensures none { IsNone session result }
+        ensures within { AreWithin 0 result }
+    {
+        SessionSums {
+            session,
+            objects: 0,
+            whole: 0,
+            partial: 0,
+            missing: 0,
+            conflicting: 0,
+            misfit: 0,
+            unknown: 0,
+        }
+    }
+
+    /// Adds an object of which so much is held.
+    pub fn add(&mut self, status: Status)
+        requires { CanAddObject self.old }
+        ensures added { AddsObject status self.old self.new }
+        ensures within { (n : ℕ) → AreWithin n self.old → AreWithin (n + 1) self.new }
+    {
+        self.objects += 1;
+        match status {
+            Status::Whole { .. } => self.whole += 1,
+            Status::Partial {
+                missing,
+                conflicting,
+                misfit,
+            } => {
+                self.partial += 1;
+                self.missing += u128::from(missing);
+                self.conflicting += u128::from(conflicting);
+                self.misfit += u128::from(misfit);
+            }
+            Status::NoInformation | Status::ConflictingInformation => self.unknown += 1,
+        }
+    }
+
+    /// The words of the session's line.
+    pub fn text(&self) -> Text
+        ensures line { line result ≡ sums_line self.now }
+        ensures len { length result ≤ 511 }
+    {
+        let mut text = Text::new();
+        push_source(&mut text, self.session.sender());
+        text.push("session ");
+        text.push_number(self.session.tsi());
+        push_sum(&mut text, " objects ", self.objects);
+        push_sum(&mut text, " whole ", self.whole);
+        push_sum(&mut text, " partial ", self.partial);
+        push_sum(&mut text, " missing ", self.missing);
+        push_sum(&mut text, " conflicting ", self.conflicting);
+        push_sum(&mut text, " misfit ", self.misfit);
+        push_sum(&mut text, " unknown ", self.unknown);
+        text
+    }
+}
+
+// Appends a word and a sum.
+fn push_sum(text: &mut Text, word: &str, sum: u128)
+    requires { (length text.old + 60 ≤ 512) × (length word.now ≤ 20) }
+    ensures text { text.new ≡ text.old ++ (word.now ++ decimal sum) }
+    ensures len { length text.new ≤ length text.old + 60 }
+{
+    text.push(word);
+    text.push_number(sum);
+}

@@ -1,0 +1,291 @@
+//! A line that tells the information of an object, as `show` prints it.
+ghost use Rattle.std.specs.Prelude.{◌≡◌, ◌↔◌, ℕ, ◌<◌, ◌≤◌, ◌^◌, true, false, List, ◌++◌};
+ghost use Rattle.std.specs.Prelude.{length, slice_index, codes, decimal, IfSome, MatchOption, SomeIff};
+ghost use Rattle.std.specs.Char.{is_ascii_digit};
+ghost use Rattle.std.specs.Int.{bytes_high_first};
+ghost use Rattle.hex.specs.Hex.{encode_lower};
+ghost use Rattle.flute_parts.specs.Information.{Information};
+ghost use Rattle.flute_parts.specs.ObjectName.{IsObjectName};
+ghost use Rattle.flute_parts.specs.Ranges.{IsKey};
+ghost use Rattle.flute_parts.specs.Session.{Session, IsTsi, IsSession, session};
+ghost use Rattle.flute_parts.specs.declared.fact.Fact.TheVariants.{Info as InfoFact};
+ghost use Rattle.flute_parts.specs.declared.key.Key.{Key as KeyValue};
+ghost use Rattle.flute_parts.specs.declared.object_key.ObjectName.{ObjectName as NameValue};
+ghost use Rattle.flute_parts.specs.declared.object_key.ObjectName.TheVariants.{Instance};
+ghost use Rattle.flutejoin.specs.InformationLines.{HasNumbers, numbers_of};
+ghost use Rattle.flutejoin.specs.Lines.{source_words, object_words, information_words, fact_words};
+
+use crate::lines::fact_lines::{push_key, push_numbers};
+use crate::lines::text::Text;
+use byteorder::{BigEndian, ByteOrder};
+use flute_parts::{Key, ObjectKey, ObjectName, Sender, SessionKey};
+
+/// The numbers of an object's information, valid or not: its length in bytes, the length of a
+/// symbol and that of the longest block.
+#[derive(Clone, Copy, Drop)]
+pub(crate) struct InfoNumbers {
+    pub(crate) length: u64,
+    pub(crate) symbol: u16,
+    pub(crate) block: u32,
+}
+
+// What follows these words at the front of a text.
+fn after<'a>(text: &'a [u8], words: &str) -> Option<&'a [u8]>
+    ensures found { IfSome result (λ rest. text.now ≡ words.now ++ rest.now) }
+    ensures finds { (tail : List ℕ) → text.now ≡ words.now ++ tail
+        → MatchOption result ⊥ (λ rest. rest.now ≡ tail) }
+{
+    text.strip_prefix(words.as_bytes())
+}
+
+// How many digits a text begins with.
+fn digits_len(text: &[u8]) -> usize
+    ensures within { result ≤ length text.now }
+    ensures before { (k : ℕ) → k < result → is_ascii_digit (slice_index text.now k) ≡ true }
+    ensures stops { result < length text.now
+        → is_ascii_digit (slice_index text.now result) ≡ false }
+{
+    for (i, byte) in text.iter().enumerate() {
+        if !byte.is_ascii_digit() {
+            return i;
+        }
+    }
+    text.len()
+}
+
+// The number at the front of a text, and what follows it.
+fn number(text: &[u8]) -> Option<(u128, &[u8])>
+    ensures finds { (n : ℕ) (tail : List ℕ) → n < 2 ^ 128
+        → is_ascii_digit (slice_index tail 0) ≡ false → text.now ≡ decimal n ++ tail
+        → MatchOption result ⊥ (λ r. (r.0 ≡ n) × (r.1.now ≡ tail)) }
+{
+    let len = digits_len(text);
+    if len == 0 {
+        return None;
+    }
+    let (digits, rest) = text.split_at(len);
+    let Ok(digits) = std::str::from_utf8(digits) else {
+        return None;
+    };
+    match digits.parse::<u128>() {
+        Ok(number) => Some((number, rest)),
+        Err(_) => None,
+    }
+}
+
+// The number behind these words, and what follows it.
+fn number_after<'a>(text: &'a [u8], words: &str) -> Option<(u128, &'a [u8])>
+    ensures finds { (n : ℕ) (tail : List ℕ) → n < 2 ^ 128
+        → is_ascii_digit (slice_index tail 0) ≡ false → text.now ≡ words.now ++ (decimal n ++ tail)
+        → MatchOption result ⊥ (λ r. (r.0 ≡ n) × (r.1.now ≡ tail)) }
+{
+    match after(text, words) {
+        Some(rest) => number(rest),
+        None => None,
+    }
+}
+
+// The sender of 32 digits, and what follows them.
+fn address(text: &[u8]) -> Option<(u128, &[u8])>
+    ensures finds { (n : ℕ) (tail : List ℕ) → n < 2 ^ 128
+        → text.now ≡ encode_lower (bytes_high_first 16 n) ++ tail
+        → MatchOption result ⊥ (λ r. (r.0 ≡ n) × (r.1.now ≡ tail)) }
+{
+    if text.len() < 32 {
+        return None;
+    }
+    let (digits, rest) = text.split_at(32);
+    let mut bytes = [0; 16];
+    match hex::decode_to_slice(digits, &mut bytes) {
+        Ok(()) => Some((BigEndian::read_u128(&bytes), rest)),
+        Err(_) => None,
+    }
+}
+
+// The sender that stands before a session, 0 if none does, and what follows.
+fn source(text: &[u8]) -> Option<(u128, &[u8])>
+    ensures finds { (n : ℕ) (tail : List ℕ) → n < 2 ^ 128
+        → text.now ≡ source_words n ++ (codes "session " ++ tail)
+        → MatchOption result ⊥ (λ r. (r.0 ≡ n) × (r.1.now ≡ codes "session " ++ tail)) }
+{
+    let Some(rest) = after(text, "source ") else {
+        return Some((0, text));
+    };
+    let Some((sender, rest)) = address(rest) else {
+        return None;
+    };
+    match after(rest, " ") {
+        Some(rest) => Some((sender, rest)),
+        None => None,
+    }
+}
+
+// The sender and the number of the session at the front of a text, and what follows it.
+fn session(text: &[u8]) -> Option<(u128, u128, &[u8])>
+    ensures finds { (s : Session) (tail : List ℕ) → IsSession s
+        → is_ascii_digit (slice_index tail 0) ≡ false
+        → text.now ≡ source_words s.sender ++ (codes "session " ++ (decimal s.tsi ++ tail))
+        → MatchOption result ⊥ (λ r. (r.0 ≡ s.sender) × (r.1 ≡ s.tsi) × (r.2.now ≡ tail)) }
+{
+    let Some((sender, rest)) = source(text) else {
+        return None;
+    };
+    match number_after(rest, "session ") {
+        Some((tsi, rest)) => Some((sender, tsi, rest)),
+        None => None,
+    }
+}
+
+// The name of the FDT Instance whose ID stands at the front of a text, and what follows it.
+fn instance(text: &[u8]) -> Option<(ObjectName, &[u8])>
+    ensures finds { (n : ℕ) (tail : List ℕ) → n < 2 ^ 20
+        → is_ascii_digit (slice_index tail 0) ≡ false → text.now ≡ decimal n ++ tail
+        → MatchOption result ⊥ (λ r. (r.0 ≡ Instance n) × (r.1.now ≡ tail)) }
+{
+    match number(text) {
+        Some((id, rest)) if id < 1 << 20 => Some((ObjectName::Instance(id as u32), rest)),
+        _ => None,
+    }
+}
+
+// The name of the object at the front of a text, and what follows it.
+fn object(text: &[u8]) -> Option<(ObjectName, &[u8])>
+    ensures finds { (name : NameValue) (tail : List ℕ) → IsObjectName name
+        → is_ascii_digit (slice_index tail 0) ≡ false → text.now ≡ object_words name ++ tail
+        → MatchOption result ⊥ (λ r. (r.0 ≡ name) × (r.1.now ≡ tail)) }
+{
+    match after(text, "object fdt ") {
+        Some(rest) => instance(rest),
+        None => match number_after(text, "object ") {
+            Some((toi, rest)) => Some((ObjectName::File(toi), rest)),
+            None => None,
+        },
+    }
+}
+
+// The session of a sender with this number.
+fn session_of(sender: u128, tsi: u128) -> Option<SessionKey>
+    ensures { SomeIff result (IsTsi tsi) (session sender tsi) }
+{
+    if tsi < 1 << 48 {
+        SessionKey::new(Sender::new(sender), tsi as u64)
+    } else {
+        None
+    }
+}
+
+// The object with this name.
+fn object_of(name: ObjectName) -> Option<ObjectKey>
+    ensures { SomeIff result (IsObjectName name) name }
+{
+    match name {
+        ObjectName::Instance(instance) => ObjectKey::fdt(instance),
+        ObjectName::File(toi) => ObjectKey::file(toi),
+    }
+}
+
+// The key of this session and object.
+fn key_of(sender: u128, tsi: u128, name: ObjectName) -> Option<Key>
+    ensures finds { (key : KeyValue) → IsSession key.session → IsObjectName key.object
+        → sender ≡ key.session.sender → tsi ≡ key.session.tsi → name ≡ key.object
+        → MatchOption result ⊥ (λ k. k ≡ key) }
+{
+    let Some(session) = session_of(sender, tsi) else {
+        return None;
+    };
+    match object_of(name) {
+        Some(object) => Some(Key { session, object }),
+        None => None,
+    }
+}
+
+// These numbers, if each is within its range.
+fn numbers_in(length: u128, symbol: u128, block: u128) -> Option<InfoNumbers>
+    ensures finds { length < 2 ^ 64 → symbol < 2 ^ 16 → block < 2 ^ 32
+        → MatchOption result ⊥ (λ numbers. (numbers.length ≡ length)
+        × (numbers.symbol ≡ symbol) × (numbers.block ≡ block)) }
+{
+    if length < 1 << 64 && symbol < 1 << 16 && block < 1 << 32 {
+        Some(InfoNumbers {
+            length: length as u64,
+            symbol: symbol as u16,
+            block: block as u32,
+        })
+    } else {
+        None
+    }
+}
+
+// The numbers of the information that a text is, whatever follows them.
+fn information_in(text: &[u8]) -> Option<InfoNumbers>
+    ensures finds { (info : Information) → HasNumbers info → text.now ≡ information_words info
+        → MatchOption result ⊥ (λ numbers. numbers_of numbers ≡ info) }
+{
+    let Some((length, rest)) = number_after(text, "info length ") else {
+        return None;
+    };
+    let Some((symbol, rest)) = number_after(rest, " symbol ") else {
+        return None;
+    };
+    let Some((block, _)) = number_after(rest, " block ") else {
+        return None;
+    };
+    numbers_in(length, symbol, block)
+}
+
+// The object and the numbers of a line that tells information, and maybe of another line.
+fn loose_information(line: &[u8]) -> Option<(Key, InfoNumbers)>
+    ensures finds { (key : KeyValue) (info : Information) → IsKey key → HasNumbers info
+        → line.now ≡ fact_words (InfoFact key info)
+        → MatchOption result ⊥ (λ told. (told.0 ≡ key) × (numbers_of told.1 ≡ info)) }
+{
+    let Some((sender, tsi, rest)) = session(line) else {
+        return None;
+    };
+    let Some(rest) = after(rest, " ") else {
+        return None;
+    };
+    let Some((name, rest)) = object(rest) else {
+        return None;
+    };
+    let Some(rest) = after(rest, " ") else {
+        return None;
+    };
+    let Some(numbers) = information_in(rest) else {
+        return None;
+    };
+    match key_of(sender, tsi, name) {
+        Some(key) => Some((key, numbers)),
+        None => None,
+    }
+}
+
+// Whether a line, without its line feed, is the one that shows information of these numbers.
+fn is_line_of(line: &[u8], key: &Key, numbers: &InfoNumbers) -> bool
+    ensures { result ≡ true ↔ (line.now ≡ fact_words (InfoFact key.now (numbers_of numbers.now))) }
+{
+    let mut text = Text::new();
+    push_key(&mut text, key);
+    text.push(" ");
+    push_numbers(&mut text, numbers.length, numbers.symbol, numbers.block);
+    text.as_slice() == line
+}
+
+/// The object and the numbers of its information that a line tells, without its line feed: exactly
+/// if it is the line that `show` prints for them. It takes no memory.
+pub(crate) fn read_information(line: &[u8]) -> Option<(Key, InfoNumbers)>
+    ensures found { IfSome result
+        (λ told. line.now ≡ fact_words (InfoFact told.0 (numbers_of told.1))) }
+    ensures finds { (key : KeyValue) (info : Information) → IsKey key → HasNumbers info
+        → line.now ≡ fact_words (InfoFact key info)
+        → MatchOption result ⊥ (λ told. (told.0 ≡ key) × (numbers_of told.1 ≡ info)) }
+{
+    let Some((key, numbers)) = loose_information(line) else {
+        return None;
+    };
+    if is_line_of(line, &key, &numbers) {
+        Some((key, numbers))
+    } else {
+        None
+    }
+}

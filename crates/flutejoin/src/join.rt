@@ -1,0 +1,333 @@
+//! The command `join`: inputs, joined as streams.
+ghost use Rattle.std.specs.Prelude.{◌≡◌, true, false, ◌≤◌, ◌<◌, ◌+◌, ◌-◌, ◌^◌, List, ℕ, length};
+ghost use Rattle.std.specs.Prelude.{flat_map, min, sum_by, None, OnOk, IfOk, IfErr, IfSome};
+ghost use Rattle.std.specs.List.{AllByRecursion};
+ghost use Rattle.flute_parts.specs.Devices.{times_failed};
+ghost use Rattle.flute_parts.specs.declared.fact.Fact.{Fact};
+ghost use Rattle.flute_journal.specs.Advances.{AreNew};
+ghost use Rattle.flute_journal.specs.Chains.{chained, taken};
+ghost use Rattle.flute_journal.specs.FirstFaults.{FirstFault};
+ghost use Rattle.flute_journal.specs.StreamMerges.{EndsMerged, AppendsNoJournal, NoneFails};
+ghost use Rattle.flute_journal.specs.Streams.{most_of};
+ghost use Rattle.flute_journal.specs.declared.fault.ReadFault.TheVariants.{Read};
+ghost use Rattle.flutejoin.specs.declared.command_fault.CommandFault.TheVariants.{Input};
+ghost use Rattle.flutejoin.specs.declared.command_fault.CommandFault.TheVariants.{OutOfMemory};
+ghost use Rattle.flutejoin.specs.declared.command_fault.CommandFault.TheVariants.{CannotWrite};
+ghost use Rattle.flutejoin.specs.declared.command_fault.CommandFault.TheVariants.{CannotPutAside};
+ghost use Rattle.flutejoin.specs.Asides.{AreHeld, IsNewRun, Makes};
+ghost use Rattle.flutejoin.specs.JoinInputs.{AreInputs};
+ghost use Rattle.flutejoin.specs.InputStreams.{passed_over, NoneFailed, OneFailed};
+ghost use Rattle.flutejoin.specs.Joined.{Choice, choice_of, facts_by};
+ghost use Rattle.flutejoin.specs.Joining.{JoinsTo};
+ghost use Rattle.flutejoin.specs.JoinFaults.{JoinToFails, NamesOneOf};
+ghost use Rattle.flutejoin.specs.JoinParts.{AreInspected, IsReady, JoinsInspected};
+ghost use Rattle.flutejoin.specs.JoinParts.{joined_behaviour};
+ghost use Rattle.flutejoin.specs.JoinParts.{IsHeld, Ends, NeverStops};
+ghost use Rattle.flutejoin.specs.Limits.{IsCountable, IsOver, at_most};
+ghost use Rattle.flutejoin.specs.Status.{of_stop};
+
+pub(crate) mod first_bytes;
+pub(crate) mod held_files;
+pub(crate) mod inspecting;
+pub(crate) mod join_counts;
+pub(crate) mod join_input;
+pub(crate) mod joined;
+pub(crate) mod peeked_source;
+pub(crate) mod putting_aside;
+
+use crate::aside::Asides;
+use crate::command_fault::{CommandFault, load_fault};
+use crate::join::held_files::HeldFiles;
+use crate::join::inspecting::inspect_all;
+use crate::join::join_counts::JoinCounts;
+use crate::join::join_input::JoinInput;
+use crate::nothing::Nothing;
+use flute_journal::{
+    Chained, InputFault, MergedJournal, OwnedJournalStream, Scope, Stream, WalkStream, join_streams,
+};
+use flute_parts::{Sender, Sink, Source};
+use flute_store::Store;
+use std::alloc::Global;
+
+/// Writes the journal of all that the inputs tell together of these objects, each a journal or a
+/// datagram file, as its first four bytes say. What they tell of other objects is passed over, and
+/// counted: entries, and datagrams that are packets.
+/// There may be up to 64 inputs, and none tells nothing. A datagram that is refused tells nothing,
+/// and is counted. Whatever else tells the same facts, in any order, number and grouping: its
+/// journal is the same, byte for byte.
+///
+/// First the datagram files are read, record by record, and held as what they tell together: up to
+/// about `memory` bytes in memory, and the rest aside, as journals. Then the journals are read, and
+/// the journal of all is written meanwhile: one entry of each is held.
+///
+/// # Errors
+///
+/// Inputs are numbered from 1. The first that is met:
+///
+/// - first, input by input: `UnknownKind` if it is neither; `Input` with the fault of a datagram
+///   file, which may have at most 16,777,216 records, or with `Read` if its source fails;
+/// - then, input by input: `Input` with the fault of a journal, which may have at most 16,777,216
+///   entries, or with `Read` if its source fails;
+/// - then `Full` if all of them together have more than `SESSIONS` sessions, `OBJECTS` objects of
+///   one or `SYMBOLS` symbols of one;
+/// - last, `CannotWrite` if the sink failed. The inputs are read to their ends all the same.
+///
+/// `OutOfMemory`, or `Input` with it, if a request for memory was refused; at `OutOfMemory` nothing
+/// was written yet. `CannotPutAside` if something was to be put aside, and could not be, or not be
+/// read again. What was written is no journal after any fault. The inputs were read in part, and
+/// are of no further use.
+pub fn join_to<
+    const SESSIONS: u32,
+    const OBJECTS: u32,
+    const SYMBOLS: u32,
+    R: Source + Drop,
+    A: Asides<Input = R>,
+    W: Sink,
+>(
+    alloc: Global,
+    asides: &mut A,
+    memory: u64,
+    sender: Sender,
+    scope: &Scope,
+    inputs: &mut [JoinInput<R>],
+    sink: &mut W,
+) -> Result<JoinCounts, CommandFault>
+    requires few { length inputs.old ≤ 64 }
+    requires countable { IsCountable SESSIONS OBJECTS SYMBOLS }
+    ensures joined { A.tells asides.old ≡ true
+        → (contents : List (List ℕ)) → AreInputs R.unread inputs.old contents
+        → IfOk result
+        (λ counts. JoinsTo (choice_of (at_most SESSIONS OBJECTS SYMBOLS) sender scope.now)
+        contents counts (W.written sink.old) (W.written sink.new)) }
+    ensures failed { A.tells asides.old ≡ true
+        → (contents : List (List ℕ)) → AreInputs R.unread inputs.old contents
+        → IfErr result (JoinToFails
+        (choice_of (at_most SESSIONS OBJECTS SYMBOLS) sender scope.now) contents) }
+    ensures short { IfErr result
+        (λ _. AppendsNoJournal (W.written sink.old) (W.written sink.new)) }
+    ensures kept { IfErr result (λ fault. fault ≡ OutOfMemory → sink.new ≡ sink.old) }
+    ensures names { IfErr result (NamesOneOf (length inputs.old)) }
+    ensures none_failed { OnOk result (NoneFailed R.failures inputs.old inputs.new) }
+    ensures read_failed { IfErr result (λ fault. (number : ℕ) → fault ≡ Input number Read
+        → OneFailed R.failures number inputs.old inputs.new) }
+    ensures sink_failures { OnOk result (W.failures sink.new ≡ W.failures sink.old) }
+    ensures write_failed { IfErr result
+        (λ fault. fault ≡ CannotWrite → W.failures sink.new ≡ W.failures sink.old + 1) }
+    ensures made { Makes (A.made asides.old) (A.made asides.new) result }
+{
+    let mut held: HeldFiles<SESSIONS, OBJECTS, SYMBOLS, R> = inspect_all(
+        alloc, asides, memory, sender, scope, inputs,
+    )?;
+    if !held.fits {
+        return Err(fault_or_full(alloc, inputs, &held.told.store));
+    }
+    let run = held.run(alloc, asides)?;
+    let joined = join_inspected(alloc, inputs, &held.told.store, run, sink)?;
+    if !joined.within {
+        return Err(CommandFault::Full);
+    }
+    if joined.cut {
+        return Err(CommandFault::CannotWrite);
+    }
+    Ok(JoinCounts {
+        datagrams: held.told.datagrams,
+        refused: held.told.refused,
+        others: others_of(held.others, inputs),
+        entries: joined.entries,
+    })
+}
+
+// How many entries and datagrams were of other objects.
+fn others_of<R>(of_files: u64, inputs: &[JoinInput<R>]) -> u64
+    ensures { result ≡ min (of_files + sum_by passed_over inputs.now) (2 ^ 64 - 1) }
+{
+    let mut others = of_files;
+    for input in inputs {
+        others = others.saturating_add(input.passed_over());
+    }
+    others
+}
+
+// Why inputs are not joined that were inspected, and whose datagram files alone are over the
+// limits: the first fault of a journal, or else that they are full.
+fn fault_or_full<const SESSIONS: u32, const OBJECTS: u32, const SYMBOLS: u32, R: Source + Drop>(
+    alloc: Global,
+    inputs: &mut [JoinInput<R>],
+    store: &Store<SESSIONS, OBJECTS, SYMBOLS>,
+) -> CommandFault
+    requires few { length inputs.old ≤ 64 }
+    requires countable { IsCountable SESSIONS OBJECTS SYMBOLS }
+    requires ready { AllByRecursion (IsReady R.unread R.failures) inputs.old }
+    ensures failed { (choice : Choice) (contents datagrams : List (List ℕ))
+        → choice.most ≡ at_most SESSIONS OBJECTS SYMBOLS
+        → AreInspected R.unread choice inputs.old contents datagrams
+        → IsOver choice.most (flat_map (facts_by choice) datagrams)
+        → JoinToFails choice contents result }
+    ensures names { NamesOneOf (length inputs.old) result }
+    ensures no_memory { result ≡ OutOfMemory → ⊥ }
+    ensures no_sink { result ≡ CannotWrite → ⊥ }
+    ensures no_aside { result ≡ CannotPutAside → ⊥ }
+    ensures read_failed { (number : ℕ) → result ≡ Input number Read
+        → OneFailed R.failures number inputs.old inputs.new }
+{
+    match join_inspected(alloc, inputs, store, None, &mut Nothing) {
+        Ok(_) => CommandFault::Full,
+        Err(fault) => fault,
+    }
+}
+
+// Joins the journals among inputs that were inspected, and what is held of the others: in a run, if
+// there is one, and else in a store.
+fn join_inspected<
+    const SESSIONS: u32,
+    const OBJECTS: u32,
+    const SYMBOLS: u32,
+    R: Source + Drop,
+    W: Sink,
+>(
+    alloc: Global,
+    inputs: &mut [JoinInput<R>],
+    store: &Store<SESSIONS, OBJECTS, SYMBOLS>,
+    run: Option<OwnedJournalStream<R>>,
+    sink: &mut W,
+) -> Result<MergedJournal, CommandFault>
+    requires few { length inputs.old ≤ 64 }
+    requires countable { IsCountable SESSIONS OBJECTS SYMBOLS }
+    requires ready { AllByRecursion (IsReady R.unread R.failures) inputs.old }
+    requires new { IfSome run (IsNewRun R.unread R.failures) }
+    ensures joined { (choice : Choice) (contents datagrams : List (List ℕ)) (held : List Fact)
+        → choice.most ≡ at_most SESSIONS OBJECTS SYMBOLS
+        → AreInspected R.unread choice inputs.old contents datagrams
+        → AreHeld R.unread store.now run held
+        → IfOk result (λ joined. JoinsInspected choice contents datagrams held
+        (sum_by passed_over inputs.new) joined (W.written sink.old) (W.written sink.new)) }
+    ensures failed { (choice : Choice) (contents datagrams : List (List ℕ))
+        → AreInspected R.unread choice inputs.old contents datagrams
+        → IfErr result (JoinToFails choice contents) }
+    ensures cut { IfOk result (λ joined. joined.cut ≡ true
+        → AppendsNoJournal (W.written sink.old) (W.written sink.new)) }
+    ensures over { IfOk result (λ joined. joined.within ≡ false → joined.cut ≡ true) }
+    ensures short { IfErr result
+        (λ _. AppendsNoJournal (W.written sink.old) (W.written sink.new)) }
+    ensures names { IfErr result (NamesOneOf (length inputs.old)) }
+    ensures no_memory { IfErr result (λ fault. fault ≡ OutOfMemory → ⊥) }
+    ensures no_sink { IfErr result (λ fault. fault ≡ CannotWrite → ⊥) }
+    ensures no_aside { run ≡ None → IfErr result (λ fault. fault ≡ CannotPutAside → ⊥) }
+    ensures none_failed { OnOk result (NoneFailed R.failures inputs.old inputs.new) }
+    ensures read_failed { IfErr result (λ fault. (number : ℕ) → fault ≡ Input number Read
+        → OneFailed R.failures number inputs.old inputs.new) }
+    ensures sink_failures { IfOk result (λ joined. joined.within ≡ true
+        → W.failures sink.new ≡ W.failures sink.old + times_failed joined.cut) }
+{
+    match run {
+        Some(mut run) => {
+            join_held::<SESSIONS, OBJECTS, SYMBOLS, _, _, _>(alloc, &mut run, inputs, sink)
+        }
+        None => {
+            let mut walk = WalkStream::new(store.walk());
+            join_held::<SESSIONS, OBJECTS, SYMBOLS, _, _, _>(alloc, &mut walk, inputs, sink)
+        }
+    }
+}
+
+// Joins the stream of what is held, and the journals among inputs that were inspected.
+fn join_held<
+    const SESSIONS: u32,
+    const OBJECTS: u32,
+    const SYMBOLS: u32,
+    S: Stream,
+    R: Source,
+    W: Sink,
+>(
+    alloc: Global,
+    held: &mut S,
+    inputs: &mut [JoinInput<R>],
+    sink: &mut W,
+) -> Result<MergedJournal, CommandFault>
+    requires few { length inputs.old ≤ 64 }
+    requires ready { AllByRecursion (IsReady R.unread R.failures) inputs.old }
+    requires held { IsHeld S.behaviour held.old }
+    ensures joined { (choice : Choice) (contents datagrams : List (List ℕ)) (facts : List Fact)
+        → choice.most ≡ at_most SESSIONS OBJECTS SYMBOLS
+        → AreInspected R.unread choice inputs.old contents datagrams
+        → Ends S.behaviour held.old facts
+        → IfOk result (λ joined. JoinsInspected choice contents datagrams facts
+        (sum_by passed_over inputs.new) joined (W.written sink.old) (W.written sink.new)) }
+    ensures failed { (choice : Choice) (contents datagrams : List (List ℕ))
+        → AreInspected R.unread choice inputs.old contents datagrams
+        → IfErr result (JoinToFails choice contents) }
+    ensures cut { IfOk result (λ joined. joined.cut ≡ true
+        → AppendsNoJournal (W.written sink.old) (W.written sink.new)) }
+    ensures over { IfOk result (λ joined. joined.within ≡ false → joined.cut ≡ true) }
+    ensures short { IfErr result
+        (λ _. AppendsNoJournal (W.written sink.old) (W.written sink.new)) }
+    ensures names { IfErr result (NamesOneOf (length inputs.old)) }
+    ensures no_memory { IfErr result (λ fault. fault ≡ OutOfMemory → ⊥) }
+    ensures no_sink { IfErr result (λ fault. fault ≡ CannotWrite → ⊥) }
+    ensures no_aside { NeverStops S.behaviour held.old
+        → IfErr result (λ fault. fault ≡ CannotPutAside → ⊥) }
+    ensures none_failed { OnOk result (NoneFailed R.failures inputs.old inputs.new) }
+    ensures read_failed { IfErr result (λ fault. (number : ℕ) → fault ≡ Input number Read
+        → OneFailed R.failures number inputs.old inputs.new) }
+    ensures sink_failures { IfOk result (λ joined. joined.within ≡ true
+        → W.failures sink.new ≡ W.failures sink.old + times_failed joined.cut) }
+{
+    match join_chained::<SESSIONS, OBJECTS, SYMBOLS, _, _, _>(alloc, held, inputs, sink) {
+        Ok(joined) => Ok(joined),
+        Err(fault) => Err(stop_fault(&fault)),
+    }
+}
+
+// Why a join stopped at a stream: the first is that of what is held.
+fn stop_fault(stopped: &InputFault) -> CommandFault
+    ensures { result ≡ of_stop stopped.now.number stopped.now.fault }
+{
+    if stopped.number == 0 {
+        CommandFault::CannotPutAside
+    } else {
+        load_fault(stopped.number, stopped.fault)
+    }
+}
+
+// Joins a stream and inputs.
+fn join_chained<
+    const SESSIONS: u32,
+    const OBJECTS: u32,
+    const SYMBOLS: u32,
+    S: Stream,
+    R: Source,
+    W: Sink,
+>(
+    alloc: Global,
+    first: &mut S,
+    inputs: &mut [JoinInput<R>],
+    sink: &mut W,
+) -> Result<MergedJournal, InputFault>
+    requires new { AreNew (joined_behaviour R.unread R.failures S.behaviour)
+        (chained first.old (taken inputs.old)) }
+    requires most { most_of (joined_behaviour R.unread R.failures S.behaviour)
+        (chained first.old (taken inputs.old)) < 2 ^ 64 }
+    ensures ended { IfOk result (λ joined. EndsMerged
+        (joined_behaviour R.unread R.failures S.behaviour)
+        (chained first.old (taken inputs.old)) (chained first.new (taken inputs.new))
+        SESSIONS OBJECTS SYMBOLS joined (W.written sink.old) (W.written sink.new)) }
+    ensures cut { IfOk result (λ joined. joined.cut ≡ true
+        → AppendsNoJournal (W.written sink.old) (W.written sink.new)) }
+    ensures over { IfOk result (λ joined. joined.within ≡ false → joined.cut ≡ true) }
+    ensures short { IfErr result
+        (λ _. AppendsNoJournal (W.written sink.old) (W.written sink.new)) }
+    ensures first { IfErr result
+        (FirstFault (joined_behaviour R.unread R.failures S.behaviour)
+        (chained first.old (taken inputs.old)) (chained first.new (taken inputs.new))) }
+    ensures failures { IfOk result (λ _. NoneFails
+        (joined_behaviour R.unread R.failures S.behaviour)
+        (chained first.old (taken inputs.old)) (chained first.new (taken inputs.new))) }
+    ensures sink_failures { IfOk result (λ joined. joined.within ≡ true
+        → W.failures sink.new ≡ W.failures sink.old + times_failed joined.cut) }
+{
+    let mut streams = Chained {
+        first: &mut *first,
+        others: &mut *inputs,
+    };
+    join_streams::<SESSIONS, OBJECTS, SYMBOLS, _, _>(alloc, &mut streams, sink)
+}

@@ -1,0 +1,271 @@
+//! Datagram files that are held as what they tell.
+ghost use Rattle.std.specs.Prelude.{◌≡◌, true, false, ◌<◌, ◌≤◌, ◌+◌, ◌^◌, List, ℕ, ◌∷◌, []};
+ghost use Rattle.std.specs.Prelude.{OnOk, OnErr, IfOk, IfErr, IfSome};
+ghost use Rattle.flute_journal.specs.Records.{IsFileWithin};
+ghost use Rattle.flutejoin.specs.declared.limits.TheConstants.{MAX_ENTRIES};
+ghost use Rattle.flutejoin.specs.declared.command_fault.CommandFault.TheVariants as faults;
+ghost use Rattle.flute_journal.specs.Scopes.{takes_key, chosen};
+ghost use Rattle.flute_wire.specs.Reading.{facts};
+ghost use Rattle.flutejoin.specs.Joined.{Choice, choice_of, is_of_others};
+ghost use Rattle.flutejoin.specs.Asides.{IsNewRun, Makes};
+ghost use Rattle.flutejoin.specs.JoinParts.{HoldsDatagrams, HoldsMore, HoldsRun, IsSound};
+ghost use Rattle.flutejoin.specs.JoinParts.{CountsUpTo, FileFails};
+ghost use Rattle.flutejoin.specs.Limits.{IsCountable, Limits, at_most};
+ghost use Rattle.flutejoin.specs.Refused.{is_refused};
+ghost use Rattle.flutejoin.specs.Show.{FailsToRead};
+
+use crate::aside::Asides;
+use crate::command_fault::{CommandFault, at_input};
+use crate::join::joined::Joined;
+use crate::join::putting_aside::{merge_beyond, put_store};
+use crate::limits::MAX_ENTRIES;
+use flute_journal::laws::a_file_is_read_record_by_record;
+use flute_journal::{DatagramReader, OwnedJournalStream, Scope};
+use flute_parts::{FactRef, Sender, Source};
+use flute_store::Store;
+use flute_wire::{computed_reading, read};
+use std::alloc::Global;
+
+/// How many bytes a fact takes beside those of its symbol.
+const FACT: u64 = 128;
+
+/// What datagram files tell together.
+#[derive(Drop)]
+pub(crate) struct HeldFiles<const SESSIONS: u32, const OBJECTS: u32, const SYMBOLS: u32, R> {
+    /// Their facts that are in memory, and how many datagrams they have. If the facts are over the
+    /// limits, a part of them.
+    pub(crate) told: Joined<SESSIONS, OBJECTS, SYMBOLS>,
+    /// Whether all the facts are held.
+    pub(crate) fits: bool,
+    /// How many of the datagrams are of other objects.
+    pub(crate) others: u64,
+    /// The facts that were put aside.
+    pub(crate) runs: Vec<OwnedJournalStream<R>>,
+    /// About how many bytes may be in memory.
+    memory: u64,
+    /// At most about so many are.
+    size: u64,
+}
+
+impl<const SESSIONS: u32, const OBJECTS: u32, const SYMBOLS: u32, R: Source + Drop> HeldFiles<
+    SESSIONS,
+    OBJECTS,
+    SYMBOLS,
+    R,
+> {
+    // No datagrams, and room for about so many bytes of them.
+    pub(crate) fn new(alloc: Global, memory: u64) -> Self
+        ensures held { (choice : Choice) → HoldsDatagrams R.unread choice result [] }
+        ensures sound { IsSound R.unread R.failures result }
+        ensures none { result.told.datagrams ≡ 0 }
+    {
+        HeldFiles {
+            told: Joined::new(alloc),
+            fits: true,
+            others: 0,
+            runs: Vec::new(alloc),
+            memory,
+            size: 0,
+        }
+    }
+
+    // Takes a datagram of this sender, if what came before was held, and it is of one of these
+    // objects.
+    fn take(
+        &mut self,
+        alloc: Global,
+        sender: Sender,
+        scope: &Scope,
+        datagram: &[u8],
+    ) -> Result<(), CommandFault>
+        requires room { self.now.told.datagrams + 1 < 2 ^ 64 }
+        requires sound { IsSound R.unread R.failures self.now }
+        ensures taken { OnOk result (HoldsMore R.unread
+            (choice_of (at_most SESSIONS OBJECTS SYMBOLS) sender scope.now) self.old self.new
+            (datagram.now ∷ [])) }
+        ensures few { OnOk result (CountsUpTo R.unread R.failures 1 self.old self.new) }
+        ensures memory { IfErr result (λ fault. fault ≡ faults.OutOfMemory) }
+    {
+        if !self.fits {
+            return Ok(());
+        }
+        if is_of_others(sender, scope, datagram) {
+            self.told.datagrams += 1;
+            self.others += 1;
+            return Ok(());
+        }
+        match self.told.take(alloc, sender, datagram) {
+            Err(CommandFault::Full) => {
+                self.fits = false;
+                Ok(())
+            }
+            taken => taken,
+        }
+    }
+
+    // Makes room for the next datagram, after one of so many bytes: if the store may have grown
+    // beyond the memory that is given, and has, it is put aside.
+    fn make_room<A: Asides<Input = R>>(
+        &mut self,
+        alloc: Global,
+        asides: &mut A,
+        taken: usize,
+    ) -> Result<(), CommandFault>
+        requires countable { IsCountable SESSIONS OBJECTS SYMBOLS }
+        requires sound { IsSound R.unread R.failures self.old }
+        ensures held { A.tells asides.old ≡ true
+            → (choice : Choice) → OnOk result (HoldsMore R.unread choice self.old self.new []) }
+        ensures few { OnOk result (CountsUpTo R.unread R.failures 0 self.old self.new) }
+        ensures failed { IfErr result (λ fault. fault ≡ faults.CannotPutAside) }
+        ensures same_tells { A.tells asides.new ≡ A.tells asides.old }
+        ensures made { Makes (A.made asides.old) (A.made asides.new) result }
+    {
+        self.size = self.size.saturating_add(FACT).saturating_add(taken as u64);
+        if self.size <= self.memory || !self.fits {
+            return Ok(());
+        }
+        self.size = size_of(&self.told.store);
+        if self.size <= self.memory / 2 {
+            return Ok(());
+        }
+        self.put_aside(alloc, asides)
+    }
+
+    // Puts the store aside. It is empty then.
+    fn put_aside<A: Asides<Input = R>>(
+        &mut self,
+        alloc: Global,
+        asides: &mut A,
+    ) -> Result<(), CommandFault>
+        requires countable { IsCountable SESSIONS OBJECTS SYMBOLS }
+        requires sound { IsSound R.unread R.failures self.old }
+        requires fits { self.old.fits ≡ true }
+        ensures held { A.tells asides.old ≡ true
+            → (choice : Choice) → OnOk result (HoldsMore R.unread choice self.old self.new []) }
+        ensures empty { OnOk result (self.new.told.store ≡ []) }
+        ensures counts { OnOk result ((self.new.told.datagrams ≡ self.old.told.datagrams)
+            × (self.new.told.refused ≡ self.old.told.refused)
+            × (self.new.others ≡ self.old.others)) }
+        ensures fits { OnOk result (self.new.fits ≡ true) }
+        ensures few { OnOk result (CountsUpTo R.unread R.failures 0 self.old self.new) }
+        ensures failed { IfErr result (λ fault. fault ≡ faults.CannotPutAside) }
+        ensures same_tells { A.tells asides.new ≡ A.tells asides.old }
+        ensures made { A.made asides.old < A.made asides.new }
+    {
+        put_store(alloc, asides, &self.told.store, &mut self.runs)?;
+        self.told.store = Store::new(alloc);
+        self.size = 0;
+        Ok(())
+    }
+
+    /// Takes the datagrams that the source holds as a file, at most 16,777,216, of these objects
+    /// of this sender. It is read record by record, and one record of it is held beside what they
+    /// tell.
+    ///
+    /// # Errors
+    ///
+    /// `Input` with the number and the fault of the file, or if the source failed or there was no
+    /// memory for a datagram; `OutOfMemory` if there was none for its facts; `CannotPutAside`.
+    pub(crate) fn read<S: Source, A: Asides<Input = R>>(
+        &mut self,
+        alloc: Global,
+        asides: &mut A,
+        number: usize,
+        sender: Sender,
+        scope: &Scope,
+        source: &mut S,
+    ) -> Result<(), CommandFault>
+        requires countable { IsCountable SESSIONS OBJECTS SYMBOLS }
+        requires room { self.now.told.datagrams < 2 ^ 63 }
+        requires sound { IsSound R.unread R.failures self.now }
+        ensures held { A.tells asides.old ≡ true → OnOk result (IfSome (S.unread source.old)
+            (λ bytes. (datagrams : List (List ℕ)) × IsFileWithin MAX_ENTRIES bytes datagrams
+            × HoldsMore R.unread (choice_of (at_most SESSIONS OBJECTS SYMBOLS) sender scope.now)
+            self.old self.new datagrams)) }
+        ensures few { OnOk result (CountsUpTo R.unread R.failures MAX_ENTRIES self.old self.new) }
+        ensures failed { IfErr result (FileFails number (S.unread source.old)) }
+        ensures failures { FailsToRead (S.failures source.old) (S.failures source.new) result }
+        ensures same_tells { A.tells asides.new ≡ A.tells asides.old }
+        ensures made { Makes (A.made asides.old) (A.made asides.new) result }
+    {
+        // By this the proof knows what the records so far are of the file.
+        a_file_is_read_record_by_record();
+        let mut reader = DatagramReader::new(source, MAX_ENTRIES);
+        let mut spare = Vec::new(alloc);
+        while let Some(datagram) = at_input(number, reader.next_with(alloc, spare))? {
+            self.take(alloc, sender, scope, datagram.as_slice())?;
+            spare = datagram.into_vec();
+            self.make_room(alloc, asides, spare.len())?;
+        }
+        Ok(())
+    }
+
+    /// If something was put aside, all of it, as one journal. The rest is put aside before that.
+    ///
+    /// # Errors
+    ///
+    /// `CannotPutAside`.
+    pub(crate) fn run<A: Asides<Input = R>>(
+        &mut self,
+        alloc: Global,
+        asides: &mut A,
+    ) -> Result<Option<OwnedJournalStream<R>>, CommandFault>
+        requires countable { IsCountable SESSIONS OBJECTS SYMBOLS }
+        requires sound { IsSound R.unread R.failures self.old }
+        requires fits { self.old.fits ≡ true }
+        ensures held { A.tells asides.old ≡ true → (choice : Choice) (datagrams : List (List ℕ))
+            → HoldsDatagrams R.unread choice self.old datagrams
+            → IfOk result (λ run. HoldsRun R.unread choice self.new run datagrams) }
+        ensures new { IfOk result (λ run. IfSome run (IsNewRun R.unread R.failures)) }
+        ensures counts { OnOk result ((self.new.told.datagrams ≡ self.old.told.datagrams)
+            × (self.new.told.refused ≡ self.old.told.refused)
+            × (self.new.others ≡ self.old.others)) }
+        ensures failed { IfErr result (λ fault. fault ≡ faults.CannotPutAside) }
+        ensures made { IfOk result (λ run. IfSome run (λ _. A.made asides.old < A.made asides.new)) }
+        ensures made_too { OnErr result (A.made asides.old < A.made asides.new) }
+        ensures grows { A.made asides.old ≤ A.made asides.new }
+    {
+        if self.runs.is_empty() {
+            return Ok(None);
+        }
+        self.put_aside(alloc, asides)?;
+        merge_beyond(alloc, asides, 1, &mut self.runs)?;
+        Ok(self.runs.pop())
+    }
+}
+
+// About how many bytes a store takes.
+fn size_of<const SESSIONS: u32, const OBJECTS: u32, const SYMBOLS: u32>(
+    store: &Store<SESSIONS, OBJECTS, SYMBOLS>,
+) -> u64 {
+    let mut size: u64 = 0;
+    for fact in store.walk() {
+        if let FactRef::Symbol { bytes, .. } = fact {
+            size = size.saturating_add(bytes.len() as u64);
+        }
+        size = size.saturating_add(FACT);
+    }
+    size
+}
+
+// Whether a datagram is a packet of an object that is not taken.
+fn is_of_others(sender: Sender, scope: &Scope, datagram: &[u8]) -> bool
+    ensures others { result ≡ true
+        → chosen (takes_key scope.now) (facts sender datagram.now) ≡ [] }
+    ensures packet { result ≡ true → is_refused datagram.now ≡ false }
+    ensures exact { (most : Limits)
+        → result ≡ is_of_others (choice_of most sender scope.now) datagram.now }
+    ensures taken { result ≡ false
+        → chosen (takes_key scope.now) (facts sender datagram.now)
+        ≡ facts sender datagram.now }
+{
+    // By this the proof knows what a datagram tells.
+    computed_reading();
+    if scope.is_all() {
+        return false;
+    }
+    match read(datagram) {
+        Ok(packet) => !scope.takes(&packet.key(sender)),
+        Err(_) => false,
+    }
+}

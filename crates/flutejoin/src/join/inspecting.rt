@@ -1,0 +1,146 @@
+//! The inputs of a join, inspected before they are joined.
+ghost use Rattle.std.specs.Prelude.{◌≡◌, true, ◌≤◌, ◌<◌, ◌^◌, List, ℕ, ◌++◌, length};
+ghost use Rattle.std.specs.Prelude.{OnOk, IfOk, IfErr};
+ghost use Rattle.std.specs.List.{AllByRecursion};
+ghost use Rattle.flute_journal.specs.declared.fault.ReadFault.TheVariants.{Read};
+ghost use Rattle.flute_journal.specs.Streams.{IsNew};
+ghost use Rattle.flutejoin.specs.declared.command_fault.CommandFault.TheVariants.{Input, CannotWrite};
+ghost use Rattle.flutejoin.specs.declared.limits.TheConstants.{MAX_ENTRIES};
+ghost use Rattle.flutejoin.specs.JoinInputs.{IsInput, AreInputs};
+ghost use Rattle.flutejoin.specs.InputStreams.{journal_behaviour, failures_of, NoneFailed};
+ghost use Rattle.flutejoin.specs.InputStreams.{OneFailed};
+ghost use Rattle.flutejoin.specs.Joined.{choice_of};
+ghost use Rattle.flutejoin.specs.Asides.{Makes};
+ghost use Rattle.flutejoin.specs.JoinParts.{HoldsMore, IsSound, CountsUpTo};
+ghost use Rattle.flutejoin.specs.JoinParts.{NamesOnly, InspectionFails, SomeInspectionFails};
+ghost use Rattle.flutejoin.specs.JoinParts.{IsInspected, Finds, IsReady};
+ghost use Rattle.flutejoin.specs.JoinFaults.{NamesOneOf};
+ghost use Rattle.flutejoin.specs.Limits.{IsCountable, at_most};
+ghost use Rattle.flutejoin.specs.Show.{FailsToRead};
+
+use crate::aside::Asides;
+use crate::command_fault::CommandFault;
+use crate::join::held_files::HeldFiles;
+use crate::join::join_input::{JoinInput, JournalInput};
+use crate::limits::MAX_ENTRIES;
+use flute_journal::Scope;
+use flute_parts::{Sender, Source};
+use std::alloc::Global;
+
+/// Reads the datagram files among inputs, in their order, and holds what they tell of these
+/// objects of this sender, about so many bytes of it in memory. The journals are then to be read
+/// from their first bytes.
+///
+/// # Errors
+///
+/// Of the first input, numbered from 1, that has a fault: `UnknownKind` if it is neither;
+/// `Input` with the fault of a datagram file, or if its source failed or there was no memory
+/// for a datagram. `OutOfMemory` if there was none for what it tells; `CannotPutAside`.
+pub(crate) fn inspect_all<
+    const SESSIONS: u32,
+    const OBJECTS: u32,
+    const SYMBOLS: u32,
+    R: Source + Drop,
+    A: Asides<Input = R>,
+>(
+    alloc: Global,
+    asides: &mut A,
+    memory: u64,
+    sender: Sender,
+    scope: &Scope,
+    inputs: &mut [JoinInput<R>],
+) -> Result<HeldFiles<SESSIONS, OBJECTS, SYMBOLS, R>, CommandFault>
+    requires few { length inputs.old ≤ 64 }
+    requires countable { IsCountable SESSIONS OBJECTS SYMBOLS }
+    ensures ready { OnOk result (AllByRecursion (IsReady R.unread R.failures) inputs.new) }
+    ensures sound { IfOk result (IsSound R.unread R.failures) }
+    ensures inspected { A.tells asides.old ≡ true
+        → (contents : List (List ℕ)) → AreInputs R.unread inputs.old contents
+        → IfOk result (Finds R.unread
+        (choice_of (at_most SESSIONS OBJECTS SYMBOLS) sender scope.now) inputs.new contents) }
+    ensures failed { A.tells asides.old ≡ true
+        → (contents : List (List ℕ)) → AreInputs R.unread inputs.old contents
+        → IfErr result (SomeInspectionFails contents) }
+    ensures names { IfErr result (NamesOneOf (length inputs.old)) }
+    ensures no_sink { IfErr result (λ fault. fault ≡ CannotWrite → ⊥) }
+    ensures none_failed { OnOk result (NoneFailed R.failures inputs.old inputs.new) }
+    ensures one_failed { IfErr result (λ fault. (number : ℕ) → fault ≡ Input number Read
+        → OneFailed R.failures number inputs.old inputs.new) }
+    ensures same_tells { A.tells asides.new ≡ A.tells asides.old }
+    ensures made { Makes (A.made asides.old) (A.made asides.new) result }
+{
+    let mut held = HeldFiles::new(alloc, memory);
+    for k in 0..inputs.len() {
+        inspect(
+            alloc,
+            asides,
+            k + 1,
+            sender,
+            scope,
+            &mut inputs[k],
+            &mut held,
+        )?;
+    }
+    Ok(held)
+}
+
+// Inspects an input: what a datagram file tells is then held too, and a journal is to be read from
+// its first byte.
+fn inspect<
+    const SESSIONS: u32,
+    const OBJECTS: u32,
+    const SYMBOLS: u32,
+    R: Source + Drop,
+    A: Asides<Input = R>,
+>(
+    alloc: Global,
+    asides: &mut A,
+    number: usize,
+    sender: Sender,
+    scope: &Scope,
+    input: &mut JoinInput<R>,
+    held: &mut HeldFiles<SESSIONS, OBJECTS, SYMBOLS, R>,
+) -> Result<(), CommandFault>
+    requires countable { IsCountable SESSIONS OBJECTS SYMBOLS }
+    requires room { held.old.told.datagrams < 2 ^ 63 }
+    requires sound { IsSound R.unread R.failures held.old }
+    ensures ready { OnOk result (IsReady R.unread R.failures input.new) }
+    ensures inspected { A.tells asides.old ≡ true
+        → (bytes : List ℕ) → IsInput R.unread input.old bytes
+        → OnOk result ((datagrams : List (List ℕ))
+        × IsInspected R.unread (choice_of (at_most SESSIONS OBJECTS SYMBOLS) sender scope.now)
+        input.new bytes datagrams
+        × HoldsMore R.unread (choice_of (at_most SESSIONS OBJECTS SYMBOLS) sender scope.now)
+        held.old held.new datagrams) }
+    ensures few { OnOk result (CountsUpTo R.unread R.failures MAX_ENTRIES held.old held.new) }
+    ensures failed { (bytes : List ℕ) → IsInput R.unread input.old bytes
+        → IfErr result (InspectionFails number bytes) }
+    ensures names { IfErr result (NamesOnly number) }
+    ensures failures { FailsToRead (failures_of R.failures input.old)
+        (failures_of R.failures input.new) result }
+    ensures same_tells { A.tells asides.new ≡ A.tells asides.old }
+    ensures made { Makes (A.made asides.old) (A.made asides.new) result }
+{
+    match input {
+        JoinInput::Journal(journal) => {
+            restart(scope, journal);
+            Ok(())
+        }
+        JoinInput::Datagrams(source) => { held.read(alloc, asides, number, sender, scope, source) }
+        JoinInput::Unknown => Err(CommandFault::UnknownKind(number)),
+    }
+}
+
+// A journal of which nothing was read or passed over, and these objects are taken.
+fn restart<R: Source>(scope: &Scope, journal: &mut JournalInput<R>)
+    ensures source { journal.new.stream.source ≡ journal.old.stream.source }
+    ensures scope { journal.new.choice ≡ scope.now }
+    ensures others { journal.new.others ≡ 0 }
+    ensures new { IsNew (journal_behaviour R.unread R.failures) journal.new }
+    ensures most { (journal_behaviour R.unread R.failures).most journal.new ≡ MAX_ENTRIES }
+    ensures limit { journal.new.stream.max_entries ≡ MAX_ENTRIES }
+{
+    journal.choice = *scope;
+    journal.others = 0;
+    journal.stream.restart(MAX_ENTRIES);
+}

@@ -1,0 +1,88 @@
+//! The inputs of a join.
+ghost use Rattle.std.specs.Prelude.{◌≡◌, IfSome, IfOk, IfErr};
+ghost use Rattle.flute_journal.specs.declared.fault.ReadFault.TheVariants.{Read};
+ghost use Rattle.flutejoin.specs.JoinInputs.{IsInput};
+ghost use Rattle.flutejoin.specs.InputStreams.{passed_over};
+
+use crate::join::first_bytes::FirstBytes;
+use crate::join::peeked_source::PeekedSource;
+use crate::limits::MAX_ENTRIES;
+use flute_journal::{
+    Chosen, Kind, LoadFault, OwnedJournalStream, ReadFault, Scope, Stream, kind_of,
+};
+use flute_parts::{FactRef, Source};
+use std::alloc::Global;
+
+/// A journal of which some objects are taken.
+pub type JournalInput<R> = Chosen<OwnedJournalStream<PeekedSource<R>>, Scope>;
+
+/// An input of a join, of the kind that its first four bytes tell.
+#[derive(Debug, Drop)]
+pub enum JoinInput<R> {
+    /// A journal.
+    Journal(JournalInput<R>),
+    /// A datagram file.
+    Datagrams(PeekedSource<R>),
+    /// Neither of them.
+    Unknown,
+}
+
+impl<R: Source + Drop> JoinInput<R> {
+    /// The input that a source has left. Its first four bytes are read, or as many as it has.
+    ///
+    /// # Errors
+    ///
+    /// `Read` if the source fails.
+    pub fn open(source: R) -> Result<JoinInput<R>, ReadFault>
+        ensures input { IfOk result
+            (λ input. IfSome (R.unread source) (IsInput R.unread input)) }
+        ensures only { IfErr result (λ fault. fault ≡ Read) }
+    {
+        let mut source = source;
+        let first = FirstBytes::read(&mut source)?;
+        match kind_of(first.as_slice()) {
+            Some(Kind::Journal) => {
+                let source = PeekedSource::new(first, source);
+                let journal = OwnedJournalStream::new(source, MAX_ENTRIES);
+                Ok(JoinInput::Journal(Chosen::new(journal, Scope::all())))
+            }
+            Some(Kind::Datagrams) => Ok(JoinInput::Datagrams(PeekedSource::new(first, source))),
+            None => Ok(JoinInput::Unknown),
+        }
+    }
+}
+
+impl<R> JoinInput<R> {
+    // How many entries were passed over.
+    pub(crate) fn passed_over(&self) -> u64
+        ensures { result ≡ passed_over self.now }
+    {
+        match self {
+            JoinInput::Journal(journal) => journal.others,
+            _ => 0,
+        }
+    }
+}
+
+/// A journal gives its entries of the objects that are taken. Nothing else gives any.
+impl<R: Source> Stream for JoinInput<R> {
+    ghost use Rattle.flutejoin.specs.InputStreams.{input_behaviour};
+
+    ghost behaviour = { input_behaviour R.unread R.failures };
+
+    #[inline(always)]
+    fn head(&self) -> Option<FactRef<'_>> {
+        match self {
+            JoinInput::Journal(journal) => journal.head(),
+            _ => None,
+        }
+    }
+
+    #[inline(always)]
+    fn advance(&mut self, alloc: Global) -> Result<(), LoadFault> {
+        match self {
+            JoinInput::Journal(journal) => journal.advance(alloc),
+            _ => Ok(()),
+        }
+    }
+}

@@ -1,0 +1,7 @@
+//! The lines that commands print.
+
+pub(crate) mod fact_lines;
+pub(crate) mod hex_digits;
+pub(crate) mod report_lines;
+pub(crate) mod style;
+pub(crate) mod text;
