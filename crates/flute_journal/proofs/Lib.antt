@@ -1,10 +1,10 @@
 mod Common
 mod Each
-mod framing
+mod framing_lemmas
 mod Numbers
-mod format
-mod readers
-mod writers
-mod merge
-mod streams
+mod format_lemmas
+mod readers_lemmas
+mod writers_lemmas
+mod merge_lemmas
+mod streams_lemmas
 pub mod Public

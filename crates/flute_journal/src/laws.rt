@@ -21,7 +21,7 @@ ghost use Rattle.flute_journal.specs.declared.readers.reader_state.ReaderState.{
 ghost use Rattle.flute_journal.specs.declared.readers.reader_state.ReaderState.TheVariants as states;
 
 /// What an entry spells is read in one way, whatever follows it, in each version.
-#[tactic(auto, using(crate::proofs::format::Entries::entry_injective))]
+#[tactic(auto, using(crate::proofs::format_lemmas::Entries::entry_injective))]
 pub fn entry_has_one_reading()
     ensures { (v : Version) (f g : Fact) (x y : List ℕ) → IsFactIn v f → IsFactIn v g
         → entry_in v f ++ x ≡ entry_in v g ++ y → (f ≡ g) × (x ≡ y) }
@@ -114,7 +114,7 @@ pub fn bytes_are_a_journal_or_stop()
 {}
 
 /// A datagram file is the file of one list of datagrams.
-#[tactic(auto, using(crate::proofs::framing::Files::one_reading))]
+#[tactic(auto, using(crate::proofs::framing_lemmas::Files::one_reading))]
 pub fn a_file_has_one_reading()
     ensures { (bs : List ℕ) (ds es : List (List ℕ)) → IsFileOf bs ds → IsFileOf bs es → ds ≡ es }
 {}

@@ -1,16 +1,16 @@
-mod lines
-mod gaps
+mod lines_lemmas
+mod gaps_lemmas
 mod SelectedFacts
 mod Shown
 mod Mapped
-mod join
+mod join_lemmas
 mod Blobs
 mod Firsts
-mod extract
-mod command_line
+mod extract_lemmas
+mod command_line_lemmas
 mod Forgotten
 mod Lefts
-mod info
-mod carousel
+mod info_lemmas
+mod carousel_lemmas
 mod Slots
 pub mod Public

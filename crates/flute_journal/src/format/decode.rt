@@ -64,7 +64,7 @@ pub fn check_header(bytes: &[u8]) -> Result<Version, ReadFault>
 
 /// Looks at what follows the byte 255 of a journal of so many entries, and at one byte
 /// more if there is one.
-#[tactic(auto, using(crate::proofs::format::Decoded::end_read, crate::proofs::Numbers::octets))]
+#[tactic(auto, using(crate::proofs::format_lemmas::Decoded::end_read, crate::proofs::Numbers::octets))]
 pub fn check_end(count: u64, bytes: &[u8]) -> Result<(), ReadFault>
     requires { length bytes.now ≤ 9 }
     ensures { Parses 9 (λ _. bytes.now ≡ in_bytes 8 count) (end_fault count) bytes.now result }
@@ -149,7 +149,7 @@ pub fn next_symbol_in(last: &Address, bytes: &[u8]) -> Option<(SymbolId, u16)>
 }
 
 // The id and the number of the bytes of a symbol of the same object as the entry at `last`.
-#[tactic(auto, using(crate::proofs::format::SameFile::part_after))]
+#[tactic(auto, using(crate::proofs::format_lemmas::SameFile::part_after))]
 #[inline(always)]
 fn next_in(last: &Address, bytes: &[u8]) -> Option<(SymbolId, u16)>
     requires key { IsKey last.now.key }
@@ -168,7 +168,7 @@ fn next_in(last: &Address, bytes: &[u8]) -> Option<(SymbolId, u16)>
 }
 
 /// Whether these are the bytes of this key in version 2, and it names a file.
-#[tactic(auto, using(crate::proofs::format::SameFile::key_named, crate::proofs::Numbers::octets))]
+#[tactic(auto, using(crate::proofs::format_lemmas::SameFile::key_named, crate::proofs::Numbers::octets))]
 #[inline(always)]
 pub fn names_file(bytes: &[u8], key: &Key) -> bool
     requires { length bytes.now ≡ key_size Two }
@@ -182,7 +182,7 @@ pub fn names_file(bytes: &[u8], key: &Key) -> bool
 }
 
 // Whether these are the bytes that name the file with this key, but for its sender.
-#[tactic(auto, using(crate::proofs::format::SameFile::file_named, crate::proofs::Numbers::octets))]
+#[tactic(auto, using(crate::proofs::format_lemmas::SameFile::file_named, crate::proofs::Numbers::octets))]
 #[inline(always)]
 fn is_file_in(bytes: &[u8], key: &Key) -> bool
     requires { length bytes.now ≡ 21 }
@@ -261,7 +261,7 @@ fn in_order(last: &Option<Address>, key: &Key, part: Part) -> Result<(), ReadFau
 }
 
 // Most entries are of the object of the one before.
-#[tactic(auto, using(crate::proofs::format::Decoded::same_object_after))]
+#[tactic(auto, using(crate::proofs::format_lemmas::Decoded::same_object_after))]
 #[inline(always)]
 fn is_after(last: &Option<Address>, key: &Key, part: Part) -> bool
     ensures { result ≡ is_after last.now (record { key = key.now; part = part }) }
@@ -274,7 +274,7 @@ fn is_after(last: &Option<Address>, key: &Key, part: Part) -> bool
 }
 
 // What follows the key of an entry of information.
-#[tactic(auto, using(crate::proofs::format::Decoded::info_read, crate::proofs::Numbers::octets))]
+#[tactic(auto, using(crate::proofs::format_lemmas::Decoded::info_read, crate::proofs::Numbers::octets))]
 fn information_at(last: &Option<Address>, key: Key, bytes: &[u8]) -> Result<EntryHead, ReadFault>
     requires key { IsKey key }
     requires most { length bytes.now ≤ 12 }
@@ -320,7 +320,7 @@ fn information_conflict_at(
 }
 
 // The id and the number of the bytes of a symbol, which follow the key of its entry.
-#[tactic(auto, using(crate::proofs::format::Decoded::symbol_faults))]
+#[tactic(auto, using(crate::proofs::format_lemmas::Decoded::symbol_faults))]
 #[inline(always)]
 fn symbol_at(last: &Option<Address>, key: &Key, bytes: &[u8]) -> Result<(SymbolId, u16), ReadFault>
     requires key { IsKey key.now }

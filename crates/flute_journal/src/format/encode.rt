@@ -117,7 +117,7 @@ fn put_same_key(head: &mut HeadBytes, last: &mut [u8; 37], key: &Key)
 
 // Puts the bytes of a key in place of those of another, unless they are there. Most symbols are of
 // the object of the one before.
-#[tactic(auto, using(crate::proofs::format::SameFile::key_size_two))]
+#[tactic(auto, using(crate::proofs::format_lemmas::SameFile::key_size_two))]
 #[inline(always)]
 fn set_key(bytes: &mut [u8; 37], key: &Key)
     ensures spelled { bytes.new ≡ key_bytes Two key.now }

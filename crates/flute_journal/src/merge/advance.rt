@@ -22,7 +22,7 @@ pub struct Advanced {
 /// # Errors
 ///
 /// The fault of the first that stopped. Those after it are as they were.
-#[tactic(auto, using(crate::proofs::merge::GoingOn::goings))]
+#[tactic(auto, using(crate::proofs::merge_lemmas::GoingOn::goings))]
 #[inline(always)]
 pub fn advance_at<G: Streams>(
     alloc: Global,

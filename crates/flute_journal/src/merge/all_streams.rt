@@ -90,7 +90,7 @@ pub fn merge_all<const SESSIONS: u32, const OBJECTS: u32, const SYMBOLS: u32, G:
 ///
 /// The fault of the first stream, in their order, that has one: those before one that stopped are
 /// read to their ends. What was appended is then no journal of anything.
-#[tactic(auto, using(crate::proofs::merge::Finished::stopped_of, crate::proofs::merge::Finished::gave_of))]
+#[tactic(auto, using(crate::proofs::merge_lemmas::Finished::stopped_of, crate::proofs::merge_lemmas::Finished::gave_of))]
 pub fn join_streams<
     const SESSIONS: u32,
     const OBJECTS: u32,
@@ -130,7 +130,7 @@ pub fn join_streams<
 
 // Merges streams into what a writer writes. It stops if that has failed, unless it is patient:
 // it then leaves out the end if the streams together are over the limits.
-#[tactic(auto, using(crate::proofs::merge::StreamStates::turns))]
+#[tactic(auto, using(crate::proofs::merge_lemmas::StreamStates::turns))]
 fn merge_into<const SESSIONS: u32, const OBJECTS: u32, const SYMBOLS: u32, G: Streams, W: Sink>(
     alloc: Global,
     streams: &mut G,

@@ -166,7 +166,7 @@ impl Lead {
     }
 
     // Looks whether the stream with this number leads.
-    #[tactic(auto, using(crate::proofs::merge::LeadFacts::firsts))]
+    #[tactic(auto, using(crate::proofs::merge_lemmas::LeadFacts::firsts))]
     #[inline(always)]
     fn look<G: Streams>(&mut self, streams: &G, number: usize)
         requires { number < length (G.streams streams.now) }

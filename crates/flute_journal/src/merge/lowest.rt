@@ -84,7 +84,7 @@ fn order_of(first: &FactRef<'_>, second: &FactRef<'_>) -> Ordering
 }
 
 /// Whether two facts at one address are the same. The address is not compared again.
-#[tactic(auto, using(crate::proofs::merge::LowestFacts::same_at))]
+#[tactic(auto, using(crate::proofs::merge_lemmas::LowestFacts::same_at))]
 #[inline(always)]
 pub fn is_same(first: &FactRef<'_>, second: &FactRef<'_>) -> bool
     requires { address (fact_of first.now) ≡ address (fact_of second.now) }

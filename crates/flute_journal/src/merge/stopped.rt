@@ -32,7 +32,7 @@ pub fn first_fault<G: Streams>(alloc: Global, streams: &mut G, stopped: InputFau
 }
 
 // Reads the stream with this number to its end.
-#[tactic(auto, using(crate::proofs::merge::Finished::reads_on))]
+#[tactic(auto, using(crate::proofs::merge_lemmas::Finished::reads_on))]
 fn finish<G: Streams>(alloc: Global, streams: &mut G, number: usize) -> Result<(), LoadFault>
     requires { number < length (G.streams streams.old) }
     ensures as_many { length (G.streams streams.new) ≡ length (G.streams streams.old) }

@@ -118,7 +118,7 @@ fn merge_readers<A: Source, B: Source, W: Sink>(
 }
 
 // Merges two new streams of journals.
-#[tactic(auto, using(crate::proofs::merge::Twos::reading_two))]
+#[tactic(auto, using(crate::proofs::merge_lemmas::Twos::reading_two))]
 fn merge_new<A: Source, B: Source, W: Sink>(
     alloc: Global,
     first: &mut LentStream<'_, '_, A>,

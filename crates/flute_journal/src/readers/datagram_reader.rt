@@ -89,7 +89,7 @@ impl<'a, R: Source> DatagramReader<'a, R> {
     /// the memory of `spare`: a caller that lets go of each datagram before it reads the next hands
     /// its vector on, and memory is taken only where that is too small, or for a datagram that is
     /// read field by field.
-    #[tactic(auto, using(crate::proofs::readers::FileCalls::gives_next))]
+    #[tactic(auto, using(crate::proofs::readers_lemmas::FileCalls::gives_next))]
     #[inline(always)]
     pub fn next_with(
         &mut self,
@@ -122,7 +122,7 @@ impl<'a, R: Source> DatagramReader<'a, R> {
 }
 
 // Reads the header, and then the first record if there is one.
-#[tactic(auto, using(crate::proofs::readers::FileCalls::reads_file_first))]
+#[tactic(auto, using(crate::proofs::readers_lemmas::FileCalls::reads_file_first))]
 fn read_first<R: Source>(
     alloc: Global,
     source: &mut R,
@@ -138,7 +138,7 @@ fn read_first<R: Source>(
 }
 
 // Reads the magic number and the version.
-#[tactic(auto, using(crate::proofs::framing::ReadsUpTo::parsed_fails, crate::proofs::framing::ReadsUpTo::parsed_memory))]
+#[tactic(auto, using(crate::proofs::framing_lemmas::ReadsUpTo::parsed_fails, crate::proofs::framing_lemmas::ReadsUpTo::parsed_memory))]
 fn read_header<R: Source>(source: &mut R) -> Result<(), ReadFault>
     ensures reads { Reads (λ _. file_header) (λ _. Unit {0}) (opening_fault file_header)
         (R.unread source.old) (R.unread source.new) result }
@@ -179,7 +179,7 @@ fn read_record<R: Source>(
 }
 
 // The same, field by field, and into memory of its own.
-#[tactic(auto, using(crate::proofs::framing::Records::record_reads))]
+#[tactic(auto, using(crate::proofs::framing_lemmas::Records::record_reads))]
 #[inline(never)]
 fn read_fields<R: Source>(
     alloc: Global,

@@ -79,7 +79,7 @@ pub fn read_entry<R: Source>(
 }
 
 // Reads the number of entries, which nothing may follow.
-#[tactic(auto, using(crate::proofs::framing::ReadsUpTo::parsed_fails))]
+#[tactic(auto, using(crate::proofs::framing_lemmas::ReadsUpTo::parsed_fails))]
 fn read_end<R: Source>(source: &mut R, count: u64) -> Result<(), ReadFault>
     ensures reads { ReadsEnd count (R.unread source.old) (R.unread source.new) result }
     ensures advances { Advances (R.unread source.old) (R.unread source.new) 9 }
@@ -91,7 +91,7 @@ fn read_end<R: Source>(source: &mut R, count: u64) -> Result<(), ReadFault>
 }
 
 // Reads what follows the kind of an entry.
-#[tactic(auto, using(crate::proofs::readers::Bodies::body_stopped))]
+#[tactic(auto, using(crate::proofs::readers_lemmas::Bodies::body_stopped))]
 fn read_body<R: Source>(
     alloc: Global,
     source: &mut R,
@@ -115,7 +115,7 @@ fn read_body<R: Source>(
 }
 
 // Reads what follows the kind of an entry, up to the bytes of a symbol.
-#[tactic(auto, using(crate::proofs::framing::ReadsUpTo::parsed_fails))]
+#[tactic(auto, using(crate::proofs::framing_lemmas::ReadsUpTo::parsed_fails))]
 fn read_head<R: Source>(
     source: &mut R,
     version: Version,

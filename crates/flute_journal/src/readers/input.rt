@@ -112,7 +112,7 @@ fn fill_up_to<R: Source>(source: &mut R, buffer: &mut [u8]) -> (usize, bool)
 }
 
 /// Reads so many bytes, into memory of their own, which is asked for before anything is read.
-#[tactic(auto, using(crate::proofs::framing::ReadsUpTo::asks_bytes))]
+#[tactic(auto, using(crate::proofs::framing_lemmas::ReadsUpTo::asks_bytes))]
 pub fn read_exact<R: Source>(
     alloc: Global,
     source: &mut R,

@@ -18,7 +18,7 @@ use flute_wire::Datagram;
 /// None if it is another, does not, or has a fault, and nothing was taken then. `OutOfMemory`
 /// is the only fault. The bytes of a symbol are put into the memory of `spare`, as far as it
 /// suffices.
-#[tactic(auto, using(crate::proofs::readers::Seen::has_entry))]
+#[tactic(auto, using(crate::proofs::readers_lemmas::Seen::has_entry))]
 #[inline(always)]
 pub fn take_entry<R: Source>(
     source: &mut R,

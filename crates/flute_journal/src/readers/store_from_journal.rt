@@ -26,7 +26,7 @@ use std::alloc::Global;
 /// - `OutOfMemory` if there is no memory for an entry in the store.
 ///
 /// There is no store after any of these, and nothing past the entry at which it ended was read.
-#[tactic(auto, using(crate::proofs::readers::Loading::loads))]
+#[tactic(auto, using(crate::proofs::readers_lemmas::Loading::loads))]
 pub fn read_store<const SESSIONS: u32, const OBJECTS: u32, const SYMBOLS: u32, R: Source>(
     alloc: Global,
     source: &mut R,

@@ -18,7 +18,7 @@ use flute_wire::{Datagram, Datagrams};
 /// # Errors
 ///
 /// `Write` if the sink failed. A first part of the file was then written, and not all of it.
-#[tactic(auto, using(crate::proofs::writers::Sending::sends))]
+#[tactic(auto, using(crate::proofs::writers_lemmas::Sending::sends))]
 pub fn write_datagrams<W: Sink>(datagrams: &Datagrams, sink: &mut W) -> Result<u64, SaveFault>
     ensures bytes { Writes (W.written sink.old) (W.written sink.new)
         (file_header ++ flat_map record_of datagrams.now) result }

@@ -1,4 +1,4 @@
-use Rattle.flute_journal.proofs.{Common.{None}, framing.SoFar.{sofar-none, sofar-next, sofar-fault, side-from, whole-at}, framing.Framings.{file_sound}}
+use Rattle.flute_journal.proofs.{Common.{None}, framing_lemmas.SoFar.{sofar-none, sofar-next, sofar-fault, side-from, whole-at}, framing_lemmas.Framings.{file_sound}}
 use Rattle.flute_journal.proofs.laws.a_file_is_read_record_by_record.Goals as goal
 
 pub returns-clause-begins : goal.returns-clause-begins

@@ -1,4 +1,4 @@
-use Rattle.flute_journal.proofs.{Common.{arith}, framing.Passes.{beyond}}
+use Rattle.flute_journal.proofs.{Common.{arith}, framing_lemmas.Passes.{beyond}}
 use Rattle.flute_journal.proofs.laws.a_journal_has_no_fault.Goals as goal
 
 pub returns : goal.returns

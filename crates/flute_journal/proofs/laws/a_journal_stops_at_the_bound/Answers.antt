@@ -1,4 +1,4 @@
-use Rattle.flute_journal.proofs.{Common.{arith}, merge.MergeBytes.{journal_parts}, framing.Passes.{beyond}}
+use Rattle.flute_journal.proofs.{Common.{arith}, merge_lemmas.MergeBytes.{journal_parts}, framing_lemmas.Passes.{beyond}}
 use Rattle.flute_journal.proofs.laws.a_journal_stops_at_the_bound.Goals as goal
 
 pub returns : goal.returns

@@ -1,4 +1,4 @@
-use Rattle.flute_journal.proofs.{Common.{arith}, format.Entries.{facts_of}, merge.MergeBytes.{parts_journal}}
+use Rattle.flute_journal.proofs.{Common.{arith}, format_lemmas.Entries.{facts_of}, merge_lemmas.MergeBytes.{parts_journal}}
 use Rattle.flute_journal.proofs.laws.a_journal_within_a_bound_is_one.Goals as goal
 
 pub returns : goal.returns

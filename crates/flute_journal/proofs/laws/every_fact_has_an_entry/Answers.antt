@@ -1,4 +1,4 @@
-use Rattle.flute_journal.proofs.{Common.{fact_key}, format.Entries.{fact_two, room_one, one_room}}
+use Rattle.flute_journal.proofs.{Common.{fact_key}, format_lemmas.Entries.{fact_two, room_one, one_room}}
 use Rattle.flute_journal.proofs.laws.every_fact_has_an_entry.Goals as goal
 
 pub returns-clause-written : goal.returns-clause-written

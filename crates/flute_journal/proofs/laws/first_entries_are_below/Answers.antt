@@ -1,4 +1,4 @@
-use Rattle.flute_journal.proofs.framing.Passes.{without_end-below}
+use Rattle.flute_journal.proofs.framing_lemmas.Passes.{without_end-below}
 use Rattle.flute_journal.proofs.laws.first_entries_are_below.Goals as goal
 
 pub returns : goal.returns

@@ -1,4 +1,4 @@
-use Rattle.flute_journal.proofs.{Common.{List, ℕ, [], ◌∷◌, Same, Fact, Version, Same-itself, Same-sym, Same-trans, Same-append, Collects, JournalIn, Each, all_of}, merge.MergeBytes.{journal_parts, parts_journal}}
+use Rattle.flute_journal.proofs.{Common.{List, ℕ, [], ◌∷◌, Same, Fact, Version, Same-itself, Same-sym, Same-trans, Same-append, Collects, JournalIn, Each, all_of}, merge_lemmas.MergeBytes.{journal_parts, parts_journal}}
 use Rattle.flute_journal.proofs.laws.merging_merged_is_merging_all.Goals as goal
 
 all_same : (groups joined : List (List Fact)) → Each Collects groups joined → Same (all_of groups) (all_of joined)

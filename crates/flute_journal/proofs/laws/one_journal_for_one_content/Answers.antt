@@ -1,4 +1,4 @@
-use Rattle.flute_journal.proofs.{Common.{sym, ap, ◌∙◌, subst, JournalIn, spelling_in, rising_unique}, merge.MergeBytes.{same_journal, journal_parts}}
+use Rattle.flute_journal.proofs.{Common.{sym, ap, ◌∙◌, subst, JournalIn, spelling_in, rising_unique}, merge_lemmas.MergeBytes.{same_journal, journal_parts}}
 use Rattle.flute_journal.proofs.laws.one_journal_for_one_content.Goals as goal
 
 pub returns : goal.returns

@@ -1,7 +1,7 @@
 -- A piece more was read.
 use Rattle.std.proofs.Common.{◌-◌, take, arith, length-take-le}
 use Rattle.flutejoin.specs.Sending.{ReadsOf}
-use Rattle.flutejoin.proofs.carousel.SentSoFar.{reads_on}
+use Rattle.flutejoin.proofs.carousel_lemmas.SentSoFar.{reads_on}
 use Rattle.flutejoin.proofs.carousel.has_left.Goals as goal
 
 pub loop-count-preserved : goal.loop-count-preserved

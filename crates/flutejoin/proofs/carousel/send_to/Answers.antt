@@ -1,8 +1,8 @@
 -- What is told of what was sent.
 use Rattle.std.proofs.Common.{◌∙◌, ap, subst}
 use Rattle.flutejoin.specs.Sending.{ReadFailures}
-use Rattle.flutejoin.proofs.carousel.SentObjects.{sent_same, told_sent, told_failed, told_failed_write}
-use Rattle.flutejoin.proofs.carousel.SentReads.{told_reads}
+use Rattle.flutejoin.proofs.carousel_lemmas.SentObjects.{sent_same, told_sent, told_failed, told_failed_write}
+use Rattle.flutejoin.proofs.carousel_lemmas.SentReads.{told_reads}
 use Rattle.flutejoin.proofs.carousel.send_to.Goals as goal
 
 pub returns-clause-sent : goal.returns-clause-sent

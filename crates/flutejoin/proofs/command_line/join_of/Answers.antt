@@ -2,11 +2,11 @@ use Rattle.std.proofs.Common.{refl, sym, subst}
 use Rattle.flutejoin.specs.CommandLine.{IsJoinFault}
 use Rattle.flutejoin.specs.Options.{found_rows}
 use Rattle.flutejoin.specs.Scoping.{IsScope}
-use Rattle.flutejoin.proofs.command_line.CommandWords.{words_read}
-use Rattle.flutejoin.proofs.command_line.JoinLines.{inputs_taken, not_joined}
-use Rattle.flutejoin.proofs.command_line.JoinLines.{wrong_key, wrong_memory, wrong_object, wrong_sender}
-use Rattle.flutejoin.proofs.command_line.JoinLines.{wrong_sessions}
-use Rattle.flutejoin.proofs.command_line.Options.{handed_on}
+use Rattle.flutejoin.proofs.command_line_lemmas.CommandWords.{words_read}
+use Rattle.flutejoin.proofs.command_line_lemmas.JoinLines.{inputs_taken, not_joined}
+use Rattle.flutejoin.proofs.command_line_lemmas.JoinLines.{wrong_key, wrong_memory, wrong_object, wrong_sender}
+use Rattle.flutejoin.proofs.command_line_lemmas.JoinLines.{wrong_sessions}
+use Rattle.flutejoin.proofs.command_line_lemmas.Options.{handed_on}
 use Rattle.flutejoin.proofs.command_line.join_of.Goals as goal
 
 pub returns-in_err-sessions : goal.returns-in_err-sessions

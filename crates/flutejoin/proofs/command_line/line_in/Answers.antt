@@ -4,7 +4,7 @@ use Rattle.clap.specs.Walk.{Row, Text}
 use Rattle.clap.specs.declared.parser.matches.ArgMatches.TheViews.{out-ArgMatches}
 use Rattle.flutejoin.specs.CommandLine.{IsFaultOf, IsLineOf}
 use Rattle.flutejoin.specs.Options.{found_rows}
-use Rattle.flutejoin.proofs.command_line.CommandWords.{command_found}
+use Rattle.flutejoin.proofs.command_line_lemmas.CommandWords.{command_found}
 use Rattle.flutejoin.proofs.command_line.line_in.Goals as goal
 
 pub returns-in-Some : goal.returns-in-Some

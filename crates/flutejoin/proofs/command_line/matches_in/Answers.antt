@@ -1,4 +1,4 @@
-use Rattle.flutejoin.proofs.command_line.Parsing.{words_read}
+use Rattle.flutejoin.proofs.command_line_lemmas.Parsing.{words_read}
 use Rattle.flutejoin.proofs.command_line.matches_in.Goals as goal
 
 pub returns : goal.returns

@@ -5,7 +5,7 @@ use Rattle.flutejoin.specs.Extract.{AnswersFrom, Extracts}
 use Rattle.flutejoin.specs.declared.command_fault.CommandFault.{CommandFault}
 use Rattle.flutejoin.specs.Show.{FailsToRead}
 use Rattle.flutejoin.specs.Limits.{at_most}
-use Rattle.flutejoin.proofs.extract.Extracted.{answers, if_err, first_part, journal_fault, of_source}
+use Rattle.flutejoin.proofs.extract_lemmas.Extracted.{answers, if_err, first_part, journal_fault, of_source}
 use Rattle.flutejoin.proofs.extract.extract_to.Goals as goal
 
 pub returns-in-Ok-clause-extracts : goal.returns-in-Ok-clause-extracts

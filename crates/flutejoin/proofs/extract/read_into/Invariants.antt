@@ -5,7 +5,7 @@ use Rattle.flute_journal.specs.Framing.{count_at}
 use Rattle.flute_journal.specs.JournalFraming.{journal_framing}
 use Rattle.flutejoin.specs.ObjectWriters.{WritesNothing}
 use Rattle.flutejoin.specs.declared.limits.TheConstants.{MAX_ENTRIES}
-use Rattle.flutejoin.proofs.extract.Extracted.{Passing}
+use Rattle.flutejoin.proofs.extract_lemmas.Extracted.{Passing}
 use Rattle.flutejoin.proofs.extract.read_into.Given as goal
 
 abbrev pub invariant-loop-fact : goal.invariant-loop-fact

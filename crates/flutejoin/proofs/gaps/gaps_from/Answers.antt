@@ -3,7 +3,7 @@ use Rattle.std.specs.Io.KnownBytes.{Appends}
 use Rattle.flute_parts.specs.Devices.{AppendsPart}
 use Rattle.flutejoin.specs.Styles.{are_whole, printed}
 use Rattle.flutejoin.specs.Told.{Told}
-use Rattle.flutejoin.proofs.gaps.GapsRead.{and_so}
+use Rattle.flutejoin.proofs.gaps_lemmas.GapsRead.{and_so}
 use Rattle.flutejoin.proofs.gaps.gaps_from.Goals as goal
 
 pub returns-in-Ok-clause-printed : goal.returns-in-Ok-clause-printed

@@ -2,7 +2,7 @@
 use Rattle.std.proofs.Common.{◌≡◌, ◌+◌, ◌-◌}
 use Rattle.flute_journal.proofs.Public.{entries_at}
 use Rattle.flutejoin.specs.declared.limits.TheConstants.{MAX_ENTRIES}
-use Rattle.flutejoin.proofs.gaps.GapsRead.{ListsRead}
+use Rattle.flutejoin.proofs.gaps_lemmas.GapsRead.{ListsRead}
 use Rattle.flutejoin.proofs.gaps.put_aside.Given as goal
 
 abbrev pub invariant-loop-fact : goal.invariant-loop-fact

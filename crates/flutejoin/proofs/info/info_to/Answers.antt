@@ -5,7 +5,7 @@ use Rattle.flute_parts.specs.declared.fact.Fact.TheVariants.{Info}
 use Rattle.flute_parts.specs.Facts.{Same}
 use Rattle.flute_parts.proofs.Public.{Same-itself}
 use Rattle.flutejoin.specs.Limits.{at_most}
-use Rattle.flutejoin.proofs.info.AddedFacts.{of_source}
+use Rattle.flutejoin.proofs.info_lemmas.AddedFacts.{of_source}
 use Rattle.flutejoin.proofs.info.info_to.Goals as goal
 
 pub returns-clause-failed : goal.returns-clause-failed

@@ -1,5 +1,5 @@
 use Rattle.std.proofs.Common.{refl}
-use Rattle.flutejoin.proofs.join.JoinStops.{full_of_files}
+use Rattle.flutejoin.proofs.join_lemmas.JoinStops.{full_of_files}
 use Rattle.flutejoin.proofs.join.fault_or_full.Goals as goal
 
 pub returns-in-Ok-clause-failed : goal.returns-in-Ok-clause-failed

@@ -6,7 +6,7 @@ use Rattle.flute_journal.specs.FirstFaults.{FirstFault}
 use Rattle.flute_journal.specs.StreamMerges.{EndsMerged}
 use Rattle.flutejoin.specs.declared.join.join_input.JoinInput.{JoinInput}
 use Rattle.flutejoin.specs.JoinParts.{joined_behaviour}
-use Rattle.flutejoin.proofs.join.JoinStops.{no_journal_of_part}
+use Rattle.flutejoin.proofs.join_lemmas.JoinStops.{no_journal_of_part}
 use Rattle.flutejoin.proofs.join.join_chained.Goals as goal
 
 -- the references that were lent are still these

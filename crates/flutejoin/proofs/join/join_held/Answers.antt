@@ -1,7 +1,7 @@
 -- Each exit is a lemma on the streams.
-use Rattle.flutejoin.proofs.join.JoinStreams.{all_new, all_few, joins_inspected}
-use Rattle.flutejoin.proofs.join.JoinStops.{stops_in, stop_fails, stop_names, stop_no_memory}
-use Rattle.flutejoin.proofs.join.JoinStops.{stop_no_aside, stop_no_sink, none_failed, read_failed}
+use Rattle.flutejoin.proofs.join_lemmas.JoinStreams.{all_new, all_few, joins_inspected}
+use Rattle.flutejoin.proofs.join_lemmas.JoinStops.{stops_in, stop_fails, stop_names, stop_no_memory}
+use Rattle.flutejoin.proofs.join_lemmas.JoinStops.{stop_no_aside, stop_no_sink, none_failed, read_failed}
 use Rattle.flutejoin.proofs.join.join_held.Goals as goal
 
 pub join_chained-requires-clause-new : goal.join_chained-requires-clause-new

@@ -4,7 +4,7 @@ use Rattle.std.specs.Prelude.{IfSome}
 use Rattle.flute_journal.specs.Streams.{fact_in}
 use Rattle.flute_journal.specs.declared.streams.owned_journal_stream.OwnedJournalStream.{OwnedJournalStream}
 use Rattle.flutejoin.specs.Asides.{AreHeld, IsNewRun}
-use Rattle.flutejoin.proofs.join.Runs.{run_ends, walk_ends}
+use Rattle.flutejoin.proofs.join_lemmas.Runs.{run_ends, walk_ends}
 use Rattle.flutejoin.proofs.join.join_inspected.Goals as goal
 
 pub returns-in-Some-clause-joined : goal.returns-in-Some-clause-joined

@@ -7,9 +7,9 @@ use Rattle.std.proofs.lemmas.Result.{err_from_is_err_and}
 use Rattle.flutejoin.specs.Joined.{choice_of}
 use Rattle.flutejoin.specs.JoinParts.{HoldsAll}
 use Rattle.flutejoin.specs.Limits.{at_most}
-use Rattle.flutejoin.proofs.join.Held.{held_as}
-use Rattle.flutejoin.proofs.join.JoinStops.{nothing_appended, not_inspected, one_failed_more}
-use Rattle.flutejoin.proofs.join.JoinStops.{none_failed_more, full_together, not_written, joins_to}
+use Rattle.flutejoin.proofs.join_lemmas.Held.{held_as}
+use Rattle.flutejoin.proofs.join_lemmas.JoinStops.{nothing_appended, not_inspected, one_failed_more}
+use Rattle.flutejoin.proofs.join_lemmas.JoinStops.{none_failed_more, full_together, not_written, joins_to}
 use Rattle.flutejoin.proofs.join.join_to.Goals as goal
 
 not_true : (b : Bool) → not b ≡ true → b ≡ false

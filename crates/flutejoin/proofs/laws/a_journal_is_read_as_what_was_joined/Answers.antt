@@ -1,4 +1,4 @@
-use Rattle.flutejoin.proofs.join.Receptions.{Same-read_of_joined}
+use Rattle.flutejoin.proofs.join_lemmas.Receptions.{Same-read_of_joined}
 use Rattle.flutejoin.proofs.laws.a_journal_is_read_as_what_was_joined.Goals as goal
 
 pub returns : goal.returns

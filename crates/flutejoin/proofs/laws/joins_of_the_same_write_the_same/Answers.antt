@@ -1,4 +1,4 @@
-use Rattle.flutejoin.proofs.join.JoinTrees.{same_bytes, read_same, same_trees}
+use Rattle.flutejoin.proofs.join_lemmas.JoinTrees.{same_bytes, read_same, same_trees}
 use Rattle.flutejoin.proofs.laws.joins_of_the_same_write_the_same.Goals as goal
 
 pub returns : goal.returns

@@ -1,4 +1,4 @@
-use Rattle.flutejoin.proofs.lines.WrittenPieces.{packet_written}
+use Rattle.flutejoin.proofs.lines_lemmas.WrittenPieces.{packet_written}
 use Rattle.flutejoin.proofs.packet.write_packet.Goals as goal
 
 pub returns-clause-lines : goal.returns-clause-lines

@@ -1,7 +1,7 @@
 use Rattle.std.proofs.Common.{arith, ap, ◌∙◌}
 use Rattle.std.specs.Int.{bytes_high_first}
 use Rattle.hex.specs.Hex.{encode_lower}
-use Rattle.flutejoin.proofs.lines.Senders.{source_pieces}
+use Rattle.flutejoin.proofs.lines_lemmas.Senders.{source_pieces}
 use Rattle.flutejoin.proofs.sender.push_source.Goals as goal
 
 pub returns-then-address-ne0-clause-text : goal.returns-then-address-ne0-clause-text

@@ -1,5 +1,5 @@
 use Rattle.std.proofs.Common.{sym, ◌∙◌}
-use Rattle.flutejoin.proofs.lines.Senders.{no_sender}
+use Rattle.flutejoin.proofs.lines_lemmas.Senders.{no_sender}
 use Rattle.flutejoin.proofs.sender.sender_of.Goals as goal
 
 pub returns-in-Err : goal.returns-in-Err

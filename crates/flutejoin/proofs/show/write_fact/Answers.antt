@@ -1,4 +1,4 @@
-use Rattle.flutejoin.proofs.lines.WrittenPieces.{fact_written}
+use Rattle.flutejoin.proofs.lines_lemmas.WrittenPieces.{fact_written}
 use Rattle.flutejoin.proofs.show.write_fact.Goals as goal
 
 pub returns-clause-line : goal.returns-clause-line

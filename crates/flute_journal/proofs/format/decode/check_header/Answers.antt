@@ -1,4 +1,4 @@
-use Rattle.flute_journal.proofs.{format.Parts.{not_false}, format.Decoded.{header_parsed}}
+use Rattle.flute_journal.proofs.{format_lemmas.Parts.{not_false}, format_lemmas.Decoded.{header_parsed}}
 use Rattle.flute_journal.proofs.format.decode.check_header.Goals as goal
 
 pub returns : goal.returns

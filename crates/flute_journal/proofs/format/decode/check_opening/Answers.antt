@@ -1,5 +1,5 @@
 use Rattle.std.proofs.Common.{rules, take, drop, bytes_eq}
-use Rattle.flute_journal.proofs.{format.Parts.{not_true, not_false}, format.Decoded.{opening_version, opening_read}}
+use Rattle.flute_journal.proofs.{format_lemmas.Parts.{not_true, not_false}, format_lemmas.Decoded.{opening_version, opening_read}}
 use Rattle.flute_journal.proofs.format.decode.check_opening.Goals as goal
 
 pub returns-then-ne-2 : goal.returns-then-ne-2

@@ -1,4 +1,4 @@
-use Rattle.flute_journal.proofs.{Numbers.{octets}, format.Decoded.{key_found}}
+use Rattle.flute_journal.proofs.{Numbers.{octets}, format_lemmas.Decoded.{key_found}}
 use Rattle.flute_journal.proofs.format.decode.key_in.Goals as goal
 
 pub returns : goal.returns

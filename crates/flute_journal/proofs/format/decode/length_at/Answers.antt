@@ -1,4 +1,4 @@
-use Rattle.flute_journal.proofs.{Common.{◌≡◌, length, arith, ◌∙◌, big_from-whole}, Numbers.{octets}, format.Decoded.{length_empty, length_read}}
+use Rattle.flute_journal.proofs.{Common.{◌≡◌, length, arith, ◌∙◌, big_from-whole}, Numbers.{octets}, format_lemmas.Decoded.{length_empty, length_read}}
 use Rattle.flute_journal.proofs.format.decode.length_at.Goals as goal
 
 pub returns-then-length-eq0 : goal.returns-then-length-eq0

@@ -1,5 +1,5 @@
 use Rattle.std.proofs.Common.{rules}
-use Rattle.flute_journal.proofs.{format.Decoded.{joined}, format.SameFile.{next_read}}
+use Rattle.flute_journal.proofs.{format_lemmas.Decoded.{joined}, format_lemmas.SameFile.{next_read}}
 use Rattle.flute_journal.proofs.format.decode.next_symbol_in.Goals as goal
 
 pub returns-then-names_file : goal.returns-then-names_file

@@ -1,7 +1,7 @@
 use Rattle.std.proofs.Common.{arith, Ok, Err}
 use Rattle.flute_journal.specs.declared.format.EntryHead.TheVariants.{Symbol}
 use Rattle.flute_journal.specs.declared.format.Kind.TheVariants as kinds
-use Rattle.flute_journal.proofs.{Numbers.{octets}, format.Decoded.{key_wrong, parsed_at}}
+use Rattle.flute_journal.proofs.{Numbers.{octets}, format_lemmas.Decoded.{key_wrong, parsed_at}}
 use Rattle.flute_journal.proofs.format.decode.parse.Goals as goal
 
 pub returns-in_default-key_in : goal.returns-in_default-key_in

@@ -1,4 +1,4 @@
-use Rattle.flute_journal.proofs.{Common.{◌∙◌, arith, big_from-whole, sym}, format.Decoded.{sender_none, sender_long}}
+use Rattle.flute_journal.proofs.{Common.{◌∙◌, arith, big_from-whole, sym}, format_lemmas.Decoded.{sender_none, sender_long}}
 use Rattle.flute_journal.proofs.format.decode.sender_in.Goals as goal
 
 pub read_u128-requires : goal.read_u128-requires

@@ -1,6 +1,6 @@
 use Rattle.flute_journal.specs.declared.format.EntryHead.TheVariants.{Symbol}
 use Rattle.flute_journal.specs.declared.format.Kind.TheVariants as kinds
-use Rattle.flute_journal.proofs.{Common.{Err, Parses, RestIs, ap, err_from_is_err_and, rest_fault, subst, sym, ◌∙◌}, format.Decoded.{id_wrong}}
+use Rattle.flute_journal.proofs.{Common.{Err, Parses, RestIs, ap, err_from_is_err_and, rest_fault, subst, sym, ◌∙◌}, format_lemmas.Decoded.{id_wrong}}
 use Rattle.flute_journal.proofs.format.decode.symbol_at.Goals as goal
 
 pub returns-in_err-in_order : goal.returns-in_err-in_order

@@ -1,7 +1,7 @@
 use Rattle.std.proofs.Common.{arith, Ok, ◌+◌}
 use Rattle.flute_journal.specs.declared.format.EntryHead.TheVariants.{Symbol}
 use Rattle.flute_journal.specs.declared.format.Kind.TheVariants as kinds
-use Rattle.flute_journal.proofs.{Common.{refl}, Numbers.{octets}, format.Decoded.{parsed_at}}
+use Rattle.flute_journal.proofs.{Common.{refl}, Numbers.{octets}, format_lemmas.Decoded.{parsed_at}}
 use Rattle.flute_journal.proofs.format.decode.symbol_in.Goals as goal
 
 pub returns-in-Ok : goal.returns-in-Ok

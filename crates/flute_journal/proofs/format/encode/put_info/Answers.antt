@@ -1,4 +1,4 @@
-use Rattle.flute_journal.proofs.{Common.{in_bytes}, format.Written.{regroup}}
+use Rattle.flute_journal.proofs.{Common.{in_bytes}, format_lemmas.Written.{regroup}}
 use Rattle.flute_journal.proofs.format.encode.put_info.Goals as goal
 
 pub returns-clause-items : goal.returns-clause-items

@@ -1,5 +1,5 @@
 -- The first streams went on, and the others are as they were.
-use Rattle.flute_journal.proofs.{Common.{◌≡◌, ◌<◌, ◌≤◌, length}, merge.GoingOn.{WentSoFar}}
+use Rattle.flute_journal.proofs.{Common.{◌≡◌, ◌<◌, ◌≤◌, length}, merge_lemmas.GoingOn.{WentSoFar}}
 use Rattle.flute_journal.proofs.merge.advance.advance_at.Given as goal
 
 abbrev pub invariant-loop-number : goal.invariant-loop-number

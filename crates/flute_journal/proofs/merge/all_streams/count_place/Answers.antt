@@ -1,4 +1,4 @@
-use Rattle.flute_journal.proofs.{Common.{Bool, subst, [], ◌∷◌, ◌++◌, IsCounted}, merge.StreamStates.{counted, over_more}}
+use Rattle.flute_journal.proofs.{Common.{Bool, subst, [], ◌∷◌, ◌++◌, IsCounted}, merge_lemmas.StreamStates.{counted, over_more}}
 use Rattle.flute_journal.proofs.merge.all_streams.count_place.Goals as goal
 
 pub returns-then-within : goal.returns-then-within

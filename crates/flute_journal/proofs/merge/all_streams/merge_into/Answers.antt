@@ -1,6 +1,6 @@
 -- Each exit is a lemma on where the merge stood.
-use Rattle.flute_journal.proofs.{Common.{◌≢◌, ℕ, [], true, Some, sym, subst, arith, fact_of, header, entry, end, GoOnAt, StopsIn, IsCounted}, writers.WrittenSoFar.{puts-part, left_out}, merge.Finished.{cut_journal}}
-use Rattle.flute_journal.proofs.merge.StreamStates.{stop_first, stop_header, state_turn, turn-falls, sized-lowest, few-joined, no_failure, stop_entry, stop_input, stop_end, finished}
+use Rattle.flute_journal.proofs.{Common.{◌≢◌, ℕ, [], true, Some, sym, subst, arith, fact_of, header, entry, end, GoOnAt, StopsIn, IsCounted}, writers_lemmas.WrittenSoFar.{puts-part, left_out}, merge_lemmas.Finished.{cut_journal}}
+use Rattle.flute_journal.proofs.merge_lemmas.StreamStates.{stop_first, stop_header, state_turn, turn-falls, sized-lowest, few-joined, no_failure, stop_entry, stop_input, stop_end, finished}
 use Rattle.flute_journal.proofs.merge.all_streams.merge_into.Goals as goal
 
 pub returns-in-Err-clause-short : goal.returns-in-Err-clause-short

@@ -1,4 +1,4 @@
-use Rattle.flute_journal.proofs.{Common.{subst, fact_of, fact_in, IsLowest}, merge.LowestFacts.{lowest_alone}}
+use Rattle.flute_journal.proofs.{Common.{subst, fact_of, fact_in, IsLowest}, merge_lemmas.LowestFacts.{lowest_alone}}
 use Rattle.flute_journal.proofs.merge.lowest.change_by.Goals as goal
 
 pub returns-in-None : goal.returns-in-None

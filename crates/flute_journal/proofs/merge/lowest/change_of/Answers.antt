@@ -1,4 +1,4 @@
-use Rattle.flute_journal.proofs.{Common.{sym, ap, ◌∙◌, is_eq, fact_of, address, address_same}, merge.LowestFacts.{lowest_turns, lowest_stays, lowest_same, lowest_apart}}
+use Rattle.flute_journal.proofs.{Common.{sym, ap, ◌∙◌, is_eq, fact_of, address, address_same}, merge_lemmas.LowestFacts.{lowest_turns, lowest_stays, lowest_same, lowest_apart}}
 use Rattle.flute_journal.proofs.merge.lowest.change_of.Goals as goal
 
 pub returns-in-Less : goal.returns-in-Less

@@ -1,7 +1,7 @@
 -- The fact is elsewhere, or it is the first there, the same, or another.
 use Rattle.flute_journal.proofs.{
   Common.{◌≡◌, address, address_same, IfSome, fact_in, fact_of, sym, ◌∙◌, subst, ◌++◌, ◌∷◌, []},
-  merge.RankFacts.{comes-elsewhere, comes-first, comes-same, comes-apart},
+  merge_lemmas.RankFacts.{comes-elsewhere, comes-first, comes-same, comes-apart},
 }
 use Rattle.flute_journal.specs.Lowest.{ComesTo}
 use Rattle.flute_journal.proofs.merge.ranks.change_at.Goals as goal

@@ -1,7 +1,7 @@
 -- It holds a part of that object.
 use Rattle.flute_journal.proofs.{
   Common.{◌≡◌, address, ap, sym, subst, ◌∙◌, fact_in, fact_of, is_eq},
-  merge.RankFacts.{from-part, same_place},
+  merge_lemmas.RankFacts.{from-part, same_place},
 }
 use Rattle.flute_parts.specs.Equality.{key_same}
 use Rattle.flute_journal.specs.Ranks.{HoldsFrom, place_at_rank}

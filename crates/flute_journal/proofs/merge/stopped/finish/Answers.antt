@@ -1,4 +1,4 @@
-use Rattle.flute_journal.proofs.{Common.{◌∙◌, fact_in}, merge.Finished.{read-more, read-falls, read-told, some_held, none_held}}
+use Rattle.flute_journal.proofs.{Common.{◌∙◌, fact_in}, merge_lemmas.Finished.{read-more, read-falls, read-told, some_held, none_held}}
 use Rattle.flute_journal.proofs.merge.stopped.finish.Goals as goal
 
 pub loop-alloc-preserved : goal.loop-alloc-preserved

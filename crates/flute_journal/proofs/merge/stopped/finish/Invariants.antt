@@ -1,5 +1,5 @@
 -- The stream was read on.
-use Rattle.flute_journal.proofs.{Common.{◌≡◌}, merge.Finished.{ReadOn, most_at}}
+use Rattle.flute_journal.proofs.{Common.{◌≡◌}, merge_lemmas.Finished.{ReadOn, most_at}}
 use Rattle.flute_journal.proofs.merge.stopped.finish.Given as goal
 
 abbrev pub invariant-loop-alloc : goal.invariant-loop-alloc

@@ -1,4 +1,4 @@
-use Rattle.flute_journal.proofs.{Common.{◌∙◌, arith}, merge.Finished.{reached-more, reached-stop}}
+use Rattle.flute_journal.proofs.{Common.{◌∙◌, arith}, merge_lemmas.Finished.{reached-more, reached-stop}}
 use Rattle.flute_journal.proofs.merge.stopped.first_fault.Goals as goal
 
 pub returns-in-Err-clause-stopped : goal.returns-in-Err-clause-stopped

@@ -1,5 +1,5 @@
 -- Those that were reached have ended.
-use Rattle.flute_journal.proofs.{Common.{◌≡◌, ◌≤◌}, merge.Finished.{Reached}}
+use Rattle.flute_journal.proofs.{Common.{◌≡◌, ◌≤◌}, merge_lemmas.Finished.{Reached}}
 use Rattle.flute_journal.proofs.merge.stopped.first_fault.Given as goal
 
 abbrev pub invariant-loop-number : goal.invariant-loop-number

@@ -1,4 +1,4 @@
-use Rattle.flute_journal.proofs.merge.Twos.{merged_two, stopped_two, fail_two}
+use Rattle.flute_journal.proofs.merge_lemmas.Twos.{merged_two, stopped_two, fail_two}
 use Rattle.flute_journal.proofs.merge.two_streams.merge_new.Goals as goal
 
 pub returns-in-Err-clause-gives : goal.returns-in-Err-clause-gives

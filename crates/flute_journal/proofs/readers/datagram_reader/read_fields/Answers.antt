@@ -1,4 +1,4 @@
-use Rattle.flute_journal.proofs.{Common.{◌≡◌, length, rules, Err, sym, ap, ◌∙◌, subst, err_from_is_err_and, ReadsNext, file_framing}, framing.ReadsUpTo.{fault_here}, framing.Records.{too_many_records, record_stops, no_record}}
+use Rattle.flute_journal.proofs.{Common.{◌≡◌, length, rules, Err, sym, ap, ◌∙◌, subst, err_from_is_err_and, ReadsNext, file_framing}, framing_lemmas.ReadsUpTo.{fault_here}, framing_lemmas.Records.{too_many_records, record_stops, no_record}}
 use Rattle.flute_journal.proofs.readers.datagram_reader.read_fields.Goals as goal
 
 pub returns-then-is_empty-clause-reads : goal.returns-then-is_empty-clause-reads

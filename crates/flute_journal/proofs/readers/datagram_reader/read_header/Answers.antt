@@ -1,4 +1,4 @@
-use Rattle.flute_journal.proofs.{Common.{◌≡◌, refl, file_header}, readers.Bodies.{opening_reads}, readers.FileCalls.{opening_told}}
+use Rattle.flute_journal.proofs.{Common.{◌≡◌, refl, file_header}, readers_lemmas.Bodies.{opening_reads}, readers_lemmas.FileCalls.{opening_told}}
 use Rattle.flute_journal.proofs.readers.datagram_reader.read_header.Goals as goal
 
 pub returns-clause-reads : goal.returns-clause-reads

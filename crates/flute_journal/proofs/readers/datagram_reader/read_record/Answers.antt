@@ -1,4 +1,4 @@
-use Rattle.flute_journal.proofs.{Common.{◌≡◌, arith, None, Ok}, framing.Records.{record_taken}}
+use Rattle.flute_journal.proofs.{Common.{◌≡◌, arith, None, Ok}, framing_lemmas.Records.{record_taken}}
 use Rattle.flute_journal.proofs.readers.datagram_reader.read_record.Goals as goal
 
 pub returns-in_default-2-clause-reads : goal.returns-in_default-2-clause-reads

@@ -1,4 +1,4 @@
-use Rattle.flute_journal.proofs.{Common.{Err, IsBody, StaysWithin, ap, body, err_from_is_err_and, subst, sym, ◌∙◌}, format.Parts.{body_within-short}, readers.Bodies.{symbol_ends}}
+use Rattle.flute_journal.proofs.{Common.{Err, IsBody, StaysWithin, ap, body, err_from_is_err_and, subst, sym, ◌∙◌}, format_lemmas.Parts.{body_within-short}, readers_lemmas.Bodies.{symbol_ends}}
 use Rattle.flute_journal.proofs.readers.entry_fields.read_body.Goals as goal
 
 pub returns-in_err-fact-clause-within : goal.returns-in_err-fact-clause-within

@@ -1,4 +1,4 @@
-use Rattle.flute_journal.proofs.{readers.Bodies.{end_reads}}
+use Rattle.flute_journal.proofs.{readers_lemmas.Bodies.{end_reads}}
 use Rattle.flute_journal.proofs.readers.entry_fields.read_end.Goals as goal
 
 pub returns-clause-reads : goal.returns-clause-reads

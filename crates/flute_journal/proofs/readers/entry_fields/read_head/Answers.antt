@@ -1,4 +1,4 @@
-use Rattle.flute_journal.proofs.{Common.{HeadIn, ReadsUpTo, body_fault, head_bytes, head_size, rules}, framing.ReadsUpTo.{parsed_reads}, readers.Bodies.{fixed_least}}
+use Rattle.flute_journal.proofs.{Common.{HeadIn, ReadsUpTo, body_fault, head_bytes, head_size, rules}, framing_lemmas.ReadsUpTo.{parsed_reads}, readers_lemmas.Bodies.{fixed_least}}
 use Rattle.flute_journal.proofs.readers.entry_fields.read_head.Goals as goal
 
 pub returns-clause-reads : goal.returns-clause-reads

@@ -1,5 +1,5 @@
 use Rattle.flute_journal.proofs.Common.{}
-use Rattle.flute_journal.proofs.{readers.Bodies.{header_reads}}
+use Rattle.flute_journal.proofs.{readers_lemmas.Bodies.{header_reads}}
 use Rattle.flute_journal.proofs.readers.entry_fields.read_header.Goals as goal
 
 pub returns-clause-reads : goal.returns-clause-reads

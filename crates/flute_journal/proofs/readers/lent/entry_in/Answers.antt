@@ -2,7 +2,7 @@ use Rattle.flute_journal.proofs.Common.{AllByRecursion, IsByte, ap, arith, byte_
 use Rattle.flute_parts.specs.declared.fact.Fact.TheVariants as facts
 use Rattle.flute_journal.specs.declared.format.Kind.TheVariants as kinds
 use Rattle.flute_journal.specs.Lent.{BeginsWithEntry}
-use Rattle.flute_journal.proofs.{Numbers.{octets, octets-take, octets-drop}, format.Decoded.{joined}, readers.Seen.{symbol_begins}}
+use Rattle.flute_journal.proofs.{Numbers.{octets, octets-take, octets-drop}, format_lemmas.Decoded.{joined}, readers_lemmas.Seen.{symbol_begins}}
 use Rattle.flute_journal.proofs.readers.lent.entry_in.Goals as goal
 
 pub returns : goal.returns

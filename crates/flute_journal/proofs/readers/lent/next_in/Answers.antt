@@ -3,7 +3,7 @@ use Rattle.flute_journal.proofs.Common.{AllByRecursion, IsByte, Some, Two, ap, a
 use Rattle.flute_parts.specs.declared.fact.Fact.TheVariants as facts
 use Rattle.flute_journal.specs.declared.format.Kind.TheVariants as kinds
 use Rattle.flute_journal.specs.Lent.{BeginsWithEntry}
-use Rattle.flute_journal.proofs.{Numbers.{octets, octets-take, octets-drop}, format.Decoded.{joined}, readers.Seen.{symbol_begins}}
+use Rattle.flute_journal.proofs.{Numbers.{octets, octets-take, octets-drop}, format_lemmas.Decoded.{joined}, readers_lemmas.Seen.{symbol_begins}}
 use Rattle.flute_journal.proofs.readers.lent.next_in.Goals as goal
 
 pub returns-clause-begins : goal.returns-clause-begins

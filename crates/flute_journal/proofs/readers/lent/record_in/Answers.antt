@@ -3,7 +3,7 @@ use Rattle.flute_journal.specs.Lent.{BeginsWithRecord}
 use Rattle.flute_journal.specs.Numbers.{in_bytes}
 use Rattle.flute_journal.specs.Records.{record_of}
 use Rattle.flute_journal.proofs.Numbers.{octets, octets-take, octets-drop}
-use Rattle.flute_journal.proofs.format.Decoded.{joined, in_front}
+use Rattle.flute_journal.proofs.format_lemmas.Decoded.{joined, in_front}
 use Rattle.flute_journal.proofs.readers.lent.record_in.Goals as goal
 
 -- the bytes of a datagram lie behind their number

@@ -1,5 +1,5 @@
 -- There was no memory for an entry that lies whole in the buffer.
-use Rattle.flute_journal.proofs.{Common.{ap, ◌∙◌, Err, err_from_is_err_and, refl}, readers.Seen.{has_entry}}
+use Rattle.flute_journal.proofs.{Common.{ap, ◌∙◌, Err, err_from_is_err_and, refl}, readers_lemmas.Seen.{has_entry}}
 use Rattle.flute_journal.proofs.readers.lent.take_entry.Goals as goal
 
 pub returns-in_err-copied_into-clause-takes : goal.returns-in_err-copied_into-clause-takes

@@ -1,4 +1,4 @@
-use Rattle.flute_journal.proofs.{Common.{◌≡◌, rules, ap, ◌∙◌, subst, Err, err_from_is_err_and, is_open, IsLoadFault, Read, ReadsNoMore, refused}, readers.Loading.{loaded_all, loaded-given, loaded-fits, loaded-full, loaded-stops, loaded-read, fault-part, refused-part}}
+use Rattle.flute_journal.proofs.{Common.{◌≡◌, rules, ap, ◌∙◌, subst, Err, err_from_is_err_and, is_open, IsLoadFault, Read, ReadsNoMore, refused}, readers_lemmas.Loading.{loaded_all, loaded-given, loaded-fits, loaded-full, loaded-stops, loaded-read, fault-part, refused-part}}
 use Rattle.flute_journal.proofs.readers.store_from_journal.read_store.Goals as goal
 
 pub returns-in_err-fact-clause-fault : goal.returns-in_err-fact-clause-fault

@@ -1,5 +1,5 @@
 -- The store holds what the entries so far come to, within its limits.
-use Rattle.flute_journal.proofs.{Common.{◌≡◌, ◌-◌}, readers.Loading.{Loaded, entries_at}}
+use Rattle.flute_journal.proofs.{Common.{◌≡◌, ◌-◌}, readers_lemmas.Loading.{Loaded, entries_at}}
 use Rattle.flute_journal.proofs.readers.store_from_journal.read_store.Given as goal
 
 abbrev pub invariant-loop-store : goal.invariant-loop-store

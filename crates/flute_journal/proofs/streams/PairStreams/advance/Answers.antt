@@ -1,6 +1,6 @@
 use Rattle.flute_journal.proofs.{
   Common.{◌≡◌, [], ◌∷◌, arith, Second},
-  streams.Pairs.{first_advances, second_advances},
+  streams_lemmas.Pairs.{first_advances, second_advances},
 }
 use Rattle.flute_journal.proofs.streams.PairStreams.advance.Goals as goal
 

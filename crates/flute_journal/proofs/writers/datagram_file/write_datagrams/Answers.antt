@@ -1,4 +1,4 @@
-use Rattle.flute_journal.proofs.{Common.{◌≡◌, Some, rules, slice_get, flat_map, err_from_is_err_and, AppendsPart-first, file_header, record_of}, writers.Sending.{sent-part, sent-all, sent-file}}
+use Rattle.flute_journal.proofs.{Common.{◌≡◌, Some, rules, slice_get, flat_map, err_from_is_err_and, AppendsPart-first, file_header, record_of}, writers_lemmas.Sending.{sent-part, sent-all, sent-file}}
 use Rattle.flute_journal.proofs.writers.datagram_file.write_datagrams.Goals as goal
 
 pub returns-in_err-write_all-clause-bytes : goal.returns-in_err-write_all-clause-bytes

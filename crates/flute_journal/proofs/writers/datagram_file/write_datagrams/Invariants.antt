@@ -1,5 +1,5 @@
 -- The records before the place were written.
-use Rattle.flute_journal.proofs.{Common.{◌≡◌, ◌-◌, length}, writers.Sending.{Sent}}
+use Rattle.flute_journal.proofs.{Common.{◌≡◌, ◌-◌, length}, writers_lemmas.Sending.{Sent}}
 use Rattle.flute_journal.proofs.writers.datagram_file.write_datagrams.Given as goal
 
 abbrev pub invariant-loop-datagram : goal.invariant-loop-datagram

@@ -1,4 +1,4 @@
-use Rattle.flute_journal.proofs.{Common.{rules, subst, AppendsPart, Same-itself, spelling, Written}, writers.Saving.{saved-next, saved-cut, saved-all, only-spelling}}
+use Rattle.flute_journal.proofs.{Common.{rules, subst, AppendsPart, Same-itself, spelling, Written}, writers_lemmas.Saving.{saved-next, saved-cut, saved-all, only-spelling}}
 use Rattle.flute_journal.proofs.writers.journal_of_store.write_store.Goals as goal
 
 pub loop-fact-preserved : goal.loop-fact-preserved

@@ -1,5 +1,5 @@
 -- What was written so far are the header and the entries of the facts that are not left.
-use Rattle.flute_journal.proofs.{Common.{◌≡◌, ◌+◌, times_failed}, writers.Saving.{Saved}}
+use Rattle.flute_journal.proofs.{Common.{◌≡◌, ◌+◌, times_failed}, writers_lemmas.Saving.{Saved}}
 use Rattle.flute_journal.proofs.writers.journal_of_store.write_store.Given as goal
 
 abbrev pub invariant-loop-fact : goal.invariant-loop-fact

@@ -1,7 +1,7 @@
 -- What was written has no fault.
 use Rattle.flute_wire.specs.Outgoing.{said}
 use Rattle.flute_wire.specs.Writing.{write_fault}
-use Rattle.flutejoin.proofs.carousel.SentPackets.{no_fault}
+use Rattle.flutejoin.proofs.carousel_lemmas.SentPackets.{no_fault}
 use Rattle.flutejoin.proofs.carousel.sending.datagram_of.Goals as goal
 
 pub returns-in-Ok-clause-makes : goal.returns-in-Ok-clause-makes

@@ -7,12 +7,12 @@ use Rattle.flute_parts.specs.Partition.{ids}
 use Rattle.flute_parts.specs.declared.key.Key.{Key}
 use Rattle.flute_wire.specs.Carousel.{packets_of}
 use Rattle.flutejoin.specs.Extract.{SinkFails}
-use Rattle.flutejoin.proofs.carousel.SentReads.{reads_back}
+use Rattle.flutejoin.proofs.carousel_lemmas.SentReads.{reads_back}
 use Rattle.flutejoin.specs.Sending.{ReadFailures, ReadsOf, UnlessRead, SendsPackets, Makes}
 use Rattle.flutejoin.specs.Sending.{packet_with}
 use Rattle.flutejoin.specs.declared.command_fault.CommandFault.{CommandFault}
-use Rattle.flutejoin.proofs.carousel.SentSoFar.{SentSoFar, reads_on, left_are, sent_next, fails_at, sent_all}
-use Rattle.flutejoin.proofs.carousel.SentSoFar.{sent_part, unless_on, sink_fails}
+use Rattle.flutejoin.proofs.carousel_lemmas.SentSoFar.{SentSoFar, reads_on, left_are, sent_next, fails_at, sent_all}
+use Rattle.flutejoin.proofs.carousel_lemmas.SentSoFar.{sent_part, unless_on, sink_fails}
 use Rattle.flutejoin.proofs.carousel.sending.send_symbols.Goals as goal
 
 -- what comes of a packet, told by the object that is sent

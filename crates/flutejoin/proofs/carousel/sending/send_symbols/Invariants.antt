@@ -2,7 +2,7 @@
 use Rattle.std.proofs.Common.{◌≡◌, ◌+◌, length}
 use Rattle.flute_parts.specs.Devices.{times_failed}
 use Rattle.flutejoin.specs.Sending.{ReadsOf, OfSize}
-use Rattle.flutejoin.proofs.carousel.SentSoFar.{SentSoFar}
+use Rattle.flutejoin.proofs.carousel_lemmas.SentSoFar.{SentSoFar}
 use Rattle.flutejoin.proofs.carousel.sending.send_symbols.Given as goal
 
 abbrev pub invariant-loop-place : goal.invariant-loop-place

@@ -1,5 +1,5 @@
 use Rattle.std.proofs.Common.{arith, ◌∙◌}
-use Rattle.flutejoin.proofs.command_line.CommandWords.{long_text, no_number, not_digits, number_read}
+use Rattle.flutejoin.proofs.command_line_lemmas.CommandWords.{long_text, no_number, not_digits, number_read}
 use Rattle.flutejoin.proofs.command_line.numbers.decimal.Goals.{then-text-gt39-via-then-text-gt39, then-text-gt39-via-else-text-gt39+then-not-has_digits_alone}
 use Rattle.flutejoin.proofs.command_line.numbers.decimal.Goals as goal
 

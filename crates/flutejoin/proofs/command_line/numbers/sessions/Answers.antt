@@ -1,5 +1,5 @@
 use Rattle.std.proofs.Common.{refl}
-use Rattle.flutejoin.proofs.command_line.CommandWords.{words_read}
+use Rattle.flutejoin.proofs.command_line_lemmas.CommandWords.{words_read}
 use Rattle.flutejoin.proofs.command_line.numbers.sessions.Goals as goal
 
 pub returns : goal.returns

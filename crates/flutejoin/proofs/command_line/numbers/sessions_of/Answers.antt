@@ -1,6 +1,6 @@
 use Rattle.std.proofs.Common.{arith}
-use Rattle.flutejoin.proofs.command_line.Options.{handed_on}
-use Rattle.flutejoin.proofs.command_line.SessionLists.{next_number, wrong_session}
+use Rattle.flutejoin.proofs.command_line_lemmas.Options.{handed_on}
+use Rattle.flutejoin.proofs.command_line_lemmas.SessionLists.{next_number, wrong_session}
 use Rattle.flutejoin.proofs.command_line.numbers.sessions_of.Goals as goal
 
 pub returns-in_err-number : goal.returns-in_err-number

@@ -1,5 +1,5 @@
 use Rattle.std.proofs.Common.{sym, ap, ◌∙◌, option_map, Bor, List, ℕ}
-use Rattle.flutejoin.proofs.command_line.Options.{no_source, source_named}
+use Rattle.flutejoin.proofs.command_line_lemmas.Options.{no_source, source_named}
 use Rattle.flutejoin.proofs.command_line.numbers.source.Goals as goal
 
 pub returns-in-Some : goal.returns-in-Some

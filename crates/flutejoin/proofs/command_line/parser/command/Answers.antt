@@ -1,5 +1,5 @@
 use Rattle.flutejoin.specs.Parser.{program}
-use Rattle.flutejoin.proofs.command_line.Parsing.{command_added}
+use Rattle.flutejoin.proofs.command_line_lemmas.Parsing.{command_added}
 use Rattle.flutejoin.proofs.command_line.parser.command.Goals as goal
 
 pub returns : goal.returns

@@ -1,4 +1,4 @@
-use Rattle.flutejoin.proofs.command_line.Parsing.{argument_added}
+use Rattle.flutejoin.proofs.command_line_lemmas.Parsing.{argument_added}
 use Rattle.flutejoin.proofs.command_line.parser.merge_command.Goals as goal
 
 pub returns : goal.returns

@@ -2,8 +2,8 @@ use Rattle.std.proofs.Common.{subst, sym}
 use Rattle.flute_journal.specs.Sessions.{listed_tsis}
 use Rattle.flutejoin.specs.Options.{found_rows}
 use Rattle.flutejoin.specs.Selecting.{IsSelectionFault}
-use Rattle.flutejoin.proofs.command_line.Options.{handed_on}
-use Rattle.flutejoin.proofs.command_line.Selecting.{wrong_key, wrong_object, wrong_symbol}
+use Rattle.flutejoin.proofs.command_line_lemmas.Options.{handed_on}
+use Rattle.flutejoin.proofs.command_line_lemmas.Selecting.{wrong_key, wrong_object, wrong_symbol}
 use Rattle.flutejoin.proofs.command_line.selection_options.selection.Goals as goal
 
 pub returns-in_err-numbers : goal.returns-in_err-numbers

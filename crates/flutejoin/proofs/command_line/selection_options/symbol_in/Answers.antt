@@ -1,7 +1,7 @@
 use Rattle.std.proofs.Common.{◌∙◌, ap₂, lit<}
 use Rattle.std.proofs.lemmas.Str.Pattern.{split_once_first}
 use Rattle.flutejoin.specs.Selecting.{symbol_by}
-use Rattle.flutejoin.proofs.command_line.Selecting.{no_slash, parted}
+use Rattle.flutejoin.proofs.command_line_lemmas.Selecting.{no_slash, parted}
 use Rattle.flutejoin.proofs.command_line.selection_options.symbol_in.Goals as goal
 
 pub returns-in-Some : goal.returns-in-Some

@@ -1,5 +1,5 @@
 use Rattle.std.proofs.Common.{refl}
-use Rattle.flutejoin.proofs.command_line.CommandWords.{not_ended}
+use Rattle.flutejoin.proofs.command_line_lemmas.CommandWords.{not_ended}
 use Rattle.flutejoin.proofs.command_line.sizes.number_and_unit.Goals as goal
 
 pub returns : goal.returns

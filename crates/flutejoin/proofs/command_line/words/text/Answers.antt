@@ -1,5 +1,5 @@
 use Rattle.std.proofs.Common.{ap, ◌∙◌, [], unwrap_or, Option, List, ℕ}
-use Rattle.flutejoin.proofs.command_line.CommandWords.{word_or}
+use Rattle.flutejoin.proofs.command_line_lemmas.CommandWords.{word_or}
 use Rattle.flutejoin.proofs.command_line.words.text.Goals as goal
 
 pub returns : goal.returns

@@ -1,5 +1,5 @@
 use Rattle.std.proofs.Common.{refl}
-use Rattle.flutejoin.proofs.command_line.CommandWords.{times_read}
+use Rattle.flutejoin.proofs.command_line_lemmas.CommandWords.{times_read}
 use Rattle.flutejoin.proofs.command_line.words.times_given.Goals as goal
 
 pub returns : goal.returns

@@ -3,7 +3,7 @@ use Rattle.std.proofs.Common.{◌≡◌, ◌+◌, ◌-◌}
 use Rattle.flute_journal.proofs.Public.{entries_at}
 use Rattle.flute_output.specs.NewFolders.{LeadsTo, FolderStays}
 use Rattle.flutejoin.specs.declared.limits.TheConstants.{MAX_ENTRIES}
-use Rattle.flutejoin.proofs.extract.FilesRead.{FilesRead}
+use Rattle.flutejoin.proofs.extract_lemmas.FilesRead.{FilesRead}
 use Rattle.flutejoin.proofs.extract.extract_all.extract_all_to.Given as goal
 
 abbrev pub invariant-loop-fact : goal.invariant-loop-fact

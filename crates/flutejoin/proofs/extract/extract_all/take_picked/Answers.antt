@@ -4,7 +4,7 @@ use Rattle.flute_parts.specs.declared.address.Address.{Address}
 use Rattle.flute_parts.specs.declared.fact.Fact.{Fact}
 use Rattle.flutejoin.specs.ExtractAll.{is_picked, picked_facts}
 use Rattle.flutejoin.specs.ObjectFiles.{Takes}
-use Rattle.flutejoin.proofs.extract.FilesRead.{one_picked, none_picked, picked_rises}
+use Rattle.flutejoin.proofs.extract_lemmas.FilesRead.{one_picked, none_picked, picked_rises}
 use Rattle.flutejoin.proofs.extract.extract_all.take_picked.Goals as goal
 
 pub add-requires-clause-next : goal.add-requires-clause-next

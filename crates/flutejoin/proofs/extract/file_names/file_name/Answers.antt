@@ -1,7 +1,7 @@
 use Rattle.std.proofs.Common.{ap, ◌∙◌}
 use Rattle.std.specs.Int.{bytes_high_first}
 use Rattle.hex.specs.Hex.{encode_lower}
-use Rattle.flutejoin.proofs.extract.FileNames.{name_pieces}
+use Rattle.flutejoin.proofs.extract_lemmas.FileNames.{name_pieces}
 use Rattle.flutejoin.proofs.extract.file_names.file_name.Goals as goal
 
 pub returns-clause-name : goal.returns-clause-name

@@ -4,7 +4,7 @@ use Rattle.flute_store.specs.PartitionScan.{walk_of, symbols_left}
 use Rattle.flute_store.specs.Scan.{Scanned, CanFollow, CanCome}
 use Rattle.flute_store.specs.Scans.{Scans, one_run}
 use Rattle.flutejoin.specs.Lines.{gap_line}
-use Rattle.flutejoin.proofs.gaps.Scanning.{Gave}
+use Rattle.flutejoin.proofs.gaps_lemmas.Scanning.{Gave}
 use Rattle.flutejoin.proofs.extract.file_scan.pass_gaps.Given as goal
 
 abbrev pub invariant-loop-gap : goal.invariant-loop-gap

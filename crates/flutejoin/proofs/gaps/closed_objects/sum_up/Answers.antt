@@ -5,8 +5,8 @@ use Rattle.flute_store.specs.declared.status.Status.{Status}
 use Rattle.flutejoin.specs.Listing.{AreSummed, BeginsSession}
 use Rattle.flutejoin.specs.Sums.{AddsObject}
 use Rattle.flutejoin.specs.declared.gaps.session_sums.SessionSums.{SessionSums}
-use Rattle.flutejoin.proofs.gaps.Keys.{equal_sessions, other_sessions}
-use Rattle.flutejoin.proofs.gaps.Sessions.{IsOfOthers, begun_known, more_known}
+use Rattle.flutejoin.proofs.gaps_lemmas.Keys.{equal_sessions, other_sessions}
+use Rattle.flutejoin.proofs.gaps_lemmas.Sessions.{IsOfOthers, begun_known, more_known}
 use Rattle.flutejoin.proofs.gaps.closed_objects.sum_up.Goals as goal
 use Rattle.flutejoin.proofs.gaps.closed_objects.sum_up.Goals.{in_default-via-in-Some+else-eq}
 use Rattle.flutejoin.proofs.gaps.closed_objects.sum_up.Goals.{in_default-via-in_default}

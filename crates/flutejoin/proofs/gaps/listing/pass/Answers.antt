@@ -1,8 +1,8 @@
 use Rattle.std.proofs.Common.{◌≡◌, ◌∙◌, ◌++◌, List, ℕ, Some, false, flat_map, subst}
 use Rattle.std.proofs.Common.{refl, arith, rules}
 use Rattle.flutejoin.specs.Styles.{shown_gap}
-use Rattle.flutejoin.proofs.gaps.MovedAside.{knows_more, knows_nothing}
-use Rattle.flutejoin.proofs.gaps.Scanning.{gave_none, can_pass, gave_more, gave_all}
+use Rattle.flutejoin.proofs.gaps_lemmas.MovedAside.{knows_more, knows_nothing}
+use Rattle.flutejoin.proofs.gaps_lemmas.Scanning.{gave_none, can_pass, gave_more, gave_all}
 use Rattle.flutejoin.proofs.gaps.listing.pass.Goals as goal
 
 pub loop-gap-init : goal.loop-gap-init

@@ -5,7 +5,7 @@ use Rattle.flute_store.specs.Scan.{Scanned, CanFollow}
 use Rattle.flute_store.specs.Scans.{Scans, one_run}
 use Rattle.flutejoin.specs.Listing.{Knows}
 use Rattle.flutejoin.specs.Styles.{shown_gap}
-use Rattle.flutejoin.proofs.gaps.Scanning.{Gave}
+use Rattle.flutejoin.proofs.gaps_lemmas.Scanning.{Gave}
 use Rattle.flutejoin.proofs.gaps.listing.pass.Given as goal
 
 abbrev pub invariant-loop-gap : goal.invariant-loop-gap

@@ -1,8 +1,8 @@
 -- It is the journal that stops, if a stream does.
 use Rattle.std.proofs.Common.{◌≡◌, Bool, true, false, not, refl}
 use Rattle.flutejoin.specs.Limits.{at_most}
-use Rattle.flutejoin.proofs.info.AddedFacts.{adds_facts, over_with, within_with, first_fails, failed_as}
-use Rattle.flutejoin.proofs.info.AddedFacts.{load_failures}
+use Rattle.flutejoin.proofs.info_lemmas.AddedFacts.{adds_facts, over_with, within_with, first_fails, failed_as}
+use Rattle.flutejoin.proofs.info_lemmas.AddedFacts.{load_failures}
 use Rattle.flutejoin.proofs.info.adding_facts.add_to_stream.Goals as goal
 
 not_true : (b : Bool) → not b ≡ true → b ≡ false

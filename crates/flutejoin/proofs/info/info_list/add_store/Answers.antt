@@ -3,7 +3,7 @@ use Rattle.std.proofs.Common.{List, sym, subst, ◌∙◌}
 use Rattle.flute_parts.specs.declared.fact.Fact.{Fact}
 use Rattle.flute_parts.specs.Facts.{Same}
 use Rattle.flutejoin.specs.Limits.{at_most}
-use Rattle.flutejoin.proofs.info.AddedFacts.{of_source}
+use Rattle.flutejoin.proofs.info_lemmas.AddedFacts.{of_source}
 use Rattle.flutejoin.proofs.info.info_list.add_store.Goals as goal
 
 pub returns-clause-failed : goal.returns-clause-failed

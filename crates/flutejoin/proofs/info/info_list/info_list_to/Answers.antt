@@ -1,7 +1,7 @@
 -- What is told of the second input is told of the list.
 use Rattle.flute_parts.proofs.Public.{Same-itself}
 use Rattle.flutejoin.specs.Limits.{at_most}
-use Rattle.flutejoin.proofs.info.AddedFacts.{never_second}
+use Rattle.flutejoin.proofs.info_lemmas.AddedFacts.{never_second}
 use Rattle.flutejoin.proofs.info.info_list.info_list_to.Goals as goal
 
 pub returns-clause-list_failed : goal.returns-clause-list_failed

@@ -1,6 +1,6 @@
 use Rattle.std.proofs.lemmas.Bool.Decides.{Decides-eqb}
 use Rattle.std.proofs.lemmas.Slice.Eq.{strip_prefix_is}
-use Rattle.flutejoin.proofs.info.LineNumbers.{strip_found, strip_finds}
+use Rattle.flutejoin.proofs.info_lemmas.LineNumbers.{strip_found, strip_finds}
 use Rattle.flutejoin.proofs.info.information_line.after.Goals as goal
 
 pub returns-clause-found : goal.returns-clause-found

@@ -1,5 +1,5 @@
 use Rattle.std.proofs.Common.{[], refl, ◌∙◌, arith}
-use Rattle.flutejoin.proofs.info.LinePieces.{from_block, from_symbol, information_chain, numbers_found}
+use Rattle.flutejoin.proofs.info_lemmas.LinePieces.{from_block, from_symbol, information_chain, numbers_found}
 use Rattle.flutejoin.proofs.info.information_line.information_in.Goals as goal
 
 pub returns-in_default : goal.returns-in_default

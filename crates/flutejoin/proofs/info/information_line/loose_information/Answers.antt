@@ -1,6 +1,6 @@
 use Rattle.std.proofs.Common.{refl, ◌∙◌}
 use Rattle.flutejoin.specs.Lines.{information_words}
-use Rattle.flutejoin.proofs.info.LinePieces.{from_info, from_object, from_space, fact_chain}
+use Rattle.flutejoin.proofs.info_lemmas.LinePieces.{from_info, from_object, from_space, fact_chain}
 use Rattle.flutejoin.proofs.info.information_line.loose_information.Goals as goal
 
 pub returns-in_default-after-2 : goal.returns-in_default-after-2

@@ -2,7 +2,7 @@ use Rattle.std.proofs.Common.{◌≡◌, ◌++◌, codes, decimal, sym, ◌∙�
 use Rattle.std.proofs.lemmas.List.{append_cancel_left}
 use Rattle.flute_parts.specs.ObjectName.{IsObjectName}
 use Rattle.flutejoin.specs.Lines.{object_words}
-use Rattle.flutejoin.proofs.info.LinePieces.{by_name, no_file}
+use Rattle.flutejoin.proofs.info_lemmas.LinePieces.{by_name, no_file}
 use Rattle.flutejoin.proofs.info.information_line.object.Goals as goal
 
 pub returns-in-Some : goal.returns-in-Some

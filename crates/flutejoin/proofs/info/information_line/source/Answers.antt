@@ -1,5 +1,5 @@
 use Rattle.std.proofs.Common.{◌++◌, codes}
-use Rattle.flutejoin.proofs.info.LinePieces.{source_rest}
+use Rattle.flutejoin.proofs.info_lemmas.LinePieces.{source_rest}
 use Rattle.flutejoin.proofs.info.information_line.source.Goals as goal
 
 pub returns-in_default-address : goal.returns-in_default-address

@@ -1,6 +1,6 @@
 use Rattle.std.proofs.Common.{refl}
 use Rattle.flutejoin.specs.InformationLines.{numbers_of, not_valid}
-use Rattle.flutejoin.proofs.info.ListLines.{tells_shown}
+use Rattle.flutejoin.proofs.info_lemmas.ListLines.{tells_shown}
 use Rattle.flutejoin.proofs.info.information_list.fact_of_line.Goals as goal
 
 pub returns-in-Ok-clause-tells : goal.returns-in-Ok-clause-tells

@@ -1,6 +1,6 @@
 use Rattle.std.proofs.Common.{subst}
 use Rattle.flutejoin.specs.InformationLines.{IsKept}
-use Rattle.flutejoin.proofs.info.ListLines.{shows_short}
+use Rattle.flutejoin.proofs.info_lemmas.ListLines.{shows_short}
 use Rattle.flutejoin.proofs.info.information_list.told_by.Goals as goal
 
 pub returns-then-long : goal.returns-then-long

@@ -2,7 +2,7 @@
 use Rattle.std.proofs.Common.{◌≡◌, ◌≤◌}
 use Rattle.flutejoin.specs.Joined.{choice_of}
 use Rattle.flutejoin.specs.Limits.{at_most}
-use Rattle.flutejoin.proofs.join.Inspections.{InspectedSoFar}
+use Rattle.flutejoin.proofs.join_lemmas.Inspections.{InspectedSoFar}
 use Rattle.flutejoin.proofs.join.inspecting.inspect_all.Given as goal
 
 abbrev pub invariant-loop-k : goal.invariant-loop-k

@@ -4,7 +4,7 @@ use Rattle.std.specs.Prelude.{IfSome}
 use Rattle.flute_parts.proofs.Public.{Same-append, Same-itself, Same-sym}
 use Rattle.flute_journal.specs.Journal.{IsJournalWithin}
 use Rattle.flutejoin.specs.Asides.{HoldTogether, IsRunOf}
-use Rattle.flutejoin.proofs.join.Runs.{run_more, within}
+use Rattle.flutejoin.proofs.join_lemmas.Runs.{run_more, within}
 use Rattle.flutejoin.proofs.join.putting_aside.add_run.Goals as goal
 use Rattle.flutejoin.proofs.join.putting_aside.add_run.Goals.{in-Ok-push, in-Err}
 

@@ -3,7 +3,7 @@ use Rattle.std.proofs.Common.{◌≡◌, ◌++◌, ◌∙◌, ℕ, List, [], Opt
 use Rattle.std.specs.Io.KnownBytes.{Appends}
 use Rattle.flute_parts.proofs.Public.{rising_unique, Same-append, Same-itself}
 use Rattle.flute_journal.specs.Format.{spelling}
-use Rattle.flutejoin.proofs.join.Runs.{all_written, together_on}
+use Rattle.flutejoin.proofs.join_lemmas.Runs.{all_written, together_on}
 use Rattle.flutejoin.proofs.join.putting_aside.put_store.Goals as goal
 
 pub returns-in-Ok-write_store-clause-held : goal.returns-in-Ok-write_store-clause-held

@@ -1,6 +1,6 @@
 use Rattle.std.proofs.Common.{◌++◌, codes, decimal, refl}
 use Rattle.flutejoin.specs.Lines.{count_line}
-use Rattle.flutejoin.proofs.lines.Written.{line_written}
+use Rattle.flutejoin.proofs.lines_lemmas.Written.{line_written}
 use Rattle.flutejoin.proofs.lines.report_lines.write_count.Goals as goal
 
 pub returns-clause-line : goal.returns-clause-line

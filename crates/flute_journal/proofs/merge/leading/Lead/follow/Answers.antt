@@ -1,4 +1,4 @@
-use Rattle.flute_journal.proofs.{Common.{arith, slice_get_within, fact_in}, merge.GoingOn.{same_length}, merge.LeadFacts.{lead-goes, lead-stops, still-leads}}
+use Rattle.flute_journal.proofs.{Common.{arith, slice_get_within, fact_in}, merge_lemmas.GoingOn.{same_length}, merge_lemmas.LeadFacts.{lead-goes, lead-stops, still-leads}}
 use Rattle.flute_journal.proofs.merge.leading.Lead.follow.Goals as goal
 
 pub returns-in-Err-clause-stops : goal.returns-in-Err-clause-stops

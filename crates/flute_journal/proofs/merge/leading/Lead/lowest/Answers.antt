@@ -1,4 +1,4 @@
-use Rattle.flute_journal.proofs.{Common.{fact_in}, merge.LeadFacts.{lead-lowest}}
+use Rattle.flute_journal.proofs.{Common.{fact_in}, merge_lemmas.LeadFacts.{lead-lowest}}
 use Rattle.flute_journal.proofs.merge.leading.Lead.lowest.Goals as goal
 
 pub returns-then-self-clause-lowest : goal.returns-then-self-clause-lowest

@@ -1,8 +1,8 @@
 -- One stream more, by whether it stands there.
 use Rattle.flute_journal.proofs.{
   Common.{◌≡◌, ◌+◌, length, Some, ap, subst, sym, ◌∙◌, arith},
-  merge.GoingOn.{WentSoFar, item_at, one_stays, one_goes, one_stops, same_length},
-  merge.RankedStreams.{AreRankedFrom, Reranked, rest_moved, rest_stays},
+  merge_lemmas.GoingOn.{WentSoFar, item_at, one_stays, one_goes, one_stops, same_length},
+  merge_lemmas.RankedStreams.{AreRankedFrom, Reranked, rest_moved, rest_stays},
   merge.ranks.Ranks.advance.Goals.{then-is_there+in_default, else-is_there},
 }
 use Rattle.flute_journal.specs.Ranks.{HoldsFrom}

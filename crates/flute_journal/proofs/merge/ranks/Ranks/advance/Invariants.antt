@@ -1,8 +1,8 @@
 -- The first streams went on, and those that have ranks are not before them.
 use Rattle.flute_journal.proofs.{
   Common.{◌≡◌, ◌<◌, ◌≤◌, Some, length},
-  merge.GoingOn.{WentSoFar},
-  merge.RankedStreams.{AreRankedFrom},
+  merge_lemmas.GoingOn.{WentSoFar},
+  merge_lemmas.RankedStreams.{AreRankedFrom},
 }
 use Rattle.flute_journal.proofs.merge.ranks.Ranks.advance.Given as goal
 

@@ -27,10 +27,10 @@ use Rattle.flute_journal.proofs.{
     option_list,
     heads,
   },
-  merge.GoingOn.{item_at},
-  merge.LowestFacts.{conflict-place},
-  merge.RankFacts.{comes-none, not-before, same_place},
-  merge.RankedStreams.{comes-more, comes-passed, ranked_of},
+  merge_lemmas.GoingOn.{item_at},
+  merge_lemmas.LowestFacts.{conflict-place},
+  merge_lemmas.RankFacts.{comes-none, not-before, same_place},
+  merge_lemmas.RankedStreams.{comes-more, comes-passed, ranked_of},
 }
 use Rattle.std.proofs.Common.{slice_index}
 use Rattle.flute_journal.specs.{

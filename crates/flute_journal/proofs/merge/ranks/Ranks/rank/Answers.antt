@@ -1,7 +1,7 @@
 -- One stream more is ranked, or none is.
 use Rattle.flute_journal.proofs.{
   Common.{◌≤◌, length, arith, fact_in, subst, sym, IfSome},
-  merge.RankedStreams.{ranked_more, ranked_all},
+  merge_lemmas.RankedStreams.{ranked_more, ranked_all},
 }
 use Rattle.flute_journal.specs.Ranks.{AreRanked}
 use Rattle.flute_journal.proofs.merge.ranks.Ranks.rank.Goals as goal

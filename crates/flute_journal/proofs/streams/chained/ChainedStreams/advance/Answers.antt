@@ -1,7 +1,7 @@
 use Rattle.flute_journal.proofs.{
   Common.{Second, get_or, ap, ◌-◌, rules},
-  streams.Pairs.{first_advances},
-  streams.Chaining.{far, other_advances},
+  streams_lemmas.Pairs.{first_advances},
+  streams_lemmas.Chaining.{far, other_advances},
 }
 use Rattle.std.specs.Prelude.{map}
 use Rattle.flute_journal.specs.Chains.{taken}

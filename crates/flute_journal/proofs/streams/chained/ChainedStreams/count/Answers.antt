@@ -1,5 +1,5 @@
 use Rattle.flute_journal.proofs.Common.{◌+◌, ap, sym, ◌∙◌}
-use Rattle.flute_journal.proofs.streams.Chaining.{chained_many}
+use Rattle.flute_journal.proofs.streams_lemmas.Chaining.{chained_many}
 use Rattle.flute_journal.proofs.streams.chained.ChainedStreams.count.Goals as goal
 
 pub returns : goal.returns

@@ -1,5 +1,5 @@
 use Rattle.flute_journal.proofs.Common.{arith}
-use Rattle.flute_journal.proofs.streams.Chaining.{far, other_held}
+use Rattle.flute_journal.proofs.streams_lemmas.Chaining.{far, other_held}
 use Rattle.flute_journal.proofs.streams.chained.ChainedStreams.head.Goals as goal
 
 pub returns-else-number-eq0 : goal.returns-else-number-eq0

@@ -1,6 +1,6 @@
 use Rattle.flute_journal.proofs.{
   Common.{refl},
-  streams.ChosenFacts.{
+  streams_lemmas.ChosenFacts.{
     answered,
     counts_first,
     counts_other,

@@ -1,5 +1,5 @@
 -- What was passed over since the call is not taken, and was counted.
-use Rattle.flute_journal.proofs.{Common.{◌≡◌}, streams.ChosenFacts.{CountsPassed}}
+use Rattle.flute_journal.proofs.{Common.{◌≡◌}, streams_lemmas.ChosenFacts.{CountsPassed}}
 use Rattle.flute_journal.proofs.streams.chosen.ChosenStream.advance.Given as goal
 
 abbrev pub invariant-loop-alloc : goal.invariant-loop-alloc

@@ -1,4 +1,4 @@
-use Rattle.flute_journal.proofs.{Common.{◌≡◌, ◌++◌, [], inl, sym, ap, ◌∙◌, append-nil, option_list}, streams.ListedFacts.{listed_goes_on}}
+use Rattle.flute_journal.proofs.{Common.{◌≡◌, ◌++◌, [], inl, sym, ap, ◌∙◌, append-nil, option_list}, streams_lemmas.ListedFacts.{listed_goes_on}}
 use Rattle.flute_journal.proofs.streams.fact_stream.FactStreamStream.advance.Goals as goal
 
 pub returns-clause-goes_on : goal.returns-clause-goes_on

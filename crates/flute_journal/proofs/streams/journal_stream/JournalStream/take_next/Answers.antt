@@ -1,4 +1,4 @@
-use Rattle.flute_journal.proofs.{streams.JournalReads.{stream_goes_on, stream_stops, none_failed, one_failed}}
+use Rattle.flute_journal.proofs.{streams_lemmas.JournalReads.{stream_goes_on, stream_stops, none_failed, one_failed}}
 use Rattle.flute_journal.proofs.streams.journal_stream.JournalStream.take_next.Goals as goal
 
 pub returns-in-Err-clause-stops : goal.returns-in-Err-clause-stops

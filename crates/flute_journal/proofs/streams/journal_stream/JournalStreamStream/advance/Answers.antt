@@ -1,4 +1,4 @@
-use Rattle.flute_journal.proofs.{Common.{refl}, streams.JournalReads.{stream_goes_on, none_failed}}
+use Rattle.flute_journal.proofs.{Common.{refl}, streams_lemmas.JournalReads.{stream_goes_on, none_failed}}
 use Rattle.flute_journal.proofs.streams.journal_stream.JournalStreamStream.advance.Goals as goal
 
 pub returns-then-next_in_place-clause-goes_on : goal.returns-then-next_in_place-clause-goes_on

@@ -1,4 +1,4 @@
-use Rattle.flute_journal.proofs.{Common.{refl, Read}, streams.JournalReads.{stream_goes_on, stream_stops, none_failed, one_failed, loans}, streams.Loans.{lent_goes_on, lent_stops}}
+use Rattle.flute_journal.proofs.{Common.{refl, Read}, streams_lemmas.JournalReads.{stream_goes_on, stream_stops, none_failed, one_failed, loans}, streams_lemmas.Loans.{lent_goes_on, lent_stops}}
 use Rattle.flute_journal.specs.JournalStreams.{SameLoans, journal_behaviour, lent}
 use Rattle.flute_journal.proofs.streams.journal_stream.LentStream.take_next.Goals as goal
 

@@ -1,4 +1,4 @@
-use Rattle.flute_journal.proofs.{Common.{refl}, streams.JournalReads.{stream_goes_on, none_failed, loans}, streams.Loans.{lent_goes_on}}
+use Rattle.flute_journal.proofs.{Common.{refl}, streams_lemmas.JournalReads.{stream_goes_on, none_failed, loans}, streams_lemmas.Loans.{lent_goes_on}}
 use Rattle.flute_journal.specs.JournalStreams.{SameLoans, journal_behaviour, lent}
 use Rattle.flute_journal.proofs.streams.journal_stream.LentStreamStream.advance.Goals as goal
 

@@ -1,4 +1,4 @@
-use Rattle.flute_journal.proofs.{Common.{refl}, streams.OwnedReads.{owned_goes_on, owned_stops}}
+use Rattle.flute_journal.proofs.{Common.{refl}, streams_lemmas.OwnedReads.{owned_goes_on, owned_stops}}
 use Rattle.flute_journal.proofs.streams.owned_journal_stream.OwnedJournalStream.take_next.Goals as goal
 
 pub returns-in-Err-clause-stops : goal.returns-in-Err-clause-stops

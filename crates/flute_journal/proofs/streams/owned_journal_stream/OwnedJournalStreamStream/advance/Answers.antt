@@ -1,4 +1,4 @@
-use Rattle.flute_journal.proofs.{Common.{refl}, streams.OwnedReads.{owned_goes_on}}
+use Rattle.flute_journal.proofs.{Common.{refl}, streams_lemmas.OwnedReads.{owned_goes_on}}
 use Rattle.flute_journal.proofs.streams.owned_journal_stream.OwnedJournalStreamStream.advance.Goals as goal
 
 pub returns-then-read_in_place-clause-goes_on : goal.returns-then-read_in_place-clause-goes_on

@@ -1,4 +1,4 @@
-use Rattle.flute_journal.proofs.{Common.{inr}, streams.ListedFacts.{listed_goes_on, walked}}
+use Rattle.flute_journal.proofs.{Common.{inr}, streams_lemmas.ListedFacts.{listed_goes_on, walked}}
 use Rattle.flute_journal.proofs.streams.walk_stream.WalkStreamStream.advance.Goals as goal
 
 pub returns-clause-goes_on : goal.returns-clause-goes_on

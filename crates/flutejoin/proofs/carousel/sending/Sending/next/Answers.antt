@@ -4,7 +4,7 @@ use Rattle.std.proofs.Common.{rules}
 use Rattle.flute_parts.specs.declared.symbol_id.SymbolId.{SymbolId}
 use Rattle.flute_wire.specs.Writing.{packet_at}
 use Rattle.flutejoin.specs.Sending.{Makes, symbol_with}
-use Rattle.flutejoin.proofs.carousel.SentPackets.{taken, unless_read}
+use Rattle.flutejoin.proofs.carousel_lemmas.SentPackets.{taken, unless_read}
 use Rattle.flutejoin.proofs.carousel.sending.Sending.next.Goals as goal
 
 pub returns-clause-rest : goal.returns-clause-rest

@@ -1,8 +1,8 @@
 use Rattle.std.proofs.Common.{List, ℕ, Some, None, [], refl, ◌∙◌, subst}
 use Rattle.flute_output.specs.NewFolders.{Makes, begins}
 use Rattle.flutejoin.specs.FileNames.{file_name}
-use Rattle.flutejoin.proofs.extract.FileScans.{begins_file}
-use Rattle.flutejoin.proofs.extract.FolderSteps.{fills_begins}
+use Rattle.flutejoin.proofs.extract_lemmas.FileScans.{begins_file}
+use Rattle.flutejoin.proofs.extract_lemmas.FolderSteps.{fills_begins}
 use Rattle.flutejoin.proofs.extract.file_scan.FileScan.begin.Goals as goal
 
 pub returns-clause-begun : goal.returns-clause-begun

@@ -7,10 +7,10 @@ use Rattle.flute_store.specs.Scan.{value_of}
 use Rattle.flutejoin.specs.ObjectFiles.{PassedAs}
 use Rattle.flutejoin.specs.declared.extract.file_scan.FileScan.{FileScan}
 use Rattle.flutejoin.specs.declared.extract.file_scan.Passed.{Passed}
-use Rattle.flutejoin.proofs.extract.FileScans.{told_rising, scanned_on, still_broken, now_broken, fits_on}
-use Rattle.flutejoin.proofs.extract.FileScans.{beside_on, nothing_more}
-use Rattle.flutejoin.proofs.extract.FolderSteps.{fills_puts, fills_leaves}
-use Rattle.flutejoin.proofs.gaps.OpenObjects.{on_ok}
+use Rattle.flutejoin.proofs.extract_lemmas.FileScans.{told_rising, scanned_on, still_broken, now_broken, fits_on}
+use Rattle.flutejoin.proofs.extract_lemmas.FileScans.{beside_on, nothing_more}
+use Rattle.flutejoin.proofs.extract_lemmas.FolderSteps.{fills_puts, fills_leaves}
+use Rattle.flutejoin.proofs.gaps_lemmas.OpenObjects.{on_ok}
 use Rattle.flutejoin.proofs.extract.file_scan.FileScan.pass.Goals as goal
 
 pub returns-then-not-self-clause-passed : goal.returns-then-not-self-clause-passed

@@ -1,7 +1,7 @@
 use Rattle.std.proofs.Common.{subst}
 use Rattle.flutejoin.specs.ObjectFiles.{FileStateIs}
 use Rattle.flutejoin.specs.declared.extract.file_scan.FileState.{FileState}
-use Rattle.flutejoin.proofs.extract.FileObjects.{none_ends, conflict_ends}
+use Rattle.flutejoin.proofs.extract_lemmas.FileObjects.{none_ends, conflict_ends}
 use Rattle.flutejoin.proofs.extract.file_scan.FileState.end.Goals as goal
 
 pub returns-in-NoInformation-clause-ended : goal.returns-in-NoInformation-clause-ended

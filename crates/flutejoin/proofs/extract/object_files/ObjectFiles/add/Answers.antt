@@ -4,8 +4,8 @@ use Rattle.flute_parts.specs.declared.fact.Fact.{Fact}
 use Rattle.flute_parts.proofs.Public.{rising-front}
 use Rattle.flutejoin.specs.ObjectFiles.{FileStateIs}
 use Rattle.flutejoin.specs.declared.extract.file_scan.FileState.TheVariants.{ConflictingInformation}
-use Rattle.flutejoin.proofs.extract.FileObjects.{begins_conflict}
-use Rattle.flutejoin.proofs.gaps.OpenObjects.{first_information}
+use Rattle.flutejoin.proofs.extract_lemmas.FileObjects.{begins_conflict}
+use Rattle.flutejoin.proofs.gaps_lemmas.OpenObjects.{first_information}
 use Rattle.flutejoin.proofs.extract.object_files.ObjectFiles.add.Goals as goal
 
 pub begin-requires-clause-known : goal.begin-requires-clause-known

@@ -1,6 +1,6 @@
 use Rattle.std.proofs.Common.{None, [], ◌∷◌}
 use Rattle.flute_parts.proofs.Public.{rising-front}
-use Rattle.flutejoin.proofs.extract.FileObjects.{takes_next}
+use Rattle.flutejoin.proofs.extract_lemmas.FileObjects.{takes_next}
 use Rattle.flutejoin.proofs.extract.object_files.ObjectFiles.begin.Goals as goal
 
 pub returns-clause-taken : goal.returns-clause-taken

@@ -2,8 +2,8 @@ use Rattle.std.proofs.Common.{[], ◌∷◌, refl}
 use Rattle.flute_parts.specs.declared.fact.Fact.TheVariants.{Info}
 use Rattle.flute_parts.proofs.Public.{rising-front}
 use Rattle.flutejoin.specs.declared.extract.file_scan.FileState.TheVariants.{OneInformation}
-use Rattle.flutejoin.proofs.extract.FileObjects.{takes_next}
-use Rattle.flutejoin.proofs.gaps.OpenObjects.{first_information}
+use Rattle.flutejoin.proofs.extract_lemmas.FileObjects.{takes_next}
+use Rattle.flutejoin.proofs.gaps_lemmas.OpenObjects.{first_information}
 use Rattle.flutejoin.proofs.extract.object_files.ObjectFiles.information.Goals as goal
 
 pub close-requires-clause-known : goal.close-requires-clause-known

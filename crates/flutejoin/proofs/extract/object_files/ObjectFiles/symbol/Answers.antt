@@ -8,9 +8,9 @@ use Rattle.flutejoin.specs.Listing.{IsFirstOf}
 use Rattle.flutejoin.specs.ObjectFiles.{HasTaken, Takes, KnowsSome}
 use Rattle.flutejoin.specs.declared.extract.object_files.ObjectFile.{ObjectFile}
 use Rattle.flutejoin.specs.declared.extract.object_files.ObjectFiles.{ObjectFiles}
-use Rattle.flutejoin.proofs.extract.FileObjects.{begins_symbol, first_of_others, mine_rising, takes_more}
-use Rattle.flutejoin.proofs.gaps.Keys.{equal_keys, other_keys}
-use Rattle.flutejoin.proofs.gaps.OpenObjects.{told_key, none_first, on_ok}
+use Rattle.flutejoin.proofs.extract_lemmas.FileObjects.{begins_symbol, first_of_others, mine_rising, takes_more}
+use Rattle.flutejoin.proofs.gaps_lemmas.Keys.{equal_keys, other_keys}
+use Rattle.flutejoin.proofs.gaps_lemmas.OpenObjects.{told_key, none_first, on_ok}
 use Rattle.flutejoin.proofs.extract.object_files.ObjectFiles.symbol.Goals as goal
 use Rattle.flutejoin.proofs.extract.object_files.ObjectFiles.symbol.Goals.{in_default-via-in-Some+else-eq}
 use Rattle.flutejoin.proofs.extract.object_files.ObjectFiles.symbol.Goals.{in_default-via-in_default}

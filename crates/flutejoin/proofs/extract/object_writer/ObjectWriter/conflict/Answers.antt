@@ -1,7 +1,7 @@
 use Rattle.std.proofs.Common.{refl, subst}
 use Rattle.flutejoin.specs.ObjectWriters.{HasFound}
-use Rattle.flutejoin.proofs.extract.ObjectFacts.{conflict-told}
-use Rattle.flutejoin.proofs.extract.ObjectWriters.{information-passes}
+use Rattle.flutejoin.proofs.extract_lemmas.ObjectFacts.{conflict-told}
+use Rattle.flutejoin.proofs.extract_lemmas.ObjectWriters.{information-passes}
 use Rattle.flutejoin.proofs.extract.object_writer.ObjectWriter.conflict.Goals as goal
 
 pub returns-in-Nothing-clause-passed : goal.returns-in-Nothing-clause-passed

@@ -3,8 +3,8 @@ use Rattle.flute_parts.specs.Partition.{symbol_id}
 use Rattle.flute_parts.specs.declared.symbol_id.SymbolId.{SymbolId}
 use Rattle.flute_store.specs.Extract.{IsNotWhole, WritesWhole}
 use Rattle.flutejoin.specs.ObjectWriters.{HasFound}
-use Rattle.flutejoin.proofs.extract.ObjectFacts.{unheard}
-use Rattle.flutejoin.proofs.extract.ObjectWriters.{whole-written}
+use Rattle.flutejoin.proofs.extract_lemmas.ObjectFacts.{unheard}
+use Rattle.flutejoin.proofs.extract_lemmas.ObjectWriters.{whole-written}
 use Rattle.flutejoin.proofs.extract.object_writer.ObjectWriter.end.Goals as goal
 use Rattle.flutejoin.proofs.extract.object_writer.ObjectWriter.end.Goals.{in-NotWhole, in-Whole+in-Some}
 

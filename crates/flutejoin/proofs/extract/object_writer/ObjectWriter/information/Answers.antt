@@ -1,5 +1,5 @@
 use Rattle.std.proofs.Common.{refl}
-use Rattle.flutejoin.proofs.extract.ObjectWriters.{information-passes}
+use Rattle.flutejoin.proofs.extract_lemmas.ObjectWriters.{information-passes}
 use Rattle.flutejoin.proofs.extract.object_writer.ObjectWriter.information.Goals as goal
 
 pub returns-in_default-clause-passed : goal.returns-in_default-clause-passed

@@ -1,7 +1,7 @@
 use Rattle.std.proofs.Common.{ap, ◌∙◌}
 use Rattle.flute_parts.specs.declared.address.Address.{Address}
-use Rattle.flutejoin.proofs.extract.ObjectFacts.{not-same}
-use Rattle.flutejoin.proofs.extract.ObjectWriters.{other-passes}
+use Rattle.flutejoin.proofs.extract_lemmas.ObjectFacts.{not-same}
+use Rattle.flutejoin.proofs.extract_lemmas.ObjectWriters.{other-passes}
 use Rattle.flutejoin.proofs.extract.object_writer.ObjectWriter.pass.Goals as goal
 
 pub returns-else-eq-clause-passed : goal.returns-else-eq-clause-passed

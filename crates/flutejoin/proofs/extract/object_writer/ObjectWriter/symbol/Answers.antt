@@ -1,8 +1,8 @@
 use Rattle.std.proofs.Common.{subst}
 use Rattle.flute_store.specs.Scan.{next_fact}
 use Rattle.flutejoin.specs.ObjectWriters.{HasFound}
-use Rattle.flutejoin.proofs.extract.ObjectFacts.{symbol-told}
-use Rattle.flutejoin.proofs.extract.ObjectWriters.{told-at, symbol-passes}
+use Rattle.flutejoin.proofs.extract_lemmas.ObjectFacts.{symbol-told}
+use Rattle.flutejoin.proofs.extract_lemmas.ObjectWriters.{told-at, symbol-passes}
 use Rattle.flutejoin.proofs.extract.object_writer.ObjectWriter.symbol.Goals as goal
 
 pub returns-in-Nothing-clause-passed : goal.returns-in-Nothing-clause-passed

@@ -2,7 +2,7 @@ use Rattle.std.proofs.Common.{ℕ, List, Option, refl, ap}
 use Rattle.std.specs.Borrow.{Bor}
 use Rattle.flute_parts.specs.declared.symbol_id.SymbolId.{SymbolId}
 use Rattle.flute_store.specs.Scan.{value_of}
-use Rattle.flutejoin.proofs.extract.ObjectWriters.{next-rises, can-come, settled-next, wrote-next, passed-next, fits-next, idle-next, idle-fits, wanted-turn}
+use Rattle.flutejoin.proofs.extract_lemmas.ObjectWriters.{next-rises, can-come, settled-next, wrote-next, passed-next, fits-next, idle-next, idle-fits, wanted-turn}
 use Rattle.flutejoin.proofs.extract.object_writer.WholeSoFar.symbol.Goals as goal
 
 pub returns-in-Some-clause-passed : goal.returns-in-Some-clause-passed

@@ -1,6 +1,6 @@
 use Rattle.std.proofs.Common.{◌≡◌, false, sym, ◌∙◌, ap}
 use Rattle.flutejoin.specs.Styles.{is_told}
-use Rattle.flutejoin.proofs.gaps.Closing.{told_nothing}
+use Rattle.flutejoin.proofs.gaps_lemmas.Closing.{told_nothing}
 use Rattle.flutejoin.proofs.gaps.closed_objects.ClosedObjects.add.Goals as goal
 
 pub returns-else-tells-clause-added : goal.returns-else-tells-clause-added

@@ -3,7 +3,7 @@ use Rattle.flute_parts.specs.Devices.{Writes}
 use Rattle.flute_parts.specs.declared.key.Key.{Key}
 use Rattle.flutejoin.specs.Lines.{status_line}
 use Rattle.flutejoin.specs.Styles.{is_told, is_whole, listed_by}
-use Rattle.flutejoin.proofs.gaps.Closing.{are_summed, told_lined, told_summed}
+use Rattle.flutejoin.proofs.gaps_lemmas.Closing.{are_summed, told_lined, told_summed}
 use Rattle.flutejoin.proofs.gaps.closed_objects.ClosedObjects.tell.Goals as goal
 
 pub returns-then-style-clause-told : goal.returns-then-style-clause-told

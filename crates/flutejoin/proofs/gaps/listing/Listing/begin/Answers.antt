@@ -1,6 +1,6 @@
 use Rattle.std.proofs.Common.{[], ◌∷◌}
 use Rattle.flute_parts.proofs.Public.{rising-front}
-use Rattle.flutejoin.proofs.gaps.OpenObjects.{begun}
+use Rattle.flutejoin.proofs.gaps_lemmas.OpenObjects.{begun}
 use Rattle.flutejoin.proofs.gaps.listing.Listing.begin.Goals as goal
 
 pub returns-clause-begun : goal.returns-clause-begun

@@ -4,11 +4,11 @@ use Rattle.std.proofs.Common.{[], refl, arith}
 use Rattle.flutejoin.specs.Listing.{AreFew, Knows, ListsWith}
 use Rattle.flutejoin.specs.Told.{told_of}
 use Rattle.flutejoin.specs.declared.gaps.listing.OpenObject.{OpenObject}
-use Rattle.flutejoin.proofs.gaps.MovedAside.{closed_known}
-use Rattle.flutejoin.proofs.gaps.Closing.{no_stray, none_closed}
-use Rattle.flutejoin.proofs.gaps.OpenObjects.{before_short, heard_open, none_open, one_more_closed}
-use Rattle.flutejoin.proofs.gaps.Sessions.{few_more}
-use Rattle.flutejoin.proofs.gaps.StatusLines.{status_is}
+use Rattle.flutejoin.proofs.gaps_lemmas.MovedAside.{closed_known}
+use Rattle.flutejoin.proofs.gaps_lemmas.Closing.{no_stray, none_closed}
+use Rattle.flutejoin.proofs.gaps_lemmas.OpenObjects.{before_short, heard_open, none_open, one_more_closed}
+use Rattle.flutejoin.proofs.gaps_lemmas.Sessions.{few_more}
+use Rattle.flutejoin.proofs.gaps_lemmas.StatusLines.{status_is}
 use Rattle.flutejoin.proofs.gaps.listing.Listing.close.Goals as goal
 
 pub returns-in_default-clause-closed : goal.returns-in_default-clause-closed

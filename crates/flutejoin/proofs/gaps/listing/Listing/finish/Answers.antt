@@ -1,7 +1,7 @@
 use Rattle.std.proofs.Common.{List, ℕ, subst}
 use Rattle.flutejoin.specs.Listing.{Knows, last_line}
-use Rattle.flutejoin.proofs.gaps.MovedAside.{knows_more}
-use Rattle.flutejoin.proofs.gaps.Closing.{all_printed}
+use Rattle.flutejoin.proofs.gaps_lemmas.MovedAside.{knows_more}
+use Rattle.flutejoin.proofs.gaps_lemmas.Closing.{all_printed}
 use Rattle.flutejoin.proofs.gaps.listing.Listing.finish.Goals as goal
 
 pub returns-clause-finished : goal.returns-clause-finished

@@ -2,7 +2,7 @@
 use Rattle.std.proofs.Common.{◌+◌, refl, ap}
 use Rattle.std.proofs.lemmas.Result.{err_from_is_err_and}
 use Rattle.flutejoin.specs.Limits.{at_most}
-use Rattle.flutejoin.proofs.info.ListLines.{line_ended, line_failed}
+use Rattle.flutejoin.proofs.info_lemmas.ListLines.{line_ended, line_failed}
 use Rattle.flutejoin.proofs.info.information_list.InformationList.end_line.Goals as goal
 
 pub returns-in_err-take_line-clause-failed : goal.returns-in_err-take_line-clause-failed

@@ -1,4 +1,4 @@
-use Rattle.flutejoin.proofs.info.ListLines.{not_ended}
+use Rattle.flutejoin.proofs.info_lemmas.ListLines.{not_ended}
 use Rattle.flutejoin.proofs.info.information_list.InformationList.finish.Goals as goal
 
 pub returns-else-is_empty-clause-failed : goal.returns-else-is_empty-clause-failed

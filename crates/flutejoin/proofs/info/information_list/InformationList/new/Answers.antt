@@ -1,5 +1,5 @@
 use Rattle.std.proofs.Common.{refl}
-use Rattle.flutejoin.proofs.info.ListLines.{holds_nothing}
+use Rattle.flutejoin.proofs.info_lemmas.ListLines.{holds_nothing}
 use Rattle.flutejoin.proofs.info.information_list.InformationList.new.Goals as goal
 
 pub returns-clause-holds : goal.returns-clause-holds

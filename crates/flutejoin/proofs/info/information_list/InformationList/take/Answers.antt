@@ -3,7 +3,7 @@ use Rattle.std.proofs.Common.{◌++◌, take, sym, subst, append-nil, arith}
 use Rattle.std.proofs.lemmas.Result.{err_from_is_err_and}
 use Rattle.flutejoin.specs.InformationLines.{HoldsList}
 use Rattle.flutejoin.specs.Limits.{at_most}
-use Rattle.flutejoin.proofs.info.ListLines.{piece_more, piece_fails}
+use Rattle.flutejoin.proofs.info_lemmas.ListLines.{piece_more, piece_fails}
 use Rattle.flutejoin.proofs.info.information_list.InformationList.take.Goals as goal
 
 pub loop-byte-init : goal.loop-byte-init

@@ -1,6 +1,6 @@
 -- What was in memory is in a run.
 use Rattle.std.proofs.Common.{refl}
-use Rattle.flutejoin.proofs.join.Held.{holds_aside}
+use Rattle.flutejoin.proofs.join_lemmas.Held.{holds_aside}
 use Rattle.flutejoin.proofs.join.held_files.HeldFiles.put_aside.Goals as goal
 
 pub returns-clause-held : goal.returns-clause-held

@@ -8,7 +8,7 @@ use Rattle.flute_journal.specs.FileFraming.{file_framing}
 use Rattle.flutejoin.specs.Joined.{choice_of}
 use Rattle.flutejoin.specs.JoinParts.{HoldsDatagrams}
 use Rattle.flutejoin.specs.Limits.{at_most}
-use Rattle.flutejoin.proofs.join.Held.{read_some, read_err, none_failed}
+use Rattle.flutejoin.proofs.join_lemmas.Held.{read_some, read_err, none_failed}
 use Rattle.flutejoin.proofs.join.held_files.HeldFiles.read.Goals as goal
 
 pub loop-datagram-init : goal.loop-datagram-init

@@ -1,7 +1,7 @@
 -- All that is held is in one run.
 use Rattle.std.proofs.Common.{◌∙◌, append-nil, subst, arith}
 use Rattle.flutejoin.specs.JoinParts.{HoldsDatagrams}
-use Rattle.flutejoin.proofs.join.Held.{holds_run}
+use Rattle.flutejoin.proofs.join_lemmas.Held.{holds_run}
 use Rattle.flutejoin.proofs.join.held_files.HeldFiles.run.Goals as goal
 
 pub returns-clause-held : goal.returns-clause-held

@@ -2,7 +2,7 @@
 use Rattle.std.proofs.Common.{refl, false, sym, ◌∙◌}
 use Rattle.flutejoin.specs.Joined.{choice_of}
 use Rattle.flutejoin.specs.Limits.{at_most}
-use Rattle.flutejoin.proofs.join.Held.{holds_past, holds_over, holds_passed, holds_taken}
+use Rattle.flutejoin.proofs.join_lemmas.Held.{holds_past, holds_over, holds_passed, holds_taken}
 use Rattle.flutejoin.proofs.join.held_files.HeldFiles.take.Goals as goal
 
 pub returns-then-not-self-clause-taken : goal.returns-then-not-self-clause-taken

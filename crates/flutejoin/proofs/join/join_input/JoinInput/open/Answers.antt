@@ -1,6 +1,6 @@
 use Rattle.std.proofs.Common.{subst}
 use Rattle.flute_journal.specs.Kinds.{IsNeither}
-use Rattle.flutejoin.proofs.join.InputStreams.{unknown}
+use Rattle.flutejoin.proofs.join_lemmas.InputStreams.{unknown}
 use Rattle.flutejoin.proofs.join.join_input.JoinInput.open.Goals as goal
 
 pub returns-in-None-clause-input : goal.returns-in-None-clause-input

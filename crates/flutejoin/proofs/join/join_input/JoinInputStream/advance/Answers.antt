@@ -1,4 +1,4 @@
-use Rattle.flutejoin.proofs.join.InputStreams.{journal_goes_on, journal_stops}
+use Rattle.flutejoin.proofs.join_lemmas.InputStreams.{journal_goes_on, journal_stops}
 use Rattle.flutejoin.proofs.join.join_input.JoinInputStream.advance.Goals as goal
 
 pub returns-in-Journal-clause-goes_on : goal.returns-in-Journal-clause-goes_on

@@ -1,6 +1,6 @@
 use Rattle.std.proofs.Common.{◌≡◌, ℕ, ◌*◌, ◌+◌, ◌/◌, ◌%◌, arith, slice_index, ap, ◌∙◌, List}
 use Rattle.hex.specs.Hex.{lower_digits, encode_lower}
-use Rattle.flutejoin.proofs.lines.Encoded.{encode_at}
+use Rattle.flutejoin.proofs.lines_lemmas.Encoded.{encode_at}
 use Rattle.flutejoin.proofs.lines.hex_digits.HexDigits.new.Goals as goal
 
 pub invariant_of-result : goal.invariant_of-result

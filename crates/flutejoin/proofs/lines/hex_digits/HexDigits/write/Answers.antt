@@ -1,7 +1,7 @@
 use Rattle.std.proofs.Common.{rules, ◌*◌, ◌≤◌, ◌++◌, ◌∙◌, [], length, refl, arith}
 use Rattle.std.proofs.KnownBytes.{Appends-nil}
 use Rattle.std.proofs.lemmas.Result.{err_from_is_err_and}
-use Rattle.flutejoin.proofs.lines.Encoded.{encode_lower-nil, front_more, digits_cut, digits_more, room_kept}
+use Rattle.flutejoin.proofs.lines_lemmas.Encoded.{encode_lower-nil, front_more, digits_cut, digits_more, room_kept}
 use Rattle.flutejoin.proofs.lines.hex_digits.HexDigits.write.Goals as goal
 
 pub loop-rest-init : goal.loop-rest-init

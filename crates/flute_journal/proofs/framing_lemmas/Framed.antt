@@ -1,0 +1,162 @@
+-- What holds of framed files, and what the calls of a reader come to.
+use Rattle.flute_journal.proofs.{Common.{◌≡◌, ℕ, ◌+◌, ◌<◌, List, [], ◌∷◌, ◌++◌, length, drop, drop_at, Option, Some, None, Result, Ok, Err, IsTrue, true, refl, ap, ◌∙◌, subst, arith, inr, IfSome, IfErr, Consumes, Consumes-nil, Consumes-trans, ReadFault, IsFaultOf, StaysWithin}, framing_lemmas.ReadsUpTo.{asked, fault_up_to, fault_up_to-behind}}
+use Rattle.flute_journal.specs.declared.fault.ReadFault.TheVariants as faults
+use Rattle.flute_journal.specs.{declared.readers.reader_state.ReaderState.{ReaderState}, declared.readers.reader_state.ReaderState.TheVariants.{Header, Items, Ended, Failed}, Input.{Advances}, Framing.{Framing, or_else, is_open, ReadsNext, ReadsFrom, count_at, place_at, end_bytes, fault_from, state_after, Gives, GivesItem, in_opening, in_item}}
+
+-- a header is read back, and a place counts the items before it
+pub record IsSound {V P T : Type 0} (framing : Framing V P T) : Type 0 where
+  pub header_size : (told : T) → length (framing.frame.header told) ≡ 6
+  pub header_passes : (told : T) (r : List ℕ)
+      → framing.header_fault (framing.frame.header told ++ r) ≡ None
+  pub header_told : (told : T) (r : List ℕ) → framing.told_in (framing.frame.header told ++ r) ≡ told
+  pub header_is : (y : List ℕ) → framing.header_fault y ≡ None
+      → y ≡ framing.frame.header (framing.told_in y) ++ drop 6 y
+  pub told_is : (told : T) (xs : List V) → framing.told (framing.place_after told xs) ≡ told
+  pub counted : (told : T) (xs : List V) → framing.count (framing.place_after told xs) ≡ length xs
+  pub next_is : (told : T) (xs : List V) (x : V)
+      → framing.next (framing.place_after told xs) x ≡ framing.place_after told (xs ++ x ∷ [])
+  pub next_counted : (place : P) (x : V)
+      → framing.count (framing.next place x) ≡ framing.count place + 1
+  pub none_in_order : framing.frame.AreInOrder []
+  pub more_in_order : (told : T) (xs : List V) (x : V) → framing.frame.AreInOrder xs
+      → IsTrue (framing.may_follow (framing.place_after told xs) x)
+      → framing.frame.AreInOrder (xs ++ x ∷ [])
+
+known_header : (u : Option (List ℕ)) (p q : List ℕ → Option ReadFault) (f : ReadFault)
+    → IfSome u (λ bs. p bs ≡ Some f) → IfSome u (λ bs. or_else (p bs) (q bs) ≡ Some f)
+known_header None p q f h = tt
+known_header (Some x) p q f h = ap (λ o. or_else o (q x)) h
+
+-- a fault of the header is one of header and item, if memory did not run out
+fault-first : (u v : Option (List ℕ)) (p q : List ℕ → Option ReadFault) (f : ReadFault)
+    → (f ≡ faults.OutOfMemory → ⊥)
+    → IsFaultOf p u v f → IsFaultOf (λ bs. or_else (p bs) (q bs)) u v f
+fault-first u v p q faults.Read some h = (h.0, h.1, ap (λ o. or_else o (q h.0)) h.2)
+fault-first u v p q faults.OutOfMemory some h = absurd (some refl)
+fault-first u v p q f some h = known_header u p q f h
+
+module _ {V P T : Type 0} (framing : Framing V P T) where
+  pub reads_on : (limit : ℕ) (told : T) (place : P) (u v : Option (List ℕ))
+      (r : Result (Option V) ReadFault) → ReadsNext framing limit place u v r
+      → StaysWithin (framing.frame.item (framing.told place)) (framing.frame.IsItem (framing.told place)) u v r
+      → IfErr r framing.IsFault → ReadsFrom framing told limit (Items place) u v r
+  reads_on limit told place u v (Ok (Some x)) h w k = h
+  reads_on limit told place u v (Ok None) h w k = h
+  reads_on limit told place u v (Err f) h w k =
+      record {
+        fault = h;
+        possible = k;
+        asks = λ e. (
+          u,
+          Consumes-nil u,
+          asked (framing.frame.end (framing.count place)) (framing.next_fault place limit) u v f h e,
+        );
+        part = w.0;
+        read = w.1;
+        is_part = in_item w.0 refl w.2;
+      }
+
+  pub gives : (limit : ℕ) (told : T) (old new : ReaderState P) (u v : Option (List ℕ))
+      (r : Result (Option V) ReadFault) → is_open old ≡ true
+      → new ≡ state_after framing (place_at framing told old) r
+      → ReadsFrom framing told limit old u v r → Gives framing limit old new u v r
+  gives limit told old new u v (Ok (Some x)) opened e h =
+      record {
+        told = told;
+        open_before = opened;
+        valid = h.0;
+        in_order = h.1;
+        within =
+            h.2;
+        goes_on = e;
+        bytes = h.3;
+      }
+  gives limit told old new u v (Ok None) opened e h =
+      record { told = told; ended = e; bytes = inr (opened, h.0, h.1) }
+  gives limit told old new u v (Err f) opened e h =
+      record { told = told; stays = e; found = inr (opened, h) }
+
+module _ {V P T : Type 0} {framing : Framing V P T} (sound : IsSound framing) where
+  pub reads_header : (limit : ℕ) (told : T) (u v : Option (List ℕ)) (f : ReadFault)
+      → IsFaultOf framing.header_fault u v f → (f ≡ faults.OutOfMemory → ⊥) → framing.IsFault f
+      → Advances u v 6
+      → ReadsFrom framing told limit Header u v (Err f)
+  reads_header limit told u v f h some k a = record {
+    fault = fault_up_to (end_bytes framing told Header) (fault_from framing Header limit) u v f
+        (fault-first u v framing.header_fault
+        (λ bs. framing.next_fault (framing.place_after (framing.told_in bs) []) limit
+        (drop 6 bs)) f some h);
+    possible = k;
+    asks = λ e. absurd (some e);
+    part = a.0;
+    read = a.1;
+    is_part = in_opening (omega (arith, a.2, sound.header_size told));
+  }
+
+  header_comes : (limit : ℕ) (told : T) (r : List ℕ)
+      → fault_from framing Header limit (framing.frame.header told ++ r) ≡ framing.next_fault
+      (framing.place_after told []) limit r
+  header_comes limit told r =
+      let whole = framing.frame.header told ++ r in
+      ap (λ o. or_else o (framing.next_fault (framing.place_after (framing.told_in whole) []) limit
+      (drop 6 whole))) (sound.header_passes told r)
+      ∙ ap (λ (t : T). framing.next_fault (framing.place_after t []) limit (drop 6 whole))
+      (sound.header_told told r)
+      ∙ ap (λ (x : List ℕ). framing.next_fault (framing.place_after told []) limit x)
+      (drop_at (framing.frame.header told) r 6 (sound.header_size told))
+
+  pub reads_first : (limit : ℕ) (told : T) (u v w : Option (List ℕ))
+      (r : Result (Option V) ReadFault) → Consumes u v (framing.frame.header told)
+      → ReadsNext framing limit (framing.place_after told []) v w r
+      → StaysWithin (framing.frame.item (framing.told (framing.place_after told [])))
+      (framing.frame.IsItem (framing.told (framing.place_after told []))) v w r
+      → IfErr r framing.IsFault
+      → ReadsFrom framing told limit Header u w r
+  reads_first limit told u v w (Ok (Some x)) took h s k = (
+    h.0,
+    h.1,
+    h.2,
+    Consumes-trans u v w (framing.frame.header told)
+        (framing.frame.item (framing.told (framing.place_after told [])) x) took h.3,
+  )
+  reads_first limit told u v w (Ok None) took h s k = (
+    Consumes-trans u v w (framing.frame.header told)
+        (framing.frame.end (framing.count (framing.place_after told []))) took h.0,
+    h.1,
+  )
+  reads_first limit told u v w (Err f) took h s k = record {
+    fault = fault_up_to-behind u v w (framing.frame.header told)
+        (framing.frame.end (framing.count (framing.place_after told [])))
+        (fault_from framing Header limit)
+        (framing.next_fault (framing.place_after told []) limit) f took (header_comes limit told)
+        h;
+    possible = k;
+    asks = λ e. (
+      v,
+      took,
+      asked (framing.frame.end (framing.count (framing.place_after told [])))
+          (framing.next_fault (framing.place_after told []) limit) v w f h e,
+    );
+    part = framing.frame.header told ++ s.0;
+    read = Consumes-trans u v w (framing.frame.header told) s.0 took s.1;
+    is_part = in_item s.0 refl s.2;
+  }
+
+  counted_at : (told : T) (state : ReaderState P)
+      → framing.count (place_at framing told state) ≡ count_at framing state
+  counted_at told Header = sound.counted told []
+  counted_at told (Items place) = refl
+  counted_at told Ended = sound.counted told []
+  counted_at told (Failed f) = sound.counted told []
+
+  -- an item more was given, within the limit
+  pub one_given : (limit : ℕ) (old new : ReaderState P) (u v : Option (List ℕ)) (x : V)
+      → GivesItem framing limit old new u v x
+      → (count_at framing new ≡ count_at framing old + 1) × (count_at framing old < limit)
+  one_given limit old new u v x g =
+      let place = place_at framing g.told old in
+      let same = counted_at g.told old in (
+        ap (count_at framing) g.goes_on ∙ sound.next_counted place x ∙ ap (λ n. n + 1) same,
+        subst
+            (λ n. n < limit) same g.within,
+      )

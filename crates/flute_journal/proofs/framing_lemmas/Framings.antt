@@ -1,0 +1,40 @@
+-- Journals and datagram files are framed files.
+use Rattle.flute_journal.proofs.{Common.{◌≡◌, List, [], ◌∷◌, ◌++◌, Option, Some, None, refl, sym, length-append, Address, address, Fact, Version, at_place, before, last_of, journal_framing, file_framing, file_header}, framing_lemmas.Framed.{IsSound}, format_lemmas.Parts.{header_passes, version-told}, framing_lemmas.Existence.{header_is, opening_is, rising_more}, framing_lemmas.Files.{file_header_passes}}
+use Rattle.flute_journal.specs.JournalFraming.{after}
+
+last_more : (b : Option Address) (es : List Fact) (f : Fact)
+    → last_of b (es ++ f ∷ []) ≡ Some (address f)
+last_more b [] f = refl
+last_more b (e ∷ es) f = last_more (Some (address e)) es f
+
+after_is : (v : Version) (es : List Fact) (f : Fact)
+    → after (before v es) f ≡ before v (es ++ f ∷ [])
+after_is v es f = λ i. at_place v (sym (length-append es (f ∷ [])) i) (sym (last_more None es f) i)
+
+pub journal_sound : IsSound journal_framing
+journal_sound = record {
+  header_size = λ v. refl;
+  header_passes = header_passes;
+  header_told = version-told;
+  header_is = header_is;
+  told_is = λ v es. refl;
+  counted = λ v es. refl;
+  next_is = after_is;
+  next_counted = λ place f. refl;
+  none_in_order = tt;
+  more_in_order = λ v es f. rising_more es f;
+}
+
+pub file_sound : IsSound file_framing
+file_sound = record {
+  header_size = λ told. refl;
+  header_passes = λ told r. file_header_passes r;
+  header_told = λ told r. refl;
+  header_is = λ y e. opening_is file_header y refl e;
+  told_is = λ told ds. refl;
+  counted = λ told ds. refl;
+  next_is = λ told ds d. sym (length-append ds (d ∷ []));
+  next_counted = λ count d. refl;
+  none_in_order = tt;
+  more_in_order = λ told ds d h k. tt;
+}

@@ -1,0 +1,156 @@
+-- What was spelled has no fault, and where bytes that begin like a journal stop.
+use Rattle.flute_journal.proofs.{Common.{Address, AllByRecursion, Before, Below, Fact, Info, InfoConflict, Information, IsFact, IsFactIn, IsInfo, IsRising, IsSymbol, JournalIn, Kind, List, None, Option, ReadFault, Same, Same-append, Same-itself, Same-twice, Some, Stops, journal_framing, Symbol, SymbolConflict, Version, [], address, ap, append_assoc, arith, at_place, before, after_items, byte_of, bytes_fault, end, entry_in, flat_map, without_end_in, header_fault, header_in, id_bytes, in_bytes, in_header, info_address, info_bytes, info_in, is_after, key_bytes, fact_key, last_of, length, length-append, next_fault, none-some, refl, rest_bytes, rest_fault, same_Some, spelling_in, subst, sym, symbol_address, counted_bytes, true, ℕ, ◌++◌, ◌<◌, ◌^◌, ◌∙◌, ◌∷◌, ◌≡◌, ◌≤◌}, framing_lemmas.Sequences.{one_stop, stop_at_bound}, merge_lemmas.MergeBytes.{without_end-both, journal_parts}, Each.{all_split}, Numbers.{number-in_bytes}, merge_lemmas.MergeRising.{Rises, rising-rises}, format_lemmas.Entries.{length_fits, entry_injective, not_end, header-injective}, format_lemmas.Parts.{id_comes, order_passes, symbol_comes, entry_comes, too_many, end_counts, header_passes, key_valid, first-pass, cut-passes, info_passes, length_passes}}
+use Rattle.flute_journal.specs.declared.format.Kind.TheVariants as kinds
+use Rattle.flute_journal.specs.declared.fault.ReadFault.TheVariants as faults
+
+info_reads : (i : Information) → IsInfo i → info_in (info_bytes i) ≡ i
+info_reads i p = grind (arith, number-in_bytes, length_fits)
+
+symbol_none : (b r : List ℕ) → IsSymbol b → bytes_fault (counted_bytes b ++ r) ≡ None
+symbol_none b r p = grind (arith, number-in_bytes, length_passes, first-pass, cut-passes)
+
+abbrev kind_of : Fact → Kind
+kind_of (Info key info) = kinds.Info
+kind_of (InfoConflict key) = kinds.InfoConflict
+kind_of (Symbol key id bytes) = kinds.Symbol
+kind_of (SymbolConflict key id) = kinds.SymbolConflict
+
+rest_passes : (last : Option Address) (f : Fact) (r : List ℕ) → IsFact f
+    → is_after last (address f) ≡ true
+    → rest_fault last (kind_of f) (fact_key f) (rest_bytes f ++ r) ≡ None
+rest_passes last (Info key info) r p e = grind (arith, order_passes, info_passes, info_reads)
+rest_passes last (InfoConflict key) r p e = order_passes last (info_address key) [] e
+rest_passes last (Symbol key id b) r p e =
+    cc (
+      append_assoc (id_bytes id) (counted_bytes b) r,
+      symbol_comes last key id
+          (counted_bytes b ++ r) p.1 e,
+      symbol_none b r p.2,
+    )
+rest_passes last (SymbolConflict key id) r p e =
+    cc (id_comes last key id r [] p.1, order_passes last (symbol_address key id) [] e)
+
+entry_split : (v : Version) (f : Fact) (r : List ℕ)
+    → entry_in v f ++ r ≡ (byte_of (kind_of f) ∷ key_bytes v (fact_key f)) ++ (rest_bytes f ++ r)
+entry_split v f r = grind (arith, append_assoc)
+
+-- an entry in order and within the bound has no fault
+pub entry-passes : (limit count : ℕ) (v : Version) (last : Option Address) (f : Fact) (r : List ℕ)
+    → IsFactIn v f → count < limit → is_after last (address f) ≡ true
+    → next_fault (at_place v count last) limit (entry_in v f ++ r) ≡ None
+entry-passes limit count v last f r p few e =
+    cc (
+      entry_split v f r,
+      entry_comes limit count v last (kind_of f) (fact_key f)
+          (rest_bytes f ++ r) few (key_valid f p.0) p.1,
+      rest_passes last f r p.0 e,
+    )
+
+pub entry-too_many : (limit : ℕ) (b : Before) (v : Version) (f : Fact) (r : List ℕ)
+    → limit ≤ b.count → next_fault b limit (entry_in v f ++ r) ≡ Some faults.TooMany
+entry-too_many limit b v f r many =
+    cc (
+      entry_split v f r,
+      too_many b limit (kind_of f) (byte_of (kind_of f) ∷ [])
+          (key_bytes v (fact_key f) ++ (rest_bytes f ++ r)) refl many,
+    )
+
+pub end-passes : (limit count : ℕ) (v : Version) (last : Option Address) → count < 2 ^ 64
+    → next_fault (at_place v count last) limit (end count) ≡ None
+end-passes limit count v last small =
+    end_counts count (in_bytes 8 count) [] refl (number-in_bytes 8 count (omega (arith, small)))
+
+rises_next : (b : Option Address) (fs : List Fact) (g : Fact) (gs : List Fact)
+    → Rises b (fs ++ g ∷ gs) → is_after (last_of b fs) (address g) ≡ true
+rises_next b [] g gs h = h.0
+rises_next b (f ∷ fs) g gs h = rises_next (Some (address f)) fs g gs h.1
+
+-- entries in order and within the bound have no fault
+pass : (v : Version) (limit : ℕ) (es : List Fact) → AllByRecursion (IsFactIn v) es → IsRising es
+    → (front : List Fact) (x : Fact) (xs : List Fact) (r : List ℕ) → es ≡ front ++ x ∷ xs
+    → length front < limit
+    → next_fault (before v front) limit (entry_in v x ++ r) ≡ None
+pass v limit es p q front x xs r e few =
+    let valid = all_split (IsFactIn v) front (x ∷ xs) (subst (AllByRecursion (IsFactIn v)) e p) in
+    entry-passes limit (length front) v (last_of None front) x r valid.1.0 few
+    (rises_next None front x xs (rising-rises (front ++ x ∷ xs) (subst IsRising e q)))
+
+pass_all : (v : Version) (limit : ℕ) (es : List Fact) → AllByRecursion (IsFactIn v) es → IsRising es
+    → length es ≤ limit → (front : List Fact) (x : Fact) (xs : List Fact) (r : List ℕ)
+    → es ≡ front ++ x ∷ xs
+    → next_fault (before v front) limit (entry_in v x ++ r) ≡ None
+pass_all v limit es p q few front x xs r e =
+    pass v limit es p q front x xs r e
+    (omega (arith, few, ap length e, length-append front (x ∷ xs)))
+
+-- bytes that begin with a header are not at fault there
+pub not_in_header : (v : Version) (bytes : List ℕ) (es : List Fact) (rest : List ℕ) (f : ReadFault)
+    → bytes ≡ without_end_in v es ++ rest → header_fault bytes ≡ Some f → ⊥
+not_in_header v bytes es rest f e h =
+    let all = flat_map (entry_in v) es ++ rest in
+    none-some f (sym (header_passes v all) ∙ ap header_fault
+    (sym (e ∙ append_assoc (header_in v) (flat_map (entry_in v) es) rest)) ∙ h)
+
+-- a journal's bytes stop only with more entries than the bound
+pub beyond : (v : Version) (limit : ℕ) (es fs : List Fact) (bytes : List ℕ) (f : ReadFault)
+    → AllByRecursion (IsFactIn v) es → IsRising es → length es < 2 ^ 64
+    → bytes ≡ spelling_in v es → Stops journal_framing bytes limit fs f
+    → (f ≡ faults.TooMany) × (limit < length es)
+beyond v limit es fs bytes f p q small e (in_header none h) =
+    absurd (not_in_header v bytes es (end (length es)) f e h)
+beyond v limit es fs bytes f p q small e (after_items s) =
+    let w = s.are_items.told in
+    let n = length es in
+    let b = without_end-both w v fs es s.rest (end n) s.are_items.valid p
+    (λ x y. not_end w x (in_bytes 8 n) y) (sym s.whole ∙ e) in
+    stop_at_bound (entry_in w) (IsFactIn w) (entry_injective w)
+    (λ l r. next_fault (before w l) limit r) limit fs es s.rest (end n) f
+    (pass w limit es (subst (λ (z : Version). AllByRecursion (IsFactIn z) es) (sym b.0) p) q)
+    (λ x y many. entry-too_many limit (before w fs) w x y many) b.1
+    (end-passes limit n w (last_of None es) small) s.first
+
+pub Below-more : (F G : List Fact) → Below F (F ++ G)
+Below-more F G =
+    subst (λ (l : List Fact). Same l (F ++ G)) (append_assoc F F G)
+    (Same-append (F ++ F) F G G (Same-twice F) (Same-itself G))
+
+-- the entries that a journal begins with tell nothing more than its facts
+pub without_end-below : (v w : Version) (bytes : List ℕ) (F es : List Fact) (rest : List ℕ)
+    → JournalIn v bytes F → AllByRecursion (IsFactIn w) es → bytes ≡ without_end_in w es ++ rest
+    → Below es F
+without_end-below v w bytes F es rest journal p e =
+    let j = journal_parts v bytes F journal in
+    let all = j.entries in
+    let b = without_end-both w v es all rest (end (length all)) p j.valid
+    (λ x y. not_end w x (in_bytes 8 (length all)) y) (sym e ∙ j.bytes_are) in
+    let low : Below es all = subst (Below es) (sym b.1.items) (Below-more es b.1.more) in
+    let moved = Same-append es es F all (record { each = λ a. refl }) j.collects.same in
+    record { each = λ a. moved.each a ∙ low.each a ∙ sym (j.collects.same.each a) }
+
+-- bytes stop at one fault, behind one list of entries
+pub stops_one : (bytes : List ℕ) (limit : ℕ) (es fs : List Fact) (f g : ReadFault)
+    → Stops journal_framing bytes limit es f → Stops journal_framing bytes limit fs g
+    → (es ≡ fs) × (f ≡ g)
+stops_one bytes limit es fs f g (in_header a h) (in_header b k) =
+    (a ∙ sym b, same_Some f g (sym h ∙ k))
+stops_one bytes limit es fs f g (in_header a h) (after_items s) =
+    absurd (not_in_header s.are_items.told bytes fs s.rest f s.whole h)
+stops_one bytes limit es fs f g (after_items s) (in_header b k) =
+    absurd (not_in_header s.are_items.told bytes es s.rest g s.whole k)
+stops_one bytes limit es fs f g (after_items s) (after_items t) =
+    let v = s.are_items.told in
+    let w = t.are_items.told in
+    let h = header-injective v w (flat_map (entry_in v) es ++ s.rest)
+    (flat_map (entry_in w) fs ++ t.rest)
+    (sym (append_assoc (header_in v) (flat_map (entry_in v) es) s.rest) ∙ sym s.whole ∙ t.whole ∙
+    append_assoc (header_in w) (flat_map (entry_in w) fs) t.rest) in
+    let valid =
+    subst (λ (z : Version). AllByRecursion (IsFactIn z) fs) (sym h.0) t.are_items.valid in
+    one_stop (entry_in v) (IsFactIn v) (entry_injective v) (λ l r. next_fault (before v l) limit r)
+    es fs s.rest t.rest f g
+    (pass_all v limit es s.are_items.valid s.are_items.in_order s.are_items.few)
+    (pass_all v limit fs valid t.are_items.in_order t.are_items.few)
+    s.are_items.valid valid
+    (subst (λ (z : Version). flat_map (entry_in v) es ++ s.rest ≡ flat_map (entry_in z) fs ++
+    t.rest) (sym h.0) h.1) s.first
+    (subst (λ (z : Version). next_fault (before z fs) limit t.rest ≡ Some g) (sym h.0) t.first)

@@ -1,0 +1,337 @@
+-- A framed file that is read item by item.
+use Rattle.flute_journal.proofs.{Common.{◌≡◌, ℕ, ◌<◌, List, [], ◌∷◌, ◌++◌, length, drop, Option, Some, None, Ok, IsTrue, true, inl, inr, refl, sym, ap, ◌∙◌, subst, arith, append_assoc, append-nil, length-append, flat_map_more, IfSome, Consumes, Consumes-nil, Consumes-trans, Consumes-whole, IsAtEnd, IsSettled, ReadFault}, Each.{all_more}, framing_lemmas.Framed.{IsSound}}
+use Rattle.flute_journal.specs.declared.fault.ReadFault.TheVariants as faults
+use Rattle.flute_journal.specs.{declared.readers.reader_state.ReaderState.{ReaderState}, declared.readers.reader_state.ReaderState.TheVariants.{Header, Items, Ended, Failed}, Framing.{Framing, or_else, is_open, Stops, in_header, after_items, HasFault, MayRunOut, AsksForItem, place_at, opening, fault_from, GivesItem, GivesFault, Gives, IsPart, in_opening, in_item, IsAtFault, state_at, read_of, Sofar}, Frame.{up_to_end, AreItems, IsWhole}}
+
+-- an input that was read to the end of its file
+pub record AtEnd {V P T : Type 0} (framing : Framing V P T) (limit : ℕ)
+    (input left : Option (List ℕ)) (items : List V) : Type 0 where
+  pub are_items : AreItems framing.frame limit items
+  pub read : Consumes input left
+      (up_to_end framing.frame are_items.told items ++ framing.frame.end (length items))
+  pub at_end : IsAtEnd left
+
+-- an input of which these items are settled, and one is held or the end was read
+abbrev pub Side : {V P T : Type 0} → Framing V P T → ℕ → Option (List ℕ) → Option (List ℕ)
+    → ReaderState P → List V → Option V → Type 0
+Side framing limit input left state settled (Some x) =
+    Sofar framing limit input left state (settled ++ x ∷ [])
+Side framing limit input left state settled None = AtEnd framing limit input left settled
+
+-- a fault behind these items, and what was read up to it
+pub record FaultAfter {V P T : Type 0} (framing : Framing V P T) (limit : ℕ)
+    (u x w : Option (List ℕ)) (items : List V) (f : ReadFault) : Type 0 where
+  pub are_items : AreItems framing.frame limit items
+  pub before_it : Consumes u x (read_of framing are_items.told items)
+  pub at_fault : IsAtFault framing are_items.told limit (state_at framing are_items.told items) x w
+      f
+
+module _ {V P T : Type 0} (framing : Framing V P T) where
+  state_more : (t : T) (xs : List V) (x : V)
+      → Items (framing.place_after t (xs ++ x ∷ [])) ≡ state_at framing t (xs ++ x ∷ [])
+  state_more t [] x = refl
+  state_more t (y ∷ ys) x = refl
+
+  read_more : (t : T) (xs : List V) (x : V)
+      → read_of framing t xs ++ (opening framing t (state_at framing t xs) ++ framing.frame.item t x) ≡
+      read_of framing t (xs ++ x ∷ [])
+  read_more t [] x =
+      ap (λ (l : List ℕ). l ++ framing.frame.item t x) (sym (append-nil (framing.frame.header t))) ∙
+      flat_map_more (framing.frame.item t) (framing.frame.header t) [] x
+  read_more t (y ∷ ys) x = flat_map_more (framing.frame.item t) (framing.frame.header t) (y ∷ ys) x
+
+  -- no item is held back before the next one
+  pub all_read : (t : T) (xs : List V) (end : List ℕ)
+      → read_of framing t xs ++ (opening framing t (state_at framing t xs) ++ end) ≡ up_to_end
+      framing.frame t xs ++ end
+  all_read t [] end = sym (append_assoc (framing.frame.header t) [] end)
+  all_read t (y ∷ ys) end = refl
+
+  pub read_some : (t : T) (xs : List V) (x : V)
+      → read_of framing t (xs ++ x ∷ []) ≡ up_to_end framing.frame t (xs ++ x ∷ [])
+  read_some t [] x = refl
+  read_some t (y ∷ ys) x = refl
+
+  open_at : (t : T) (xs : List V) → is_open (state_at framing t xs) ≡ true
+  open_at t [] = refl
+  open_at t (y ∷ ys) = refl
+
+  not_ended : (t : T) (xs : List V) → state_at framing t xs ≡ Ended → ⊥
+  not_ended t [] e = cc
+  not_ended t (y ∷ ys) e = cc
+
+  not_failed : (t : T) (xs : List V) (f : ReadFault) → state_at framing t xs ≡ Failed f → ⊥
+  not_failed t [] f e = cc
+  not_failed t (y ∷ ys) f e = cc
+
+  -- where a reader is, by what a header tells that is still to come
+  record Placed (told : T) (limit : ℕ) (u v : Option (List ℕ)) (state : ReaderState P) (xs : List V)
+      : Type 0 where
+    are_items : AreItems framing.frame limit xs
+    read : Consumes u v (read_of framing are_items.told xs)
+    place : place_at framing told state ≡ framing.place_after are_items.told xs
+    start : opening framing told state ≡ opening framing are_items.told
+        (state_at framing are_items.told xs)
+
+  placed : (told : T) (limit : ℕ) (u v : Option (List ℕ)) (state : ReaderState P) (xs : List V)
+      → Sofar framing limit u v state xs → Placed told limit u v state xs
+  placed told limit u v state [] s = record {
+    are_items = record {
+      told = told;
+      valid = tt;
+      in_order = s.are_items.in_order;
+      few =
+          s.are_items.few;
+    };
+    read = s.read;
+    place = ap (place_at framing told) s.state_is;
+    start = ap (opening framing told) s.state_is;
+  }
+  placed told limit u v state (y ∷ ys) s =
+      record {
+        are_items = s.are_items;
+        read = s.read;
+        place =
+            ap (place_at framing told) s.state_is;
+        start = ap (opening framing told) s.state_is;
+      }
+
+  part_of : (t told : T) (place : P) (part : List ℕ) → IsPart framing t (Items place) part
+      → IsPart framing told (Items place) part
+  part_of t told place part (in_opening few) = in_opening few
+  part_of t told place part (in_item more e w) = in_item more e w
+
+module _ {V P T : Type 0} {framing : Framing V P T} where
+  pub open_after : (limit : ℕ) (u v : Option (List ℕ)) (state : ReaderState P) (xs : List V)
+      → Sofar framing limit u v state xs → IsTrue (is_open state)
+  open_after limit u v state xs s = ap is_open s.state_is ∙ open_at framing s.are_items.told xs
+
+  -- a fault that is found now
+
+  fault_after : (told : T) (limit : ℕ) (u x w : Option (List ℕ)) (state : ReaderState P)
+      (xs : List V) (f : ReadFault) → Sofar framing limit u x state xs
+      → IsAtFault framing told limit state x w f
+      → FaultAfter framing limit u x w xs f
+  fault_after told limit u x w state [] f s h = record {
+    are_items = record {
+      told = told;
+      valid = tt;
+      in_order = s.are_items.in_order;
+      few =
+          s.are_items.few;
+    };
+    before_it = s.read;
+    at_fault = subst (λ (z : ReaderState P). IsAtFault framing told limit z x w f) s.state_is h;
+  }
+  fault_after told limit u x w state (y ∷ ys) f s h =
+      let t = s.are_items.told in
+      let g = subst (λ (z : ReaderState P). IsAtFault framing told limit z x w f) s.state_is h in
+      record {
+        are_items = s.are_items;
+        before_it = s.read;
+        at_fault = record {
+          fault = g.fault;
+          possible = g.possible;
+          asks = g.asks;
+          part = g.part;
+          read =
+              g.read;
+          is_part =
+              part_of framing told t (framing.place_after t (y ∷ ys)) g.part g.is_part;
+        };
+      }
+
+  pub found_now : (limit : ℕ) (u x w : Option (List ℕ)) (old new : ReaderState P) (xs : List V)
+      (f : ReadFault) → Sofar framing limit u x old xs → GivesFault framing limit old new x w f
+      → FaultAfter framing limit u x w xs f
+  found_now limit u x w old new xs f s h = elim h.found [
+    | inl p ↦ absurd (not_failed framing s.are_items.told xs f (sym s.state_is ∙ p.0))
+    | inr p ↦ fault_after h.told limit u x w old xs f s p.1
+  ]
+
+module _ {V P T : Type 0} {framing : Framing V P T} (sound : IsSound framing) where
+  pub sofar-none : (told : T) (limit : ℕ) (u : Option (List ℕ)) → Sofar framing limit u u Header []
+  sofar-none told limit u =
+      record {
+        are_items =
+            record { told = told; valid = tt; in_order = sound.none_in_order; few = omega arith };
+        state_is = refl;
+        read = Consumes-nil u;
+      }
+
+  pub sofar-next : (limit : ℕ) (u v w : Option (List ℕ)) (old new : ReaderState P) (xs : List V)
+      (x : V) → Sofar framing limit u v old xs
+      → GivesItem framing limit old new v w x → Sofar framing limit u w new (xs ++ x ∷ [])
+  sofar-next limit u v w old new xs x s h =
+      let p = placed framing h.told limit u v old xs s in
+      let a = p.are_items in
+      let t = a.told in
+      let told : framing.told (place_at framing h.told old) ≡ t =
+      ap framing.told p.place ∙ sound.told_is t xs in
+      let valid : framing.frame.IsItem t x = subst (λ (z : T). framing.frame.IsItem z x) told h.valid in
+      let follows : IsTrue (framing.may_follow (framing.place_after t xs) x) =
+      subst (λ (z : P). IsTrue (framing.may_follow z x)) p.place h.in_order in
+      let within : length xs < limit =
+      subst (λ n. n < limit) (ap framing.count p.place ∙ sound.counted t xs) h.within in
+      let goes : new ≡ Items (framing.place_after t (xs ++ x ∷ [])) =
+      h.goes_on ∙ ap (λ (z : P). Items (framing.next z x)) p.place ∙ ap Items
+      (sound.next_is t xs x) in
+      let bytes : Consumes v w (opening framing t (state_at framing t xs) ++ framing.frame.item t x) =
+      subst (Consumes v w) (λ i. p.start i ++ framing.frame.item (told i) x) h.bytes in
+      record {
+        are_items = record {
+          told = t;
+          valid =
+              all_more (framing.frame.IsItem t) xs x a.valid valid;
+          in_order =
+              sound.more_in_order t xs x a.in_order follows;
+          few =
+              omega (arith, within, length-append xs (x ∷ []));
+        };
+        state_is = goes ∙ state_more framing t xs x;
+        read = subst (Consumes u w) (read_more framing t xs x)
+            (Consumes-trans u v w (read_of framing t xs)
+            (opening framing t (state_at framing t xs) ++ framing.frame.item t x) p.read bytes);
+      }
+
+  -- a reader behind items gives an item or the end
+  pub side-from : (limit : ℕ) (u v w : Option (List ℕ)) (old new : ReaderState P) (settled : List V)
+      (o : Option V)
+      → Sofar framing limit u v old settled → Gives framing limit old new v w (Ok o)
+      → Side framing limit u w new settled o
+  side-from limit u v w old new settled (Some x) s g = sofar-next limit u v w old new settled x s g
+  side-from limit u v w old new settled None s g = elim g.bytes [
+    | inl b ↦ absurd (not_ended framing s.are_items.told settled (sym s.state_is ∙ b.0))
+    | inr b ↦
+        let p = placed framing g.told limit u v old settled s in
+        let t = p.are_items.told in
+        let count : framing.count (place_at framing g.told old) ≡ length settled =
+        ap framing.count p.place ∙ sound.counted t settled in
+        let start = opening framing t (state_at framing t settled) in
+        let last : Consumes v w (start ++ framing.frame.end (length settled)) =
+        subst (Consumes v w) (λ i. p.start i ++ framing.frame.end (count i)) b.1 in
+        record {
+          are_items = p.are_items;
+          read = subst (Consumes u w) (all_read framing t settled (framing.frame.end (length settled)))
+              (Consumes-trans u v w (read_of framing t settled)
+              (start ++ framing.frame.end (length settled)) p.read last);
+          at_end = b.2;
+        }
+  ]
+
+  -- it was read whole
+  pub whole-at : (limit : ℕ) (u w : Option (List ℕ)) (items : List V)
+      → AtEnd framing limit u w items → IfSome u (λ bytes. IsWhole framing.frame limit bytes items)
+  whole-at limit u w items s =
+      Consumes-whole u w (up_to_end framing.frame s.are_items.told items ++ framing.frame.end (length items))
+      (λ bytes. IsWhole framing.frame limit bytes items) s.read s.at_end
+      (record { are_items = s.are_items; bytes_are = refl })
+
+  -- where reading stopped, the bytes have this fault
+
+  from_header : (limit : ℕ) (y : List ℕ) (f : ReadFault) (o : Option ReadFault)
+      → framing.header_fault y ≡ o
+      → or_else o (framing.next_fault (framing.place_after (framing.told_in y) []) limit
+      (drop 6 y)) ≡ Some f → Stops framing y limit [] f
+  from_header limit y f (Some g) e h = in_header refl (e ∙ h)
+  from_header limit y f None e h =
+      let t = framing.told_in y in
+      after_items (record {
+        are_items = record {
+          told = t;
+          valid = tt;
+          in_order = sound.none_in_order;
+          few =
+              omega arith;
+        };
+        rest = drop 6 y;
+        whole = sound.header_is y e ∙ ap (λ (l : List ℕ). l ++ drop 6 y)
+            (sym (append-nil (framing.frame.header t)));
+        first = h;
+      })
+
+  pub stops_at : (limit : ℕ) (x y : List ℕ) (xs : List V) (f : ReadFault)
+      (a : AreItems framing.frame limit xs) → x ≡ read_of framing a.told xs ++ y
+      → fault_from framing (state_at framing a.told xs) limit y ≡ Some f
+      → Stops framing x limit xs f
+  stops_at limit x y [] f a took h =
+      subst (λ (z : List ℕ). Stops framing z limit [] f) (sym took)
+      (from_header limit y f (framing.header_fault y) refl h)
+  stops_at limit x y (z ∷ zs) f a took h =
+      after_items (record { are_items = a; rest = y; whole = took; first = h })
+
+  pub stops_by : (limit : ℕ) (u x : Option (List ℕ)) (xs : List V) (f : ReadFault)
+      (a : AreItems framing.frame limit xs) → Consumes u x (read_of framing a.told xs)
+      → IfSome x (λ y. fault_from framing (state_at framing a.told xs) limit y ≡ Some f)
+      → IfSome u (λ z. Stops framing z limit xs f)
+  stops_by limit None x xs f a took h = tt
+  stops_by limit (Some z) None xs f a took h = absurd took
+  stops_by limit (Some z) (Some y) xs f a took h = stops_at limit z y xs f a took h
+
+  some_stop : (limit : ℕ) (u : Option (List ℕ)) (xs : List V) (f : ReadFault)
+      → IfSome u (λ z. Stops framing z limit xs f)
+      → IfSome u (λ z. (items : List V) × Stops framing z limit items f)
+  some_stop limit None xs f h = tt
+  some_stop limit (Some z) xs f h = (xs, h)
+
+  place_same : (t : T) (xs : List V)
+      → place_at framing t (state_at framing t xs) ≡ framing.place_after t xs
+  place_same t [] = refl
+  place_same t (y ∷ ys) = refl
+
+  -- memory ran out behind these items
+  run_out : (limit : ℕ) (u w : Option (List ℕ)) (xs : List V) (a : AreItems framing.frame limit xs)
+      (read seen : List ℕ)
+      → Consumes u w (read_of framing a.told xs
+      ++ (opening framing a.told (state_at framing a.told xs) ++ read))
+      → IfSome w (λ bytes. (rest : List ℕ) × (bytes ≡ seen ++ rest))
+      → IsSettled (framing.next_fault (place_at framing a.told (state_at framing a.told xs)) limit)
+      (read ++ seen)
+      → IfSome u (λ bytes. (items : List V) × MayRunOut framing bytes limit items)
+  run_out limit None w xs a read seen took follows settled = tt
+  run_out limit (Some z) None xs a read seen took follows settled = absurd took
+  run_out limit (Some z) (Some y) xs a read seen took follows settled =
+      let t = a.told in
+      let start = read_of framing t xs ++ (opening framing t (state_at framing t xs) ++ read) in
+      let front = up_to_end framing.frame t xs in
+      let rest = follows.0 in (
+        xs,
+        record {
+          are_items = a;
+          seen = read ++ seen;
+          rest = rest;
+          whole =
+              took ∙ ap (λ (l : List ℕ). start ++ l) follows.1
+              ∙ ap (λ (l : List ℕ). l ++ (seen ++ rest)) (all_read framing t xs read)
+              ∙ append_assoc front read (seen ++ rest)
+              ∙ ap (λ (l : List ℕ). front ++ l) (sym (append_assoc read seen rest));
+          settled =
+              subst (λ (p : P). IsSettled (framing.next_fault p limit) (read ++ seen))
+              (place_same t xs) settled;
+        },
+      )
+
+  asked_behind : (limit : ℕ) (u x w : Option (List ℕ)) (xs : List V)
+      (a : AreItems framing.frame limit xs) → Consumes u x (read_of framing a.told xs)
+      → AsksForItem framing a.told limit (state_at framing a.told xs) x w
+      → IfSome u (λ bytes. (items : List V) × MayRunOut framing bytes limit items)
+  asked_behind limit u x w xs a before asks =
+      let start = opening framing a.told (state_at framing a.told xs) in
+      let m = asks.2 in
+      run_out limit u w xs a m.read m.seen
+      (Consumes-trans u x w (read_of framing a.told xs) (start ++ m.read) before
+      (Consumes-trans x asks.0 w start m.read asks.1 m.consumed)) m.follows m.settled
+
+  has_fault : (limit : ℕ) (u x w : Option (List ℕ)) (xs : List V) (f : ReadFault)
+      → FaultAfter framing limit u x w xs f → HasFault framing limit u f
+  has_fault limit u x w xs faults.Read i = tt
+  has_fault limit u x w xs faults.OutOfMemory i =
+      asked_behind limit u x w xs i.are_items i.before_it (i.at_fault.asks refl)
+  has_fault limit u x w xs f i =
+      some_stop limit u xs f (stops_by limit u x xs f i.are_items i.before_it i.at_fault.fault)
+
+  pub sofar-fault : (limit : ℕ) (u v w : Option (List ℕ)) (old new : ReaderState P) (xs : List V)
+      (f : ReadFault) → Sofar framing limit u v old xs
+      → GivesFault framing limit old new v w f → HasFault framing limit u f
+  sofar-fault limit u v w old new xs f s h =
+      has_fault limit u v w xs f (found_now limit u v w old new xs f s h)

@@ -1,0 +1,54 @@
+-- What the calls of a reader of a journal come to.
+use Rattle.flute_journal.proofs.{Common.{AsksMemory, Before, Consumes, Consumes-nil, Fact, Failed, Gives, IfErr, IsFactIn, Items, List, Ok, Err, Option, ReadFault, ReaderState, ReadsFrom, ReadsNext, Result, StaysWithin, Version, entry_in, is_open, journal_framing, place_at, state_after, next_fault, refl, subst, sym, true, [], ℕ, ◌<◌, ◌≡◌}, framing_lemmas.Framed.{gives, reads_on}, merge_lemmas.MergeBytes.{within_nil}, framing_lemmas.Passes.{entry-passes}, framing_lemmas.ReadsUpTo.{asks_seen}}
+use Rattle.std.specs.Prelude.{⊤}
+use Rattle.flute_journal.specs.Lent.{HasEntry}
+use Rattle.flute_journal.specs.declared.fault.ReadFault.TheVariants as faults
+
+-- any fault may be one of a journal
+pub any_fault : {X : Type 0} (r : Result X ReadFault) → IfErr r (λ f. ⊤)
+any_fault (Ok x) = tt
+any_fault (Err f) = tt
+
+pub reads_entries : (limit : ℕ) (before : Before) (u v : Option (List ℕ))
+    (r : Result (Option Fact) ReadFault) → ReadsNext journal_framing limit before u v r
+    → StaysWithin (entry_in before.version) (IsFactIn before.version) u v r
+    → ReadsFrom journal_framing before.version limit (Items before) u v r
+reads_entries limit before u v r h w =
+    reads_on journal_framing limit before.version before u v r h w (any_fault r)
+
+pub gives_entries : (limit : ℕ) (told : Version) (old new : ReaderState Before)
+    (u v : Option (List ℕ)) (r : Result (Option Fact) ReadFault) → is_open old ≡ true
+    → new ≡ state_after journal_framing (place_at journal_framing told old) r
+    → ReadsFrom journal_framing told limit old u v r → Gives journal_framing limit old new u v r
+gives_entries limit told old new u v r opened e h =
+    gives journal_framing limit told old new u v r opened e h
+
+-- there was no memory for an entry that was seen
+pub entry_wanted : (limit : ℕ) (before : Before) (u v : Option (List ℕ)) (f : ReadFault)
+    → before.count < limit → f ≡ faults.OutOfMemory → v ≡ u
+    → HasEntry before.version before.last u
+    → Gives journal_framing limit (Items before) (Failed f) u v (Err f)
+entry_wanted limit before u v f few is same h =
+    let fault = next_fault before limit in
+    let asks : AsksMemory fault u v =
+    asks_seen fault u v (entry_in before.version h.fact) same h.begins
+    (λ r. entry-passes limit before.count before.version before.last h.fact r h.valid few
+    h.in_order) in
+    let P : ReadFault → Type 0 =
+    λ g. Gives journal_framing limit (Items before) (Failed g) u v (Err g) in
+    subst P (sym is)
+    (gives journal_framing limit before.version (Items before) (Failed faults.OutOfMemory) u v
+    (Err faults.OutOfMemory) refl refl
+    (reads_on journal_framing limit before.version before u v (Err faults.OutOfMemory) asks (
+      [],
+      subst (λ (x : Option (List ℕ)). Consumes u x []) (sym same) (Consumes-nil u),
+      within_nil before.version,
+    ) tt))
+
+-- the same of a state and bytes that are known by equations
+pub gives_at : (limit : ℕ) (at old new : ReaderState Before) (x u v : Option (List ℕ))
+    (r : Result (Option Fact) ReadFault) → at ≡ old → x ≡ u
+    → Gives journal_framing limit at new x v r → Gives journal_framing limit old new u v r
+gives_at limit at old new x u v r is same g =
+    subst (λ (z : Option (List ℕ)). Gives journal_framing limit old new z v r) same
+    (subst (λ (s : ReaderState Before). Gives journal_framing limit s new x v r) is g)

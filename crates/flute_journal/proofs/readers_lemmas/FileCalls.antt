@@ -1,0 +1,53 @@
+-- What the calls of a reader of datagrams come to.
+use Rattle.flute_journal.proofs.{Common.{Bool, Consumes, Err, Gives, Header, IfErr, IsDatagram, IsFileFault, Items, List, Ok, Option, Parses, ReadFault, ReaderState, ReadsFrom, ReadsNext, Result, Some, StaysWithin, StopsReading, [], arith, bytes_eq, cut, drop, false, file_framing, file_header, first_fault, is_open, left_by, not, opening_fault, place_at, record_of, refl, state_after, subst, take, or_failed, true, ℕ, ◌++◌, ◌∷◌, ◌≡◌}, framing_lemmas.Framed.{reads_on, reads_first, gives}, framing_lemmas.Framings.{file_sound}}
+use Rattle.flute_journal.specs.declared.fault.ReadFault.TheVariants as faults
+
+-- a header has no other faults
+opening_faults : (a b c d : Bool) (f : ReadFault) → first_fault ((a, faults.Cut) ∷ (b, faults.Magic) ∷ (c, faults.Cut) ∷ (d, faults.Version) ∷ []) ≡ Some f → IsFileFault f
+opening_faults true b c d f e = let is : faults.Cut ≡ f = cc in subst IsFileFault is tt
+opening_faults false true c d f e = let is : faults.Magic ≡ f = cc in subst IsFileFault is tt
+opening_faults false false true d f e = let is : faults.Cut ≡ f = cc in subst IsFileFault is tt
+opening_faults false false false true f e = let is : faults.Version ≡ f = cc in subst IsFileFault is tt
+opening_faults false false false false f e = absurd cc
+
+opening_stops : (o front : List ℕ) (f : ReadFault) → StopsReading 6 (opening_fault o) front f → IsFileFault f
+opening_stops o front f s =
+    let bs = front ++ [] in
+    opening_faults (cut 4 bs).0 (not (bytes_eq (take 4 bs) (take 4 o))) (cut 6 bs).0 (not (bytes_eq (take 2 (drop 4 bs)) (take 2 (drop 4 o)))) f (s.whole [] (λ e. refl))
+
+left_faults : (f : ReadFault) → IsFileFault f → IsFileFault (left_by f)
+left_faults faults.Cut h = tt
+left_faults f h = h
+
+pub opening_told : {T : Type 0} (o : List ℕ) (failed : Bool) (front : List ℕ)
+    (r : Result T ReadFault) (P : List ℕ → Type 0)
+    → Parses 6 (λ _. P front) (opening_fault o) front r
+    → IfErr (or_failed failed r) IsFileFault
+opening_told o true front (Ok x) P p = tt
+opening_told o false front (Ok x) P p = tt
+opening_told o true front (Err f) P p = left_faults f (opening_stops o front f p)
+opening_told o false front (Err f) P p = opening_stops o front f p
+
+pub reads_record : (limit count : ℕ) (u v : Option (List ℕ))
+    (r : Result (Option (List ℕ)) ReadFault) → ReadsNext file_framing limit count u v r
+    → StaysWithin record_of IsDatagram u v r
+    → IfErr r IsFileFault → ReadsFrom file_framing tt limit (Items count) u v r
+reads_record limit count u v r h w k = reads_on file_framing limit tt count u v r h w k
+
+pub reads_file_first : (limit : ℕ) (u v w : Option (List ℕ))
+    (r : Result (Option (List ℕ)) ReadFault) → Consumes u v file_header
+    → ReadsNext file_framing limit 0 v w r
+    → StaysWithin record_of IsDatagram v w r → IfErr r IsFileFault
+    → ReadsFrom file_framing tt limit Header u w r
+reads_file_first limit u v w r took h s k = reads_first file_sound limit tt u v w r took h s k
+
+-- what a reader gives from a state that is known by an equation
+pub gives_of_file_at : (limit count : ℕ) (at old new : ReaderState ℕ) (u v w : Option (List ℕ))
+    (r s : Result (Option (List ℕ)) ReadFault) → old ≡ at → is_open at ≡ true
+    → count ≡ place_at file_framing tt at → r ≡ s → v ≡ w → new ≡ state_after file_framing count r
+    → ReadsFrom file_framing tt limit at u w s → Gives file_framing limit old new u v r
+gives_of_file_at limit count at old new u v w r s is opened counted gave left behind h =
+    grind (arith, gives)
+
+-- what a reader of datagrams gives, of the record that it read
+pub ruleset gives_next = (gives_of_file_at, reads_record)

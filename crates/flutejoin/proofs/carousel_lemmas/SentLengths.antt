@@ -1,0 +1,155 @@
+-- Where one packet of an object can be written, and those before it, all can.
+use Rattle.std.proofs.Common.{◌≡◌, ℕ, zero, suc, ◌+◌, ◌-◌, ◌*◌, ◌^◌, ◌<◌, ◌≤◌, min, max, inl}
+use Rattle.std.proofs.Common.{inr, List, [], ◌∷◌, ◌++◌, length, take, drop, Bool, true, false, cond}
+use Rattle.std.proofs.Common.{leb, ltb, Option, Some, None, refl, sym, ap, subst, ◌∙◌, arith}
+use Rattle.std.proofs.Common.{length-append, length-take, length-drop}
+use Rattle.std.specs.Prelude.{slice_get}
+use Rattle.std.specs.Int.{div_ceil}
+use Rattle.std.specs.Option.{option_map, option_or}
+use Rattle.std.proofs.Math.Nat.{eq-zero-or-pos, mul-le-mul_right}
+use Rattle.std.proofs.lemmas.Bool.{le-ltb, ltb-false}
+use Rattle.std.proofs.lemmas.Bool.Decides.{nat_tests}
+use Rattle.std.proofs.lemmas.Grind.{div_ceil_times}
+use Rattle.std.proofs.lemmas.Option.{slice_get_within, slice_get_cases, slice_get-get_or, same_Some}
+use Rattle.flute_parts.specs.Information.{Information, IsValid}
+use Rattle.flute_parts.specs.Partition.{ids}
+use Rattle.flute_parts.specs.declared.key.Key.{Key}
+use Rattle.flute_parts.specs.declared.symbol_id.SymbolId.{SymbolId}
+use Rattle.flute_parts.proofs.Public.{ids_counted}
+use Rattle.flute_wire.specs.Carousel.{piece, packets_of, first_object_fault}
+use Rattle.flute_wire.specs.Content.{Content}
+use Rattle.flute_wire.specs.Writing.{packet_at, spelling, fdt_bytes, fti_bytes, symbol_bytes}
+use Rattle.flute_wire.specs.Writing.{has_no_byte, write_fault}
+use Rattle.flute_wire.specs.declared.writing.WriteFault.{WriteFault}
+use Rattle.flute_wire.specs.declared.writing.WriteFault.TheVariants.{Tsi, Toi, EmptySymbol, TooLong}
+use Rattle.flutejoin.specs.Sending.{packet_with}
+use Rattle.flutejoin.proofs.carousel_lemmas.SentPackets.{length-packets_of, no_symbol, or_none, packet_there}
+
+abbrev chain : Bool → Bool → Bool → Bool → Option WriteFault
+chain a b s l =
+    cond a (Some Tsi) (cond b (Some Toi) (cond s (Some EmptySymbol) (cond l (Some TooLong) None)))
+
+none_applies : (a b s l : Bool) → chain a b s l ≡ None
+    → (a ≡ false) × (b ≡ false) × (s ≡ false) × (l ≡ false)
+none_applies true b s l e = absurd (cc)
+none_applies false true s l e = absurd (cc)
+none_applies false false true l e = absurd (cc)
+none_applies false false false true e = absurd (cc)
+none_applies false false false false e = (refl, refl, refl, refl)
+
+no_fault : (a b s l : Bool) → a ≡ false → b ≡ false → s ≡ false → l ≡ false
+    → chain a b s l ≡ None
+no_fault a b s l one two three four = rw (one, two, three, four) refl
+
+-- a packet with a symbol that is no longer can be written too
+shorter : (key : Key) (i : Option Information) (id other : SymbolId) (bytes more : List ℕ)
+    → (0 < length bytes) × (length bytes ≤ length more)
+    → write_fault (packet_at key i (Some (other, more))) ≡ None
+    → write_fault (packet_at key i (Some (id, bytes))) ≡ None
+shorter key i id other bytes more fits none =
+    let c = packet_at key i (Some (id, bytes)) in
+    let d = packet_at key i (Some (other, more)) in
+    let p = none_applies (leb (2 ^ 32) d.tsi) (leb (2 ^ 32) d.toi) (has_no_byte d.symbol)
+    (ltb 65535 (length (spelling d))) none in
+    let front = fdt_bytes c.instance ++ fti_bytes i in
+    let a = length-append front (symbol_bytes (Some (id, bytes))) in
+    let b = length-append front (symbol_bytes (Some (other, more))) in
+    let l : length (spelling d) ≤ 65535 = ltb-false 65535 (length (spelling d)) p.3 in
+    let some : has_no_byte c.symbol ≡ false = grind (arith, nat_tests) in
+    let short : length (spelling c) ≤ 65535 = omega (arith, a, b, l, fits.1) in
+    no_fault (leb (2 ^ 32) c.tsi) (leb (2 ^ 32) c.toi) (has_no_byte c.symbol)
+    (ltb 65535 (length (spelling c))) p.0 p.1 some (le-ltb 65535 (length (spelling c)) short)
+
+length-piece : (i : Information) (content : List ℕ) (k : ℕ)
+    → length (piece i content k) ≡ min i.symbol_length (length content - k * i.symbol_length)
+length-piece i content k =
+    length-take i.symbol_length (drop (k * i.symbol_length) content)
+    ∙ ap (min i.symbol_length) (length-drop (k * i.symbol_length) content)
+
+below : (k t e l : ℕ) → k < t → t * e < l + e → k * e < l
+below k t e l h b =
+    let m : (k + 1) * e ≤ t * e = mul-le-mul_right e (omega arith) in
+    let d : (k + 1) * e ≡ k * e + e = grind arith in
+    omega (arith, m, d, b)
+
+first_none : (cs : List Content)
+    → ((k : ℕ) (c : Content) → slice_get cs k ≡ Some c → write_fault c ≡ None)
+    → first_object_fault cs ≡ None
+first_none [] each = refl
+first_none (x ∷ cs) each =
+    ap (λ (f : Option WriteFault). option_or f (first_object_fault cs)) (each 0 x refl)
+    ∙ first_none cs (λ k c h. each (suc k) c h)
+
+-- the first packet has no fault if none of some has, and the next
+first_of : (cs : List Content) (k : ℕ) (c d : Content) → first_object_fault (take k cs) ≡ None
+    → slice_get cs k ≡ Some c → write_fault c ≡ None → slice_get cs 0 ≡ Some d
+    → write_fault d ≡ None
+first_of [] k c d before here h first = absurd (cc)
+first_of (x ∷ cs) zero c d before here h first =
+    let is : c ≡ d = cc in subst (λ e. write_fault e ≡ None) is h
+first_of (x ∷ cs) (suc k) c d before here h first =
+    let is : x ≡ d = cc in
+    subst (λ e. write_fault e ≡ None) is
+    (or_none (write_fault x) (first_object_fault (take k cs)) before).0
+
+module _ (key : Key) (i : Information) (content : List ℕ) (valid : IsValid i)
+    (whole : length content ≡ i.transfer_length) where
+  abbrev packet : ℕ → Content
+  packet k = packet_with key i k (piece i content k)
+
+  begins_within : (k : ℕ) → k < length (ids i) → k * i.symbol_length < i.transfer_length
+  begins_within k h = elim (eq-zero-or-pos i.transfer_length) [
+    | inl z ↦ absurd (omega (arith, h, no_symbol i valid z))
+    | inr l ↦ below k (div_ceil i.transfer_length i.symbol_length) i.symbol_length
+        i.transfer_length (omega (arith, h, ids_counted i valid))
+        (div_ceil_times i.transfer_length i.symbol_length (valid.parts l).symbol).1
+  ]
+
+  each_sent : write_fault (packet 0) ≡ None → (k : ℕ) → k < max (length (ids i)) 1
+      → write_fault (packet k) ≡ None
+  each_sent none k h = elim ((slice_get_cases (ids i) k).1) [
+    | inr past ↦
+        let first : k ≡ 0 = omega (arith, h, past.0) in
+        subst (λ (j : ℕ). write_fault (packet j) ≡ None) (sym first) none
+    | inl there ↦
+        let id = there.0 in
+        let some : slice_get (ids i) 0 ≡ Some _ =
+        slice_get-get_or (ids i) 0 id (omega (arith, there.1)) in
+        let begins = begins_within k there.1 in
+        let size : 0 < i.symbol_length = (valid.parts (omega (arith, begins))).symbol in
+        let one = subst (λ (o : Option SymbolId). write_fault (packet_at key (Some i)
+        (option_map (λ d. (d, piece i content 0)) o)) ≡ None) some none in
+        let fits : (0 < length (piece i content k))
+        × (length (piece i content k) ≤ length (piece i content 0)) = (
+          omega (arith, length-piece i content k, begins, size, whole),
+          omega (arith, length-piece i content k, length-piece i content 0),
+        ) in
+        subst (λ (o : Option SymbolId). write_fault (packet_at key (Some i)
+        (option_map (λ d. (d, piece i content k)) o)) ≡ None) (sym there.2)
+        (shorter key (Some i) id _ (piece i content k) (piece i content 0) fits one)
+  ]
+
+  -- no packet has a fault, if none of the first has, and the next
+  pub none_fails : (place : ℕ) → place < max (length (ids i)) 1
+      → first_object_fault (take place (packets_of key i content)) ≡ None
+      → write_fault (packet place) ≡ None → first_object_fault (packets_of key i content) ≡ None
+  none_fails place within before h =
+      first_none (packets_of key i content) each
+    where
+      first : write_fault (packet 0) ≡ None
+      first = first_of (packets_of key i content) place (packet place) (packet 0) before
+          (packet_there key i content place valid within) h
+          (packet_there key i content 0 valid (omega (arith, within)))
+
+      each : (k : ℕ) (c : Content) → slice_get (packets_of key i content) k ≡ Some c
+          → write_fault c ≡ None
+      each k c some =
+          let w : k < max (length (ids i)) 1 =
+          omega (
+            arith,
+            slice_get_within (packets_of key i content) k c some,
+            length-packets_of key i content valid,
+          ) in
+          let is : packet k ≡ c =
+          same_Some (packet k) c (sym (packet_there key i content k valid w) ∙ some) in
+          subst (λ e. write_fault e ≡ None) is (each_sent first k w)

@@ -1,0 +1,200 @@
+-- How far an object was sent.
+use Rattle.std.proofs.Common.{◌≡◌, ℕ, ◌+◌, ◌*◌, ◌==◌, ◌<◌, max, inl, inr, List, [], ◌∷◌}
+use Rattle.std.proofs.Common.{◌++◌, length, take, drop, Bool, true, false, cond, Option, Some, None}
+use Rattle.std.proofs.Common.{Err, refl, sym, ap, subst, ◌∙◌, arith}
+use Rattle.std.proofs.Common.{append-nil, length-append, take_all, drop-drop}
+use Rattle.std.specs.Prelude.{◌⊎◌, slice_get, flat_map}
+use Rattle.std.specs.Io.KnownBytes.{Appends, Consumes}
+use Rattle.std.specs.List.{AllZip, AllByRecursion}
+use Rattle.std.proofs.KnownBytes.{Appends-nil, Appends-trans, Consumes-nil, Consumes-trans}
+use Rattle.std.proofs.lemmas.Bool.Decides.{nat_tests}
+use Rattle.std.proofs.lemmas.List.{flat_map_more}
+use Rattle.flute_parts.specs.Devices.{AppendsPart, times_failed}
+use Rattle.flute_parts.specs.Information.{Information, IsValid}
+use Rattle.flute_parts.specs.Partition.{ids}
+use Rattle.flute_parts.specs.declared.key.Key.{Key}
+use Rattle.flute_parts.proofs.Public.{AppendsPart-first, AppendsPart-second}
+use Rattle.flute_wire.specs.Carousel.{piece, packets_of, first_object_fault}
+use Rattle.flute_wire.specs.Content.{Content}
+use Rattle.flute_wire.specs.Writing.{IsWritten, write_fault}
+use Rattle.flute_journal.specs.Records.{file_header, record_of, IsDatagram}
+use Rattle.flute_journal.proofs.Public.{all_more}
+use Rattle.flutejoin.specs.Carousel.{WritesFile}
+use Rattle.flutejoin.specs.Extract.{SinkFails}
+use Rattle.flutejoin.specs.Sending.{ReadsOf, IsReadFault, IsPacketFault, packet_with, OfPackets}
+use Rattle.flutejoin.specs.Sending.{UnlessRead, IsNextFault}
+use Rattle.flutejoin.specs.Sending.{SendsPackets, Grows, GrowsOn, record_at, file_up_to}
+use Rattle.flutejoin.specs.declared.command_fault.CommandFault.{CommandFault}
+use Rattle.flutejoin.specs.declared.command_fault.CommandFault.TheVariants.{CannotSend, CannotWrite}
+use Rattle.flutejoin.specs.declared.command_fault.CommandFault.TheVariants.{Input, OutOfMemory}
+use Rattle.flutejoin.proofs.carousel_lemmas.SentLengths.{none_fails}
+use Rattle.flutejoin.proofs.carousel_lemmas.SentPackets.{length-packets_of, packet_there, first_at, none_more}
+use Rattle.flutejoin.proofs.carousel_lemmas.SentPackets.{take_one_more, both_more}
+
+-- ---- the file
+
+file_more : (place : ℕ) (ds : List (List ℕ)) (d : List ℕ) → place ≡ length ds
+    → file_up_to (ds ++ d ∷ []) ≡ file_up_to ds ++ record_at place d
+file_more place [] d e =
+    subst (λ p. file_up_to (d ∷ []) ≡ record_at p d) (sym e)
+    (ap (λ x. file_header ++ x) (append-nil (record_of d)))
+file_more place (x ∷ ds) d e =
+    let later : (place == 0) ≡ false = grind (arith, nat_tests) in
+    let is : record_at place d ≡ record_of d =
+    ap (λ b. cond b (file_header ++ record_of d) (record_of d)) later in
+    sym (ap (λ r. file_up_to (x ∷ ds) ++ r) is
+    ∙ flat_map_more record_of file_header (x ∷ ds) d)
+
+file_whole : (ds : List (List ℕ)) → 0 < length ds
+    → file_up_to ds ≡ file_header ++ flat_map record_of ds
+file_whole [] h = absurd (omega (arith, h))
+file_whole (d ∷ ds) h = refl
+
+-- the sink has the next bytes too, or has failed
+pub grows_on : (f g : Bool) (a b c : Option (List ℕ)) (front more : List ℕ) → Grows f a b front
+    → GrowsOn f g b c more → Grows g a c (front ++ more)
+grows_on true g a b c front more p q =
+    subst (λ h. Grows h a c (front ++ more)) (sym q.0)
+    (subst (λ x. AppendsPart a x (front ++ more)) (sym q.1) (AppendsPart-first a b front more p))
+grows_on false false a b c front more p q = Appends-trans a b c front more p q
+grows_on false true a b c front more p q = AppendsPart-second a b c front more p q
+
+-- ---- what was read
+
+pub nothing_read : (u : Option (List ℕ)) (left : ℕ) → ReadsOf u u left left
+nothing_read u left = record { bytes = []; read = Consumes-nil u; counted = omega arith }
+
+pub reads_on : (u v w : Option (List ℕ)) (a b c : ℕ) → ReadsOf u v a b → ReadsOf v w b c
+    → ReadsOf u w a c
+reads_on u v w a b c p q = record {
+  bytes = p.bytes ++ q.bytes;
+  read = Consumes-trans u v w p.bytes q.bytes p.read q.read;
+  counted = omega (arith, length-append p.bytes q.bytes, p.counted, q.counted);
+}
+
+-- as many bytes are left as were not read
+pub left_are : (content rest : List ℕ) (u v : Option (List ℕ)) (a b : ℕ) → ReadsOf u v a b
+    → u ≡ Some content → v ≡ Some rest → length content ≡ a → length rest ≡ b
+left_are content rest u v a b r known now whole =
+    let e : content ≡ r.bytes ++ rest =
+    subst (λ y. Consumes (Some content) y r.bytes) now
+    (subst (λ x. Consumes x v r.bytes) known r.read) in
+    omega (arith, ap length e, length-append r.bytes rest, r.counted, whole)
+
+-- ---- the object
+
+module _ (key : Key) (i : Information) (content : List ℕ) where
+  -- the packets before a place were sent, and nothing else
+  pub record SentSoFar (place : ℕ) (unread : Option (List ℕ)) (failed : Bool)
+      (old now : Option (List ℕ)) : Type 0 where
+    pub datagrams : List (List ℕ)
+    pub written : AllZip IsWritten datagrams (take place (packets_of key i content))
+    pub sound : first_object_fault (take place (packets_of key i content)) ≡ None
+    pub valid : AllByRecursion IsDatagram datagrams
+    pub counted : place ≡ length datagrams
+    pub grown : Grows failed old now (file_up_to datagrams)
+    pub rest : unread ≡ Some (drop (place * i.symbol_length) content)
+
+  pub nothing_sent : (u old : Option (List ℕ)) → u ≡ Some content → SentSoFar 0 u false old old
+  nothing_sent u old known = record {
+    datagrams = [];
+    written = tt;
+    sound = refl;
+    valid = tt;
+    counted = refl;
+    grown = Appends-nil old;
+    rest = known ∙ ap (λ (n : ℕ). Some (drop n content))
+        (let e : 0 ≡ 0 * i.symbol_length = omega arith in e);
+  }
+
+  module _ (valid : IsValid i) (place : ℕ) (within : place < max (length (ids i)) 1) where
+    abbrev pub packet : Content
+    packet = packet_with key i place (piece i content place)
+
+    here : slice_get (packets_of key i content) place ≡ Some packet
+    here = packet_there key i content place valid within
+
+    pub sent_next : {u v old mid now : Option (List ℕ)} {f g : Bool} (d : List ℕ)
+        → SentSoFar place u f old mid → IsWritten d packet × (write_fault packet ≡ None)
+        → IsDatagram d → GrowsOn f g mid now (record_at place d)
+        → v ≡ Some (drop i.symbol_length (drop (place * i.symbol_length) content))
+        → SentSoFar (place + 1) v g old now
+    sent_next {u = u} {v = v} {old = old} {mid = mid} {now = now} {f = f} {g = g} d s made is put
+        left =
+        let cs = packets_of key i content in
+        let more = take_one_more cs place packet here in
+        let next : drop i.symbol_length (drop (place * i.symbol_length) content)
+        ≡ drop ((place + 1) * i.symbol_length) content =
+        drop-drop i.symbol_length (place * i.symbol_length) content
+        ∙ ap (λ n. drop n content) (let e : place * i.symbol_length + i.symbol_length
+        ≡ (place + 1) * i.symbol_length = grind arith in e) in
+        record {
+          datagrams = s.datagrams ++ d ∷ [];
+          written = subst (AllZip IsWritten (s.datagrams ++ d ∷ [])) (sym more)
+              (both_more s.datagrams (take place cs) d packet s.written made.0);
+          sound = subst (λ xs. first_object_fault xs ≡ None) (sym more)
+              (none_more (take place cs) packet s.sound made.1);
+          valid = all_more IsDatagram s.datagrams d s.valid is;
+          counted = omega (arith, s.counted, length-append s.datagrams (d ∷ []));
+          grown = subst (Grows g old now) (sym (file_more place s.datagrams d s.counted))
+              (grows_on f g old mid now (file_up_to s.datagrams) (record_at place d) s.grown put);
+          rest = left ∙ ap (λ x. Some x) next;
+        }
+
+    pub fails_at : {u old mid : Option (List ℕ)} {f : Bool} (fault : CommandFault)
+        → length content ≡ i.transfer_length → SentSoFar place u f old mid
+        → IsReadFault fault ⊎ IsPacketFault packet fault
+        → SendsPackets (packets_of key i content) old mid (Err fault)
+    fails_at (CannotSend w) whole s (inl h) = absurd (cc)
+    fails_at (CannotSend w) whole s (inr h) =
+        first_at (packets_of key i content) place packet w s.sound here h
+    fails_at (Input n w) whole s h = tt
+    fails_at OutOfMemory whole s (inl h) = absurd (cc)
+    fails_at OutOfMemory whole s (inr h) =
+        none_fails key i content valid whole place within s.sound h
+    fails_at CannotWrite whole s (inl h) = absurd (cc)
+    fails_at CannotWrite whole s (inr h) = absurd h
+    fails_at _ whole s h = tt
+
+  module _ (valid : IsValid i) (count : ℕ) (all : count ≡ max (length (ids i)) 1) where
+    whole : take count (packets_of key i content) ≡ packets_of key i content
+    whole = take_all count (packets_of key i content)
+        (omega (arith, all, length-packets_of key i content valid))
+
+    pub sent_all : {u old now : Option (List ℕ)} → SentSoFar count u false old now
+        → OfPackets (packets_of key i content) (λ d. WritesFile d count old now)
+    sent_all {u = u} {old = old} {now = now} s =
+        let is = file_whole s.datagrams (omega (arith, s.counted, all)) in (
+          s.datagrams,
+          subst (AllZip IsWritten s.datagrams) whole s.written,
+          record {
+            appended = subst (Appends old now) is s.grown;
+            file = record { valid = s.valid; bytes_are = refl };
+            count = s.counted;
+          },
+        )
+
+    pub sent_part : {u old now : Option (List ℕ)} → SentSoFar count u true old now
+        → OfPackets (packets_of key i content)
+        (λ d. AppendsPart old now (file_header ++ flat_map record_of d))
+    sent_part {u = u} {old = old} {now = now} s =
+        let is = file_whole s.datagrams (omega (arith, s.counted, all)) in (
+          s.datagrams,
+          subst (AllZip IsWritten s.datagrams) whole s.written,
+          subst (AppendsPart old now) is s.grown,
+        )
+
+-- ---- what is told
+
+-- what holds unless the input cannot be read, of another answer
+pub unless_on : (S T P Q : Type 0) (f : CommandFault) → (P → Q)
+    → UnlessRead {T = S} (Err f) P → UnlessRead {T = T} (Err f) Q
+unless_on S T P Q (Input n f) go p = tt
+unless_on S T P Q _ go p = go p
+
+-- the sink failed or not, and a packet has no datagram
+pub sink_fails : (failed : Bool) (old new : ℕ) (f : CommandFault) → new ≡ old + times_failed failed
+    → IsNextFault f → SinkFails old new (Err f)
+sink_fails failed old new CannotWrite e h = absurd h
+sink_fails true old new _ e h = inr e
+sink_fails false old new _ e h = inl (omega (arith, e))

@@ -1,0 +1,344 @@
+-- What is written of an object, by the entries of a journal that passed.
+use Rattle.std.proofs.Common.{◌≡◌, ℕ, ◌+◌, Bool, true, false, List, [], ◌∷◌, ◌++◌, length, Option, Some, None, Result, Ok, Err, inl, inr, refl, sym, ◌∙◌, subst, append-nil, arith}
+use Rattle.std.specs.Prelude.{◌⊎◌, IfSome, IfErr}
+use Rattle.std.specs.Io.KnownBytes.{Appends}
+use Rattle.std.proofs.lemmas.Option.{none-some}
+use Rattle.flute_parts.specs.Addresses.{info_address}
+use Rattle.flute_parts.specs.Devices.{AppendsPart, times_failed}
+use Rattle.flute_parts.specs.Facts.{IsRising, Same}
+use Rattle.flute_parts.specs.Tally.{Counts}
+use Rattle.flute_parts.specs.declared.fact.Fact.{Fact}
+use Rattle.flute_parts.specs.declared.key.Key.{Key}
+use Rattle.flute_parts.specs.declared.tally.Tally.{Tally}
+use Rattle.flute_parts.proofs.Public.{fact_at-nil, Same-itself}
+use Rattle.flute_parts.specs.Limits.{Over}
+use Rattle.flute_store.proofs.Public.{gaps-same, object-same, Whole-same}
+use Rattle.flute_journal.specs.JournalFraming.{journal_framing}
+use Rattle.flute_journal.specs.Framing.{Gives, GivesItem, GivesEnd, GivesFault, Sofar}
+use Rattle.flute_journal.specs.Stores.{BeginsWith, FailsToLoad}
+use Rattle.flute_journal.specs.declared.fault.LoadFault.{LoadFault}
+use Rattle.flute_journal.specs.declared.fault.LoadFault.TheVariants as load
+use Rattle.flute_journal.specs.declared.fault.ReadFault.{ReadFault}
+use Rattle.flute_journal.specs.declared.readers.reader_state.ReaderState.{ReaderState}
+use Rattle.flute_journal.specs.declared.readers.entry_fields.Before.{Before}
+use Rattle.flute_journal.proofs.Public.{Loaded, loaded-over, whole-at, side-from, journal_sound, sofar-next, sofar-stops}
+use Rattle.flutejoin.specs.Extract.{OfJournal, AnswersFrom, Extracts, FirstWritten, WritesFirst, SinkFails}
+use Rattle.flutejoin.specs.Limits.{Limits, at_most}
+use Rattle.flutejoin.specs.ObjectWriters.{WroteFirst, WritesNothing, TellsUntouched, FailedBy, Stands, PassesAll}
+use Rattle.flutejoin.specs.Show.{FailsToRead}
+use Rattle.flutejoin.specs.Status.{of_load}
+use Rattle.flutejoin.specs.declared.command_fault.CommandFault.{CommandFault}
+use Rattle.flutejoin.specs.declared.command_fault.CommandFault.TheVariants.{Input, Full, NoObject, NoInformation, ConflictingInformation, NotWhole, CannotWrite}
+use Rattle.flutejoin.specs.declared.limits.TheConstants.{MAX_ENTRIES}
+use Rattle.flutejoin.specs.declared.extract.object_writer.Found.{Found}
+use Rattle.flutejoin.specs.declared.extract.object_writer.ObjectWriter.{ObjectWriter}
+use Rattle.flutejoin.proofs.extract_lemmas.ObjectWriters.{wrote-some}
+use Rattle.flutejoin.proofs.Shown.{fails_same}
+
+-- these entries were read, counted and passed, and nothing else
+pub record Passing {a b d : ℕ} (input left : Option (List ℕ)) (state : ReaderState Before)
+    (tally : Tally a b d) (writer : ObjectWriter) (start now : Option (List ℕ)) : Type 0 where
+  pub entries : List Fact
+  pub sofar : Sofar journal_framing MAX_ENTRIES input left state entries
+  pub counts : Counts a b d entries tally
+  pub stands : Stands entries writer start now
+
+begins_at : (u v : Option (List ℕ)) (state : ReaderState Before) (es : List Fact)
+    → Sofar journal_framing MAX_ENTRIES u v state es
+    → (es ≡ []) ⊎ IfSome u (λ bytes. BeginsWith MAX_ENTRIES bytes es)
+begins_at u v state [] s = inl refl
+begins_at None v state (e ∷ es) s = inr tt
+begins_at (Some x) None state (e ∷ es) s = absurd s.read
+begins_at (Some x) (Some z) state (e ∷ es) s =
+    inr (record { are_items = s.are_items; rest = z; whole = s.read })
+
+module _ {a b d : ℕ} {u v w : Option (List ℕ)} {from to : ReaderState Before} {tally : Tally a b d}
+    {writer : ObjectWriter} {s t : Option (List ℕ)} (p : Passing u v from tally writer s t) where
+  pub passing-next : (f : Fact) (next : Tally a b d) (new : ObjectWriter)
+      (t' : Option (List ℕ)) → GivesItem journal_framing MAX_ENTRIES from to v w f
+      → ((F : List Fact) → IsRising (F ++ f ∷ []) → Counts a b d F tally
+      → Counts a b d (F ++ f ∷ []) next)
+      → ((P : List Fact) → IsRising (P ++ f ∷ []) → Stands P writer s t
+      → Stands (P ++ f ∷ []) new s t') → Passing u w to next new s t'
+  passing-next f next new t' g counts stands =
+      let more = sofar-next journal_sound MAX_ENTRIES u v w from to p.entries f p.sofar g in
+      record {
+        entries = p.entries ++ f ∷ [];
+        sofar = more;
+        counts = counts p.entries more.are_items.in_order p.counts;
+        stands = stands p.entries more.are_items.in_order p.stands;
+      }
+
+  pub passing-fault : (f : ReadFault) → GivesFault journal_framing MAX_ENTRIES from to v w f
+      → PassesAll (at_most a b d) u w writer s t (Err (load.Read f))
+  passing-fault f g = record {
+    entries = p.entries;
+    rising = p.sofar.are_items.in_order;
+    begins = begins_at u v from p.entries p.sofar;
+    stands = p.stands;
+    ended = (
+      p.entries,
+      p.counts.within,
+      (sofar-stops MAX_ENTRIES u v w from to p.entries f p.sofar g).0,
+    );
+  }
+
+  pub passing-full : (f : Fact) → GivesItem journal_framing MAX_ENTRIES from to v w f
+      → ((F : List Fact) → IsRising (F ++ f ∷ []) → Counts a b d F tally
+      → Over (F ++ f ∷ []) a b d) → PassesAll (at_most a b d) u w writer s t (Err load.Full)
+  passing-full f g over =
+      let more = sofar-next journal_sound MAX_ENTRIES u v w from to p.entries f p.sofar g in
+      let loaded : Loaded a b d MAX_ENTRIES u v from p.entries =
+      record {
+        entries = p.entries;
+        sofar = p.sofar;
+        same = Same-itself p.entries;
+        fits =
+            p.counts.within;
+      } in
+      record {
+        entries = p.entries;
+        rising = p.sofar.are_items.in_order;
+        begins = begins_at u v from p.entries p.sofar;
+        stands = p.stands;
+        ended = loaded-over a b d MAX_ENTRIES u v w from to p.entries f loaded g
+            (over p.entries more.are_items.in_order p.counts);
+      }
+
+  pub passing-end : GivesEnd journal_framing from to v w → PassesAll (at_most a b d) u w writer s t
+      (Ok tt)
+  passing-end g =
+      let end = side-from journal_sound MAX_ENTRIES u v w from to p.entries None p.sofar g in
+      let journal = whole-at journal_sound MAX_ENTRIES u w p.entries end in
+      record {
+        entries = p.entries;
+        rising = p.sofar.are_items.in_order;
+        begins = begins_at u v from p.entries p.sofar;
+        stands = p.stands;
+        ended = (journal, end.at_end, p.counts.within);
+      }
+
+-- What a reader gave.
+
+pub given-fault : (limit bound : ℕ) (v w : Option (List ℕ)) (old new : ReaderState Before)
+    (f : ReadFault) → bound ≡ limit → GivesFault journal_framing bound old new v w f
+    → GivesFault journal_framing limit old new v w f
+given-fault limit bound v w old new f e h =
+    subst (λ n. GivesFault journal_framing n old new v w f) e h
+
+pub given-end : (bound : ℕ) (v w : Option (List ℕ)) (old new : ReaderState Before)
+    (given : Option Fact) → given ≡ None → Gives journal_framing bound old new v w (Ok given)
+    → GivesEnd journal_framing old new v w
+given-end bound v w old new given e h =
+    subst (λ (o : Option Fact). Gives journal_framing bound old new v w (Ok o)) e h
+
+-- What the command answers.
+
+pub of_source : {R : Type 0} {most : Limits} (unread : R → Option (List ℕ)) (x y : R) (left :
+    Option (List ℕ))
+    (writer : ObjectWriter) (s t : Option (List ℕ)) (r : Result (Unit {0}) LoadFault) → x ≡ y
+    → PassesAll most (unread x) left writer s t r → PassesAll most (unread y) left writer s t r
+of_source {R} {most} unread x y left writer s t r e p =
+    subst (λ (z : R). PassesAll most (unread z) left writer s t r) e p
+
+pub if_err : (r : Result ℕ CommandFault) (X : Type 0) → X → IfErr r (λ _. X)
+if_err (Ok n) X x = tt
+if_err (Err f) X x = x
+
+module _ {W : Type 0} (written : W → Option (List ℕ)) (key : Key) (old new : W) where
+  -- as with the sink
+  pub lifted : (F : List Fact) (what : Found) (r : Result ℕ CommandFault)
+      → Extracts (λ x. x) F key (written old) (written new) r → IfErr r (TellsUntouched what)
+      → (WritesNothing what → new ≡ old) → Extracts written F key old new r
+  lifted F what (Ok n) h t same =
+      record {
+        info = h.info;
+        whole = h.whole;
+        bytes = h.bytes;
+        length_is = h.length_is;
+        exact =
+            h.exact;
+      }
+  lifted F what (Err NoObject) h t same = (h.0, same t)
+  lifted F what (Err NoInformation) h t same = (h.0, same t)
+  lifted F what (Err ConflictingInformation) h t same = (h.0, same t)
+  lifted F what (Err (NotWhole sbn esi)) h t same = h
+  lifted F what (Err CannotWrite) h t same =
+      record { info = h.info; whole = h.whole; bytes = h.bytes }
+  lifted F what (Err fault) h t same = absurd h
+
+  -- the same of all that comes to the same
+  pub alike : (F G : List Fact) (r : Result ℕ CommandFault) → Same F G
+      → Extracts written F key old new r → Extracts written G key old new r
+  alike F G (Ok n) same h =
+      let P : List ℕ → Type 0 = λ bytes. Appends (written old) (written new) bytes in
+      let e = object-same F G key h.info same in
+      record {
+        info = h.info;
+        whole = Whole-same F G key h.info same h.whole;
+        bytes = subst P e h.bytes;
+        length_is = h.length_is;
+        exact = subst (λ bytes. length bytes ≡ n) e h.exact;
+      }
+  alike F G (Err NoObject) same h =
+      (λ part. sym (same.each (record { key = key; part = part })) ∙ h.0 part, h.1)
+  alike F G (Err NoInformation) same h = (
+    (
+      (h.0.0.0, λ none. h.0.0.1 (same.each (record { key = key; part = h.0.0.0 }) ∙ none)),
+      sym
+          (same.each (info_address key)) ∙ h.0.1,
+    ),
+    h.1,
+  )
+  alike F G (Err ConflictingInformation) same h = (sym (same.each (info_address key)) ∙ h.0, h.1)
+  alike F G (Err (NotWhole sbn esi)) same h = record {
+    info = h.info;
+    information = sym (same.each (info_address key)) ∙ h.information;
+    gap = h.gap;
+    others = h.others;
+    gaps_are = sym (gaps-same F G key h.info same) ∙ h.gaps_are;
+    first_is = h.first_is;
+  }
+  alike F G (Err CannotWrite) same h =
+      let P : List ℕ → Type 0 = λ bytes. AppendsPart (written old) (written new) bytes in
+      record {
+        info = h.info;
+        whole = Whole-same F G key h.info same h.whole;
+        bytes =
+            subst P (object-same F G key h.info same) h.bytes;
+      }
+  alike F G (Err fault) same h = absurd h
+
+  -- of a journal that was read to its end
+  pub answered : {most : Limits} (input left : Option (List ℕ)) (F : List Fact)
+      (r : Result ℕ CommandFault) (P : List Fact → Type 0) → Extracts written F key old new r
+      → OfJournal most input left P → AnswersFrom most input left P r
+  answered input left F (Ok n) P h o = o
+  answered input left F (Err (Input number fault)) P h o = absurd h
+  answered input left F (Err Full) P h o = absurd h
+  answered input left F (Err fault) P h o = o
+
+  -- what is told by facts that are told the same
+  pub record Answers (most : Limits) (input left : Option (List ℕ))
+      (r : Result ℕ CommandFault) : Type 0 where
+    pub extracts : AnswersFrom most input left (λ F. Extracts written F key old new r) r
+    pub as_others : (others : List Fact)
+        → AnswersFrom most input left
+        (λ F. Same F others → Extracts written others key old new r) r
+    pub reads : (n m : ℕ) → m ≡ n → FailsToRead n m r
+
+  read_none : (F : List Fact) (r : Result ℕ CommandFault) → Extracts written F key old new r
+      → (n m : ℕ) → m ≡ n → FailsToRead n m r
+  read_none F (Ok n) h k m e = e
+  read_none F (Err (Input number fault)) h k m e = absurd h
+  read_none F (Err fault) h k m e = e
+
+  pub answers : {most : Limits} (input left : Option (List ℕ)) (writer : ObjectWriter)
+      (x : Unit {0}) (r : Result ℕ CommandFault)
+      → PassesAll most input left writer (written old) (written new) (Ok x)
+      → writer.key ≡ key
+      → (WritesNothing writer.found → new ≡ old)
+      → ((P : List Fact) (start now : Option (List ℕ)) → IsRising P → Stands P writer start now
+      → Extracts (λ x. x) P writer.key start now r) → IfErr r (TellsUntouched writer.found)
+      → Answers most input left r
+  answers input left writer x r p is same tells t =
+      let F = p.entries in
+      let here =
+      subst (λ k. Extracts (λ x. x) F k (written old) (written new) r) is
+      (tells F (written old) (written new) p.rising p.stands) in
+      let h = lifted F writer.found r here t same in
+      record {
+        extracts =
+            answered input left F r (λ F. Extracts written F key old new r) h
+            (record {
+              entries = F;
+              journal = p.ended.0;
+              read = p.ended.1;
+              within =
+                  p.ended.2;
+              holds = h;
+            });
+        as_others = λ others.
+            answered input left F r (λ F. Same F others → Extracts written others key old new r) h
+            (record {
+              entries = F;
+              journal = p.ended.0;
+              read = p.ended.1;
+              within =
+                  p.ended.2;
+              holds = λ s. alike F others r s h;
+            });
+        reads = read_none F r h;
+      }
+
+  pub first_part : {most : Limits} (input left : Option (List ℕ)) (writer : ObjectWriter)
+      (r : Result (Unit {0}) LoadFault)
+      → PassesAll most input left writer (written old) (written new) r
+      → writer.key ≡ key
+      → (WritesNothing writer.found → new ≡ old) → WritesFirst written input key old new
+  first_part input left writer r p is same =
+      elim (wrote-some p.entries writer.key writer.failed (written old) (written new) writer.found
+      p.stands) [
+        | inl none ↦ inl (same none)
+        | inr w ↦ inr (begun p.entries p.rising p.begins
+            (subst (λ k. WroteFirst p.entries k (written old) (written new)) is w))
+      ]
+    where
+      begun : (F : List Fact) → IsRising F
+          → (F ≡ []) ⊎ IfSome input (λ bytes. BeginsWith MAX_ENTRIES bytes F)
+          → WroteFirst F key (written old) (written new)
+          → FirstWritten input (written old) (written new) key
+      begun F rising (inl e) w =
+          absurd (none-some _ (sym (fact_at-nil (info_address key)) ∙
+          (w.held [] [] (sym (append-nil F ∙ e)) tt).information))
+      begun F rising (inr b) w =
+          record {
+            entries = F;
+            begins = b;
+            info = w.info;
+            bytes = w.bytes;
+            held =
+                w.held F [] (sym (append-nil F)) rising;
+            count = w.count;
+            appended = w.appended;
+          }
+
+-- how often the sink failed
+pub sink_fails : (n m : ℕ) (failed : Bool) (r : Result ℕ CommandFault) → m ≡ n + times_failed failed
+    → FailedBy failed r → SinkFails n m r
+sink_fails n m false (Ok k) e f = omega (arith, e)
+sink_fails n m true (Ok k) e f = absurd cc
+sink_fails n m true (Err CannotWrite) e f = e
+sink_fails n m false (Err CannotWrite) e f = absurd cc
+sink_fails n m false (Err fault) e f = inl (omega (arith, e))
+sink_fails n m true (Err fault) e f = inr e
+
+-- The fault is that of the journal.
+
+pub journal_fault : {most : Limits} (input left : Option (List ℕ)) (writer : ObjectWriter)
+    (s t : Option (List ℕ)) (f : LoadFault) (fault : CommandFault) → fault ≡ of_load 1 f
+    → (P : List Fact → Type 0)
+    → PassesAll most input left writer s t (Err f) → AnswersFrom most input left P (Err fault)
+journal_fault {most} input left writer s t f fault e P p =
+    subst (λ x. AnswersFrom most input left P (Err x)) (sym e) (told f p)
+  where
+    told : (g : LoadFault) → PassesAll most input left writer s t (Err g)
+        → AnswersFrom most input left P (Err (of_load 1 g))
+    told (load.Read g) p = (refl, p.ended)
+    told load.Full p = p.ended
+    told load.OutOfMemory p = absurd p.ended
+
+pub fault_reads : (n m : ℕ) (f : LoadFault) → FailsToLoad {T = Unit {0}} n m (Err f)
+    → FailsToRead {T = ℕ} n m (Err (of_load 1 f))
+fault_reads n m (load.Read f) h = fails_same (Unit {0}) ℕ f n m h
+fault_reads n m load.Full h = h
+fault_reads n m load.OutOfMemory h = h
+
+pub fault_fails : (n m : ℕ) (failed : Bool) (f : LoadFault) → m ≡ n + times_failed failed
+    → SinkFails n m (Err (of_load 1 f))
+fault_fails n m false (load.Read f) e = inl (omega (arith, e))
+fault_fails n m true (load.Read f) e = inr e
+fault_fails n m false load.Full e = inl (omega (arith, e))
+fault_fails n m true load.Full e = inr e
+fault_fails n m false load.OutOfMemory e = inl (omega (arith, e))
+fault_fails n m true load.OutOfMemory e = inr e

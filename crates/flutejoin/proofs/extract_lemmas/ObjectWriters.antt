@@ -1,0 +1,447 @@
+-- A writer of an object, fact by fact.
+use Rattle.std.proofs.Common.{◌≡◌, ℕ, zero, suc, ◌-◌, Bool, true, false, List, [], ◌∷◌, ◌++◌}
+use Rattle.std.proofs.Common.{length, take, drop, Option, Some, None, inl, inr, refl, sym, ap, ◌∙◌}
+use Rattle.std.proofs.Common.{subst, append_assoc, append-nil, arith}
+use Rattle.std.specs.Prelude.{Contains, ◌⊎◌, IfSome, option_map}
+use Rattle.std.specs.Borrow.{Bor}
+use Rattle.std.specs.List.{AllByRecursion}
+use Rattle.std.specs.Io.KnownBytes.{Appends}
+use Rattle.std.proofs.KnownBytes.{Appends-nil}
+use Rattle.std.proofs.Math.Seq.{take-append_seam, take-nil}
+use Rattle.std.proofs.lemmas.List.{length-append, take-append-drop}
+use Rattle.std.proofs.lemmas.List.Elements.{Contains-append_left}
+use Rattle.flute_parts.specs.Addresses.{address, info_address, symbol_address}
+use Rattle.flute_parts.specs.Facts.{IsRising}
+use Rattle.flute_parts.specs.Information.{Information, IsValid}
+use Rattle.flute_parts.specs.Partition.{ids}
+use Rattle.flute_parts.specs.declared.address.Address.{Address}
+use Rattle.flute_parts.specs.declared.fact.Fact.{Fact}
+use Rattle.flute_parts.specs.declared.fact.Fact.TheVariants.{Info}
+use Rattle.flute_parts.specs.declared.key.Key.{Key}
+use Rattle.flute_parts.specs.declared.symbol_id.SymbolId.{SymbolId}
+use Rattle.flute_parts.proofs.Public.{rising_tells}
+use Rattle.flute_store.specs.Extract.{IsNotWhole, WritesWhole, WritesPart}
+use Rattle.flute_store.specs.Objects.{Whole, object}
+use Rattle.flute_store.proofs.Public.{object-length}
+use Rattle.flute_store.specs.declared.gap.Gap.{Gap}
+use Rattle.flute_store.specs.declared.turn.Turn.{Turn}
+use Rattle.flute_store.specs.declared.turn.Turn.TheVariants as turns
+use Rattle.flute_store.specs.Scan.{Scanned, Turned, next_fact, value_of, IsFirstPart, Follows}
+use Rattle.flute_store.specs.Scan.{CanCome, coming_fact, PassedNext, PartOf, GaveAll, at_begin}
+use Rattle.flute_store.specs.Scans.{Scans}
+use Rattle.flute_journal.specs.JournalWriters.{Written, PutsBytes}
+use Rattle.flute_journal.proofs.Public.{all_more, written-more}
+use Rattle.flutejoin.specs.Extract.{HoldsFirst}
+use Rattle.flutejoin.specs.ObjectWriters.{Settled, IsOther, WroteFirst, Scanning, HasFound}
+use Rattle.flutejoin.specs.ObjectWriters.{EndsScan, WritesNothing}
+use Rattle.flutejoin.specs.declared.extract.object_writer.WholeSoFar.{WholeSoFar}
+use Rattle.flutejoin.specs.declared.extract.object_writer.Found.{Found}
+use Rattle.flutejoin.specs.declared.extract.object_writer.Found.TheVariants as found
+use Rattle.flutejoin.proofs.extract_lemmas.ObjectFacts.{rising-back, here, settled-more, together}
+use Rattle.flutejoin.proofs.extract_lemmas.ObjectFacts.{information-once}
+
+pub take-append : (n : ℕ) (xs ys : List ℕ) → take n (xs ++ ys) ≡ take n xs ++ take (n - length xs)
+    ys
+take-append n [] ys = ap (λ l. l ++ take n ys) (sym (take-nil n)) ∙ ap
+    (λ k. take n [] ++ take k ys) (let e : n ≡ n - 0 = omega arith in e)
+take-append zero (x ∷ xs) ys = ap (λ k. take k ys) (let e : 0 ≡ 0 - length (x ∷ xs) = omega arith
+    in e)
+take-append (suc n) (x ∷ xs) ys = ap (λ l. x ∷ l) (take-append n xs ys) ∙ ap
+    (λ k. x ∷ take n xs ++ take k ys) (let e : n - length xs ≡ suc n - suc (length xs) = omega
+    arith in e)
+
+wrote-more : (P : List Fact) (f : Fact) (key : Key) (start now : Option (List ℕ)) → WroteFirst P
+    key start now → WroteFirst (P ++ f ∷ []) key start now
+wrote-more P f key start now w = record {
+  info = w.info;
+  bytes = w.bytes;
+  count = w.count;
+  held = settled-more P f (λ F. HoldsFirst F key w.info w.bytes) w.held;
+  appended = w.appended;
+}
+
+pub told-at : (key : Key) (id : SymbolId) (value : Option (Bor (List ℕ))) → address
+    (next_fact key (id, value)) ≡ symbol_address key id
+told-at key id (Some bytes) = refl
+told-at key id None = refl
+
+-- a fact of another object passes
+pub other-passes : (P : List Fact) (f : Fact) (key : Key) (failed : Bool)
+    (start now : Option (List ℕ)) (what : Found) → IsOther key f
+    → HasFound P key failed start now what → HasFound (P ++ f ∷ []) key failed start now what
+other-passes P f key failed start now found.Nothing o h = (all_more (IsOther key) P f h.0 o, h.1)
+other-passes P f key failed start now found.Symbols o h = (settled-more P f _ h.0, h.1)
+other-passes P f key failed start now found.Conflict o h = (settled-more P f _ h.0, h.1)
+other-passes P f key failed start now (found.NotWhole first) o h =
+    (settled-more P f _ h.0, wrote-more P f key start now h.1)
+other-passes P f key failed start now (found.Whole object) o h = record {
+  scanned = h.scanned;
+  scans = h.scans;
+  free = h.free;
+  part = h.part;
+  of_key = h.of_key;
+  valid = h.valid;
+  symbols = h.symbols;
+  begins = h.begins;
+  before = h.before;
+  after = h.after ++ f ∷ [];
+  all = ap (λ l. l ++ f ∷ []) h.all ∙ append_assoc h.before (h.scanned.facts ++ h.after) (f ∷ []) ∙
+      ap (λ l. h.before ++ l) (append_assoc h.scanned.facts h.after (f ∷ []));
+  others = all_more (IsOther key) h.after f h.others o;
+  bytes = h.bytes;
+  values = h.values;
+  size = h.size;
+  left = h.left;
+  written = h.written;
+}
+
+module _ {P : List Fact} {key : Key} {failed : Bool} {start now : Option (List ℕ)}
+    {part : WholeSoFar} (h : Scanning P key failed start now part) where
+  abbrev info_fact : Fact
+  info_fact = Info key h.scanned.info
+
+  begins_with : h.scanned.facts ≡ info_fact ∷ h.symbols
+  begins_with = h.begins
+
+  all_are : P ≡ h.before ++ (info_fact ∷ h.symbols ++ h.after)
+  all_are = h.all ∙ ap (λ l. h.before ++ (l ++ h.after)) begins_with
+
+  has_information : Contains P info_fact
+  has_information = subst (λ l. Contains l info_fact) (sym all_are)
+      (here h.before (h.symbols ++ h.after) info_fact)
+
+  -- information of it cannot follow
+  pub no-information : (f : Fact) → address f ≡ info_address key → IsRising (P ++ f ∷ []) → ⊥
+  no-information f at r = information-once key P info_fact f has_information (sym at) r
+
+  -- a symbol of it stands behind those that passed, with nothing between
+  pub nothing-after : (f : Fact) → (address f).key ≡ key → IsRising (P ++ f ∷ []) → h.after ≡ []
+  nothing-after f is r = together key h.before h.symbols h.after info_fact f refl is h.others
+      (subst (λ l. IsRising (l ++ f ∷ [])) all_are r)
+
+  all_before : (f : Fact) → h.after ≡ [] → (rest : List Fact) → (P ++ f ∷ []) ++ rest ≡ h.before ++
+      (h.scanned.facts ++ f ∷ rest)
+  all_before f e rest =
+      append_assoc P (f ∷ []) rest ∙ ap (λ l. l ++ f ∷ rest)
+      (h.all ∙ ap (λ l. h.before ++ (h.scanned.facts ++ l)) e ∙ ap (λ l. h.before ++ l)
+      (append-nil h.scanned.facts))
+      ∙ append_assoc h.before h.scanned.facts (f ∷ rest)
+
+  -- a first part of it was written, whatever follows
+  pub wrote-first : WroteFirst P key start now
+  wrote-first =
+      let w = some_written failed start now (take part.size h.bytes) (drop part.size h.bytes)
+      h.bytes (take-append-drop part.size h.bytes) h.written in
+      record {
+        info = h.scanned.info;
+        bytes = h.bytes;
+        count = w.0;
+        appended = w.1;
+        held = λ F rest e r. record {
+          information = rising_tells F info_fact r (subst (λ l. Contains l info_fact) (sym e)
+              (Contains-append_left P rest info_fact has_information));
+          first = subst (λ k. IsFirstPart F k h.scanned.info h.bytes) h.of_key
+              (part_of h.values h.part F h.before (h.after ++ rest)
+              (e ∙ ap (λ l. l ++ rest) h.all ∙ append_assoc h.before (h.scanned.facts ++ h.after)
+              rest ∙ ap (λ l. h.before ++ l) (append_assoc h.scanned.facts h.after rest)) r);
+        };
+      }
+    where
+      some_written : (b : Bool) (u v : Option (List ℕ)) (front back all : List ℕ) → front ++ back ≡
+          all → Written b u v front → (count : ℕ) × Appends u v (take count all)
+      some_written false u v front back all e w = (
+        length front,
+        subst (Appends u v)
+            (sym (take-append_seam front back) ∙ ap (take (length front)) e) w,
+      )
+      some_written true u v front back all e w = (
+        length w.part,
+        subst (Appends u v) (sym (take-append_seam w.part (w.rest ++ back)) ∙ ap
+            (take (length w.part)) (sym (append_assoc w.part w.rest back) ∙ ap (λ l. l ++ back)
+            (sym w.whole) ∙ e)) w.appended,
+      )
+
+      part_of : {bytes : List ℕ} → h.scanned.bytes ≡ Some bytes → PartOf h.scanned
+          → (F before rest : List Fact) → F ≡ before ++ (h.scanned.facts ++ rest) → IsRising F →
+          IsFirstPart F h.scanned.key h.scanned.info bytes
+      part_of {bytes} e q =
+          let Q : Option (List ℕ) → Type 0 = λ o. IfSome o
+          (λ bytes. (F before rest : List Fact) → F ≡ before ++ (h.scanned.facts ++ rest) →
+          IsRising F → IsFirstPart F h.scanned.key h.scanned.info bytes) in
+          subst Q e q
+
+  module _ (n : SymbolId × Option (Bor (List ℕ))) (rises : IsRising (P ++ next_fact key n ∷ []))
+    where
+      told_key : (address (next_fact key n)).key ≡ key
+      told_key = ap (λ (a : Address). a.key) (told-at key n.0 n.1)
+
+      none_between : h.after ≡ []
+      none_between = nothing-after (next_fact key n) told_key rises
+
+      told_same : next_fact h.scanned.key n ≡ next_fact key n
+      told_same = ap (λ k. next_fact k n) h.of_key
+
+      pub next-rises : IsRising (h.scanned.facts ++ next_fact h.scanned.key n ∷ [])
+      next-rises =
+          let r : IsRising (h.before ++ (h.scanned.facts ++ next_fact key n ∷ [])) = subst IsRising
+          (sym (append-nil (P ++ next_fact key n ∷ [])) ∙ all_before (next_fact key n)
+          none_between []) rises in
+          subst (λ f. IsRising (h.scanned.facts ++ f ∷ [])) (sym told_same)
+          (rising-back h.before (h.scanned.facts ++ next_fact key n ∷ []) r)
+
+      -- what is known of all that follows
+      pub settled-next : (first : SymbolId) → IfSome h.scanned.bytes
+          (λ bytes. (F : List Fact) → Follows h.scanned (Some n) F
+          → IsNotWhole F h.scanned.key first)
+          → Settled (P ++ next_fact key n ∷ []) (λ F. IsNotWhole F key first)
+      settled-next first k = λ F rest e r.
+          let Q : Option (List ℕ) → Type 0 = λ o. IfSome o
+          (λ bytes. (F : List Fact) → Follows h.scanned (Some n) F → IsNotWhole F h.scanned.key
+          first) in
+          subst (λ k. IsNotWhole F k first) h.of_key (subst Q h.values k F (record {
+            before = h.before;
+            rest = next_fact key n ∷ rest;
+            all = e ∙ all_before (next_fact key n) none_between rest;
+            rising = r;
+            come = (rest, ap (λ f. f ∷ rest) (sym told_same));
+          }))
+
+      pub wrote-next : WroteFirst (P ++ next_fact key n ∷ []) key start now
+      wrote-next = wrote-more P (next_fact key n) key start now wrote-first
+
+      pub can-come : CanCome h.scanned (Some n)
+      can-come = subst (λ o. IfSome o (λ coming. coming ≡ coming_fact h.scanned.key (Some n)))
+          (sym h.free) tt
+
+      -- the symbol was passed
+      pub passed-next : (failed' : Bool) (now' : Option (List ℕ)) (new : WholeSoFar) (t : Scanned)
+          (more : List ℕ) → PassedNext h.scanned n (Some (h.bytes ++ more)) t → Scans new.scan t →
+          PartOf t
+          → new.size ≡ part.size → new.left ≡ part.left - length more → PutsBytes failed failed' now
+          now' (take part.left more)
+          → Scanning (P ++ next_fact key n ∷ []) key failed' start now' new
+      passed-next failed' now' new t more p scans first size left puts = record {
+        scanned = t;
+        scans = scans;
+        free = ap (λ (s : Scanned). s.coming) p.now;
+        part = first;
+        of_key = ap (λ (s : Scanned). s.key) p.now ∙ h.of_key;
+        valid = subst (λ (s : Scanned). IsValid s.info) (sym p.now) h.valid;
+        symbols = h.symbols ++ next_fact h.scanned.key n ∷ [];
+        begins = ap (λ (s : Scanned). s.facts) p.now ∙ ap (λ l. l ++ next_fact h.scanned.key n ∷ [])
+            h.begins ∙ ap (λ (s : Scanned). Info key s.info ∷
+            (h.symbols ++ next_fact h.scanned.key n ∷ [])) (sym p.now);
+        before = h.before;
+        after = [];
+        all =
+            sym (append-nil (P ++ next_fact key n ∷ [])) ∙ all_before (next_fact key n) none_between
+            []
+            ∙ ap (λ l. h.before ++ l)
+            (ap (λ f. h.scanned.facts ++ f ∷ []) (sym told_same) ∙ sym
+            (append-nil (h.scanned.facts ++ next_fact h.scanned.key n ∷ [])) ∙ ap
+            (λ (s : Scanned). s.facts ++ []) (sym p.now));
+        others = tt;
+        bytes = h.bytes ++ more;
+        values = ap (λ (s : Scanned). s.bytes) p.now;
+        size = size ∙ h.size ∙ ap (λ (s : Scanned). s.info.transfer_length) (sym p.now);
+        left = let l = h.left in omega (arith, left, l, size, length-append h.bytes more);
+        written =
+            subst (λ k. Written failed' start now' (take k (h.bytes ++ more))) (sym size)
+            (subst (Written failed' start now') (sym (take-append part.size h.bytes more))
+            (written-more failed failed' start now now' (take part.size h.bytes)
+            (take (part.size - length h.bytes) more) h.written
+            (subst (λ k. PutsBytes failed failed' now now' (take k more)) h.left puts)));
+      }
+
+      -- it was the next of the partition, and its value was written
+      pub fits-next : (t : Scanned) (more : List ℕ) → PassedNext h.scanned n
+          (option_map (λ bytes. bytes ++ value_of n) h.scanned.bytes) t → value_of n ≡ more
+          → PassedNext h.scanned n (Some (h.bytes ++ more)) t
+      fits-next t more p e = subst (λ o. PassedNext h.scanned n o t)
+          (ap (option_map (λ bytes. bytes ++ value_of n)) h.values ∙ ap (λ m. Some (h.bytes ++ m))
+          e)
+          p
+
+      -- or nothing was
+      pub idle-next : (new : WholeSoFar) (t : Scanned) → PassedNext h.scanned n h.scanned.bytes t →
+          Scans new.scan t → PartOf t → new.size ≡ part.size → new.left ≡ part.left
+          → Scanning (P ++ next_fact key n ∷ []) key failed start now new
+      idle-next new t p scans first size left =
+          passed-next failed now new t [] (subst (λ o. PassedNext h.scanned n o t)
+          (h.values ∙ ap Some (sym (append-nil h.bytes))) p) scans first size
+          (omega (arith, left))
+          (subst (PutsBytes failed failed now now) (sym (take-nil part.left)) (puts-nothing failed))
+        where
+          puts-nothing : (b : Bool) → PutsBytes b b now now []
+          puts-nothing false = Appends-nil now
+          puts-nothing true = Appends-nil now
+
+      pub idle-fits : (new : WholeSoFar) (t : Scanned) → value_of n ≡ [] → PassedNext h.scanned n
+          (option_map (λ bytes. bytes ++ value_of n) h.scanned.bytes) t → Scans new.scan t
+          → PartOf t
+          → new.size ≡ part.size → new.left ≡ part.left → Scanning (P ++ next_fact key n ∷ []) key
+          failed start now new
+      idle-fits new t e p scans first size left =
+          idle-next new t (subst (λ o. PassedNext h.scanned n o t)
+          (ap Some (append-nil h.bytes) ∙ sym h.values) (fits-next t [] p e)) scans first size
+          left
+
+  -- no symbol is left
+  pub ended-whole : (t : Scanned) → IsRising P → t ≡ record h.scanned
+      { coming = Some None; ahead = t.ahead } → ((F : List Fact) → Follows t None F → GaveAll t F)
+      → EndsScan P key failed start now part None
+  ended-whole t r e k =
+      let u : Scanned = record h.scanned { coming = Some None; ahead = t.ahead } in
+      let g : GaveAll u P = subst (λ x. (F : List Fact) → Follows x None F → GaveAll x F) e k P
+      (record {
+        before = h.before;
+        rest = h.after;
+        all = h.all;
+        rising = r;
+        come = none_left
+            h.of_key h.others;
+      }) in
+      let Q : Option (List ℕ) → Type 0 = λ o. IfSome o (λ bytes. Whole P h.scanned.key
+      h.scanned.info × (object P h.scanned.key h.scanned.info ≡ take
+      h.scanned.info.transfer_length bytes)) in
+      let w = subst Q h.values g.whole in
+      let bytes : take part.size h.bytes ≡ object P key h.scanned.info = ap (λ n. take n h.bytes)
+      h.size ∙ sym w.1 ∙ ap (λ k. object P k h.scanned.info) h.of_key in (
+        h.scanned.info,
+        subst (λ k. Whole P k h.scanned.info) h.of_key w.0,
+        h.size,
+        h.valid,
+        subst
+            (Written failed start now) bytes h.written,
+      )
+    where
+      none_left : {k : Key} → k ≡ key → AllByRecursion (IsOther key) h.after → AllByRecursion
+          (λ f. (address f).key ≡ k → ⊥) h.after
+      none_left e o = subst (λ k. AllByRecursion (IsOther k) h.after) (sym e) o
+
+  pub none-can-come : CanCome h.scanned None
+  none-can-come = subst (λ o. IfSome o (λ coming. coming ≡ coming_fact h.scanned.key None))
+      (sym h.free) tt
+
+  pub ended-gap : (first : SymbolId) → IsRising P → IfSome h.scanned.bytes
+      (λ bytes. (F : List Fact) → Follows h.scanned None F → IsNotWhole F h.scanned.key first) →
+      IsNotWhole P key first
+  ended-gap first r k =
+      let Q : Option (List ℕ) → Type 0 = λ o. IfSome o (λ bytes. (F : List Fact) → Follows
+      h.scanned None F → IsNotWhole F h.scanned.key first) in
+      subst (λ k. IsNotWhole P k first) h.of_key (subst Q h.values k P (record {
+        before = h.before;
+        rest = h.after;
+        all = h.all;
+        rising = r;
+        come = subst (λ k. AllByRecursion (IsOther k) h.after) (sym h.of_key) h.others;
+      }))
+
+-- of nothing, what comes next is a gap or the end
+pub ended-turn : (s t : Scanned) (turn : Turn) → ((gap : Gap) → turn ≡ turns.Gap gap → ⊥) → Turned
+    s None turn t → (t ≡ record s { coming = Some None; ahead = t.ahead }) ×
+    ((F : List Fact) → Follows t None F → GaveAll t F)
+ended-turn s t (turns.Gap gap) gapless h = absurd (gapless gap refl)
+ended-turn s t turns.Fitting gapless h = absurd h
+ended-turn s t turns.Wanted gapless h = absurd h
+ended-turn s t turns.Passed gapless h = absurd h
+ended-turn s t turns.End gapless h = h
+
+-- a symbol that is wanted is told as the first
+pub wanted-turn : (s t : Scanned) (n : SymbolId × Option (Bor (List ℕ))) (turn : Turn) →
+    (turn ≡ turns.Wanted) ⊎ (turn ≡ turns.End) → Turned s (Some n) turn t
+    → IfSome s.bytes (λ bytes. (F : List Fact) → Follows s (Some n) F → IsNotWhole F s.key n.0)
+wanted-turn s t n turn (inl e) h = (subst (λ x. Turned s (Some n) x t) e h).1
+wanted-turn s t n turn (inr e) h = absurd (subst (λ x. Turned s (Some n) x t) e h)
+
+-- its information came first
+pub scan-begins : (P : List Fact) (key : Key) (info : Information) (start : Option (List ℕ))
+    (part : WholeSoFar) → Scans part.scan (at_begin key info) → IsValid info
+    → part.size ≡ info.transfer_length → part.left ≡ info.transfer_length → Scanning
+    (P ++ Info key info ∷ []) key false start start part
+scan-begins P key info start part scans valid size left = record {
+  scanned = at_begin key info;
+  scans = scans;
+  free = refl;
+  part = λ F before rest e r. record {
+    first = [];
+    others = ids info;
+    all = refl;
+    held = λ id c.
+        absurd (omega (arith, c.1));
+    values = refl;
+  };
+  of_key = refl;
+  valid = valid;
+  symbols = [];
+  begins = refl;
+  before = P;
+  after = [];
+  all = refl;
+  others = tt;
+  bytes = [];
+  values = refl;
+  size = size;
+  left = omega (arith, size, left);
+  written = subst (Appends start start) (sym (take-nil part.size)) (Appends-nil start);
+}
+
+-- information is told of it once
+pub information-passes : (P : List Fact) (f : Fact) (key : Key) (failed : Bool)
+    (start now : Option (List ℕ)) (what : Found) → (what ≡ found.Nothing → ⊥) → address f ≡
+    info_address key
+    → IsRising (P ++ f ∷ []) → HasFound P key failed start now what → HasFound (P ++ f ∷ []) key
+    failed start now what
+information-passes P f key failed start now found.Nothing some at r h = absurd (some refl)
+information-passes P f key failed start now found.Symbols some at r h =
+    (settled-more P f _ h.0, h.1)
+information-passes P f key failed start now found.Conflict some at r h =
+    (settled-more P f _ h.0, h.1)
+information-passes P f key failed start now (found.NotWhole first) some at r h =
+    (settled-more P f _ h.0, wrote-more P f key start now h.1)
+information-passes P f key failed start now (found.Whole object) some at r h = absurd
+    (no-information h f at r)
+
+-- a symbol passes where nothing more is to be known
+pub symbol-passes : (P : List Fact) (f : Fact) (key : Key) (failed : Bool)
+    (start now : Option (List ℕ)) (what : Found) → (what ≡ found.Nothing → ⊥) →
+    ((part : WholeSoFar) → what ≡ found.Whole part → ⊥)
+    → HasFound P key failed start now what → HasFound (P ++ f ∷ []) key failed start now what
+symbol-passes P f key failed start now found.Nothing some part h = absurd (some refl)
+symbol-passes P f key failed start now found.Symbols some part h = (settled-more P f _ h.0, h.1)
+symbol-passes P f key failed start now found.Conflict some part h = (settled-more P f _ h.0, h.1)
+symbol-passes P f key failed start now (found.NotWhole first) some part h =
+    (settled-more P f _ h.0, wrote-more P f key start now h.1)
+symbol-passes P f key failed start now (found.Whole object) some part h = absurd (part object refl)
+
+-- what was written, whatever was found
+pub wrote-some : (P : List Fact) (key : Key) (failed : Bool) (start now : Option (List ℕ))
+    (what : Found) → HasFound P key failed start now what → WritesNothing what ⊎ WroteFirst P key
+    start now
+wrote-some P key failed start now found.Nothing h = inl tt
+wrote-some P key failed start now found.Symbols h = inl tt
+wrote-some P key failed start now found.Conflict h = inl tt
+wrote-some P key failed start now (found.NotWhole first) h = inr h.1
+wrote-some P key failed start now (found.Whole object) h = inr (wrote-first h)
+
+-- the answers at the end
+
+pub whole-written : (P : List Fact) (key : Key) (start now : Option (List ℕ)) (part : WholeSoFar)
+    (failed : Bool) → failed ≡ false → EndsScan P key failed start now part None
+    → WritesWhole (λ x. x) P key start now part.size
+whole-written P key start now part true e h = absurd cc
+whole-written P key start now part false e h =
+    record {
+      info = h.0;
+      whole = h.1;
+      bytes = h.4;
+      length_is = h.2;
+      exact = object-length P key h.0
+          h.3 h.1 ∙ sym h.2;
+    }
+
+pub part-written : (P : List Fact) (key : Key) (start now : Option (List ℕ)) (part : WholeSoFar)
+    (failed : Bool) → failed ≡ true → EndsScan P key failed start now part None
+    → WritesPart (λ x. x) P key start now
+part-written P key start now part false e h = absurd cc
+part-written P key start now part true e h = record { info = h.0; whole = h.1; bytes = h.4 }

@@ -1,0 +1,331 @@
+-- Objects that are cut by their sessions, and the sums of each.
+use Rattle.std.proofs.Common.{◌≡◌, ◌≤◌, ◌+◌, ℕ, Bool, true, false, List, [], ◌∷◌, ◌++◌}
+use Rattle.std.proofs.Common.{Option, Some, None, if◌then◌else◌, refl, sym, ap, ◌∙◌, subst, arith}
+use Rattle.std.proofs.Common.{append_assoc, append-nil}
+use Rattle.std.specs.Prelude.{IfSome, OnOk, Result, Ok, Err}
+use Rattle.std.specs.Io.KnownBytes.{Appends}
+use Rattle.std.specs.List.{flat_map, sum_by, AllByRecursion}
+use Rattle.std.proofs.lemmas.Grind.{flat_map-append}
+use Rattle.std.proofs.lemmas.List.Sums.{sum_by-append}
+use Rattle.flute_parts.specs.Session.{Session}
+use Rattle.flute_parts.specs.Order.{same_session}
+use Rattle.flute_parts.specs.Equality.{session_itself, session_same}
+use Rattle.flute_parts.specs.declared.device.DeviceFault.{DeviceFault}
+use Rattle.flutejoin.specs.Listing.{AreFew, AreSummed, AreSummedUp, BeginsSession, HasSums}
+use Rattle.flutejoin.specs.Listing.{Knows, last_line}
+use Rattle.flutejoin.specs.Sums.{AddsObject, AreWithin, IsNone, by_session, conflicting_in}
+use Rattle.flutejoin.specs.Sums.{in_front, misfit_in, missing_in, partial_in, session_line}
+use Rattle.flutejoin.specs.Sums.{sums_line, sums_of, unknown_in, whole_in}
+use Rattle.flutejoin.specs.Told.{Told}
+use Rattle.flutejoin.specs.declared.gaps.session_sums.SessionSums.{SessionSums}
+use Rattle.flutejoin.proofs.gaps_lemmas.MovedAside.{knows_more}
+
+-- ---- objects of one session, and of the next
+
+abbrev Parts : Type 0
+Parts = List (Told × List Told)
+
+abbrev AreOf : Session → List Told → Type 0
+AreOf s ts = AllByRecursion (λ (t : Told). t.key.session ≡ s) ts
+
+same_true : (a b : Session) → a ≡ b → same_session a b ≡ true
+same_true a b e = subst (λ x. same_session a x ≡ true) e (session_itself a)
+
+other_false : (a b : Session) → (a ≡ b → ⊥) → same_session a b ≡ false
+other_false a b h =
+    let cases : (x : Bool) → same_session a b ≡ x → same_session a b ≡ false = λ x e. elim x as
+    (λ y. same_session a b ≡ y → same_session a b ≡ false) [
+      | true ↦ λ e. absurd (h (session_same a b e))
+      | false ↦ λ e. e
+    ] e in
+    cases (same_session a b) refl
+
+of_more : (s : Session) (ts : List Told) (t : Told) → AreOf s ts → t.key.session ≡ s
+    → AreOf s (ts ++ t ∷ [])
+of_more s [] t a e = (e, tt)
+of_more s (u ∷ ts) t a e = (a.0, of_more s ts t a.1 e)
+
+-- the parts of objects begin with the first of these
+pub record Begins (t : Told) (ts : List Told) : Type 0 where
+  pub others : List Told
+  pub parts : List (Told × List Told)
+  pub are : by_session (t ∷ ts) ≡ (t, others) ∷ parts
+
+in_front_begins : (t : Told) (parts : Parts) → (others : List Told) × ((rest : Parts)
+    × (in_front t parts ≡ (t, others) ∷ rest))
+in_front_begins t [] = ([], ([], refl))
+in_front_begins t ((u, us) ∷ parts) =
+    let P : Bool → Type 0 = λ b. (others : List Told) × ((rest : Parts) ×
+    ((if b then (t, u ∷ us) ∷ parts else ((t, []) ∷ (u, us) ∷ parts)) ≡ (t, others) ∷ rest)) in
+    let cases : (b : Bool) → P b = λ b. elim b as P [
+      | true ↦ (u ∷ us, (parts, refl))
+      | false ↦ ([], ((u, us) ∷ parts, refl))
+    ] in
+    cases (same_session t.key.session u.key.session)
+
+begins : (t : Told) (ts : List Told) → Begins t ts
+unfolding by_session
+begins t ts =
+    let h = in_front_begins t (by_session ts) in
+    record { others = h.0; parts = h.1.0; are = h.1.1 }
+
+-- what follows a part stays as it is
+in_front_before : (t : Told) (p : Told × List Told) (parts more : Parts)
+    → in_front t ((p ∷ parts) ++ more) ≡ in_front t (p ∷ parts) ++ more
+in_front_before t (u, us) parts more =
+    let P : Bool → Type 0 = λ b.
+    (if b then (t, u ∷ us) ∷ (parts ++ more) else ((t, []) ∷ (u, us) ∷ (parts ++ more)))
+    ≡ (if b then (t, u ∷ us) ∷ parts else ((t, []) ∷ (u, us) ∷ parts)) ++ more in
+    let cases : (b : Bool) → P b = λ b. elim b as P [
+      | true ↦ refl
+      | false ↦ refl
+    ] in
+    cases (same_session t.key.session u.key.session)
+
+-- objects of one session are one part
+pub one_part : (t : Told) (ts : List Told) → AreOf t.key.session ts
+    → by_session (t ∷ ts) ≡ (t, ts) ∷ []
+unfolding by_session
+one_part t [] a = refl
+one_part t (u ∷ us) a =
+    let of_u : (xs : List Told) → AreOf t.key.session xs → AreOf u.key.session xs =
+    λ xs. subst (λ s. AreOf s xs) (sym a.0) in
+    let rest : by_session (u ∷ us) ≡ (u, us) ∷ [] = one_part u us (of_u us a.1) in
+    let same : same_session t.key.session u.key.session ≡ true =
+    same_true t.key.session u.key.session (sym a.0) in
+    ap (in_front t) rest
+    ∙ ap (λ (b : Bool). if b then (t, u ∷ us) ∷ [] else ((t, []) ∷ (u, us) ∷ [])) same
+
+-- objects of another session begin a part
+pub next_part : (s : Session) (t : Told) (ts : List Told) (next : Told) (more : List Told)
+    → t.key.session ≡ s → AreOf s ts → (next.key.session ≡ s → ⊥)
+    → by_session ((t ∷ ts) ++ next ∷ more) ≡ by_session (t ∷ ts) ++ by_session (next ∷ more)
+unfolding by_session
+next_part s t [] next more e a h =
+    let b = begins next more in
+    let apart : same_session t.key.session next.key.session ≡ false =
+    other_false t.key.session next.key.session (λ x. h (sym x ∙ e)) in
+    ap (in_front t) b.are
+    ∙ ap (λ (x : Bool). if x then (t, next ∷ b.others) ∷ b.parts
+    else ((t, []) ∷ (next, b.others) ∷ b.parts)) apart
+    ∙ ap (λ l. (t, []) ∷ l) (sym b.are)
+next_part s t (u ∷ us) next more e a h =
+    let b = begins u us in
+    let rest = next_part s u us next more a.0 a.1 h in
+    ap (in_front t) (rest ∙ ap (λ l. l ++ by_session (next ∷ more)) b.are)
+    ∙ in_front_before t (u, b.others) b.parts (by_session (next ∷ more))
+    ∙ ap (λ l. in_front t l ++ by_session (next ∷ more)) (sym b.are)
+
+-- and those before stay as they are
+pub apart_from : (before : List Told) (t : Told) (ts : List Told) (next : Told) (more : List Told)
+    → AreOf t.key.session ts → (next.key.session ≡ t.key.session → ⊥)
+    → by_session ((before ++ t ∷ ts) ++ next ∷ more)
+    ≡ by_session (before ++ t ∷ ts) ++ by_session (next ∷ more)
+unfolding by_session
+apart_from [] t ts next more a h = next_part t.key.session t ts next more refl a h
+apart_from (u ∷ []) t ts next more a h =
+    let b = begins t ts in
+    ap (in_front u) (apart_from [] t ts next more a h
+    ∙ ap (λ l. l ++ by_session (next ∷ more)) b.are)
+    ∙ in_front_before u (t, b.others) b.parts (by_session (next ∷ more))
+    ∙ ap (λ l. in_front u l ++ by_session (next ∷ more)) (sym b.are)
+apart_from (u ∷ v ∷ before) t ts next more a h =
+    let b = begins v (before ++ t ∷ ts) in
+    ap (in_front u) (apart_from (v ∷ before) t ts next more a h
+    ∙ ap (λ l. l ++ by_session (next ∷ more)) b.are)
+    ∙ in_front_before u (v, b.others) b.parts (by_session (next ∷ more))
+    ∙ ap (λ l. in_front u l ++ by_session (next ∷ more)) (sym b.are)
+
+-- ---- sums
+
+sum_one : (f : Told → ℕ) (t : Told) → sum_by f (t ∷ []) ≡ f t
+sum_one f t = omega arith
+
+sum_more : (f : Told → ℕ) (ts : List Told) (t : Told) (old new : ℕ) → old ≡ sum_by f ts
+    → new ≡ old + f t → new ≡ sum_by f (ts ++ t ∷ [])
+sum_more f ts t old new o n =
+    n ∙ ap (λ x. x + f t) o ∙ ap (λ x. sum_by f ts + x) (sym (sum_one f t))
+    ∙ sym (sum_by-append f ts (t ∷ []))
+
+-- the sums of the first object of a session
+pub sums_one : (t : Told) (none sums : SessionSums) → IsNone t.key.session none
+    → AddsObject t.status none sums → sums ≡ sums_of t []
+sums_one t none sums n a =
+    let session : sums.session ≡ t.key.session = a.session ∙ n.session_is in
+    let one : (f : Told → ℕ) (old new : ℕ) → old ≡ 0 → new ≡ old + f t
+    → new ≡ sum_by f (t ∷ []) = λ f old new o m. sum_more f [] t old new o m in
+    let objects = one (λ u. 1) none.objects sums.objects n.objects a.objects in
+    let whole = one (λ u. whole_in u.status) none.whole sums.whole n.whole a.whole in
+    let partial = one (λ u. partial_in u.status) none.partial sums.partial n.partial a.partial in
+    let missing = one (λ u. missing_in u.status) none.missing sums.missing n.missing a.missing in
+    let conflicting = one (λ u. conflicting_in u.status) none.conflicting sums.conflicting
+    n.conflicting a.conflicting in
+    let misfit = one (λ u. misfit_in u.status) none.misfit sums.misfit n.misfit a.misfit in
+    let unknown = one (λ u. unknown_in u.status) none.unknown sums.unknown n.unknown a.unknown in
+    λ i. record {
+      session = session i;
+      objects = objects i;
+      whole = whole i;
+      partial = partial i;
+      missing = missing i;
+      conflicting = conflicting i;
+      misfit = misfit i;
+      unknown = unknown i;
+    }
+
+-- and of one more
+pub sums_more : (t : Told) (ts : List Told) (u : Told) (old sums : SessionSums)
+    → old ≡ sums_of t ts → AddsObject u.status old sums → sums ≡ sums_of t (ts ++ u ∷ [])
+sums_more t ts u old sums o a =
+    let more : (f : Told → ℕ) (x new : ℕ) → x ≡ sum_by f (t ∷ ts) → new ≡ x + f u
+    → new ≡ sum_by f (t ∷ (ts ++ u ∷ [])) = λ f x new e n. sum_more f (t ∷ ts) u x new e n in
+    let session : sums.session ≡ t.key.session = a.session ∙ ap (λ (s : SessionSums). s.session) o
+    in
+    let objects = more (λ u. 1) old.objects sums.objects (ap (λ (s : SessionSums). s.objects) o)
+    a.objects in
+    let whole = more (λ u. whole_in u.status) old.whole sums.whole
+    (ap (λ (s : SessionSums). s.whole) o) a.whole in
+    let partial = more (λ u. partial_in u.status) old.partial sums.partial
+    (ap (λ (s : SessionSums). s.partial) o) a.partial in
+    let missing = more (λ u. missing_in u.status) old.missing sums.missing
+    (ap (λ (s : SessionSums). s.missing) o) a.missing in
+    let conflicting = more (λ u. conflicting_in u.status) old.conflicting sums.conflicting
+    (ap (λ (s : SessionSums). s.conflicting) o) a.conflicting in
+    let misfit = more (λ u. misfit_in u.status) old.misfit sums.misfit
+    (ap (λ (s : SessionSums). s.misfit) o) a.misfit in
+    let unknown = more (λ u. unknown_in u.status) old.unknown sums.unknown
+    (ap (λ (s : SessionSums). s.unknown) o) a.unknown in
+    λ i. record {
+      session = session i;
+      objects = objects i;
+      whole = whole i;
+      partial = partial i;
+      missing = missing i;
+      conflicting = conflicting i;
+      misfit = misfit i;
+      unknown = unknown i;
+    }
+
+-- ---- the sums of the last session
+
+pub first_summed : (objects : List Told) (lines : List ℕ) (t : Told) (sums : SessionSums)
+    → objects ≡ [] → lines ≡ [] → sums ≡ sums_of t [] → HasSums (objects ++ t ∷ []) lines sums
+unfolding by_session
+first_summed objects lines t sums e n s = record {
+  before = [];
+  first = t;
+  others = [];
+  all = ap (λ l. l ++ t ∷ []) e;
+  same = tt;
+  apart = λ more. refl;
+  lines_are = n;
+  sums_are = s;
+}
+
+pub more_summed : (objects : List Told) (lines : List ℕ) (t : Told) (old sums : SessionSums)
+    → HasSums objects lines old → old.session ≡ t.key.session → AddsObject t.status old sums
+    → HasSums (objects ++ t ∷ []) lines sums
+more_summed objects lines t old sums h e a = record {
+  before = h.before;
+  first = h.first;
+  others = h.others ++ t ∷ [];
+  all = ap (λ l. l ++ t ∷ []) h.all ∙ append_assoc h.before (h.first ∷ h.others) (t ∷ []);
+  same = of_more h.first.key.session h.others t h.same
+      (sym e ∙ ap (λ (s : SessionSums). s.session) h.sums_are);
+  apart = h.apart;
+  lines_are = h.lines_are;
+  sums_are = sums_more h.first h.others t old sums h.sums_are a;
+}
+
+-- the lines of all sessions
+pub all_summed : (objects : List Told) (lines : List ℕ) (sums : Option SessionSums)
+    → AreSummed objects lines sums
+    → lines ++ last_line sums ≡ flat_map session_line (by_session objects)
+unfolding by_session
+all_summed objects lines None h =
+    append-nil lines ∙ h.1 ∙ ap (λ l. flat_map session_line (by_session l)) (sym h.0)
+all_summed objects lines (Some sums) h =
+    let part : by_session (h.first ∷ h.others) ≡ (h.first, h.others) ∷ [] =
+    one_part h.first h.others h.same in
+    let own : sums_line sums ≡ flat_map session_line ((h.first, h.others) ∷ []) =
+    ap sums_line h.sums_are ∙ sym (append-nil (sums_line (sums_of h.first h.others))) in
+    (λ i. h.lines_are i ++ own i)
+    ∙ sym (flat_map-append session_line (by_session h.before) ((h.first, h.others) ∷ []))
+    ∙ ap (λ l. flat_map session_line (by_session h.before ++ l)) (sym part)
+    ∙ ap (flat_map session_line) (sym (h.apart h.others))
+    ∙ ap (λ l. flat_map session_line (by_session l)) (sym h.all)
+
+-- an object of the next session
+pub next_summed : (objects : List Told) (lines : List ℕ) (t : Told) (old sums : SessionSums)
+    → HasSums objects lines old → (old.session ≡ t.key.session → ⊥) → sums ≡ sums_of t []
+    → HasSums (objects ++ t ∷ []) (lines ++ sums_line old) sums
+next_summed objects lines t old sums h apart s = record {
+  before = objects;
+  first = t;
+  others = [];
+  all = refl;
+  same = tt;
+  apart = λ more.
+      subst (λ l. by_session (l ++ t ∷ more) ≡ by_session l ++ by_session (t ∷ more)) (sym h.all)
+      (apart_from h.before h.first h.others t more h.same
+      (λ e. apart (ap (λ (x : SessionSums). x.session) h.sums_are ∙ sym e)));
+  lines_are = all_summed objects lines (Some old) h;
+  sums_are = s;
+}
+
+-- ---- how large they are
+
+pub within_more : (m n : ℕ) (sums : SessionSums) → m ≤ n → AreWithin m sums → AreWithin n sums
+within_more m n sums l h = record {
+  objects = omega (arith, l, h.objects);
+  whole = omega (arith, l, h.whole);
+  partial = omega (arith, l, h.partial);
+  missing = omega (arith, l, h.missing);
+  conflicting = omega (arith, l, h.conflicting);
+  misfit = omega (arith, l, h.misfit);
+  unknown = omega (arith, l, h.unknown);
+}
+
+pub few_more : (m n : ℕ) (sums : Option SessionSums) → m ≤ n → AreFew m sums → AreFew n sums
+few_more m n None l h = tt
+few_more m n (Some sums) l h = within_more m n sums l h
+
+-- ---- and what was put aside
+
+abbrev pub IsOfOthers : Session → Option SessionSums → Type 0
+IsOfOthers session old = IfSome old (λ (sums : SessionSums). sums.session ≡ session → ⊥)
+
+begun_sums : (objects : List Told) (lines : List ℕ) (t : Told) (old new : Option SessionSums)
+    → AreSummed objects lines old → IsOfOthers t.key.session old
+    → BeginsSession t.key.session t.status new
+    → AreSummed (objects ++ t ∷ []) (lines ++ last_line old) new
+begun_sums objects lines t None None h o b = absurd b
+begun_sums objects lines t (Some old) None h o b = absurd b
+begun_sums objects lines t None (Some sums) h o b =
+    first_summed objects (lines ++ []) t sums h.0 (append-nil lines ∙ h.1)
+    (sums_one t b.1.0 sums b.1.1 b.1.2)
+begun_sums objects lines t (Some old) (Some sums) h o b =
+    next_summed objects lines t old sums h o (sums_one t b.1.0 sums b.1.1 b.1.2)
+
+pub begun_known : (known : Bool) (objects : List Told) (lines : List ℕ) (t : Told)
+    (old new : Option SessionSums) {s : Option (List ℕ)} (s' : Option (List ℕ))
+    (r : Result (Unit {0}) DeviceFault)
+    → AreSummed objects lines old × IsOfOthers t.key.session old → Knows known s lines
+    → OnOk r (BeginsSession t.key.session t.status new) → OnOk r (Appends s s' (last_line old))
+    → OnOk r (AreSummedUp known (objects ++ t ∷ []) s' new)
+begun_known known objects lines t old new s' (Err x) h k b a = tt
+begun_known known objects lines t old new {s} s' (Ok x) h k b a = record {
+  lines = lines ++ last_line old;
+  lines_known = knows_more (last_line old) k a;
+  summed = begun_sums objects lines t old new h.0 h.1 b;
+}
+
+pub more_known : {known : Bool} {objects : List Told} {lines : List ℕ} (t : Told)
+    {old sums : SessionSums} {s : Option (List ℕ)} → HasSums objects lines old
+    → old.session ≡ t.key.session → AddsObject t.status old sums → Knows known s lines
+    → AreSummedUp known (objects ++ t ∷ []) s (Some sums)
+more_known {known} {objects} {lines} t {old} {sums} {s} h e a k = record {
+  lines = lines;
+  lines_known = k;
+  summed = more_summed objects lines t old sums h e a;
+}

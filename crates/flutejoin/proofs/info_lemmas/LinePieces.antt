@@ -1,0 +1,133 @@
+-- The pieces of a line, one behind the other.
+use Rattle.std.proofs.Common.{◌≡◌, ℕ, ◌==◌, ◌<◌, ◌^◌, if◌then◌else◌, Bool, true, false, List, []}
+use Rattle.std.proofs.Common.{◌++◌, get_or, codes, decimal, Option, Some, None, MatchOption}
+use Rattle.std.proofs.Common.{append_assoc, refl, sym, ap, ◌∙◌, arith}
+use Rattle.std.specs.Char.{is_ascii_digit}
+use Rattle.std.specs.Int.{bytes_high_first}
+use Rattle.std.proofs.lemmas.Bool.{true≢false}
+use Rattle.std.proofs.lemmas.List.{append-nil, append_cancel_left, get_or_append_left}
+use Rattle.hex.specs.Hex.{encode_lower}
+use Rattle.flute_parts.specs.Information.{Information, information}
+use Rattle.flute_parts.specs.Session.{Session, session}
+use Rattle.flute_parts.specs.declared.object_key.ObjectName.{ObjectName}
+use Rattle.flute_parts.specs.declared.object_key.ObjectName.TheVariants.{Instance, File}
+use Rattle.flute_parts.specs.declared.key.Key.{Key}
+use Rattle.flute_parts.specs.declared.fact.Fact.TheVariants.{Info}
+use Rattle.flutejoin.specs.InformationLines.{numbers_of}
+use Rattle.flutejoin.specs.declared.info.information_line.InfoNumbers.{InfoNumbers}
+use Rattle.flutejoin.specs.Lines.{source_words, object_words, information_words, fact_words}
+use Rattle.flutejoin.proofs.info_lemmas.LineNumbers.{digit_in_decimal, some_digits}
+
+abbrev pub from_block : Information → List ℕ
+from_block i = codes " block " ++ (decimal i.max_block_length ++ [])
+
+abbrev pub from_symbol : Information → List ℕ
+from_symbol i = codes " symbol " ++ (decimal i.symbol_length ++ from_block i)
+
+pub information_chain : (i : Information)
+    → information_words i ≡ codes "info length " ++ (decimal i.transfer_length ++ from_symbol i)
+information_chain i = six (codes "info length ") (decimal i.transfer_length) (codes " symbol ")
+    (decimal i.symbol_length) (codes " block ") (decimal i.max_block_length)
+  where
+    six : (a b c d e f : List ℕ) → a ++ b ++ c ++ d ++ e ++ f ≡ a ++
+        (b ++ (c ++ (d ++ (e ++ (f ++ [])))))
+    six a b c d e f = simp (append_assoc, append-nil) refl
+
+abbrev pub from_info : Information → List ℕ
+from_info info = codes " " ++ information_words info
+
+abbrev pub from_object : Key → Information → List ℕ
+from_object key info = object_words key.object ++ from_info info
+
+abbrev pub from_space : Key → Information → List ℕ
+from_space key info = codes " " ++ from_object key info
+
+pub fact_chain : (key : Key) (info : Information)
+    → fact_words (Info key info) ≡ source_words key.session.sender
+    ++ (codes "session " ++ (decimal key.session.tsi ++ from_space key info))
+fact_chain key info = seven (source_words key.session.sender) (codes "session ")
+    (decimal key.session.tsi) (codes " ") (object_words key.object) (codes " ")
+    (information_words info)
+  where
+    seven : (a b c d e f g : List ℕ) → (a ++ b ++ c ++ d ++ e) ++ f ++ g ≡ a ++
+        (b ++ (c ++ (d ++ (e ++ (f ++ g)))))
+    seven a b c d e f g = simp append_assoc refl
+
+-- what follows the word source, where a sender stands
+pub source_chain : (n : ℕ) (tail : List ℕ) → (n == 0) ≡ false
+    → source_words n ++ tail ≡ codes "source " ++ (encode_lower (bytes_high_first 16 n)
+    ++ (codes " " ++ tail))
+source_chain n tail some =
+    ap (λ b. (if b then [] else codes "source " ++ encode_lower (bytes_high_first 16 n)
+    ++ codes " ") ++ tail) some
+    ∙ four (codes "source ") (encode_lower (bytes_high_first 16 n)) (codes " ") tail
+  where
+    four : (a b c d : List ℕ) → a ++ b ++ c ++ d ≡ a ++ (b ++ (c ++ d))
+    four a b c d = simp append_assoc refl
+
+pub source_none : (n : ℕ) (tail : List ℕ) → (n == 0) ≡ true → source_words n ++ tail ≡ tail
+source_none n tail none =
+    ap (λ b. (if b then [] else codes "source " ++ encode_lower (bytes_high_first 16 n)
+    ++ codes " ") ++ tail) none
+
+-- no number begins with the word fdt
+pub no_fdt : (n : ℕ) (x rest : List ℕ) → n < 2 ^ 128 → decimal n ++ x ≡ codes "fdt " ++ rest → ⊥
+no_fdt n x rest small e =
+    let at : get_or (decimal n) 0 0 ≡ 102 = sym (get_or_append_left (decimal n) x 0 0
+    (some_digits n small)) ∙ ap (λ l. get_or l 0 0) e in
+    true≢false (sym (digit_in_decimal n 0 small (some_digits n small)) ∙ ap is_ascii_digit at)
+
+apart : (x y : List ℕ) → codes "session " ++ x ≡ codes "source " ++ y → ⊥
+apart x y e = true≢false (ap (λ (l : List ℕ). get_or l 1 0 == 101) e)
+
+-- the digits stand behind the word source
+pub source_rest : (s tail rest : List ℕ) (n : ℕ) → s ≡ source_words n ++ (codes "session " ++ tail)
+    → s ≡ codes "source " ++ rest
+    → rest ≡ encode_lower (bytes_high_first 16 n) ++ (codes " " ++ (codes "session " ++ tail))
+source_rest s tail rest n is found = go (n == 0) refl
+  where
+    go : (b : Bool) → (n == 0) ≡ b
+        → rest ≡ encode_lower (bytes_high_first 16 n) ++ (codes " " ++ (codes "session " ++ tail))
+    go true none = absurd (apart tail rest (sym (source_none n (codes "session " ++ tail) none)
+        ∙ sym is ∙ found))
+    go false some = append_cancel_left (codes "source ") rest _ (sym found ∙ is
+        ∙ source_chain n (codes "session " ++ tail) some)
+
+pub same_numbers : (info : Information) (n : InfoNumbers) → n.length ≡ info.transfer_length
+    → n.symbol ≡ info.symbol_length → n.block ≡ info.max_block_length → numbers_of n ≡ info
+same_numbers info n x y z =
+    ap (λ k. information k n.symbol n.block) x
+    ∙ ap (λ k. information info.transfer_length k n.block) y
+    ∙ ap (λ k. information info.transfer_length info.symbol_length k) z
+
+-- so it is if they were read as these
+pub numbers_found : (r : Option InfoNumbers) (info : Information) (l s b : ℕ)
+    → l ≡ info.transfer_length → s ≡ info.symbol_length → b ≡ info.max_block_length
+    → MatchOption r ⊥ (λ n. (n.length ≡ l) × (n.symbol ≡ s) × (n.block ≡ b))
+    → MatchOption r ⊥ (λ n. numbers_of n ≡ info)
+numbers_found None info l s b x y z h = h
+numbers_found (Some n) info l s b x y z h =
+    same_numbers info n (h.0 ∙ x) (h.1 ∙ y) (h.2 ∙ z)
+
+pub same_session : (v : Session) (sender tsi : ℕ) → sender ≡ v.sender → tsi ≡ v.tsi → session
+    sender tsi ≡ v
+same_session v sender tsi x y = ap (λ k. session k tsi) x ∙ ap (λ k. session v.sender k) y
+
+abbrev pub key_of : Session → ObjectName → Key
+key_of s o = record { session = s; object = o }
+
+pub same_key : (key : Key) (s : Session) (o : ObjectName) → s ≡ key.session → o ≡ key.object →
+    key_of s o ≡ key
+same_key key s o x y = ap (λ k. key_of k o) x ∙ ap (λ k. key_of key.session k) y
+
+pub by_name : (P : ObjectName → Type 0) → ((i : ℕ) → P (Instance i)) → ((t : ℕ) → P (File t)) →
+    (name : ObjectName) → P name
+by_name P i t (Instance n) = i n
+by_name P i t (File n) = t n
+
+-- an object behind the words object fdt is no file
+pub no_file : (s tail rest : List ℕ) (n : ℕ) → n < 2 ^ 112 → s ≡ object_words (File n) ++ tail
+    → s ≡ codes "object fdt " ++ rest → ⊥
+no_file s tail rest n small is found =
+    no_fdt n tail rest (omega arith) (append_cancel_left (codes "object ") (decimal n ++ tail)
+    (codes "fdt " ++ rest) (sym is ∙ found))

@@ -1,0 +1,505 @@
+-- A list of information, read byte by byte.
+use Rattle.std.proofs.Common.{◌≡◌, ◌≢◌, ℕ, zero, suc, ◌+◌, ◌<◌, ◌≤◌, ◌^◌, ◌==◌, if◌then◌else◌}
+use Rattle.std.proofs.Common.{Option, Some, None, Bool, true, false, List, [], ◌∷◌, ◌++◌, length}
+use Rattle.std.proofs.Common.{codes, decimal, take, drop, get_or, add-one, drop-cons, Result, Ok}
+use Rattle.std.proofs.Common.{Err, inr, refl, sym, ap, subst, ◌∙◌, arith, append_assoc, append-nil}
+use Rattle.std.proofs.Common.{length-append}
+use Rattle.std.specs.Prelude.{IfSome, IfOk, IfErr, ◌⊎◌}
+use Rattle.std.specs.Io.KnownBytes.{Consumes, IsAtEnd}
+use Rattle.std.specs.List.{flat_map}
+use Rattle.std.proofs.KnownBytes.{Consumes-trans}
+use Rattle.std.proofs.lemmas.Fmt.{length-decimal-le_wide}
+use Rattle.std.proofs.lemmas.Grind.{flat_map-append}
+use Rattle.std.proofs.lemmas.List.{take-append-drop, take_more}
+use Rattle.std.proofs.lemmas.List.Elements.{All-nil, All-push}
+use Rattle.flute_journal.specs.declared.fault.ReadFault.TheVariants.{Read}
+use Rattle.flute_parts.specs.Facts.{Same}
+use Rattle.flute_parts.specs.Information.{Information, HasInfoFields, info_fault}
+use Rattle.flute_parts.specs.ObjectName.{IsObjectName}
+use Rattle.flute_parts.specs.Ranges.{IsKey}
+use Rattle.flute_parts.specs.declared.fact.Fact.{Fact}
+use Rattle.flute_parts.specs.declared.fact.Fact.TheVariants.{Info}
+use Rattle.flute_parts.specs.declared.key.Key.{Key}
+use Rattle.flute_parts.specs.declared.object_key.ObjectName.{ObjectName}
+use Rattle.flute_parts.specs.declared.object_key.ObjectName.TheVariants.{Instance, File}
+use Rattle.flute_parts.proofs.Public.{Below-from_Same, Over-below, Same-append, Same-itself}
+use Rattle.flute_parts.proofs.Public.{Same-trans}
+use Rattle.flutejoin.specs.declared.command_fault.CommandFault.{CommandFault}
+use Rattle.flutejoin.specs.declared.command_fault.CommandFault.TheVariants.{Input, ListLine}
+use Rattle.flutejoin.specs.declared.info.information_list.InformationList.{InformationList}
+use Rattle.flutejoin.specs.InformationLines.{HasNumbers, IsPassedOver, Shows, LineTells, shown}
+use Rattle.flutejoin.specs.InformationLines.{IsOneLine, LinesTell, ListTells, BeginsLine, HasLine}
+use Rattle.flutejoin.specs.InformationLines.{TellsNothing, TellsInvalid}
+use Rattle.flutejoin.specs.Limits.{Limits}
+use Rattle.flutejoin.specs.InformationLines.{ListFails, nothing, no_end, too_long, invalid, over}
+use Rattle.flutejoin.specs.InformationLines.{no_memory, IsKept, TakingFails, of_line, no_line}
+use Rattle.flutejoin.specs.InformationLines.{not_valid, no_room, no_memory_for, HoldsList}
+use Rattle.flutejoin.specs.Lines.{line, source_words, object_words, information_words, fact_words}
+use Rattle.flutejoin.specs.JoinParts.{NamesOnly}
+use Rattle.flutejoin.specs.Show.{FailsToRead}
+use Rattle.flutejoin.proofs.info_lemmas.LinePieces.{fact_chain, from_block, from_info, from_object, from_space}
+use Rattle.flutejoin.proofs.info_lemmas.LinePieces.{from_symbol, information_chain}
+use Rattle.flutejoin.proofs.info_lemmas.LineSenders.{digits_length, digits_of}
+
+-- One more line.
+
+pub tell_more : (lines : List (List ℕ)) (facts : List Fact) (words : List ℕ) (here : List Fact)
+    → LinesTell lines facts → IsOneLine words → LineTells words here
+    → LinesTell (lines ++ words ∷ []) (facts ++ here)
+unfolding LinesTell
+tell_more [] facts words here told one tells =
+    (here, [], one, tells, refl, ap (λ (F : List Fact). F ++ here) told ∙ sym (append-nil here))
+tell_more (l ∷ lines) facts words here (h, later, o, t, rest, e) one tells = (
+  h,
+  later ++ here,
+  o,
+  t,
+  tell_more lines later words here rest one tells,
+  ap (λ (F : List Fact). F ++ here) e ∙ append_assoc h later here,
+)
+
+text_more : (lines : List (List ℕ)) (words : List ℕ)
+    → flat_map line (lines ++ words ∷ []) ≡ flat_map line lines ++ line words
+text_more lines words =
+    flat_map-append line lines (words ∷ [])
+    ∙ ap (λ (l : List ℕ). flat_map line lines ++ l) (append-nil (line words))
+
+ended : (bytes front words more : List ℕ) → bytes ≡ front ++ words
+    → bytes ++ 10 ∷ more ≡ front ++ (line words ++ more)
+ended bytes front words more e =
+    ap (λ (l : List ℕ). l ++ 10 ∷ more) e ∙ four front words (codes "\n") more
+  where
+    four : (a b c d : List ℕ) → (a ++ b) ++ (c ++ d) ≡ a ++ ((b ++ c) ++ d)
+    four a b c d = simp append_assoc refl
+
+ended_text : (lines : List (List ℕ)) (bytes words more : List ℕ)
+    → bytes ≡ flat_map line lines ++ words
+    → bytes ++ 10 ∷ more ≡ flat_map line (lines ++ words ∷ []) ++ more
+ended_text lines bytes words more e =
+    ended bytes (flat_map line lines) words more e
+    ∙ sym (append_assoc (flat_map line lines) (line words) more)
+    ∙ ap (λ (l : List ℕ). l ++ more) (sym (text_more lines words))
+
+pub begins_more : (bytes : List ℕ) (number : ℕ) (facts : List Fact) (words : List ℕ)
+    (here : List Fact) (more : List ℕ) → BeginsLine bytes number facts words → IsOneLine words
+    → LineTells words here → BeginsLine (bytes ++ 10 ∷ more) (number + 1) (facts ++ here) more
+begins_more bytes number facts words here more b one tells = record {
+  lines = b.lines ++ words ∷ [];
+  text = ended_text b.lines bytes words more b.text;
+  tell = tell_more b.lines facts words here b.tell one tells;
+  number_is = omega (arith, b.number_is, length-append b.lines (words ∷ []));
+}
+
+begins_at : (bytes : List ℕ) (number : ℕ) (facts : List Fact) (words more : List ℕ)
+    → BeginsLine bytes number facts words
+    → BeginsLine (bytes ++ 10 ∷ more) number facts (line words ++ more)
+begins_at bytes number facts words more b = record {
+  lines = b.lines;
+  text = ended bytes (flat_map line b.lines) words more b.text;
+  tell = b.tell;
+  number_is = b.number_is;
+}
+
+-- What is kept of a line.
+
+pub kept_nothing : (long : Bool) (kept : List ℕ) → long ≡ false → kept ≡ [] → IsKept long kept []
+kept_nothing long kept e f = subst (λ b. IsKept b kept []) (sym e) f
+
+pub kept_room : (long : Bool) (kept after words : List ℕ) (byte : ℕ) → length kept < 512
+    → after ≡ kept ++ byte ∷ [] → IsKept long kept words → IsKept long after (words ++ byte ∷ [])
+kept_room false kept after words byte room e h = e ∙ ap (λ (l : List ℕ). l ++ byte ∷ []) h
+kept_room true kept after words byte room e h = absurd (omega (arith, h.2))
+
+pub kept_past : (long : Bool) (kept words : List ℕ) (byte : ℕ) → 512 ≤ length kept
+    → IsKept long kept words → IsKept true kept (words ++ byte ∷ [])
+kept_past false kept words byte full h =
+    (byte ∷ [], ap (λ (l : List ℕ). l ++ byte ∷ []) (sym h), full, omega arith)
+kept_past true kept words byte full h = (
+  h.0 ++ byte ∷ [],
+  ap (λ (l : List ℕ). l ++ byte ∷ []) h.1 ∙ append_assoc kept h.0 (byte ∷ []),
+  full,
+  omega (arith, h.3, length-append h.0 (byte ∷ [])),
+)
+
+pub passed_of_kept : (long : Bool) (kept words : List ℕ) → IsKept long kept words
+    → IsPassedOver kept → IsPassedOver words
+passed_of_kept false kept words h p = subst IsPassedOver h p
+passed_of_kept true [] words h p = absurd (omega (arith, h.2))
+passed_of_kept true (byte ∷ kept) words h p = subst IsPassedOver (sym h.1) p
+
+pub kept_of_passed : (long : Bool) (kept words : List ℕ) → IsKept long kept words
+    → IsPassedOver words → IsPassedOver kept
+kept_of_passed false kept words h p = subst IsPassedOver (sym h) p
+kept_of_passed true [] words h p = absurd (omega (arith, h.2))
+kept_of_passed true (byte ∷ kept) words h p = subst IsPassedOver h.1 p
+
+none_kept : (long : Bool) (kept words : List ℕ) → kept ≡ [] → IsKept long kept words → words ≡ []
+none_kept false kept words e h = sym h ∙ e
+none_kept true kept words e h = absurd (omega (arith, ap length e, h.2))
+
+some_kept : (long : Bool) (kept words : List ℕ) → 0 < length kept → IsKept long kept words
+    → 0 < length words
+some_kept false kept words some h = omega (arith, ap length h)
+some_kept true kept words some h =
+    omega (arith, ap length h.1, length-append kept h.0)
+
+-- What a line tells.
+
+pub tells_shown : (words : List ℕ) (key : Key) (info numbers : Information)
+    → Shows words key numbers → info ≡ numbers → info_fault info ≡ None
+    → LineTells words (Info key info ∷ [])
+tells_shown words key info numbers shows e none =
+    shown key info (shows.key_is, (subst HasInfoFields (sym e) shows.numbers.1, none))
+    (subst (λ i. words ≡ fact_words (Info key i)) (sym e) shows.words_are) refl
+
+-- A line of information is short.
+
+number_short : (n : ℕ) → n < 2 ^ 128 → length (decimal n) ≤ 39
+number_short n small = length-decimal-le_wide 39 n (omega arith) (omega arith) (omega arith)
+
+source_short : (n : ℕ) → length (source_words n) ≤ 40
+source_short n = go (n == 0)
+  where
+    words : List ℕ
+    words = codes "source " ++ digits_of n ++ codes " "
+
+    long : length words ≡ 40
+    long =
+        let s : length (codes "source ") ≡ 7 = refl in
+        let t : length (codes " ") ≡ 1 = refl in
+        omega (
+          arith,
+          length-append (codes "source ") (digits_of n),
+          length-append (codes "source " ++ digits_of n) (codes " "),
+          digits_length n,
+        )
+
+    go : (b : Bool) → length (if b then [] else words) ≤ 40
+    go true = omega arith
+    go false = omega (arith, long)
+
+object_short : (name : ObjectName) → IsObjectName name → length (object_words name) ≤ 60
+object_short (File toi) named =
+    let s : length (codes "object ") ≡ 7 = refl in
+    omega (arith, length-append (codes "object ") (decimal toi), number_short toi (omega arith))
+object_short (Instance id) named =
+    let s : length (codes "object fdt ") ≡ 11 = refl in
+    omega (arith, length-append (codes "object fdt ") (decimal id), number_short id (omega arith))
+
+information_short : (i : Information) → HasNumbers i → length (information_words i) ≤ 160
+information_short i numbers =
+    let e = ap length (information_chain i) in
+    let r : length (codes "info length ") ≡ 12 = refl in
+    let s : length (codes " symbol ") ≡ 8 = refl in
+    let t : length (codes " block ") ≡ 7 = refl in
+    omega (
+      arith,
+      e,
+      length-append (codes "info length ") (decimal i.transfer_length ++ from_symbol i),
+      length-append (decimal i.transfer_length) (from_symbol i),
+      length-append (codes " symbol ") (decimal i.symbol_length ++ from_block i),
+      length-append (decimal i.symbol_length) (from_block i),
+      length-append (codes " block ") (decimal i.max_block_length ++ []),
+      length-append (decimal i.max_block_length) [],
+      number_short i.transfer_length (omega (arith, numbers.0)),
+      number_short i.symbol_length (omega (arith, numbers.1.0)),
+      number_short i.max_block_length (omega (arith, numbers.1.1)),
+    )
+
+fact_short : (key : Key) (info : Information) → IsKey key → HasNumbers info
+    → length (fact_words (Info key info)) ≤ 512
+fact_short key info named numbers =
+    let e = ap length (fact_chain key info) in
+    let s : length (codes "session ") ≡ 8 = refl in
+    let t : length (codes " ") ≡ 1 = refl in
+    omega (
+      arith,
+      e,
+      length-append (source_words key.session.sender)
+          (codes "session " ++ (decimal key.session.tsi ++ from_space key info)),
+      length-append (codes "session ") (decimal key.session.tsi ++ from_space key info),
+      length-append (decimal key.session.tsi) (from_space key info),
+      length-append (codes " ") (from_object key info),
+      length-append (object_words key.object) (from_info info),
+      length-append (codes " ") (information_words info),
+      source_short key.session.sender,
+      number_short key.session.tsi (omega (arith, named.0.1)),
+      object_short key.object named.1,
+      information_short info numbers,
+    )
+
+pub shows_short : (kept words : List ℕ) (key : Key) (info : Information)
+    → IsKept true kept words → Shows words key info → ⊥
+shows_short kept words key info h shows =
+    omega (
+      arith,
+      fact_short key info shows.key_is shows.numbers,
+      ap length shows.words_are,
+      ap length h.1,
+      length-append kept h.0,
+      h.2,
+      h.3,
+    )
+
+-- What is held of a list.
+
+tell_none : LinesTell [] []
+unfolding LinesTell
+tell_none = refl
+
+pub holds_nothing : {s o y : ℕ} (list : InformationList s o y) → list.told ≡ [] → list.line ≡ []
+    → list.long ≡ false → list.number ≡ 1 → HoldsList list []
+holds_nothing list told kept long number = record {
+  facts = [];
+  words = [];
+  begins = record { lines = []; text = refl; tell = tell_none; number_is = omega (arith, number) };
+  one_line = All-nil (λ byte. byte ≢ 10);
+  kept = kept_nothing list.long list.line long kept;
+  content = subst (λ F. Same F []) (sym told) (Same-itself []);
+}
+
+pub line_ended : {s o y : ℕ} (old new : InformationList s o y) (bytes : List ℕ) → new.line ≡ [] →
+    new.long ≡ false
+    → new.number ≡ old.number + 1
+    → ((words : List ℕ) → IsKept old.long old.line words → (facts : List Fact)
+    × LineTells words facts × Same new.told (old.told ++ facts))
+    → HoldsList old bytes → HoldsList new (bytes ++ 10 ∷ [])
+line_ended old new bytes kept long number took h =
+    let t = took h.words h.kept in
+    record {
+      facts = h.facts ++ t.0;
+      words = [];
+      begins =
+          subst (λ n. BeginsLine (bytes ++ 10 ∷ []) n (h.facts ++ t.0) []) (sym number)
+          (begins_more bytes old.number h.facts h.words t.0 [] h.begins h.one_line t.1);
+      one_line = All-nil (λ byte. byte ≢ 10);
+      kept = kept_nothing new.long new.line long kept;
+      content =
+          Same-trans new.told (old.told ++ t.0) (h.facts ++ t.0) t.2
+          (Same-append old.told h.facts t.0 t.0 h.content (Same-itself t.0));
+    }
+
+pub line_failed : {s o y : ℕ} (most : Limits) (old : InformationList s o y)
+    (bytes more : List ℕ) (fault : CommandFault)
+    → ((words : List ℕ) → IsKept old.long old.line words
+    → TakingFails most old.told old.number words fault)
+    → HoldsList old bytes → ListFails most (bytes ++ 10 ∷ more) fault
+line_failed most old bytes more fault why h = go (why h.words h.kept)
+  where
+    at : (P : List ℕ → Type 0) → P h.words → HasLine P (bytes ++ 10 ∷ more) old.number
+    at P p = record {
+      facts = h.facts;
+      words = h.words;
+      rest = more;
+      begins = begins_at bytes old.number h.facts h.words more h.begins;
+      one_line = h.one_line;
+      here = p;
+    }
+
+    go : TakingFails most old.told old.number h.words fault
+        → ListFails most (bytes ++ 10 ∷ more) fault
+    go (of_line (no_line e p)) = nothing old.number e (at TellsNothing p)
+    go (of_line (not_valid w e p)) = invalid old.number w e (at (TellsInvalid w) p)
+    go (no_room facts e tells full) = over e (record {
+      number = old.number + 1;
+      facts = h.facts ++ facts;
+      rest = more;
+      begins =
+          begins_more bytes old.number h.facts h.words facts more h.begins h.one_line tells;
+      over =
+          Over-below (old.told ++ facts) (h.facts ++ facts) most.sessions most.objects most.symbols
+          (Below-from_Same (old.told ++ facts) (h.facts ++ facts)
+          (Same-append old.told h.facts facts facts h.content (Same-itself facts))) full;
+    })
+    go (no_memory_for e) = no_memory e
+
+pub pushed : {s o y : ℕ} (old new : InformationList s o y) (bytes : List ℕ) (byte : ℕ) → byte ≢ 10
+    → new.number ≡ old.number → new.told ≡ old.told
+    → ((words : List ℕ) → IsKept old.long old.line words
+    → IsKept new.long new.line (words ++ byte ∷ []))
+    → HoldsList old bytes → HoldsList new (bytes ++ byte ∷ [])
+pushed old new bytes byte other number told keeps h = record {
+  facts = h.facts;
+  words = h.words ++ byte ∷ [];
+  begins = record {
+    lines = h.begins.lines;
+    text =
+        ap (λ (l : List ℕ). l ++ byte ∷ []) h.begins.text
+        ∙ append_assoc (flat_map line h.begins.lines) h.words (byte ∷ []);
+    tell = h.begins.tell;
+    number_is = number ∙ h.begins.number_is;
+  };
+  one_line = All-push (λ b. b ≢ 10) h.words byte h.one_line other;
+  kept = keeps h.words h.kept;
+  content = subst (λ F. Same F h.facts) (sym told) h.content;
+}
+
+pub all_told : {s o y : ℕ} (list : InformationList s o y) (bytes : List ℕ) → list.line ≡ [] →
+    HoldsList list bytes
+    → (facts : List Fact) × ListTells bytes facts × Same list.told facts
+all_told list bytes kept h = (
+  h.facts,
+  record {
+    lines = h.begins.lines;
+    text =
+        h.begins.text
+        ∙ ap (λ (l : List ℕ). flat_map line h.begins.lines ++ l)
+        (none_kept list.long list.line h.words kept h.kept)
+        ∙ append-nil (flat_map line h.begins.lines);
+    tell = h.begins.tell;
+  },
+  h.content,
+)
+
+some_length : (n : ℕ) (b : Bool) → b ≡ (n == 0) → b ≡ false → 0 < n
+some_length zero b is empty = absurd (let e : true ≡ false = sym is ∙ empty in cc)
+some_length (suc n) b is empty = omega arith
+
+pub not_ended : {s o y : ℕ} {most : Limits} (list : InformationList s o y) (kept : List ℕ) (b :
+    Bool) (bytes : List ℕ)
+    → kept ≡ list.line → b ≡ (length kept == 0) → b ≡ false → HoldsList list bytes
+    → ListFails most bytes (ListLine list.number)
+not_ended list kept b bytes same is some h = no_end list.number refl (record {
+  facts = h.facts;
+  words = h.words;
+  begins = h.begins;
+  one_line = h.one_line;
+  some =
+      some_kept list.long list.line h.words
+      (subst (λ (l : List ℕ). 0 < length l) same (some_length (length kept) b is some)) h.kept;
+})
+
+-- Bytes of a piece.
+
+pub piece_more : {s o y : ℕ} (list : InformationList s o y) (bytes piece : List ℕ) (i : ℕ) → i <
+    length piece
+    → HoldsList list ((bytes ++ take i piece) ++ get_or piece i 0 ∷ [])
+    → HoldsList list (bytes ++ take (i + 1) piece)
+piece_more list bytes piece i in_piece h =
+    subst (λ (l : List ℕ). HoldsList list (bytes ++ l)) (sym (take_more piece i 0 in_piece))
+    (subst (HoldsList list) (append_assoc bytes (take i piece) (get_or piece i 0 ∷ [])) h)
+
+pub piece_fails : (most : Limits) (bytes piece more : List ℕ) (i : ℕ) (fault : CommandFault) → i <
+    length piece
+    → ((further : List ℕ)
+    → ListFails most ((bytes ++ take i piece) ++ get_or piece i 0 ∷ further) fault)
+    → ListFails most (bytes ++ (piece ++ more)) fault
+piece_fails most bytes piece more i fault in_piece fails =
+    subst (λ (l : List ℕ). ListFails most l fault)
+    (five bytes (take i piece) (get_or piece i 0) (drop (i + 1) piece) more
+    ∙ ap (λ (l : List ℕ). bytes ++ (l ++ more)) (sym whole))
+    (fails (drop (i + 1) piece ++ more))
+  where
+    five : (a b : List ℕ) (x : ℕ) (c d : List ℕ)
+        → (a ++ b) ++ x ∷ (c ++ d) ≡ a ++ ((b ++ x ∷ c) ++ d)
+    five a b x c d = simp append_assoc refl
+
+    whole : piece ≡ take i piece ++ get_or piece i 0 ∷ drop (i + 1) piece
+    whole =
+        sym (take-append-drop i piece)
+        ∙ ap (λ (l : List ℕ). take i piece ++ l) (rw add-one (drop-cons piece i 0 in_piece))
+
+-- A list that is read piece by piece.
+
+pub at_end : (u v : Option (List ℕ)) (bytes : List ℕ) (P : List ℕ → Type 0) → Consumes u v bytes
+    → IsAtEnd v → P bytes → IfSome u P
+at_end None v bytes P read end p = tt
+at_end (Some all) None bytes P read end p = absurd read
+at_end (Some all) (Some left) bytes P read end p =
+    subst P (sym (read ∙ ap (λ (l : List ℕ). bytes ++ l) end ∙ append-nil bytes)) p
+
+pub within : (u v w : Option (List ℕ)) (bytes piece : List ℕ) (P : List ℕ → Type 0)
+    → Consumes u v bytes → Consumes v w piece → ((more : List ℕ) → P (bytes ++ (piece ++ more)))
+    → IfSome u P
+within None v w bytes piece P read next p = tt
+within (Some all) None w bytes piece P read next p = absurd read
+within (Some all) (Some left) None bytes piece P read next p = absurd next
+within (Some all) (Some left) (Some rest) bytes piece P read next p =
+    subst P (sym (read ∙ ap (λ (l : List ℕ). bytes ++ l) next)) (p rest)
+
+pub read_end : (u v w : Option (List ℕ)) (bytes piece : List ℕ) → Consumes u v bytes
+    → Consumes v w piece → piece ≡ [] → Consumes u w bytes
+read_end u v w bytes piece read next none =
+    subst (λ (l : List ℕ). Consumes u w l)
+    (ap (λ (l : List ℕ). bytes ++ l) none ∙ append-nil bytes)
+    (Consumes-trans u v w bytes piece read next)
+
+pub too_many : {most : Limits} (bytes piece more : List ℕ) (number : ℕ) → 2 ^ 64 ≤ length bytes +
+    length piece + 1
+    → ListFails most (bytes ++ (piece ++ more)) (ListLine number)
+too_many bytes piece more number many = too_long number refl
+    (omega (arith, length-append bytes (piece ++ more), length-append piece more))
+
+pub ends_told : {s o y : ℕ} (u v : Option (List ℕ)) (r : Result (List Fact) CommandFault)
+    (list : InformationList s o y) (bytes : List ℕ) → Consumes u v bytes → IsAtEnd v
+    → HoldsList list bytes
+    → IfOk r (λ shelf. (all : List ℕ) → HoldsList list all
+    → (facts : List Fact) × ListTells all facts × Same shelf facts)
+    → IfOk r (λ shelf. IfSome u (λ all.
+    (facts : List Fact) × ListTells all facts × Same shelf facts))
+ends_told u v (Ok shelf) list bytes read end holds h =
+    at_end u v bytes (λ all. (facts : List Fact) × ListTells all facts × Same shelf facts)
+    read end (h bytes holds)
+ends_told u v (Err fault) list bytes read end holds h = tt
+
+pub ends_failed : {s o y : ℕ} (most : Limits) (u v : Option (List ℕ)) (r : Result (List Fact)
+    CommandFault)
+    (list : InformationList s o y) (bytes : List ℕ) → Consumes u v bytes → IsAtEnd v
+    → HoldsList list bytes
+    → IfErr r (λ fault. (all : List ℕ) → HoldsList list all → ListFails most all fault)
+    → IfErr r (λ fault. (fault ≡ Input 2 Read) ⊎ IfSome u (λ all. ListFails most all fault))
+ends_failed most u v (Ok shelf) list bytes read end holds h = tt
+ends_failed most u v (Err fault) list bytes read end holds h =
+    inr (at_end u v bytes (λ all. ListFails most all fault) read end (h bytes holds))
+
+-- How often its source failed.
+
+pub quiet_fails : {most : Limits} (old new : ℕ) (bytes : List ℕ) (fault : CommandFault)
+    → ListFails most bytes fault → new ≡ old → FailsToRead {T = List Fact} old new (Err fault)
+quiet_fails {most} old new bytes fault h same = go h
+  where
+    P : CommandFault → Type 0
+    P f = FailsToRead {T = List Fact} old new (Err f)
+
+    go : ListFails most bytes fault → P fault
+    go (nothing number e x) = subst P (sym e) same
+    go (no_end number e x) = subst P (sym e) same
+    go (too_long number e x) = subst P (sym e) same
+    go (invalid number why e x) = subst P (sym e) same
+    go (over e x) = subst P (sym e) same
+    go (no_memory e) = subst P (sym e) same
+
+pub ends_quiet : {s o y : ℕ} (most : Limits) (old new : ℕ)
+    (r : Result (List Fact) CommandFault) (list : InformationList s o y)
+    (bytes : List ℕ) → new ≡ old → HoldsList list bytes
+    → IfErr r (λ fault. (all : List ℕ) → HoldsList list all → ListFails most all fault)
+    → FailsToRead old new r
+ends_quiet most old new (Ok shelf) list bytes same holds h = same
+ends_quiet most old new (Err fault) list bytes same holds h =
+    quiet_fails old new bytes fault (h bytes holds) same
+
+pub failed_once : (old now new : ℕ) (fault : CommandFault) → fault ≡ Input 2 Read → now ≡ old
+    → FailsToRead {T = ℕ} now new (Err fault) → FailsToRead {T = List Fact} old new (Err fault)
+failed_once old now new fault e same h =
+    let k : new ≡ now + 1 = subst (λ f. FailsToRead {T = ℕ} now new (Err f)) e h in
+    subst (λ f. FailsToRead {T = List Fact} old new (Err f)) (sym e) (k ∙ ap (λ n. n + 1) same)
+
+-- No input but the second is told.
+
+pub names_fails : {most : Limits} (bytes : List ℕ) (fault : CommandFault)
+    → ListFails most bytes fault
+    → NamesOnly 2 fault
+names_fails bytes fault (nothing number e x) = subst (NamesOnly 2) (sym e) tt
+names_fails bytes fault (no_end number e x) = subst (NamesOnly 2) (sym e) tt
+names_fails bytes fault (too_long number e x) = subst (NamesOnly 2) (sym e) tt
+names_fails bytes fault (invalid number why e x) = subst (NamesOnly 2) (sym e) tt
+names_fails bytes fault (over e x) = subst (NamesOnly 2) (sym e) tt
+names_fails bytes fault (no_memory e) = subst (NamesOnly 2) (sym e) tt
+
+pub ends_names : {s o y : ℕ} (most : Limits) (r : Result (List Fact) CommandFault)
+    (list : InformationList s o y)
+    (bytes : List ℕ) → HoldsList list bytes
+    → IfErr r (λ fault. (all : List ℕ) → HoldsList list all → ListFails most all fault)
+    → IfErr r (NamesOnly 2)
+ends_names most (Ok shelf) list bytes holds h = tt
+ends_names most (Err fault) list bytes holds h = names_fails bytes fault (h bytes holds)

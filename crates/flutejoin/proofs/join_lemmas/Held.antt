@@ -1,0 +1,327 @@
+-- Datagram files that are held as what they tell.
+use Rattle.std.proofs.Common.{◌≡◌, ℕ, ◌+◌, Bool, true, false, cond, List, [], ◌∷◌, ◌++◌, count_by}
+use Rattle.std.proofs.Common.{Result, Ok, Err, inl, inr, refl, sym, ap, subst, ◌∙◌, arith}
+use Rattle.std.proofs.Common.{append-nil, append_assoc}
+use Rattle.std.specs.Prelude.{OnOk, Option, Some, None, IsSome, MatchResult, length}
+use Rattle.std.specs.Prelude.{option_to_list, ◌<◌, ◌≤◌}
+use Rattle.flute_journal.specs.declared.fault.ReadFault.{ReadFault}
+use Rattle.flute_journal.specs.Input.{FailsIf}
+use Rattle.std.specs.List.{flat_map}
+use Rattle.std.proofs.lemmas.Bool.{false≢true}
+use Rattle.std.proofs.lemmas.List.{length-append}
+use Rattle.std.proofs.lemmas.List.Sums.{sum_by_push}
+use Rattle.std.proofs.lemmas.Grind.{flat_map-append}
+use Rattle.flute_parts.specs.declared.fact.Fact.{Fact}
+use Rattle.flute_parts.specs.Facts.{Same}
+use Rattle.flute_parts.proofs.Public.{Below-from_Same, Over-below, Same-append, Same-itself}
+use Rattle.flute_parts.proofs.Public.{Same-swap, Same-trans}
+use Rattle.flutejoin.specs.declared.command_fault.CommandFault.{CommandFault}
+use Rattle.flutejoin.specs.declared.command_fault.CommandFault.TheVariants.{Full, Input}
+use Rattle.flute_journal.specs.declared.streams.owned_journal_stream.OwnedJournalStream.{OwnedJournalStream}
+use Rattle.flutejoin.specs.Asides.{AreHeld, AreRunsOf, HoldTogether, IsRunOf}
+use Rattle.flutejoin.specs.declared.join.held_files.HeldFiles.{HeldFiles}
+use Rattle.flutejoin.specs.Joined.{Choice, facts_by, is_of_others}
+use Rattle.flutejoin.specs.JoinParts.{TakesDatagram, HoldsFacts}
+use Rattle.flutejoin.specs.JoinParts.{StoreFails, HoldsAll, HoldsDatagrams, HoldsMore}
+use Rattle.flutejoin.specs.Refused.{is_refused}
+use Rattle.flutejoin.specs.Limits.{Limits, IsOver}
+use Rattle.flutejoin.proofs.join_lemmas.Receptions.{Below-left}
+
+store_over : (most : Limits) (F : List Fact) (fault : CommandFault) → StoreFails most F fault
+    → fault ≡ Full → IsOver most F
+store_over most F fault (inl full) is = full.1
+store_over most F fault (inr memory) is = let e = sym memory ∙ is in absurd cc
+
+-- the last of three in the middle
+turn : (F G H : List Fact) → Same ((F ++ G) ++ H) ((F ++ H) ++ G)
+turn F G H =
+    subst (λ l. Same l ((F ++ H) ++ G)) (sym (append_assoc F G H))
+    (subst (λ l. Same (F ++ (G ++ H)) l) (sym (append_assoc F H G))
+    (Same-append F F (G ++ H) (H ++ G) (Same-itself F) (Same-swap G H)))
+
+-- the choice of all datagrams
+module _ {R : Type 0} (unread : R → Option (List ℕ)) (choice : Choice) where
+  flat_more : (ds : List (List ℕ)) (d : List ℕ) → flat_map (facts_by choice) (ds ++ d ∷ []) ≡
+      flat_map (facts_by choice) ds ++ facts_by choice d
+  flat_more ds d = flat_map-append (facts_by choice) ds (d ∷ []) ∙ ap
+      (λ F. flat_map (facts_by choice) ds ++ F) (append-nil (facts_by choice d))
+
+  -- a datagram more was taken into the store
+  takes_more : {s o y : ℕ} (old new : HeldFiles s o y R) (ds : List (List ℕ)) (d : List ℕ)
+      → HoldsFacts unread choice old ds → new.runs ≡ old.runs
+      → TakesDatagram (facts_by choice d) old.told d new.told
+      → HoldsFacts unread choice new (ds ++ d ∷ [])
+  takes_more old new ds d all same one =
+      let length_is = length-append ds (d ∷ []) in
+      let fresh = facts_by choice d in
+      let store = old.told.store in
+      let files = flat_map (facts_by choice) ds in
+      record {
+        aside = all.aside;
+        runs = subst (λ runs. AreRunsOf unread runs.items all.aside) (sym same) all.runs;
+        content =
+            subst (Same (new.told.store ++ all.aside)) (sym (flat_more ds d))
+            (Same-trans (new.told.store ++ all.aside) ((store ++ fresh) ++ all.aside)
+            (files ++ fresh)
+            (Same-append new.told.store (store ++ fresh) all.aside all.aside one.content
+            (Same-itself all.aside))
+            (Same-trans ((store ++ fresh) ++ all.aside) ((store ++ all.aside) ++ fresh)
+            (files ++ fresh) (turn store fresh all.aside)
+            (Same-append (store ++ all.aside) files fresh fresh all.content
+            (Same-itself fresh))));
+        count = omega (arith, one.datagrams, all.count, length_is);
+        refused =
+            rw (sum_by_push (λ x. cond (is_refused x) 1 0) ds d, one.refused)
+            (counted old.told.refused (count_by is_refused ds) (is_refused d) all.refused);
+      }
+    where
+      counted : (m k : ℕ) (b : Bool) → m ≡ k → cond b (m + 1) m ≡ k + cond b 1 0
+      counted m k true e = omega (arith, e)
+      counted m k false e = omega (arith, e)
+
+  over_more : (ds : List (List ℕ)) (d : List ℕ) → IsOver choice.most (flat_map (facts_by choice)
+      ds) →
+      IsOver choice.most (flat_map (facts_by choice) (ds ++ d ∷ []))
+  over_more ds d over = rw (flat_more ds d) (Over-below (flat_map (facts_by choice) ds)
+      (flat_map (facts_by choice) ds ++ facts_by choice d) choice.most.sessions choice.most.objects
+      choice.most.symbols
+      (Below-left (flat_map (facts_by choice) ds) (facts_by choice d)) over)
+
+  over_with : {s o y : ℕ} (held : HeldFiles s o y R) (ds : List (List ℕ)) (d : List ℕ)
+      → HoldsFacts unread choice held ds
+      → IsOver choice.most (held.told.store ++ facts_by choice d)
+      → IsOver choice.most (flat_map (facts_by choice) (ds ++ d ∷ []))
+  over_with held ds d all over =
+      let fresh = facts_by choice d in
+      let store = held.told.store in
+      let files = flat_map (facts_by choice) ds in
+      let more = (store ++ fresh) ++ all.aside in
+      let same : Same more (files ++ fresh) =
+      Same-trans more ((store ++ all.aside) ++ fresh) (files ++ fresh)
+      (turn store fresh all.aside)
+      (Same-append (store ++ all.aside) files fresh fresh all.content (Same-itself fresh)) in
+      let all_over =
+      Over-below (store ++ fresh) more choice.most.sessions choice.most.objects
+      choice.most.symbols (Below-left (store ++ fresh) all.aside) over in
+      subst (IsOver choice.most) (sym (flat_more ds d))
+      (Over-below more (files ++ fresh) choice.most.sessions choice.most.objects
+      choice.most.symbols (Below-from_Same more (files ++ fresh) same) all_over)
+
+  holding : {s o y : ℕ} (b c : Bool) (held : HeldFiles s o y R) (ds : List (List ℕ)) → b ≡ c
+      → HoldsAll unread choice c held ds → HoldsAll unread choice b held ds
+  holding b c held ds e h = subst (λ x. HoldsAll unread choice x held ds) (sym e) h
+
+  pub held_as : {s o y : ℕ} (b c : Bool) (held : HeldFiles s o y R) (ds : List (List ℕ)) → b ≡ c
+      → HoldsAll unread choice b held ds → HoldsAll unread choice c held ds
+  held_as b c held ds e h = subst (λ x. HoldsAll unread choice x held ds) e h
+
+  pub holds_none : {s o y : ℕ} (file : HeldFiles s o y R) → file.told.store ≡ []
+      → file.told.datagrams ≡ 0 → file.told.refused ≡ 0 → file.others ≡ 0 → file.fits ≡ true
+      → file.runs.items ≡ [] → HoldsDatagrams unread choice file []
+  holds_none file store datagrams refused others fits none = record {
+    others = λ e. others;
+    holds = holding file.fits true file [] fits (record {
+      aside = [];
+      runs = subst (λ runs. AreRunsOf unread runs []) (sym none) refl;
+      content = rw store (Same-itself []);
+      count = omega (arith, datagrams);
+      refused = omega (arith, refused);
+    });
+  }
+
+  -- a datagram more was taken
+  pub holds_more : {s o y : ℕ} (old new : HeldFiles s o y R) (ds : List (List ℕ)) (d : List ℕ)
+      → old.fits ≡ true → new.fits ≡ true → new.runs ≡ old.runs
+      → TakesDatagram (facts_by choice d) old.told d new.told
+      → new.others ≡ old.others + cond (is_of_others choice d) 1 0
+      → HoldsDatagrams unread choice old ds → HoldsDatagrams unread choice new (ds ++ d ∷ [])
+  holds_more old new ds d fits still same one count h = record {
+    others = λ e. count ∙ ap (λ n. n + cond (is_of_others choice d) 1 0) (h.others fits) ∙ sym
+        (sum_by_push (λ x. cond (is_of_others choice x) 1 0) ds d);
+    holds =
+        holding new.fits true new (ds ++ d ∷ []) still
+        (takes_more old new ds d (held_as old.fits true old ds fits h.holds) same one);
+  }
+
+  -- it found no room
+  pub holds_over : {s o y : ℕ} (old new : HeldFiles s o y R) (ds : List (List ℕ)) (d : List ℕ)
+      (told : List Fact) (fault : CommandFault) → old.fits ≡ true → new.fits ≡ false
+      → facts_by choice d ≡ told → StoreFails choice.most (old.told.store ++ told) fault
+      → fault ≡ Full → HoldsDatagrams unread choice old ds
+      → HoldsDatagrams unread choice new (ds ++ d ∷ [])
+  holds_over old new ds d told fault fits over e fails full h = record {
+    others = λ fitting. absurd (false≢true (sym over ∙ fitting));
+    holds = holding new.fits false new (ds ++ d ∷ []) over
+        (over_with old ds d (held_as old.fits true old ds fits h.holds)
+        (subst (λ F. IsOver choice.most (old.told.store ++ F)) (sym e) (store_over choice.most _
+        fault fails full)));
+  }
+
+  -- there had been none before
+  pub holds_past : {s o y : ℕ} (file : HeldFiles s o y R) (ds : List (List ℕ)) (d : List ℕ)
+      → file.fits ≡ false → HoldsDatagrams unread choice file ds
+      → HoldsDatagrams unread choice file (ds ++ d ∷ [])
+  holds_past file ds d fits h = record {
+    others = λ fitting. absurd (false≢true (sym fits ∙ fitting));
+    holds = holding file.fits false file (ds ++ d ∷ []) fits
+        (over_more ds d (held_as file.fits false file ds fits h.holds));
+  }
+
+  -- a datagram of another session was counted
+  pub holds_passed : {s o y : ℕ} (old new : HeldFiles s o y R) (ds : List (List ℕ)) (d : List ℕ)
+      → old.fits ≡ true → new.fits ≡ true → new.runs ≡ old.runs → facts_by choice d ≡ []
+      → is_refused d ≡ false
+      → new.told ≡ record {
+        store = old.told.store;
+        datagrams = old.told.datagrams + 1;
+        refused = old.told.refused;
+      }
+      → new.others ≡ old.others + 1 → is_of_others choice d ≡ true
+      → HoldsDatagrams unread choice old ds → HoldsDatagrams unread choice new (ds ++ d ∷ [])
+  holds_passed old new ds d fits still same none kept is count other h =
+      holds_more old new ds d fits still same
+      (record {
+        content = rw (none, is, append-nil old.told.store) (Same-itself old.told.store);
+        datagrams = ap (λ t. t.datagrams) is;
+        refused = rw kept (ap (λ t. t.refused) is);
+      })
+      (rw other count) h
+
+  -- what a taken datagram comes to
+  pub holds_taken : {s o y : ℕ} (r : Result (Unit {0}) CommandFault) (old new : HeldFiles s o y R)
+      (d : List ℕ) (told : List Fact) → old.fits ≡ true → new.fits ≡ true → new.runs ≡ old.runs
+      → facts_by choice d ≡ told → new.others ≡ old.others → is_of_others choice d ≡ false
+      → OnOk r (TakesDatagram told old.told d new.told)
+      → OnOk r ((ds : List (List ℕ)) → HoldsDatagrams unread choice old ds
+      → HoldsDatagrams unread choice new (ds ++ d ∷ []))
+  holds_taken (Ok t) old new d told fits still runs e same taken h = λ ds holds.
+      holds_more old new ds d fits still runs
+      (subst (λ F. TakesDatagram F old.told d new.told) (sym e) h)
+      (rw taken (omega (arith, same))) holds
+  holds_taken (Err f) old new d told fits still runs e same taken h = tt
+
+  -- the store was put aside
+  pub holds_aside : {s o y : ℕ} (old new : HeldFiles s o y R) → old.fits ≡ true
+      → new.fits ≡ true → new.told.store ≡ [] → new.told.datagrams ≡ old.told.datagrams
+      → new.told.refused ≡ old.told.refused → new.others ≡ old.others
+      → ((facts : List Fact) → AreRunsOf unread old.runs.items facts
+      → HoldTogether unread new.runs.items (facts ++ old.told.store))
+      → HoldsMore unread choice old new []
+  holds_aside old new fits still empty datagrams refused others runs ds h =
+      let all = held_as old.fits true old ds fits h.holds in
+      let files = flat_map (facts_by choice) ds in
+      let more = runs all.aside all.runs in
+      subst (HoldsDatagrams unread choice new) (sym (append-nil ds)) (record {
+        others = λ e. others ∙ h.others fits;
+        holds = holding new.fits true new ds still (record {
+          aside = more.0;
+          runs = more.1;
+          content =
+              rw empty
+              (Same-trans more.0 (all.aside ++ old.told.store) files more.2
+              (Same-trans (all.aside ++ old.told.store) (old.told.store ++ all.aside) files
+              (Same-swap all.aside old.told.store) all.content));
+          count = datagrams ∙ all.count;
+          refused = refused ∙ all.refused;
+        });
+      })
+
+  -- all was put aside, in one run
+  pub holds_run : {s o y : ℕ} (old : HeldFiles s o y R) (popped : Option (OwnedJournalStream R))
+      (rest : List (OwnedJournalStream R)) (runs : List (OwnedJournalStream R))
+      (store : List Fact) → old.fits ≡ true → old.told.store ≡ [] → store ≡ []
+      → ((facts : List Fact) → AreRunsOf unread old.runs.items facts
+      → HoldTogether unread runs facts)
+      → length runs ≤ 1 → runs ≡ rest ++ option_to_list popped
+      → (0 < length runs → IsSome popped) → (ds : List (List ℕ)) → HoldsDatagrams unread choice old ds
+      → (facts : List Fact) × AreHeld unread store popped facts
+      × Same facts (flat_map (facts_by choice) ds)
+  holds_run old popped rest runs store fits empty none merged few split some ds h =
+      let all = held_as old.fits true old ds fits h.holds in
+      let files = flat_map (facts_by choice) ds in
+      let in_runs : Same all.aside files =
+      subst (λ l. Same (l ++ all.aside) files) empty all.content in
+      let one = merged all.aside all.runs in
+      let told : Same one.0 files = Same-trans one.0 all.aside files one.2 in_runs in
+      let held =
+      held_in popped rest one.0 (subst (λ l. length l ≤ 1) split few)
+      (subst (λ l. 0 < length l → IsSome popped) split some)
+      (subst (λ l. AreRunsOf unread l one.0) split one.1) in
+      (one.0, subst (λ l. AreHeld unread l popped one.0) (sym none) held, told)
+    where
+      held_in : (popped : Option (OwnedJournalStream R)) (rest : List (OwnedJournalStream R))
+          (facts : List Fact) → length (rest ++ option_to_list popped) ≤ 1
+          → (0 < length (rest ++ option_to_list popped) → IsSome popped)
+          → AreRunsOf unread (rest ++ option_to_list popped) facts
+          → AreHeld unread [] popped facts
+      held_in None [] facts few some holds = holds
+      held_in (Some run) [] facts few some holds =
+          subst (IsRunOf unread run)
+          (sym (holds.3 ∙ ap (λ l. holds.0 ++ l) holds.4 ∙ append-nil holds.0)) holds.2
+      held_in None (first ∷ rest) facts few some holds =
+          let e = some (omega arith) in absurd cc
+      held_in (Some run) (first ∷ rest) facts few some holds =
+          let more = length-append rest (run ∷ []) in absurd (omega (arith, few, more))
+
+  -- nothing but what does not count was changed
+  pub holds_still : {s o y : ℕ} (old new : HeldFiles s o y R) → new.told ≡ old.told
+      → new.fits ≡ old.fits → new.others ≡ old.others → new.runs ≡ old.runs
+      → (ds : List (List ℕ)) → HoldsDatagrams unread choice old ds
+      → HoldsDatagrams unread choice new ds
+  holds_still old new told fits others runs ds h = record {
+    others = λ e. others ∙ h.others (sym fits ∙ e);
+    holds = holding new.fits old.fits new ds fits (still old.fits h.holds);
+  }
+    where
+      still : (b : Bool) → HoldsAll unread choice b old ds → HoldsAll unread choice b new ds
+      still true all = record {
+        aside = all.aside;
+        runs = subst (λ r. AreRunsOf unread r.items all.aside) (sym runs) all.runs;
+        content =
+            subst (λ t. Same (t.store ++ all.aside) (flat_map (facts_by choice) ds)) (sym told)
+            all.content;
+        count = ap (λ t. t.datagrams) told ∙ all.count;
+        refused = ap (λ t. t.refused) told ∙ all.refused;
+      }
+      still false over = over
+
+  -- so it was before something was done
+  pub holds_after : {s o y : ℕ} (done : Result (Unit {0}) CommandFault)
+      (first old new : HeldFiles s o y R) → old.told ≡ first.told → old.fits ≡ first.fits
+      → old.others ≡ first.others → old.runs ≡ first.runs
+      → OnOk done (HoldsMore unread choice old new [])
+      → OnOk done (HoldsMore unread choice first new [])
+  holds_after (Ok x) first old new told fits others runs h = λ before holds.
+      h before (holds_still first old told fits others runs before holds)
+  holds_after (Err e) first old new told fits others runs h = tt
+
+-- A record that was read as the input with this number.
+
+pub read_some : (n : ℕ) (r : Result (Option (List ℕ)) ReadFault)
+    (s : Result (Option (List ℕ)) CommandFault) (d : List ℕ) → MatchResult r (λ x. s ≡ Ok x)
+    (λ f. s ≡ Err (Input n f)) → s ≡ Ok (Some d)
+    → r ≡ Ok (Some d)
+read_some n (Ok x) s d h e = let k : Ok x ≡ Ok (Some d) = sym h ∙ e in cc
+read_some n (Err f) s d h e = let k : Err (Input n f) ≡ Ok (Some d) = sym h ∙ e in absurd cc
+
+-- its fault
+pub record ReadErr (n : ℕ) (r : Result (Option (List ℕ)) ReadFault) (fault : CommandFault) : Type 0
+  where
+    pub why : ReadFault
+    pub was : r ≡ Err why
+    pub is : fault ≡ Input n why
+
+pub read_err : (n : ℕ) (r : Result (Option (List ℕ)) ReadFault)
+    (s : Result (Option (List ℕ)) CommandFault) (fault : CommandFault) → MatchResult r
+    (λ x. s ≡ Ok x) (λ f. s ≡ Err (Input n f)) → s ≡ Err fault
+    → ReadErr n r fault
+read_err n (Ok x) s fault h e = let k : Ok x ≡ Err fault = sym h ∙ e in absurd cc
+read_err n (Err f) s fault h e = let k : Err (Input n f) ≡ Err fault = sym h ∙ e in record
+    { why = f; was = refl; is = cc }
+
+-- no failure is counted where a record was read
+pub none_failed : (b : Bool) (m k : ℕ) (r : Result (Option (List ℕ)) ReadFault)
+    (x : Option (List ℕ)) → r ≡ Ok x → FailsIf {T = Option (List ℕ)} b m k r → k ≡ m
+none_failed true m k (Ok y) x e h = h
+none_failed false m k (Ok y) x e h = h
+none_failed b m k (Err f) x e h = absurd cc

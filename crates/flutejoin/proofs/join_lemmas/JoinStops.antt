@@ -1,0 +1,537 @@
+-- How a join of inputs ends: which input stops it, what has failed, and what it comes to.
+use Rattle.std.proofs.Common.{◌≡◌, ℕ, zero, suc, ◌+◌, ◌-◌, ◌*◌, ◌^◌, ◌≤◌, Bool, true, false}
+use Rattle.std.proofs.Common.{List, [], ◌∷◌, ◌++◌, length, count_by, Option, Some}
+use Rattle.std.proofs.Common.{None, Result, Ok, Err, inl, inr, refl, sym, ap, ◌∙◌, subst, arith}
+use Rattle.std.specs.Prelude.{min, not, sum_by, slice_get, ◌⊎◌, IfErr}
+use Rattle.std.specs.List.{flat_map, AllByRecursion}
+use Rattle.std.proofs.KnownBytes.{Appends-nil}
+use Rattle.std.proofs.lemmas.List.Sums.{count_by-le-length, sum_by-cons}
+use Rattle.std.proofs.lemmas.Option.{slice_get_within}
+use Rattle.flute_parts.specs.Facts.{Same}
+use Rattle.flute_parts.specs.declared.fact.Fact.{Fact}
+use Rattle.flute_parts.proofs.Public.{Over-below, Same-append, Same-itself, Same-sym, Same-trans}
+use Rattle.flute_journal.specs.Format.{spelling_in}
+use Rattle.flute_journal.specs.declared.format.version.Version.{Version}
+use Rattle.flute_journal.proofs.Public.{journal_parts}
+use Rattle.flute_journal.specs.Chains.{chained, taken}
+use Rattle.flute_journal.specs.JournalFraming.{journal_framing}
+use Rattle.flute_journal.specs.JournalWriters.{PutsJournal}
+use Rattle.flute_journal.specs.Kinds.{HasKind, IsNeither}
+use Rattle.flute_journal.specs.Scopes.{is_chosen}
+use Rattle.flute_journal.specs.Streams.{Behaviour}
+use Rattle.flute_journal.specs.FirstFaults.{FirstFault, IsStopOf, TellBefore}
+use Rattle.flute_journal.specs.StreamMerges.{IsWithinLimits, NoneFails, AppendsNoJournal}
+use Rattle.flute_journal.specs.StreamMerges.{AppendsPartOf}
+use Rattle.flute_journal.specs.Framing.{HasFault}
+use Rattle.flute_journal.specs.declared.streams.either.Either.{Either}
+use Rattle.flute_journal.specs.declared.streams.either.Either.TheVariants.{First, Second}
+use Rattle.flute_journal.specs.declared.fault.LoadFault.{LoadFault}
+use Rattle.flute_journal.specs.declared.fault.LoadFault.TheVariants as load
+use Rattle.flute_journal.specs.declared.fault.ReadFault.{ReadFault}
+use Rattle.flute_journal.specs.declared.fault.ReadFault.TheVariants.{Read}
+use Rattle.flute_journal.specs.declared.kind.Kind.TheVariants as kinds
+use Rattle.flute_journal.specs.declared.merge.all_streams.MergedJournal.{MergedJournal}
+use Rattle.flute_journal.specs.declared.merge.streams_fault.InputFault.{InputFault}
+use Rattle.flutejoin.specs.declared.command_fault.CommandFault.{CommandFault}
+use Rattle.flutejoin.specs.declared.command_fault.CommandFault.TheVariants.{Input, Full}
+use Rattle.flutejoin.specs.declared.command_fault.CommandFault.TheVariants.{OutOfMemory}
+use Rattle.flutejoin.specs.declared.command_fault.CommandFault.TheVariants.{CannotWrite}
+use Rattle.flutejoin.specs.declared.command_fault.CommandFault.TheVariants.{CannotPutAside}
+use Rattle.flutejoin.specs.declared.join.join_counts.JoinCounts.{JoinCounts}
+use Rattle.flutejoin.specs.declared.join.join_input.JoinInput.{JoinInput}
+use Rattle.flutejoin.specs.declared.join.join_input.JoinInput.TheVariants.{Journal, Datagrams, Unknown}
+use Rattle.flutejoin.specs.InputStreams.{failures_of, NoneFailed, OneFailed}
+use Rattle.flutejoin.specs.Joined.{Choice, facts_by, InputContent, of_journal, of_file}
+use Rattle.flutejoin.specs.Joined.{content_facts, content_others, is_of_others, Tells, TellAll}
+use Rattle.flutejoin.specs.JoinFaults.{IsValid, FirstInput, HasKnownKind, IsOfAKind, IsJournalAt}
+use Rattle.flutejoin.specs.JoinFaults.{IsFileAt, JoinFails}
+use Rattle.flutejoin.specs.JoinParts.{FileFails}
+use Rattle.flutejoin.specs.Joining.{JoinsTo}
+use Rattle.flutejoin.specs.JoinFaults.{JoinToFails, of_inputs, of_source, of_sink, of_aside}
+use Rattle.flutejoin.specs.JoinFaults.{NamesOneOf}
+use Rattle.flutejoin.specs.JoinParts.{InspectionFails, of_kind, of_file as of_a_file}
+use Rattle.flutejoin.specs.JoinParts.{SomeInspectionFails, IsInspected, AreInspected, IsReady}
+use Rattle.flutejoin.specs.JoinParts.{JoinsInspected}
+use Rattle.flutejoin.specs.Refused.{is_refused}
+use Rattle.flutejoin.specs.Limits.{IsOver}
+use Rattle.flutejoin.specs.Status.{of_load, of_stop}
+use Rattle.flutejoin.proofs.Firsts.{at_place, first_at, first_with}
+use Rattle.flutejoin.proofs.join_lemmas.Inspections.{all_known}
+use Rattle.flutejoin.proofs.join_lemmas.JoinStreams.{all_taken, joins, are_ready, as_streams}
+use Rattle.flutejoin.proofs.join_lemmas.JoinStreams.{valid_before, over_same}
+use Rattle.flutejoin.proofs.join_lemmas.Receptions.{Below-left}
+
+-- nothing was appended
+pub nothing_appended : (w : Option (List ℕ)) → AppendsNoJournal w w
+nothing_appended w =
+    record {
+      bytes = [];
+      appended = Appends-nil w;
+      no_journal = λ facts (v, journal). let j =
+          journal_parts v [] facts journal in some v j.entries j.bytes_are;
+    }
+  where
+    some : (v : Version) (es : List Fact) → [] ≡ spelling_in v es → ⊥
+    some v es e = let n = ap length e in cc
+
+pub no_journal_of_part : {A E S : Type 0} (b : Behaviour S) (r : Result A E) (xs : List S)
+    (u v : Option (List ℕ)) → IfErr r (λ _. AppendsPartOf b xs u v)
+    → IfErr r (λ _. AppendsNoJournal u v)
+no_journal_of_part b (Ok x) xs u v h = tt
+no_journal_of_part b (Err f) xs u v h =
+    record { bytes = h.bytes; appended = h.appended; no_journal = h.no_journal }
+
+read_or_not : (f : ReadFault) → (f ≡ Read) ⊎ (f ≡ Read → ⊥)
+read_or_not Read = inl refl
+read_or_not f = inr (λ e. cc)
+
+-- Which input stops.
+
+-- what holds of each holds of the one at a place
+one_of : {X : Type 0} (P : X → Type 0) (k : ℕ) (xs : List X) (x : X) → AllByRecursion P xs
+    → slice_get xs k ≡ Some x → P x
+one_of P k [] x h e = let within = slice_get_within [] k x e in absurd (omega (arith, within))
+one_of P zero (y ∷ xs) x h e = let same : y ≡ x = cc in subst P same h.0
+one_of P (suc k) (y ∷ xs) x h e = one_of P k xs x h.1 e
+
+module _ {R : Type 0} (unread : R → Option (List ℕ)) (failures : R → ℕ) {S : Type 0}
+    (b : Behaviour S) where
+  abbrev all : Behaviour (Either S (JoinInput R))
+  all = joins unread failures b
+
+  abbrev streams : List (JoinInput R) → List (Either S (JoinInput R))
+  streams xs = as_streams unread failures b xs
+
+  -- the stream of an input, by its place
+  record OneAt (xs : List (JoinInput R)) (n : ℕ) (s : Either S (JoinInput R)) : Type 0 where
+    pub input : JoinInput R
+    pub own : slice_get xs n ≡ Some input
+    pub is : s ≡ Second input
+
+  one_at : (xs : List (JoinInput R)) (n : ℕ) (s : Either S (JoinInput R))
+      → slice_get (streams xs) n ≡ Some s → OneAt xs n s
+  one_at [] n s e = let within = slice_get_within [] n s e in absurd (omega (arith, within))
+  one_at (x ∷ xs) zero s e = record { input = x; own = refl; is = cc }
+  one_at (x ∷ xs) (suc n) s e =
+      let o = one_at xs n s e in record { input = o.input; own = o.own; is = o.is }
+
+  -- an input, with its place, that has this fault, and those before it tell facts
+  pub record StopsIn (xs : List (JoinInput R)) (number : ℕ) (fault : LoadFault) : Type 0 where
+    pub place : ℕ
+    pub number_is : number ≡ suc place
+    pub input : JoinInput R
+    pub own : slice_get xs place ≡ Some input
+    pub stops : all.stops (Second input) fault
+    pub before : TellBefore all place (streams xs)
+
+  -- what is held has this fault, or an input
+  abbrev pub Stops : S → List (JoinInput R) → ℕ → LoadFault → Type 0
+  Stops w xs zero fault = b.stops w fault
+  Stops w xs (suc n) fault = StopsIn xs (suc n) fault
+
+  module _ (w : S) where
+    stops_at : (xs : List (JoinInput R)) (number : ℕ) (s : Either S (JoinInput R))
+        (fault : LoadFault) → slice_get (chained w xs) number ≡ Some s → all.stops s fault
+        → TellBefore all number (chained w xs) → Stops w xs number fault
+    stops_at xs zero s fault e h t =
+        let is : First w ≡ s = cc in subst (λ z. all.stops z fault) (sym is) h
+    stops_at xs (suc n) s fault e h t =
+        let o = one_at xs n s e in record {
+          place = n;
+          number_is = refl;
+          input = o.input;
+          own = o.own;
+          stops = subst (λ z. all.stops z fault) o.is h;
+          before = t.1;
+        }
+
+    pub stops_in : (xs : List (JoinInput R)) → length xs ≤ 64
+        → (now : List (Either S (JoinInput R))) (first : InputFault)
+        → FirstFault all (chained w (taken xs)) now first
+        → Stops w xs first.number first.fault
+    stops_in xs many now first f =
+        let h = subst (λ l. FirstFault all (chained w l) now first) (all_taken xs many) f in
+        stops_at xs first.number h.stopped.new first.fault h.stopped.was h.stopped.stop.stops
+        h.before
+
+  -- it is a fault of reading
+  reads : (x : JoinInput R) (fault : LoadFault) → all.stops (Second x) fault
+      → (f : ReadFault) × (fault ≡ load.Read f)
+  reads (Journal x) (load.Read f) h = (f, refl)
+  reads (Journal x) load.Full h = absurd h
+  reads (Journal x) load.OutOfMemory h = absurd h
+  reads (Datagrams x) fault h = absurd h
+  reads Unknown fault h = absurd h
+
+  module _ {xs : List (JoinInput R)} {number : ℕ} {fault : LoadFault}
+      (h : StopsIn xs number fault) where
+    no_memory : of_load number fault ≡ OutOfMemory → ⊥
+    no_memory e =
+        let f = reads h.input fault h.stops in
+        let d : Input number f.0 ≡ OutOfMemory = ap (of_load number) (sym f.1) ∙ e in cc
+
+    no_sink : of_load number fault ≡ CannotWrite → ⊥
+    no_sink e =
+        let f = reads h.input fault h.stops in
+        let d : Input number f.0 ≡ CannotWrite = ap (of_load number) (sym f.1) ∙ e in cc
+
+    names_one : NamesOneOf (length xs) (of_load number fault)
+    names_one =
+        let f = reads h.input fault h.stops in
+        let within = slice_get_within xs h.place h.input h.own in
+        let few : NamesOneOf (length xs) (Input number f.0) =
+        (omega (arith, h.number_is), omega (arith, h.number_is, within)) in
+        subst (λ g. NamesOneOf (length xs) (of_load number g)) (sym f.1) few
+
+    no_aside : of_load number fault ≡ CannotPutAside → ⊥
+    no_aside e =
+        let f = reads h.input fault h.stops in
+        let d : Input number f.0 ≡ CannotPutAside = ap (of_load number) (sym f.1) ∙ e in cc
+
+    module _ (choice : Choice) (contents datagrams : List (List ℕ))
+        (ready : are_ready unread failures b xs)
+        (inspected : AreInspected unread choice xs contents datagrams) where
+      -- the bytes of this input
+      own_bytes : (xs : List (JoinInput R)) (contents datagrams : List (List ℕ)) (n : ℕ)
+          (x : JoinInput R)
+          → AreInspected unread choice xs contents datagrams → slice_get xs n ≡ Some x
+          → (bytes : List ℕ) × (slice_get contents n ≡ Some bytes)
+          × ((own : List (List ℕ)) × IsInspected unread choice x bytes own)
+      own_bytes [] contents datagrams n x h e =
+          let within = slice_get_within [] n x e in absurd (omega (arith, within))
+      own_bytes (y ∷ xs) [] datagrams n x h e = absurd h
+      own_bytes (y ∷ xs) (bytes ∷ contents) datagrams zero x h e =
+          let same : y ≡ x = cc in
+          (bytes, refl, (h.0, subst (λ z. IsInspected unread choice z bytes h.0) same h.2))
+      own_bytes (y ∷ xs) (bytes ∷ contents) datagrams (suc n) x h e =
+          own_bytes xs contents h.1 n x h.4 e
+
+      stops_one : (x : JoinInput R) (bytes : List ℕ) (own : List (List ℕ)) (f : ReadFault)
+          → IsReady unread failures x → IsInspected unread choice x bytes own
+          → all.stops (Second x) (load.Read f)
+          → HasKind kinds.Journal bytes × HasFault journal_framing 16777216 (Some bytes) f
+      stops_one (Journal x) bytes own f r i s =
+          let P : Option (List ℕ) → Type 0 =
+          λ o. HasFault journal_framing x.stream.max_entries o f in
+          let Q : ℕ → Type 0 = λ m. HasFault journal_framing m (Some bytes) f in
+          (i.1, subst Q r.3 (subst P i.2 s))
+      stops_one (Datagrams x) bytes own f r i s = absurd s
+      stops_one Unknown bytes own f r i s = absurd s
+
+      first_fails : JoinToFails choice contents (of_load number fault)
+      first_fails =
+          let f = reads h.input fault h.stops in
+          let own = own_bytes xs contents datagrams h.place h.input inspected h.own in
+          let one =
+          stops_one h.input own.0 own.2.0 f.0
+          (one_of (IsReady unread failures) h.place xs h.input ready h.own) own.2.1
+          (subst (λ g. all.stops (Second h.input) g) f.1 h.stops) in
+          let known = all_known choice unread xs contents datagrams inspected in
+          let before =
+          valid_before unread failures b choice h.place xs contents datagrams ready inspected
+          h.before in
+          let at : number ≡ h.place + 1 = omega (arith, h.number_is) in
+          let told : JoinToFails choice contents (Input (h.place + 1) f.0) =
+          elim (read_or_not f.0) [
+            | inl is ↦ of_source (h.place + 1) (ap (Input (h.place + 1)) is)
+                (inr (
+                  known,
+                  first_at IsValid (HasKind kinds.Journal) contents h.place own.0 own.1 before
+                      one.0,
+                ))
+            | inr other ↦ of_inputs
+                (inr (
+                  known,
+                  first_at IsValid (IsJournalAt f.0) contents h.place own.0 own.1 before
+                      (one.0, one.1, other),
+                ))
+          ] in
+          subst (λ n. JoinToFails choice contents (of_load n fault)) (sym at)
+          (subst (λ g. JoinToFails choice contents (of_load (h.place + 1) g)) (sym f.1) told)
+
+  -- why a join stopped, whatever stream it was
+  module _ (w : S) (xs : List (JoinInput R)) where
+    pub stop_no_memory : (number : ℕ) (fault : LoadFault) → Stops w xs number fault
+        → of_stop number fault ≡ OutOfMemory → ⊥
+    stop_no_memory zero fault h e = cc
+    stop_no_memory (suc n) fault h e = no_memory h e
+
+    pub stop_no_sink : (number : ℕ) (fault : LoadFault) → Stops w xs number fault
+        → of_stop number fault ≡ CannotWrite → ⊥
+    stop_no_sink zero fault h e = cc
+    stop_no_sink (suc n) fault h e = no_sink h e
+
+    pub stop_names : (number : ℕ) (fault : LoadFault) → Stops w xs number fault
+        → NamesOneOf (length xs) (of_stop number fault)
+    stop_names zero fault h = tt
+    stop_names (suc n) fault h = names_one h
+
+    -- what is held has no fault
+    pub stop_no_aside : ((fault : LoadFault) → b.stops w fault → ⊥) → (number : ℕ)
+        (fault : LoadFault) → Stops w xs number fault → of_stop number fault ≡ CannotPutAside → ⊥
+    stop_no_aside never zero fault h e = never fault h
+    stop_no_aside never (suc n) fault h e = no_aside h e
+
+    pub stop_fails : (number : ℕ) (fault : LoadFault) → Stops w xs number fault
+        → (choice : Choice) (contents datagrams : List (List ℕ))
+        → are_ready unread failures b xs → AreInspected unread choice xs contents datagrams
+        → JoinToFails choice contents (of_stop number fault)
+    stop_fails zero fault h choice contents datagrams ready inspected = of_aside refl
+    stop_fails (suc n) fault h choice contents datagrams ready inspected =
+        first_fails h choice contents datagrams ready inspected
+
+  -- What has failed.
+
+  fails_none : (x y : JoinInput R) → all.fails (Second x) (Second y) None
+      → failures_of failures y ≡ failures_of failures x
+  fails_none (Journal x) (Journal y) h = h
+  fails_none (Datagrams x) (Datagrams y) h = ap (λ s. failures s.source) h.0
+  fails_none Unknown Unknown h = refl
+  fails_none (Journal x) (Datagrams y) h = absurd h
+  fails_none (Journal x) Unknown h = absurd h
+  fails_none (Datagrams x) (Journal y) h = absurd h
+  fails_none (Datagrams x) Unknown h = absurd h
+  fails_none Unknown (Journal y) h = absurd h
+  fails_none Unknown (Datagrams y) h = absurd h
+
+  fails_once : (x y : JoinInput R) → all.fails (Second x) (Second y) (Some (load.Read Read))
+      → failures_of failures y ≡ failures_of failures x + 1
+  fails_once (Journal x) (Journal y) h = h
+  fails_once (Datagrams x) (Datagrams y) h = let e = h.1 in absurd cc
+  fails_once Unknown Unknown h = absurd (let e = h in cc)
+  fails_once (Journal x) (Datagrams y) h = absurd h
+  fails_once (Journal x) Unknown h = absurd h
+  fails_once (Datagrams x) (Journal y) h = absurd h
+  fails_once (Datagrams x) Unknown h = absurd h
+  fails_once Unknown (Journal y) h = absurd h
+  fails_once Unknown (Datagrams y) h = absurd h
+
+  none_at : (xs ys : List (JoinInput R)) → NoneFails all (streams xs) (streams ys)
+      → (k : ℕ) (x y : JoinInput R) → slice_get xs k ≡ Some x → slice_get ys k ≡ Some y
+      → failures_of failures y ≡ failures_of failures x
+  none_at [] ys h k x y was is =
+      let within = slice_get_within [] k x was in absurd (omega (arith, within))
+  none_at (z ∷ xs) [] h k x y was is = absurd h
+  none_at (z ∷ xs) (v ∷ ys) h zero x y was is =
+      let a : z ≡ x = cc in
+      let c : v ≡ y = cc in
+      ap (failures_of failures) (sym c) ∙ fails_none z v h.0 ∙ ap (failures_of failures) a
+  none_at (z ∷ xs) (v ∷ ys) h (suc k) x y was is = none_at xs ys h.1 k x y was is
+
+  pub none_failed : (w now : S) (xs ys : List (JoinInput R)) → length xs ≤ 64
+      → length ys ≡ length xs
+      → NoneFails all (chained w (taken xs)) (chained now (taken ys)) → NoneFailed failures xs ys
+  none_failed w now xs ys many same f =
+      let h =
+      subst (λ l. NoneFails all (chained w l) (chained now ys)) (all_taken xs many)
+      (subst (λ l. NoneFails all (chained w (taken xs)) (chained now l))
+      (all_taken ys (omega (arith, many, same))) f) in
+      record { as_many = same; each = none_at xs ys h.1 }
+
+  module _ {w : S} (now : S) (xs ys : List (JoinInput R)) (many : length xs ≤ 64)
+      (same : length ys ≡ length xs) (first : InputFault) where
+    pub read_failed : FirstFault all (chained w (taken xs)) (chained now (taken ys)) first
+        → (number : ℕ) → of_stop first.number first.fault ≡ Input number Read
+        → OneFailed failures number xs ys
+    read_failed f number e =
+        let h =
+        subst (λ l. FirstFault all (chained w l) (chained now ys) first) (all_taken xs many)
+        (subst (λ l. FirstFault all (chained w (taken xs)) (chained now l) first)
+        (all_taken ys (omega (arith, many, same))) f) in
+        at_number first.number first.fault h.stopped.new h.stopped.was h.stopped.stop e
+      where
+        told_read : (f : LoadFault) (m : ℕ) → of_load m f ≡ Input number Read
+            → (f ≡ load.Read Read) × (number ≡ m)
+        told_read (load.Read f) m d = (let same : f ≡ Read = cc in ap load.Read same, cc)
+        told_read load.Full m d = absurd cc
+        told_read load.OutOfMemory m d = absurd cc
+
+        at_number : (n : ℕ) (fault : LoadFault) (s : Either S (JoinInput R))
+            → slice_get (chained w xs) n ≡ Some s → IsStopOf all s n (chained now ys) fault
+            → of_stop n fault ≡ Input number Read → OneFailed failures number xs ys
+        at_number zero fault s was stop d = absurd cc
+        at_number (suc n) fault s was stop d =
+            let x = one_at xs n s was in
+            let y = one_at ys n stop.stream stop.is in
+            let f = told_read fault (suc n) d in
+            record {
+              place = n;
+              number_is = omega (arith, f.1);
+              before = x.input;
+              after = y.input;
+              was = x.own;
+              is = y.own;
+              failed =
+                  fails_once x.input y.input
+                  (subst (λ g. all.fails (Second x.input) (Second y.input) (Some g)) f.0
+                  (subst (λ z. all.fails (Second x.input) z (Some fault)) y.is
+                  (subst (λ z. all.fails z stop.stream (Some fault)) x.is stop.fails)));
+            }
+
+-- Two passes, one after the other.
+
+pub none_failed_more : {R : Type 0} (failures : R → ℕ) (xs ys zs : List (JoinInput R))
+    → NoneFailed failures xs ys → NoneFailed failures ys zs → NoneFailed failures xs zs
+none_failed_more failures xs ys zs h k = record {
+  as_many = k.as_many ∙ h.as_many;
+  each = λ j x z was is.
+      let y = at_place ys j
+      (let within = slice_get_within xs j x was in omega (arith, within, h.as_many)) in
+      k.each j y.0 z y.1 is ∙ h.each j x y.0 was y.1;
+}
+
+pub one_failed_more : {R : Type 0} (failures : R → ℕ) (number : ℕ) (xs ys zs : List (JoinInput R))
+    → NoneFailed failures xs ys → OneFailed failures number ys zs → OneFailed failures number xs zs
+one_failed_more failures number xs ys zs h k =
+    let x = at_place xs k.place
+    (let within = slice_get_within ys k.place k.before k.was in
+    omega (arith, within, h.as_many)) in
+    record {
+      place = k.place;
+      number_is = k.number_is;
+      before = x.0;
+      after = k.after;
+      was = x.1;
+      is = k.is;
+      failed = k.failed ∙ ap (λ n. n + 1) (h.each k.place x.0 k.before x.1 k.was);
+    }
+
+-- What the whole join comes to.
+
+file_not_held : {choice : Choice} (P : List ℕ → Type 0) (inputs : List (List ℕ)) (number : ℕ)
+    (first : FirstInput HasKnownKind P number inputs) (fault : CommandFault)
+    → HasKind kinds.Datagrams first.bytes → FileFails number (Some first.bytes) fault
+    → JoinToFails choice inputs fault
+file_not_held {choice} P inputs number first (Input told f) kind h =
+    elim (read_or_not f) [
+      | inl is ↦ of_source number (ap (λ m. Input m f) h.0 ∙ ap (Input number) is)
+          (inl (first_with HasKnownKind P (HasKind kinds.Datagrams) number inputs first kind))
+      | inr other ↦
+          let Q : CommandFault → Type 0 = λ g. JoinFails choice inputs g in
+          of_inputs (subst Q (sym (ap (λ m. Input m f) h.0))
+          (inl (first_with HasKnownKind P (IsFileAt f) number inputs first (kind, h.1, other))))
+    ]
+file_not_held {choice} P inputs number first OutOfMemory kind h =
+    of_inputs (number, first_with HasKnownKind P IsOfAKind number inputs first (inr kind))
+file_not_held {choice} P inputs number first CannotPutAside kind h = of_aside refl
+file_not_held {choice} P inputs number first fault kind h = absurd h
+
+pub not_inspected : {choice : Choice} (inputs : List (List ℕ)) (fault : CommandFault)
+    → SomeInspectionFails inputs fault → JoinToFails choice inputs fault
+not_inspected {choice} inputs fault h = go h.1.here
+  where
+    go : InspectionFails h.0 h.1.bytes fault → JoinToFails choice inputs fault
+    go (of_kind is neither) =
+        let P : CommandFault → Type 0 = λ g. JoinToFails choice inputs g in
+        subst P (sym is) (of_inputs
+        (first_with HasKnownKind (λ bytes. InspectionFails h.0 bytes fault)
+        (λ bytes. IsNeither bytes) h.0 inputs h.1 neither))
+    go (of_a_file kind fails) =
+        file_not_held (λ bytes. InspectionFails h.0 bytes fault) inputs h.0 h.1 fault kind fails
+
+-- inputs tell no more than so much of other objects
+others_few : (choice : Choice) (inputs : List (List ℕ)) (told : List InputContent)
+    → TellAll inputs told → sum_by (content_others choice) told ≤ length inputs * 16777216
+unfolding TellAll
+others_few choice [] [] h = omega arith
+others_few choice [] (x ∷ told) h = elim h [ ]
+others_few choice (bytes ∷ inputs) [] h = elim h [ ]
+others_few choice (bytes ∷ inputs) (x ∷ told) h =
+    let rest = others_few choice inputs told h.1 in
+    let all = sum_by-cons (content_others choice) x told in
+    omega (arith, one x h.0, rest, all)
+  where
+    one : (x : InputContent) → Tells bytes x → content_others choice x ≤ 16777216
+    one (of_journal entries) k =
+        let few = count_by-le-length (λ f. not (is_chosen choice.takes f)) entries in
+        omega (arith, few, k.are_items.few)
+    one (of_file datagrams) k =
+        let few = count_by-le-length (is_of_others choice) datagrams in
+        omega (arith, few, k.are_items.few)
+
+-- the datagram files alone are over the limits
+pub full_of_files : {choice : Choice} {inputs datagrams : List (List ℕ)} {store : List Fact}
+    {passed : ℕ} {joined : MergedJournal} {w w' : Option (List ℕ)}
+    → JoinsInspected choice inputs datagrams store passed joined w w'
+    → IsOver choice.most (flat_map (facts_by choice) datagrams) → JoinToFails choice inputs Full
+full_of_files {choice} {inputs} {datagrams} h over =
+    let files = flat_map (facts_by choice) datagrams in
+    let told = flat_map (content_facts choice) h.told in
+    of_inputs (
+      h.told,
+      h.tell,
+      over_same choice.most (files ++ h.entries) told (Same-sym told (files ++ h.entries) h.same)
+          (Over-below files (files ++ h.entries) choice.most.sessions choice.most.objects
+          choice.most.symbols (Below-left files h.entries) over),
+    )
+
+module _ {choice : Choice} {inputs datagrams : List (List ℕ)} {facts : List Fact} {passed : ℕ}
+    {joined : MergedJournal} {w w' : Option (List ℕ)} where
+  -- all of them are held
+  module _ (h : JoinsInspected choice inputs datagrams facts passed joined w w')
+      (held : Same facts (flat_map (facts_by choice) datagrams)) where
+    abbrev told : List Fact
+    told = flat_map (content_facts choice) h.told
+
+    abbrev written : List Fact
+    written = facts ++ h.entries
+
+    same_told : Same told written
+    same_told =
+        Same-trans told (flat_map (facts_by choice) datagrams ++ h.entries) written h.same
+        (Same-sym written (flat_map (facts_by choice) datagrams ++ h.entries)
+        (Same-append facts (flat_map (facts_by choice) datagrams) h.entries h.entries held
+        (Same-itself h.entries)))
+
+    within_limits : (within : Bool) → joined.within ≡ within
+        → IsWithinLimits choice.most.sessions choice.most.objects choice.most.symbols told within
+    within_limits true e = λ over.
+        subst (IsWithinLimits choice.most.sessions choice.most.objects choice.most.symbols written)
+        e h.limits
+        (over_same choice.most told written same_told over)
+    within_limits false e =
+        over_same choice.most written told (Same-sym told written same_told)
+        (subst (IsWithinLimits choice.most.sessions choice.most.objects choice.most.symbols
+        written) e h.limits)
+
+    pub full_together : joined.within ≡ false → JoinToFails choice inputs Full
+    full_together over = of_inputs (h.told, h.tell, within_limits false over)
+
+    pub not_written : joined.within ≡ true → JoinToFails choice inputs CannotWrite
+    not_written within =
+        of_sink refl
+        (record { told = h.told; tell = h.tell; together = within_limits true within })
+
+    pub joins_to : length inputs ≤ 64 → joined.within ≡ true → joined.cut ≡ false
+        → (counts : JoinCounts) → counts.entries ≡ joined.entries
+        → counts.datagrams ≡ length datagrams → counts.refused ≡ count_by is_refused datagrams
+        → (of_files : ℕ) → of_files ≡ count_by (is_of_others choice) datagrams
+        → counts.others ≡ min (of_files + passed) (2 ^ 64 - 1)
+        → JoinsTo choice inputs counts w w'
+    joins_to few within whole counts entries all refused of_files counted sum =
+        let puts = subst (λ c. PutsJournal c w w' written joined.entries) whole h.puts in
+        record {
+          told = h.told;
+          tell = h.tell;
+          within = within_limits true within;
+          writes = record {
+            bytes = puts.bytes;
+            journal = (
+              puts.journal.0,
+              record {
+                valid = puts.journal.1.valid;
+                rising = puts.journal.1.rising;
+                same = Same-trans told written puts.journal.0 same_told puts.journal.1.same;
+              },
+              puts.journal.2,
+              puts.journal.3,
+            );
+            entries = entries ∙ puts.entries;
+            appended = puts.appended;
+          };
+          datagrams = all ∙ ap length (sym h.datagrams_are);
+          refused = refused ∙ ap (count_by is_refused) (sym h.datagrams_are);
+          others =
+              let total = others_few choice inputs h.told h.tell in
+              omega (arith, sum, counted, h.others, total, few);
+        }

@@ -1,0 +1,148 @@
+-- Runs: journals that are put aside.
+use Rattle.std.proofs.Common.{◌≡◌, ℕ, ◌+◌, ◌*◌, ◌^◌, ◌<◌, ◌≤◌, List, [], ◌∷◌, ◌++◌, length, Option}
+use Rattle.std.proofs.Common.{Some, None, append-nil, append_assoc, refl, sym, ap, ◌∙◌, subst, arith}
+use Rattle.std.specs.Prelude.{IfSome, OnOk, Result, Ok, Err}
+use Rattle.std.specs.List.{AllByRecursion}
+use Rattle.std.specs.Io.KnownBytes.{Appends}
+use Rattle.flute_parts.specs.Facts.{Same}
+use Rattle.flute_parts.specs.declared.fact.Fact.{Fact}
+use Rattle.flute_parts.proofs.Public.{rising_unique, Same-append, Same-itself}
+use Rattle.flute_parts.proofs.Public.{Same-sym, Same-trans}
+use Rattle.flute_journal.specs.Advances.{AreNew}
+use Rattle.flute_journal.specs.Journal.{IsFactIn, IsJournalWithin, Journal}
+use Rattle.flute_journal.specs.OwnedStreams.{owned_behaviour, owned_limit}
+use Rattle.flute_journal.specs.StreamMerges.{all_of, Each}
+use Rattle.flute_journal.specs.Listed.{listed_behaviour}
+use Rattle.flute_journal.specs.Streams.{Behaviour, IsNew, most_of, option_list}
+use Rattle.flute_journal.specs.declared.format.version.Version.TheVariants.{Two}
+use Rattle.flute_journal.specs.declared.streams.owned_journal_stream.OwnedJournalStream.{OwnedJournalStream}
+use Rattle.flute_journal.proofs.Public.{journal_parts}
+use Rattle.flutejoin.specs.Asides.{AreRunsOf, HoldTogether, IsNewRun, IsRunOf}
+use Rattle.flutejoin.specs.JoinParts.{IsHeld, Ends}
+use Rattle.flutejoin.proofs.join_lemmas.Receptions.{IsJournal-from_bound, Same-from_journals}
+
+-- a journal that was written, within a bound
+pub within : (limit : ℕ) (bytes : List ℕ) (facts : List Fact) (j : Journal bytes facts)
+    → length j.0 ≤ limit → IsJournalWithin limit bytes j.0
+within limit bytes facts j few =
+    let parts = journal_parts Two bytes facts j in
+    let one : parts.entries ≡ j.0 =
+    rising_unique parts.entries j.0 parts.collects.rising j.1.rising
+    (Same-trans parts.entries facts j.0 (Same-sym facts parts.entries parts.collects.same)
+    j.1.same) in
+    record {
+      are_items = record {
+        told = Two;
+        valid = subst (AllByRecursion (IsFactIn Two)) one parts.valid;
+        in_order = j.1.rising;
+        few = few;
+      };
+      bytes_are = j.3;
+    }
+
+-- what was written to nothing is all that there is
+pub all_written : (bytes : List ℕ) (new : Option (List ℕ)) → Appends (Some []) new bytes
+    → new ≡ Some bytes
+all_written bytes (Some all) e = ap Some e
+all_written bytes None e = absurd e
+
+pub all_and_one : {X : Type 0} (P : X → Type 0) (xs : List X) (x : X) → AllByRecursion P xs → P x
+    → AllByRecursion P (xs ++ x ∷ [])
+all_and_one P [] x h p = (p, tt)
+all_and_one P (y ∷ xs) x h p = (h.0, all_and_one P xs x h.1 p)
+
+module _ {R : Type 0} (unread : R → Option (List ℕ)) where
+  -- one run more
+  pub run_more : (runs : List (OwnedJournalStream R)) (run : OwnedJournalStream R)
+      (facts own : List Fact) → AreRunsOf unread runs facts → IsRunOf unread run own
+      → AreRunsOf unread (runs ++ run ∷ []) (facts ++ own)
+  run_more [] run facts own h one =
+      (own, [], one, ap (λ l. l ++ own) h ∙ sym (append-nil own), refl)
+  run_more (first ∷ runs) run facts own h one = (
+    h.0,
+    h.1 ++ own,
+    h.2,
+    ap (λ l. l ++ own) h.3 ∙ append_assoc h.0 h.1 own,
+    run_more runs run h.1 own h.4 one,
+  )
+
+  -- what runs hold together, if something was done, they hold as other facts with the same values
+  pub together_on : {T E : Type 0} (runs : List (OwnedJournalStream R)) {F G : List Fact}
+      (done : Result T E) → Same F G → OnOk done (HoldTogether unread runs F)
+      → OnOk done (HoldTogether unread runs G)
+  together_on runs {F} {G} (Ok x) same h = (h.0, h.1, Same-trans h.0 F G h.2 same)
+  together_on runs (Err e) same h = tt
+
+  module _ (failures : R → ℕ) where
+    abbrev b : Behaviour (OwnedJournalStream R)
+    b = owned_behaviour unread failures
+
+    pub runs_new : (runs : List (OwnedJournalStream R))
+        → AllByRecursion (IsNewRun unread failures) runs → AreNew b runs
+    runs_new [] h = tt
+    runs_new (run ∷ runs) h = (h.0.0, runs_new runs h.1)
+
+    pub runs_few : (runs : List (OwnedJournalStream R))
+        → AllByRecursion (IsNewRun unread failures) runs → most_of b runs ≤ length runs * 2 ^ 57
+    runs_few [] h = omega arith
+    runs_few (run ∷ runs) h =
+        let own = h.0.1 in let rest = runs_few runs h.1 in omega (arith, own, rest)
+
+    -- what a run tells as a stream are the facts that it reads
+    told_run : (run : OwnedJournalStream R) (told own : List Fact)
+        → IsNewRun unread failures run → b.tells run told → IsRunOf unread run own
+        → Same told own
+    told_run run told own new tells is =
+        let P : Option (List ℕ) → Type 0 =
+        λ o. IfSome o (λ bytes. IsJournalWithin (owned_limit run) bytes told) in
+        let limit : owned_limit run < 2 ^ 64 = omega (arith, new.2) in
+        Same-from_journals is.0 told own
+        (IsJournal-from_bound (owned_limit run) limit is.0 told (subst P is.1 tells))
+        (IsJournal-from_bound (owned_limit run) limit is.0 own is.2)
+
+    pub told_runs : (runs : List (OwnedJournalStream R)) (told : List (List Fact))
+        (facts : List Fact) → AllByRecursion (IsNewRun unread failures) runs
+        → Each b.tells runs told → AreRunsOf unread runs facts → Same (all_of told) facts
+    told_runs [] [] facts new tells h = subst (Same []) (sym h) (Same-itself [])
+    told_runs (run ∷ runs) (F ∷ told) facts new tells h =
+        subst (Same (F ++ all_of told)) (sym h.3)
+        (Same-append F h.0 (all_of told) h.1 (told_run run F h.0 new.0 tells.0 h.2)
+        (told_runs runs told h.1 new.1 tells.1 h.4))
+    told_runs [] (F ∷ told) facts new tells h = absurd tells
+    told_runs (run ∷ runs) [] facts new tells h = absurd tells
+
+-- What is held, as a stream.
+
+module _ {R : Type 0} (unread : R → Option (List ℕ)) (failures : R → ℕ) where
+  pub run_held : (run : OwnedJournalStream R) → IsNewRun unread failures run
+      → IsHeld (owned_behaviour unread failures) run
+  run_held run new =
+      record { new = new.0; few = let most = new.1 in omega (arith, most) }
+
+  pub run_ends : (run : OwnedJournalStream R) (facts : List Fact)
+      → IsNewRun unread failures run → IsRunOf unread run facts
+      → Ends (owned_behaviour unread failures) run facts
+  run_ends run facts new is = λ now given e.
+      let P : Option (List ℕ) → Type 0 =
+      λ o. IfSome o (λ bytes. IsJournalWithin (owned_limit run) bytes given) in
+      let limit : owned_limit run < 2 ^ 64 = omega (arith, new.2) in
+      let journal = subst P is.1 e in
+      rising_unique given facts journal.are_items.in_order is.2.are_items.in_order
+      (Same-from_journals is.0 given facts
+      (IsJournal-from_bound (owned_limit run) limit is.0 given journal)
+      (IsJournal-from_bound (owned_limit run) limit is.0 facts is.2))
+
+module _ {W : Type 0} (held : W → Option Fact) (rest : W → List Fact) where
+  pub walk_held : (walk : W) (store : List Fact)
+      → IsNew (listed_behaviour held rest (λ _. Unit {0})) walk → rest walk ≡ store
+      → length store ≤ 2 ^ 63 → IsHeld (listed_behaviour held rest (λ _. Unit {0})) walk
+  walk_held walk store new is few = record {
+    new = new;
+    few =
+        let e = ap (λ o. length (option_list o)) new.held in
+        let size = ap length is in omega (arith, e, size, few);
+  }
+
+  pub walk_ends : (walk : W) (store facts : List Fact) → rest walk ≡ store → facts ≡ store
+      → Ends (listed_behaviour held rest (λ _. Unit {0})) walk facts
+  walk_ends walk store facts is same = λ now given e. e ∙ is ∙ sym same
