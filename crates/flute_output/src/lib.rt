@@ -2,8 +2,9 @@
 //!
 //! [`Output`] writes its bytes to a file beside OUT, and puts that in OUT's place once it is whole.
 //! What it needs of a folder is the trait [`Folder`], which the system's folders meet
-//! ([`DiskFolder`]), and one in memory, for tests ([`MemoryFolder`]). [`place_at`] returns whether
-//! the path of an output leads to a file, to a device ([`DeviceFile`]) or to standard output.
+//! ([`DiskFolder`]), and those in memory of `flute_output_memory`, for tests. [`place_at`] returns
+//! whether the path of an output leads to a file, to a device ([`DeviceFile`]) or to standard
+//! output.
 //!
 //! Promised of each folder that meets the trait: at any moment OUT is what it was, or the new file,
 //! whole ([`Output::finish`], [`write_file`]).
@@ -12,7 +13,7 @@
 //!
 //! ```
 //! let (done, folder) = write_file(MemoryFolder::new(alloc, None, ENOUGH), NEW);
-//! assert_eq!(rt; done, Ok(()));
+//! done?;
 //! assert_eq!(rt; folder.out(), Some(NEW));
 //! ```
 #![tactic(auto)]
@@ -26,8 +27,6 @@ mod filled_folder;
 mod folder;
 mod folder_names;
 mod found;
-mod memory_folder;
-mod memory_new_folder;
 mod neighbours;
 mod new_folder;
 mod output;
@@ -41,8 +40,6 @@ pub use file_id::FileId;
 pub use filled_folder::finish_folder;
 pub use folder::{Folder, Name};
 pub use found::Found;
-pub use memory_folder::MemoryFolder;
-pub use memory_new_folder::{MemoryFile, MemoryFiles, MemoryNewFolder};
 pub use new_folder::NewFolder;
 pub use output::{FinishFault, Output, OutputFault, write_file};
 pub use place::{OpenFault, Place, file_at, place_at};

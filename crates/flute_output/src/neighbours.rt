@@ -41,7 +41,7 @@ pub struct Neighbours {
 
 impl Neighbours {
     /// The names for an output at this path, which has this metadata if it is there, and was the
-    /// file `before` when the inputs were opened. A symbolic link stands for what it leads to.
+    /// file `before` when the inputs were opened. A symbolic link is taken for what it leads to.
     ///
     /// # Errors
     ///

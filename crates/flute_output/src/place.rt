@@ -10,7 +10,7 @@ use std::fs::{self, File, Metadata};
 use std::io::{self, ErrorKind};
 use std::rt::Files;
 
-/// The path that stands for standard output.
+/// The path that means standard output.
 const STANDARD: &str = "-";
 
 /// Why an output cannot be made.

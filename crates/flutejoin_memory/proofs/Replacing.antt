@@ -1,4 +1,4 @@
--- What an output that is closed makes of the names.
+-- MemoryWorld: what a closed output makes of the files of the names.
 use Rattle.std.proofs.Common.{◌≡◌, ◌≢◌, ℕ, List, ◌∷◌, ◌++◌, codes, length, true, false, if◌then◌else◌}
 use Rattle.std.proofs.Common.{option_map, refl, sym, ap, subst, arith, length-append, ◌∙◌}
 use Rattle.std.proofs.lemmas.Bool.{false_from_ne_true}
@@ -21,7 +21,7 @@ longer name e =
     let lengths : length (name ++ codes ".partial") ≡ length name = ap length e in
     omega (arith, length-append name (codes ".partial"))
 
--- so it is with all that was before it
+-- closing an output replaces the bytes of its name and of the name beside it, and no others
 replaced : (name : List ℕ) (e : Entries) (old : List NamedFile)
     → Replaced name (option_map bytes_of e.out) (option_map bytes_of e.beside) (files_of old)
     (files_of (closed_as name e ++ old))

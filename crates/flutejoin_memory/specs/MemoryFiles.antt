@@ -14,7 +14,8 @@ pub record NamedFile : Type 0 where
 -- each name has what the first of these with that name has
 abbrev pub files_of : List NamedFile → Files
 files_of [] name = None
-files_of (first ∷ rest) name = if bytes_eq first.name name then first.bytes else files_of rest name
+files_of (first ∷ rest) name =
+    if bytes_eq first.name name then first.bytes else files_of rest name
 
 -- what became of an output of this name, and of the file beside it
 abbrev pub closed_as : List ℕ → Entries → List NamedFile

@@ -1,13 +1,13 @@
-//! What became of names.
+//! What became of the files of names, as outputs were closed.
 ghost use Rattle.std.specs.Prelude.{◌≡◌, ◌++◌, string_bytes, List, [], ◌∷◌, IfOk, MatchOption, map, option_map};
 ghost use Rattle.std.specs.Option.{ForSome};
-ghost use Rattle.flute_output.specs.Memory.{memory_entries};
+ghost use Rattle.flute_output_memory.specs.Memory.{memory_entries};
 ghost use Rattle.flutejoin_commands.specs.Closings.{closing};
 ghost use Rattle.flutejoin_memory.specs.NamedFiles.{changed};
 ghost use Rattle.flutejoin_memory.specs.MemoryFiles.{NamedFile, files_of, names_of, closed_as};
 
 use crate::told::Told;
-use flute_output::MemoryFolder;
+use flute_output_memory::MemoryFolder;
 use std::alloc::{AllocError, Global};
 
 /// A name, and the bytes that it has, if it has some.
@@ -32,7 +32,8 @@ impl Change {
 pub struct Changes {
     known: Option<Vec<Change>>,
     told: Told,
-    ghost agrees: { ForSome known (λ changes. names_of told.closed ≡ map changed changes.items) },
+    ghost agrees: { ForSome known
+        (λ changes. names_of told.closed ≡ map changed changes.items) },
 }
 
 impl Changes {

@@ -11,13 +11,14 @@ use crate::memory_asides::MemoryAsides;
 use crate::memory_report::MemoryReport;
 use crate::named_bytes::{NamedBytes, named};
 use crate::owned_source::OwnedSource;
-use flute_output::{MemoryFolder, MemoryNewFolder, Place};
+use flute_output::Place;
+use flute_output_memory::{MemoryFolder, MemoryNewFolder};
 use flute_parts::{Failures, Source};
 use flutejoin::{CommandFault, Overwrites};
 use flutejoin_commands::{Inputs, NotOpened, World};
 use std::alloc::{AllocError, Global};
 
-/// The name that stands for standard output.
+/// The name that means standard output.
 const STANDARD: &str = "-";
 
 /// Files in memory, by their names, for tests: those that were given, and what became of the

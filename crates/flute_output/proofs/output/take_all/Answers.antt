@@ -1,10 +1,11 @@
+-- take_all: its loop keeps that the bytes so far were taken by the file beside OUT.
 use Rattle.std.proofs.Common.{◌≡◌, ℕ, ◌+◌, ◌-◌, ◌≤◌, List, ◌++◌, Option, Some, None, rules, arith, length, take, take_all, drop, sym, ap, subst, ◌∙◌, append_assoc}
 use Rattle.std.proofs.lemmas.List.{length-drop}
 use lib.Seq.{take-add}
 use Rattle.flute_output.specs.Entries.{Entries, Leads, takes}
 use Rattle.flute_output.proofs.output.take_all.Goals as goal
 
--- what is taken after xs is taken behind it
+-- bytes taken after xs are appended to it
 takes_more : (old mid new : Option Entries) (xs ys : List ℕ) → Leads (λ a b. b ≡ takes xs a) old mid → Leads (λ a b. b ≡ takes ys a) mid new
     → Leads (λ a b. b ≡ takes (xs ++ ys) a) old new
 takes_more None None None xs ys first then = tt

@@ -1,4 +1,4 @@
--- What was taken so far is the front of the bytes.
+-- take_all: what was taken so far is the front of the bytes.
 use Rattle.std.proofs.Common.{◌≡◌, ◌-◌, ◌≤◌, length, take}
 use Rattle.flute_output.specs.Entries.{Leads, takes}
 use Rattle.flute_output.proofs.output.take_all.Given as goal

@@ -1,4 +1,4 @@
--- The changes before this one have another name.
+-- change_of: the changes before this one have another name.
 use Rattle.std.proofs.Common.{◌≡◌, ◌++◌, List, map, drop}
 use Rattle.flutejoin_memory.specs.NamedFiles.{changed}
 use Rattle.flutejoin_memory.specs.MemoryFiles.{NamedFile, files_of}

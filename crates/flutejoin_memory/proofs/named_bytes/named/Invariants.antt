@@ -1,4 +1,4 @@
--- The files before this one have another name.
+-- named: the files before this one have another name.
 use Rattle.std.proofs.Common.{◌≡◌, map, drop}
 use Rattle.flutejoin_memory.specs.NamedFiles.{with_bytes}
 use Rattle.flutejoin_memory.specs.MemoryFiles.{files_of}

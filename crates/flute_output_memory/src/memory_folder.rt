@@ -1,8 +1,8 @@
 //! A folder in memory.
 ghost use Rattle.std.specs.Prelude.{◌≡◌, IfOk, ◌+◌, ◌-◌, ◌++◌, ◌∷◌, Some, true, OnOk, IfSome, MatchOption, option_map, [], None, if◌then◌else◌, is_ok};
-ghost use Rattle.flute_output.specs.Memory.{stored};
+ghost use Rattle.flute_output_memory.specs.Memory.{stored};
 
-use crate::folder::{Folder, Name};
+use flute_output::{Folder, Name};
 use flute_parts::{DeviceFault, Failures};
 use std::alloc::{AllocError, Global};
 
@@ -32,7 +32,7 @@ impl MemoryFolder {
     ghost use Rattle.std.specs.Bool.{OnTrue, OnFalse};
     ghost use Rattle.flute_output.specs.declared.folder.Name.TheVariants.{Out};
     ghost use Rattle.flute_output.specs.Entries.{removes};
-    ghost use Rattle.flute_output.specs.Memory.{memory_entries};
+    ghost use Rattle.flute_output_memory.specs.Memory.{memory_entries};
 
     /// A folder where OUT has these bytes, or is not there, and the disk has all of that. After
     /// `good` calls each call fails; before that only if it finds no memory, or no file beside OUT.
@@ -136,7 +136,7 @@ fn copied(alloc: Global, file: &Option<StoredFile>) -> Result<Option<StoredFile>
 }
 
 impl Folder for MemoryFolder {
-    ghost use Rattle.flute_output.specs.Memory.{memory_entries};
+    ghost use Rattle.flute_output_memory.specs.Memory.{memory_entries};
 
     ghost entries = { λ f. Some (memory_entries f) };
 

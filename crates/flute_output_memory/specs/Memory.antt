@@ -1,7 +1,7 @@
 -- A folder in memory.
 use Rattle.std.specs.Prelude.{Option, option_map, map}
-use Rattle.flute_output.specs.declared.memory_folder.StoredFile.{StoredFile}
-use Rattle.flute_output.specs.declared.memory_folder.MemoryFolder.{MemoryFolder}
+use Rattle.flute_output_memory.specs.declared.memory_folder.StoredFile.{StoredFile}
+use Rattle.flute_output_memory.specs.declared.memory_folder.MemoryFolder.{MemoryFolder}
 use Rattle.flute_output.specs.Entries.{Stored, Entries}
 
 abbrev pub stored : StoredFile → Stored

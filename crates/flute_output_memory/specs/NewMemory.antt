@@ -1,8 +1,8 @@
 -- A new folder in memory.
 use Rattle.std.specs.Prelude.{Option, option_map, map}
-use Rattle.flute_output.specs.declared.memory_new_folder.MemoryFile.{MemoryFile}
-use Rattle.flute_output.specs.declared.memory_new_folder.MemoryFiles.{MemoryFiles}
-use Rattle.flute_output.specs.declared.memory_new_folder.MemoryNewFolder.{MemoryNewFolder}
+use Rattle.flute_output_memory.specs.declared.memory_new_folder.MemoryFile.{MemoryFile}
+use Rattle.flute_output_memory.specs.declared.memory_new_folder.MemoryFiles.{MemoryFiles}
+use Rattle.flute_output_memory.specs.declared.memory_new_folder.MemoryNewFolder.{MemoryNewFolder}
 use Rattle.flute_output.specs.NewFolders.{NamedFile, Filled, Places}
 
 abbrev pub named_file : MemoryFile → NamedFile

@@ -1,8 +1,8 @@
 //! A new folder in memory.
 ghost use Rattle.std.specs.Prelude.{◌≡◌, ◌+◌, ◌-◌, [], Some, None, true, OnOk, option_map, if◌then◌else◌, is_ok};
-ghost use Rattle.flute_output.specs.NewMemory.{filled, memory_places};
+ghost use Rattle.flute_output_memory.specs.NewMemory.{filled, memory_places};
 
-use crate::new_folder::NewFolder;
+use flute_output::NewFolder;
 use flute_parts::{DeviceFault, Failures};
 use std::alloc::Global;
 
@@ -96,7 +96,7 @@ impl MemoryNewFolder {
 }
 
 impl NewFolder for MemoryNewFolder {
-    ghost use Rattle.flute_output.specs.NewMemory.{memory_places};
+    ghost use Rattle.flute_output_memory.specs.NewMemory.{memory_places};
 
     ghost places = { λ f. Some (memory_places f) };
 
