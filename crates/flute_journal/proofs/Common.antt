@@ -1,4 +1,4 @@
--- The words that most proofs on journals cite, passed on from one place, and one of their own.
+-- Names that most proofs on journals cite, re-exported from one place, and one of their own.
 pub use Rattle.std.proofs.Common.{Bool, Err, IfErr, IfSome, IsTrue, List, MatchBool, None, Ok, OnOk, Option, Result, Some, [], add-one, ap, append-nil, append_assoc, arith, bytes_eq, drop, drop-cons, drop-drop, drop-set-lt, drop_at, eqb, false, flat_map, get_or, if◌then◌else◌, inl, inr, is_eq, is_lt, is_some, le_refl, leb, length, length-append, length-drop, length-set, length-take, length-take-le, lit<, ltb, not, refl, rules, slice_get, slice_range, slice_set, subst, suc, sym, take, take-append-drop, take_all, take_at, true, zero, ℕ, ◌%◌, ◌&&◌, ◌*◌, ◌++◌, ◌+◌, ◌-◌, ◌/◌, ◌<◌, ◌^◌, ◌∙◌, ◌∷◌, ◌≡◌, ◌≢◌, ◌≤◌, ◌⊎◌}
 pub use Rattle.flute_journal.specs.Advances.{AreNew, GoOnAt, GoesOnAt, StopAt, StopsIn}
 pub use Rattle.flute_journal.specs.Eithers.{either_behaviour}

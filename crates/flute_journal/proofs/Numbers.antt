@@ -35,7 +35,7 @@ pub number-in_bytes : (k n : ℕ) → n < 256 ^ k → big_endian (in_bytes k n) 
 number-in_bytes k n lt =
     sym (big_from-whole k (in_bytes k n) (sym (length-bytes_high_first k n))) ∙ ap (big_from 0 k) (sym (append-nil (in_bytes k n))) ∙ big_number-reads_back k n [] lt
 
--- bytes that spell numbers of as many bytes, one behind the other, spell the same numbers
+-- if two numbers of k bytes, followed by more bytes, have equal bytes, both parts are equal
 pub in_bytes-injective : (k m n : ℕ) (x y : List ℕ) → m < 256 ^ k → n < 256 ^ k → in_bytes k m ++ x ≡ in_bytes k n ++ y → (m ≡ n) × (x ≡ y)
 in_bytes-injective k m n x y small other e =
     let front : in_bytes k m ≡ in_bytes k n =

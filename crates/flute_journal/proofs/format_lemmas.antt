@@ -1,4 +1,4 @@
--- Lemmas, in the order in which they cite each other.
+-- Lemmas on the bytes of entries, in the order in which they cite each other.
 pub mod Entries
 pub mod Parts
 pub mod Written

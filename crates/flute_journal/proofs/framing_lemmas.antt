@@ -1,4 +1,4 @@
--- Lemmas, in the order in which they cite each other.
+-- Lemmas on framed files, in the order in which they cite each other.
 pub mod Sequences
 pub mod ReadsUpTo
 pub mod Framed

@@ -1,4 +1,4 @@
--- Lemmas, in the order in which they cite each other.
+-- Lemmas on merges of streams, in the order in which they cite each other.
 pub mod MergeRising
 pub mod MergeBytes
 pub mod GoingOn

@@ -1,4 +1,4 @@
--- Lemmas, in the order in which they cite each other.
+-- Lemmas on readers, in the order in which they cite each other.
 pub mod Calls
 pub mod Seen
 pub mod Bodies

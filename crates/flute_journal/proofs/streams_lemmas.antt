@@ -1,4 +1,4 @@
--- Lemmas, in the order in which they cite each other.
+-- Lemmas on the kinds of streams, in the order in which they cite each other.
 pub mod Pairs
 pub mod Chaining
 pub mod Loans

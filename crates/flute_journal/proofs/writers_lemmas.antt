@@ -1,4 +1,4 @@
--- Lemmas, in the order in which they cite each other.
+-- Lemmas on writers, in the order in which they cite each other.
 pub mod Saving
 pub mod Sending
 pub mod WrittenSoFar

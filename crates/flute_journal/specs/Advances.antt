@@ -1,4 +1,4 @@
--- Streams that go on together.
+-- Streams that are advanced together.
 use Rattle.std.specs.Prelude.{◌≡◌, ◌≢◌, ℕ, zero, suc, List, [], ◌∷◌, ◌⊎◌, Option}
 use Rattle.flute_parts.specs.declared.address.Address.{Address}
 use Rattle.flute_journal.specs.declared.fault.LoadFault.{LoadFault}
@@ -6,7 +6,7 @@ use Rattle.flute_journal.specs.declared.merge.streams_fault.InputFault.{InputFau
 use Rattle.flute_journal.specs.Streams.{Behaviour, place_of, GoesOn, StopsAt, IsNew}
 
 module _ {S : Type 0} (b : Behaviour S) where
-  -- a stream went on if it was at that place, and else is as it was
+  -- a stream is advanced if it holds that address, and is unchanged otherwise
   abbrev pub GoesOnAt : Option Address → S → S → Type 0
   GoesOnAt place old new =
       ((place_of (b.held old) ≡ place) × GoesOn b old new)
@@ -17,8 +17,8 @@ module _ {S : Type 0} (b : Behaviour S) where
   GoOnAt place (s ∷ old) (t ∷ new) = GoesOnAt place s t × GoOnAt place old new
   GoOnAt place _ _ = ⊥
 
-  -- those before this number went on, that one stopped at the fault, and those after
-  -- it are as they were
+  -- those before this number were advanced, this one stopped at the fault, and those after
+  -- it are unchanged
   abbrev pub StopAt : Option Address → ℕ → LoadFault → List S → List S → Type 0
   StopAt place zero fault (s ∷ old) (t ∷ new) =
       (place_of (b.held s) ≡ place) × StopsAt b s t fault × (new ≡ old)

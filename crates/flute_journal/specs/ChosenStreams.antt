@@ -6,7 +6,7 @@ use Rattle.flute_parts.specs.declared.fact.Fact.{Fact}
 use Rattle.flute_journal.specs.Streams.{Behaviour}
 use Rattle.flute_journal.specs.declared.streams.chosen.Chosen.{Chosen}
 
--- so it is with some facts of which these are those that are taken
+-- P holds of some facts, and these are those of them that are taken (P is `So`)
 abbrev pub OfAll : (Fact → Bool) → (List Fact → Type 0) → List Fact → Type 0
 OfAll is_taken So facts = (all : List Fact) × So all × (facts ≡ filter is_taken all)
 
@@ -27,7 +27,7 @@ module _ {C : Type 0} (takes : C → Fact → Bool) where
       start.others + others < 2 ^ 64 → now.others ≡ start.others + others
 
   module _ {S : Type 0} (b : Behaviour S) where
-    -- it let go of facts of which these are the chosen ones, counted the others, and holds none
+    -- it has given these chosen facts, counted the others between, and holds none of those
     pub record PassesChosen (start now : Chosen S C) (facts : List Fact) : Type 0 where
       pub choice : now.choice ≡ start.choice
       pub passes : OfAll (takes start.choice)

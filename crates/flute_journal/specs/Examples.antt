@@ -213,7 +213,7 @@ out-of-order :
 unfolding sender_size
 out-of-order = (refl, refl)
 
--- information after information of one object: told before it is looked at
+-- information after information of one object: a fault of the order, found before it is read
 second-information : (fault_after (info ∷ []) (2 ∷ k ++ end_bytes 2) ≡ Some faults.Order)
     × (fault_after (info ∷ []) (1 ∷ k ++ 0 ∷ 0 ∷ 0 ∷ 0 ∷ 0 ∷ 5 ∷ 0 ∷ 4 ∷ 0 ∷ 0 ∷ 0 ∷ 0 ∷ [])
     ≡ Some faults.Order)
@@ -229,7 +229,7 @@ end-trailing : fault_after (info ∷ hell ∷ letter_o ∷ []) (end_bytes 3 ++ 0
 unfolding sender_size
 end-trailing = refl
 
--- a kind that is none is told before the bound is looked at
+-- a byte that is no kind is a fault of the kind, even where the bound is reached
 no-kind : (fault_after [] (5 ∷ k ++ info_rest) ≡ Some faults.Kind)
     × (next_fault (before One []) 0 (5 ∷ []) ≡ Some faults.Kind)
 unfolding sender_size

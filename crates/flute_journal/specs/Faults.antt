@@ -48,14 +48,14 @@ abbrev pub opening_fault : List ℕ → List ℕ → Option ReadFault
 opening_fault opening bytes =
     version_fault (take 4 opening) (λ version. bytes_eq version (take 2 (drop 4 opening))) bytes
 
--- whether two bytes tell a version of journals
+-- whether two bytes are a version of journals
 abbrev pub is_version : List ℕ → Bool
 is_version bytes = bytes_eq bytes (version_bytes One) || bytes_eq bytes (version_bytes Two)
 
 abbrev pub header_fault : List ℕ → Option ReadFault
 header_fault bytes = version_fault magic is_version bytes
 
--- the version that a header tells, if it tells one
+-- the version that a header contains, if it contains one
 abbrev pub version_in : List ℕ → Version
 version_in bytes = if bytes_eq (take 2 (drop 4 bytes)) (version_bytes One) then One else Two
 

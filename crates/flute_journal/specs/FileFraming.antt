@@ -19,7 +19,7 @@ abbrev pub record_fault : ℕ → ℕ → List ℕ → Option ReadFault
 record_fault limit count [] = None
 record_fault limit count (byte ∷ bytes) = first_fault (record_checks limit count (byte ∷ bytes))
 
--- why a file is not read, whatever its source tells
+-- the faults that reading a file may have, whatever bytes its source is known to have
 abbrev pub IsFileFault : ReadFault → Type 0
 IsFileFault faults.Read = ⊤
 IsFileFault faults.Magic = ⊤

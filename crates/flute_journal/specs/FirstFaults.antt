@@ -19,7 +19,7 @@ module _ {S : Type 0} (b : Behaviour S) where
     pub was : slice_get start fault.number ≡ Some new
     pub stop : IsStopOf new fault.number now fault.fault
 
-  -- each before this number tells some facts and ends
+  -- each before this number contains some facts, and ends
   abbrev pub TellBefore : ℕ → List S → Type 0
   TellBefore zero start = Unit {0}
   TellBefore (suc number) (s ∷ start) = ((F : List Fact) × b.tells s F) × TellBefore number start

@@ -1,8 +1,8 @@
--- Framed files: a header, and then items, each in a frame that tells where it ends.
+-- Framed files: a header, and then items, each in a frame that contains where it ends.
 use Rattle.std.specs.Prelude.{◌≡◌, ℕ, ◌≤◌, List, ◌++◌, length}
 use Rattle.std.specs.List.{flat_map, AllByRecursion}
 
--- files of items V, whose header tells T
+-- files of items V, whose header contains a T
 pub record Frame (V T : Type 0) : Type 1 where
   -- the six bytes of the header
   pub header : T → List ℕ

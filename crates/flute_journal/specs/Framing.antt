@@ -15,7 +15,7 @@ pub record Framing (V P T : Type 0) : Type 1 where
   pub place_after : T → List V → P
   -- the place after one item more
   pub next : P → V → P
-  -- what the header of this place told
+  -- what the header before this place contains
   pub told : P → T
   -- how many items are before it
   pub count : P → ℕ
@@ -23,7 +23,7 @@ pub record Framing (V P T : Type 0) : Type 1 where
   pub may_follow : P → V → Bool
   -- the first fault of the header of these bytes
   pub header_fault : List ℕ → Option ReadFault
-  -- what a header without fault tells
+  -- what a header without fault contains
   pub told_in : List ℕ → T
   -- the first fault of the bytes at a place, up to the next item, if there may be so many
   pub next_fault : P → ℕ → List ℕ → Option ReadFault
@@ -99,12 +99,12 @@ module _ {V P T : Type 0} (framing : Framing V P T) where
   count_at (Items place) = framing.count place
   count_at _ = 0
 
-  -- the place of the next item, if a header that is still to be read tells this
+  -- the place of the next item, if a header that is still to be read contains this
   abbrev pub place_at : T → ReaderState P → P
   place_at told (Items place) = place
   place_at told _ = framing.place_after told []
 
-  -- what its header tells
+  -- what the header contains
   abbrev pub told_at : T → ReaderState P → T
   told_at told state = framing.told (place_at told state)
 
@@ -158,13 +158,13 @@ pub data IsPart {V P T : Type 0} (framing : Framing V P T) (told : T) (old : Rea
       → IsPart framing told old part
 
 module _ {V P T : Type 0} (framing : Framing V P T) where
-  -- memory was asked for the next item, behind what was before it
+  -- memory was asked for to read the next item, after what precedes it was consumed
   abbrev pub AsksForItem : T → ℕ → ReaderState P → Option (List ℕ) → Option (List ℕ) → Type 0
   AsksForItem told limit old left after =
       (behind : Option (List ℕ)) × Consumes left behind (opening framing told old)
       × AsksMemory (framing.next_fault (place_at framing told old) limit) behind after
 
-  -- the bytes that were left have this fault, if a header that was still to be read told this
+  -- the bytes that were left have this fault, if a header that was still to be read contains this
   pub record IsAtFault (told : T) (limit : ℕ) (old : ReaderState P) (left after : Option (List ℕ))
       (f : ReadFault) : Type 0 where
     pub fault : IsFaultUpTo (end_bytes framing told old) (fault_from framing old limit) left after f

@@ -1,4 +1,4 @@
--- What is read of a source that tells its bytes.
+-- What is read of a source whose bytes are known.
 use Rattle.std.specs.Prelude.{◌≡◌, ℕ, ◌+◌, ◌<◌, ◌≤◌, ◌⊎◌, Bool, true, false, MatchBool, List, [], ◌++◌, length, Option, Some, Result, Ok, Err, IfSome, OnErr, MatchResult}
 use Rattle.std.specs.Io.KnownBytes.{Consumes, IsAtEnd}
 use Rattle.flute_journal.specs.declared.fault.ReadFault.{ReadFault}
@@ -56,8 +56,8 @@ FailsIf reads old new result = MatchBool reads (Fails old new result) (new ≡ o
 abbrev pub IsSettled : (List ℕ → Option ReadFault) → List ℕ → Type 0
 IsSettled fault bytes = (more : List ℕ) → IfSome (fault (bytes ++ more)) (λ f. f ≡ faults.Cut)
 
--- memory is asked for once the bytes that were read, and others that were seen behind them,
--- are settled
+-- memory is asked for once the bytes that were read, and others that were seen after them,
+-- have no fault
 pub record AsksMemory (fault : List ℕ → Option ReadFault) (old new : Option (List ℕ)) : Type 0 where
   pub read : List ℕ
   pub seen : List ℕ

@@ -49,7 +49,7 @@ JournalIn Two bytes facts = Journal bytes facts
 abbrev pub IsJournal : List ℕ → List Fact → Type 0
 IsJournal bytes facts = (version : Version) × JournalIn version bytes facts
 
--- a journal as a framed file of entries, whose header tells its version
+-- a journal as a framed file of entries, whose header contains its version
 abbrev pub journal_frame : Frame Fact Version
 journal_frame = record {
   header = header_in;

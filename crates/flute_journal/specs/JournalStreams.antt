@@ -68,7 +68,7 @@ module _ {R : Type 0} (unread : R → Option (List ℕ)) (failures : R → ℕ) 
   abbrev pub unread_of : JournalStream R → Option (List ℕ)
   unread_of s = unread (source_of s.reader).now
 
-  -- it is read of the same source, which failed since as the fault tells
+  -- it still reads the same source, which failed since then as the fault says
   pub record FailsSince (start now : JournalStream R) (fault : Option LoadFault) : Type 0 where
     pub same_source : (source_of now.reader).ghost_name ≡ (source_of start.reader).ghost_name
     pub failed_as :

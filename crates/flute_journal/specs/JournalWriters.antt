@@ -1,4 +1,4 @@
--- What is written of a journal, by a writer that goes on after a failure.
+-- What is written of a journal, by a writer that continues after a failure.
 use Rattle.std.specs.Prelude.{◌≡◌, ℕ, ◌+◌, Bool, true, false, List, [], length, Option}
 use Rattle.std.specs.Io.KnownBytes.{Appends}
 use Rattle.flute_parts.specs.declared.fact.Fact.{Fact}
@@ -11,7 +11,7 @@ abbrev pub Written : Bool → Option (List ℕ) → Option (List ℕ) → List �
 Written false old new bytes = Appends old new bytes
 Written true old new bytes = AppendsPart old new bytes
 
--- the journal of these facts was appended, which has so many entries; or, if it is cut, a part of it
+-- the journal of these facts, with so many entries, was appended; or, if it is cut, a part of it
 pub record PutsJournal (cut : Bool) (old new : Option (List ℕ)) (facts : List Fact)
     (count : ℕ) : Type 0 where
   pub bytes : List ℕ
@@ -23,7 +23,7 @@ pub record PutsJournal (cut : Bool) (old new : Option (List ℕ)) (facts : List 
 abbrev pub WritesJournal : Option (List ℕ) → Option (List ℕ) → List Fact → ℕ → Type 0
 WritesJournal old new facts count = PutsJournal false old new facts count
 
--- so it is with these bytes, if the sink had not failed before, and else nothing was appended
+-- these bytes were written, if the sink had not failed before; else nothing was appended
 abbrev pub PutsBytes : Bool → Bool → Option (List ℕ) → Option (List ℕ) → List ℕ → Type 0
 PutsBytes false failed old new bytes = Written failed old new bytes
 PutsBytes true true old new bytes = Appends old new []

@@ -5,7 +5,7 @@ use Rattle.flute_parts.specs.declared.fact.Fact.{Fact}
 use Rattle.flute_journal.specs.Streams.{Behaviour, option_list}
 
 module _ {S : Type 0} (held : S → Option Fact) (rest : S → List Fact) (is_sound : S → Type 0) where
-  -- since it was new it let go of these facts, and the others are held and left
+  -- since it was new it has given these facts; the others are the one held and those left
   pub record PassesListed (start now : S) (F : List Fact) : Type 0 where
     pub all : rest start ≡ F ++ (option_list (held now) ++ rest now)
     pub rising : IsRising (rest start)

@@ -21,7 +21,7 @@ abbrev pub IsLowest : List Fact → Option Fact → Type 0
 IsLowest facts None = facts ≡ []
 IsLowest facts (Some g) = Lowest facts g
 
--- the facts at that address come to this value, if any is there, and none of them is before that
+-- the facts have this value at that address, and none of them is before it
 pub record ComesTo (a : Address) (facts : List Fact) (value : Option Fact) : Type 0 where
   pub comes : fact_at facts a ≡ value
   pub place : IfSome value (λ g. address g ≡ a)

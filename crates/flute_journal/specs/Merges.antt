@@ -23,11 +23,11 @@ pub record Merged (limit n : ℕ) (first second old new : Option (List ℕ)) : T
   pub second_is : IfSome second (λ ys. IsJournalWithin limit ys second_entries)
   pub writes : WritesJournal old new (first_entries ++ second_entries) n
 
--- the bytes go on, and are then the others
+-- the bytes are a proper prefix of the others
 abbrev pub IsProperPrefix : List ℕ → List ℕ → Type 0
 IsProperPrefix bytes whole = (more : List ℕ) × (more ≢ []) × (bytes ++ more ≡ whole)
 
--- what was appended is no journal of any version, and if both inputs are, it is a first part
+-- what was appended is no journal of any version, and if both inputs are, it is a proper prefix
 -- of the journal of both
 pub record StopsShort (first second old new : Option (List ℕ)) : Type 0 where
   pub bytes : List ℕ
@@ -72,7 +72,7 @@ pub record ReadsEntries (input left : Option (List ℕ)) (entries : List Fact) :
   pub ends : EndsAfter version entries bytes
 
 -- What was read, and what was appended: whole entries of both inputs and at most one more of each,
--- and all that the whole entries tell.
+-- and all facts of the whole entries.
 pub record KeepsUp (first first_left second second_left old new : Option (List ℕ))
     (fault : MergeFault) : Type 0 where
   pub first_entries : List Fact
@@ -85,7 +85,7 @@ pub record KeepsUp (first first_left second second_left old new : Option (List �
   pub appended : Appends old new bytes
   pub begins : AppendedUpTo fault bytes entries
 
--- the fault that is told of an input is that of its bytes, if it is one of theirs
+-- the fault that is reported of an input is that of its bytes, if bytes can have it
 abbrev pub NamesFault : ℕ → Option (List ℕ) → Option (List ℕ) → MergeFault → Type 0
 NamesFault limit first second (First f) = HasFault journal_framing limit first f
 NamesFault limit first second (Second f) = HasFault journal_framing limit second f
@@ -111,7 +111,7 @@ pub record Stopped (limit : ℕ) (first first_left second second_left old new : 
   pub keeps_up : KeepsUp first first_left second second_left old new fault
   pub names : NamesFault limit first second fault
 
--- and of one that came to an end or has stopped
+-- the result of a merge of two inputs, of which each ended or stopped
 abbrev pub MergeGives : ℕ → Option (List ℕ) → Option (List ℕ) → Option (List ℕ) → Option (List ℕ)
     → Option (List ℕ) → Option (List ℕ) → Result ℕ MergeFault → Type 0
 MergeGives limit first first_left second second_left old new (Ok n) =

@@ -17,8 +17,8 @@ module _ {S : Type 0} (b : Behaviour S) where
     pub ends : b.ends start now facts
     pub writes : WritesJournal old new facts count
 
-  -- What was appended is no journal of any version. If all its facts are known, it is a first part
-  -- of the journal of them, and not all of it.
+  -- What was appended is no journal of any version. If all its facts are known, it is a proper
+  -- prefix of their journal.
   pub record WritesPart (start : S) (old new : Option (List ℕ)) : Type 0 where
     pub bytes : List ℕ
     pub appended : Appends old new bytes
@@ -26,12 +26,12 @@ module _ {S : Type 0} (b : Behaviour S) where
     pub prefix : (known : List Fact) → b.knows start known → (whole : List ℕ)
         → Journal whole known → IsProperPrefix bytes whole
 
-  -- the fault that is told of it is its own
+  -- the fault that is reported of it is its own
   abbrev pub StopsAs : S → StreamsFault → Type 0
   StopsAs start (Input fault) = b.stops start fault.fault
   StopsAs start Write = ⊤
 
-  -- its device failed as the fault that is told of it
+  -- its device failed as the reported fault says
   abbrev pub FailsAs : S → S → Result ℕ StreamsFault → Type 0
   FailsAs start now (Err (Input fault)) = b.fails start now (Some fault.fault)
   FailsAs start now _ = b.fails start now None

@@ -30,7 +30,7 @@ is_info (Symbol id) = false
 abbrev pub selects_info : Bool → Part → Bool
 selects_info info part = not info || is_info part
 
--- two different values were told of it
+-- whether a fact is a conflict: its address has two different values
 abbrev pub is_conflict : Fact → Bool
 is_conflict (InfoConflict key) = true
 is_conflict (SymbolConflict key id) = true

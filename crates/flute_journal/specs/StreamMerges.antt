@@ -42,7 +42,7 @@ Each P [] [] = Unit {0}
 Each P (s ∷ streams) (F ∷ given) = P s F × Each P streams given
 Each P _ _ = ⊥
 
--- of each input, as it was and as it is, this holds with the facts at its place
+-- P holds of each input, of its state before and now, with the list of facts at its place
 abbrev pub EachSince : {S : Type 0} → (S → S → List Fact → Type 0) → List S → List S
     → List (List Fact) → Type 0
 EachSince P [] [] [] = Unit {0}
@@ -68,7 +68,7 @@ module _ {S : Type 0} (b : Behaviour S) where
   NoneFails (s ∷ old) (t ∷ new) = b.fails s t None × NoneFails old new
   NoneFails _ _ = ⊥
 
-  -- the input with this number failed as the fault tells, and no other
+  -- the input with this number failed as the fault says, and no other did
   abbrev pub OneFails : ℕ → LoadFault → List S → List S → Type 0
   OneFails zero fault (s ∷ old) (t ∷ new) = b.fails s t (Some fault) × NoneFails old new
   OneFails (suc number) fault (s ∷ old) (t ∷ new) = b.fails s t None × OneFails number fault old new
@@ -85,15 +85,15 @@ module _ {S : Type 0} (b : Behaviour S) where
       ((F : List Fact) × Gave b s t F) × GaveBefore number old new
   GaveBefore (suc number) _ _ = ⊥
 
-  -- so it is with those before the input that stopped
+  -- each input before the one that stopped has given some facts, and can be read on
   abbrev pub CanGoOn : List S → List S → StreamsFault → Type 0
   CanGoOn old new (Input fault) = GaveBefore fault.number old new
   CanGoOn old new Write = Unit {0}
 
-  -- Each input tells some facts. The journal of all of them was appended, or a part of it,
-  -- with so many entries, and it was told whether they are within the limits of a store.
-  -- Whatever other facts have the same value at each address, as what joins wrote of any groups
-  -- of them: that is their journal too.
+  -- Each input contains some facts. The journal of all of them was appended, or a part of it,
+  -- with so many entries, and it is known whether they are within the limits of a store.
+  -- Any other facts with the same value at each address, such as what joins of groups of the
+  -- inputs wrote, have the same journal.
   pub record MergedAll (inputs : List S) (s o y : ℕ) (joined : MergedJournal)
       (old new : Option (List ℕ)) : Type 0 where
     pub told : List (List Fact)
@@ -103,14 +103,14 @@ module _ {S : Type 0} (b : Behaviour S) where
     pub as_others : (others : List Fact) → Same (all_of told) others → (bytes : List ℕ)
         → Journal bytes others → Written joined.cut old new bytes
 
-  -- so it is, and each input ended once it had given what it tells
+  -- all were merged, and each input ended once it had given all its facts
   pub record EndsMerged (inputs now : List S) (s o y : ℕ) (joined : MergedJournal)
       (old new : Option (List ℕ)) : Type 0 where
     pub merged : MergedAll inputs s o y joined old new
     pub ends : EachSince b.ends inputs now merged.told
 
   -- What was appended is the journal of nothing, in any version. If all the facts of each input
-  -- are known, it is a first part of the journal of all of them, and not all of it.
+  -- are known, it is a proper prefix of the journal of all of them.
   pub record AppendsPartOf (inputs : List S) (old new : Option (List ℕ)) : Type 0 where
     pub bytes : List ℕ
     pub appended : Appends old new bytes
@@ -118,7 +118,7 @@ module _ {S : Type 0} (b : Behaviour S) where
     pub prefix : (known : List (List Fact)) → Each b.knows inputs known → (whole : List ℕ)
         → Journal whole (all_of known) → IsProperPrefix bytes whole
 
-  -- Of each input these facts were read, and at most one more; what they tell was appended.
+  -- Of each input these facts were read, and at most one more; their merged facts were appended.
   pub record ReadsAhead (inputs now : List S) (old new : Option (List ℕ))
       (fault : StreamsFault) : Type 0 where
     pub read : List (List Fact)
@@ -129,7 +129,7 @@ module _ {S : Type 0} (b : Behaviour S) where
     pub appended : Appends old new bytes
     pub begins : BeginWith fault bytes entries
 
-  -- the fault that is told of an input is its own
+  -- the fault that is reported of an input is its own
   abbrev pub NamesInput : List S → StreamsFault → Type 0
   NamesInput inputs (Input fault) =
       (s : S) × (slice_get inputs fault.number ≡ Some s) × b.stops s fault.fault

@@ -22,11 +22,11 @@ pub record Behaviour (S : Type 0) : Type 1 where
   pub knows : S → List Fact → Type 0
   -- a new one may stop at this fault
   pub stops : S → LoadFault → Type 0
-  -- since the first state, when it was new, it let go of these facts, and no device failed
+  -- since the first state, when it was new, it has given these facts, and no device failed
   pub passes : S → S → List Fact → Type 0
   -- since then these facts were read whole, and at most one more
   pub reads : S → S → List Fact → Type 0
-  -- since then its device failed as often as this fault tells
+  -- since then its device failed as often as this fault says
   pub fails : S → S → Option LoadFault → Type 0
   -- since then it gave these facts and ended
   pub ends : S → S → List Fact → Type 0
@@ -65,7 +65,7 @@ module _ {S : Type 0} (b : Behaviour S) where
     pub known : (K : List Fact) → b.knows start K
         → Continues K (F ++ option_list (b.held now)) (b.held now)
 
-  -- it let go of what it held, and holds the next fact or has ended
+  -- it has given the fact that it held, and holds the next one or has ended
   pub record GoesOn (old new : S) : Type 0 where
     pub gave : (start : S) (F : List Fact) → b.passes start old F
         → Gave start new (F ++ option_list (b.held old))
@@ -77,7 +77,7 @@ module _ {S : Type 0} (b : Behaviour S) where
     pub fails : b.fails start now (Some fault)
     pub stops : b.stops start fault
 
-  -- it let go of what it held, and stopped
+  -- it has given the fact that it held, and stopped
   abbrev pub StopsAt : S → S → LoadFault → Type 0
   StopsAt old new fault =
       (start : S) (F : List Fact) → b.passes start old F

@@ -52,7 +52,7 @@ pub enum ReadFault {
 /// Why a journal could not be written.
 #[derive(Clone, Copy, Debug, PartialEq, Eq, Error)]
 pub enum SaveFault {
-    /// The sink failed. A first part of the journal was written, and not all of it.
+    /// The sink failed. A proper prefix of the journal was written.
     #[error("Write")]
     Write,
 }
@@ -63,7 +63,7 @@ impl From<DeviceFault> for SaveFault {
     }
 }
 
-/// Why no store was read. The first that was met is told.
+/// Why no store was read: the first reason that was met.
 #[derive(Clone, Copy, Debug, PartialEq, Eq, Error)]
 pub enum LoadFault {
     /// The journal could not be read.

@@ -25,16 +25,16 @@ pub const END: u8 = 255;
 /// The most bytes that follow the kind of an entry, up to those of a symbol.
 pub const LONGEST: usize = 49;
 
-/// What an entry tells.
+/// What an entry says.
 #[derive(Clone, Copy, Debug, PartialEq, Eq)]
 pub enum Kind {
     /// The transmission information.
     Info,
-    /// That two different pieces of transmission information were told.
+    /// Two different pieces of transmission information are known.
     InfoConflict,
     /// An encoding symbol.
     Symbol,
-    /// That two different values of an encoding symbol were told.
+    /// Two different values of an encoding symbol are known.
     SymbolConflict,
 }
 
@@ -48,7 +48,7 @@ pub enum EntryHead {
 }
 
 impl Kind {
-    /// The kind that this byte stands for.
+    /// The kind whose number is this byte.
     pub fn from_byte(byte: u8) -> Option<Kind>
         ensures { MatchOption result (is_kind byte ≡ false) (λ kind. byte ≡ byte_of kind) }
     {

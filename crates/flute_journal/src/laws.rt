@@ -93,7 +93,7 @@ pub fn bytes_stop_once()
         → (es ≡ fs) × (f ≡ g) }
 {}
 
-/// The entries that a journal begins with tell nothing more than its facts.
+/// A journal that begins with these entries contains their facts.
 pub fn first_entries_are_below()
     ensures { (bs : List ℕ) (F es : List Fact) (limit : ℕ) → IsJournal bs F
         → BeginsWith limit bs es → Below es F }
@@ -146,9 +146,9 @@ pub fn a_file_stops_at_the_bound()
         → (f ≡ faults.TooMany) × (limit < length ds) }
 {}
 
-/// A datagram file is told by what its reader gives record by record: after these records it
-/// is where they end; at the end the file was that of all of them, and at a fault the file has
-/// this fault.
+/// What a datagram file contains is known from what its reader gives record by record: after
+/// these records it is where they end; at the end the file was that of all of them, and at a
+/// fault the file has this fault.
 pub fn a_file_is_read_record_by_record()
     ensures begins { (limit : ℕ) (first : Option (List ℕ)) → Sofar file_framing limit first first
         states.Header [] }

@@ -1,10 +1,10 @@
 //! Journals: the facts of a reception as bytes, each address once and in rising order.
 //!
 //! A content has one journal ([`write_store`] writes it), and every list of bytes is a journal or
-//! has one first fault ([`JournalReader`] tells it). Journals, stores and facts are merged as
+//! has one first fault ([`JournalReader`] returns it). Journals, stores and facts are merged as
 //! [`Stream`]s, in memory that does not grow with them ([`merge_all`], [`join_streams`]): the
-//! result is the one journal of all that they tell, in whatever order or grouping. Datagram files
-//! are read by a [`DatagramReader`].
+//! result is the one journal of all that they contain, in whatever order or grouping. A datagram
+//! file is read by a [`DatagramReader`].
 //!
 //! The journal of both of two stations (from `reception_sample`):
 //!

@@ -1,4 +1,4 @@
-//! Each public call once. Worked examples are in `trials/journal/examples`.
+//! Each public call once. Worked examples are in `trials/journal`.
 
 mod datagram_files;
 mod many;

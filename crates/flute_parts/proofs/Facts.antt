@@ -1,4 +1,4 @@
--- What lists of facts come to, in any order and grouping.
+-- Lemmas on fact_at (specs/Facts): the value of a list of facts, in any order and grouping.
 use Rattle.std.proofs.Common.{◌≡◌, ℕ, zero, suc, ◌<◌, false, cond, List, [], ◌∷◌, ◌++◌, length, get_or, Option, Some, None, refl, sym, ap, ◌∙◌, subst, inl, inr, ◌⊎◌, arith}
 use Rattle.std.specs.Prelude.{Contains}
 use Rattle.std.proofs.lemmas.Bool.{cases_Bool}
@@ -31,7 +31,7 @@ Contains-from [] f m = absurd m
 Contains-from (g ∷ F) f (inl e) = (0, omega arith, sym e)
 Contains-from (g ∷ F) f (inr m) = let c = Contains-from F f m in (suc c.0, omega (arith, c.1), c.2)
 
--- the answer at an address, one fact at a time
+-- the value at an address, one fact at a time
 
 abbrev pub alone : Address → Fact → Option Fact
 alone a f = fact_at (f ∷ []) a
@@ -61,7 +61,7 @@ fact_at-member f (g ∷ F) a (inr m) =
     ∙ ap (joined a (alone a g)) (fact_at-member f F a m)
     ∙ sym (fact_at-cons g F a)
 
--- facts that all stand in G add nothing to it
+-- facts that are all in G add nothing to it
 pub fact_at-members : (F G : List Fact) (a : Address) → ((f : Fact) → Member f F → Member f G) → joined a (fact_at F a) (fact_at G a) ≡ fact_at G a
 unfolding Member
 fact_at-members [] G a h = ap (λ x. joined a x (fact_at G a)) (fact_at-nil a)
@@ -102,7 +102,7 @@ Same-append F G H K p q = record {
       fact_at-append F H a ∙ ap (λ x. joined a x (fact_at H a)) (p.each a) ∙ ap (joined a (fact_at G a)) (q.each a) ∙ sym (fact_at-append G K a);
 }
 
--- the answer of the first joined with that of the second is that of the second
+-- the value of the first joined with that of the second is that of the second
 below : (F G : List Fact) → Below F G → (a : Address) → joined a (fact_at F a) (fact_at G a) ≡ fact_at G a
 below F G h a = sym (fact_at-append F G a) ∙ h.each a
 
@@ -145,7 +145,7 @@ Below-from_Same F G h = above F G (λ a. ap (λ x. joined a x (fact_at G a)) (h.
 
 -- which addresses are named
 
--- some fact of the list stands at the address
+-- some fact of the list is at the address
 abbrev pub Names : List Fact → Address → Type 0
 Names G a = (g : Fact) × Member g G × (address g ≡ a)
 
@@ -166,7 +166,7 @@ fact_at-member_some f F m e =
     joined-some (address f) f (fact_at F (address f))
     (sym (ap (λ x. joined (address f) x (fact_at F (address f))) (alone-here f)) ∙ fact_at-member f F (address f) m ∙ e)
 
--- where no fact stands, the answer is `None`
+-- at an address without a fact, the value is `None`
 pub fact_at-some_named : (F : List Fact) (a : Address) → Names F a ⊎ (fact_at F a ≡ None)
 unfolding Member
 fact_at-some_named [] a = inr (fact_at-nil a)
@@ -190,7 +190,7 @@ Names-below F G h f m = elim (fact_at-some_named G (address f)) [
 pub alone-at : (f : Fact) (a : Address) → address f ≡ a → alone a f ≡ Some f
 alone-at f a e = subst (λ x. alone x f ≡ Some f) e (alone-here f)
 
--- a fact and others, where it stands and elsewhere
+-- a fact and others, at its address and elsewhere
 pub fact_at-here : (f : Fact) (F : List Fact) → fact_at F (address f) ≡ None → fact_at (f ∷ F) (address f) ≡ Some f
 fact_at-here f F e = fact_at-cons f F (address f) ∙ ap (joined (address f) (alone (address f) f)) e ∙ joined-none (address f) (alone (address f) f) ∙ alone-here f
 

@@ -1,4 +1,4 @@
--- What fits, and what that means in words.
+-- Partition::fits: which lengths fit a symbol (specs/SymbolBytes).
 use Rattle.std.proofs.Common.{◌≡◌, ℕ, ◌+◌, ◌-◌, ◌||◌, ◌&&◌, Bool, true, false, List, length, Option, Some, None, refl, sym, ap, ◌∙◌, inl, inr, ◌⊎◌, arith}
 use Rattle.std.specs.Prelude.{slice_get, ◌==◌, ◌↔◌, Contains}
 use Rattle.std.proofs.lemmas.Bool.Decides.{nat_tests}

@@ -1,4 +1,4 @@
--- What two lists of facts come to together, from what each comes to.
+-- The value of two lists of facts together, from the values of each (specs/Facts).
 use Rattle.std.proofs.Common.{◌≡◌, Bool, true, false, cond, ◌&&◌, List, [], ◌∷◌, ◌++◌, Option, Some, None, refl, sym, ap, ◌∙◌, subst, inl, inr, append-nil}
 use Rattle.std.specs.Prelude.{filter}
 use Rattle.std.specs.List.{list_all}
@@ -15,7 +15,7 @@ use Rattle.flute_parts.specs.Equality.{fact_same, fact_itself}
 unfoldable pub joined_fact : Address → Fact → Fact → Fact
 joined_fact a f g = cond (same_fact f g) f (conflict_at a)
 
--- what two answers at an address come to
+-- the join of two values at an address
 abbrev pub joined : Address → Option Fact → Option Fact → Option Fact
 joined a None y = y
 joined a (Some f) None = Some f
@@ -50,6 +50,7 @@ apart-sym f g h = elim (cases_Bool (same_fact g f)) [
   | inr e ↦ e
 ]
 
+-- the join is commutative and associative; a value joined with itself or with none stays
 pub joined_fact-comm : (a : Address) (f g : Fact) → joined_fact a f g ≡ joined_fact a g f
 joined_fact-comm a f g = elim (cases_Bool (same_fact f g)) [
   | inl e ↦ let p = fact_same f g e in joined-same a f g p ∙ p ∙ sym (joined-same a g f (sym p))
@@ -137,7 +138,7 @@ agreed-append a (f ∷ fs) [] = ap (agreed a) (append-nil (f ∷ fs))
 agreed-append a (f ∷ fs) (g ∷ gs) =
     ap (λ b. Some (choice a f b)) (list_all-append (same_fact f) fs (g ∷ gs)) ∙ ap Some (agreed_pair a f g fs gs)
 
--- two lists together come to what they come to, joined
+-- the value of two lists together is the join of their values
 pub fact_at-append : (F G : List Fact) (a : Address) → fact_at (F ++ G) a ≡ joined a (fact_at F a) (fact_at G a)
 unfolding fact_at
 fact_at-append F G a =

@@ -1,4 +1,4 @@
--- Ids listed block after block: where each stands, and which stands at a place.
+-- Ids listed block after block: the place of an id, and the id at a place (specs/Partition).
 use Rattle.std.proofs.Common.{◌≡◌, ℕ, zero, suc, ◌+◌, ◌-◌, ◌*◌, ◌<◌, ◌≤◌, true, cond, List, [], ◌∷◌, ◌++◌, length, get_or, take, map, replicate, Some, None, refl, sym, ap, ◌∙◌, subst, inl, inr, ◌⊎◌, arith, length-append}
 use Rattle.std.specs.Prelude.{flat_map, slice_get}
 use Rattle.std.specs.List.{position_from, range_with_len, enumerate_from}
@@ -53,7 +53,7 @@ block-miss id n a (suc s) k p rest h g = elim (cases_Bool (same_symbol_id id (sy
       ∙ block-miss id n (a + 1) s (k + 1) p rest (λ e l u q. h e (omega (arith, l)) (omega (arith, u)) q) (omega arith)
 ]
 
--- an id stands behind the blocks before its own
+-- the place of an id is after all ids of the blocks before its own
 pub place-hit : (sizes : List ℕ) (n m j k q p : ℕ) → m < length sizes → j < get_or sizes m 0 → n + m ≡ q → k + (total (take m sizes) + j) ≡ p → position_from (same_symbol_id (symbol_id q j)) k (listing n sizes) ≡ Some p
 place-hit [] n m j k q p h l f g = absurd (omega arith)
 place-hit (s ∷ sizes) n zero j k q p h l f g =
@@ -64,7 +64,7 @@ place-hit (s ∷ sizes) n (suc m) j k q p h l f g =
     block-miss (symbol_id q j) n 0 s k (k + s) (listing (n + 1) sizes) (λ e _ _ x. let y : q ≡ n = ap (λ (i : SymbolId). i.sbn) x in omega arith) refl
     ∙ place-hit sizes (n + 1) m j (k + s) q p (omega arith) l (omega arith) (omega arith)
 
--- an id beyond its block, or of no block, stands nowhere
+-- an id beyond its block, or of no block, has no place
 pub place-miss : (sizes : List ℕ) (id : SymbolId) (n k : ℕ) → ((m : ℕ) → m < length sizes → n + m ≡ id.sbn → get_or sizes m 0 ≤ id.esi) → position_from (same_symbol_id id) k (listing n sizes) ≡ None
 place-miss [] id n k h = refl
 place-miss (s ∷ sizes) id n k h =

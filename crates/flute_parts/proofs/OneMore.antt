@@ -1,4 +1,4 @@
--- One more fact at the end: what it names, and where it stands.
+-- One more fact at the end: the names it adds, and its place in the order (specs/Limits).
 use Rattle.std.proofs.Common.{◌≡◌, ℕ, ◌+◌, Bool, true, false, cond, not, List, [], ◌∷◌, ◌++◌, length, Option, Some, None, refl, sym, ap, ◌∙◌, subst, inl, inr, append-nil, length-append, ◌||◌, arith}
 use Rattle.std.specs.List.{cons_option}
 use Rattle.std.specs.declared.cmp.Ordering.{Ordering}
@@ -119,7 +119,7 @@ symbol_of-some key a x e = elim (cases_Bool (same_key a.key key)) [
   | inr t ↦ absurd (none-some x (sym (ap (λ b. cond b (symbol_in a.part) None) t) ∙ e))
 ]
 
--- ---- which stands after which
+-- ---- the order of keys
 
 then-first : (p q : Ordering) → p ≡ Greater → ordering_then p q ≡ Greater
 then-first p q e = ap (λ o. ordering_then o q) e
@@ -133,7 +133,7 @@ less-is_not o l e = cc
 pub equal-is_not : (o : Ordering) → is_eq o ≡ true → o ≡ Greater → ⊥
 equal-is_not o t e = false≢true (sym (ap is_eq e) ∙ t)
 
--- of two that stand after neither other
+-- two values neither of which is greater are equal
 pub tied : (p q : Ordering) → p ≡ ordering_reverse q → (p ≡ Greater → ⊥) → (q ≡ Greater → ⊥) → p ≡ Equal
 tied p Less e h k = absurd (h e)
 tied p Equal e h k = e

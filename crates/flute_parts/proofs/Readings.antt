@@ -1,4 +1,4 @@
--- What a list of facts comes to at an address, in words.
+-- The value of a list of facts at an address, by the facts that the list contains.
 use Rattle.std.proofs.Common.{◌≡◌, true, false, List, [], ◌∷◌, Option, Some, None, refl, sym, ap, ◌∙◌, subst, inl, inr, ◌⊎◌}
 use Rattle.std.specs.Prelude.{Contains}
 use Rattle.std.proofs.lemmas.Bool.{cases_Bool}
@@ -65,7 +65,7 @@ fact_at-two F a f g m n p q h =
     ∙ ap (λ x. joined a (Some x) (fact_at F a)) (joined-apart a f g apart)
     ∙ conflict_stays a (fact_at F a)
 
--- the fact at an address stands there
+-- the value at an address is a fact of that address
 
 conflict-address : (key : Key) (part : Part) → address (conflict_in key part) ≡ record { key = key; part = part }
 conflict-address key InfoPart = refl

@@ -1,4 +1,4 @@
--- Lists of facts at rising addresses.
+-- Lists of facts at rising addresses (specs/Facts: IsRising).
 use Rattle.std.proofs.Common.{◌≡◌, false, List, [], ◌∷◌, Some, None, refl, sym, ap, ◌∙◌, subst, inl, inr}
 use Rattle.std.specs.Prelude.{Contains}
 use Rattle.std.specs.declared.cmp.Ordering.{Ordering}
@@ -15,17 +15,17 @@ use Rattle.flute_parts.specs.Equality.{address_same}
 use Rattle.flute_parts.specs.Totality.{address_total}
 use Rattle.flute_parts.proofs.Facts.{Member, Member-from, fact_at-nil, fact_at-here, fact_at-elsewhere}
 
--- what stands after an address stands after each one before it
+-- facts after an address are after each address before it
 pub StandAfter-before : (a b : Address) (F : List Fact) → address_cmp a b ≡ Less → StandAfter b F → StandAfter a F
 StandAfter-before a b [] l s = tt
 StandAfter-before a b (f ∷ F) l s = (address_total.trans a b (address f) l s.0, StandAfter-before a b F l s.1)
 
--- what rising lists come to
+-- the values of rising lists
 
 before_is_other : (a b : Address) → address_cmp a b ≡ Less → same_address b a ≡ false
 before_is_other a b l = ap is_eq (address_total.antisymm b a ∙ ap ordering_reverse l)
 
--- nothing stands at an address after which all facts stand
+-- facts after an address have no value at it
 pub fact_at-after : (a : Address) (F : List Fact) → StandAfter a F → fact_at F a ≡ None
 fact_at-after a [] s = fact_at-nil a
 fact_at-after a (f ∷ F) s = fact_at-elsewhere f F a (before_is_other a (address f) s.0) ∙ fact_at-after a F s.1
@@ -39,7 +39,7 @@ member-after a f [] s m = absurd m
 member-after a f (g ∷ F) s (inl e) = ap (λ x. address_cmp a (address x)) e ∙ s.0
 member-after a f (g ∷ F) s (inr m) = member-after a f F s.1 m
 
--- a rising list comes to each of its facts where that stands
+-- the value of a rising list at the address of one of its facts is that fact
 fact_at-rising : (F : List Fact) (f : Fact) → IsRising F → Member f F → fact_at F (address f) ≡ Some f
 unfolding Member
 fact_at-rising [] f r m = absurd m
@@ -52,7 +52,7 @@ rising_tells F f r c = fact_at-rising F f r (Member-from F f c)
 pub rising_has_one : (F : List Fact) (f g : Fact) → IsRising F → Contains F f → Contains F g → address f ≡ address g → f ≡ g
 rising_has_one F f g r c d e = same_Some f g (sym (rising_tells F f r c) ∙ ap (fact_at F) e ∙ rising_tells F g r d)
 
--- after the first of two lists, which is in both, they come to the same
+-- after the first fact, which both lists begin with, their values are the same
 rest_same : (f : Fact) (F G : List Fact) → StandAfter (address f) F → StandAfter (address f) G → ((a : Address) → fact_at (f ∷ F) a ≡ fact_at (f ∷ G) a) → (a : Address) → fact_at F a ≡ fact_at G a
 rest_same f F G p q h a = elim (cases_Bool (same_address (address f) a)) [
   | inl t ↦
@@ -61,14 +61,14 @@ rest_same f F G p q h a = elim (cases_Bool (same_address (address f) a)) [
   | inr n ↦ sym (fact_at-elsewhere f F a n) ∙ h a ∙ fact_at-elsewhere f G a n
 ]
 
--- a list that begins later tells nothing of the first fact
+-- a list that begins later has no value at the address of the first fact
 first_alone : (f g : Fact) (F G : List Fact) → IsRising (f ∷ F) → IsRising (g ∷ G) → address_cmp (address f) (address g) ≡ Less → fact_at (f ∷ F) (address f) ≡ fact_at (g ∷ G) (address f) → ⊥
 first_alone f g F G r s l h =
     none-some f (
     sym (fact_at-after (address f) (g ∷ G) (l, StandAfter-before (address f) (address g) G l s.0))
     ∙ sym h ∙ fact_at-first f F r.0)
 
--- two rising lists that come to the same at each address are one
+-- two rising lists with the same value at each address are one
 rising_same : (F G : List Fact) → IsRising F → IsRising G → ((a : Address) → fact_at F a ≡ fact_at G a) → F ≡ G
 rising_same [] [] r s h = refl
 rising_same [] (g ∷ G) r s h = absurd (none-some g (sym (fact_at-nil (address g)) ∙ h (address g) ∙ fact_at-first g G s.0))

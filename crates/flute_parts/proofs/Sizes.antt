@@ -1,4 +1,4 @@
--- The blocks that valid information gives: how many there are, and how long each is.
+-- The blocks of valid information: how many there are, and how long each is (specs/Partition).
 use Rattle.std.proofs.Common.{◌≡◌, ℕ, ◌+◌, ◌-◌, ◌<◌, ◌≤◌, false, cond, [], ◌++◌, length, get_or, replicate, refl, ap, subst, inl, inr, arith}
 use Rattle.std.specs.Prelude.{◌==◌}
 use Rattle.std.proofs.lemmas.Bool.{cases_lt}

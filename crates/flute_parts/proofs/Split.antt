@@ -1,4 +1,4 @@
--- The partition that information gives, from its four numbers.
+-- The partition that information gives, from its four numbers (specs/Split).
 use Rattle.std.proofs.Common.{◌≡◌, ℕ, zero, suc, ◌+◌, ◌-◌, ◌*◌, ◌/◌, ◌%◌, ◌^◌, ◌<◌, ◌≤◌, min, Bool, true, false, cond, List, [], ◌∷◌, ◌++◌, length, get_or, take, replicate, Some, None, refl, sym, ap, ◌∙◌, subst, inl, inr, arith}
 use Rattle.std.proofs.Math.Nat.{div-add-mod', eq-zero-or-pos}
 use Rattle.std.specs.Prelude.{slice_get, ◌==◌, ◌↔◌}
@@ -74,7 +74,7 @@ IsSplit-of i n e l h =
       not_empty = λ p. quotient_pos q r n t parts r_lt n_le;
     }
 
--- what the numbers tell
+-- what follows from the numbers of a partition
 
 module _ (i : Information) (symbols large small length' : ℕ) (s : IsSplit i symbols large small length') where
   pub count-ids : length (ids i) ≡ symbols
@@ -159,7 +159,7 @@ module _ (i : Information) (symbols large small length' : ℕ) (s : IsSplit i sy
       let w : (large + (n - large)) * (length' + 1) ≡ n * (length' + 1) = ap (λ x. x * (length' + 1)) m in
       omega arith
 
--- a symbol of a block stands behind the blocks before its own, and any other stands nowhere
+-- a symbol of a block is after the blocks before its own, and any other has no place
 
 pub place-in : (i : Information) (id : SymbolId) (k : ℕ) → id.esi < get_or (sizes i) id.sbn 0 → total (take id.sbn (sizes i)) + id.esi ≡ k → place i id ≡ Some k
 unfolding place ids

@@ -1,4 +1,4 @@
--- Facts at rising addresses, counted one after another.
+-- Tally: facts at rising addresses, counted one after another (specs/Tally).
 use Rattle.std.proofs.Common.{◌≡◌, ℕ, ◌+◌, ◌<◌, ◌≤◌, Bool, true, false, List, [], ◌∷◌, ◌++◌, length, map, Option, Some, None, refl, sym, ap, ◌∙◌, subst, inl, inr, ◌&&◌, ◌==◌, arith}
 use Rattle.std.specs.List.{last_or}
 use Rattle.std.specs.declared.cmp.Ordering.TheVariants.{Greater}
@@ -25,7 +25,7 @@ use Rattle.flute_parts.proofs.Named.{session_tells, object_tells, symbol_id_tell
 
 -- ---- the last of them
 
--- the last one, and its object, after which none of them stands
+-- the last fact, and its object, after which none of the facts is
 abbrev LastAfter : List Fact → Fact → Type 0
 LastAfter F g = (l : Fact) × Member l F × (last_key F ≡ Some (address l).key) × (key_cmp (address g).key (address l).key ≡ Greater → ⊥)
 
@@ -56,7 +56,7 @@ last_key-snoc F f = last_key-more None F f
 few-from : (n m : ℕ) → (m < n → ⊥) → n ≤ m
 few-from n m h = omega arith
 
--- ---- the address of one more stands after theirs
+-- ---- the address of one more fact is after theirs
 
 module _ (F : List Fact) (f : Fact) (r : IsRising (F ++ f ∷ [])) where
   abbrev session : Session
@@ -169,7 +169,7 @@ module _ (F : List Fact) (f : Fact) (r : IsRising (F ++ f ∷ [])) where
         let n = few_symbols k y (few-from (length (symbols F k)) y (λ m. within (more_symbols k m))) few_there in
         omega (arith, n, l)
 
--- ---- names told apart by their parts
+-- ---- names distinguished by their parts
 
 -- the tests of the parts of two sessions
 abbrev same_parts : Session → Session → Bool

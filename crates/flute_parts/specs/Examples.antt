@@ -120,7 +120,7 @@ limits : (length (sessions known) ≡ 1)
 unfolding sessions objects symbols
 limits = (refl, refl, refl)
 
--- a tally goes on from the object of the last fact
+-- a tally continues from the object of the last fact
 last_objects :
     (last_key [] ≡ None) × (last_key (InfoConflict (key_of (Instance 3)) ∷ known) ≡ Some key)
 last_objects = (refl, refl)

@@ -34,7 +34,7 @@ impl Sender {
         Sender { address }
     }
 
-    /// The sender with this IPv4 address, which stands for the IPv4-mapped address
+    /// The sender with this IPv4 address, as the IPv4-mapped address
     /// `::ffff:a.b.c.d` (RFC 4291, section 2.5.5.2): 65535 * 2^32 + `address`. It takes no memory.
     pub fn v4(address: u32) -> Sender
         ensures { result ≡ 65535 * 2 ^ 32 + address }

@@ -1,4 +1,4 @@
--- What the functions that decode come to, of plain bytes.
+-- What the decoding functions return for plain bytes (src/format/decode.rt).
 use Rattle.flute_journal.proofs.Common.{Address, AllByRecursion, Bool, Err, EntryHead, HeadIn, HasRoom, Information, IsByte, IsId, IsKey, IsKeyIn, IsSplitAt, Key, Kind, List, None, Ok, One, Option, Parses, ReadFault, RestIs, Result, Some, StopsReading, SymbolId, Two, Version, [], ap, append-nil, append_assoc, arith, big_endian, body_fault, byte_of, bytes_checks, bytes_eq, bytes_eq-Decides, bytes_fault, cut, drop, err_from_is_err_and, false, head_bytes, head_size, header_fault, header_in, id_bytes, if◌then◌else◌, in_bytes, in_order, info_bytes, info_in, is_after, is_key, is_name, is_version, key_bytes, key_in, key_size, kind, length, length-append, length-drop, length-take-le, magic, named_in, nil_from_length, not, number_at, rest_checks, rest_fault, rest_size, subst, sym, symbol_address, take, take-append-drop, take_all, take_at, or_failed, true, version_bytes, version_fault, ℕ, ◌++◌, ◌-◌, ◌<◌, ◌^◌, ◌∙◌, ◌∷◌, ◌≡◌, ◌≤◌}
 use Rattle.std.proofs.Math.Seq.{take-append_seam}
 use Rattle.std.proofs.Common.{◌&&◌, ◌==◌, is_eq, is_lt, refl}
@@ -48,7 +48,7 @@ opening_read o bs a b len most s e some e' =
     ∙ ap (λ (x : List ℕ). take 4 o ++ x) (back ∙ take_all 2 (drop 4 o) (omega (arith, len, length-drop 4 o)))
     ∙ take-append-drop 4 o
 
--- the number at the end was read, and nothing stands behind it
+-- the number at the end was read, and no bytes follow it
 pub end_read : (bs a b : List ℕ) (n count : ℕ) → IsSplitAt bs 8 a b → AllByRecursion IsByte bs → length b ≡ 0 → n ≡ big_endian a → n ≡ count → bs ≡ in_bytes 8 count
 end_read bs a b n count s h none is or_failed = cc (joined bs a b 8 s, nil_from_length b none, append-nil a, spelled 8 a s.3 (front_octets bs a b 8 s h), is, or_failed)
 
@@ -112,7 +112,7 @@ key_wrong v k last n bs a b size s wrong =
     stops_here (head_size v k) (body_fault v last k) bs faults.Key (λ h. cc) tt
     (λ r. ap (λ (x : List ℕ). body_fault v last k (x ++ r)) (joined bs a b n s) ∙ ap (body_fault v last k) (append_assoc a b r) ∙ stop (b ++ r))
 
--- what stands behind a key, and the key with it
+-- parsing an entry's head: its key, and then what follows the key
 behind_key : (v : Version) (k : Kind) (last : Option Address) (key : Key) (bs b : List ℕ) (r : Result EntryHead ReadFault) → IsKeyIn v key → bs ≡ key_bytes v key ++ b
     → Parses (rest_size k) (RestIs last k key b) (rest_fault last k key) b r
     → Parses (head_size v k) (λ x. HeadIn v last k x × (head_bytes v x ≡ bs)) (body_fault v last k) bs r
@@ -133,7 +133,7 @@ parsed_at v kind k last key n bs a b r e size s h passes is valid p =
     subst (λ z. Parses (head_size v z) (λ x. HeadIn v last z x × (head_bytes v x ≡ bs)) (body_fault v last z) bs r) (sym e)
     (behind_key v k last key bs b r valid spelled_key p)
 
--- a head that lies in front of more bytes, with a first part of these
+-- a head in front of more bytes: the head with the first n of them is a prefix of the whole
 pub in_front : (head body rest : List ℕ) (n : ℕ) → body ≡ take n rest → (length (head ++ body) ≤ length (head ++ rest)) × (take (length (head ++ body)) (head ++ rest) ≡ head ++ body)
 in_front head body rest n is =
     let whole : head ++ rest ≡ (head ++ body) ++ drop n rest = simp (is, append_assoc, take-append-drop) in
@@ -142,7 +142,7 @@ in_front head body rest n is =
 -- a symbol whose length is at fault
 pub ruleset symbol_faults = (err_from_is_err_and, stops_behind, symbol_comes)
 
--- ---- what stands after an entry of the same object
+-- ---- a head that follows an entry of the same object
 
 pub then-equal : (x o : Ordering) → is_eq x ≡ true → ordering_then x o ≡ o
 then-equal Equal o h = refl

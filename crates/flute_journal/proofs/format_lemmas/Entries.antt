@@ -1,4 +1,4 @@
--- Entries, one behind the other, are spelled in one way.
+-- The bytes of entries determine the entries (specs/Format).
 use Rattle.flute_journal.proofs.Common.{none-some, ◌≡◌, ℕ, ◌^◌, ◌<◌, List, [], ◌∷◌, ◌++◌, length, take, drop, refl, sym, ap, ◌∙◌, append_assoc, arith, cases_lt, le-leb, take_at, drop_at, Information, session, ObjectName, Key, SymbolId, Fact, Info, InfoConflict, Symbol, SymbolConflict, Version, One, Two, in_bytes, sender_bytes, name_bytes, key_bytes, id_bytes, counted_bytes, header_in, entry_in, AllByRecursion, IsKey, HasRoom, IsId, IsInfo, IsFact, IsFactIn}
 use Rattle.flute_journal.specs.Format.{sender_size}
 use Rattle.flute_journal.proofs.Numbers.{in_bytes-injective}
@@ -9,7 +9,7 @@ make_key a s o = record { session = session a s; object = o }
 abbrev pub make_id : ℕ → ℕ → SymbolId
 make_id n i = record { sbn = n; esi = i }
 
--- what stands behind the sender
+-- the bytes of a key after its sender determine the TSI and the object
 name-injective : (a b : Key) (x y : List ℕ) → IsKey a → IsKey b → name_bytes a ++ x ≡ name_bytes b ++ y → (a.session.tsi ≡ b.session.tsi) × (a.object ≡ b.object) × (x ≡ y)
 name-injective a b x y p q e = grind (arith, append_assoc, in_bytes-injective)
 
@@ -27,7 +27,7 @@ id-injective a b x y p q e = grind (arith, append_assoc, in_bytes-injective)
 pub length_fits : (i : Information) → IsInfo i → i.transfer_length < 2 ^ 48
 length_fits i p = grind (arith, cases_lt, le-leb, none-some)
 
--- bytes behind their number are read in one way, whatever follows them
+-- bytes with their number in front determine these bytes, whatever follows them
 pub counted-injective : (a b x y : List ℕ) → length a < 2 ^ 16 → length b < 2 ^ 16 → counted_bytes a ++ x ≡ counted_bytes b ++ y → (a ≡ b) × (x ≡ y)
 counted-injective a b x y p q e =
     let grouped = sym (append_assoc (in_bytes 2 (length a)) a x) ∙ e ∙ append_assoc (in_bytes 2 (length b)) b y in

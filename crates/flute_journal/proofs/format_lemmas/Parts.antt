@@ -1,4 +1,4 @@
--- What was spelled passes the checks, part by part.
+-- Spelled bytes pass the checks of specs/Faults, part by part.
 use Rattle.flute_journal.proofs.Common.{Address, AllByRecursion, Before, Bool, Check, Fact, File, HasRoom, Instance, IsBody, IsByte, IsFact, IsFactIn, IsId, IsKey, IsObjectName, IsTrue, IsWithin, Key, Kind, List, None, ObjectName, One, Option, Some, Symbol, SymbolId, Two, Version, [], ap, append_assoc, arith, at_place, big_endian, body, body_fault, byte_of, bytes_checks, bytes_eq, bytes_fault, cut, cut_fault, drop, drop-drop, drop_at, end_checks, entry_in, eq-eqb, eqb, false, first_fault, head_size, header_fault, header_in, id_bytes, id_checks, id_in, in_bytes, in_order, info_bytes, info_checks, info_fault, info_in, is_after, is_key, is_kind, is_name, is_object, is_version, key_bytes, key_in, fact_key, key_size, le-leb, le-ltb, length, length-append, length-bytes_high_first, length-drop, length-take, length-take-le, lt-leb, lt-ltb, ltb, magic, name_bytes, named_in, ne_eqb, next_fault, not, number_at, object_bytes, object_in, refl, rest_bytes, rest_checks, rest_fault, sender_bytes, sender_size, slice_get, spelling, suc, sym, symbol_address, take, take-append-drop, take_all, take_at, true, version_bytes, version_fault, version_in, zero, ℕ, ◌++◌, ◌<◌, ◌^◌, ◌∙◌, ◌∷◌, ◌≡◌, ◌≤◌}
 use Rattle.flute_journal.proofs.{Numbers.{number-in_bytes, in_bytes-injective, spelled, octets-take, octets-drop, spelled_pair}, format_lemmas.Entries.{key-injective, id-injective, make_id, make_key}}
 use Rattle.flute_journal.specs.declared.format.Kind.TheVariants as kinds
@@ -140,7 +140,7 @@ pub header_passes : (v : Version) (r : List ℕ) → header_fault (header_in v +
 header_passes One r = opening_comes magic is_version magic (version_bytes One) r refl refl refl
 header_passes Two r = opening_comes magic is_version magic (version_bytes Two) r refl refl refl
 
--- the version that a header tells
+-- the version that a header contains
 pub version-told : (v : Version) (r : List ℕ) → version_in (header_in v ++ r) ≡ v
 version-told One r = refl
 version-told Two r = refl
@@ -162,7 +162,7 @@ end_counts count bs r len e = simp (end_comes, first-pass, eq-eqb)
 pub id_reads : (id : SymbolId) → IsId id → id_in (id_bytes id) ≡ id
 id_reads id p = grind (arith, number-in_bytes, make_id)
 
--- the checks come to the order, at the address of the id
+-- the checks of an id are one check: the order of its address
 pub id_comes : (last : Option Address) (key : Key) (id : SymbolId) (r : List ℕ) (more : List Check) → IsId id
     → first_fault (id_checks last key (id_bytes id ++ r) more) ≡ first_fault (in_order last (symbol_address key id) ∷ more)
 id_comes last key id r more p = grind (arith, first-pass, cut-passes, take_at, id_reads)
@@ -170,7 +170,7 @@ id_comes last key id r more p = grind (arith, first-pass, cut-passes, take_at, i
 pub order_passes : (last : Option Address) (a : Address) (more : List Check) → is_after last a ≡ true → first_fault (in_order last a ∷ more) ≡ first_fault more
 order_passes last a more e = first-pass (in_order last a) more (ap not e)
 
--- bytes behind an id in order
+-- after an id in order, the fault is that of the bytes which follow it
 pub symbol_comes : (last : Option Address) (key : Key) (id : SymbolId) (r : List ℕ) → IsId id → is_after last (symbol_address key id) ≡ true
     → rest_fault last kinds.Symbol key (id_bytes id ++ r) ≡ bytes_fault r
 symbol_comes last key id r p e =
@@ -178,12 +178,12 @@ symbol_comes last key id r p e =
     ∙ order_passes last (symbol_address key id) (bytes_checks (drop 4 (id_bytes id ++ r))) e
     ∙ ap (λ (x : List ℕ). first_fault (bytes_checks x)) (drop_at (id_bytes id) r 4 refl)
 
--- what stands behind the kind and the key of an entry
+-- the fault of what follows the kind and the key of an entry
 
 pub key_comes : (v : Version) (last : Option Address) (k : Kind) (key : Key) (r : List ℕ) → IsKey key → HasRoom v key.session → body_fault v last k (key_bytes v key ++ r) ≡ rest_fault last k key r
 key_comes v last k key r p fits = key_passes v key r (λ x y. rest_checks last (byte_of k) x y) p fits
 
--- the bytes of a symbol behind the fixed part of its entry
+-- the fault of a symbol's bytes after the fixed part of its entry
 pub symbol_cut : (v : Version) (last : Option Address) (key : Key) (id : SymbolId) (n : ℕ) (r : List ℕ) → IsKey key → HasRoom v key.session → IsId id
     → IsTrue (is_after last (symbol_address key id)) → 0 < n → n < 2 ^ 16
     → body_fault v last kinds.Symbol ((key_bytes v key ++ (id_bytes id ++ in_bytes 2 n)) ++ r) ≡ cut_fault n r
@@ -196,7 +196,7 @@ symbol_cut v last key id n r kv fits iv e some small =
     ∙ length_passes (in_bytes 2 n) r refl (omega (arith, size, some))
     ∙ ap (λ k. cut_fault k r) size
 
--- what stands behind the kind of an entry within the bound
+-- within the bound, the fault of an entry is that of what follows its kind
 pub body_comes : (limit count : ℕ) (v : Version) (last : Option Address) (k : Kind) (r : List ℕ) → count < limit
     → next_fault (at_place v count last) limit (byte_of k ∷ r) ≡ body_fault v last k r
 body_comes limit count v last k r few = grind (arith, first-pass, lt-leb)
@@ -205,7 +205,7 @@ pub entry_comes : (limit count : ℕ) (v : Version) (last : Option Address) (k :
     → next_fault (at_place v count last) limit ((byte_of k ∷ key_bytes v key) ++ r) ≡ rest_fault last k key r
 entry_comes limit count v last k key r few p fits = body_comes limit count v last k (key_bytes v key ++ r) few ∙ key_comes v last k key r p fits
 
--- What holds nothing behind a whole value.
+-- Bytes with nothing after a whole value (specs/Input: IsWithin): they are too short for more.
 
 pub within-short : {T : Type 0} (spelling : T → List ℕ) (IsValid : T → Type 0) (n : ℕ) (p : List ℕ)
     → ((x : T) → IsValid x → n ≤ length (spelling x)) → length p ≤ n → IsWithin spelling IsValid p

@@ -1,5 +1,11 @@
 -- The bytes of an entry of a symbol of the same file as the entry before it.
-use Rattle.flute_journal.proofs.Common.{◌≡◌, ℕ, ◌<◌, List, ◌∷◌, ◌++◌, length, take, drop, get_or, Option, Some, None, IfSome, sym, ap, ◌∙◌, arith, length-take-le, length-drop, take-append-drop, AllByRecursion, IsByte, IsKey, Key, Address, SymbolId, Two, HeadIn, RestIs, head_bytes, big_endian, in_bytes, key_bytes, name_bytes, object_bytes, is_after, true, refl, key_size, ObjectName}
+use Rattle.flute_journal.proofs.Common.{◌≡◌, ℕ, ◌<◌, List, ◌∷◌, ◌++◌, length}
+use Rattle.flute_journal.proofs.Common.{take, drop, get_or, Option, Some, None, IfSome, sym, ap}
+use Rattle.flute_journal.proofs.Common.{◌∙◌, arith, length-take-le, length-drop}
+use Rattle.flute_journal.proofs.Common.{take-append-drop, AllByRecursion, IsByte, IsKey, Key}
+use Rattle.flute_journal.proofs.Common.{Address, SymbolId, Two, HeadIn, RestIs, head_bytes}
+use Rattle.flute_journal.proofs.Common.{big_endian, in_bytes, key_bytes, name_bytes, object_bytes}
+use Rattle.flute_journal.proofs.Common.{is_after, true, refl, key_size, ObjectName}
 use Rattle.flute_journal.specs.Format.{sender_size}
 use Rattle.std.proofs.Math.Seq.{drop-cons}
 use Rattle.std.proofs.Common.{is_lt}
@@ -10,16 +16,22 @@ use Rattle.flute_parts.specs.declared.address.Part.{Part}
 use Rattle.flute_parts.specs.declared.object_key.ObjectName.TheVariants.{Instance, File}
 use Rattle.flute_journal.specs.declared.format.EntryHead.TheVariants.{Symbol}
 use Rattle.flute_journal.specs.declared.format.Kind.TheVariants as kinds
-use Rattle.flute_journal.proofs.{Numbers.{spelled, octets-take, octets-drop}, format_lemmas.Decoded.{then-equal}, format_lemmas.Entries.{room_two}}
+use Rattle.flute_journal.proofs.{
+  Numbers.{spelled, octets-take, octets-drop},
+  format_lemmas.Decoded.{then-equal},
+  format_lemmas.Entries.{room_two},
+}
 
-file_bytes_of : (o : ObjectName) (n : ℕ) → n ≡ toi_of o → 0 < n → 1 ∷ in_bytes 14 n ≡ object_bytes o
+file_bytes_of : (o : ObjectName) (n : ℕ) → n ≡ toi_of o → 0 < n
+    → 1 ∷ in_bytes 14 n ≡ object_bytes o
 file_bytes_of (Instance k) n is some = absurd (omega (arith, is, some))
 file_bytes_of (File k) n is some = ap (λ x. 1 ∷ in_bytes 14 x) is
 
 -- bytes with the numbers of a file are those that name it
-pub file_named : (key : Key) (bs : List ℕ) (tsi toi : ℕ) → length bs ≡ 21 → AllByRecursion IsByte bs
-    → get_or bs 6 0 ≡ 1 → tsi ≡ big_endian (take 6 bs) → tsi ≡ key.session.tsi
-    → toi ≡ big_endian (drop 7 bs) → toi ≡ toi_of key.object → 0 < toi → name_bytes key ≡ bs
+pub file_named : (key : Key) (bs : List ℕ) (tsi toi : ℕ) → length bs ≡ 21
+    → AllByRecursion IsByte bs → get_or bs 6 0 ≡ 1 → tsi ≡ big_endian (take 6 bs)
+    → tsi ≡ key.session.tsi → toi ≡ big_endian (drop 7 bs) → toi ≡ toi_of key.object
+    → 0 < toi → name_bytes key ≡ bs
 file_named key bs tsi toi len oct one is own number object some =
     let front : in_bytes 6 key.session.tsi ≡ take 6 bs =
     ap (in_bytes 6) (sym own ∙ is)
@@ -30,7 +42,9 @@ file_named key bs tsi toi len oct one is own number object some =
     let tagged : 1 ∷ drop 7 bs ≡ drop 6 bs =
     ap (λ x. x ∷ drop 7 bs) (sym one) ∙ sym (drop-cons bs 6 0 (omega (arith, len))) in
     let named : object_bytes key.object ≡ drop 6 bs =
-    sym (file_bytes_of key.object toi object some) ∙ ap (λ (x : List ℕ). 1 ∷ x) back ∙ tagged in
+    sym (file_bytes_of key.object toi object some)
+    ∙ ap (λ (x : List ℕ). 1 ∷ x) back
+    ∙ tagged in
     (λ i. front i ++ named i) ∙ take-append-drop 6 bs
 
 -- a part after that of an address is after it in the same object
@@ -53,9 +67,9 @@ next_read last bs a b (Some s) spelled valid is h =
 
 -- bytes that spell the sender and the name of a key are those of the key
 pub key_named : (key : Key) (bs front back : List ℕ) (n sender : ℕ) → n ≡ sender_size Two
-    → length bs ≡ key_size Two → AllByRecursion IsByte bs → front ≡ take n bs → back ≡ drop n bs
-    → sender ≡ big_endian front → sender ≡ key.session.sender → name_bytes key ≡ back
-    → key_bytes Two key ≡ bs
+    → length bs ≡ key_size Two → AllByRecursion IsByte bs → front ≡ take n bs
+    → back ≡ drop n bs → sender ≡ big_endian front → sender ≡ key.session.sender
+    → name_bytes key ≡ back → key_bytes Two key ≡ bs
 key_named key bs front back n sender size len oct f b is own named =
     let m = sender_size Two in
     let first : front ≡ take m bs = f ∙ ap (λ k. take k bs) size in

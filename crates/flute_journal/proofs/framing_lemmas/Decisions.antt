@@ -1,7 +1,7 @@
--- Bytes are a framed file, or they stop at a fault.
+-- Bytes are a framed file, or they stop at a fault: this is decided (specs/Framing).
 use Rattle.flute_journal.proofs.{Common.{◌≡◌, ℕ, zero, suc, ◌<◌, ◌≤◌, List, [], ◌∷◌, ◌++◌, length, drop, Option, Some, None, IsTrue, inl, inr, ◌⊎◌, refl, sym, ap, ◌∙◌, subst, arith, append_assoc, append-nil, length-append, flat_map_more, AllByRecursion, IsByte, ReadFault, Framing, AreItems, IsWhole, Stops, in_header, after_items, up_to_end}, Each.{all_more, all_split}, Numbers.{octets-drop}, framing_lemmas.Framed.{IsSound}}
 
--- what stands at a place where the bytes have no fault: the end, or an item
+-- bytes without a fault at a place: they are the end, or begin with an item
 pub data Next {V P T : Type 0} (framing : Framing V P T) (limit : ℕ) (place : P) (rest : List ℕ) :
     Type 0 where
   at_end : rest ≡ framing.frame.end (framing.count place) → Next framing limit place rest
@@ -24,11 +24,12 @@ module _ {V P T : Type 0} {framing : Framing V P T} (sound : IsSound framing)
     are_items : AreItems framing.frame limit xs
     whole : bytes ≡ up_to_end framing.frame are_items.told xs ++ rest
 
-  -- what is decided of the bytes behind more items
+  -- the decision for the bytes after more items
   abbrev Again : ℕ → List ℕ → List ℕ → Type 0
   Again limit bytes rest = (xs : List V) (more : List ℕ) → length more < length rest
       → Begins limit bytes xs more → Decided framing limit bytes
 
+  -- after these items: without a fault the bytes are the end, or one item more is read
   goes_on : (limit : ℕ) (bytes : List ℕ) (xs : List V) (rest : List ℕ) → Again limit bytes rest
       → (b : Begins limit bytes xs rest) (place : P)
       → place ≡ framing.place_after b.are_items.told xs → Next framing limit place rest
@@ -76,6 +77,7 @@ module _ {V P T : Type 0} {framing : Framing V P T} (sound : IsSound framing)
             (flat_map_more (framing.frame.item t) (framing.frame.header t) xs x);
       })
 
+  -- after these items the bytes are a file, or stop at this fault
   stops_or : (limit : ℕ) (bytes : List ℕ) (xs : List V) (rest : List ℕ) → Again limit bytes rest
       → (b : Begins limit bytes xs rest) (o : Option ReadFault)
       → framing.next_fault (framing.place_after b.are_items.told xs) limit rest ≡ o
@@ -93,6 +95,7 @@ module _ {V P T : Type 0} {framing : Framing V P T} (sound : IsSound framing)
       let place = framing.place_after b.are_items.told xs in
       goes_on limit bytes xs rest again b place refl (found limit place rest b.octets h)
 
+  -- the decision, item by item, as many as there are bytes
   decides : (fuel limit : ℕ) (bytes : List ℕ) (xs : List V) (rest : List ℕ) → length rest ≤ fuel
       → Begins limit bytes xs rest → Decided framing limit bytes
   decides zero limit bytes xs rest le b =
@@ -101,6 +104,7 @@ module _ {V P T : Type 0} {framing : Framing V P T} (sound : IsSound framing)
       stops_or limit bytes xs rest
       (λ ys more few c. decides fuel limit bytes ys more (omega (arith, few, le)) c) b _ refl
 
+  -- the decision from the header on
   from_header : (limit : ℕ) (bytes : List ℕ) → AllByRecursion IsByte bytes → (o : Option ReadFault)
       → framing.header_fault bytes ≡ o → Decided framing limit bytes
   from_header limit bytes oct (Some f) e = inr ([], (f, in_header refl e))

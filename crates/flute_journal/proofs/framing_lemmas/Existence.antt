@@ -1,4 +1,4 @@
--- What stands where bytes have no fault: they are a journal, or stop at one.
+-- Bytes without a fault are those of a journal; others stop at exactly one fault (specs/Framing).
 use Rattle.flute_journal.proofs.{Common.{Address, AllByRecursion, Bool, Fact, HasRoom, Info, InfoConflict, InfoFault, IsByte, IsFact, IsId, IsKey, IsKeyIn, IsRising, IsSymbol, IsTrue, Key, Kind, List, None, One, Option, ReadFault, Some, journal_framing, Symbol, SymbolConflict, Two, Version, [], address, ap, append_assoc, arith, at_place, big_endian, body, body_fault, byte_of, bytes_eq, bytes_eq-Decides, cases_Bool, drop, drop-drop, end_checks, entry_checks, eqb, eqb-false, eqb-true, false, first_fault, header_fault, header_in, id_bytes, id_in, if◌then◌else◌, in_bytes, info_bytes, info_checks, info_fault, info_in, inl, inr, is_after, is_key, is_kind, is_name, is_version, key_bytes, key_in, fact_key, key_size, kind, last_of, leb, leb-false, leb-true, length, length-drop, length-take, length-take-le, ltb, ltb-false, ltb-true, magic, named_in, next_fault, none-some, not, number_at, opening_fault, pow-le-pow_right, refl, rest_bytes, rest_fault, subst, suc, sym, counted_bytes, take, take-append-drop, take_all, true, version_bytes, version_fault, version_in, zero, ℕ, ◌&&◌, ◌++◌, ◌<◌, ◌^◌, ◌∙◌, ◌∷◌, ◌≡◌, ◌≤◌}, Numbers.{octets-drop, number-below, octets-take, spelled, spelled_pair}, merge_lemmas.MergeRising.{Rises, rising-rises, rises-rising}, framing_lemmas.Decisions.{Next, at_end, at_item}, format_lemmas.Parts.{body_comes, key_spelled, info_spelled}}
 use Rattle.std.proofs.Common.{◌||◌}
 use Rattle.flute_journal.specs.Format.{sender_size}
@@ -66,7 +66,7 @@ id_spelled bs len oct =
 none_info : (o : Option InfoFault) → first_fault (info_checks o) ≡ None → o ≡ None
 none_info o e = grind (arith, none-some)
 
--- Behind a key.
+-- What follows the key of an entry.
 
 pub record RestFound (last : Option Address) (k : Kind) (key : Key) (bytes : List ℕ) : Type 0 where
   pub fact : Fact
@@ -83,6 +83,7 @@ split_at n r x e = sym (take-append-drop n r) ∙ ap (λ (y : List ℕ). y ++ dr
 front_length : (n : ℕ) (r : List ℕ) → ltb (length r) n ≡ false → length (take n r) ≡ n
 front_length n r e = length-take-le n r (ltb-false (length r) n e)
 
+-- without a fault these bytes are those of a symbol
 symbol_found : (t : List ℕ) → AllByRecursion IsByte t → ltb (length t) 2 ≡ false
     → eqb (big_endian (take 2 t)) 0 ≡ false
     → ltb (length (drop 2 t)) (big_endian (take 2 t)) ≡ false
@@ -109,6 +110,7 @@ symbol_found t oct two some fits =
           ∙ sym (append_assoc (in_bytes 2 (length b)) b more),
     )
 
+-- without a fault they are those of the rest of an entry of this kind
 pub rest_found : (last : Option Address) (k : Kind) (key : Key) (r : List ℕ) → IsKey key
     → AllByRecursion IsByte r → rest_fault last k key r ≡ None → RestFound last k key r
 rest_found last kinds.Info key r kv oct e =
@@ -186,7 +188,7 @@ rest_found last kinds.SymbolConflict key r kv oct e =
       in_order = is_true _ o.0;
     }
 
--- Behind entries.
+-- What follows some entries: the end, or an entry.
 
 kind_at : (n : ℕ) → 1 ≤ n → n ≤ 4 → (k : Kind) × (n ≡ byte_of k)
 kind_at zero p q = absurd (omega (arith, p))
@@ -196,6 +198,7 @@ kind_at (suc (suc (suc zero))) p q = (kinds.Symbol, refl)
 kind_at (suc (suc (suc (suc zero)))) p q = (kinds.SymbolConflict, refl)
 kind_at (suc (suc (suc (suc (suc n))))) p q = absurd (omega (arith, q))
 
+-- without a fault these bytes are the end
 end_found : (limit count : ℕ) (v : Version) (last : Option Address) (b : ℕ) (rest : List ℕ)
     → b ≡ 255 → AllByRecursion IsByte rest → first_fault (end_checks count rest) ≡ None
     → Next journal_framing limit (at_place v count last) (b ∷ rest)
@@ -211,6 +214,7 @@ end_found limit count v last b rest is oct e =
     at_end (ap (λ x. x ∷ rest) is ∙ ap (λ (x : List ℕ). 255 ∷ x)
     (sym (spelled 8 rest len oct) ∙ ap (in_bytes 8) told))
 
+-- without a fault they are an entry of this kind
 entry_found : (limit count : ℕ) (v : Version) (last : Option Address) (k : Kind) (rest : List ℕ)
     → count < limit → AllByRecursion IsByte rest → body_fault v last k rest ≡ None
     → Next journal_framing limit (at_place v count last) (byte_of k ∷ rest)
@@ -247,6 +251,7 @@ kind_found limit count v last b rest e oct h whole =
     subst (λ x. Next journal_framing limit (at_place v count last) (x ∷ rest)) (sym k.1)
     (entry_found limit count v last k.0 rest few oct none)
 
+-- without a fault, what follows some entries is the end or begins with an entry
 pub next_found : (limit count : ℕ) (v : Version) (last : Option Address) (bytes : List ℕ)
     → AllByRecursion IsByte bytes → next_fault (at_place v count last) limit bytes ≡ None
     → Next journal_framing limit (at_place v count last) bytes
@@ -261,7 +266,7 @@ next_found limit count v last (b ∷ rest) oct e = elim (cases_Bool (eqb b 255))
       ]
 ]
 
--- bytes that have no fault in their first six begin with the magic number and a version that is known
+-- bytes without a fault in their first six begin with the magic number and a known version
 magic_is : (m : List ℕ) (is_known : List ℕ → Bool) (y : List ℕ) → version_fault m is_known y ≡ None
     → (y ≡ m ++ (take 2 (drop 4 y) ++ drop 6 y)) × (is_known (take 2 (drop 4 y)) ≡ true)
 magic_is m is_known y e =
@@ -301,7 +306,7 @@ version_is t e = elim (cases_Bool (bytes_eq t (version_bytes One))) [
       (λ (b : Bool). version_bytes (if b then One else Two)) (sym other)
 ]
 
--- a header that has no fault is that of the version that it tells
+-- a header without a fault is the header of the version that it contains
 pub header_is : (y : List ℕ) → header_fault y ≡ None → y ≡ header_in (version_in y) ++ drop 6 y
 header_is y e =
     let m = magic_is magic is_version y e in

@@ -39,6 +39,7 @@ record_passes limit count d more v few =
       cut-passes,
     )
 
+-- Datagram files that begin like others, and the fault at which they stop.
 behind_header : (x y : List ℕ) → file_header ++ x ≡ file_header ++ y → x ≡ y
 behind_header x y e = ap (drop 6) e
 
@@ -139,7 +140,7 @@ next_record limit count rest oct n is few two whole small =
           octets-take n (drop 2 rest) (octets-drop 2 rest oct);
     }) refl few
 
--- what stands behind so many records where the bytes have no fault
+-- after so many records, bytes without a fault are the end or begin with a record
 pub record_found : (limit count : ℕ) (rest : List ℕ) → AllByRecursion IsByte rest
     → record_fault limit count rest ≡ None → Next file_framing limit count rest
 record_found limit count [] oct e = at_end refl

@@ -1,4 +1,4 @@
--- What holds of framed files, and what the calls of a reader come to.
+-- Lemmas on framed files, and what the calls of a reader give (specs/Framing).
 use Rattle.flute_journal.proofs.{Common.{◌≡◌, ℕ, ◌+◌, ◌<◌, List, [], ◌∷◌, ◌++◌, length, drop, drop_at, Option, Some, None, Result, Ok, Err, IsTrue, true, refl, ap, ◌∙◌, subst, arith, inr, IfSome, IfErr, Consumes, Consumes-nil, Consumes-trans, ReadFault, IsFaultOf, StaysWithin}, framing_lemmas.ReadsUpTo.{asked, fault_up_to, fault_up_to-behind}}
 use Rattle.flute_journal.specs.declared.fault.ReadFault.TheVariants as faults
 use Rattle.flute_journal.specs.{declared.readers.reader_state.ReaderState.{ReaderState}, declared.readers.reader_state.ReaderState.TheVariants.{Header, Items, Ended, Failed}, Input.{Advances}, Framing.{Framing, or_else, is_open, ReadsNext, ReadsFrom, count_at, place_at, end_bytes, fault_from, state_after, Gives, GivesItem, in_opening, in_item}}
@@ -35,6 +35,7 @@ fault-first u v p q faults.Read some h = (h.0, h.1, ap (λ o. or_else o (q h.0))
 fault-first u v p q faults.OutOfMemory some h = absurd (some refl)
 fault-first u v p q f some h = known_header u p q f h
 
+-- What a call gives, in each state: the end, an item, or a fault.
 module _ {V P T : Type 0} (framing : Framing V P T) where
   pub reads_on : (limit : ℕ) (told : T) (place : P) (u v : Option (List ℕ))
       (r : Result (Option V) ReadFault) → ReadsNext framing limit place u v r
@@ -93,6 +94,7 @@ module _ {V P T : Type 0} {framing : Framing V P T} (sound : IsSound framing) wh
     is_part = in_opening (omega (arith, a.2, sound.header_size told));
   }
 
+  -- the fault of the bytes of a header, and of what follows it
   header_comes : (limit : ℕ) (told : T) (r : List ℕ)
       → fault_from framing Header limit (framing.frame.header told ++ r) ≡ framing.next_fault
       (framing.place_after told []) limit r

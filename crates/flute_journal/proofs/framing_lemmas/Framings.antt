@@ -1,4 +1,4 @@
--- Journals and datagram files are framed files.
+-- Journals and datagram files are framed files: IsSound of both framings (framing_lemmas/Framed).
 use Rattle.flute_journal.proofs.{Common.{◌≡◌, List, [], ◌∷◌, ◌++◌, Option, Some, None, refl, sym, length-append, Address, address, Fact, Version, at_place, before, last_of, journal_framing, file_framing, file_header}, framing_lemmas.Framed.{IsSound}, format_lemmas.Parts.{header_passes, version-told}, framing_lemmas.Existence.{header_is, opening_is, rising_more}, framing_lemmas.Files.{file_header_passes}}
 use Rattle.flute_journal.specs.JournalFraming.{after}
 

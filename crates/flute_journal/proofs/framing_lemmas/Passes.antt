@@ -1,4 +1,4 @@
--- What was spelled has no fault, and where bytes that begin like a journal stop.
+-- Spelled bytes have no fault, and where bytes stop that begin like a journal (specs/Faults).
 use Rattle.flute_journal.proofs.{Common.{Address, AllByRecursion, Before, Below, Fact, Info, InfoConflict, Information, IsFact, IsFactIn, IsInfo, IsRising, IsSymbol, JournalIn, Kind, List, None, Option, ReadFault, Same, Same-append, Same-itself, Same-twice, Some, Stops, journal_framing, Symbol, SymbolConflict, Version, [], address, ap, append_assoc, arith, at_place, before, after_items, byte_of, bytes_fault, end, entry_in, flat_map, without_end_in, header_fault, header_in, id_bytes, in_bytes, in_header, info_address, info_bytes, info_in, is_after, key_bytes, fact_key, last_of, length, length-append, next_fault, none-some, refl, rest_bytes, rest_fault, same_Some, spelling_in, subst, sym, symbol_address, counted_bytes, true, ℕ, ◌++◌, ◌<◌, ◌^◌, ◌∙◌, ◌∷◌, ◌≡◌, ◌≤◌}, framing_lemmas.Sequences.{one_stop, stop_at_bound}, merge_lemmas.MergeBytes.{without_end-both, journal_parts}, Each.{all_split}, Numbers.{number-in_bytes}, merge_lemmas.MergeRising.{Rises, rising-rises}, format_lemmas.Entries.{length_fits, entry_injective, not_end, header-injective}, format_lemmas.Parts.{id_comes, order_passes, symbol_comes, entry_comes, too_many, end_counts, header_passes, key_valid, first-pass, cut-passes, info_passes, length_passes}}
 use Rattle.flute_journal.specs.declared.format.Kind.TheVariants as kinds
 use Rattle.flute_journal.specs.declared.fault.ReadFault.TheVariants as faults
@@ -114,7 +114,7 @@ Below-more F G =
     subst (λ (l : List Fact). Same l (F ++ G)) (append_assoc F F G)
     (Same-append (F ++ F) F G G (Same-twice F) (Same-itself G))
 
--- the entries that a journal begins with tell nothing more than its facts
+-- a journal that begins with these entries contains their facts
 pub without_end-below : (v w : Version) (bytes : List ℕ) (F es : List Fact) (rest : List ℕ)
     → JournalIn v bytes F → AllByRecursion (IsFactIn w) es → bytes ≡ without_end_in w es ++ rest
     → Below es F
@@ -127,7 +127,7 @@ without_end-below v w bytes F es rest journal p e =
     let moved = Same-append es es F all (record { each = λ a. refl }) j.collects.same in
     record { each = λ a. moved.each a ∙ low.each a ∙ sym (j.collects.same.each a) }
 
--- bytes stop at one fault, behind one list of entries
+-- the entries before a fault, and the fault, are determined by the bytes
 pub stops_one : (bytes : List ℕ) (limit : ℕ) (es fs : List Fact) (f g : ReadFault)
     → Stops journal_framing bytes limit es f → Stops journal_framing bytes limit fs g
     → (es ≡ fs) × (f ≡ g)

@@ -1,8 +1,8 @@
--- Faults of bytes of which a front was read.
+-- The fault of bytes of which a front was read (specs/Input: IsFaultUpTo).
 use Rattle.flute_journal.proofs.Common.{◌≡◌, ℕ, ◌+◌, ◌≤◌, Bool, true, false, List, [], ◌++◌, length, Option, Some, None, Result, Ok, Err, inl, inr, refl, sym, ap, ◌∙◌, subst, append_assoc, arith, length-append, append-nil, IfSome, IfErr, Consumes, Consumes-trans, ReadFault, Fails, ReadsUpTo, IsFaultOf, IsFaultUpTo, Reads, times_failed, left_by, or_failed, IsOfBytes, StopsReading, Parses, AsksMemory, IsSettled, Consumes-nil, cut, cut_fault, first_fault, ◌∷◌}
 use Rattle.flute_journal.specs.declared.fault.ReadFault.TheVariants as faults
 
--- what stands behind what was read has the fault of the whole
+-- the whole has the fault of the part after the bytes that were read
 pub fault-behind : (u v w : Option (List ℕ)) (front : List ℕ) (whole part : List ℕ → Option ReadFault) (f : ReadFault)
     → Consumes u v front → ((r : List ℕ) → whole (front ++ r) ≡ part r) → IsFaultOf part v w f → IsFaultOf whole u w f
 fault-behind u v w front whole part faults.Read took e h = (front ++ h.0, Consumes-trans u v w front h.0 took h.1, e h.0 ∙ h.2)
@@ -51,7 +51,7 @@ asks_seen fault u v x same begins none =
 pub asked : (last : List ℕ) (fault : List ℕ → Option ReadFault) (u v : Option (List ℕ)) (f : ReadFault) → IsFaultUpTo last fault u v f → f ≡ faults.OutOfMemory → AsksMemory fault u v
 asked last fault u v f h e = subst (IsFaultUpTo last fault u v) e h
 
--- the same where the source may fail behind the last bytes
+-- the same, where the source may fail after the last bytes
 pub fault_up_to-behind : (u v w : Option (List ℕ)) (front last : List ℕ) (whole part : List ℕ → Option ReadFault) (f : ReadFault)
     → Consumes u v front → ((r : List ℕ) → whole (front ++ r) ≡ part r) → IsFaultUpTo last part v w f → IsFaultUpTo (front ++ last) whole u w f
 fault_up_to-behind u v w front last whole part faults.Read took e h = grind (arith, fault-behind, Consumes-trans)
@@ -76,7 +76,7 @@ pub stops_here : (n : ℕ) (whole : List ℕ → Option ReadFault) (front : List
     → ((r : List ℕ) → whole (front ++ r) ≡ Some f) → StopsReading n whole front f
 stops_here n whole front f other bytes h = record { of_bytes = bytes; short = λ e. absurd (other e); whole = λ r e. h r }
 
--- what stands behind their first part has the fault
+-- if the bytes after their prefix stop reading, the whole stops it with the same fault
 pub stops_behind : (n m : ℕ) (whole part : List ℕ → Option ReadFault) (front a b : List ℕ) (f : ReadFault) → front ≡ a ++ b → length a + m ≤ n
     → ((r : List ℕ) → part r ≡ Some f → whole (a ++ r) ≡ Some f) → StopsReading m part b f → StopsReading n whole front f
 stops_behind n m whole part front a b f is fits h s = grind (arith, length-append, append_assoc)
@@ -90,7 +90,8 @@ at_front fault (Some x) (Some y) n failed front f a s whole = ap fault a.read �
 cut_there : (fault : List ℕ → Option ReadFault) (n : ℕ) (front : List ℕ) → StopsReading n fault front faults.Cut → fault front ≡ Some faults.Cut
 cut_there fault n front s = ap fault (sym (append-nil front)) ∙ s.whole [] (λ e. refl)
 
--- the fault of what was read is that of the bytes that were left, unless the source failed where they are cut
+-- the fault of what was read is that of the bytes that were left, unless the source failed where
+-- they are cut
 pub fault_found : (T : Type 0) (fault : List ℕ → Option ReadFault) (u v : Option (List ℕ)) (n : ℕ) (failed : Bool) (front : List ℕ) (f : ReadFault) → ReadsUpTo u v n failed front
     → StopsReading n fault front f → IfErr (or_failed {T = T} failed (Err f)) (IsFaultOf fault u v)
 fault_found T fault u v n failed front faults.Read a s = absurd s.of_bytes

@@ -1,4 +1,4 @@
--- The records of a datagram file.
+-- The records of a datagram file (specs/Records, specs/FileFraming).
 use Rattle.flute_journal.proofs.{Common.{◌≡◌, ℕ, ◌^◌, ◌<◌, ◌≤◌, Bool, true, false, IsTrue, leb, List, [], ◌∷◌, ◌++◌, length, take, drop, Option, Some, None, Result, Ok, Err, sym, ap, ◌∙◌, append_assoc, arith, le-leb, lt-leb, nil_from_length, take_at, drop_at, length-append, refl, subst, IfSome, IsSettled, AllByRecursion, Consumes, Consumes-trans, big_endian, ReadFault, in_bytes, first_fault, cut, ReadsUpTo, IsFaultOf, IsFaultUpTo, IsWithin, StaysWithin, or_failed, IsByte, cut_fault, record_of, IsDatagram, file_framing, ReadsNext, record_checks, record_fault, length-bytes_high_first}, format_lemmas.Parts.{first-pass, first-stop, cut-passes, nothing_left, within-short}, Numbers.{in_bytes-injective}, framing_lemmas.ReadsUpTo.{asks_first, fault-behind, fault_up_to}}
 use Rattle.flute_journal.specs.declared.fault.ReadFault.TheVariants as faults
 use Rattle.flute_journal.specs.{Input.{Advances}, FileFraming.{file_framing}, Lent.{TakesRecord}}
@@ -64,7 +64,7 @@ pub record_stops : (limit count n : ℕ) (u v w : Option (List ℕ)) (front : Li
 record_stops limit count n u v w front f few len is took h =
     grind (arith, fault_up_to, fault-behind, record_comes)
 
--- What holds nothing behind a whole record.
+-- What was read of a record has nothing after it (specs/Input: IsWithin).
 
 record_within-short : (part : List ℕ) → length part ≤ 2 → IsWithin record_of IsDatagram part
 record_within-short part few =

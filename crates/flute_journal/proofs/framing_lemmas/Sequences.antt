@@ -1,9 +1,9 @@
--- Bytes that are spelled item by item are read in one way, and stop at one fault.
+-- Bytes spelled item by item determine the items, and stop at one fault.
 use Rattle.flute_journal.proofs.Common.{none-some, same_Some, ◌≡◌, ℕ, ◌<◌, ◌≤◌, List, [], ◌∷◌, ◌++◌, length, Option, Some, None, inl, inr, ◌⊎◌, refl, sym, ap, ◌∙◌, append_assoc, append-nil, arith, flat_map, AllByRecursion, cases_lt, length-append, ReadFault}
 use Rattle.flute_journal.specs.declared.fault.ReadFault.TheVariants as faults
 
 module _ {T : Type 0} (spell : T → List ℕ) where
-  -- the first list begins the second, and the bytes go on
+  -- the second list begins with the first, and the bytes after the first are the rest of both
   pub record GoesOn (es fs : List T) (r s : List ℕ) : Type 0 where
     pub more : List T
     pub items : fs ≡ es ++ more
@@ -26,7 +26,7 @@ module _ {T : Type 0} (spell : T → List ℕ) where
           | inr h ↦ inr (cons_goes y x fs es s r (sym here.0) h)
         ]
 
-    -- so it is where no item stands behind the second list
+    -- if no item follows the second list, the second list begins with the first
     pub begins : (es fs : List T) (r s : List ℕ) → ((x : T) (y : List ℕ) → s ≡ spell x ++ y → ⊥) → AllByRecursion IsIt es → AllByRecursion IsIt fs
         → flat_map spell es ++ r ≡ flat_map spell fs ++ s → GoesOn es fs r s
     begins [] fs r s none p q e = record { more = fs; items = refl; bytes = e }
@@ -47,7 +47,7 @@ module _ {T : Type 0} (spell : T → List ℕ) where
           by_more [] i e = let same : es ≡ fs = sym (i ∙ append-nil es) in (same, same_Some f g (sym a ∙ ap (fault es) e ∙ ap (λ l. fault l s) same ∙ b))
           by_more (x ∷ more) i e = absurd (none-some f (sym (passes es x more (flat_map spell more ++ s) i) ∙ ap (fault es) (sym (e ∙ grouped x more s)) ∙ a))
 
-      -- bytes stop at one fault, behind one list of items
+      -- bytes stop at one fault, after one list of items
       pub one_stop : (es fs : List T) (r s : List ℕ) (f g : ReadFault) → Passes es → Passes fs → AllByRecursion IsIt es → AllByRecursion IsIt fs
           → flat_map spell es ++ r ≡ flat_map spell fs ++ s → fault es r ≡ Some f → fault fs s ≡ Some g → (es ≡ fs) × (f ≡ g)
       one_stop es fs r s f g p q v w e a b = elim (go_on es fs r s v w e) [
@@ -55,7 +55,7 @@ module _ {T : Type 0} (spell : T → List ℕ) where
         | inr h ↦ (let o = goes_one fs es s r g f p h b a in (sym o.0, sym o.1))
       ]
 
-      -- items with no fault behind them stop only where they are more than the bound
+      -- if items without a fault after them also stop, there are more of them than the bound
       pub stop_at_bound : (limit : ℕ) (es fs : List T) (r s : List ℕ) (f : ReadFault)
           → ((front : List T) (x : T) (xs : List T) (y : List ℕ) → fs ≡ front ++ x ∷ xs → length front < limit → fault front (spell x ++ y) ≡ None)
           → ((x : T) (y : List ℕ) → limit ≤ length es → fault es (spell x ++ y) ≡ Some faults.TooMany)

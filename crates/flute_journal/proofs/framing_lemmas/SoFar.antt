@@ -1,4 +1,4 @@
--- A framed file that is read item by item.
+-- A framed file that is read item by item: Sofar and GivesFault (specs/Framing).
 use Rattle.flute_journal.proofs.{Common.{◌≡◌, ℕ, ◌<◌, List, [], ◌∷◌, ◌++◌, length, drop, Option, Some, None, Ok, IsTrue, true, inl, inr, refl, sym, ap, ◌∙◌, subst, arith, append_assoc, append-nil, length-append, flat_map_more, IfSome, Consumes, Consumes-nil, Consumes-trans, Consumes-whole, IsAtEnd, IsSettled, ReadFault}, Each.{all_more}, framing_lemmas.Framed.{IsSound}}
 use Rattle.flute_journal.specs.declared.fault.ReadFault.TheVariants as faults
 use Rattle.flute_journal.specs.{declared.readers.reader_state.ReaderState.{ReaderState}, declared.readers.reader_state.ReaderState.TheVariants.{Header, Items, Ended, Failed}, Framing.{Framing, or_else, is_open, Stops, in_header, after_items, HasFault, MayRunOut, AsksForItem, place_at, opening, fault_from, GivesItem, GivesFault, Gives, IsPart, in_opening, in_item, IsAtFault, state_at, read_of, Sofar}, Frame.{up_to_end, AreItems, IsWhole}}
@@ -18,7 +18,7 @@ Side framing limit input left state settled (Some x) =
     Sofar framing limit input left state (settled ++ x ∷ [])
 Side framing limit input left state settled None = AtEnd framing limit input left settled
 
--- a fault behind these items, and what was read up to it
+-- a fault after these items, and what was read up to it
 pub record FaultAfter {V P T : Type 0} (framing : Framing V P T) (limit : ℕ)
     (u x w : Option (List ℕ)) (items : List V) (f : ReadFault) : Type 0 where
   pub are_items : AreItems framing.frame limit items
@@ -64,7 +64,7 @@ module _ {V P T : Type 0} (framing : Framing V P T) where
   not_failed t [] f e = cc
   not_failed t (y ∷ ys) f e = cc
 
-  -- where a reader is, by what a header tells that is still to come
+  -- the state of a reader, given what the header contains that is still to be read
   record Placed (told : T) (limit : ℕ) (u v : Option (List ℕ)) (state : ReaderState P) (xs : List V)
       : Type 0 where
     are_items : AreItems framing.frame limit xs
@@ -106,7 +106,7 @@ module _ {V P T : Type 0} {framing : Framing V P T} where
       → Sofar framing limit u v state xs → IsTrue (is_open state)
   open_after limit u v state xs s = ap is_open s.state_is ∙ open_at framing s.are_items.told xs
 
-  -- a fault that is found now
+  -- the fault of a call is the fault after the items that were read
 
   fault_after : (told : T) (limit : ℕ) (u x w : Option (List ℕ)) (state : ReaderState P)
       (xs : List V) (f : ReadFault) → Sofar framing limit u x state xs
@@ -150,6 +150,7 @@ module _ {V P T : Type 0} {framing : Framing V P T} where
   ]
 
 module _ {V P T : Type 0} {framing : Framing V P T} (sound : IsSound framing) where
+  -- before the first call nothing was read
   pub sofar-none : (told : T) (limit : ℕ) (u : Option (List ℕ)) → Sofar framing limit u u Header []
   sofar-none told limit u =
       record {
@@ -159,6 +160,7 @@ module _ {V P T : Type 0} {framing : Framing V P T} (sound : IsSound framing) wh
         read = Consumes-nil u;
       }
 
+  -- a call that gives an item adds it to those that were read
   pub sofar-next : (limit : ℕ) (u v w : Option (List ℕ)) (old new : ReaderState P) (xs : List V)
       (x : V) → Sofar framing limit u v old xs
       → GivesItem framing limit old new v w x → Sofar framing limit u w new (xs ++ x ∷ [])
@@ -194,7 +196,7 @@ module _ {V P T : Type 0} {framing : Framing V P T} (sound : IsSound framing) wh
             (opening framing t (state_at framing t xs) ++ framing.frame.item t x) p.read bytes);
       }
 
-  -- a reader behind items gives an item or the end
+  -- a reader that has read these items gives an item or the end
   pub side-from : (limit : ℕ) (u v w : Option (List ℕ)) (old new : ReaderState P) (settled : List V)
       (o : Option V)
       → Sofar framing limit u v old settled → Gives framing limit old new v w (Ok o)
@@ -219,7 +221,7 @@ module _ {V P T : Type 0} {framing : Framing V P T} (sound : IsSound framing) wh
         }
   ]
 
-  -- it was read whole
+  -- a file that was read to its end
   pub whole-at : (limit : ℕ) (u w : Option (List ℕ)) (items : List V)
       → AtEnd framing limit u w items → IfSome u (λ bytes. IsWhole framing.frame limit bytes items)
   whole-at limit u w items s =
@@ -227,7 +229,7 @@ module _ {V P T : Type 0} {framing : Framing V P T} (sound : IsSound framing) wh
       (λ bytes. IsWhole framing.frame limit bytes items) s.read s.at_end
       (record { are_items = s.are_items; bytes_are = refl })
 
-  -- where reading stopped, the bytes have this fault
+  -- the bytes have the fault at which reading stopped
 
   from_header : (limit : ℕ) (y : List ℕ) (f : ReadFault) (o : Option ReadFault)
       → framing.header_fault y ≡ o
@@ -268,6 +270,7 @@ module _ {V P T : Type 0} {framing : Framing V P T} (sound : IsSound framing) wh
   stops_by limit (Some z) None xs f a took h = absurd took
   stops_by limit (Some z) (Some y) xs f a took h = stops_at limit z y xs f a took h
 
+  -- a fault after these items is one at which the bytes stop
   some_stop : (limit : ℕ) (u : Option (List ℕ)) (xs : List V) (f : ReadFault)
       → IfSome u (λ z. Stops framing z limit xs f)
       → IfSome u (λ z. (items : List V) × Stops framing z limit items f)
@@ -279,7 +282,7 @@ module _ {V P T : Type 0} {framing : Framing V P T} (sound : IsSound framing) wh
   place_same t [] = refl
   place_same t (y ∷ ys) = refl
 
-  -- memory ran out behind these items
+  -- memory ran out after these items
   run_out : (limit : ℕ) (u w : Option (List ℕ)) (xs : List V) (a : AreItems framing.frame limit xs)
       (read seen : List ℕ)
       → Consumes u w (read_of framing a.told xs
@@ -330,6 +333,7 @@ module _ {V P T : Type 0} {framing : Framing V P T} (sound : IsSound framing) wh
   has_fault limit u x w xs f i =
       some_stop limit u xs f (stops_by limit u x xs f i.are_items i.before_it i.at_fault.fault)
 
+  -- a call that gives a fault: the bytes have it
   pub sofar-fault : (limit : ℕ) (u v w : Option (List ℕ)) (old new : ReaderState P) (xs : List V)
       (f : ReadFault) → Sofar framing limit u v old xs
       → GivesFault framing limit old new v w f → HasFault framing limit u f

@@ -1,4 +1,4 @@
--- Streams that are read to their ends, one after another.
+-- Once a merge has stopped, the streams before are read to their ends (specs/FirstFaults).
 use Rattle.flute_journal.proofs.Common.{Advances, AppendsNoJournal, AppendsPart, Behaviour, Bool, CanGoOn, Err, Fact, FactRef, FailAs, Gave, GaveBefore, Input, InputFault, MergedJournal, List, LoadFault, NamesInput, None, Ok, OneFails, Option, PutsJournal, Some, StreamsFault, Written, [], ap, arith, err_from_is_err_and, fact_in, false, is_some, length, length-set, option_list, refl, same_Some, set, slice_get, subst, suc, sym, true, zero, ℕ, ◌+◌, ◌<◌, ◌∙◌, ◌∷◌, ◌≡◌, ◌≢◌, ◌≤◌}
 use Rattle.flute_journal.proofs.{merge_lemmas.MergeBytes.{no_whole_end}, merge_lemmas.LeadFacts.{set_here, set_elsewhere}}
 use Rattle.flute_journal.specs.FirstFaults.{IsStopOf, HasStopped, TellBefore}
@@ -69,7 +69,7 @@ module _ {S : Type 0} (b : Behaviour S) where
       let h = r.gave start s F e g in
       (h.given, h.gave.ended (sym (held h.stream h.is) ∙ none))
 
-  -- One stream after another.
+  -- One stream after another is read to its end.
 
   -- a stream that was before that number had given some facts
   pub record GaveAt (start now : List S) (k : ℕ) : Type 0 where

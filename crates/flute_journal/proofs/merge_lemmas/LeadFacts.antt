@@ -1,8 +1,8 @@
--- The stream that holds a fact below those of all others.
+-- Lemmas on Leads (specs/Leads): the stream that holds a fact below those of all others.
 use Rattle.flute_journal.proofs.Common.{◌≡◌, ℕ, zero, suc, ◌+◌, ◌<◌, ◌≤◌, true, eqb, List, [], ◌∷◌, ◌++◌, length, Option, Some, None, Ok, Err, refl, sym, ap, ◌∙◌, subst, inl, inr, arith, set, cases_Bool, eqb-true, eqb-false, slice_get_within, same_Some, ◌≢◌, IfSome, slice_get, if◌then◌else◌, is_lt, AllByRecursion, Ordering, Less, Greater, address_cmp, address, StandAfter, address_total, Address, Fact, joined, fact_at-append, alone-at, fact_at-cons, fact_at-after, LoadFault, Behaviour, Advances, GoesOn, StopsAt, option_list, place_of, heads, GoOnAt, StopAt, IsBelowNext, NoneBefore, Leads, StandsAt, lower_of, lower_next, IsNotBefore, Lowest, IsLowest}
 use Rattle.flute_journal.proofs.{Each.{all_append}, merge_lemmas.GoingOn.{item_at}, merge_lemmas.LowestFacts.{up_to_itself, up_to_turned, up_to_less, up_to-trans, less_up_to}}
 
--- The next address.
+-- The next address: the lowest of the other streams.
 
 pub lower-first : (next : Option Address) (p : Address) (o : Option Fact) → NoneBefore next o → NoneBefore (Some (lower_of next p)) o
 lower-first next p None h = tt
@@ -43,7 +43,7 @@ module _ {S : Type 0} (b : Behaviour S) (number k : ℕ) (streams : List S) (nex
       lowered : (o x : Option Fact) → NoneBefore next x → NoneBefore (lower_next next o) x
       lowered o x h = grind (arith, lower-first)
 
-  -- once all were looked at
+  -- once all streams were looked at, this one leads
   pub lead-new : (o : Option Fact) → number < length streams → length streams ≤ k → ((s : S) → slice_get streams number ≡ Some s → o ≡ b.held s) → FirstsFrom b number k streams next
       → IsBelowNext o next → Leads b streams number next
   lead-new o within all held h below =
@@ -58,7 +58,7 @@ module _ {S : Type 0} (b : Behaviour S) (number k : ℕ) (streams : List S) (nex
   pub firsts_passed : k ≡ number → FirstsFrom b number k streams next → FirstsFrom b number (k + 1) streams next
   firsts_passed e h = record { none_before = λ j s l i n. h.none_before j s (omega (arith, l, e, n)) i n }
 
--- What stands above what the leading stream holds.
+-- What lies above the fact that the leading stream holds.
 
 abbrev IsOver : Fact → Option Fact → Type 0
 IsOver g o = IfSome o (λ f. address_cmp (address g) (address f) ≡ Less)
@@ -116,7 +116,7 @@ module _ {S : Type 0} (b : Behaviour S) where
   all_after g (s ∷ streams) h =
       after-append (address g) (option_list (b.held s)) (heads b streams) (over_list g (b.held s) (h 0 s refl)) (all_after g streams (λ j t e. h (suc j) t e))
 
-  -- it is the lowest
+  -- the fact that it holds is the lowest
   lowest_first : (g : Fact) (fs : List Fact) → StandAfter (address g) fs → Lowest (g ∷ fs) g
   lowest_first g fs h = grind (arith, fact_at-cons, joined, alone-at, fact_at-after, up_to_itself, not_before)
 
@@ -141,7 +141,7 @@ module _ {S : Type 0} (b : Behaviour S) where
       others_over : (g : Fact) → b.held l.stream ≡ Some g → OthersOver g number streams
       others_over g e j s i n = over g next (b.held s) (subst (λ x. IsBelowNext x next) e l.below) (l.others j s i n)
 
-  -- It goes on alone.
+  -- Only the leading stream is advanced.
 
   all_stay : (a : Option Address) (streams : List S) → ((j : ℕ) (s : S) → slice_get streams j ≡ Some s → place_of (b.held s) ≢ a) → GoOnAt b a streams streams
   all_stay a [] h = tt

@@ -1,4 +1,4 @@
--- The lowest address of facts, and what they come to there, fact by fact.
+-- Lemmas on Lowest (specs/Lowest): the lowest address of facts and its value, fact by fact.
 use Rattle.flute_journal.proofs.Common.{Bool, Info, InfoConflict, Symbol, SymbolConflict, SymbolId, bytes_eq, ◌&&◌, Address, AllByRecursion, Behaviour, Equal, Fact, Greater, IsNotBefore, Key, Less, List, Lowest, Option, Ordering, Part, Some, StandAfter, [], address, address_cmp, address_itself, address_same, address_total, alone-at, alone-elsewhere, ap, append-nil, append_assoc, arith, conflict_at, conflict_in, fact_at, fact_at-after, fact_at-append, fact_same, false, get_or, get_or_from_slice_get, heads, is_eq, is_lt, joined, joined-apart, joined-none, joined-same, length, option_list, refl, rules, same_fact, slice_get, subst, sym, take, take_more, true, ℕ, ◌++◌, ◌+◌, ◌<◌, ◌∙◌, ◌∷◌, ◌≡◌, ◌≢◌}
 use Rattle.flute_journal.proofs.{Each.{all_append, all_map}, merge_lemmas.GoingOn.{item_at}}
 use Rattle.flute_parts.specs.{
@@ -8,7 +8,7 @@ use Rattle.flute_parts.specs.{
 }
 use Rattle.flute_parts.specs.declared.address.Part.TheVariants.{Info as InfoPart, Symbol as SymbolPart}
 
--- addresses
+-- The order of addresses.
 
 -- the first of two is not above the second
 abbrev pub IsUpTo : Ordering → Type 0
@@ -39,7 +39,7 @@ pub heads-append : {S : Type 0} (b : Behaviour S) (xs ys : List S) → heads b (
 heads-append b [] ys = refl
 heads-append b (x ∷ xs) ys = cc (heads-append b xs ys, append_assoc (option_list (b.held x)) (heads b xs) (heads b ys))
 
--- one stream more
+-- what is held by one stream more
 pub heads-more : {S : Type 0} (b : Behaviour S) (xs : List S) (k : ℕ) (o : Option Fact) → k < length xs → ((x : S) → slice_get xs k ≡ Some x → o ≡ b.held x)
     → heads b (take (k + 1) xs) ≡ heads b (take k xs) ++ option_list o
 heads-more b xs k o within held =
@@ -66,18 +66,18 @@ conflict-part key (SymbolPart id) = refl
 pub conflict-place : (a : Address) → address (conflict_at a) ≡ a
 conflict-place a = conflict-part a.key a.part
 
--- what stands at the lowest address, and one more fact
+-- the value at the lowest address, with one more fact
 
 -- the fact alone is the lowest
 pub lowest_alone : (facts : List Fact) (f : Fact) → facts ≡ [] → Lowest (facts ++ f ∷ []) f
 lowest_alone facts f none =
     subst (λ (x : List Fact). Lowest (x ++ f ∷ []) f) (sym none) (record { comes = alone-at f (address f) refl; first = (up_to_itself (address f), tt) })
 
--- it stands below the others
+-- that fact is below the others, and becomes the lowest
 pub lowest_turns : (facts : List Fact) (f g : Fact) → Lowest facts g → address_cmp (address f) (address g) ≡ Less → Lowest (facts ++ f ∷ []) f
 lowest_turns facts f g h less = search (rules, stand_after, fact_at-append, joined, fact_at-after, alone-at, all_append, all_map, up_to-trans, up_to_less, up_to_itself)
 
--- it stands above the lowest
+-- that fact is above the lowest, which remains
 pub lowest_stays : (facts : List Fact) (f g : Fact) → Lowest facts g → address_cmp (address f) (address g) ≡ Greater → Lowest (facts ++ f ∷ []) g
 lowest_stays facts f g h greater =
     let a = address g in
@@ -86,7 +86,7 @@ lowest_stays facts f g h greater =
       first = all_append (IsNotBefore a) facts (f ∷ []) h.first (up_to_turned (address f) a Greater greater refl, tt);
     }
 
--- what stands there is joined with it
+-- a fact at the lowest address is joined with its value
 with_more : (facts : List Fact) (f g : Fact) → Lowest facts g → address f ≡ address g → fact_at (facts ++ f ∷ []) (address g) ≡ joined (address g) (Some g) (Some f)
 with_more facts f g h e = grind (arith, fact_at-append, joined, alone-at)
 
@@ -94,13 +94,13 @@ first_more : (facts : List Fact) (f g : Fact) → Lowest facts g → address f �
 first_more facts f g h e =
     all_append (IsNotBefore (address g)) facts (f ∷ []) h.first (subst (λ x. IsUpTo (address_cmp (address g) x)) (sym e) (up_to_itself (address g)), tt)
 
--- it is the same
+-- that fact has the same value, which remains
 pub lowest_same : (facts : List Fact) (f g : Fact) → Lowest facts g → address_cmp (address f) (address g) ≡ Equal → same_fact g f ≡ true → Lowest (facts ++ f ∷ []) g
 lowest_same facts f g h equal same =
     let e = address_same (address f) (address g) (ap is_eq equal) in
     record { comes = with_more facts f g h e ∙ ap Some (joined-same (address g) g f (fact_same g f same)); first = first_more facts f g h e }
 
--- it is another value
+-- that fact has another value: the result is a conflict
 pub lowest_apart : (facts : List Fact) (f g : Fact) → Lowest facts g → address_cmp (address f) (address g) ≡ Equal → same_fact g f ≡ false → Lowest (facts ++ f ∷ []) (conflict_at (address f))
 lowest_apart facts f g h equal apart =
     let e = address_same (address f) (address g) (ap is_eq equal) in
@@ -112,7 +112,7 @@ lowest_apart facts f g h equal apart =
 
 -- the value of two facts at one address
 
--- they tell the same of it
+-- two facts of one address have the same value
 abbrev pub same_value : Fact → Fact → Bool
 same_value (Info k i) (Info l j) = same_information i j
 same_value (InfoConflict k) (InfoConflict l) = true

@@ -1,4 +1,4 @@
--- Whole entries at the head of a journal.
+-- Merged journals as bytes: whole entries at the front of a journal (specs/Merges).
 use Rattle.flute_journal.proofs.{Common.{AllByRecursion, Collects, Fact, IsFact, IsFactIn, IsWithin, IsJournal, Journal, JournalIn, List, One, Same, Two, Version, [], ap, append-nil, append_assoc, end, entry, entry_in, fact_at, flat_map, flat_map_more, without_end, without_end_in, header, header_in, in_bytes, length, refl, spelling, spelling_in, subst, sym, written_up_to, ℕ, ◌++◌, ◌<◌, ◌^◌, ◌∙◌, ◌∷◌, ◌≡◌}, framing_lemmas.Sequences.{GoesOn, begins}}
 use Rattle.std.proofs.{lemmas.List.{append_cancel_left}, lemmas.List.Concat.{flat_map-append}}
 use Rattle.flute_journal.proofs.format_lemmas.Entries.{entry_injective, not_end, header-injective, facts_two}
@@ -16,7 +16,8 @@ pub written-snoc : (es : List Fact) (f : Fact) → without_end (es ++ f ∷ []) 
 written-snoc [] f = refl
 written-snoc (e ∷ es) f = refl
 
--- Two journals that begin alike are of one version, and the entries of one are the first of the other, where that ends behind its own.
+-- If two journals begin with the same bytes, they have one version; where the first ends after
+-- its own entries, these are the first entries of the second.
 pub without_end-both : (v w : Version) (fs es : List Fact) (x t : List ℕ) → AllByRecursion (IsFactIn v) fs → AllByRecursion (IsFactIn w) es → ((f : Fact) (y : List ℕ) → t ≡ entry_in v f ++ y → ⊥)
     → without_end_in v fs ++ x ≡ without_end_in w es ++ t → (v ≡ w) × GoesOn (entry_in v) fs es x t
 without_end-both v w fs es x t p q none e =
@@ -65,7 +66,7 @@ parts_journal Two bytes facts j = (j.entries, j.collects, j.small, j.bytes_are)
 pub written_journal : (bytes : List ℕ) (facts : List Fact) → Journal bytes facts → IsJournal bytes facts
 written_journal bytes facts j = (Two, j)
 
--- one journal has one version, and its facts come to the same
+-- a journal has one version, and its facts have one value at each address
 pub same_journal : (v w : Version) (bytes : List ℕ) (F G : List Fact) → JournalIn v bytes F → JournalIn w bytes G → (v ≡ w) × Same F G
 same_journal v w bytes F G first second =
     let j = journal_parts v bytes F first in
@@ -73,7 +74,7 @@ same_journal v w bytes F G first second =
     let one = spelling-injective v w j.entries k.entries [] [] j.valid k.valid (append-nil (spelling_in v j.entries) ∙ sym j.bytes_are ∙ k.bytes_are ∙ sym (append-nil (spelling_in w k.entries))) in
     (one.0, record { each = λ a. j.collects.same.each a ∙ ap (λ z. fact_at z a) (sym one.1) ∙ sym (k.collects.same.each a) })
 
--- Ends.
+-- A front of a journal that is no journal: it ends within its last entries or its end.
 
 right_nil : (a b : List ℕ) → [] ≡ a ++ b → [] ≡ b
 right_nil [] b e = e
@@ -96,7 +97,7 @@ no_whole_end M bs more all s e facts (v, journal) =
     let f = spelling-injective v Two j.entries M more [] j.valid (facts_two M all) (sym (ap (λ (x : List ℕ). x ++ more) j.bytes_are) ∙ e ∙ sym (append-nil (spelling M))) in
     s f.2
 
--- What holds nothing behind a whole entry.
+-- Bytes with nothing after a whole entry (specs/Input: IsWithin).
 
 pub within_entry : (v : Version) (f : Fact) → IsFactIn v f → IsWithin (entry_in v) (IsFactIn v) (entry_in v f)
 within_entry v f p g more w e = sym ((entry_injective v f g [] more p w (append-nil (entry_in v f) ∙ e)).1)

@@ -1,4 +1,4 @@
--- Rising facts, and lists of them, of which one begins another.
+-- Merged journals as facts: rising lists, and one that begins with another (specs/Merges).
 use Rattle.flute_journal.proofs.Common.{none-some, same_Some, ◌≡◌, false, true, List, [], ◌∷◌, ◌++◌, Option, Some, None, IsTrue, refl, sym, ap, ◌∙◌, subst, inl, inr, false≢true, cases_Bool, Ordering, Less, Equal, Greater, is_lt, is_eq, address_cmp, same_address, address, fact_at, address_same, address_total, Address, Fact, fact_at-nil, fact_at-here, fact_at-elsewhere, is_after, last_of, Same, joined, joined-comm, joined-assoc, joined-none, fact_at-append, StandAfter, IsRising, StandAfter-before}
 use Rattle.std.proofs.lemmas.Cmp.{tied_itself}
 use Rattle.std.specs.Ordering.{ordering_reverse}
@@ -65,9 +65,9 @@ not_same-after l a b h n = elim (cases_Bool (same_address a b)) [
   | inr f ↦ f
 ]
 
--- what rising facts come to
+-- the value of rising facts at an address
 
--- nothing stands at an address that a rising list has left behind
+-- facts that rise after an address have no value at that address or before it
 pub rising-none : (l : Option Address) (es : List Fact) (a : Address) → Rises l es → is_after l a ≡ false → fact_at es a ≡ None
 rising-none l [] a r n = fact_at-nil a
 rising-none l (f ∷ fs) a r n = cc (fact_at-elsewhere f fs a (not_same-after l (address f) a r.0 n), rising-none (Some (address f)) fs a r.1 (not_after-later l (address f) a r.0 n))
@@ -80,7 +80,7 @@ not_after-last : (l : Address) (es : List Fact) (a : Address) → Rises (Some l)
 not_after-last l [] a r n = n
 not_after-last l (f ∷ fs) a r n = not_after-last (address f) fs a r.1 (not_after-later (Some l) (address f) a r.0 n)
 
--- a rising list begins with another if they come to the same up to the other's last address
+-- a rising list begins with another if both have the same values up to the other's last address
 pub rising-prefix : (l : Option Address) (M E : List Fact) → Rises l M → Rises l E
     → ((a : Address) → is_after (last_of l M) a ≡ false → fact_at M a ≡ fact_at E a) → (rest : List Fact) × (E ≡ M ++ rest)
 rising-prefix l [] E r s h = (E, refl)
@@ -137,7 +137,7 @@ Rises-second l (e ∷ es) fs r = Rises-second (Some (address e)) es fs r.1
 pub fact_at-second_none : (F G : List Fact) (a : Address) → fact_at G a ≡ None → fact_at (F ++ G) a ≡ fact_at F a
 fact_at-second_none F G a q = fact_at-append F G a ∙ ap (joined a (fact_at F a)) q ∙ joined-none a (fact_at F a)
 
--- what stands in the middle may change places
+-- the two lists in the middle may be exchanged
 pub Same-crossed : (F G H K : List Fact) → Same ((F ++ G) ++ (H ++ K)) ((F ++ H) ++ (G ++ K))
 Same-crossed F G H K = record {
   each = λ a.

@@ -1,13 +1,17 @@
--- The ranks of the parts of an object, and the value at the address with a rank.
-use Rattle.flute_journal.proofs.Common.{◌≡◌, ◌≢◌, ℕ, zero, suc, ◌+◌, ◌-◌, ◌*◌, ◌/◌, ◌%◌, ◌<◌, true}
-use Rattle.flute_journal.proofs.Common.{false, List, [], ◌∷◌, ◌++◌, Option, Some, None, inl, inr}
-use Rattle.flute_journal.proofs.Common.{◌⊎◌, refl, sym, ap, ◌∙◌, subst, append-nil, arith, cases_lt}
+-- Lemmas on Ranks (specs/Ranks): the rank of a part, and the value at the address with a rank.
+use Rattle.flute_journal.proofs.Common.{◌≡◌, ◌≢◌, ℕ, zero, suc, ◌+◌, ◌-◌}
+use Rattle.flute_journal.proofs.Common.{◌*◌, ◌/◌, ◌%◌, ◌<◌, true}
+use Rattle.flute_journal.proofs.Common.{false, List, [], ◌∷◌, ◌++◌, Option, Some, None}
+use Rattle.flute_journal.proofs.Common.{inl, inr}
+use Rattle.flute_journal.proofs.Common.{◌⊎◌, refl, sym, ap, ◌∙◌, subst, append-nil}
+use Rattle.flute_journal.proofs.Common.{arith, cases_lt}
 use Rattle.flute_journal.proofs.Common.{is_eq, Ordering, Less, Equal, Greater, AllByRecursion}
 use Rattle.flute_journal.proofs.Common.{Address, Fact, address, address_cmp, address_total}
 use Rattle.flute_journal.proofs.Common.{alone-at, alone-elsewhere, conflict_at, fact_at}
 use Rattle.flute_journal.proofs.Common.{fact_at-append, fact_at-nil, fact_same, joined}
 use Rattle.flute_journal.proofs.Common.{joined-apart, joined-none, joined-same, same_fact}
-use Rattle.flute_journal.proofs.Common.{option_list, IsNotBefore}
+use Rattle.flute_journal.proofs.Common.{address_itself, option_list, place_of, same_Some}
+use Rattle.flute_journal.proofs.Common.{FactRef, IfSome, IsNotBefore, Lowest, fact_in, fact_of}
 use Rattle.flute_journal.proofs.Each.{all_append}
 use Rattle.flute_journal.proofs.merge_lemmas.LowestFacts.{conflict-place, up_to_itself, up_to_less}
 use Rattle.std.specs.{Ordering.{nat_cmp, ordering_then}, Cmp.{nat_cmp_is}}
@@ -113,14 +117,39 @@ at_part key part = record { key = key; part = part }
 part_eq : (k l : Key) (p q : Part) → k ≡ l → p ≡ q → at_part k p ≡ at_part l q
 part_eq k l p q d e = ap (λ x. at_part x p) d ∙ ap (at_part l) e
 
-pub same_place : (a : Address) (key : Key) (rank : ℕ) → a.key ≡ key → part_at rank ≡ a.part
-    → a ≡ place_at_rank key rank
+pub same_place : (a : Address) (key : Key) (rank : ℕ) → a.key ≡ key
+    → part_at rank ≡ a.part → a ≡ place_at_rank key rank
 same_place a key rank e p = part_eq a.key key a.part (part_at rank) e (sym p)
 
 -- what is held at a rank is not before its address
 pub not-before : (a : Address) (key : Key) (rank : ℕ) (f : Fact) → a ≡ place_at_rank key rank
     → HoldsFrom key rank (Some f) → IsNotBefore a f
 not-before a key rank f e from = subst (λ x. IsNotBefore x f) (sym e) from.not_before
+
+-- what is held at a higher rank stands elsewhere
+
+apart : (a : Address) (f : Fact) → address_cmp a (address f) ≡ Less
+    → is_eq (address_cmp (address f) a) ≡ false
+apart a f less =
+    let r = address_total.antisymm (address f) a in
+    let g : address_cmp (address f) a ≡ Greater = cc in
+    ap is_eq g
+
+behind : (a : Address) (key : Key) (rank higher : ℕ) (f : Fact) → a ≡ place_at_rank key rank
+    → rank < higher → HoldsFrom key higher (Some f) → address_cmp a (address f) ≡ Less
+behind a key rank higher f e l from =
+    subst (λ x. address_cmp x (address f) ≡ Less) (sym e) (from.above rank l)
+
+pub elsewhere : (a : Address) (key : Key) (rank higher : ℕ) (o : Option Fact)
+    → a ≡ place_at_rank key rank → rank < higher → HoldsFrom key higher o
+    → place_of o ≢ Some a
+elsewhere a key rank higher None e l from = λ q. absurd cc
+elsewhere a key rank higher (Some f) e l from = λ q.
+    let at : address f ≡ a = same_Some (address f) a q in
+    let same : is_eq (address_cmp (address f) a) ≡ true =
+    subst (λ x. is_eq (address_cmp x a) ≡ true) (sym at) (address_itself a) in
+    let other = apart a f (behind a key rank higher f e l from) in
+    absurd cc
 
 -- the value at an address, and one fact more
 
@@ -135,11 +164,21 @@ comes_alone : (a : Address) (facts : List Fact) (f : Fact) → fact_at facts a �
     → address f ≡ a → fact_at (facts ++ f ∷ []) a ≡ Some f
 comes_alone a facts f h e = grind (arith, fact_at-append, joined, alone-at)
 
+-- once all facts are joined, their value is the lowest
+pub comes-lowest : (a : Address) (facts : List Fact) (o : Option FactRef)
+    → ComesTo a facts (fact_in o) → IfSome o (λ fact. Lowest facts (fact_of fact))
+comes-lowest a facts None h = tt
+comes-lowest a facts (Some fact) h = record {
+  comes = ap (fact_at facts) h.place ∙ h.comes;
+  first = subst (λ x. AllByRecursion (IsNotBefore x) facts) (sym h.place) h.first;
+}
+
 module _ (a : Address) (facts : List Fact) where
   first_more : (f : Fact) → IsNotBefore a f → AllByRecursion (IsNotBefore a) facts
       → AllByRecursion (IsNotBefore a) (facts ++ f ∷ [])
   first_more f n h = all_append (IsNotBefore a) facts (f ∷ []) h (n, tt)
 
+  -- a fact that is elsewhere: the value is unchanged
   pub comes-elsewhere : (v : Option Fact) (f : Fact)
       → is_eq (address_cmp (address f) a) ≡ false → IsNotBefore a f
       → ComesTo a facts v → ComesTo a (facts ++ f ∷ []) v
@@ -153,6 +192,7 @@ module _ (a : Address) (facts : List Fact) where
     first = first_more f n h.first;
   }
 
+  -- the first fact at the address is the value
   pub comes-first : (f : Fact) → address f ≡ a → IsNotBefore a f → ComesTo a facts None
       → ComesTo a (facts ++ f ∷ []) (Some f)
   comes-first f e n h = record {
@@ -161,6 +201,7 @@ module _ (a : Address) (facts : List Fact) where
     first = first_more f n h.first;
   }
 
+  -- a fact equal to the value: the value is unchanged
   pub comes-same : (g f : Fact) → address f ≡ a → IsNotBefore a f → same_fact g f ≡ true
       → ComesTo a facts (Some g) → ComesTo a (facts ++ f ∷ []) (Some g)
   comes-same g f e n same h = record {
@@ -170,6 +211,7 @@ module _ (a : Address) (facts : List Fact) where
     first = first_more f n h.first;
   }
 
+  -- a fact with another value: the value is a conflict
   pub comes-apart : (g f : Fact) → address f ≡ a → IsNotBefore a f → same_fact g f ≡ false
       → ComesTo a facts (Some g)
       → ComesTo a (facts ++ f ∷ []) (Some (conflict_at (address f)))
@@ -181,13 +223,6 @@ module _ (a : Address) (facts : List Fact) where
     first = first_more f n h.first;
   }
 
-  apart : (f : Fact) → address_cmp a (address f) ≡ Less
-      → is_eq (address_cmp (address f) a) ≡ false
-  apart f less =
-      let r = address_total.antisymm (address f) a in
-      let g : address_cmp (address f) a ≡ Greater = cc in
-      ap is_eq g
-
   -- what is held at a higher rank changes nothing
   pub comes-behind : (v : Option Fact) (key : Key) (rank higher : ℕ) (o : Option Fact)
       → a ≡ place_at_rank key rank → rank < higher → HoldsFrom key higher o
@@ -195,6 +230,5 @@ module _ (a : Address) (facts : List Fact) where
   comes-behind v key rank higher None e l from h =
       subst (λ (x : List Fact). ComesTo a x v) (sym (append-nil facts)) h
   comes-behind v key rank higher (Some f) e l from h =
-      let less : address_cmp a (address f) ≡ Less =
-      subst (λ x. address_cmp x (address f) ≡ Less) (sym e) (from.above rank l) in
-      comes-elsewhere v f (apart f less) (up_to_less (address_cmp a (address f)) less) h
+      let less = behind a key rank higher f e l from in
+      comes-elsewhere v f (apart a f less) (up_to_less (address_cmp a (address f)) less) h

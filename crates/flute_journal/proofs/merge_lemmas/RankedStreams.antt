@@ -1,29 +1,31 @@
--- Streams that are ranked, one after another.
-use Rattle.flute_journal.proofs.Common.{◌≡◌, ◌≢◌, ℕ, ◌+◌, ◌<◌, ◌≤◌, Bool, true, List, ◌++◌, length}
-use Rattle.flute_journal.proofs.Common.{take, Option, Some, Ok, IfSome, inl, inr, ◌⊎◌, sym, ap, ◌∙◌}
+-- Lemmas on AreRanked (specs/Ranks): ranking streams one after another.
+use Rattle.flute_journal.proofs.Common.{◌≡◌, ◌≢◌, ℕ, zero, suc, ◌+◌, ◌-◌}
+use Rattle.flute_journal.proofs.Common.{◌<◌, ◌≤◌, Bool, true}
+use Rattle.flute_journal.proofs.Common.{List, ◌++◌, length, take, Option, Some, Ok, IfSome}
+use Rattle.flute_journal.proofs.Common.{inl, inr, ◌⊎◌, sym, ap, ◌∙◌}
 use Rattle.flute_journal.proofs.Common.{subst, arith, cases_Bool, eqb, eqb-false, eqb-true}
 use Rattle.flute_journal.proofs.Common.{slice_get, slice_get_within, same_Some, Address, Fact}
-use Rattle.flute_journal.proofs.Common.{option_list, Behaviour, Advances, heads}
+use Rattle.flute_journal.proofs.Common.{option_list, Behaviour, Advances, heads, place_of}
 use Rattle.flute_journal.proofs.merge_lemmas.GoingOn.{item_at}
 use Rattle.flute_journal.proofs.merge_lemmas.LeadFacts.{set_elsewhere}
 use Rattle.flute_journal.proofs.merge_lemmas.LowestFacts.{heads-more}
-use Rattle.flute_journal.proofs.merge_lemmas.RankFacts.{comes-behind}
+use Rattle.flute_journal.proofs.merge_lemmas.RankFacts.{comes-behind, elsewhere}
 use Rattle.std.proofs.Common.{slice_index}
 use Rattle.flute_parts.specs.declared.key.Key.{Key}
+use Rattle.flute_journal.specs.declared.merge.ranks.Ranks.{Ranks}
 use Rattle.flute_journal.specs.{
   Lowest.{ComesTo},
-  Ranks.{AreRanked, HoldsFrom, place_at_rank},
+  Ranks.{AreAbove, AreLow, AreRanked, HoldsFrom, IsRanking, place_at_rank},
 }
 
 -- of ranks, only that with this number may be another
 abbrev pub OthersStay : ℕ → List ℕ → List ℕ → Type 0
 OthersStay k ranks new = (j : ℕ) → j ≢ k → slice_index new j ≡ slice_index ranks j
 
-pub ranked_of : {S : Type 0} (b : Behaviour S) (streams : List S) (ranks : List ℕ)
-    (o : Option Key) (key : Key) → o ≡ Some key
-    → IfSome o (λ key. AreRanked b streams key ranks) → AreRanked b streams key ranks
-ranked_of b streams ranks o key e h =
-    subst (λ x. IfSome x (λ key. AreRanked b streams key ranks)) e h
+pub ranked_of : {S : Type 0} (b : Behaviour S) (streams : List S) (r : Ranks) (key : Key)
+    → r.key ≡ Some key → IsRanking b streams r → AreRanked b streams key r.ranks r.lows
+ranked_of b streams r key e h =
+    subst (λ x. IfSome x (λ key. AreRanked b streams key r.ranks r.lows)) e h
 
 module _ {S : Type 0} (b : Behaviour S) (key : Key) where
   -- the streams before k are ranked
@@ -50,10 +52,12 @@ module _ {S : Type 0} (b : Behaviour S) (key : Key) where
     ];
   }
 
-  pub ranked_all : (k : ℕ) (streams : List S) {ranks : List ℕ} → length streams ≤ k
-      → length streams ≤ 128 → AreRankedTo k streams ranks → AreRanked b streams key ranks
-  ranked_all k streams all few h = record {
+  pub ranked_all : (k : ℕ) (streams : List S) {ranks lows : List ℕ} → length streams ≤ k
+      → length streams ≤ 128 → AreLow lows ranks → AreRankedTo k streams ranks
+      → AreRanked b streams key ranks lows
+  ranked_all k streams all few low h = record {
     few = few;
+    low = low;
     from = λ j s i.
         h.from j s (let p = slice_get_within streams j s i in omega (arith, p, all)) i;
   }
@@ -61,17 +65,27 @@ module _ {S : Type 0} (b : Behaviour S) (key : Key) where
   -- the streams from k on are ranked, and if all are known, those before it too
   pub record AreRankedFrom (k : ℕ) (known : Bool) (streams : List S)
       (ranks : List ℕ) : Type 0 where
-    pub from : (j : ℕ) (s : S) → (k ≤ j) ⊎ (known ≡ true) → slice_get streams j ≡ Some s
-        → HoldsFrom key (slice_index ranks j) (b.held s)
+    pub from : (j : ℕ) (s : S) → (k ≤ j) ⊎ (known ≡ true)
+        → slice_get streams j ≡ Some s → HoldsFrom key (slice_index ranks j) (b.held s)
 
-  pub rest_stays : (k : ℕ) {known : Bool} {streams : List S} {ranks : List ℕ}
-      → AreRankedFrom k known streams ranks → AreRankedFrom (k + 1) known streams ranks
-  rest_stays k h = record {
+  pub rest_from : (k n : ℕ) {known : Bool} {streams : List S} {ranks : List ℕ} → k ≤ n
+      → AreRankedFrom k known streams ranks → AreRankedFrom n known streams ranks
+  rest_from k n p h = record {
     from = λ j s w i. h.from j s (elim w [
-      | inl l ↦ inl (omega (arith, l))
+      | inl l ↦ inl (omega (arith, l, p))
       | inr e ↦ inr e
     ]) i;
   }
+
+  -- those that have higher ranks stand elsewhere
+  pub passed_elsewhere : (a : Address) (rank k n : ℕ) {known : Bool} {streams : List S}
+      {ranks : List ℕ} → a ≡ place_at_rank key rank → AreAbove rank k n ranks
+      → AreRankedFrom k known streams ranks
+      → (j : ℕ) (s : S) → k ≤ j → j < n → slice_get streams j ≡ Some s
+      → place_of (b.held s) ≢ Some a
+  passed_elsewhere a rank k n {ranks = ranks} at above h j s l r i =
+      elsewhere a key rank (slice_index ranks j) (b.held s) at (above j l r)
+      (h.from j s (inl l) i)
 
   -- the stream with this number was advanced, and ranked if `set`
   pub record Reranked (k : ℕ) (set : Bool) (old new : List S)
@@ -118,12 +132,38 @@ module _ {S : Type 0} (b : Behaviour S) (streams : List S) (k : ℕ) (a : Addres
   comes-more v o within held h =
       subst (λ (l : List Fact). ComesTo a l v) (sym (heads-more b streams k o within held)) h
 
-  pub comes-passed : (v : Option Fact) (rank : ℕ) {key : Key} {ranks : List ℕ}
-      → k < length streams → a ≡ place_at_rank key rank → rank < slice_index ranks k
-      → AreRanked b streams key ranks → ComesTo a (heads b (take k streams)) v
-      → ComesTo a (heads b (take (k + 1) streams)) v
-  comes-passed v rank {key = key} {ranks = ranks} within at l ranked h =
-      let x = item_at streams k within in
-      comes-more v (b.held x.0) within (λ s i. ap b.held (same_Some x.0 s (sym x.1 ∙ i)))
-      (comes-behind a (heads b (take k streams)) v key rank (slice_index ranks k) (b.held x.0) at
-      l (ranked.from k x.0 x.1) h)
+module _ {S : Type 0} (b : Behaviour S) (streams : List S) (a : Address) where
+  comes_passed : (k n : ℕ) {v : Option Fact} {rank : ℕ} {key : Key} {ranks lows : List ℕ}
+      → k + n ≤ length streams → a ≡ place_at_rank key rank
+      → AreAbove rank k (k + n) ranks → AreRanked b streams key ranks lows
+      → ComesTo a (heads b (take k streams)) v
+      → ComesTo a (heads b (take (k + n) streams)) v
+  comes_passed k zero {v = v} within at above ranked h =
+      let same : k ≡ k + 0 = omega arith in
+      subst (λ j. ComesTo a (heads b (take j streams)) v) same h
+  comes_passed k (suc n) {v = v} {rank = rank} {key = key} {ranks = ranks} within at above
+      ranked h =
+      let j = k + n in
+      let x = item_at streams j (omega (arith, within)) in
+      let before =
+      comes_passed k n (omega (arith, within)) at (λ i p q. above i p (omega (arith, q))) ranked
+      h in
+      let behind =
+      comes-behind a (heads b (take j streams)) v key rank (slice_index ranks j) (b.held x.0) at
+      (above j (omega arith) (omega arith)) (ranked.from j x.0 x.1) before in
+      let same : j + 1 ≡ k + suc n = omega arith in
+      subst (λ i. ComesTo a (heads b (take i streams)) v) same
+      (comes-more b streams j a v (b.held x.0) (omega (arith, within))
+      (λ s i. ap b.held (same_Some x.0 s (sym x.1 ∙ i))) behind)
+
+  -- none of those up to m stands there
+  pub comes-up-to : (k m : ℕ) {v : Option Fact} {rank : ℕ} {key : Key} {ranks lows : List ℕ}
+      → k ≤ m → m ≤ length streams → a ≡ place_at_rank key rank
+      → AreAbove rank k m ranks → AreRanked b streams key ranks lows
+      → ComesTo a (heads b (take k streams)) v
+      → ComesTo a (heads b (take m streams)) v
+  comes-up-to k m {v = v} p within at above ranked h =
+      let same : k + (m - k) ≡ m = omega (arith, p) in
+      subst (λ i. ComesTo a (heads b (take i streams)) v) same
+      (comes_passed k (m - k) (omega (arith, same, within)) at
+      (λ i l q. above i l (omega (arith, same, q))) ranked h)

@@ -1,10 +1,10 @@
--- Where a merge of streams stands between two turns, and how it ends.
+-- The state of a merge of streams between two turns, and how the merge ends (merge_into).
 use Rattle.flute_journal.proofs.Common.{Address, AllByRecursion, Appends, Appends-nil, Appends-trans, AppendsPart, AppendsPartOf, AreNew, Behaviour, Below-from_Same, Bool, CanGoOn, Collects, Counts, EachSince, EndsMerged, Fact, GoOnAt, Input, InputFault, IsCounted, IsCutAfter, IsFact, IsRising, IsSized, IsTrue, IsWithinLimits, Journal, List, Lowest, NamesInput, None, NoneFails, OneFails, Option, Over, Over-below, PutsBytes, ReadsAhead, Same, Same-append, Same-itself, Same-sym, Same-trans, Some, StopsIn, StreamsFault, Tally, Write, Written, [], address, address_same, all_of, ap, append_assoc, arith, cases_Bool, cut_end, cut_entry, cut_header, end, entry, fact_at, fact_at-elsewhere, fact_at-nil, false, without_end, header, heads, inl, inr, is_after, last_of, length, length-append, most_of, none-some, refl, rising_unique, rules, same_address, spelling, subst, sym, true, written_up_to, ℕ, ◌++◌, ◌+◌, ◌<◌, ◌^◌, ◌∙◌, ◌∷◌, ◌≡◌, ◌≤◌}
 use Rattle.flute_journal.proofs.{framing_lemmas.Passes.{Below-more}, framing_lemmas.Existence.{rises_more}, Each.{all_append, all_more}, merge_lemmas.MergeBytes.{without_end-snoc, written-snoc}, merge_lemmas.MergeRising.{last_of-snoc, rising-rises, rises-rising}, writers_lemmas.WrittenSoFar.{put_first, written-more, written-whole, written-part}}
 use Rattle.flute_journal.proofs.merge_lemmas.StreamTurns.{Run, starts, nows, givens, givens_at, Went, Stays, Turned, turn, new_runs, new_starts, new_nows, new_givens, new_stays, went_stays, given_same, given_length, fewer_all, taken_at, taken_same, taken_some, lowest-sized}
 use Rattle.flute_journal.proofs.merge_lemmas.StreamStops.{reads_now, none_fails, ended_whole, StoppedAll, stopped_all, short_header, short_entry, short_end, told_whole}
 
--- what holds of the addresses of all facts holds where one stands
+-- what holds of the addresses of all facts holds of an address that has a value
 named_all : (P : Address → Type 0) (fs : List Fact) (a : Address) (g : Fact) → AllByRecursion (λ f. P (address f)) fs → fact_at fs a ≡ Some g → P a
 named_all P [] a g h e = absurd (none-some g (sym (fact_at-nil a) ∙ e))
 named_all P (f ∷ fs) a g h e = elim (cases_Bool (same_address (address f) a)) [
@@ -12,7 +12,7 @@ named_all P (f ∷ fs) a g h e = elim (cases_Bool (same_address (address f) a)) 
   | inr s ↦ named_all P fs a g h.1 (sym (fact_at-elsewhere f fs a s) ∙ e)
 ]
 
--- The limits.
+-- The limits of a store, and the tally that counts against them.
 
 pub over_more : (F : List Fact) (f : Fact) (s o y : ℕ) → Over F s o y → Over (F ++ f ∷ []) s o y
 over_more F f s o y h = Over-below F (F ++ f ∷ []) s o y (Below-more F (f ∷ [])) h
@@ -33,12 +33,12 @@ module _ {S : Type 0} (b : Behaviour S) where
     pub names : NamesInput b old fault
     pub can_go_on : CanGoOn b old new fault
 
-  -- where a write failed, behind these entries
+  -- a write failed after these entries
   at_write : (patient : Bool) (old now : List S) (w w' : Option (List ℕ)) (read : List (List Fact)) (entries : List Fact) (bytes : List ℕ) → AppendsPartOf b old w w' → EachSince b.reads old now read
       → Collects (all_of read) entries → Appends w w' bytes → IsCutAfter entries bytes → Stopping patient old now w w' Write
   at_write patient old now w w' read entries bytes short reads c a begins = search rules
 
-  -- and where an input stopped
+  -- an input stopped after these entries
   at_input : (patient : Bool) (p : Option Address) (runs : List (Run S)) (new : List S) (w w' : Option (List ℕ)) (fault : InputFault) (entries : List Fact) → StoppedAll b p fault.number fault.fault runs new
       → AppendsPartOf b (starts runs) w w' → Collects (all_of (givens_at b p runs)) entries → (patient ≡ false → Appends w w' (written_up_to entries))
       → Stopping patient (starts runs) new w w' (Input fault) × OneFails b fault.number fault.fault (starts runs) new
@@ -47,7 +47,7 @@ module _ {S : Type 0} (b : Behaviour S) where
   none_collects : Collects [] []
   none_collects = record { valid = tt; rising = tt; same = Same-itself [] }
 
-  -- before the header
+  -- it stopped before the header was written
 
   pub stop_first : (patient : Bool) (old new : List S) (w : Option (List ℕ)) (fault : InputFault) → AreNew b old → StopsIn b None old new fault
       → Stopping patient old new w w (Input fault) × OneFails b fault.number fault.fault old new
@@ -58,7 +58,7 @@ module _ {S : Type 0} (b : Behaviour S) where
       (at_input patient None (new_runs b old) new w w fault [] s (short_header b (starts (new_runs b old)) w w [] header (Appends-nil w) refl)
       (subst (λ (l : List Fact). Collects l []) (sym (new_givens b old)) none_collects) (λ p. Appends-nil w))
 
-  -- What the streams gave was appended, joined, and what they hold stands above it.
+  -- What the streams gave was appended, merged. What they hold is above it.
   pub record State (failed : Bool) (Also : List Fact → Type 0) (old now : List S) (w w' : Option (List ℕ)) (count : ℕ) : Type 0 where
     pub runs : List (Run S)
     pub starts_are : starts runs ≡ old
@@ -144,6 +144,7 @@ module _ {S : Type 0} (b : Behaviour S) where
     pub no_failure : NoneFails b old now
     no_failure = moved (NoneFails b) (none_fails b last state.runs (stays last state.runs state.went))
 
+    -- A turn at the lowest address g.
     module _ (g : Fact) (lowest : Lowest (heads b now) g) where
       low : Lowest (heads b (nows state.runs)) g
       low = subst (λ (l : List S). Lowest (heads b l) g) (sym state.nows_are) lowest
@@ -154,6 +155,7 @@ module _ {S : Type 0} (b : Behaviour S) where
       above : IsTrue (is_after last (address g))
       above = named_all (λ a. IsTrue (is_after last a)) (heads b (nows state.runs)) (address g) g (heads-above last state.runs state.went) low.comes
 
+      -- the entries that were written, and g after them, rise
       rising_next : IsRising (state.joined ++ g ∷ [])
       rising_next = rises-rising (state.joined ++ g ∷ []) (rises_more None state.joined g (rising-rises state.joined state.collects.rising) above)
 
@@ -174,6 +176,7 @@ module _ {S : Type 0} (b : Behaviour S) where
         next_bytes : (next : Bool) (w'' : Option (List ℕ)) → PutsBytes failed next w' w'' (entry g) → Written next w w'' (without_end (state.joined ++ g ∷ []))
         next_bytes next w'' a = subst (Written next w w'') (without_end-snoc state.joined g) (written-more failed next w w' w'' (without_end state.joined) (entry g) state.written a)
 
+        -- the state after this turn
         pub state_turn : (next : Bool) (Next : List Fact → Type 0) (new : List S) (w'' : Option (List ℕ)) → ((F : List Fact) → IsRising (F ++ g ∷ []) → Also F → Next (F ++ g ∷ []))
             → PutsBytes failed next w' w'' (entry g) → GoOnAt b (Some (address g)) now new → State next Next old new w w'' (count + 1)
         state_turn next Next new w'' k a h =
@@ -192,6 +195,7 @@ module _ {S : Type 0} (b : Behaviour S) where
               also = k state.joined rising_next state.also;
             }
 
+        -- the write of its entry failed, or after it an input stopped
         pub stop_entry : (patient : Bool) (w'' : Option (List ℕ)) → failed ≡ false → AppendsPart w' w'' (entry g) → Stopping patient old now w w'' Write
         stop_entry patient w'' good a =
             let bs : List ℕ = without_end state.joined ++ a.part in
@@ -214,7 +218,7 @@ module _ {S : Type 0} (b : Behaviour S) where
       pub turn-falls : (new : List S) → GoOnAt b (Some (address g)) now new → most_of b new < most_of b now
       turn-falls new h = omega (arith, fewer_all b (address g) now new h, taken_some (heads b now) g lowest.comes)
 
-    -- Behind the last turn.
+    -- After the last turn: no stream holds a fact.
 
     module _ (none : heads b now ≡ []) where
       none_left : heads b (nows state.runs) ≡ []
@@ -260,5 +264,5 @@ module _ {S : Type 0} (b : Behaviour S) where
         ends = ended_whole b (last_of None state.joined) state.runs state.went (none_left state none);
       })
 
--- the first state, and the one behind a turn
+-- the first state, and the state after a turn
 pub ruleset turns = (state_start, put_first, state_turn)

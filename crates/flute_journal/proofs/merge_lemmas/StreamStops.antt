@@ -4,7 +4,7 @@ use Rattle.flute_journal.proofs.{Each.{all_split}, merge_lemmas.MergeBytes.{with
 use Rattle.flute_journal.proofs.merge_lemmas.StreamTurns.{Run, starts, nows, givens, given_at, taken_by, given_here, givens_at, IsAbove, above_other, Ready, Went, Stays, went_on}
 
 module _ {S : Type 0} (b : Behaviour S) where
-  -- What was read.
+  -- What was read of each stream.
 
   pub reads_now : (p : Option Address) (runs : List (Run S)) → AllByRecursion (Stays b p) runs → EachSince b.reads (starts runs) (nows runs) (givens runs)
   reads_now p [] w = tt
@@ -65,7 +65,7 @@ module _ {S : Type 0} (b : Behaviour S) where
       }
   stopped_all p k f runs new w h = absurd h
 
-  -- What was appended.
+  -- What was appended: a proper prefix of the journal of all facts.
 
   -- all the facts of a stream are those that it gave at a place, and others above that
   record Above (p : Option Address) (K F : List Fact) : Type 0 where
@@ -97,7 +97,7 @@ module _ {S : Type 0} (b : Behaviour S) where
         })
   ]
 
-  -- up to an address all the facts come to what was given there
+  -- up to an address, all facts have the values of those that were given there
   known_at : (place : Option Address) (a z : Address) (runs : List (Run S)) (known : List (List Fact)) → AllByRecursion (Went b place) runs → AllByRecursion (IsNotBefore a) (heads b (nows runs))
       → is_after (Some a) z ≡ false → Each b.knows (starts runs) known → fact_at (all_of known) z ≡ fact_at (all_of (givens_at b (Some a) runs)) z
   known_at place a z [] [] w n h k = refl
@@ -128,14 +128,14 @@ module _ {S : Type 0} (b : Behaviour S) where
       ∙ ap (λ (l : List Fact). r.given ++ l) (known_whole place runs known w.1 n.1 k.1)
   known_whole place runs known w e k = absurd k
 
-  -- each has told what it gave, once nothing is held
+  -- each stream contains just what it gave, once none holds a fact
   pub told_whole : (place : Option Address) (runs : List (Run S)) → AllByRecursion (Went b place) runs → heads b (nows runs) ≡ [] → Each b.tells (starts runs) (givens runs)
   told_whole place [] w e = tt
   told_whole place (r ∷ runs) w e =
       let n = none_held (b.held r.now) (heads b (nows runs)) e in
       (w.0.gave.ended n.0, told_whole place runs w.1 n.1)
 
-  -- and ended with it
+  -- and each ended after what it gave
   pub ended_whole : (place : Option Address) (runs : List (Run S)) → AllByRecursion (Went b place) runs → heads b (nows runs) ≡ [] → EachSince b.ends (starts runs) (nows runs) (givens runs)
   ended_whole place [] w e = tt
   ended_whole place (r ∷ runs) w e =

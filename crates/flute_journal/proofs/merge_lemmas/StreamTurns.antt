@@ -1,8 +1,8 @@
--- A turn of a merge: each stream that stands at the lowest address goes on.
+-- A turn of a merge: each stream that holds the lowest address is advanced.
 use Rattle.flute_journal.proofs.Common.{Address, AllByRecursion, AreNew, Behaviour, Bool, Equal, Fact, Gave, GoOnAt, GoesOnAt, Greater, IfSome, IsNotBefore, IsRising, IsSized, IsTrue, Key, Less, List, Lowest, None, Option, Ordering, Part, Same, Same-append, Same-itself, Same-trans, Some, [], address, address_cmp, address_itself, address_same, all_of, alone, alone-at, alone-elsewhere, ap, append-nil, arith, cases_Bool, conflict_in, fact_at, fact_at-cons, fact_at-elsewhere, fact_at-nil, fact_same, false, heads, inl, inr, is_after, is_eq, joined, joined-apart, joined-same, length, length-append, most_of, none-some, option_list, place_of, refl, same_address, same_fact, subst, sym, true, ◌++◌, ◌+◌, ◌∙◌, ◌∷◌, ◌≡◌, ◌≢◌, ◌≤◌}
 use Rattle.flute_journal.proofs.{Each.{all_split}, merge_lemmas.MergeRising.{after, last_of-snoc, Rises-second, Same-crossed, rising-rises}}
 
--- what sized facts come to is sized
+-- the value of sized facts is sized
 
 sized_conflict : (key : Key) (part : Part) → IsSized (conflict_in key part)
 sized_conflict key part = grind (arith)
@@ -60,7 +60,7 @@ taken_elsewhere a b (f ∷ fs) n = elim (cases_Bool (same_address (address f) a)
       ∙ taken_elsewhere a b fs n
 ]
 
--- they come to what is written
+-- their value is the fact that is written
 pub taken_same : (fs : List Fact) (g : Fact) → fact_at fs (address g) ≡ Some g → Same (taken_at (address g) fs) (g ∷ [])
 taken_same fs g h = record {
   each = λ b. elim (cases_Bool (same_address (address g) b)) [
@@ -72,7 +72,7 @@ taken_same fs g h = record {
   ];
 }
 
--- and there is one at least
+-- and it holds one fact at least
 pub taken_some : (fs : List Fact) (g : Fact) → fact_at fs (address g) ≡ Some g → 1 ≤ length (taken_at (address g) fs)
 taken_some fs g h = some (taken_at (address g) fs) refl
   where
@@ -136,7 +136,7 @@ above_other a (Some f) n h = by_order (address_cmp a (address f)) refl
     by_order Equal e = absurd (n (ap Some (sym (address_same a (address f) (ap is_eq e)))))
     by_order Greater e = absurd (h.0 e)
 
--- what comes behind a fact of a rising list stands above its address
+-- what follows a fact in a rising list is above its address
 above_next : (F : List Fact) (held o : Option Fact) (p : Option Address) → place_of held ≡ p → IsRising ((F ++ option_list held) ++ option_list o) → IsAbove p o
 above_next F held o None e r = grind (arith)
 above_next F held None (Some a) e r = tt
@@ -163,7 +163,7 @@ module _ {S : Type 0} (b : Behaviour S) where
   pub ready : (place : Option Address) (r : Run S) → Went place r → Ready r
   ready place r w = record { passes = w.gave.passes; reads = w.gave.reads; reads_held = w.gave.reads_held; fails = w.gave.fails; fewer = w.fewer }
 
-  -- it goes on where it stands at a place
+  -- a stream is advanced if it holds that address
   pub went_on : (p : Option Address) (r : Run S) (u : S) → Ready r → (place_of (b.held r.now) ≢ p → Went p r) → GoesOnAt b p r.now u
       → Went p (record { start = r.start; now = u; given = r.given ++ given_at p (b.held r.now) })
   went_on p r u w stays goes = grind (arith, given_here, length-append, above_next, given_at, given_elsewhere, append-nil)
@@ -173,7 +173,7 @@ module _ {S : Type 0} (b : Behaviour S) where
   givens_at p [] = []
   givens_at p (r ∷ runs) = (r.given ++ given_at p (b.held r.now)) ∷ givens_at p runs
 
-  -- all of them went on
+  -- all that hold that address were advanced
   pub record Turned (p : Option Address) (runs : List (Run S)) (new : List S) : Type 0 where
     pub next : List (Run S)
     pub starts_are : starts next ≡ starts runs

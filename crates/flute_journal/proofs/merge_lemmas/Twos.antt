@@ -1,9 +1,9 @@
--- What a merge of two streams of journals comes to, said of the journals.
+-- What a merge of two streams of journals gives, stated of the two journals (specs/Merges).
 use Rattle.flute_journal.proofs.Common.{AppendsPartOf, BeginWith, Behaviour, Collects, Each, EachSince, Either, Err, Fact, FailAs, First, FirstFails, Input, MergedJournal, Journal, KeepsUp, LentStream, List, LoadFault, MergeGives, Merged, MergedAll, NamesFault, NamesInput, None, OneFails, Option, PutsJournal, Read, ReadFault, ReadsAhead, Same, Same-append, Same-sym, Same-trans, Second, SecondFails, Some, StopsShort, StreamsFault, Write, WritesJournal, [], all_of, ap, append-nil, arith, either_behaviour, false, joined, lent, lent_behaviour, limit_of, rules, slice_get, source_of, subst, suc, sym, or_failed, unread_of, written_up_to, zero, ℕ, ◌++◌, ◌∙◌, ◌∷◌, ◌≡◌}
 use Rattle.flute_journal.specs.{declared.merge.two_streams.MergeFault.{MergeFault}, Merges.{AppendedUpTo}, Pairs.{fault_at, IsFaultAt, IsFaultOfTwo, IsOfReading}}
 use Rattle.flute_journal.proofs.merge_lemmas.MergeBytes.{journal_parts}
 
--- journals of both inputs and of all their facts have entries that come to the same
+-- if two journals have these facts, the entries of both have the values of all these facts
 same_entries : (es fs ws F G : List Fact) → Same F es → Same G fs → Same (F ++ G) ws → Same (es ++ fs) ws
 same_entries es fs ws F G p q r = Same-trans (es ++ fs) (F ++ G) ws (Same-append es F fs G (Same-sym F es p) (Same-sym G fs q)) r
 
@@ -36,7 +36,7 @@ module _ {A B : Type 0} (ua : A → Option (List ℕ)) (fa : A → ℕ) (ub : B 
     abbrev after : List (Either (LentStream A) (LentStream B))
     after = First s' ∷ Second t' ∷ []
 
-    -- the facts of both
+    -- the facts of the first and of the second
     record Two (P Q : List Fact → Type 0) (or_failed : List (List Fact)) : Type 0 where
       pub first : List Fact
       pub second : List Fact
@@ -72,6 +72,7 @@ module _ {A B : Type 0} (ua : A → Option (List ℕ)) (fa : A → ℕ) (ub : B 
     journal_of : (es fs : List Fact) (whole : List ℕ) (F G : List Fact) → Same F es → Same G fs → Journal whole (F ++ G) → Journal whole (es ++ (fs ++ []))
     journal_of es fs whole F G p q j = grind (arith, append-nil, same_entries)
 
+    -- what was appended by a merge that stopped is no journal, and a prefix if both are journals
     short_two : (w w' : Option (List ℕ)) → AppendsPartOf both inputs w w' → StopsShort u v w w'
     short_two w w' p = record {
       bytes = p.bytes;
@@ -86,6 +87,7 @@ module _ {A B : Type 0} (ua : A → Option (List ℕ)) (fa : A → ℕ) (ub : B 
           ) whole (journal_of j.entries k.entries whole F G j.collects.same k.collects.same n);
     }
 
+    -- what was read of both, and what was appended
     keeps_two : (w w' : Option (List ℕ)) (fault : StreamsFault) (merge : MergeFault) → IsFaultOfTwo fault merge → ReadsAhead both inputs after w w' fault
         → KeepsUp u (unread_of ua fa (lent s')) v (unread_of ub fb (lent t')) w w' merge
     keeps_two w w' fault merge is r =
@@ -102,6 +104,7 @@ module _ {A B : Type 0} (ua : A → Option (List ℕ)) (fa : A → ℕ) (ub : B 
           begins = begins_two fault merge r.bytes r.entries is r.begins;
         }
 
+    -- the fault that is reported is that of the input it names
     names_at : (k : ℕ) (f : ReadFault) → limit_of t.reader.now ≡ limit_of s.reader.now → (x : Either (LentStream A) (LentStream B)) → slice_get inputs k ≡ Some x → both.stops x (Read f)
         → NamesFault (limit_of s.reader.now) u v (fault_at k f)
     names_at zero f same x e h = let q : x ≡ First s = (let p = e in cc) in subst (λ z. both.stops z (Read f)) q h

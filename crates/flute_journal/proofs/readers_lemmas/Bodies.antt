@@ -1,4 +1,4 @@
--- What is read behind the first byte of an entry.
+-- What is read after the first byte of an entry (src/readers/entry_fields.rt).
 use Rattle.flute_journal.proofs.Common.{Address, BodyIn, Bool, Consumes, Consumes-trans, Err, Fact, EntryHead, HeadIn, ReadsUpTo, HasRoom, IsBody, IsFact, IsFactIn, IsFaultOf, IsFaultUpTo, IsSized, IsWithin, Key, Kind, List, Ok, Option, Parses, ReadFault, Reads, ReadsEnd, Result, StaysWithin, SymbolId, SymbolIs, Version, [], ap, arith, at_place, body, body_fault, byte_of, cut_fault, end, end_fault, entry_in, err_from_is_err_and, false, head_bytes, head_size, header_fault, header_in, in_bytes, inr, length, length-append, length-bytes_high_first, next_fault, opening_fault, refl, subst, sym, or_failed, true, ℕ, ◌++◌, ◌<◌, ◌∙◌, ◌∷◌, ◌≡◌, ◌≤◌}
 use Rattle.flute_journal.specs.{declared.format.EntryHead.TheVariants.{Symbol}, Input.{Advances}}
 use Rattle.flute_journal.proofs.{framing_lemmas.ReadsUpTo.{fault-behind, fault_up_to, fault_up_to-behind, fault_found, parsed_reads}, format_lemmas.Parts.{symbol_cut, symbol_within, body_comes, body_least, entry_within, entry_within-short, length-key_bytes}}
@@ -16,7 +16,7 @@ pub header_reads : (u v : Option (List ℕ)) (failed : Bool) (front : List ℕ) 
 header_reads u v failed front (Ok w) a p = parsed_reads header_in (λ (x : Version). Unit {0}) header_fault u v 6 failed front (Ok w) a (λ x h. omega arith) (tt, p)
 header_reads u v failed front (Err f) a p = parsed_reads header_in (λ (x : Version). Unit {0}) header_fault u v 6 failed front (Err f) a (λ x h. omega arith) p
 
--- the number at the end, and nothing behind it
+-- the number at the end, and no bytes after it
 pub end_reads : {T : Type 0} (count : ℕ) (u v : Option (List ℕ)) (failed : Bool) (front : List ℕ) (r : Result T ReadFault)
     → ReadsUpTo u v 9 failed front → Parses 9 (λ _. front ≡ in_bytes 8 count) (end_fault count) front r → ReadsEnd count u v (or_failed failed r)
 end_reads count u v true front (Ok x) a p = inr (subst (Consumes u v) p a.read)
@@ -24,7 +24,7 @@ end_reads count u v false front (Ok x) a p = (subst (Consumes u v) p a.read, a.f
 end_reads {T} count u v true front (Err f) a p = fault_up_to (in_bytes 8 count) (end_fault count) u v _ (fault_found T (end_fault count) u v 9 true front f a p)
 end_reads {T} count u v false front (Err f) a p = fault_up_to (in_bytes 8 count) (end_fault count) u v f (fault_found T (end_fault count) u v 9 false front f a p)
 
--- the end is at fault behind its first byte
+-- a fault of the number at the end is a fault of the end, its first byte included
 pub end_stops : (limit count : ℕ) (version : Version) (last : Option Address) (u v w : Option (List ℕ)) (front : List ℕ) (f : ReadFault) → front ≡ 255 ∷ [] → Consumes u v front
     → IsFaultUpTo (in_bytes 8 count) (end_fault count) v w f → IsFaultUpTo (end count) (next_fault (at_place version count last) limit) u w f
 end_stops limit count version last u v w front f is took h =
@@ -49,7 +49,7 @@ symbol_ends version last k key id n u v w f r e s fits took a =
     let within = subst (λ z. IsWithin (body version) (IsBody version z) (fixed ++ a.0)) (sym s.kind_is) (symbol_within version key id n a.0 s.key_valid fits s.id_valid s.short a.2) in
     subst (StaysWithin (body version) (IsBody version k) u w) (sym e) (fixed ++ a.0, Consumes-trans u v w fixed a.0 took a.1, within)
 
--- An entry or the end could not be read whole behind its first byte.
+-- After the first byte of an entry or of the end, the rest could not be read.
 
 pub end_ends : (version : Version) (u v w : Option (List ℕ)) (front : List ℕ) → length front ≤ 1 → Consumes u v front → Advances v w 9
     → (part : List ℕ) × Consumes u w part × IsWithin (entry_in version) (IsFactIn version) part

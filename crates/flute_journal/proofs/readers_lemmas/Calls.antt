@@ -1,4 +1,4 @@
--- What the calls of a reader of a journal come to.
+-- What the calls of a JournalReader return.
 use Rattle.flute_journal.proofs.{Common.{AsksMemory, Before, Consumes, Consumes-nil, Fact, Failed, Gives, IfErr, IsFactIn, Items, List, Ok, Err, Option, ReadFault, ReaderState, ReadsFrom, ReadsNext, Result, StaysWithin, Version, entry_in, is_open, journal_framing, place_at, state_after, next_fault, refl, subst, sym, true, [], ℕ, ◌<◌, ◌≡◌}, framing_lemmas.Framed.{gives, reads_on}, merge_lemmas.MergeBytes.{within_nil}, framing_lemmas.Passes.{entry-passes}, framing_lemmas.ReadsUpTo.{asks_seen}}
 use Rattle.std.specs.Prelude.{⊤}
 use Rattle.flute_journal.specs.Lent.{HasEntry}

@@ -1,4 +1,4 @@
--- What the calls of a reader of datagrams come to.
+-- What the calls of a DatagramReader return.
 use Rattle.flute_journal.proofs.{Common.{Bool, Consumes, Err, Gives, Header, IfErr, IsDatagram, IsFileFault, Items, List, Ok, Option, Parses, ReadFault, ReaderState, ReadsFrom, ReadsNext, Result, Some, StaysWithin, StopsReading, [], arith, bytes_eq, cut, drop, false, file_framing, file_header, first_fault, is_open, left_by, not, opening_fault, place_at, record_of, refl, state_after, subst, take, or_failed, true, ℕ, ◌++◌, ◌∷◌, ◌≡◌}, framing_lemmas.Framed.{reads_on, reads_first, gives}, framing_lemmas.Framings.{file_sound}}
 use Rattle.flute_journal.specs.declared.fault.ReadFault.TheVariants as faults
 

@@ -1,10 +1,10 @@
--- A store that is read entry by entry.
+-- read_store: a store that is read entry by entry (specs/Stores).
 use Rattle.flute_journal.proofs.{Common.{AreItems, journal_framing, BeginsOver, Below-from_Same, Bool, Consumes, Consumes-whole, Err, Fact, FailsIf, FailsToLoad, Gives, GivesItem, GivesFault, Header, IfSome, IsAtEnd, IsJournalOf, IsLoadFault, List, MatchBool, None, Ok, Option, Over, Over-below, Read, ReadFault, ReadsNoMore, Same, Same-append, Same-itself, Same-sym, Same-trans, Sofar, Some, Two, ReaderState, Before, [], append-nil, arith, count_at, end, err_from_is_err_and, without_end_in, is_open, more_objects, more_sessions, more_symbols, refl, refused, session, spelling_in, subst, sym, ℕ, ◌++◌, ◌∙◌, ◌∷◌, ◌≡◌, journal_frame}, merge_lemmas.MergeBytes.{within_nil}, framing_lemmas.SoFar.{AtEnd, read_some, side-from, open_after, sofar-none, sofar-next}, framing_lemmas.Framings.{journal_sound}, readers_lemmas.Whole.{sofar-stops}}
 use Rattle.flute_join.specs.declared.refusal.JoinRefusal.{JoinRefusal}
 use Rattle.flute_join.specs.declared.refusal.JoinRefusal.TheVariants as join
 use Rattle.flute_journal.specs.Whole.{after_entries}
 
--- these entries were read, and what they come to is held within the limits
+-- these entries were read, and the store holds their facts, within its limits
 pub record Loaded (s o y limit : ℕ) (first now : Option (List ℕ)) (state : ReaderState Before)
     (content : List Fact) : Type 0 where
   pub entries : List Fact
@@ -19,6 +19,7 @@ none-over s o y (more_sessions h) = omega (arith, h)
 none-over s o y (more_objects session h) = omega (arith, h)
 none-over s o y (more_symbols key h) = omega (arith, h)
 
+-- before the first entry the store is empty
 pub loaded_none : (s o y limit : ℕ) (u v : Option (List ℕ)) (state : ReaderState Before)
     (content : List Fact) → v ≡ u → state ≡ Header → content ≡ []
     → Loaded s o y limit u v state content
@@ -40,6 +41,7 @@ over-same F G s o y h = Over-below F G s o y (Below-from_Same F G h)
 one_more : (F G : List Fact) (f : Fact) → Same F G → Same (F ++ f ∷ []) (G ++ f ∷ [])
 one_more F G f h = Same-append F G (f ∷ []) (f ∷ []) h (Same-itself (f ∷ []))
 
+-- one entry more was read, and its fact was put
 pub loaded-next : (s o y limit : ℕ) (u v w : Option (List ℕ)) (old new : ReaderState Before)
     (F G : List Fact) (f : Fact) → Loaded s o y limit u v old F
     → GivesItem journal_framing limit old new v w f → Same G (F ++ f ∷ [])
@@ -55,6 +57,7 @@ loaded-next s o y limit u v w old new F G f l h same fits =
           (Same-sym (F ++ f ∷ []) (es ++ f ∷ []) more) over);
     }
 
+-- the facts that were read are within the limits
 pub loaded-fits : (s o y limit : ℕ) (u v : Option (List ℕ)) (state : ReaderState Before)
     (F : List Fact) → Loaded s o y limit u v state F → Over F s o y → ⊥
 loaded-fits s o y limit u v state F l over = l.fits (over-same F l.entries s o y l.same over)
@@ -68,6 +71,7 @@ begins-over s o y limit (Some x) None es f a h over = absurd h
 begins-over s o y limit (Some x) (Some z) es f a h over =
     (es ++ f ∷ [], record { are_items = a; rest = z; whole = h }, over)
 
+-- one entry more would pass the limits
 pub loaded-over : (s o y limit : ℕ) (u v w : Option (List ℕ)) (old new : ReaderState Before)
     (F : List Fact) (f : Fact) → Loaded s o y limit u v old F
     → GivesItem journal_framing limit old new v w f → Over (F ++ f ∷ []) s o y
@@ -79,7 +83,7 @@ loaded-over s o y limit u v w old new F f l h over =
     (subst (Consumes u w) (read_some journal_framing next.are_items.told es f) next.read)
     (over-same (F ++ f ∷ []) (es ++ f ∷ []) s o y (one_more F es f l.same) over)
 
--- what the end tells
+-- what holds at the end of a journal
 pub record IsLoaded (limit : ℕ) (first last : Option (List ℕ)) (content : List Fact) : Type 0 where
   pub journal : IfSome first (λ bytes. IsJournalOf limit bytes content)
   pub at_end : IsAtEnd last
@@ -88,7 +92,7 @@ pub record IsLoaded (limit : ℕ) (first last : Option (List ℕ)) (content : Li
 abbrev pub entries_at : ReaderState Before → ℕ
 entries_at state = count_at journal_framing state
 
--- and how often the source failed
+-- How often the source failed.
 
 pub loaded_failed : (T X : Type 0) (s o y limit : ℕ) (u v : Option (List ℕ))
     (state : ReaderState Before) (F : List Fact) (f : ReadFault) (n m k : ℕ)

@@ -1,10 +1,17 @@
--- An entry that lies whole in the buffer of its source.
-use Rattle.flute_journal.proofs.Common.{◌≡◌, ℕ, ◌+◌, List, ◌∷◌, ◌++◌, length, take, drop, Option, Some, None, sym, ap, ◌∙◌, append_assoc, arith, length-append, take-append-drop, IfSome, Address, AllByRecursion, Fact, HasRoom, IsByte, Key, Kind, SymbolId, SymbolIs, Version, byte_of, entry_in, head_bytes}
+-- An entry that is whole in the buffer of its source (src/readers/lent.rt).
+use Rattle.flute_journal.proofs.Common.{◌≡◌, ℕ, ◌+◌, List, ◌∷◌, ◌++◌, length}
+use Rattle.flute_journal.proofs.Common.{take, drop, Option}
+use Rattle.flute_journal.proofs.Common.{Some, None, sym, ap, subst, ◌∙◌, append_assoc, arith}
+use Rattle.flute_journal.proofs.Common.{length-append, take-append-drop, IfSome, IsSplitAt, Address}
+use Rattle.flute_journal.proofs.Common.{AllByRecursion, Fact, HasRoom, HeadIs, IsByte, Key}
+use Rattle.flute_journal.proofs.Common.{SymbolId, Version, byte_of, entry_in, head_bytes}
 use Rattle.std.specs.Io.{StartsWith}
 use Rattle.flute_parts.specs.declared.fact.Fact.TheVariants as facts
 use Rattle.flute_journal.specs.declared.format.EntryHead.TheVariants.{Symbol}
+use Rattle.flute_journal.specs.declared.format.Kind.TheVariants as kinds
 use Rattle.flute_journal.specs.Lent.{BeginsWithEntry, HasEntry}
-use Rattle.flute_journal.proofs.format_lemmas.Decoded.{in_front}
+use Rattle.flute_journal.proofs.Numbers.{octets-drop, octets-take}
+use Rattle.flute_journal.proofs.format_lemmas.Decoded.{in_front, joined}
 
 begins_with : (buffer x : List ℕ) (u : Option (List ℕ)) (size : ℕ)
     → IfSome u (λ bytes. StartsWith bytes buffer) → take size buffer ≡ x
@@ -31,37 +38,57 @@ has_entry version last u buffer f size front h = record {
   begins = begins_with buffer (entry_in version f) u size front h.spelled;
 }
 
--- a symbol whose bytes lie there too
-pub symbol_begins : (v : Version) (last : Option Address) (k : Kind) (key : Key) (id : SymbolId)
-    (n byte : ℕ) (fixed rest symbol : List ℕ) → byte ≡ byte_of k → SymbolIs last k key id n
-    → HasRoom v key.session
-    → head_bytes v (Symbol key id n) ≡ fixed → symbol ≡ take n rest → length symbol ≡ n
-    → AllByRecursion IsByte symbol
-    → BeginsWithEntry v last (byte ∷ (fixed ++ rest)) (facts.Symbol key id symbol)
+-- bytes begin with the byte of a symbol, a head, and a symbol of so many bytes
+pub record LieInFront (bytes : List ℕ) (n : ℕ) (fixed symbol : List ℕ) : Type 0 where
+  pub octets : AllByRecursion IsByte bytes
+  pub first : ℕ
+  pub back : List ℕ
+  pub first_is : first ≡ byte_of kinds.Symbol
+  pub is : bytes ≡ first ∷ back
+  pub size : ℕ
+  pub rest : List ℕ
+  pub split : IsSplitAt back size fixed rest
+  pub symbol_is : symbol ≡ take n rest
+  pub whole : length symbol ≡ n
+
+-- they begin with the entry of that symbol, if the head is its head
+pub symbol_begins : (v : Version) (last : Option Address) (key : Key) (id : SymbolId) (n : ℕ)
+    {bytes fixed symbol : List ℕ} → HeadIs last kinds.Symbol (Symbol key id n)
+    → HasRoom v key.session → head_bytes v (Symbol key id n) ≡ fixed
+    → LieInFront bytes n fixed symbol
+    → BeginsWithEntry v last bytes (facts.Symbol key id symbol)
     (1 + length fixed + length symbol)
-symbol_begins v last k key id n byte fixed rest symbol kind_is s fits fixed_is symbol_is size
-    octets =
-    let first : byte ≡ 3 = kind_is ∙ ap byte_of s.kind_is in
-    let begins = in_front (byte ∷ fixed) symbol rest n symbol_is in
-    let long : length (byte ∷ (fixed ++ symbol)) ≡ 1 + length fixed + length symbol = omega
-    (arith, length-append fixed symbol) in
-    let spelled : byte ∷ (fixed ++ symbol) ≡ entry_in v (facts.Symbol key id symbol) = grind
-    (arith, append_assoc) in
-    record {
+symbol_begins v last key id n {bytes = bytes} {fixed = fixed} {symbol = symbol} s room head_is l =
+    let first : l.first ≡ 3 = l.first_is in
+    let behind : AllByRecursion IsByte l.back =
+    (subst (AllByRecursion IsByte) l.is l.octets).1 in
+    let own : AllByRecursion IsByte symbol =
+    subst (AllByRecursion IsByte) (sym l.symbol_is)
+    (octets-take n l.rest
+    (subst (AllByRecursion IsByte) (sym l.split.2) (octets-drop l.size l.back behind))) in
+    let begins = in_front (l.first ∷ fixed) symbol l.rest n l.symbol_is in
+    let long : length (l.first ∷ (fixed ++ symbol)) ≡ 1 + length fixed + length symbol =
+    omega (arith, length-append fixed symbol) in
+    let spelled : l.first ∷ (fixed ++ symbol) ≡ entry_in v (facts.Symbol key id symbol) =
+    grind (arith, append_assoc) in
+    let bytes_are : bytes ≡ l.first ∷ (fixed ++ l.rest) =
+    l.is ∙ ap (λ xs. l.first ∷ xs) (joined l.back fixed l.rest l.size l.split) in
+    subst (λ xs. BeginsWithEntry v last xs (facts.Symbol key id symbol)
+    (1 + length fixed + length symbol)) (sym bytes_are)
+    (record {
       valid = (
         (
           s.key_valid,
           s.id_valid,
           record {
-            some = omega
-                (arith, s.some, size);
-            short = omega (arith, s.short, size);
-            octets = octets;
+            some = omega (arith, s.some, l.whole);
+            short = omega (arith, s.short, l.whole);
+            octets = own;
           },
         ),
-        fits,
+        room,
       );
       in_order = s.in_order;
       within = omega (arith, begins.0, long);
       spelled = rw (← long) (begins.1 ∙ spelled);
-    }
+    })

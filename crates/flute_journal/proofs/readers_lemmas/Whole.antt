@@ -1,4 +1,4 @@
--- A journal that is read entry by entry.
+-- A journal that is read entry by entry: Sofar of journals, and what was read (specs/Whole).
 use Rattle.flute_journal.proofs.{Common.{Address, AllByRecursion, AreItems, Consumes, Consumes-trans, EndsAfter, Fact, GivesFault, IsFactIn, IsFaultUpTo, IsPart, IsRising, List, None, Option, ReadFault, ReaderState, Before, ReadsEntries, ReadsPart, Some, Sofar, StopsAfter, Version, [], ap, append-nil, append_assoc, arith, end, end_bytes, entry_in, fault_from, header_in, in_item, in_opening, inl, inr, journal_framing, last_of, length, nil_from_length, none-some, read_of, refl, same_Some, spelling_in, state_at, subst, sym, without_end_in, ℕ, ◌++◌, ◌∙◌, ◌∷◌, ◌≡◌, journal_frame}, framing_lemmas.SoFar.{FaultAfter, Side, found_now, read_some, stops_at, stops_by}, framing_lemmas.Framings.{journal_sound}, format_lemmas.Parts.{entry_within-short}, Each.{all_split}, merge_lemmas.MergeBytes.{without_end_in-snoc, within_entry, within_end, within_nil, without_end-of_spelling}, merge_lemmas.MergeRising.{Rises-second, Rises, rising-rises}}
 use Rattle.flute_journal.specs.{Whole.{in_header as part_in_header, after_entries as part_after}, Merges.{in_header, after_entries}}
 use Rattle.flute_journal.specs.declared.fault.ReadFault.TheVariants as faults
@@ -35,7 +35,7 @@ reads_part limit u x w es f i =
     part_at limit u x w es i.at_fault.part i.are_items i.before_it i.at_fault.read
     i.at_fault.is_part
 
--- the source failed behind these entries
+-- the source failed after these entries
 broken_at : (limit : ℕ) (u x w : Option (List ℕ)) (es : List Fact)
     (a : AreItems journal_frame limit es) → Consumes u x (read_of journal_framing a.told es)
     → IsFaultUpTo (end_bytes journal_framing a.told (state_at journal_framing a.told es))
@@ -68,7 +68,7 @@ stopped_at limit u x w es faults.OutOfMemory i = reads_part limit u x w es fault
 stopped_at limit u x w es f i =
     stops_by journal_sound limit u x es f i.are_items i.before_it i.at_fault.fault
 
--- a fault behind these entries, and what was read
+-- a fault after these entries, and what was read
 pub sofar-stops : (limit : ℕ) (u v w : Option (List ℕ)) (old new : ReaderState Before)
     (es : List Fact) (f : ReadFault) → Sofar journal_framing limit u v old es
     → GivesFault journal_framing limit old new v w f
@@ -77,7 +77,7 @@ sofar-stops limit u x w old new es f s h =
     let i = found_now limit u x w old new es f s h in
     (stopped_at limit u x w es f i, reads_part limit u x w es f i)
 
--- what was read
+-- What was read: whole entries, and a part of the next one (ReadsPart).
 
 pub reads-sofar : (limit : ℕ) (u v : Option (List ℕ)) (state : ReaderState Before) (es : List Fact)
     → Sofar journal_framing limit u v state es → ReadsEntries u v es
@@ -136,6 +136,7 @@ ends_part v (x ∷ es) part (in_opening few) =
 ends_part v (x ∷ es) part (in_item more e w) =
     after_entries more (ap (λ (l : List ℕ). without_end_in v (x ∷ es) ++ l) e) w
 
+-- what was read, at a fault of the bytes
 pub reads-fault : (limit : ℕ) (u v w : Option (List ℕ)) (old new : ReaderState Before)
     (es : List Fact) (f : ReadFault) → Sofar journal_framing limit u v old es
     → GivesFault journal_framing limit old new v w f → ReadsEntries u w es
@@ -151,16 +152,16 @@ reads-fault limit u x w old new es f s g =
       ends = ends_part v es i.at_fault.part i.at_fault.is_part;
     }
 
--- the entries are these and others, which stand above that address
+-- the entries are these and others, which are above that address
 abbrev pub Follows : Option Address → List Fact → List Fact → Type 0
 Follows last settled es = (rest : List Fact) × (es ≡ settled ++ rest) × Rises last rest
 
--- if the input is a journal, its other entries stand above that address
+-- if the input is a journal, its other entries are above that address
 abbrev pub IsAhead : Option Address → Option (List ℕ) → List Fact → Type 0
 IsAhead last input settled = (w : Version) (es : List Fact) → AllByRecursion (IsFactIn w) es
     → IsRising es → input ≡ Some (spelling_in w es) → Follows last settled es
 
--- a journal that begins with these entries has others behind them
+-- a journal that begins with these entries has only entries above them after these
 ahead-read : (v : Version) (input left : Option (List ℕ)) (settled : List Fact)
     → AllByRecursion (IsFactIn v) settled → Consumes input left (without_end_in v settled)
     → IsAhead (last_of None settled) input settled

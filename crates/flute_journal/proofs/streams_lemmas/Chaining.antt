@@ -1,4 +1,4 @@
--- A stream and those of a slice: what stands at a place, and what becomes of it.
+-- Chained: a stream with number 0 and those of a slice after it, and how one is advanced.
 use Rattle.flute_journal.proofs.{
   Common.{
     ◌≡◌,

@@ -1,4 +1,4 @@
--- A stream goes on to its next fact that is taken.
+-- Chosen: a stream is advanced to its next fact that the choice takes (specs/ChosenStreams).
 use Rattle.flute_journal.proofs.Common.{◌≡◌, ℕ, Bool, true, false, not, false≢true, append_assoc}
 use Rattle.flute_journal.proofs.Common.{List, [], ◌∷◌, ◌++◌, Option, Some, None, refl, sym, ap, ◌∙◌}
 use Rattle.flute_journal.proofs.Common.{subst, append-nil, length, arith, ◌+◌, ◌-◌, ◌^◌, ◌≤◌, ◌<◌}
@@ -50,7 +50,7 @@ module _ {C : Type 0} (takes : C → Fact → Bool) (s : C) where
     | inr t ↦ rw t refl
   ]
 
-  -- none of it is of another session, or it is
+  -- what is held counts as passed over if it is not taken, and not if it is
   held_counts : (held : Option Fact) → is_passed_over takes s held ≡ false
       → others_of (takes s) (option_list held) ≡ 0
   held_counts None e = refl
@@ -83,7 +83,7 @@ module _ {C : Type 0} (takes : C → Fact → Bool) (s : C) where
     abbrev pub GaveOf : S → S → List Fact → Type 0
     GaveOf start now facts = OfAll (takes s) (Gave b start now) facts
 
-    -- it let go of what it held, and of others behind it
+    -- it has given the fact that it held, and after it facts that are not taken
     pub record PassesOthers (old now : S) : Type 0 where
       pub passed : List Fact
       pub others : filter (takes s) passed ≡ []
@@ -91,7 +91,7 @@ module _ {C : Type 0} (takes : C → Fact → Bool) (s : C) where
           → Gave b start now ((all ++ option_list (b.held old)) ++ passed)
       pub fewer : b.most now + length (option_list (b.held old)) ≤ b.most old
 
-    -- so it is, and these others were counted
+    -- and the facts that were passed over were counted
     pub record CountsPassed (old now : S) (before counted : ℕ) : Type 0 where
       pub passes : PassesOthers old now
       pub counts : before + others_of (takes s) passes.passed < 2 ^ 64
@@ -151,6 +151,7 @@ module _ {C : Type 0} (takes : C → Fact → Bool) (s : C) where
     abbrev w : Behaviour (Chosen S C)
     w = chosen_behaviour takes b
 
+    -- The clauses of the trait (specs/Streams), once Chosen was advanced.
     module _ (start : Chosen S C) (F : List Fact) (p : w.passes start x F) where
       as_start : s ≡ start.choice
       as_start = sym was ∙ p.choice
@@ -187,7 +188,7 @@ module _ {C : Type 0} (takes : C → Fact → Bool) (s : C) where
                 (sym h.others) ∙ sym (filter-append (takes s) all h.passed),
           )
 
-      -- all that it let go of is counted
+      -- all facts that it gave are taken, and those between were counted
       counted_given : (h : CountsPassed b x.stream t.stream x.others t.others)
           → CountsOthers takes start t ((passed.0 ++ option_list (b.held x.stream))
           ++ h.passes.passed)
@@ -207,6 +208,7 @@ module _ {C : Type 0} (takes : C → Fact → Bool) (s : C) where
           let new = h.counts (omega (arith, e, d, n, small, old)) in
           omega (arith, e, d, n, old, new))
 
+      -- if the stream contains these facts, those of them that are taken go on as given
       continues : (all K facts : List Fact) (held : Option Fact) → facts ≡ filter (takes s) all
           → OfAll (takes s) (λ l. Continues l all held) K → Continues K facts held
       continues all K facts held e k = record {
@@ -217,6 +219,7 @@ module _ {C : Type 0} (takes : C → Fact → Bool) (s : C) where
         ended = λ n. ap (filter (takes s)) (k.1.ended n);
       }
 
+      -- Chosen is advanced if the stream is, up to a fact that is taken
       goes : CountsPassed b x.stream t.stream x.others t.others
           → is_passed_over takes s (b.held t.stream) ≡ false → Gave w start t given
       goes h o =
@@ -249,6 +252,7 @@ module _ {C : Type 0} (takes : C → Fact → Bool) (s : C) where
                 (j.0, q.1.known j.0 j.1, j.2);
           }
 
+      -- Chosen stops at the first fault of the stream
       stops_first : (fault : LoadFault) → StopsAt b x.stream t.stream fault
           → Stopped w start t given fault
       stops_first fault h =
@@ -286,7 +290,7 @@ module _ {C : Type 0} (takes : C → Fact → Bool) (s : C) where
     chosen_stops_later now fault counted h o g = λ start F p. stops_later start F p now fault
         h.passes o g
 
--- what was answered of a stream's head, of what it holds
+-- whether a stream's head is passed over is whether the fact that it holds is
 pub answered : {C : Type 0} (takes : C → Fact → Bool) (s z : C) (head held : Option Fact)
     (result is : Bool) → head ≡ held → result ≡ is_passed_over takes z head → z ≡ s → result ≡ is
     → is_passed_over takes s held ≡ is

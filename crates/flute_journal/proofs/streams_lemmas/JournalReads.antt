@@ -1,4 +1,4 @@
--- A journal that is read on is a stream that goes on.
+-- JournalStream: reading on in a journal advances the stream (specs/JournalStreams).
 use Rattle.flute_journal.proofs.{
   Common.{
     journal_framing,
@@ -91,6 +91,7 @@ abbrev Read : ℕ → Option (List ℕ) → Option (List ℕ) → ReaderState Be
 Read limit u w state F (Some f) = Sofar journal_framing limit u w state (F ++ f ∷ [])
 Read limit u w state F None = ReadWhole limit u w F × (state ≡ Ended)
 
+-- what was read up to an entry or to the end
 whole_at : (limit : ℕ) (u w : Option (List ℕ)) (F : List Fact) → AtEnd journal_framing limit u w F
     → ReadWhole limit u w F
 whole_at limit u w F s = record {
@@ -123,6 +124,7 @@ read_from limit u v w old new es (Some f) s g =
 read_from limit u v w old new es None s g =
     (whole_at limit u w es (side-from journal_sound limit u v w old new es None s g), g.ended)
 
+-- after the end, the next call gives the end again
 end_again : (limit : ℕ) (u v w : Option (List ℕ)) (new : ReaderState Before) (F : List Fact)
     (held : Option Fact) → ReadWhole limit u v F → held ≡ None
     → GivesEnd journal_framing Ended new v w
@@ -135,6 +137,7 @@ end_again limit u v w new F held r n g =
       g.ended,
     )
 
+-- the next call reads one entry more, or the end
 read_on : (limit : ℕ) (u v w : Option (List ℕ)) (old new : ReaderState Before) (F : List Fact)
     (held o : Option Fact) → ReadAt limit u v old F held
     → Gives journal_framing limit old new v w (Ok o)
@@ -155,13 +158,14 @@ read_open limit u w (Items place) F f o s = s
 read_open limit u w Ended F f o s = absurd cc
 read_open limit u w (Failed g) F f o s = absurd cc
 
+-- what was read, in whatever state the reader is
 read_at : (limit : ℕ) (u w : Option (List ℕ)) (state : ReaderState Before) (F : List Fact)
     (o : Option Fact) → Read limit u w state F o → ReadAt limit u w state F o
 read_at limit u w state F (Some f) r =
     read_open limit u w state F f (open_after limit u w state (F ++ f ∷ []) r) r
 read_at limit u w state F None r = subst (λ x. ReadAt limit u w x F None) (sym r.1) (r.0, refl)
 
--- What follows.
+-- What follows of the stream's clauses: reads, rises, ends, contains, and is sized.
 
 reads_of : (limit : ℕ) (u w : Option (List ℕ)) (state : ReaderState Before) (F : List Fact)
     (o : Option Fact) → Read limit u w state F o → ReadsEntries u w F
@@ -182,6 +186,7 @@ ended_of : (limit : ℕ) (u w : Option (List ℕ)) (state : ReaderState Before) 
     → IfSome u (λ xs. IsJournalWithin limit xs F)
 ended_of limit u w state F o r e = grind (arith)
 
+-- a journal has no entries but those that were read to its end
 only_entries : (limit : ℕ) (u : Option (List ℕ)) (F K : List Fact)
     → IfSome u (λ xs. IsJournalWithin limit xs F) → IsJournalOfAll u K → K ≡ F
 only_entries limit None F K h k = absurd (let e = k.bytes_are in cc)
@@ -207,6 +212,7 @@ known_of limit u w state F None r K k =
       ended = λ e. refl;
     }
 
+-- within the limit a reader that is open may give one fact more
 room_open : (limit : ℕ) (state : ReaderState Before) → IsTrue (is_open state)
     → room limit state ≡ limit - count_at journal_framing state
 room_open limit Header o = omega arith
@@ -237,6 +243,7 @@ pub record GivesOn (limit : ℕ) (u w : Option (List ℕ)) (state : ReaderState 
   pub ended : held ≡ None → IfSome u (λ bytes. IsJournalWithin limit bytes G)
   pub known : (K : List Fact) → IsJournalOfAll u K → Continues K (G ++ option_list held) held
 
+-- the state after a call that gave an entry or the end
 pub gives_on : (limit limit' : ℕ) (u v w : Option (List ℕ)) (old new : ReaderState Before)
     (F : List Fact) (held o : Option Fact) → limit' ≡ limit → ReadAt limit u v old F held
     → Gives journal_framing limit' old new v w (Ok o)
@@ -255,7 +262,7 @@ gives_on limit limit' u v w old new F held o same p g =
       known = known_of limit u w new G o r;
     }
 
--- A reader that stops.
+-- A call that stops at a fault.
 
 fault_at : (limit : ℕ) (u v w : Option (List ℕ)) (old new : ReaderState Before) (F : List Fact)
     (held : Option Fact) (f : ReadFault) → ReadAt limit u v old F held
@@ -296,11 +303,12 @@ module _ {R : Type 0} (unread : R → Option (List ℕ)) (failures : R → ℕ) 
   abbrev b : Behaviour (JournalStream R)
   b = journal_behaviour unread failures
 
-  -- the same source goes on to be read
+  -- the failures of one source add up
   since : (s t u : JournalStream R) (fault : Option LoadFault) → FailsSince unread failures s t None
       → FailsSince unread failures t u fault → FailsSince unread failures s u fault
   since s t u fault h k = grind (arith)
 
+  -- the stream is advanced, or stops, as the trait's clauses say (specs/Streams)
   pub stream_goes_on : (s t : JournalStream R) → FailsSince unread failures s t None
       → limit_of t.reader ≡ limit_of s.reader
       → Gives journal_framing (limit_of s.reader) (state_of s.reader) (state_of t.reader)

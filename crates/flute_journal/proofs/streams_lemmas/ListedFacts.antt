@@ -1,4 +1,4 @@
--- Facts in memory are a stream.
+-- WalkStream and FactStream: facts in memory are a stream.
 use Rattle.flute_journal.proofs.Common.{◌≡◌, List, [], ◌∷◌, ◌++◌, length, Option, Some, None, refl}
 use Rattle.flute_journal.proofs.Common.{sym, ap, ◌∙◌, subst, inl, inr, append_assoc, append-nil}
 use Rattle.flute_journal.proofs.Common.{arith, length-append, IfSome, ◌⊎◌, AllByRecursion, address}

@@ -1,4 +1,4 @@
--- A stream of which parts are lent goes on as one that holds them.
+-- A stream whose parts are lent is advanced as one that owns them (specs/Loans).
 use Rattle.flute_journal.proofs.Common.{Result, Ok, Err, OnOk, IfErr, LoadFault, Behaviour, GoesOn}
 use Rattle.flute_journal.proofs.Common.{StopsAt}
 use Rattle.flute_journal.specs.Loans.{lent_as}

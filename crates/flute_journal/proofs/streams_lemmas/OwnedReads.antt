@@ -1,4 +1,4 @@
--- A journal that is read on with its source is a stream that goes on.
+-- OwnedJournalStream: reading on in a journal advances the stream.
 use Rattle.flute_journal.proofs.{
   Common.{
     ◌≡◌,

@@ -1,4 +1,4 @@
--- A stream of two kinds goes on as its kind does.
+-- Either: a stream of two kinds is advanced as its kind is (specs/Eithers).
 use Rattle.flute_journal.proofs.Common.{rules, ◌≡◌, ℕ, List, [], ◌∷◌, ◌++◌, Some, Result, Ok, Err}
 use Rattle.flute_journal.proofs.Common.{sym, ap, OnOk, IfErr, slice_get, slice_set, Fact, LoadFault}
 use Rattle.flute_journal.proofs.Common.{Either, First, Second, Behaviour, Gave, GoesOn, Stopped}

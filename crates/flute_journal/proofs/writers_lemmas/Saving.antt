@@ -1,8 +1,9 @@
--- A store that is written entry by entry.
+-- write_store: a store that is written entry by entry.
 use Rattle.flute_journal.proofs.Common.{◌≡◌, ℕ, ◌+◌, Bool, true, List, [], ◌∷◌, ◌++◌, length, Option, sym, ap, ◌∙◌, subst, append_assoc, append-nil, arith, flat_map, AllByRecursion, flat_map-append, length-append, flat_map_more, Fact, IsRising, AppendsPart, rising_unique, AppendsPart-first, header, entry, end, spelling, IsFact, Journal, Written, PutsBytes}
 use Rattle.flute_journal.proofs.{Each.{all_more}, writers_lemmas.WrittenSoFar.{written-more}}
 
--- of these facts some are left, and the others were written behind the header, so many, as far as the sink took them
+-- some of these facts are left; the others, so many, were written after the header, as far as the
+-- sink took them
 pub record Saved (facts left : List Fact) (failed : Bool) (old now : Option (List ℕ)) (count : ℕ) : Type 0 where
   pub done : List Fact
   pub parts : facts ≡ done ++ left

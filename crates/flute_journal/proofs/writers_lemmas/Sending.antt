@@ -1,4 +1,4 @@
--- Datagrams that are written record by record.
+-- write_datagrams: datagrams that are written record by record.
 use Rattle.flute_journal.proofs.Common.{◌≡◌, ℕ, zero, suc, ◌+◌, ◌≤◌, List, [], ◌∷◌, ◌++◌, length, drop, Option, Some, None, refl, sym, ap, ◌∙◌, subst, append_assoc, append-nil, arith, slice_get, flat_map, AllByRecursion, Appends, Appends-trans, flat_map-append, nil_from_length, length-append, length-drop, flat_map_more, slice_get_within, get_or_from_slice_get, AppendsPart, AppendsPart-first, AppendsPart-second, file_header, record_of, IsDatagram, IsFileOf, drop-cons}
 use Rattle.flute_journal.proofs.Each.{all_more}
 

@@ -1,11 +1,11 @@
--- What a writer has written, call by call.
+-- What a JournalWriter has written, call by call (specs/JournalWriters).
 use Rattle.flute_journal.proofs.Common.{rules, Appends-nil, ◌≡◌, ℕ, Bool, true, false, List, [], ◌∷◌, ◌++◌, Option, refl, sym, ap, ◌∙◌, append_assoc, append-nil, ◌≢◌, Appends, Appends-trans, AppendsPart, Written, PutsBytes}
 
 some_more : (xs ys : List ℕ) → xs ≢ [] → xs ++ ys ≢ []
 some_more [] ys n e = n refl
 some_more (x ∷ xs) ys n e = cc
 
--- behind what was written, more bytes were put
+-- more bytes were put after what was written
 pub written-more : (f g : Bool) (u v w : Option (List ℕ)) (xs ys : List ℕ) → Written f u v xs → PutsBytes f g v w ys → Written g u w (xs ++ ys)
 written-more false false u v w xs ys a p = Appends-trans u v w xs ys a p
 written-more false true u v w xs ys a p = record {
@@ -33,12 +33,12 @@ pub written-part : (f : Bool) (u v : Option (List ℕ)) (xs : List ℕ) → Writ
 written-part false u v xs w = record { bytes = xs; more = []; appended = w; whole = append-nil xs }
 written-part true u v xs w = record { bytes = w.part; more = w.rest; appended = w.appended; whole = sym w.whole }
 
--- the first call
+-- the first call of a writer
 pub put_first : (f g : Bool) (u v : Option (List ℕ)) (xs : List ℕ) → f ≡ false → PutsBytes f g u v xs → Written g u v xs
 put_first false g u v xs e p = p
 put_first true g u v xs e p = absurd cc
 
--- a call behind which the sink has failed, and had not before
+-- a call during which the sink failed for the first time took a part of its bytes
 pub puts-part : (f g : Bool) (u v : Option (List ℕ)) (xs : List ℕ) → f ≡ false → g ≡ true → PutsBytes f g u v xs → AppendsPart u v xs
 puts-part false true u v xs e h p = p
 puts-part false false u v xs e h p = absurd cc

@@ -13,7 +13,7 @@ pub enum Version {
 }
 
 impl Version {
-    /// The version that these two bytes of a header tell. None if they tell none.
+    /// The version that these two bytes of a header are. None if they are none.
     pub fn from_bytes(bytes: &[u8]) -> Option<Version>
         requires { length bytes.now ≡ 2 }
         ensures { MatchOption result (is_version bytes.now ≡ false)

@@ -1,4 +1,4 @@
-//! Streams that go on together.
+//! Streams that are advanced together.
 ghost use Rattle.std.specs.Prelude.{◌≡◌, ◌≢◌, ◌<◌, true, false, length, IfOk, IfErr};
 ghost use Rattle.flute_journal.specs.Streams.{fact_in, place_of};
 ghost use Rattle.flute_journal.specs.Advances.{GoOnAt, StopsIn};

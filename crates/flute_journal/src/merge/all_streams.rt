@@ -33,9 +33,9 @@ pub struct MergedJournal {
     pub cut: bool,
 }
 
-/// Appends the journal of all that streams tell, and answers the number of its entries, and whether
-/// they are within the limits: at most `SESSIONS` sessions, `OBJECTS` objects of each and `SYMBOLS`
-/// symbols of each of these.
+/// Appends the journal of all that streams contain, and returns the number of its entries, and
+/// whether they are within the limits: at most `SESSIONS` sessions, `OBJECTS` objects of each and
+/// `SYMBOLS` symbols of each of these.
 ///
 /// The first fact of each stream is taken, and then the header written. Each turn writes what the
 /// streams hold at the lowest address, and then advances each of those that were there, in their
@@ -47,7 +47,7 @@ pub struct MergedJournal {
 /// - `Write` if the sink failed.
 ///
 /// What was appended is then no journal of anything. If each stream would have come to its end,
-/// it is a first part of the journal of all, and not all of it; after `Input` it is whole entries
+/// it is a proper prefix of the journal of all; after `Input` it is whole entries
 /// after the header, or nothing. Of each stream, the facts at addresses whose entry was appended
 /// whole were read, and at most one more.
 pub fn merge_all<const SESSIONS: u32, const OBJECTS: u32, const SYMBOLS: u32, G: Streams, W: Sink>(
@@ -81,9 +81,9 @@ pub fn merge_all<const SESSIONS: u32, const OBJECTS: u32, const SYMBOLS: u32, G:
     merge_into::<SESSIONS, OBJECTS, SYMBOLS, _, _>(alloc, streams, &mut writer, false)
 }
 
-/// Appends the journal of all that streams tell, as `merge_all` does, but goes on if the sink
-/// has failed: each stream is read to its end all the same, and what is told of them is told
-/// whatever became of the sink. The end is left out if all the streams together are over the
+/// Appends the journal of all that streams contain, as `merge_all` does, but continues if the sink
+/// has failed: each stream is still read to its end, and its fault is reported whatever became of
+/// the sink. The end is left out if all the streams together are over the
 /// limits: what was appended is then no journal of anything.
 ///
 /// # Errors
@@ -252,7 +252,7 @@ pub fn merge_slice<const SESSIONS: u32, const OBJECTS: u32, const SYMBOLS: u32, 
     merge_all::<SESSIONS, OBJECTS, SYMBOLS, _, _>(alloc, &mut all, sink)
 }
 
-// Counts one address more, unless a limit was passed before, and answers whether none is passed.
+// Counts one address more, unless a limit was passed before, and returns whether none is passed.
 fn count_place<const SESSIONS: u32, const OBJECTS: u32, const SYMBOLS: u32>(
     tally: &mut Tally<SESSIONS, OBJECTS, SYMBOLS>,
     within: bool,

@@ -11,7 +11,7 @@ use crate::streams::stream::Stream;
 use flute_parts::Sink;
 use std::alloc::Global;
 
-/// Appends the journal of what a stream gives, as `merge_all` does, and answers the number of its
+/// Appends the journal of what a stream gives, as `merge_all` does, and returns the number of its
 /// entries.
 ///
 /// # Errors
@@ -35,7 +35,7 @@ pub fn write_stream<S: Stream, W: Sink>(
     let mut one = One {
         stream: &mut *stream,
     };
-    // no limits are told, so none are counted
+    // `within` is not used, so the limits are 0, and nothing is counted
     match merge_all::<0, 0, 0, _, _>(alloc, &mut one, sink) {
         Ok(merged) => Ok(merged.entries),
         Err(fault) => Err(fault),

@@ -1,6 +1,9 @@
-//! Where streams stand within one object, so that of many streams only those at the lowest
+//! Which parts of one object streams hold, so that of many streams only those at the lowest
 //! address are looked at.
-ghost use Rattle.std.specs.Prelude.{◌≡◌, true, false, ℕ, ◌≢◌, ◌<◌, ◌≤◌, [], ◌∷◌, ◌++◌, List, None, Some, length, IfSome, IfOk, IfErr, OnOk, slice_get, slice_index};
+ghost use Rattle.std.specs.Prelude.{◌≡◌, true, false, ℕ, ◌≢◌, ◌<◌, ◌≤◌};
+ghost use Rattle.std.specs.Prelude.{◌/◌, [], ◌∷◌, ◌++◌};
+ghost use Rattle.std.specs.Prelude.{List, None, Some, length, IfSome, IfOk, IfErr, OnOk};
+ghost use Rattle.std.specs.Prelude.{slice_get, slice_index};
 ghost use Rattle.std.specs.Ordering.{is_eq};
 ghost use Rattle.flute_parts.specs.Order.{address_cmp};
 ghost use Rattle.flute_parts.specs.Addresses.{address, fact_of};
@@ -9,7 +12,7 @@ ghost use Rattle.flute_journal.specs.Streams.{fact_in, heads, place_of};
 ghost use Rattle.flute_journal.specs.Lowest.{ComesTo, IsNotBefore, Lowest};
 ghost use Rattle.flute_journal.specs.Advances.{GoOnAt, StopsIn};
 ghost use Rattle.flute_journal.specs.Changes.{changed};
-ghost use Rattle.flute_journal.specs.Ranks.{HoldsFrom, IsRanking, part_at};
+ghost use Rattle.flute_journal.specs.Ranks.{AreAbove, AreLow, HoldsFrom, IsRanking, part_at};
 
 use crate::merge::advance::{Advanced, is_at};
 use crate::merge::lowest::{Change, conflict_at, is_same};
@@ -25,6 +28,12 @@ pub const MANY: usize = 8;
 /// How many streams can have ranks.
 pub const MOST: usize = 128;
 
+// How many streams in succession are a block.
+const BLOCK: usize = 8;
+
+// How many blocks there can be.
+const BLOCKS: usize = 16;
+
 // A stream that was advanced alone for so many turns may lead though there are ranks.
 const LONG: u32 = 4;
 
@@ -35,13 +44,16 @@ const LATELY: u32 = 8;
 const BEHIND: u64 = u64::MAX;
 
 /// The ranks of streams: where each stands among the parts of one object, in their order. A rank is
-/// compared at a fraction of the cost of the address that a stream holds.
+/// compared at a fraction of the cost of the address that a stream holds, and a block of streams
+/// that stand behind an address is passed over at once.
 #[derive(Debug, Drop)]
 pub struct Ranks {
     /// The object. None if the streams have no ranks.
     key: Option<Key>,
     /// The rank of the stream with each number.
     ranks: [u64; MOST],
+    /// The lowest rank in each block.
+    lows: [u64; BLOCKS],
     /// The number of the last stream that was advanced alone.
     last: usize,
     /// How many times in succession it was.
@@ -58,6 +70,7 @@ impl Ranks {
         Ranks {
             key: None,
             ranks: [BEHIND; MOST],
+            lows: [BEHIND; BLOCKS],
             last: 0,
             alone: 0,
             sparse: 0,
@@ -95,6 +108,7 @@ impl Ranks {
     pub fn may_lead(&mut self, number: usize) -> bool
         ensures key { self.new.key ≡ self.old.key }
         ensures ranks { self.new.ranks ≡ self.old.ranks }
+        ensures lows { self.new.lows ≡ self.old.lows }
     {
         if !self.are_known() {
             return true;
@@ -141,6 +155,7 @@ impl Ranks {
                 return;
             }
         }
+        self.lows = lows_of(&self.ranks);
         self.key = Some(key);
     }
 
@@ -154,16 +169,14 @@ impl Ranks {
     {
         let key = self.key?;
         let all = streams.count();
-        let rank = lowest_of(&self.ranks, all);
+        let rank = lowest_of(&self.lows, all);
         let place = Address {
             key,
             part: part_of(rank)?,
         };
         let mut value = None;
-        for number in 0..all {
-            if self.ranks[number] != rank {
-                continue;
-            }
+        let mut next = 0;
+        while let Some(number) = self.next_at(next, all, rank) {
             if let Some(fact) = streams.head(number) {
                 match change_at(&place, &value, &fact) {
                     Change::Lower => value = Some(fact),
@@ -171,6 +184,7 @@ impl Ranks {
                     Change::Nothing => {}
                 }
             }
+            next = number + 1;
         }
         value
     }
@@ -201,16 +215,18 @@ impl Ranks {
         let rank = number_of(place.part);
         let mut moved = Advanced { count: 0, last: 0 };
         let mut known = true;
-        for number in 0..streams.count() {
-            if self.is_there(streams, number, rank, &place) {
+        let all = streams.count();
+        let mut next = 0;
+        while let Some(number) = self.next_at(next, all, rank) {
+            if is_at(&streams.head(number), &Some(place)) {
                 if let Err(fault) = streams.advance(number, alloc) {
                     return Err(InputFault { number, fault });
                 }
-                let head = streams.head(number);
-                known = known & set_rank(&mut self.ranks, number, &place.key, &head);
+                known = known & self.rank_one(number, &place.key, &streams.head(number));
                 moved.count += 1;
                 moved.last = number;
             }
+            next = number + 1;
         }
         if !known {
             self.key = None;
@@ -218,35 +234,81 @@ impl Ranks {
         Ok(moved)
     }
 
-    // Whether the stream with this number stands at this address of the object, whose rank this is.
+    // The number of the first stream, from this one on, whose rank is this or below. None if there
+    // is none. A block whose lowest rank is above is passed over.
     #[inline(always)]
-    fn is_there<G: Streams>(&self, streams: &G, number: usize, rank: u64, place: &Address) -> bool
-        requires within { number < length (G.streams streams.now) }
-        requires few { number < 128 }
-        requires rank { part_at rank ≡ place.now.part }
-        requires from { (s : G.Stream) → slice_get (G.streams streams.now) number ≡ Some s
-            → HoldsFrom place.now.key (slice_index self.now.ranks number)
-            (G.Stream.behaviour.held s) }
-        ensures there { result ≡ true → (s : G.Stream)
-            → slice_get (G.streams streams.now) number ≡ Some s
-            → place_of (G.Stream.behaviour.held s) ≡ Some place.now }
-        ensures elsewhere { result ≡ false → (s : G.Stream)
-            → slice_get (G.streams streams.now) number ≡ Some s
-            → place_of (G.Stream.behaviour.held s) ≢ Some place.now }
+    fn next_at(&self, from: usize, all: usize, rank: u64) -> Option<usize>
+        requires few { all ≤ 128 }
+        requires low { AreLow self.now.lows self.now.ranks }
+        ensures next { IfSome result (λ n. (from ≤ n) × (n < all)
+            × (slice_index self.now.ranks n ≤ rank) × AreAbove rank from n self.now.ranks) }
+        ensures none { result ≡ None → AreAbove rank from all self.now.ranks }
     {
-        self.ranks[number] <= rank && is_at(&streams.head(number), &Some(*place))
+        let mut number = from;
+        while number < all {
+            if number % BLOCK == 0 && self.lows[number / BLOCK] > rank {
+                number += BLOCK;
+            } else if self.ranks[number] <= rank {
+                return Some(number);
+            } else {
+                number += 1;
+            }
+        }
+        None
+    }
+
+    // Gives the stream with this number, which holds this now, a rank among the parts of an object.
+    // False if it holds a part of an object before that.
+    #[inline(always)]
+    fn rank_one(&mut self, number: usize, key: &Key, head: &Option<FactRef<'_>>) -> bool
+        requires { number < 128 }
+        ensures set { result ≡ true
+            → HoldsFrom key.now (slice_index self.new.ranks number) (fact_in head.now) }
+        ensures others { (k : ℕ) → k ≢ number
+            → slice_index self.new.ranks k ≡ slice_index self.old.ranks k }
+        ensures low { AreLow self.old.lows self.old.ranks → AreLow self.new.lows self.new.ranks }
+        ensures key { self.new.key ≡ self.old.key }
+    {
+        let is_set = set_rank(&mut self.ranks, number, key, head);
+        let block = number / BLOCK;
+        self.lows[block] = lowest_in(&self.ranks, block);
+        is_set
     }
 }
 
-// The lowest of the first ranks.
+// The lowest rank in each block.
+fn lows_of(ranks: &[u64; MOST]) -> [u64; BLOCKS]
+    ensures { AreLow result ranks.now }
+{
+    let mut lows = [BEHIND; BLOCKS];
+    for block in 0..BLOCKS {
+        lows[block] = lowest_in(ranks, block);
+    }
+    lows
+}
+
+// The lowest rank in a block.
 #[inline(always)]
-fn lowest_of(ranks: &[u64; MOST], all: usize) -> u64
-    requires { all ≤ 128 }
-    ensures { (k : ℕ) → k < all → result ≤ slice_index ranks.now k }
+fn lowest_in(ranks: &[u64; MOST], block: usize) -> u64
+    requires { block < 16 }
+    ensures { (k : ℕ) → k / 8 ≡ block → result ≤ slice_index ranks.now k }
 {
     let mut lowest = BEHIND;
-    for number in 0..all {
+    for number in BLOCK * block..BLOCK * block + BLOCK {
         lowest = lowest.min(ranks[number]);
+    }
+    lowest
+}
+
+// The lowest rank of so many streams.
+#[inline(always)]
+fn lowest_of(lows: &[u64; BLOCKS], all: usize) -> u64
+    requires { all ≤ 128 }
+    ensures { (k : ℕ) → k < all → result ≤ slice_index lows.now (k / 8) }
+{
+    let mut lowest = BEHIND;
+    for block in 0..(all + BLOCK - 1) / BLOCK {
+        lowest = lowest.min(lows[block]);
     }
     lowest
 }
@@ -314,7 +376,7 @@ fn part_of(rank: u64) -> Option<Part>
     Some(Part::Symbol(SymbolId { sbn, esi }))
 }
 
-// How the value of facts at an address changes by one more that is there or behind it.
+// How the value of facts at an address changes by one more fact that is there or after it.
 #[inline(always)]
 fn change_at(place: &Address, value: &Option<FactRef<'_>>, fact: &FactRef<'_>) -> Change
     requires there { IfSome (fact_in value.now) (λ g. address g ≡ place.now) }

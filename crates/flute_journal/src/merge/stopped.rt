@@ -1,4 +1,4 @@
-//! The first of several streams that has a fault.
+//! The first of several streams that has a fault, once their merge has stopped at one.
 ghost use Rattle.std.specs.Prelude.{◌≡◌, ◌≢◌, ◌<◌, ℕ, Some, List, length, OnOk, IfErr, slice_get};
 ghost use Rattle.flute_parts.specs.declared.fact.Fact.{Fact};
 ghost use Rattle.flute_journal.specs.Streams.{Gave};

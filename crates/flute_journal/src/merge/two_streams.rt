@@ -36,8 +36,8 @@ pub enum MergeFault {
     Write,
 }
 
-/// Appends the journal of all that two journals tell, and answers the number of its entries. Each
-/// may have at most `max_entries` entries, which are fewer than 2^63.
+/// Appends the journal of all that two journals contain, and returns the number of its entries.
+/// Each may have at most `max_entries` entries, which are fewer than 2^63.
 ///
 /// The first entry of each is read, and then the header written. Each turn writes the entry at the
 /// lower address, or at an equal address the value of both, and then reads the next entry of each
@@ -51,8 +51,8 @@ pub enum MergeFault {
 ///   memory for a symbol.
 /// - `Write` if the sink failed.
 ///
-/// What was appended is then no journal of anything. If both inputs are journals it is a first
-/// part of the journal of both, and not all of it; after `First` or `Second` it is whole entries
+/// What was appended is then no journal of anything. If both inputs are journals it is a proper
+/// prefix of the journal of both; after `First` or `Second` it is whole entries
 /// after the header, or nothing. Of each input, the entries at addresses whose entry was appended
 /// whole were read whole, and at most one more.
 pub fn merge_streams<A: Source, B: Source, W: Sink>(
@@ -148,7 +148,7 @@ fn merge_new<A: Source, B: Source, W: Sink>(
         (B.failures (source_of second.new.reader.now).now) result }
     ensures sink_failures { W.failures sink.new ≡ W.failures sink.old + sink_failed result }
 {
-    // no limits are told, so none are counted
+    // `within` is not used, so the limits are 0, and nothing is counted
     match merge_two::<0, 0, 0, _, _, _>(alloc, first, second, sink) {
         Ok(joined) => Ok(joined.entries),
         Err(fault) => Err(fault_of_two(fault)),

@@ -54,7 +54,7 @@ impl<'a, R: Source> DatagramReader<'a, R> {
     /// The next datagram, of 0 to 65,535 bytes, whatever they say. None once the input ends between
     /// two records, and from then on.
     ///
-    /// A record after the first that lies whole in the source's buffer is looked at there; any
+    /// A record after the first that is whole in the source's buffer is read there; any
     /// other is read field by field. The bytes of the datagram are the only memory that is taken.
     ///
     /// # Errors
@@ -65,11 +65,11 @@ impl<'a, R: Source> DatagramReader<'a, R> {
     /// - `Read` if the source fails in this call, and `OutOfMemory` if there is no memory for a
     ///   datagram.
     ///
-    /// What came whole before the source failed is looked at first: `Read` is told if the fault
+    /// What was read before the source failed is checked first: `Read` is returned if the fault
     /// would be `Cut` with the input ended there, or if it would end between two records. Nothing
     /// after the header and one record was read.
     ///
-    /// Each later call answers the same fault, and reads nothing.
+    /// Each later call returns the same fault, and reads nothing.
     pub fn next(&mut self, alloc: Global) -> Result<Option<Datagram>, ReadFault>
         ensures source { (datagrams_source_of self.new).ghost_name
             ≡ (datagrams_source_of self.old).ghost_name }

@@ -70,7 +70,7 @@ pub fn read_up_to<'b, R: Source>(source: &mut R, buffer: &'b mut [u8]) -> ReadUp
     }
 }
 
-/// Reads until the buffer is full, or up to the end of the input, and answers how
+/// Reads until the buffer is full, or up to the end of the input, and returns how
 /// many bytes were read.
 ///
 /// # Errors
@@ -90,7 +90,7 @@ pub fn fill<R: Source>(source: &mut R, buffer: &mut [u8]) -> Result<usize, ReadF
     }
 }
 
-// Reads until the buffer is full, up to the end of the input, or until the source fails. Answers
+// Reads until the buffer is full, up to the end of the input, or until the source fails. Returns
 // how many bytes were read, and whether the source failed.
 fn fill_up_to<R: Source>(source: &mut R, buffer: &mut [u8]) -> (usize, bool)
     ensures filled { ReadsUpTo (R.unread source.old) (R.unread source.new)

@@ -1,7 +1,9 @@
 //! Reading a journal, entry by entry.
-ghost use Rattle.std.specs.Prelude.{◌≡◌, ℕ, ◌+◌, ◌<◌, ◌^◌, IfOk, IfSome, Ok, Some, None, true, false};
+ghost use Rattle.std.specs.Prelude.{◌≡◌, ℕ, ◌+◌, ◌<◌, ◌^◌, IfOk, IfSome, OnErr};
+ghost use Rattle.std.specs.Prelude.{Ok, Some};
+ghost use Rattle.std.specs.Prelude.{None, true, false};
 ghost use Rattle.flute_journal.specs.Input.{Fails, FailsIf};
-ghost use Rattle.flute_journal.specs.Readers.{source_of, limit_of, state_of};
+ghost use Rattle.flute_journal.specs.Readers.{given_into, source_of, limit_of, state_of};
 ghost use Rattle.flute_journal.specs.JournalFraming.{journal_framing};
 ghost use Rattle.flute_journal.specs.Framing.{Gives, is_open, state_after};
 ghost use Rattle.flute_journal.specs.declared.readers.reader_state.ReaderState.TheVariants as ReaderState;
@@ -40,7 +42,7 @@ impl<'a, R: Source> JournalReader<'a, R> {
 
     /// The next entry. None once the end was read and nothing follows it, and from then on.
     ///
-    /// The entry of a symbol, after the first entry, is looked at in the source's buffer if it lies
+    /// The entry of a symbol, after the first entry, is read in the source's buffer if it is
     /// whole there; any other is read field by field. No byte past it is taken. The bytes of a
     /// symbol are the only memory that is asked for.
     ///
@@ -61,11 +63,11 @@ impl<'a, R: Source> JournalReader<'a, R> {
     /// - `Read` if the source fails in this call, and `OutOfMemory` if there is no memory for a
     ///   symbol.
     ///
-    /// The fields that came whole before the source failed are looked at first: `Read` is told
+    /// The fields that were read before the source failed are checked first: `Read` is returned
     /// if the fault would be `Cut` with the input ended there, or if the source fails after the
     /// end was read.
     ///
-    /// Each later call answers the same fault, and reads nothing.
+    /// Each later call returns the same fault, and reads nothing.
     pub fn next(&mut self, alloc: Global) -> Result<Option<Fact>, ReadFault>
         ensures source { (source_of self.new).ghost_name ≡ (source_of self.old).ghost_name }
         ensures limit { limit_of self.new ≡ limit_of self.old }
@@ -95,32 +97,84 @@ impl<'a, R: Source> JournalReader<'a, R> {
         read_at(alloc, self.source, self.max_entries, &mut self.state, spare)
     }
 
-    /// Puts the next entry in place of the one that is held, if it lies whole in the source's
-    /// buffer and both are of symbols of one file with as many bytes. False if not, and nothing was
-    /// read then. It asks for no memory.
+    /// Puts the next entry in place of the one that is held: none if the end was read, or after a
+    /// fault. The bytes of a symbol are put into the memory of the one that was held, as
+    /// `next_with` says.
+    ///
+    /// # Errors
+    ///
+    /// Those of `next`.
     #[inline(always)]
-    pub fn next_in_place(&mut self, held: &mut Option<Fact>) -> bool
+    pub(crate) fn next_into(
+        &mut self,
+        alloc: Global,
+        held: &mut Option<Fact>,
+    ) -> Result<(), ReadFault>
         ensures source { (source_of self.new).ghost_name ≡ (source_of self.old).ghost_name }
         ensures limit { limit_of self.new ≡ limit_of self.old }
-        ensures gives { result ≡ true → Gives journal_framing (limit_of self.old)
-            (state_of self.old) (state_of self.new) (R.unread (source_of self.old).now)
-            (R.unread (source_of self.new).now) (Ok held.new) }
-        ensures nothing { result ≡ false
-            → ((source_of self.new).now ≡ (source_of self.old).now)
-            × (state_of self.new ≡ state_of self.old) × (held.new ≡ held.old) }
-        ensures failures { result ≡ true → FailsIf (is_open (state_of self.old))
+        ensures gives { Gives journal_framing (limit_of self.old) (state_of self.old)
+            (state_of self.new) (R.unread (source_of self.old).now)
+            (R.unread (source_of self.new).now) (given_into result held.new) }
+        ensures failures { FailsIf (is_open (state_of self.old))
             (R.failures (source_of self.old).now) (R.failures (source_of self.new).now)
-            (Ok held.new) }
+            (given_into result held.new) }
+        ensures none { OnErr result (held.new ≡ None) }
     {
-        read_in_place(self.source, self.max_entries, &mut self.state, held)
+        read_into(alloc, self.source, self.max_entries, &mut self.state, held)
     }
+}
+
+/// Puts the next entry of a journal whose reader has this state in place of the one that is held,
+/// as `next_into` does.
+#[inline(always)]
+pub(crate) fn read_into<R: Source>(
+    alloc: Global,
+    source: &mut R,
+    max_entries: u64,
+    state: &mut ReaderState<Before>,
+    held: &mut Option<Fact>,
+) -> Result<(), ReadFault>
+    ensures gives { Gives journal_framing max_entries state.old state.new
+        (R.unread source.old) (R.unread source.new) (given_into result held.new) }
+    ensures failures { FailsIf (is_open state.old)
+        (R.failures source.old) (R.failures source.new) (given_into result held.new) }
+    ensures none { OnErr result (held.new ≡ None) }
+{
+    if read_in_place(source, max_entries, state, held) {
+        return Ok(());
+    }
+    read_anew(alloc, source, max_entries, state, held)
+}
+
+// The same, whatever the next entry is. It is not inlined into the step that advances a stream,
+// which would take longer.
+#[inline(never)]
+fn read_anew<R: Source>(
+    alloc: Global,
+    source: &mut R,
+    max_entries: u64,
+    state: &mut ReaderState<Before>,
+    held: &mut Option<Fact>,
+) -> Result<(), ReadFault>
+    ensures gives { Gives journal_framing max_entries state.old state.new
+        (R.unread source.old) (R.unread source.new) (given_into result held.new) }
+    ensures failures { FailsIf (is_open state.old)
+        (R.failures source.old) (R.failures source.new) (given_into result held.new) }
+    ensures none { OnErr result (held.new ≡ None) }
+{
+    let spare = match held.take() {
+        Some(fact) => fact.into_vec(alloc),
+        None => Vec::new(alloc),
+    };
+    *held = read_at(alloc, source, max_entries, state, spare)?;
+    Ok(())
 }
 
 // Puts the next entry of a journal whose reader has this state in place of the one that is held,
 // if it lies whole in the source's buffer and both are of symbols of one file with as many bytes.
 // False if not, and nothing was read then.
 #[inline(always)]
-pub(crate) fn read_in_place<R: Source>(
+fn read_in_place<R: Source>(
     source: &mut R,
     max_entries: u64,
     state: &mut ReaderState<Before>,
@@ -153,7 +207,7 @@ pub(crate) fn read_in_place<R: Source>(
 // The next entry of a journal whose reader has this state, and its state afterwards.
 #[tactic(auto, using(crate::proofs::readers_lemmas::Calls::gives_entries, crate::proofs::readers_lemmas::Calls::entry_wanted))]
 #[inline(always)]
-pub(crate) fn read_at<R: Source>(
+fn read_at<R: Source>(
     alloc: Global,
     source: &mut R,
     max_entries: u64,

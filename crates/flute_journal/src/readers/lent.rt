@@ -56,26 +56,19 @@ pub fn take_next<R: Source>(
     ensures nothing { result ≡ None → (source.new ≡ source.old) × (held.new ≡ held.old) }
     ensures failures { R.failures source.new ≡ R.failures source.old }
 {
-    let length = match &*held {
-        Some(Fact::Symbol { bytes, .. }) => bytes.as_slice().len(),
-        _ => return None,
+    let Some(fact) = held else {
+        return None;
     };
-    let (id, symbol, count) = next_in(source.buffer(), last, length)?;
-    let Some(Fact::Symbol { bytes, .. }) = held.take() else {
-        unreachable!();
+    let Fact::Symbol { key, id, bytes } = fact else {
+        return None;
     };
-    let mut copy = bytes.into_vec();
-    copy.copy_from_slice(symbol);
-    let Ok(bytes) = Bytes::from_vec(copy) else {
-        unreachable!();
-    };
-    *held = Some(Fact::Symbol {
-        key: last.key,
-        id,
-        bytes,
-    });
+    let length = bytes.as_slice().len();
+    let (next, symbol, count) = next_in(source.buffer(), last, length)?;
+    *key = last.key;
+    *id = next;
+    bytes.replace(symbol);
     source.consume(count);
-    Some(id)
+    Some(next)
 }
 
 // The symbol of so many bytes whose entry is at the front of the bytes, after the entry at `last`,

@@ -1,4 +1,4 @@
-//! A journal as a store.
+//! `read_store`: a journal, read into a new store.
 ghost use Rattle.std.specs.Prelude.{IfOk, IfErr, IfSome};
 ghost use Rattle.std.specs.Io.KnownBytes.{IsAtEnd};
 ghost use Rattle.flute_parts.specs.Limits.{Over};
@@ -20,7 +20,7 @@ use std::alloc::Global;
 ///
 /// The first that is met:
 ///
-/// - `Read` with the fault that [`JournalReader::next`] answers: the entries before it are
+/// - `Read` with the fault that [`JournalReader::next`] returns: the entries before it are
 ///   within the limits;
 /// - `Full` if an entry needs a new session, object or symbol beyond the limits;
 /// - `OutOfMemory` if there is no memory for an entry in the store.

@@ -1,7 +1,7 @@
 //! A journal as a stream.
-ghost use Rattle.std.specs.Prelude.{◌≡◌, None, OnOk, IfErr};
+ghost use Rattle.std.specs.Prelude.{◌≡◌, None};
 ghost use Rattle.flute_journal.specs.Readers.{source_of, limit_of, state_of};
-ghost use Rattle.flute_journal.specs.Streams.{IsNew, GoesOn, StopsAt};
+ghost use Rattle.flute_journal.specs.Streams.{IsNew};
 ghost use Rattle.flute_journal.specs.JournalStreams.{journal_behaviour, lent_behaviour};
 ghost use Rattle.flute_journal.specs.declared.readers.reader_state.ReaderState.TheVariants as ReaderState;
 
@@ -50,31 +50,8 @@ impl<'a, R: Source> Stream for JournalStream<'a, R> {
 
     #[inline(always)]
     fn advance(&mut self, alloc: Global) -> Result<(), LoadFault> {
-        if self.reader.next_in_place(&mut self.held) {
-            return Ok(());
-        }
-        self.take_next(alloc)
-    }
-}
-
-impl<'a, R: Source> JournalStream<'a, R> {
-    // Lets go of the entry that is held, and takes the next. It is not inlined into the step that
-    // advances a stream, which would take longer.
-    #[inline(never)]
-    fn take_next(&mut self, alloc: Global) -> Result<(), LoadFault>
-        ensures goes_on { OnOk result
-            (GoesOn (journal_behaviour R.unread R.failures) self.old self.new) }
-        ensures stops { IfErr result
-            (StopsAt (journal_behaviour R.unread R.failures) self.old self.new) }
-    {
-        let spare = spare_of(alloc, self.held.take());
-        match self.reader.next_with(alloc, spare) {
-            Ok(held) => {
-                self.held = held;
-                Ok(())
-            }
-            Err(fault) => Err(LoadFault::Read(fault)),
-        }
+        self.reader.next_into(alloc, &mut self.held)?;
+        Ok(())
     }
 }
 
@@ -99,39 +76,7 @@ impl<'r, 'a, R: Source> Stream for LentStream<'r, 'a, R> {
 
     #[inline(always)]
     fn advance(&mut self, alloc: Global) -> Result<(), LoadFault> {
-        if self.reader.next_in_place(self.held) {
-            return Ok(());
-        }
-        self.take_next(alloc)
-    }
-}
-
-impl<'r, 'a, R: Source> LentStream<'r, 'a, R> {
-    // Lets go of the entry that is held, and takes the next. It is not inlined into the step that
-    // advances a stream, which would take longer.
-    #[inline(never)]
-    fn take_next(&mut self, alloc: Global) -> Result<(), LoadFault>
-        ensures goes_on { OnOk result
-            (GoesOn (lent_behaviour R.unread R.failures) self.old self.new) }
-        ensures stops { IfErr result
-            (StopsAt (lent_behaviour R.unread R.failures) self.old self.new) }
-    {
-        let spare = spare_of(alloc, self.held.take());
-        match self.reader.next_with(alloc, spare) {
-            Ok(held) => {
-                *self.held = held;
-                Ok(())
-            }
-            Err(fault) => Err(LoadFault::Read(fault)),
-        }
-    }
-}
-
-// The memory of an entry that is let go of, for the next one.
-#[inline(always)]
-pub(crate) fn spare_of(alloc: Global, held: Option<Fact>) -> Vec<u8> {
-    match held {
-        Some(fact) => fact.into_vec(alloc),
-        None => Vec::new(alloc),
+        self.reader.next_into(alloc, self.held)?;
+        Ok(())
     }
 }

@@ -1,14 +1,14 @@
 //! A journal as a stream, with its source.
-ghost use Rattle.std.specs.Prelude.{◌≡◌, None, OnOk, IfErr};
-ghost use Rattle.flute_journal.specs.Streams.{IsNew, GoesOn, StopsAt};
-ghost use Rattle.flute_journal.specs.OwnedStreams.{owned_limit, owned_state, held_of, owned_behaviour};
+ghost use Rattle.std.specs.Prelude.{◌≡◌, None};
+ghost use Rattle.flute_journal.specs.Streams.{IsNew};
+ghost use Rattle.flute_journal.specs.OwnedStreams.{owned_limit, owned_state, held_of};
+ghost use Rattle.flute_journal.specs.OwnedStreams.{owned_behaviour};
 ghost use Rattle.flute_journal.specs.declared.readers.reader_state.ReaderState.TheVariants as ReaderState;
 
 use crate::fault::LoadFault;
 use crate::readers::entry_fields::Before;
-use crate::readers::journal_reader::{read_at, read_in_place};
+use crate::readers::journal_reader::read_into;
 use crate::readers::reader_state::ReaderState;
-use crate::streams::journal_stream::spare_of;
 use crate::streams::stream::Stream;
 use flute_parts::{Fact, FactRef, Source};
 use std::alloc::Global;
@@ -52,26 +52,6 @@ impl<R: Source> OwnedJournalStream<R> {
         self.state = ReaderState::Header;
         self.held = None;
     }
-
-    // Lets go of the entry that is held, and takes the next. It is not inlined into the step that
-    // advances a stream, which would take longer.
-    #[inline(never)]
-    fn take_next(&mut self, alloc: Global) -> Result<(), LoadFault>
-        ensures goes_on { OnOk result
-            (GoesOn (owned_behaviour R.unread R.failures) self.old self.new) }
-        ensures stops { IfErr result
-            (StopsAt (owned_behaviour R.unread R.failures) self.old self.new) }
-    {
-        let spare = spare_of(alloc, self.held.take());
-        let source = &mut self.source;
-        match read_at(alloc, source, self.max_entries, &mut self.state, spare) {
-            Ok(held) => {
-                self.held = held;
-                Ok(())
-            }
-            Err(fault) => Err(LoadFault::Read(fault)),
-        }
-    }
 }
 
 impl<R: Source> Stream for OwnedJournalStream<R> {
@@ -88,9 +68,13 @@ impl<R: Source> Stream for OwnedJournalStream<R> {
     #[inline(always)]
     fn advance(&mut self, alloc: Global) -> Result<(), LoadFault> {
         let source = &mut self.source;
-        if read_in_place(source, self.max_entries, &mut self.state, &mut self.held) {
-            return Ok(());
-        }
-        self.take_next(alloc)
+        read_into(
+            alloc,
+            source,
+            self.max_entries,
+            &mut self.state,
+            &mut self.held,
+        )?;
+        Ok(())
     }
 }

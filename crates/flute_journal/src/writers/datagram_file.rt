@@ -1,4 +1,4 @@
-//! Datagrams as a datagram file.
+//! `write_datagrams`: datagrams, written as a datagram file.
 ghost use Rattle.std.specs.Prelude.{◌≡◌, ◌+◌, ◌≤◌, ◌++◌, length, flat_map, IfOk, if◌then◌else◌, is_ok};
 ghost use Rattle.flute_parts.specs.Devices.{Writes};
 ghost use Rattle.std.specs.List.{AllByRecursion};
@@ -12,12 +12,12 @@ use crate::readers::datagram_reader::FILE_HEADER;
 use flute_parts::{DeviceFault, Sink};
 use flute_wire::{Datagram, Datagrams};
 
-/// Writes a datagram file, a record for each datagram in their order, and answers the number of the
+/// Writes a datagram file, a record for each datagram in their order, and returns the number of the
 /// records. It takes no memory of its own.
 ///
 /// # Errors
 ///
-/// `Write` if the sink failed. A first part of the file was then written, and not all of it.
+/// `Write` if the sink failed. A proper prefix of the file was then written.
 #[tactic(auto, using(crate::proofs::writers_lemmas::Sending::sends))]
 pub fn write_datagrams<W: Sink>(datagrams: &Datagrams, sink: &mut W) -> Result<u64, SaveFault>
     ensures bytes { Writes (W.written sink.old) (W.written sink.new)

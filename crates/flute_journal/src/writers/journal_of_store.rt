@@ -1,4 +1,4 @@
-//! A store as a journal.
+//! `write_store`: a store, written as a journal.
 ghost use Rattle.std.specs.Prelude.{◌≡◌, ℕ, ◌+◌, ◌*◌, ◌<◌, ◌^◌, List, length, IfOk, if◌then◌else◌, is_ok};
 ghost use Rattle.flute_parts.specs.Devices.{Writes};
 ghost use Rattle.flute_journal.specs.Format.{spelling};
@@ -9,7 +9,7 @@ use crate::writers::journal_writer::JournalWriter;
 use flute_parts::Sink;
 use flute_store::Store;
 
-/// Writes the journal of a store, and answers the number of its entries: an entry for each
+/// Writes the journal of a store, and returns the number of its entries: an entry for each
 /// fact that is held, in the order of their addresses. Stores that hold the same are
 /// written as the same bytes.
 ///
@@ -18,7 +18,7 @@ use flute_store::Store;
 ///
 /// # Errors
 ///
-/// `Write` if the sink failed. A first part of the journal was then written, and not all of it.
+/// `Write` if the sink failed. A proper prefix of the journal was then written.
 pub fn write_store<const SESSIONS: u32, const OBJECTS: u32, const SYMBOLS: u32, W: Sink>(
     store: &Store<SESSIONS, OBJECTS, SYMBOLS>,
     sink: &mut W,

@@ -42,6 +42,7 @@ impl<'a, W: Sink> JournalWriter<'a, W> {
     }
 
     /// Writes an entry.
+    #[inline(always)]
     pub fn entry(&mut self, fact: &FactRef<'_>)
         requires sized { IsSized (fact_of fact.now) }
         ensures valid { IsFact (fact_of fact.now) }

@@ -16,7 +16,7 @@ fn merge_journals<R: Source + Drop, W: Sink>(
     let mut streams = Vec::new(alloc);
     for source in &mut sources {
         if streams.len() >= 64 || streams.push(JournalStream::new(source, MANY)).is_err() {
-            return Err(Fail::from("too many journals"));
+            return Err(Fail::from("too many journals, or out of memory"));
         }
     }
     Ok(merge_slice::<4, 4, 4, _, _>(alloc, &mut streams, sink))
@@ -32,7 +32,7 @@ fn three_journals_are_merged(rt: HostRuntime) -> Result<(), Fail> {
         sources.push(MemorySource::new(journal))?;
     }
     let mut sink = MemorySink::new(rt.alloc());
-    assert!(rt; merge_journals(rt.alloc(), sources, &mut sink)?.is_ok());
+    merge_journals(rt.alloc(), sources, &mut sink)??;
     assert!(rt; sink.as_slice() == bytes(rt.alloc(), written::JOINED)?.as_slice());
     Ok(())
 }

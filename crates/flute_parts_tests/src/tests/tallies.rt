@@ -8,7 +8,7 @@ fn made<T: Default>() -> T {
     T::default()
 }
 
-// Where this symbol stands.
+// The address of this symbol.
 fn address(esi: u16) -> Option<Address> {
     let part = Part::Symbol(SymbolId { sbn: 0, esi });
     Some(Address { key: key()?, part })

@@ -1,3 +1,4 @@
+-- merging_merged_is_merging_all: the law (src/laws.rt), by the facts of each group's journal.
 use Rattle.flute_journal.proofs.{Common.{List, ℕ, [], ◌∷◌, Same, Fact, Version, Same-itself, Same-sym, Same-trans, Same-append, Collects, JournalIn, Each, all_of}, merge_lemmas.MergeBytes.{journal_parts, parts_journal}}
 use Rattle.flute_journal.proofs.laws.merging_merged_is_merging_all.Goals as goal
 
@@ -7,7 +8,7 @@ all_same [] (E ∷ joined) h = absurd h
 all_same (F ∷ groups) [] h = absurd h
 all_same (F ∷ groups) (E ∷ joined) h = Same-append F E (all_of groups) (all_of joined) h.0.same (all_same groups joined h.1)
 
--- the journal of facts is that of others that come to the same
+-- facts with the same value at each address have the same journal
 of_others : (v : Version) (bytes : List ℕ) (F G : List Fact) → Same G F → JournalIn v bytes F → JournalIn v bytes G
 of_others v bytes F G same journal =
     let j = journal_parts v bytes F journal in

@@ -1,3 +1,4 @@
+-- parse: what follows the kind of an entry, for each kind, and its first fault.
 use Rattle.std.proofs.Common.{arith, Ok, Err}
 use Rattle.flute_journal.specs.declared.format.EntryHead.TheVariants.{Symbol}
 use Rattle.flute_journal.specs.declared.format.Kind.TheVariants as kinds

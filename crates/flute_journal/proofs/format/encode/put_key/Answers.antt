@@ -1,3 +1,4 @@
+-- put_key: the bytes it puts are those of the key (specs/Format).
 use Rattle.flute_journal.proofs.{Common.{◌≡◌, ℕ, ◌/◌, ◌%◌, ◌^◌, [], ◌∷◌, ◌++◌, List, ap, ◌∙◌, in_bytes, object_bytes}, Numbers.{in_halves}, format_lemmas.Written.{regroup_more, instance_bytes, file_bytes}, format.encode.put_key.Goals.{in-Some, in-None}}
 use Rattle.flute_journal.specs.Format.{sender_size}
 use Rattle.flute_journal.proofs.format.encode.put_key.Goals as goal

@@ -1,4 +1,4 @@
--- One stream more, by whether it stands there.
+-- advance_at: one stream more, by whether it holds that address.
 use Rattle.flute_journal.proofs.{Common.{◌≡◌, ◌+◌, length, subst, sym, ap, ◌∙◌, arith, place_of}, merge_lemmas.GoingOn.{WentSoFar, item_at, one_stays, one_goes, same_length}, merge.advance.advance_at.Goals.{then-is_at+in_default, else-is_at}}
 use Rattle.flute_journal.specs.declared.{merge.advance.Advanced.{Advanced}}
 use Rattle.flute_journal.proofs.merge.advance.advance_at.Goals as goal

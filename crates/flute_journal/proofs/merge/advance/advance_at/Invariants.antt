@@ -1,4 +1,4 @@
--- The first streams went on, and the others are as they were.
+-- advance_at: the first streams were advanced, and the others are unchanged.
 use Rattle.flute_journal.proofs.{Common.{◌≡◌, ◌<◌, ◌≤◌, length}, merge_lemmas.GoingOn.{WentSoFar}}
 use Rattle.flute_journal.proofs.merge.advance.advance_at.Given as goal
 

@@ -1,4 +1,4 @@
--- The first fault, and what was joined.
+-- join_streams: the first fault, and what was joined.
 use Rattle.flute_journal.proofs.{Common.{◌≡◌, ℕ, EndsMerged, List, Option, rules, slice_get_within, subst}, merge_lemmas.Finished.{stopped_of}}
 use Rattle.flute_journal.proofs.merge.all_streams.join_streams.Goals as goal
 

@@ -1,4 +1,4 @@
--- Each exit is a lemma on where the merge stood.
+-- merge_into: each exit follows by a lemma on the state of the merge before it.
 use Rattle.flute_journal.proofs.{Common.{◌≢◌, ℕ, [], true, Some, sym, subst, arith, fact_of, header, entry, end, GoOnAt, StopsIn, IsCounted}, writers_lemmas.WrittenSoFar.{puts-part, left_out}, merge_lemmas.Finished.{cut_journal}}
 use Rattle.flute_journal.proofs.merge_lemmas.StreamStates.{stop_first, stop_header, state_turn, turn-falls, sized-lowest, few-joined, no_failure, stop_entry, stop_input, stop_end, finished}
 use Rattle.flute_journal.proofs.merge.all_streams.merge_into.Goals as goal
@@ -85,7 +85,7 @@ returns-clause-cut g c = λ e.
     let m = (finished g.G.Stream.Stream.behaviour g.row.SESSIONS g.row.OBJECTS g.row.SYMBOLS c.loop-fact.tally c.loop-fact.within c.end.new.self.failed c.loop-fact.invariant.state _ c.requires.few c.in_default-lowest.ensures.lowest c.end.ensures.puts).merged in
     cut_journal _ _ _ _ c.end.new.self.failed e m.puts
 
--- the end was left out
+-- after a failed write the end was not written
 
 some_end : (n : ℕ) → end n ≢ []
 some_end n e = cc

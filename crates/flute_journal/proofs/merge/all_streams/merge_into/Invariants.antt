@@ -1,4 +1,4 @@
--- Between two turns, the sink has not failed, or the merge is patient.
+-- merge_into: between two turns, the sink has not failed, or the merge is patient.
 use Rattle.flute_journal.proofs.{Common.{◌≡◌, ◌+◌, false, most_of, times_failed, IsCounted}, merge_lemmas.StreamStates.{State}}
 use Rattle.flute_journal.specs.Ranks.{IsLed}
 use Rattle.flute_journal.proofs.merge.all_streams.merge_into.Given as goal

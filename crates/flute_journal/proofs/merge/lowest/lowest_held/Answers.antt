@@ -1,4 +1,4 @@
--- One stream more.
+-- lowest_held: one stream more.
 use Rattle.flute_journal.proofs.{Common.{◌<◌, length, arith, List, [], ◌++◌, Option, Some, take, sym, ap, subst, append-nil, ◌∷◌, ◌∙◌, fact_of, conflict_at, Fact, fact_in, option_list, heads, IsLowest}, merge_lemmas.LowestFacts.{heads-more}}
 use Rattle.flute_journal.specs.Changes.{changed}
 use Rattle.flute_journal.proofs.merge.lowest.lowest_held.Goals.{in-Some+in-Lower, in-Some+in-Conflict, in-Some+in-Nothing, in_default}

@@ -1,4 +1,4 @@
--- The lowest of the first streams.
+-- lowest_held: the lowest of the first streams.
 use Rattle.flute_journal.proofs.Common.{take, fact_in, heads, IsLowest}
 use Rattle.flute_journal.proofs.merge.lowest.lowest_held.Given as goal
 

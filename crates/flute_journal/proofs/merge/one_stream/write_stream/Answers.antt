@@ -1,4 +1,4 @@
--- All that is written of it is a part of its journal.
+-- write_stream: all that is written of it is a part of its journal.
 use Rattle.flute_journal.proofs.Common.{List, [], ◌∷◌, append-nil, sym, subst, Fact, Journal}
 use Rattle.flute_journal.proofs.merge.one_stream.write_stream.Goals as goal
 

@@ -1,4 +1,4 @@
--- The fact is elsewhere, or it is the first there, the same, or another.
+-- change_at: the fact is elsewhere, or it is the first there, the same, or another.
 use Rattle.flute_journal.proofs.{
   Common.{◌≡◌, address, address_same, IfSome, fact_in, fact_of, sym, ◌∙◌, subst, ◌++◌, ◌∷◌, []},
   merge_lemmas.RankFacts.{comes-elsewhere, comes-first, comes-same, comes-apart},

@@ -1,7 +1,10 @@
--- It is the lowest of the first ones.
-use Rattle.flute_journal.proofs.Common.{ℕ, ◌<◌, ◌≤◌}
+-- It is the lowest of the first blocks.
+use Rattle.flute_journal.proofs.Common.{◌≡◌, ℕ, ◌+◌, ◌/◌, ◌<◌, ◌≤◌}
 use Rattle.std.proofs.Common.{slice_index}
 use Rattle.flute_journal.proofs.merge.ranks.lowest_of.Given as goal
 
-abbrev pub invariant-loop-number : goal.invariant-loop-number
-invariant-loop-number l = (k : ℕ) → k < l.number → l.lowest ≤ slice_index l.ranks k
+abbrev pub invariant-loop-block : goal.invariant-loop-block
+invariant-loop-block l = record {
+  low : (k : ℕ) → k < l.block → l.lowest ≤ slice_index l.lows k;
+  end : l.block-end ≡ (l.fn.all + 7) / 8;
+}

@@ -1,4 +1,4 @@
--- It holds a part of that object.
+-- rank_of: the rank of a fact of that object.
 use Rattle.flute_journal.proofs.{
   Common.{◌≡◌, address, ap, sym, subst, ◌∙◌, fact_in, fact_of, is_eq},
   merge_lemmas.RankFacts.{from-part, same_place},

@@ -1,4 +1,4 @@
--- The stream was read on.
+-- finish: the stream was read on.
 use Rattle.flute_journal.proofs.{Common.{◌≡◌}, merge_lemmas.Finished.{ReadOn, most_at}}
 use Rattle.flute_journal.proofs.merge.stopped.finish.Given as goal
 

@@ -1,4 +1,4 @@
--- Those that were reached have ended.
+-- first_fault: those that were reached have ended.
 use Rattle.flute_journal.proofs.{Common.{◌≡◌, ◌≤◌}, merge_lemmas.Finished.{Reached}}
 use Rattle.flute_journal.proofs.merge.stopped.first_fault.Given as goal
 

@@ -1,3 +1,4 @@
+-- fill_up_to: its loop keeps that the buffer has the bytes consumed so far.
 use Rattle.flute_journal.proofs.Common.{◌≡◌, ℕ, ◌+◌, ◌-◌, ◌≤◌, List, ◌++◌, rules, arith, length, take, slice_range, sym, ap, ◌∙◌, subst, le_refl, drop_at, length-take-le, Consumes, Consumes-trans}
 use Rattle.std.proofs.lemmas.Slice.{take-put_mid_below}
 use borrow.Rule.Slice.PartMut.{put_mid, post_of}

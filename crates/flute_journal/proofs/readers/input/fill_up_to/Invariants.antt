@@ -1,4 +1,4 @@
--- What was filled so far is what was read so far.
+-- fill_up_to: what was filled so far is what was read so far.
 use Rattle.flute_journal.proofs.Common.{◌≡◌, ℕ, ◌-◌, ◌<◌, ◌≤◌, length, take, get_or, Consumes}
 use Rattle.flute_journal.proofs.readers.input.fill_up_to.Given as goal
 

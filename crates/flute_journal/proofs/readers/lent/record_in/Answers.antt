@@ -1,3 +1,4 @@
+-- record_in: the bytes begin with the record of the datagram it returns.
 use Rattle.flute_journal.proofs.Common.{◌≡◌, rules, ℕ, ◌+◌, ◌^◌, ◌<◌, List, ◌++◌, length, take, sym, ap, ◌∙◌, subst, arith, length-append, AllByRecursion, IsByte}
 use Rattle.flute_journal.specs.Lent.{BeginsWithRecord}
 use Rattle.flute_journal.specs.Numbers.{in_bytes}
@@ -6,7 +7,7 @@ use Rattle.flute_journal.proofs.Numbers.{octets, octets-take, octets-drop}
 use Rattle.flute_journal.proofs.format_lemmas.Decoded.{joined, in_front}
 use Rattle.flute_journal.proofs.readers.lent.record_in.Goals as goal
 
--- the bytes of a datagram lie behind their number
+-- the bytes of a datagram follow their number
 record_begins : (n : ℕ) (number rest datagram : List ℕ) → in_bytes 2 n ≡ number → length number ≡ 2 → datagram ≡ take n rest → length datagram ≡ n → n < 2 ^ 16
     → AllByRecursion IsByte datagram → BeginsWithRecord (number ++ rest) datagram
 record_begins n number rest datagram spelled two is size short octets =

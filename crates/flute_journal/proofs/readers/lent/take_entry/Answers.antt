@@ -1,4 +1,4 @@
--- There was no memory for an entry that lies whole in the buffer.
+-- take_entry: there was no memory for an entry that lies whole in the buffer.
 use Rattle.flute_journal.proofs.{Common.{ap, ◌∙◌, Err, err_from_is_err_and, refl}, readers_lemmas.Seen.{has_entry}}
 use Rattle.flute_journal.proofs.readers.lent.take_entry.Goals as goal
 

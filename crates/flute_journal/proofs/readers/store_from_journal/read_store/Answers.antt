@@ -1,3 +1,4 @@
+-- read_store: its loop, its faults of the journal and of the store, and the store at the end.
 use Rattle.flute_journal.proofs.{Common.{◌≡◌, rules, ap, ◌∙◌, subst, Err, err_from_is_err_and, is_open, IsLoadFault, Read, ReadsNoMore, refused}, readers_lemmas.Loading.{loaded_all, loaded-given, loaded-fits, loaded-full, loaded-stops, loaded-read, fault-part, refused-part}}
 use Rattle.flute_journal.proofs.readers.store_from_journal.read_store.Goals as goal
 

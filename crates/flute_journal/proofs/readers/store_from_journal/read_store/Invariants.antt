@@ -1,4 +1,4 @@
--- The store holds what the entries so far come to, within its limits.
+-- read_store: the store holds the facts of the entries so far, within its limits.
 use Rattle.flute_journal.proofs.{Common.{◌≡◌, ◌-◌}, readers_lemmas.Loading.{Loaded, entries_at}}
 use Rattle.flute_journal.proofs.readers.store_from_journal.read_store.Given as goal
 

@@ -1,4 +1,4 @@
--- The records before the place were written.
+-- write_datagrams: the records before the place were written.
 use Rattle.flute_journal.proofs.{Common.{◌≡◌, ◌-◌, length}, writers_lemmas.Sending.{Sent}}
 use Rattle.flute_journal.proofs.writers.datagram_file.write_datagrams.Given as goal
 

@@ -1,3 +1,4 @@
+-- write_store: its loop over the store's facts, a failed write, and the whole journal.
 use Rattle.flute_journal.proofs.{Common.{rules, subst, AppendsPart, Same-itself, spelling, Written}, writers_lemmas.Saving.{saved-next, saved-cut, saved-all, only-spelling}}
 use Rattle.flute_journal.proofs.writers.journal_of_store.write_store.Goals as goal
 

@@ -1,4 +1,4 @@
--- What was written so far are the header and the entries of the facts that are not left.
+-- write_store: so far the header and the entries of the facts that are not left were written.
 use Rattle.flute_journal.proofs.{Common.{◌≡◌, ◌+◌, times_failed}, writers_lemmas.Saving.{Saved}}
 use Rattle.flute_journal.proofs.writers.journal_of_store.write_store.Given as goal
 

@@ -1,3 +1,4 @@
+-- datagrams_of, a test's helper: its loop over the records, and its fault.
 use Rattle.std.proofs.Common.{◌≡◌, [], ◌∷◌, ◌++◌, sym, ap, ◌∙◌, subst, arith, Err}
 use Rattle.std.proofs.lemmas.Result.{err_from_is_err_and}
 use Rattle.flute_journal.specs.Framing.{GivesItem, GivesFault, Sofar}

@@ -1,4 +1,4 @@
--- The datagrams so far are those of the records that were read.
+-- datagrams_of: the datagrams so far are those of the records that were read.
 use Rattle.std.proofs.Common.{◌≡◌, ◌-◌, length}
 use Rattle.flute_journal.specs.Framing.{Sofar}
 use Rattle.flute_journal.specs.FileFraming.{file_framing}

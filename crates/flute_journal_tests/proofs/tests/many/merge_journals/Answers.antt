@@ -1,4 +1,4 @@
--- Nothing was read of the streams.
+-- merge_journals: nothing was read of the streams.
 use Rattle.std.proofs.Common.{◌<◌, ◌^◌, List, subst, sym, ◌∙◌, arith}
 use Rattle.flute_journal.specs.Streams.{most_of}
 use Rattle.flute_journal.specs.Advances.{AreNew}

@@ -1,4 +1,4 @@
--- Nothing was read of the streams so far.
+-- merge_journals: nothing was read of the streams so far.
 use Rattle.flute_journal.specs.JournalStreams.{journal_behaviour}
 use Rattle.flute_journal_tests.proofs.NewStreams.{NewStreams}
 use Rattle.flute_journal_tests.proofs.tests.many.merge_journals.Given as goal

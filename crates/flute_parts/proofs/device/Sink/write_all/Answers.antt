@@ -1,3 +1,4 @@
+-- Sink::write_all: its loop over calls of write, and what a failed one has taken.
 use Rattle.std.proofs.Common.{◌≡◌, ℕ, ◌+◌, ◌-◌, ◌<◌, ◌≤◌, List, Option, rules, arith, length, take, take_all, drop, sym, ap, subst}
 use Rattle.std.proofs.lemmas.List.{take-append-drop, length-drop}
 use Rattle.std.proofs.lemmas.Result.{err_from_is_err_and}

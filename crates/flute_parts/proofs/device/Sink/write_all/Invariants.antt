@@ -1,4 +1,4 @@
--- What was taken so far is the front of the bytes.
+-- Sink::write_all: what was taken so far is the front of the bytes.
 use Rattle.std.proofs.Common.{◌≡◌, ◌-◌, ◌≤◌, length, take}
 use Rattle.std.specs.Io.KnownBytes.{Appends}
 use Rattle.flute_parts.proofs.device.Sink.write_all.Given as goal

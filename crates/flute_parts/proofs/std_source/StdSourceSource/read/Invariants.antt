@@ -1,4 +1,4 @@
--- While a call is repeated, no failure is counted and known bytes stay as they are.
+-- StdSource::read: while a call is repeated, no failure is counted, and known bytes stay the same.
 use Rattle.std.proofs.Common.{◌≡◌}
 use Rattle.std.specs.Io.KnownBytes.{Keeps}
 use Rattle.flute_parts.proofs.std_source.StdSourceSource.read.Given as goal

@@ -1,3 +1,4 @@
+-- Tally::count_key: the counts and limits for a known and for a new session and object.
 use Rattle.std.proofs.Common.{◌≡◌, Some, ap, sym, ◌∙◌}
 use Rattle.flute_parts.specs.declared.key.Key.{Key}
 use Rattle.flute_parts.proofs.Tallied.{session-told, session-told_apart, key-told, key-told_apart, count-same_key, count-object, over-object, count-session, over-session, over-first_object}

@@ -1,4 +1,4 @@
--- So far the first symbols of the block are listed.
+-- list_block: so far the first symbols of the block are listed.
 use Rattle.std.proofs.Common.{◌≡◌, ◌++◌, map}
 use Rattle.std.specs.List.{range_with_len}
 use Rattle.flute_parts.specs.Partition.{symbol_id}

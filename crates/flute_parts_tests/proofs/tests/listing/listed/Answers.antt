@@ -1,3 +1,4 @@
+-- listed, a test's helper: it lists all ids of a partition.
 use Rattle.std.proofs.Common.{◌≡◌, ℕ, ◌<◌, ◌≤◌, List, [], ◌++◌, length, get_or, drop, flat_map, sym, ap, ◌∙◌, subst, append-nil, arith}
 use Rattle.std.specs.List.{enumerate_from}
 use Rattle.std.proofs.Math.Facts.{Fits-of_lt}

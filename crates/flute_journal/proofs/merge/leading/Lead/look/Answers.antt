@@ -1,4 +1,4 @@
--- One stream more: it holds nothing before the next address, or it is the one that is to lead.
+-- Lead::look: one stream more: it holds nothing before the next address, or is the one to lead.
 use Rattle.flute_journal.proofs.{Common.{◌≤◌, length, sym, subst, arith, fact_in, Leads}, merge_lemmas.LeadFacts.{lead-new}}
 use Rattle.flute_journal.proofs.merge.leading.Lead.look.Goals as goal
 

@@ -1,4 +1,4 @@
--- None of the streams that were looked at holds a fact before the next address.
+-- Lead::look: none of the streams that were looked at holds a fact before the next address.
 use Rattle.flute_journal.proofs.{Common.{◌≡◌, false, length}, merge_lemmas.LeadFacts.{FirstsFrom}}
 use Rattle.flute_journal.proofs.merge.leading.Lead.look.Given as goal
 

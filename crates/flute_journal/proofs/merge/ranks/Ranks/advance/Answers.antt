@@ -1,57 +1,90 @@
--- One stream more, by whether it stands there.
+-- One stream more, by whether it stands there: those before it stand elsewhere.
 use Rattle.flute_journal.proofs.{
-  Common.{◌≡◌, ◌+◌, length, Some, ap, subst, sym, ◌∙◌, arith},
-  merge_lemmas.GoingOn.{WentSoFar, item_at, one_stays, one_goes, one_stops, same_length},
-  merge_lemmas.RankedStreams.{AreRankedFrom, Reranked, rest_moved, rest_stays},
-  merge.ranks.Ranks.advance.Goals.{then-is_there+in_default, else-is_there},
+  Common.{◌≡◌, ◌≢◌, ◌+◌, ◌-◌, ◌∙◌, length, Some, ap, subst, sym},
+  Common.{refl, arith, place_of},
+  merge_lemmas.GoingOn.{WentSoFar, all_went, item_at, more_stay, one_goes, one_stays, one_stops},
+  merge_lemmas.GoingOn.{same_length},
+  merge_lemmas.RankFacts.{same_place},
+  merge_lemmas.RankedStreams.{AreRankedFrom, Reranked, passed_elsewhere, rest_from, rest_moved},
 }
-use Rattle.flute_journal.specs.Ranks.{HoldsFrom}
-use Rattle.flute_journal.specs.declared.{merge.advance.Advanced.{Advanced}, merge.ranks.Ranks.{Ranks}}
+use Rattle.flute_journal.specs.Ranks.{AreLow, HoldsFrom, place_at_rank}
+use Rattle.flute_journal.specs.declared.merge.{advance.Advanced.{Advanced}, ranks.Ranks.{Ranks}}
+use Rattle.flute_journal.proofs.merge.ranks.Ranks.advance.Goals.{
+  then-is_at+in_default-advance,
+  else-is_at,
+}
 use Rattle.flute_parts.specs.Equality.{both}
 use Rattle.flute_journal.proofs.merge.ranks.Ranks.advance.Goals as goal
 
 pub returns-in-Err-clause-stops : goal.returns-in-Err-clause-stops
 returns-in-Err-clause-stops g c =
+    let b = g.G.Stream.Stream.behaviour in
+    let old = g.G.Streams.streams c.args.streams.now in
+    let now = g.G.Streams.streams c.loop-number.streams in
+    let i = c.loop-number.invariant in
+    let found = c.in-Some.ensures.next in
+    let rank = c.number_of-rank.result in
+    let k = c.in-Some.number in
+    let at : c.args.place ≡ place_at_rank c.args.place.key rank =
+    same_place c.args.place c.args.place.key rank refl c.number_of-rank.ensures in
+    let apart =
+    passed_elsewhere b c.args.place.key c.args.place rank c.loop-number.next k at found.3
+    i.ranked in
+    let went =
+    more_stay b (Some c.args.place) (k - c.loop-number.next) c.loop-number.next k old now
+    (omega (arith, found.0)) (omega (arith, found.1, i.all)) apart i.went in
     let a = c.in-Err.ensures.advances in
-    one_stops g.G.Stream.Stream.behaviour (Some c.args.place) c.loop-number.number
-    (g.G.Streams.streams c.args.streams.now) (g.G.Streams.streams c.loop-number.streams)
-    (g.G.Streams.streams c.advance.new.self) c.in-Err.fault c.loop-number.invariant.went a
-    (c.is_there.ensures.there c.if-is_there.true a.before a.was)
+    let there =
+    sym (ap place_of (c.head.ensures a.before a.was)) ∙ c.is_at.ensures.at c.if-is_at.true in
+    one_stops b (Some c.args.place) k old now (g.G.Streams.streams c.advance.new.self)
+    c.in-Err.fault went a there
 
 pub loop-number-preserved : goal.loop-number-preserved
 loop-number-preserved g c =
     let b = g.G.Stream.Stream.behaviour in
     let old = g.G.Streams.streams c.args.streams.now in
     let now = g.G.Streams.streams c.loop-number.streams in
-    let k = c.loop-number.number in
     let i = c.loop-number.invariant in
+    let found = c.in-Some.ensures.next in
+    let rank = c.number_of-rank.result in
+    let k = c.in-Some.number in
     let key = c.args.place.key in
-    let joined = c.if-is_there in
-    let x = item_at now k (omega (arith, c.loop-number.invariant.all, c.loop-number-test.true)) in
+    let joined = c.if-is_at in
+    let at : c.args.place ≡ place_at_rank key rank =
+    same_place c.args.place key rank refl c.number_of-rank.ensures in
+    let apart = passed_elsewhere b key c.args.place rank c.loop-number.next k at found.3 i.ranked in
+    let went =
+    more_stay b (Some c.args.place) (k - c.loop-number.next) c.loop-number.next k old now
+    (omega (arith, found.0)) (omega (arith, found.1, i.all)) apart i.went in
+    let ranked = rest_from b key c.loop-number.next k found.0 i.ranked in
     let W = λ (s : g.row.G.Denot).
     WentSoFar b (Some c.args.place) (k + 1) old (g.G.Streams.streams s) in
-    let L = λ (s : g.row.G.Denot). length (g.G.Streams.streams s) ≡ c.count-number-end.result in
+    let L = λ (s : g.row.G.Denot). length (g.G.Streams.streams s) ≡ c.count-all.result in
     let N = λ (s : g.row.G.Denot).
     g.G.Streams.names s ≡ g.G.Streams.names c.args.streams.now in
     let R = λ (s : g.row.G.Denot).
     AreRankedFrom b key (k + 1) joined.known (g.G.Streams.streams s) joined.self.ranks in
-    elim c.if-is_there.branch [
-      | then-is_there+in_default w ↦
+    let T = λ (r : Ranks). AreLow r.lows r.ranks in
+    elim c.if-is_at.branch [
+      | then-is_at+in_default-advance w ↦
           let new = g.G.Streams.streams w.advance.new.self in
-          let a = w.in_default.ensures.advances in
-          let there = c.is_there.ensures.there w.if-is_there.true a.before a.was in
-          let set = w.set_rank-known in
-          let m : Reranked b key k set.result now new c.loop-number.self.ranks set.new.ranks =
+          let a = w.in_default-advance.ensures.advances in
+          let there =
+          sym (ap place_of (c.head.ensures a.before a.was))
+          ∙ c.is_at.ensures.at w.if-is_at.true in
+          let set = w.rank_one-known in
+          let m : Reranked b key k set.result now new c.loop-number.self.ranks
+          set.new.self.ranks =
           record {
             advanced = a;
             ranked = λ e s at.
-                subst (HoldsFrom key _) (w.head-head.ensures s at) (set.ensures.set e);
+                subst (HoldsFrom key _) (w.head-then-is_at.ensures s at) (set.ensures.set e);
             stay = set.ensures.others;
           } in
           record {
             went =
                 subst W (sym w.streams-is)
-                (one_goes b (Some c.args.place) k old now new i.went a there);
+                (one_goes b (Some c.args.place) k old now new went a there);
             all = subst L (sym w.streams-is) (same_length b k now new a ∙ i.all);
             names = subst N (sym w.streams-is) (w.advance.ensures.names ∙ i.names);
             ranked =
@@ -59,17 +92,23 @@ loop-number-preserved g c =
                 (subst (λ r. AreRankedFrom b key (k + 1) joined.known new r)
                 (sym (ap (λ (r : Ranks). r.ranks) w.self-is))
                 (rest_moved b key k joined.known m
-                (λ e. both c.loop-number.known set.result (sym w.known-is ∙ e)) i.ranked));
-            key = ap (λ (r : Ranks). r.key) w.self-is ∙ i.key;
-            count = let n = ap (λ (m : Advanced). m.count) w.moved-is in omega (arith, n, i.count);
+                (λ e. both c.loop-number.known set.result (sym w.known-is ∙ e)) ranked));
+            low = subst T (sym w.self-is) (set.ensures.low i.low);
+            next = omega (arith, found.1);
+            key = ap (λ (r : Ranks). r.key) w.self-is ∙ set.ensures.key ∙ i.key;
+            count =
+                let n = ap (λ (m : Advanced). m.count) w.moved-is in
+                omega (arith, n, i.count, found.0);
             last = λ h. let n = ap (λ (m : Advanced). m.last) w.moved-is in omega (arith, n);
           }
-      | else-is_there w ↦
-          let stays = c.is_there.ensures.elsewhere w.if-is_there.false x.0 x.1 in
+      | else-is_at w ↦
+          let x = item_at now k (omega (arith, found.1, i.all)) in
+          let stays : place_of (b.held x.0) ≢ Some c.args.place = λ e.
+          c.is_at.ensures.elsewhere w.if-is_at.false (ap place_of (c.head.ensures x.0 x.1) ∙ e) in
           record {
             went =
                 subst W (sym w.streams-is)
-                (one_stays b (Some c.args.place) k old now x.0 i.went x.1 stays);
+                (one_stays b (Some c.args.place) k old now x.0 went x.1 stays);
             all = subst L (sym w.streams-is) i.all;
             names = subst N (sym w.streams-is) i.names;
             ranked =
@@ -77,12 +116,52 @@ loop-number-preserved g c =
                 (subst (λ r. AreRankedFrom b key (k + 1) joined.known now r)
                 (sym (ap (λ (r : Ranks). r.ranks) w.self-is))
                 (subst (λ d. AreRankedFrom b key (k + 1) d now c.loop-number.self.ranks)
-                (sym w.known-is) (rest_stays b key k i.ranked)));
+                (sym w.known-is) (rest_from b key k (k + 1) (omega arith) ranked)));
+            low = subst T (sym w.self-is) i.low;
+            next = omega (arith, found.1);
             key = ap (λ (r : Ranks). r.key) w.self-is ∙ i.key;
-            count = let n = ap (λ (m : Advanced). m.count) w.moved-is in omega (arith, n, i.count);
+            count =
+                let n = ap (λ (m : Advanced). m.count) w.moved-is in
+                omega (arith, n, i.count, found.0);
             last = λ h.
                 let n = ap (λ (m : Advanced). m.last) w.moved-is in
                 let d = ap (λ (m : Advanced). m.count) w.moved-is in
-                omega (arith, h, n, d, i.last);
+                omega (arith, h, n, d, i.last, found.0);
           }
     ]
+
+pub returns-then-not-known-clause-go_on : goal.returns-then-not-known-clause-go_on
+returns-then-not-known-clause-go_on g c =
+    let b = g.G.Stream.Stream.behaviour in
+    let old = g.G.Streams.streams c.args.streams.now in
+    let now = g.G.Streams.streams c.loop-number.streams in
+    let i = c.loop-number.invariant in
+    let rank = c.number_of-rank.result in
+    let all = c.count-all.result in
+    let at : c.args.place ≡ place_at_rank c.args.place.key rank =
+    same_place c.args.place c.args.place.key rank refl c.number_of-rank.ensures in
+    let apart =
+    passed_elsewhere b c.args.place.key c.args.place rank c.loop-number.next all at
+    (c.in_default.ensures.none refl) i.ranked in
+    let went =
+    more_stay b (Some c.args.place) (all - c.loop-number.next) c.loop-number.next all old now
+    (omega (arith, i.next)) (omega (arith, i.all)) apart i.went in
+    all_went b (Some c.args.place) all old now went (omega (arith, i.all))
+
+pub returns-else-not-known-clause-go_on : goal.returns-else-not-known-clause-go_on
+returns-else-not-known-clause-go_on g c =
+    let b = g.G.Stream.Stream.behaviour in
+    let old = g.G.Streams.streams c.args.streams.now in
+    let now = g.G.Streams.streams c.loop-number.streams in
+    let i = c.loop-number.invariant in
+    let rank = c.number_of-rank.result in
+    let all = c.count-all.result in
+    let at : c.args.place ≡ place_at_rank c.args.place.key rank =
+    same_place c.args.place c.args.place.key rank refl c.number_of-rank.ensures in
+    let apart =
+    passed_elsewhere b c.args.place.key c.args.place rank c.loop-number.next all at
+    (c.in_default.ensures.none refl) i.ranked in
+    let went =
+    more_stay b (Some c.args.place) (all - c.loop-number.next) c.loop-number.next all old now
+    (omega (arith, i.next)) (omega (arith, i.all)) apart i.went in
+    all_went b (Some c.args.place) all old now went (omega (arith, i.all))

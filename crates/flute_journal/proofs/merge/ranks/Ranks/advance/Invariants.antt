@@ -1,20 +1,26 @@
--- The first streams went on, and those that have ranks are not before them.
+-- Ranks::advance: the first streams were advanced, and those that have ranks are not before them.
 use Rattle.flute_journal.proofs.{
-  Common.{◌≡◌, ◌<◌, ◌≤◌, Some, length},
+  Common.{◌≡◌, ◌-◌, ◌<◌, ◌≤◌, Some, length},
   merge_lemmas.GoingOn.{WentSoFar},
   merge_lemmas.RankedStreams.{AreRankedFrom},
 }
+use Rattle.flute_journal.specs.Ranks.{AreLow}
 use Rattle.flute_journal.proofs.merge.ranks.Ranks.advance.Given as goal
 
 abbrev pub invariant-loop-number : goal.invariant-loop-number
 invariant-loop-number g l = record {
-  went : WentSoFar g.G.Stream.Stream.behaviour (Some l.fn.place) l.number
+  went : WentSoFar g.G.Stream.Stream.behaviour (Some l.fn.place) l.next
       (g.G.Streams.streams l.fn.streams) (g.G.Streams.streams l.streams);
-  all : length (g.G.Streams.streams l.streams) ≡ l.number-end;
+  all : length (g.G.Streams.streams l.streams) ≡ l.all;
   names : g.G.Streams.names l.streams ≡ g.G.Streams.names l.fn.streams;
-  ranked : AreRankedFrom g.G.Stream.Stream.behaviour l.fn.place.key l.number l.known
+  ranked : AreRankedFrom g.G.Stream.Stream.behaviour l.fn.place.key l.next l.known
       (g.G.Streams.streams l.streams) l.self.ranks;
+  low : AreLow l.self.lows l.self.ranks;
+  next : l.next ≤ l.all;
   key : l.self.key ≡ Some l.fn.place.key;
-  count : l.moved.count ≤ l.number;
-  last : 0 < l.moved.count → l.moved.last < l.number;
+  count : l.moved.count ≤ l.next;
+  last : 0 < l.moved.count → l.moved.last < l.next;
 }
+
+abbrev pub decreases-loop-number : goal.decreases-loop-number
+decreases-loop-number g l = l.all - l.next

@@ -1,4 +1,4 @@
--- One stream more is ranked, or none is.
+-- Ranks::rank: one stream more is ranked, or none is.
 use Rattle.flute_journal.proofs.{
   Common.{◌≤◌, length, arith, fact_in, subst, sym, IfSome},
   merge_lemmas.RankedStreams.{ranked_more, ranked_all},
@@ -10,7 +10,8 @@ pub returns-then-not-set_rank : goal.returns-then-not-set_rank
 returns-then-not-set_rank g c =
     let b = g.G.Stream.Stream.behaviour in
     let streams = g.G.Streams.streams c.args.streams.now in
-    subst (λ o. IfSome o (λ key. AreRanked b streams key c.set_rank.new.ranks))
+    subst (λ o. IfSome o (λ key. AreRanked b streams key c.set_rank.new.ranks
+    c.loop-number.self.lows))
     (sym c.loop-number.invariant.unknown) tt
 
 pub loop-number-preserved : goal.loop-number-preserved
@@ -30,5 +31,7 @@ returns g c =
     let i = c.loop-number.invariant in
     let all : length streams ≤ c.loop-number.number =
     omega (arith, i.all, c.loop-number-test.false) in
-    ranked_all g.G.Stream.Stream.behaviour c.args.key c.loop-number.number streams all c.requires
-    i.ranked
+    let lows = c.lows_of-self.result in
+    ranked_all g.G.Stream.Stream.behaviour c.args.key c.loop-number.number streams {lows = lows} all
+    c.requires
+    c.lows_of-self.ensures i.ranked

@@ -1,4 +1,4 @@
--- The first streams are ranked.
+-- Ranks::rank: the first streams are ranked.
 use Rattle.flute_journal.proofs.{Common.{◌≡◌, None, length}, merge_lemmas.RankedStreams.{AreRankedTo}}
 use Rattle.flute_journal.proofs.merge.ranks.Ranks.rank.Given as goal
 

@@ -1,3 +1,4 @@
+-- Chained::advance: stream 0 is advanced, or the one of the slice with the number before.
 use Rattle.flute_journal.proofs.{
   Common.{Second, get_or, ap, ◌-◌, rules},
   streams_lemmas.Pairs.{first_advances},

@@ -1,3 +1,4 @@
+-- Chosen::advance: its loop passes over facts that are not taken, up to the next that is.
 use Rattle.flute_journal.proofs.{
   Common.{refl},
   streams_lemmas.ChosenFacts.{

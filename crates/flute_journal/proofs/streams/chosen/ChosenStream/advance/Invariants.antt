@@ -1,4 +1,4 @@
--- What was passed over since the call is not taken, and was counted.
+-- Chosen::advance: what was passed over since the call is not taken, and was counted.
 use Rattle.flute_journal.proofs.{Common.{◌≡◌}, streams_lemmas.ChosenFacts.{CountsPassed}}
 use Rattle.flute_journal.proofs.streams.chosen.ChosenStream.advance.Given as goal
 
